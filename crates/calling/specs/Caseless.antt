@@ -1,7 +1,7 @@
--- Expressions in which no literal looks at the case of ASCII letters.
+-- Expressions whose literals ignore the case of ASCII letters.
 use Rattle.meta_base.specs.Language.Expression.{Expression, Str, Insens, PosPred, NegPred, Seq, Choice, Opt, Rep, RepOnce, RepExact, RepMin, RepMax, RepMinMax, Push, NodeTag}
 
--- the same expression, with `^"a"` for each `"a"`
+-- an expression with `^"a"` for each `"a"`
 abbrev pub caseless : Expression → Expression
 caseless (Str s) = Insens s
 caseless (PosPred e) = PosPred (caseless e)

@@ -1,4 +1,4 @@
-//! What a program does with the front end, as CALLING.md tells it: two callers, each proved.
+//! Use of the front end by a program, as CALLING.md describes it: two callers, each proved.
 ghost use Rattle.std.specs.Prelude.{◌≡◌, IfOk, map};
 ghost use Rattle.calling.specs.NamedPlaces.{AreNamedPlaces, named_place, named_place_of};
 ghost use Rattle.meta_spanned.specs.Nodes.{rule_views};
@@ -10,7 +10,7 @@ use pest_meta::runtime::Fault;
 use pest_meta::{Report, parse_and_optimize, unwrap_or_report};
 use std::alloc::{AllocError, Global};
 
-/// The builtins that a grammar uses and its optimized rules, or what is said of its faults.
+/// Returns the builtins that a grammar uses and its optimized rules, or the report of its faults.
 pub fn optimized_rules<'i>(
     alloc: Global,
     grammar: &'i str,
@@ -20,7 +20,7 @@ pub fn optimized_rules<'i>(
     unwrap_or_report(alloc, parse_and_optimize(alloc, grammar))
 }
 
-/// The names of a grammar's rules, in order, each with the line and the column at which it stands.
+/// Returns the names of a grammar's rules, in order, each with its line and column.
 pub fn named_places(alloc: Global, grammar: &str) -> Result<Vec<(String, (usize, usize))>, Fault>
     ensures { IfOk result (λ places. AreNamedPlaces grammar.now places.items) }
 {
@@ -29,7 +29,7 @@ pub fn named_places(alloc: Global, grammar: &str) -> Result<Vec<(String, (usize,
     Ok(places(alloc, rules)?)
 }
 
-/// The names of rules, each with the line and the column at which it stands.
+/// Returns the names of rules, each with its line and column.
 fn places(
     alloc: Global,
     rules: Vec<ParserRule<'_>>,

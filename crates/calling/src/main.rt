@@ -20,7 +20,7 @@ fn main(rt: HostRuntime) -> io::Result<ExitCode> {
             for rule in &rules {
                 println!(rt; "{}: {}", rule.name, rule.expr)?;
             }
-            // A wide rule of a stranger is let go by a loop, where leaving the scope takes a call a level.
+            // Drops iteratively: a rule of many alternatives is a deep tree, which would overflow the stack.
             release(rules);
             Ok(ExitCode::from(0))
         }

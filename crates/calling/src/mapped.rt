@@ -1,4 +1,4 @@
-//! Callers of the maps of expressions: what their contracts give a caller, and what they ask of one.
+//! Callers of the maps of expressions, which show the use of their contracts.
 ghost use Rattle.std.specs.Prelude.{◌≡◌, IfOk};
 ghost use Rattle.meta_ast.specs.Ast.{expression_of};
 ghost use Rattle.meta_ast.specs.Optimized.{optimized_expression_of};
@@ -9,7 +9,7 @@ use meta_ast::optimized::OptimizedExpr;
 use meta_base::runtime::Fault;
 use std::alloc::Global;
 
-/// The expression, in which literals no longer look at the case of ASCII letters: each `"a"` as `^"a"`.
+/// Makes literals ignore the case of ASCII letters, so that every `"a"` becomes `^"a"`.
 pub fn without_case(alloc: Global, expr: Expr) -> Result<Expr, Fault>
     ensures { IfOk result (λ e. expression_of e ≡ caseless (expression_of expr)) }
 {
@@ -19,28 +19,28 @@ pub fn without_case(alloc: Global, expr: Expr) -> Result<Expr, Fault>
     })
 }
 
-/// The same expression, by a map that changes nothing.
+/// Returns the expression unchanged, by a map from the top down.
 pub fn same_top_down(alloc: Global, expr: Expr) -> Result<Expr, Fault>
     ensures { IfOk result (λ e. expression_of e ≡ expression_of expr) }
 {
     expr.map_top_down(alloc, |e| Ok(e))
 }
 
-/// The same expression, by a map that changes nothing.
+/// Returns the expression unchanged, by a map from the bottom up.
 pub fn same_bottom_up(alloc: Global, expr: Expr) -> Result<Expr, Fault>
     ensures { IfOk result (λ e. expression_of e ≡ expression_of expr) }
 {
     expr.map_bottom_up(alloc, |e| Ok(e))
 }
 
-/// The same optimized expression, by a map that changes nothing.
+/// Returns the optimized expression unchanged, by a map from the top down.
 pub fn same_optimized_top_down(alloc: Global, expr: OptimizedExpr) -> Result<OptimizedExpr, Fault>
     ensures { IfOk result (λ e. optimized_expression_of e ≡ optimized_expression_of expr) }
 {
     expr.map_top_down(alloc, |e| Ok(e))
 }
 
-/// The same optimized expression, by a map that changes nothing.
+/// Returns the optimized expression unchanged, by a map from the bottom up.
 pub fn same_optimized_bottom_up(alloc: Global, expr: OptimizedExpr) -> Result<OptimizedExpr, Fault>
     ensures { IfOk result (λ e. optimized_expression_of e ≡ optimized_expression_of expr) }
 {

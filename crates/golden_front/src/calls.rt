@@ -1,13 +1,13 @@
-//! The calls that rows name.
+//! The calls that golden cases name.
 use crate::passes::Pass;
 use crate::{
-    again, json, judged, made, names, nodes, passes, pieces, places, reading, restoring, syntax,
-    tables, values, walks,
+    constructed, json, names, nodes, passes, pieces, places, reading, restoring, round_trip,
+    syntax, tables, validation, values, walks,
 };
 use meta_base::runtime::Fault;
 use std::alloc::Global;
 
-/// A call that rows name.
+/// A call that golden cases name.
 #[derive(Clone, Copy)]
 pub(crate) enum Call {
     Pairs,
@@ -104,7 +104,7 @@ static CALLS: [(&str, Call); 47] = [
     ("list", Call::After(Pass::List)),
 ];
 
-/// The call of that name.
+/// Returns the call of that name.
 pub(crate) fn call_of(name: &str) -> Option<Call> {
     for (word, call) in &CALLS {
         if *word == name {
@@ -114,8 +114,8 @@ pub(crate) fn call_of(name: &str) -> Option<Call> {
     None
 }
 
-/// Writes what a call answers on a text.
-pub(crate) fn answered(
+/// Writes the answer of a call on a text.
+pub(crate) fn write_answer(
     alloc: Global,
     call: Call,
     argument: &str,
@@ -125,11 +125,11 @@ pub(crate) fn answered(
     match call {
         Call::Pairs => syntax::pairs(alloc, argument, text, out),
         Call::Entries => syntax::entries(alloc, argument, text, out),
-        Call::Flattened => syntax::flattened(alloc, argument, text, out),
+        Call::Flattened => syntax::write_flattened(alloc, argument, text, out),
         Call::Count => syntax::count(alloc, argument, text, out),
-        Call::Printed => syntax::printed(alloc, argument, text, out),
-        Call::Renamed => syntax::renamed(alloc, argument, out),
-        Call::Expected => syntax::expected(alloc, argument, text, out),
+        Call::Printed => syntax::write_printed(alloc, argument, text, out),
+        Call::Renamed => syntax::write_renamed(alloc, argument, out),
+        Call::Expected => syntax::write_expected(alloc, argument, text, out),
         Call::Common => syntax::common(alloc, argument, out),
         Call::Span => places::span(alloc, argument, text, out),
         Call::Position => places::position(alloc, argument, text, out),
@@ -140,30 +140,30 @@ pub(crate) fn answered(
         Call::Complaints => names::complaints(alloc, text, out),
         Call::Tables => tables::tables(out),
         Call::Read => reading::read(alloc, text, out),
-        Call::Erased => reading::erased(alloc, text, out),
-        Call::ReadAgain => again::read_again(alloc, text, out),
-        Call::Walked => nodes::walked(alloc, text, out),
-        Call::Questions => judged::questions(alloc, text, out),
-        Call::Stacked => judged::stacked(alloc, text, out),
-        Call::RuleNumber => judged::rule_number(alloc, argument, text, out),
+        Call::Erased => reading::write_erased(alloc, text, out),
+        Call::ReadAgain => round_trip::read_again(alloc, text, out),
+        Call::Walked => nodes::write_walks(alloc, text, out),
+        Call::Questions => validation::questions(alloc, text, out),
+        Call::Stacked => validation::write_stack_errors(alloc, text, out),
+        Call::RuleNumber => validation::rule_number(alloc, argument, text, out),
         Call::Copies => values::copies(alloc, text, out),
-        Call::Ranges => made::ranges(alloc, text, out),
-        Call::OptimizedRanges => made::optimized_ranges(alloc, text, out),
-        Call::Runs => made::runs(alloc, text, out),
-        Call::Wrappers => made::wrappers(alloc, text, out),
-        Call::Counts => made::counts(alloc, text, out),
-        Call::Restored => restoring::restored(alloc, text, out),
+        Call::Ranges => constructed::ranges(alloc, text, out),
+        Call::OptimizedRanges => constructed::optimized_ranges(alloc, text, out),
+        Call::Runs => constructed::runs(alloc, text, out),
+        Call::Wrappers => constructed::wrappers(alloc, text, out),
+        Call::Counts => constructed::counts(alloc, text, out),
+        Call::Restored => restoring::write_restored(alloc, text, out),
         Call::Changes => restoring::changes(alloc, text, out),
         Call::Items => walks::items(alloc, text, out),
         Call::OptimizedItems => walks::optimized_items(alloc, text, out),
-        Call::Mapped => walks::mapped(alloc, text, out),
-        Call::OptimizedMapped => walks::optimized_mapped(alloc, text, out),
+        Call::Mapped => walks::write_maps(alloc, text, out),
+        Call::OptimizedMapped => walks::write_optimized_maps(alloc, text, out),
         Call::Refusing => walks::refusing(alloc, argument, text, out),
-        Call::Optimized => passes::optimized(alloc, text, out),
+        Call::Optimized => passes::write_all_passes(alloc, text, out),
         Call::Lengths => passes::lengths(alloc, text, out),
         Call::Json => json::json(alloc, text, out),
         Call::JsonTokens => json::tokens(alloc, argument, text, out),
         Call::JsonNodes => json::nodes(alloc, text, out),
-        Call::After(pass) => passes::after(alloc, pass, text, out),
+        Call::After(pass) => passes::write_pass(alloc, pass, text, out),
     }
 }

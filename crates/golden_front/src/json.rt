@@ -1,24 +1,24 @@
-//! Rules, tokens and nodes as JSON, and rules that are read of it.
+//! Rules, tokens and nodes as JSON, and rules that are read from JSON.
 use crate::reading::rules_of;
 use meta_ast::{ast, optimized};
 use meta_base::grammar::Rule;
 use meta_base::runtime::Fault;
 use meta_json::{
-    Place, Refusal, Why, errors_text, nodes_text, optimized_rules_text, read_optimized_rules,
-    read_rules, refusal_text, rule_named, rules_text, tokens_text,
+    Refusal, RefusalLocation, RefusalReason, errors_text, nodes_text, optimized_rules_text,
+    read_optimized_rules, read_rules, refusal_text, rule_named, rules_text, tokens_text,
 };
 use meta_spanned::release;
 use meta_syntax::grammar::PestParser;
 use std::alloc::{AllocError, Global};
 
-/// A text as rules and as optimized rules, written again, or why it is refused.
+/// Reads a text as rules and as optimized rules, and writes each as JSON again, or the reason of its refusal.
 pub(crate) fn json(alloc: Global, text: &str, out: &mut String) -> Result<(), Fault> {
     let rules = as_rules(alloc, text)?;
     let optimized = as_optimized(alloc, text)?;
     Ok(write!(out, "rules: {rules}\noptimized: {optimized}")?)
 }
 
-/// What a text is as rules.
+/// Reads a text as rules, and returns their JSON or the reason of the refusal.
 fn as_rules(alloc: Global, text: &str) -> Result<String, AllocError> {
     match read_rules(alloc, text) {
         Ok(rules) => {
@@ -26,11 +26,11 @@ fn as_rules(alloc: Global, text: &str) -> Result<String, AllocError> {
             ast::release(rules);
             again
         }
-        Err(refusal) => refused(alloc, refusal),
+        Err(refusal) => refused_json(alloc, refusal),
     }
 }
 
-/// What a text is as optimized rules.
+/// Reads a text as optimized rules, and returns their JSON or the reason of the refusal.
 fn as_optimized(alloc: Global, text: &str) -> Result<String, AllocError> {
     match read_optimized_rules(alloc, text) {
         Ok(rules) => {
@@ -38,26 +38,26 @@ fn as_optimized(alloc: Global, text: &str) -> Result<String, AllocError> {
             optimized::release(rules);
             again
         }
-        Err(refusal) => refused(alloc, refusal),
+        Err(refusal) => refused_json(alloc, refusal),
     }
 }
 
-/// Why a text is refused.
-fn refused(alloc: Global, refusal: Refusal) -> Result<String, AllocError> {
+/// Returns the JSON of a refusal, or the allocation failure.
+fn refused_json(alloc: Global, refusal: Refusal) -> Result<String, AllocError> {
     match refusal {
         Refusal::Memory => Err(AllocError),
         Refusal::Text(place, why) => refusal_text(alloc, place, why),
     }
 }
 
-/// The tokens of a text for the rule of that name, or why there are none.
+/// Writes the tokens of a text for the rule of that name, or why there are none.
 pub(crate) fn tokens(alloc: Global, name: &str, text: &str, out: &mut String) -> Result<(), Fault> {
     Ok(out.push_str(tokens_of(alloc, name, text)?.as_str())?)
 }
 
 fn tokens_of(alloc: Global, name: &str, text: &str) -> Result<String, AllocError> {
     let Some(rule) = rule_named(name) else {
-        return refusal_text(alloc, Place::Whole, Why::UnknownRule);
+        return refusal_text(alloc, RefusalLocation::Whole, RefusalReason::UnknownRule);
     };
     match PestParser::tokens(alloc, rule, text) {
         Ok(entries) => tokens_text(alloc, &entries),
@@ -65,7 +65,7 @@ fn tokens_of(alloc: Global, name: &str, text: &str) -> Result<String, AllocError
     }
 }
 
-/// The rules of a grammar with their places, or why they are not read.
+/// Writes the rules of a grammar with their spans, or why they are not read.
 pub(crate) fn nodes(alloc: Global, text: &str, out: &mut String) -> Result<(), Fault> {
     Ok(out.push_str(nodes_of(alloc, text)?.as_str())?)
 }
@@ -81,12 +81,12 @@ fn nodes_of(alloc: Global, text: &str) -> Result<String, AllocError> {
     }
 }
 
-/// What is wrong with a text that was to be of a rule.
+/// Returns the JSON of the errors of a text that does not match a rule, or the allocation failure.
 fn fault_text(alloc: Global, rule: Rule, text: &str, fault: Fault) -> Result<String, AllocError> {
     match fault {
         Fault::Memory(refused) => Err(refused),
         Fault::Grammar(errors) => {
-            let expected = PestParser::expected(alloc, rule, text)?;
+            let expected = PestParser::expected_set(alloc, rule, text)?;
             errors_text(alloc, &errors, &expected)
         }
     }

@@ -1,15 +1,13 @@
-//! Calls of the crates below on texts, a row each, and what they answer.
+//! Runs golden cases: calls of the crates below on texts, and their answers.
 //!
-//! Standard input has the rows, a line each: the name of a call, what it takes beside a text, a bar, and the
-//! text. A line that begins with `#` says what the rows below it show. Each line is printed as it stands, and
-//! below a row what the call answers, four blanks further in. So what is printed can be read alone.
+//! Standard input has a line for each case: the name of a call, its arguments, a bar, and the text. A line
+//! that begins with `#` is a heading of the cases below. The program prints each line unchanged, and below a
+//! case the answer of its call, indented by four blanks. So its output can be read alone.
 #![tactic(auto)]
 
-mod again;
 mod calls;
+mod constructed;
 mod json;
-mod judged;
-mod made;
 mod names;
 mod nodes;
 mod passes;
@@ -18,9 +16,11 @@ mod places;
 mod reading;
 mod refusals;
 mod restoring;
+mod round_trip;
 mod row;
 mod syntax;
 mod tables;
+mod validation;
 mod values;
 mod walks;
 

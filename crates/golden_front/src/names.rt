@@ -1,4 +1,4 @@
-//! What is said of the names of grammars.
+//! The names of grammars, and the errors that are reported for them.
 use crate::refusals::write_errors;
 use meta_base::grammar::Rule;
 use meta_base::runtime::{Error, Fault, Span};
@@ -9,7 +9,7 @@ use meta_names::{
 use meta_syntax::grammar::PestParser;
 use std::alloc::{AllocError, Global};
 
-/// The names that a text calls and does not define.
+/// Writes the names that a text calls and does not define.
 pub(crate) fn names(alloc: Global, text: &str, out: &mut String) -> Result<(), Fault> {
     let pairs = PestParser::parse(alloc, Rule::grammar_rules, text)?;
     write_builtins(out, &validate_pairs(alloc, pairs)?)?;
@@ -25,7 +25,7 @@ pub(crate) fn write_builtins(out: &mut String, names: &[&str]) -> Result<(), All
     Ok(())
 }
 
-/// Where the names stand that a text defines, or those that it calls.
+/// Returns the spans of the names that a text defines, or of those that it calls.
 fn places_of(alloc: Global, text: &str, defined: bool) -> Result<Vec<Span<'_>>, Fault> {
     let mut places = Vec::new(alloc);
     let mut begins = false;
@@ -46,7 +46,7 @@ fn write_found(out: &mut String, found: Result<Vec<Error<Rule>>, Fault>) -> Resu
     Ok(())
 }
 
-/// What is said of the names of a text, a kind after the other.
+/// Writes the errors for the names of a text, one kind after the other.
 pub(crate) fn complaints(alloc: Global, text: &str, out: &mut String) -> Result<(), Fault> {
     let defined = places_of(alloc, text, true)?;
     let called = places_of(alloc, text, false)?;

@@ -7,7 +7,7 @@ use meta_base::runtime::Fault;
 use meta_reader::rules::{ParserExpr, ParserNode, filter_internal};
 use std::alloc::Global;
 
-/// Where a node and each one in it stand, in bytes.
+/// Returns the spans of a node and its descendants, in bytes.
 fn places_of(alloc: Global, node: ParserNode<'_>) -> Result<Vec<(usize, usize)>, Fault> {
     node.filter_map_top_down(
         alloc,
@@ -17,7 +17,7 @@ fn places_of(alloc: Global, node: ParserNode<'_>) -> Result<Vec<(usize, usize)>,
     )
 }
 
-/// Where the names in a node begin.
+/// Returns the byte positions where the names in a node begin.
 fn names_of(alloc: Global, node: ParserNode<'_>) -> Result<Vec<usize>, Fault> {
     node.filter_map_top_down(
         alloc,
@@ -32,7 +32,7 @@ fn names_of(alloc: Global, node: ParserNode<'_>) -> Result<Vec<usize>, Fault> {
     )
 }
 
-/// Adds where a node and each one in it end to a list.
+/// Adds the end positions of a node and its descendants to a list, in bytes.
 fn add_ends(alloc: Global, node: ParserNode<'_>, ends: &mut Vec<usize>) -> Result<(), Fault> {
     let mut end_of = |node: ParserNode<'_>| -> Option<usize>
         ensures { result ≡ Some (span_end node.entry.span) }
@@ -40,7 +40,7 @@ fn add_ends(alloc: Global, node: ParserNode<'_>, ends: &mut Vec<usize>) -> Resul
     filter_internal(alloc, node, &mut end_of, ends)
 }
 
-/// Writes where a node and each one in it stand.
+/// Writes the spans of a node and its descendants.
 fn write_places(alloc: Global, node: ParserNode<'_>, out: &mut String) -> Result<(), Fault> {
     let places = places_of(alloc, node)?;
     Ok(write!(out, "places {places:?}\n")?)
@@ -52,18 +52,18 @@ fn write_names(alloc: Global, node: ParserNode<'_>, out: &mut String) -> Result<
     Ok(write!(out, "names {names:?}\n")?)
 }
 
-/// Of the bodies of a text where their nodes stand, each before what is in it, where their names begin, and
-/// the ends of all nodes so far.
-pub(crate) fn walked(alloc: Global, text: &str, out: &mut String) -> Result<(), Fault> {
+/// Writes for the bodies of a text the spans of their nodes in preorder, the starts of their names, and the
+/// ends of all nodes so far.
+pub(crate) fn write_walks(alloc: Global, text: &str, out: &mut String) -> Result<(), Fault> {
     let mut ends = Vec::new(alloc);
     for rule in &rules_of(alloc, text)? {
-        write_walked(alloc, &rule.node, &mut ends, out)?;
+        write_walk(alloc, &rule.node, &mut ends, out)?;
     }
     Ok(())
 }
 
-/// Writes of a node what `walked` says of a body.
-fn write_walked(
+/// Writes the lines of `write_walks` for one body.
+fn write_walk(
     alloc: Global,
     node: &ParserNode<'_>,
     ends: &mut Vec<usize>,

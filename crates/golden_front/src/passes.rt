@@ -1,4 +1,4 @@
-//! What the passes make of the rules of a text, which nobody has validated.
+//! The passes on the rules of a text, which is not validated.
 use crate::reading::{erased_rules, write_rule};
 use meta_ast::ast::{Expr, Rule};
 use meta_base::runtime::Fault;
@@ -19,8 +19,8 @@ pub(crate) enum Pass {
     List,
 }
 
-/// A rule behind a pass. Names mean these bodies.
-fn passed(
+/// Applies a pass to a rule. Names refer to these bodies.
+fn apply_pass(
     alloc: Global,
     pass: Pass,
     rule: Rule,
@@ -36,7 +36,7 @@ fn passed(
     }
 }
 
-/// The bodies of rules by their names.
+/// Returns the bodies of rules by their names.
 fn bodies_of(alloc: Global, rules: &[Rule]) -> Result<HashMap<String, Expr>, AllocError> {
     let mut bodies = HashMap::new(alloc);
     for rule in rules {
@@ -55,30 +55,35 @@ pub(crate) fn add_body<E: Clone + Drop>(
     Ok(())
 }
 
-/// The rules of a text behind one pass.
-pub(crate) fn after(alloc: Global, pass: Pass, text: &str, out: &mut String) -> Result<(), Fault> {
+/// Writes the rules of a text after one pass.
+pub(crate) fn write_pass(
+    alloc: Global,
+    pass: Pass,
+    text: &str,
+    out: &mut String,
+) -> Result<(), Fault> {
     let rules = erased_rules(alloc, text)?;
     let bodies = bodies_of(alloc, &rules)?;
     for rule in rules {
-        write_passed(alloc, pass, rule, &bodies, out)?;
+        write_rule_after(alloc, pass, rule, &bodies, out)?;
     }
     Ok(())
 }
 
-/// Writes a rule behind a pass.
-fn write_passed(
+/// Writes a rule after a pass.
+fn write_rule_after(
     alloc: Global,
     pass: Pass,
     rule: Rule,
     bodies: &HashMap<String, Expr>,
     out: &mut String,
 ) -> Result<(), Fault> {
-    let rule = passed(alloc, pass, rule, bodies)?;
+    let rule = apply_pass(alloc, pass, rule, bodies)?;
     Ok(write_rule(out, rule.name.as_str(), rule.ty, &rule.expr)?)
 }
 
-/// The rules of a text behind all passes.
-pub(crate) fn optimized(alloc: Global, text: &str, out: &mut String) -> Result<(), Fault> {
+/// Writes the rules of a text after all passes.
+pub(crate) fn write_all_passes(alloc: Global, text: &str, out: &mut String) -> Result<(), Fault> {
     let rules = erased_rules(alloc, text)?;
     if !counts_are_readable(&rules) {
         return Ok(out.push_str("counts are not readable")?);
@@ -87,8 +92,8 @@ pub(crate) fn optimized(alloc: Global, text: &str, out: &mut String) -> Result<(
     Ok(())
 }
 
-/// How many bytes the bodies of a text have as they are printed, and how many behind `rotate`, which nests
-/// them to the right.
+/// Writes the lengths in bytes of the printed bodies of a text, before and after `rotate`, which nests them
+/// to the right.
 pub(crate) fn lengths(alloc: Global, text: &str, out: &mut String) -> Result<(), Fault> {
     for rule in erased_rules(alloc, text)? {
         let read = length(alloc, &rule.expr)?;
@@ -98,12 +103,12 @@ pub(crate) fn lengths(alloc: Global, text: &str, out: &mut String) -> Result<(),
     Ok(())
 }
 
-/// How many bytes an expression has as it is printed.
+/// Returns the length in bytes of a printed expression.
 fn length(alloc: Global, expr: &Expr) -> Result<usize, AllocError> {
     Ok(expr.to_string(alloc)?.len())
 }
 
-/// How many bytes the body of a rule has behind `rotate`.
+/// Returns the length in bytes of the printed body of a rule after `rotate`.
 fn rotated_length(alloc: Global, rule: Rule) -> Result<usize, Fault> {
     let rule = rotate(alloc, rule)?;
     let length = length(alloc, &rule.expr);
@@ -111,7 +116,7 @@ fn rotated_length(alloc: Global, rule: Rule) -> Result<usize, Fault> {
     Ok(length?)
 }
 
-/// Writes optimized rules, each with a line for how its body is printed.
+/// Writes optimized rules, each followed by a line with its printed body.
 pub(crate) fn write_optimized(out: &mut String, rules: &[OptimizedRule]) -> Result<(), AllocError> {
     for rule in rules {
         write_rule(out, rule.name.as_str(), rule.ty, &rule.expr)?;

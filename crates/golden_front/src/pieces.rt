@@ -1,11 +1,11 @@
-//! Places, errors and pairs that no call makes of a text, and faults.
+//! Positions, errors and pairs that no call makes of a text, and faults.
 use crate::syntax::{LEVELS, write_pairs};
 use crate::values::write_equalities;
 use meta_base::grammar::Rule;
 use meta_base::runtime::{Error, ErrorVariant, Fault, Pairs, Position, Span, TokenTree};
 use std::alloc::{AllocError, Global};
 
-/// Texts with the two places of a span.
+/// Texts with the two byte positions of a span.
 static SPANS: [(&str, usize, usize); 5] = [
     ("a b", 0, 1),
     ("a b", 1, 1),
@@ -14,7 +14,7 @@ static SPANS: [(&str, usize, usize); 5] = [
     ("a c", 0, 1),
 ];
 
-/// Texts with a place, and with a message where there is one.
+/// Texts with a byte position, and a message that may be empty.
 static PLACES: [(&str, usize, &str); 4] = [
     ("a b", 1, ""),
     ("a b", 2, ""),
@@ -22,7 +22,7 @@ static PLACES: [(&str, usize, &str); 4] = [
     ("a b", 1, "m"),
 ];
 
-/// A span, and the same between positions at its ends.
+/// Returns a span, and an equal one between the positions at its ends.
 fn spans_at(
     text: &'static str,
     start: usize,
@@ -33,7 +33,7 @@ fn spans_at(
     Some((span, position.span(&span.end_pos())))
 }
 
-/// How spans equal those between positions at their ends.
+/// Writes how spans equal those between positions at their ends.
 fn write_spans(alloc: Global, out: &mut String) -> Result<(), AllocError> {
     let mut spans = Vec::new(alloc);
     let mut copies = Vec::new(alloc);
@@ -46,7 +46,7 @@ fn write_spans(alloc: Global, out: &mut String) -> Result<(), AllocError> {
     write_equalities(out, "spans", &spans, &copies)
 }
 
-/// A position, and the end of a span there.
+/// Returns a position, and the end of a span that ends there.
 fn positions_at(
     text: &'static str,
     place: usize,
@@ -55,7 +55,7 @@ fn positions_at(
     Some((Position::new(text, place)?, span.end_pos()))
 }
 
-/// How positions equal the ends of spans there.
+/// Writes how positions equal the ends of spans there.
 fn write_positions(alloc: Global, out: &mut String) -> Result<(), AllocError> {
     let mut positions = Vec::new(alloc);
     let mut copies = Vec::new(alloc);
@@ -68,7 +68,7 @@ fn write_positions(alloc: Global, out: &mut String) -> Result<(), AllocError> {
     write_equalities(out, "positions", &positions, &copies)
 }
 
-/// The error of a place, with a message where there is one.
+/// Returns the error at a position, with a message unless that is empty.
 fn error_at(alloc: Global, position: Position<'_>, message: &str) -> Result<Error<Rule>, Fault> {
     if message.is_empty() {
         return Error::new_from_pos(alloc, ErrorVariant::ParsingError, position);
@@ -77,7 +77,7 @@ fn error_at(alloc: Global, position: Position<'_>, message: &str) -> Result<Erro
     Error::new_from_pos(alloc, ErrorVariant::CustomError { message }, position)
 }
 
-/// The errors of all places.
+/// Returns the errors at all positions of `PLACES`.
 fn errors(alloc: Global) -> Result<Vec<Error<Rule>>, Fault> {
     let mut errors = Vec::new(alloc);
     for (text, place, message) in &PLACES {
@@ -88,7 +88,7 @@ fn errors(alloc: Global) -> Result<Vec<Error<Rule>>, Fault> {
     Ok(errors)
 }
 
-/// How spans, positions and errors equal others of the same parts.
+/// Writes how spans, positions and errors equal others of the same parts.
 pub(crate) fn equal_places(alloc: Global, out: &mut String) -> Result<(), Fault> {
     write_spans(alloc, out)?;
     write_positions(alloc, out)?;
@@ -96,7 +96,7 @@ pub(crate) fn equal_places(alloc: Global, out: &mut String) -> Result<(), Fault>
     Ok(())
 }
 
-/// A pair of `a b` with one of `a` and one of `b` inside it, and one of the empty text after it.
+/// Returns a pair of `a b` with one of `a` and one of `b` inside it, and one of the empty text after it.
 fn sample(alloc: Global) -> Result<Pairs<'static, Rule>, AllocError> {
     let mut inner = Vec::new(alloc);
     inner.push(TokenTree::new(Rule::EOI, 2, 3, Vec::new(alloc)))?;
@@ -115,7 +115,7 @@ fn write_flat(alloc: Global, pairs: Pairs<'_, Rule>, out: &mut String) -> Result
     Ok(())
 }
 
-/// Pairs that are made by hand: where they stand, and their texts, and those of a copy, in preorder.
+/// Writes pairs that are made by hand, then their texts and those of a copy, in preorder.
 pub(crate) fn made_pairs(alloc: Global, out: &mut String) -> Result<(), Fault> {
     write_pairs(sample(alloc)?, LEVELS, ("", ""), out)?;
     out.push_str("\ntexts")?;
@@ -126,7 +126,7 @@ pub(crate) fn made_pairs(alloc: Global, out: &mut String) -> Result<(), Fault> {
     write_flat(alloc, copy, out)
 }
 
-/// What faults print.
+/// Writes faults as they are printed.
 pub(crate) fn faults(alloc: Global, out: &mut String) -> Result<(), Fault> {
     let memory = Fault::from(AllocError);
     let grammar = Fault::Grammar(Vec::new(alloc));

@@ -1,9 +1,9 @@
-//! Spans and positions of texts, and the errors that stand there.
+//! Spans and positions of texts, and the errors at them.
 use meta_base::grammar::Rule;
 use meta_base::runtime::{Error, ErrorVariant, Fault, Position, Span};
 use std::alloc::Global;
 
-/// A span's text, and the error there with a message, as `START END MESSAGE` says.
+/// Writes a span's text, and the error there with a message, for the argument `START END MESSAGE`.
 pub(crate) fn span(
     alloc: Global,
     argument: &str,
@@ -21,7 +21,7 @@ pub(crate) fn span(
     Ok(write!(out, "{:?}\n{error}", span.as_str())?)
 }
 
-/// The line and the column of a position, and the error there.
+/// Writes the line and the column of a position, and the error there.
 pub(crate) fn position(
     alloc: Global,
     argument: &str,
@@ -36,7 +36,7 @@ pub(crate) fn position(
     Ok(write!(out, "line {line}, column {column}\n{error}")?)
 }
 
-/// The number that a word says, 0 where it says none.
+/// Returns the number that a word spells, or 0 if it spells none.
 fn number(word: &str) -> usize {
     word.parse::<u32>().unwrap_or(0) as usize
 }

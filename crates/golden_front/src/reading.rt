@@ -1,4 +1,4 @@
-//! What texts are read as.
+//! The rules that texts are read as.
 use meta_ast::ast::{Rule, RuleType};
 use meta_base::runtime::Fault;
 use meta_reader::rules::{ParserExpr, ParserNode, ParserRule, consume_rules_with_spans, parse};
@@ -6,26 +6,26 @@ use meta_spanned::erase_spans;
 use std::alloc::{AllocError, Global};
 use std::fmt;
 
-/// The rules of a text, which nobody has looked at but the reader.
+/// Reads the rules of a text, which nobody but the reader has checked.
 pub(crate) fn rules_of(alloc: Global, text: &str) -> Result<Vec<ParserRule<'_>>, Fault> {
     let pairs = parse(alloc, meta_base::grammar::Rule::grammar_rules, text)?;
     consume_rules_with_spans(alloc, pairs)
 }
 
-/// The same rules without their spans.
+/// Reads the rules of a text without their spans.
 pub(crate) fn erased_rules(alloc: Global, text: &str) -> Result<Vec<Rule>, Fault> {
     Ok(erase_spans(alloc, rules_of(alloc, text)?)?)
 }
 
-/// The rules of a text as they are printed.
-pub(crate) fn erased(alloc: Global, text: &str, out: &mut String) -> Result<(), Fault> {
+/// Writes the rules of a text as they are printed.
+pub(crate) fn write_erased(alloc: Global, text: &str, out: &mut String) -> Result<(), Fault> {
     for rule in &erased_rules(alloc, text)? {
         write!(out, "{} {:?} {}\n", rule.name, rule.ty, rule.expr)?;
     }
     Ok(())
 }
 
-/// Writes a rule of before the passes or behind them: its name, its type and its body.
+/// Writes the name, the type and the body of a rule, optimized or not.
 pub(crate) fn write_rule<E: fmt::Debug>(
     out: &mut String,
     name: &str,
@@ -35,7 +35,7 @@ pub(crate) fn write_rule<E: fmt::Debug>(
     write!(out, "{name} {ty:?} {expr:?}\n")
 }
 
-/// The rules of a text with their spans, in bytes.
+/// Writes the rules of a text with their spans, in bytes.
 pub(crate) fn read(alloc: Global, text: &str, out: &mut String) -> Result<(), Fault> {
     for rule in &rules_of(alloc, text)? {
         write_read(rule, out)?;
@@ -54,7 +54,7 @@ fn write_read(rule: &ParserRule<'_>, out: &mut String) -> Result<(), AllocError>
     out.push('\n')
 }
 
-/// Writes a node: what it is, from where to where in bytes, and the nodes in it.
+/// Writes a node: its expression, its span in bytes, and its child nodes.
 fn write_node(node: &ParserNode<'_>, out: &mut String) -> Result<(), AllocError> {
     write_sign(&node.expr, out)?;
     write!(out, " {}-{}", node.span.start(), node.span.end())?;
@@ -78,7 +78,7 @@ fn write_node(node: &ParserNode<'_>, out: &mut String) -> Result<(), AllocError>
     }
 }
 
-/// Writes what an expression is, and what stands in it beside its operands.
+/// Writes the variant of an expression, and its fields other than operands.
 fn write_sign(expr: &ParserExpr<'_>, out: &mut String) -> Result<(), AllocError> {
     match expr {
         ParserExpr::Str(text) => write!(out, " Str {text:?}"),

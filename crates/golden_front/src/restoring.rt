@@ -1,5 +1,5 @@
-//! What restores the stack round what may fail. A text says optimized rules just as they stand here: no pass
-//! is done, `{1}` stands for what restores the stack, and other counts are left out.
+//! The pass that inserts the wrappers which restore the stack when an expression fails. A text spells
+//! optimized rules directly: no pass is run, `{1}` spells a wrapper, and other counts are left out.
 use crate::passes::add_body;
 use crate::reading::{erased_rules, write_rule};
 use meta_ast::ast::{Expr, Rule};
@@ -8,19 +8,19 @@ use meta_optimizer::{OptimizedExpr, OptimizedRule, child_modifies_state, restore
 use std::alloc::{AllocError, Global};
 use std::collections::HashMap;
 
-/// The optimized expression that an expression stands for, in a box.
-#[cycle(optimized)]
-fn boxed(alloc: Global, expr: &Expr) -> Result<Box<OptimizedExpr>, AllocError> {
-    Ok(Box::new(alloc, optimized(alloc, expr)?)?)
+/// Returns the optimized expression that an expression spells, in a box.
+#[cycle(to_optimized)]
+fn to_box(alloc: Global, expr: &Expr) -> Result<Box<OptimizedExpr>, AllocError> {
+    Ok(Box::new(alloc, to_optimized(alloc, expr)?)?)
 }
 
-/// The optimized expression that an expression stands for.
-#[cycle(optimized)]
-fn optimized(alloc: Global, expr: &Expr) -> Result<OptimizedExpr, AllocError> {
+/// Returns the optimized expression that an expression spells.
+#[cycle(to_optimized)]
+fn to_optimized(alloc: Global, expr: &Expr) -> Result<OptimizedExpr, AllocError> {
     match expr {
         Expr::Seq(left, right) | Expr::Choice(left, right) => {
-            let left = boxed(alloc, left)?;
-            Ok(joined(expr, left, boxed(alloc, right)?))
+            let left = to_box(alloc, left)?;
+            Ok(to_binary(expr, left, to_box(alloc, right)?))
         }
         Expr::PosPred(inner)
         | Expr::NegPred(inner)
@@ -28,29 +28,29 @@ fn optimized(alloc: Global, expr: &Expr) -> Result<OptimizedExpr, AllocError> {
         | Expr::Rep(inner)
         | Expr::RepOnce(inner)
         | Expr::RepExact(inner, 1)
-        | Expr::Push(inner) => Ok(around(expr, boxed(alloc, inner)?)),
+        | Expr::Push(inner) => Ok(to_unary(expr, to_box(alloc, inner)?)),
         Expr::NodeTag(inner, tag) => {
             let tag = tag.clone()?;
-            Ok(OptimizedExpr::NodeTag(boxed(alloc, inner)?, tag))
+            Ok(OptimizedExpr::NodeTag(to_box(alloc, inner)?, tag))
         }
         Expr::RepExact(inner, _)
         | Expr::RepMin(inner, _)
         | Expr::RepMax(inner, _)
-        | Expr::RepMinMax(inner, _, _) => optimized(alloc, inner),
-        _ => leaf(alloc, expr),
+        | Expr::RepMinMax(inner, _, _) => to_optimized(alloc, inner),
+        _ => to_leaf(alloc, expr),
     }
 }
 
-/// The sequence or the choice of two operands that an expression stands for.
-fn joined(expr: &Expr, left: Box<OptimizedExpr>, right: Box<OptimizedExpr>) -> OptimizedExpr {
+/// Returns the sequence or the choice of two operands that an expression spells.
+fn to_binary(expr: &Expr, left: Box<OptimizedExpr>, right: Box<OptimizedExpr>) -> OptimizedExpr {
     match expr {
         Expr::Seq(_, _) => OptimizedExpr::Seq(left, right),
         _ => OptimizedExpr::Choice(left, right),
     }
 }
 
-/// What an expression of one operand stands for.
-fn around(expr: &Expr, inner: Box<OptimizedExpr>) -> OptimizedExpr {
+/// Returns the optimized expression of one operand that an expression spells.
+fn to_unary(expr: &Expr, inner: Box<OptimizedExpr>) -> OptimizedExpr {
     match expr {
         Expr::PosPred(_) => OptimizedExpr::PosPred(inner),
         Expr::NegPred(_) => OptimizedExpr::NegPred(inner),
@@ -62,8 +62,8 @@ fn around(expr: &Expr, inner: Box<OptimizedExpr>) -> OptimizedExpr {
     }
 }
 
-/// What an expression without operands stands for.
-fn leaf(alloc: Global, expr: &Expr) -> Result<OptimizedExpr, AllocError> {
+/// Returns the optimized expression without operands that an expression spells.
+fn to_leaf(alloc: Global, expr: &Expr) -> Result<OptimizedExpr, AllocError> {
     Ok(match expr {
         Expr::Str(text) => OptimizedExpr::Str(text.clone()?),
         Expr::Insens(text) => OptimizedExpr::Insens(text.clone()?),
@@ -75,25 +75,25 @@ fn leaf(alloc: Global, expr: &Expr) -> Result<OptimizedExpr, AllocError> {
     })
 }
 
-/// The optimized rule that a rule says.
-fn optimized_rule(alloc: Global, rule: Rule) -> Result<OptimizedRule, AllocError> {
+/// Returns the optimized rule that a rule spells.
+fn to_optimized_rule(alloc: Global, rule: Rule) -> Result<OptimizedRule, AllocError> {
     Ok(OptimizedRule {
-        expr: optimized(alloc, &rule.expr)?,
+        expr: to_optimized(alloc, &rule.expr)?,
         name: rule.name,
         ty: rule.ty,
     })
 }
 
-/// The optimized rules that a text says.
+/// Reads the optimized rules that a text spells.
 pub(crate) fn optimized_rules(alloc: Global, text: &str) -> Result<Vec<OptimizedRule>, Fault> {
     let mut rules = Vec::new(alloc);
     for rule in erased_rules(alloc, text)? {
-        rules.push(optimized_rule(alloc, rule)?)?;
+        rules.push(to_optimized_rule(alloc, rule)?)?;
     }
     Ok(rules)
 }
 
-/// The bodies of rules by their names.
+/// Returns the bodies of rules by their names.
 fn bodies_of(
     alloc: Global,
     rules: &[OptimizedRule],
@@ -105,18 +105,18 @@ fn bodies_of(
     Ok(bodies)
 }
 
-/// The rules of a text with what restores the stack.
-pub(crate) fn restored(alloc: Global, text: &str, out: &mut String) -> Result<(), Fault> {
+/// Writes the rules of a text with the wrappers that restore the stack.
+pub(crate) fn write_restored(alloc: Global, text: &str, out: &mut String) -> Result<(), Fault> {
     let rules = optimized_rules(alloc, text)?;
     let bodies = bodies_of(alloc, &rules)?;
     for rule in rules {
-        write_restored(alloc, rule, &bodies, out)?;
+        write_restored_rule(alloc, rule, &bodies, out)?;
     }
     Ok(())
 }
 
-/// Writes a rule with what restores the stack.
-fn write_restored(
+/// Writes a rule with the wrappers that restore the stack.
+fn write_restored_rule(
     alloc: Global,
     rule: OptimizedRule,
     bodies: &HashMap<String, OptimizedExpr>,
@@ -126,7 +126,7 @@ fn write_restored(
     Ok(write_rule(out, rule.name.as_str(), rule.ty, &rule.expr)?)
 }
 
-/// Of each body of a text whether it changes the stack.
+/// Writes for each body of a text whether it changes the stack.
 pub(crate) fn changes(alloc: Global, text: &str, out: &mut String) -> Result<(), Fault> {
     let rules = optimized_rules(alloc, text)?;
     let bodies = bodies_of(alloc, &rules)?;

@@ -1,10 +1,10 @@
-//! A row: which call it is, and the text that it writes.
-use crate::calls::{answered, call_of};
+//! A golden case: its call, and the text that it spells.
+use crate::calls::{call_of, write_answer};
 use crate::refusals::refusal;
 use meta_base::runtime::Fault;
 use std::alloc::{AllocError, Global};
 
-/// What the call of a row answers, `CALL ARGUMENT | TEXT`.
+/// Returns the answer to a case, `CALL ARGUMENT | TEXT`.
 pub(crate) fn answer(alloc: Global, row: &str) -> Result<String, AllocError> {
     let Some((head, written)) = row.split_once('|') else {
         return String::from_str(alloc, "no row: there is no bar");
@@ -16,14 +16,14 @@ pub(crate) fn answer(alloc: Global, row: &str) -> Result<String, AllocError> {
     };
     let text = text_of(alloc, written.strip_prefix(' ').unwrap_or(written))?;
     let mut out = String::new(alloc);
-    match answered(alloc, call, argument, text.as_str(), &mut out) {
+    match write_answer(alloc, call, argument, text.as_str(), &mut out) {
         Ok(()) => Ok(out),
         Err(Fault::Grammar(errors)) => refusal(alloc, &errors),
         Err(Fault::Memory(error)) => Err(error),
     }
 }
 
-/// The text that a row writes. `«3 a»` is three times `a`.
+/// Returns the text that a case spells. `«3 a»` is three times `a`.
 fn text_of(alloc: Global, written: &str) -> Result<String, AllocError> {
     let mut text = String::new(alloc);
     for piece in written.split('«') {
@@ -32,14 +32,14 @@ fn text_of(alloc: Global, written: &str) -> Result<String, AllocError> {
     Ok(text)
 }
 
-/// Adds a piece between two `«`: its turns where it has some, and what is written behind them.
+/// Adds a piece between two `«`: its repeated part if it has one, and the part after that.
 fn push_piece(text: &mut String, piece: &str) -> Result<(), AllocError> {
     let (turns, rest) = piece.split_once('»').unwrap_or(("", piece));
     push_turns(text, turns)?;
     push_written(text, rest, 0)
 }
 
-/// Adds `a` three times, where `3 a` is written.
+/// Adds a repeated part: for `3 a`, three times `a`.
 fn push_turns(text: &mut String, turns: &str) -> Result<(), AllocError> {
     let (count, part) = turns.split_once(' ').unwrap_or(("", turns));
     for turn in 0..count.parse::<u16>().unwrap_or(0) {
@@ -48,7 +48,7 @@ fn push_turns(text: &mut String, turns: &str) -> Result<(), AllocError> {
     Ok(())
 }
 
-/// Adds what is written.
+/// Adds the text that a part spells.
 fn push_written(text: &mut String, written: &str, turn: u32) -> Result<(), AllocError> {
     for character in written.chars() {
         push_sign(text, character, turn)?;
@@ -56,8 +56,8 @@ fn push_written(text: &mut String, written: &str, turn: u32) -> Result<(), Alloc
     Ok(())
 }
 
-/// Adds what a character stands for. `⏎` is a line feed, `␍` a carriage return, `␉` a tab, `№` the number of
-/// the turn, from 0, and `↑` the number of the next one.
+/// Adds the text that a character spells. `⏎` is a line feed, `␍` a carriage return, `␉` a tab, `№` the
+/// number of the turn, from 0, and `↑` the number of the next one.
 fn push_sign(text: &mut String, character: char, turn: u32) -> Result<(), AllocError> {
     match character {
         '⏎' => text.push('\n'),

@@ -1,14 +1,14 @@
-//! What texts spell for the rules of the meta-grammar.
+//! The token pairs that texts spell for the rules of the meta-grammar.
 use meta_base::grammar::Rule;
 use meta_base::runtime::{Error, Fault, Pairs, Span};
 use meta_reader::rules::{common_name, rename_meta_rule};
 use meta_syntax::grammar::PestParser;
 use std::alloc::{AllocError, Global};
 
-/// How deep pairs are written.
+/// The greatest depth of written pairs.
 pub(crate) const LEVELS: u32 = 100;
 
-/// The rule of that name; `EOI` where there is none.
+/// Returns the rule of that name, or `EOI` if there is none.
 fn rule_of(alloc: Global, name: &str) -> Result<Rule, AllocError> {
     for rule in Rule::all_rules() {
         if format!(in alloc; "{rule:?}")?.as_str() == name {
@@ -18,14 +18,14 @@ fn rule_of(alloc: Global, name: &str) -> Result<Rule, AllocError> {
     Ok(Rule::EOI)
 }
 
-/// The pairs that a text spells for the rule of a name.
-fn parsed<'i>(alloc: Global, rule: &str, text: &'i str) -> Result<Pairs<'i, Rule>, Fault> {
+/// Parses a text by the rule of that name.
+fn parse_rule<'i>(alloc: Global, rule: &str, text: &'i str) -> Result<Pairs<'i, Rule>, Fault> {
     PestParser::parse(alloc, rule_of(alloc, rule)?, text)
 }
 
-/// The pairs that a text spells for a rule.
+/// Writes the pairs that a text spells for a rule.
 pub(crate) fn pairs(alloc: Global, rule: &str, text: &str, out: &mut String) -> Result<(), Fault> {
-    write_pairs(parsed(alloc, rule, text)?, LEVELS, ("", ""), out)?;
+    write_pairs(parse_rule(alloc, rule, text)?, LEVELS, ("", ""), out)?;
     if out.is_empty() {
         out.push_str("no pairs")?;
     }
@@ -33,8 +33,8 @@ pub(crate) fn pairs(alloc: Global, rule: &str, text: &str, out: &mut String) -> 
 }
 
 /// Writes each pair as its rule, its start and its end, and the pairs inside it in brackets, as in
-/// `repeat_exact 0..3 [opening_brace 0..1, number 1..2, closing_brace 2..3]`. Where there are pairs, the
-/// brackets that are given stand round them. Below so many levels nothing is written.
+/// `repeat_exact 0..3 [opening_brace 0..1, number 1..2, closing_brace 2..3]`. Where there are pairs, these
+/// brackets enclose them. Pairs deeper than `levels` are left out.
 pub(crate) fn write_pairs(
     pairs: Pairs<'_, Rule>,
     levels: u32,
@@ -53,7 +53,7 @@ pub(crate) fn write_pairs(
     out.push_str(close)
 }
 
-/// Writes a pair behind what separates it from the one before.
+/// Writes a separator and a pair.
 fn write_pair(
     out: &mut String,
     separator: &str,
@@ -64,7 +64,7 @@ fn write_pair(
     write!(out, "{separator}{rule:?} {start}..{end}")
 }
 
-/// The entries of the flat list.
+/// Writes the entries of the flat list.
 pub(crate) fn entries(
     alloc: Global,
     rule: &str,
@@ -77,14 +77,14 @@ pub(crate) fn entries(
     Ok(())
 }
 
-/// The pairs, each before those inside it.
-pub(crate) fn flattened(
+/// Writes the pairs in preorder.
+pub(crate) fn write_flattened(
     alloc: Global,
     rule: &str,
     text: &str,
     out: &mut String,
 ) -> Result<(), Fault> {
-    for pair in parsed(alloc, rule, text)?.flatten(alloc)? {
+    for pair in parse_rule(alloc, rule, text)?.flatten(alloc)? {
         let pair = pair?;
         write_pair(out, "", pair.as_rule(), pair.as_span())?;
         out.push('\n')?;
@@ -92,16 +92,16 @@ pub(crate) fn flattened(
     Ok(())
 }
 
-/// How many pairs there are, and how many with those inside them.
+/// Writes the number of outer pairs, and of all pairs.
 pub(crate) fn count(alloc: Global, rule: &str, text: &str, out: &mut String) -> Result<(), Fault> {
-    let pairs = parsed(alloc, rule, text)?;
+    let pairs = parse_rule(alloc, rule, text)?;
     let outer = pairs.clone()?.count();
     let all = count_of_all(alloc, pairs)?;
     write!(out, "{outer} pairs, {all} with those inside them")?;
     Ok(())
 }
 
-/// How many pairs there are, with those inside them.
+/// Counts the pairs, with those inside them.
 fn count_of_all(alloc: Global, pairs: Pairs<'_, Rule>) -> Result<u32, Fault> {
     let mut all = 0u32;
     for pair in pairs.flatten(alloc)? {
@@ -111,48 +111,48 @@ fn count_of_all(alloc: Global, pairs: Pairs<'_, Rule>) -> Result<u32, Fault> {
     Ok(all)
 }
 
-/// The errors of a text that is refused, as they are printed.
-pub(crate) fn printed(
+/// Writes the errors of a text that is refused, as they are printed.
+pub(crate) fn write_printed(
     alloc: Global,
     rule: &str,
     text: &str,
     out: &mut String,
 ) -> Result<(), Fault> {
-    match parsed(alloc, rule, text) {
+    match parse_rule(alloc, rule, text) {
         Ok(_) => Ok(out.push_str("pairs")?),
-        Err(Fault::Grammar(errors)) => Ok(write_printed(out, &errors)?),
+        Err(Fault::Grammar(errors)) => Ok(write_messages(out, &errors)?),
         Err(fault) => Err(fault),
     }
 }
 
 /// Writes each error as it is printed.
-fn write_printed(out: &mut String, errors: &[Error<Rule>]) -> Result<(), AllocError> {
+fn write_messages(out: &mut String, errors: &[Error<Rule>]) -> Result<(), AllocError> {
     for error in errors {
         write!(out, "{error}\n")?;
     }
     Ok(())
 }
 
-/// What errors call a rule.
-pub(crate) fn renamed(alloc: Global, rule: &str, out: &mut String) -> Result<(), Fault> {
+/// Writes the name of a rule in errors.
+pub(crate) fn write_renamed(alloc: Global, rule: &str, out: &mut String) -> Result<(), Fault> {
     let renamed = rename_meta_rule(alloc, &rule_of(alloc, rule)?)?;
     out.push_str(renamed.as_str())?;
     Ok(())
 }
 
-/// The rules that are expected where a text fails, by the names that people call them.
-pub(crate) fn expected(
+/// Writes the expected set where a text fails, by common names.
+pub(crate) fn write_expected(
     alloc: Global,
     rule: &str,
     text: &str,
     out: &mut String,
 ) -> Result<(), Fault> {
-    let rules = PestParser::expected(alloc, rule_of(alloc, rule)?, text)?;
+    let rules = PestParser::expected_set(alloc, rule_of(alloc, rule)?, text)?;
     write_common(out, &rules)?;
     Ok(())
 }
 
-/// Writes what people call each of some rules, or that there is none.
+/// Writes the common names of rules, or that there is none.
 fn write_common(out: &mut String, rules: &[Rule]) -> Result<(), AllocError> {
     let mut separator = "";
     for rule in rules {
@@ -166,7 +166,7 @@ fn write_common(out: &mut String, rules: &[Rule]) -> Result<(), AllocError> {
     Ok(())
 }
 
-/// What people call a rule.
+/// Writes the common name of a rule.
 pub(crate) fn common(alloc: Global, rule: &str, out: &mut String) -> Result<(), Fault> {
     out.push_str(common_name(rule_of(alloc, rule)?))?;
     Ok(())

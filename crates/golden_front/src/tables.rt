@@ -3,8 +3,8 @@ use meta_base::grammar::Rule;
 use meta_base::runtime::Fault;
 use meta_names::unicode_property_names;
 
-/// How many rules the meta-grammar has, which is their last, and whether they stand in order behind `EOI`;
-/// and how many names of properties there are, and which are the first and the last.
+/// Writes the number of rules of the meta-grammar, whether they are in order after `EOI`, and the last one.
+/// Then the number of names of properties, the first and the last.
 pub(crate) fn tables(out: &mut String) -> Result<(), Fault> {
     let mut are_in_order = true;
     let mut last = Rule::EOI;

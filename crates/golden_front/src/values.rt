@@ -5,8 +5,8 @@ use meta_base::runtime::Fault;
 use meta_optimizer::optimize;
 use std::alloc::{AllocError, Global};
 
-/// Writes how many values there are, and, where one is unlike its copy or like the copy of another, their
-/// numbers.
+/// Writes the number of values, and the numbers of those that differ from their copy or equal the copy of
+/// another.
 pub(crate) fn write_equalities<T: PartialEq>(
     out: &mut String,
     name: &str,
@@ -21,8 +21,7 @@ pub(crate) fn write_equalities<T: PartialEq>(
     Ok(())
 }
 
-/// Writes the numbers of a value and of its copy, where these are unlike, and of copies of others that it is
-/// like.
+/// Writes the numbers of a value and a copy, where these are its own copy and unlike, or another's and equal.
 fn write_unlike<T: PartialEq>(
     out: &mut String,
     number: usize,
@@ -37,7 +36,7 @@ fn write_unlike<T: PartialEq>(
     Ok(())
 }
 
-/// The rules of a text with their spans, without them, and behind all passes: how they equal their copies.
+/// Writes how the rules of a text with spans, without spans, and after all passes equal their copies.
 pub(crate) fn copies(alloc: Global, text: &str, out: &mut String) -> Result<(), Fault> {
     with_spans(alloc, text, out)?;
     without_spans(alloc, text, out)?;

@@ -1,4 +1,4 @@
-//! Walks over expressions: all that stands in them, and maps.
+//! Walks over expressions: iterators over all nodes, and maps.
 ghost use Rattle.std.specs.Prelude.{◌≡◌, ◌≤◌, IfOk};
 ghost use Rattle.meta_ast.specs.Ast.{expression_of};
 ghost use Rattle.meta_ast.specs.Operands.{count_of_nodes};
@@ -10,7 +10,7 @@ use meta_base::runtime::Fault;
 use meta_optimizer::OptimizedExpr;
 use std::alloc::{AllocError, Global};
 
-/// All that stands in the bodies of a text, from the top down.
+/// Writes all nodes of the bodies of a text in preorder.
 pub(crate) fn items(alloc: Global, text: &str, out: &mut String) -> Result<(), Fault> {
     for rule in &erased_rules(alloc, text)? {
         write_items(alloc, &rule.expr, out)?;
@@ -18,7 +18,7 @@ pub(crate) fn items(alloc: Global, text: &str, out: &mut String) -> Result<(), F
     Ok(())
 }
 
-/// Writes all that stands in an expression.
+/// Writes all nodes of an expression in preorder.
 fn write_items(alloc: Global, expr: &Expr, out: &mut String) -> Result<(), Fault> {
     for item in expr.iter_top_down(alloc)? {
         write!(out, "{:?}\n", item?)?;
@@ -26,7 +26,7 @@ fn write_items(alloc: Global, expr: &Expr, out: &mut String) -> Result<(), Fault
     Ok(())
 }
 
-/// The same of optimized rules.
+/// Writes all nodes of the optimized bodies of a text in preorder.
 pub(crate) fn optimized_items(alloc: Global, text: &str, out: &mut String) -> Result<(), Fault> {
     for rule in &optimized_rules(alloc, text)? {
         write_optimized_items(alloc, &rule.expr, out)?;
@@ -34,7 +34,7 @@ pub(crate) fn optimized_items(alloc: Global, text: &str, out: &mut String) -> Re
     Ok(())
 }
 
-/// Writes all that stands in an optimized expression.
+/// Writes all nodes of an optimized expression in preorder.
 fn write_optimized_items(
     alloc: Global,
     expr: &OptimizedExpr,
@@ -46,28 +46,28 @@ fn write_optimized_items(
     Ok(())
 }
 
-/// Whether a map from the top down that changes nothing gives the same expression.
+/// Returns whether a map from the top down with the identity returns an equal expression.
 fn is_kept_down(alloc: Global, expr: &Expr) -> Result<bool, Fault> {
     Ok(expr.clone()?.map_top_down(alloc, |e| Ok(e))? == *expr)
 }
 
-/// Whether one from the bottom up does.
+/// Returns whether a map from the bottom up with the identity returns an equal expression.
 fn is_kept_up(alloc: Global, expr: &Expr) -> Result<bool, Fault> {
     Ok(expr.clone()?.map_bottom_up(alloc, |e| Ok(e))? == *expr)
 }
 
-/// Whether a map from the top down that changes nothing gives the same optimized expression.
+/// Returns whether a map from the top down with the identity returns an equal optimized expression.
 fn is_optimized_kept_down(alloc: Global, expr: &OptimizedExpr) -> Result<bool, Fault> {
     Ok(expr.clone()?.map_top_down(alloc, |e| Ok(e))? == *expr)
 }
 
-/// Whether one from the bottom up does.
+/// Returns whether a map from the bottom up with the identity returns an equal optimized expression.
 fn is_optimized_kept_up(alloc: Global, expr: &OptimizedExpr) -> Result<bool, Fault> {
     Ok(expr.clone()?.map_bottom_up(alloc, |e| Ok(e))? == *expr)
 }
 
-/// `(a ~ b) ~ c` as `a ~ (b ~ c)`.
-fn turned(alloc: Global, expr: Expr) -> Result<Expr, AllocError>
+/// Rotates `(a ~ b) ~ c` to `a ~ (b ~ c)`.
+fn rotate(alloc: Global, expr: Expr) -> Result<Expr, AllocError>
     ensures { IfOk result (λ r. count_of_nodes (expression_of r) ≤ count_of_nodes (expression_of expr)) }
 {
     match expr {
@@ -82,69 +82,69 @@ fn turned(alloc: Global, expr: Expr) -> Result<Expr, AllocError>
     }
 }
 
-/// The expression with each node turned before what stands in it.
-fn turned_down(alloc: Global, expr: Expr) -> Result<Expr, Fault> {
+/// Rotates each node before its children.
+fn rotate_down(alloc: Global, expr: Expr) -> Result<Expr, Fault> {
     expr.map_top_down(
         alloc,
         |e: Expr| -> Result<Expr, Fault>
             ensures { IfOk result (λ r. count_of_nodes (expression_of r) ≤ count_of_nodes (expression_of e)) }
-        { Ok(turned(alloc, e)?) },
+        { Ok(rotate(alloc, e)?) },
     )
 }
 
-/// The expression with each node made optional after what stands in it.
+/// Makes each node optional after its children.
 fn optional_up(alloc: Global, expr: Expr) -> Result<Expr, Fault> {
     expr.map_bottom_up(alloc, |e| Ok(Expr::Opt(Box::new(alloc, e)?)))
 }
 
-/// The same of an optimized expression.
+/// Makes each node of an optimized expression optional after its children.
 fn optional_up_optimized(alloc: Global, expr: OptimizedExpr) -> Result<OptimizedExpr, Fault> {
     expr.map_bottom_up(alloc, |e| Ok(OptimizedExpr::Opt(Box::new(alloc, e)?)))
 }
 
-/// Writes an expression behind maps: whether those that change nothing keep it, how it is turned from the
-/// top down, and how each node is made optional from the bottom up.
-fn write_mapped(alloc: Global, expr: &Expr, out: &mut String) -> Result<(), Fault> {
+/// Writes whether the identity maps keep an expression, its rotation from the top down, and the expression
+/// with each node made optional from the bottom up.
+fn write_map(alloc: Global, expr: &Expr, out: &mut String) -> Result<(), Fault> {
     let is_kept = is_kept_down(alloc, expr)? && is_kept_up(alloc, expr)?;
     write!(out, "kept {is_kept}\n")?;
-    let turned = turned_down(alloc, expr.clone()?)?;
+    let turned = rotate_down(alloc, expr.clone()?)?;
     write!(out, "turned {turned:?}\n")?;
     let optional = optional_up(alloc, expr.clone()?)?;
     Ok(write!(out, "optional {optional:?}\n")?)
 }
 
-/// The bodies of a text behind maps.
-pub(crate) fn mapped(alloc: Global, text: &str, out: &mut String) -> Result<(), Fault> {
+/// Writes the mapped bodies of a text.
+pub(crate) fn write_maps(alloc: Global, text: &str, out: &mut String) -> Result<(), Fault> {
     for rule in &erased_rules(alloc, text)? {
-        write_mapped(alloc, &rule.expr, out)?;
+        write_map(alloc, &rule.expr, out)?;
     }
     Ok(())
 }
 
-/// Writes an optimized expression behind maps: whether those that change nothing keep it, and how each node
-/// is made optional from the bottom up.
-fn write_optimized_mapped(
-    alloc: Global,
-    expr: &OptimizedExpr,
-    out: &mut String,
-) -> Result<(), Fault> {
+/// Writes whether the identity maps keep an optimized expression, and the expression with each node made
+/// optional from the bottom up.
+fn write_optimized_map(alloc: Global, expr: &OptimizedExpr, out: &mut String) -> Result<(), Fault> {
     let is_kept = is_optimized_kept_down(alloc, expr)? && is_optimized_kept_up(alloc, expr)?;
     write!(out, "kept {is_kept}\n")?;
     let optional = optional_up_optimized(alloc, expr.clone()?)?;
     Ok(write!(out, "optional {optional:?}\n")?)
 }
 
-/// The bodies of a text as optimized ones behind maps.
-pub(crate) fn optimized_mapped(alloc: Global, text: &str, out: &mut String) -> Result<(), Fault> {
+/// Writes the mapped optimized bodies of a text.
+pub(crate) fn write_optimized_maps(
+    alloc: Global,
+    text: &str,
+    out: &mut String,
+) -> Result<(), Fault> {
     for rule in &optimized_rules(alloc, text)? {
-        write_optimized_mapped(alloc, &rule.expr, out)?;
+        write_optimized_map(alloc, &rule.expr, out)?;
     }
     Ok(())
 }
 
-/// What a map from the top down answers whose closure refuses its call of that number, and how often the
-/// closure was called.
-fn refused_down(alloc: Global, expr: Expr, last: u32) -> (Result<Expr, Fault>, u32) {
+/// Maps an expression from the top down with a closure that refuses its call number `last`. Returns the
+/// answer, and the number of calls.
+fn refuse_down(alloc: Global, expr: Expr, last: u32) -> (Result<Expr, Fault>, u32) {
     let mut calls = 0u32;
     let mapped = expr.map_top_down(
         alloc,
@@ -162,8 +162,8 @@ fn refused_down(alloc: Global, expr: Expr, last: u32) -> (Result<Expr, Fault>, u
     (mapped, calls)
 }
 
-/// The same of a map from the bottom up.
-fn refused_up(alloc: Global, expr: Expr, last: u32) -> (Result<Expr, Fault>, u32) {
+/// Maps an expression from the bottom up with such a closure.
+fn refuse_up(alloc: Global, expr: Expr, last: u32) -> (Result<Expr, Fault>, u32) {
     let mut calls = 0u32;
     let mapped = expr.map_bottom_up(alloc, |e| {
         calls = calls.saturating_add(1);
@@ -176,7 +176,7 @@ fn refused_up(alloc: Global, expr: Expr, last: u32) -> (Result<Expr, Fault>, u32
     (mapped, calls)
 }
 
-/// Writes whether a map was refused, and how often its closure was called.
+/// Writes whether a map was refused, and the number of calls of its closure.
 fn write_refused(
     out: &mut String,
     way: &str,
@@ -191,16 +191,16 @@ fn write_refused(
     Ok(write!(out, "{way}: refused {is_refused}, {calls} calls\n")?)
 }
 
-/// Writes what `refusing` says of an expression.
+/// Writes the lines of `refusing` for an expression.
 fn write_refusing(alloc: Global, expr: &Expr, last: u32, out: &mut String) -> Result<(), Fault> {
-    let (mapped, calls) = refused_down(alloc, expr.clone()?, last);
+    let (mapped, calls) = refuse_down(alloc, expr.clone()?, last);
     write_refused(out, "from the top down", mapped, calls)?;
-    let (mapped, calls) = refused_up(alloc, expr.clone()?, last);
+    let (mapped, calls) = refuse_up(alloc, expr.clone()?, last);
     write_refused(out, "from the bottom up", mapped, calls)
 }
 
-/// Of the bodies of a text whether maps are refused whose closures refuse their call of that number, and how
-/// often the closures were called.
+/// Writes for the bodies of a text whether maps are refused whose closures refuse their call of that number,
+/// and the number of calls.
 pub(crate) fn refusing(
     alloc: Global,
     number: &str,

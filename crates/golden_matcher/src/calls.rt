@@ -1,10 +1,10 @@
-//! The calls that rows name.
-use crate::{again, front, matching};
+//! The calls that golden cases name.
+use crate::{front, matching, round_trip};
 use meta_base::runtime::Fault;
 use std::alloc::Global;
 
-/// Writes what the call of that name answers on a text.
-pub(crate) fn answered(
+/// Writes the answer of the call of that name on a text.
+pub(crate) fn write_answer(
     alloc: Global,
     name: &str,
     argument: &str,
@@ -12,13 +12,13 @@ pub(crate) fn answered(
     out: &mut String,
 ) -> Result<(), Fault> {
     match name {
-        "match" => matching::matched(alloc, argument, text, out),
-        "found" => front::found(alloc, text, out),
+        "match" => matching::write_match(alloc, argument, text, out),
+        "found" => front::write_ast_errors(alloc, text, out),
         "rules" => front::rules(alloc, text, out),
         "answer" => front::answer(alloc, text, out),
         "report" => front::report(alloc, text, out),
         "beginnings" => front::beginnings(alloc, text, out),
-        "again" => again::again(alloc, text, out),
+        "again" => round_trip::write_round_trip(alloc, text, out),
         _ => Ok(out.push_str("no row: there is no such call")?),
     }
 }

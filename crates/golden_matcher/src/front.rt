@@ -11,7 +11,7 @@ use pest_meta::{Report, parse_and_optimize, unwrap_or_report};
 use std::alloc::{AllocError, Global};
 use std::fmt;
 
-/// The rules of a text that are validated.
+/// Writes the rules of a text that are validated.
 pub(crate) fn rules(alloc: Global, text: &str, out: &mut String) -> Result<(), Fault> {
     let pairs = parse(alloc, Rule::grammar_rules, text)?;
     Ok(write_rules(out, &consume_rules(alloc, pairs)?)?)
@@ -25,7 +25,7 @@ fn write_rules(out: &mut String, rules: &[ast::Rule]) -> Result<(), AllocError> 
     Ok(())
 }
 
-/// The builtins of a text, its optimized rules, and how their bodies are printed.
+/// Writes the builtins of a text, its optimized rules, and their printed bodies.
 pub(crate) fn answer(alloc: Global, text: &str, out: &mut String) -> Result<(), Fault> {
     let (builtins, rules) = parse_and_optimize(alloc, text)?;
     Ok(write_answer(out, &builtins, &rules)?)
@@ -42,7 +42,7 @@ fn write_answer(
     write_optimized(out, rules)
 }
 
-/// What is said of a text that is refused.
+/// Writes the report of a text that is refused.
 pub(crate) fn report(alloc: Global, text: &str, out: &mut String) -> Result<(), Fault> {
     match unwrap_or_report(alloc, parse_and_optimize(alloc, text)) {
         Ok((_builtins, rules)) => {
@@ -55,7 +55,8 @@ pub(crate) fn report(alloc: Global, text: &str, out: &mut String) -> Result<(), 
     }
 }
 
-/// What each beginning of a text answers: its length in bytes, and how many rules it has, or its errors.
+/// Writes the answer for every prefix of a text: its length in bytes, and the number of its rules, or its
+/// errors.
 pub(crate) fn beginnings(alloc: Global, text: &str, out: &mut String) -> Result<(), Fault> {
     for (length, _) in text.char_indices() {
         write_beginning(alloc, &text[..length], out)?;
@@ -64,7 +65,7 @@ pub(crate) fn beginnings(alloc: Global, text: &str, out: &mut String) -> Result<
     Ok(())
 }
 
-/// Writes how long a beginning is, and how many rules it has, or a line for each of its errors.
+/// Writes the length of a prefix, and the number of its rules, or a line for each of its errors.
 fn write_beginning(alloc: Global, text: &str, out: &mut String) -> Result<(), AllocError> {
     write!(out, "{} bytes: ", text.len())?;
     match parse_and_optimize(alloc, text) {
@@ -74,8 +75,8 @@ fn write_beginning(alloc: Global, text: &str, out: &mut String) -> Result<(), Al
     }
 }
 
-/// What `validate_ast` finds in the rules of a text.
-pub(crate) fn found(alloc: Global, text: &str, out: &mut String) -> Result<(), Fault> {
+/// Writes the errors that `validate_ast` reports for the rules of a text.
+pub(crate) fn write_ast_errors(alloc: Global, text: &str, out: &mut String) -> Result<(), Fault> {
     let pairs = parse(alloc, Rule::grammar_rules, text)?;
     let rules = consume_rules_with_spans(alloc, pairs)?;
     let errors = validate_ast(alloc, &rules);
@@ -87,7 +88,7 @@ pub(crate) fn found(alloc: Global, text: &str, out: &mut String) -> Result<(), F
     Ok(write_errors(out, "", &errors)?)
 }
 
-/// Writes a rule of before the passes or behind them: its name, its type and its body.
+/// Writes the name, the type and the body of a rule, optimized or not.
 fn write_rule<E: fmt::Debug>(
     out: &mut String,
     name: &str,
@@ -106,7 +107,7 @@ fn write_builtins(out: &mut String, names: &[&str]) -> Result<(), AllocError> {
     Ok(())
 }
 
-/// Writes optimized rules, each with a line for how its body is printed.
+/// Writes optimized rules, each followed by a line with its printed body.
 fn write_optimized(out: &mut String, rules: &[OptimizedRule]) -> Result<(), AllocError> {
     for rule in rules {
         write_rule(out, rule.name.as_str(), rule.ty, &rule.expr)?;

@@ -1,15 +1,15 @@
-//! Calls of the whole front end and of the matcher on texts, a row each, and what they answer.
+//! Runs golden cases: calls of the whole front end and of the matcher on texts, and their answers.
 //!
-//! Standard input has the rows, a line each: the name of a call, what it takes beside a text, a bar, and the
-//! text. A line that begins with `#` says what the rows below it show. Each line is printed as it stands, and
-//! below a row what the call answers, four blanks further in. So what is printed can be read alone.
+//! Standard input has a line for each case: the name of a call, its arguments, a bar, and the text. A line
+//! that begins with `#` is a heading of the cases below. The program prints each line unchanged, and below a
+//! case the answer of its call, indented by four blanks. So its output can be read alone.
 #![tactic(auto)]
 
-mod again;
 mod calls;
 mod front;
 mod matching;
 mod refusals;
+mod round_trip;
 mod row;
 
 use std::io;

@@ -1,4 +1,4 @@
-//! What rules match: the matcher over the front end.
+//! Matches of rules: the matcher with the front end.
 ghost use Rattle.meta_matcher.specs.Answers.{IsSoundMatcher};
 ghost use Rattle.std.specs.Prelude.{◌∷◌, [], true};
 ghost use Rattle.matcher_program.specs.Programs.{is_in_ranges};
@@ -13,10 +13,10 @@ use pest_meta::optimizer::release;
 use pest_meta::parse_and_optimize;
 use std::alloc::{AllocError, Global};
 
-/// How many steps a row may take.
+/// The greatest number of steps of a case.
 const STEPS: u64 = 1_000_000;
 
-/// Each property is the small Greek letters.
+/// Every property has the small Greek letters.
 struct Greek;
 
 impl Properties for Greek {
@@ -31,7 +31,7 @@ impl Properties for Greek {
     }
 }
 
-/// Where the tree ends whose end has a number in the list.
+/// Returns the end position of the tree whose end entry has this number.
 fn end_of(entries: &[Entry], partner: usize) -> usize {
     match entries.get(partner) {
         Some(Entry::End { pos, .. }) => *pos,
@@ -39,7 +39,7 @@ fn end_of(entries: &[Entry], partner: usize) -> usize {
     }
 }
 
-/// Writes a tree's line, further in the more trees it stands in.
+/// Writes a tree's line, indented by its depth.
 fn write_tree(
     out: &mut String,
     within: usize,
@@ -53,7 +53,7 @@ fn write_tree(
     write!(out, "{rule} {from}..{to}\n")
 }
 
-/// Writes what was found: where it ends, and the trees.
+/// Writes the end of a match, and its trees.
 fn write_found(out: &mut String, found: &Found) -> Result<(), AllocError> {
     write!(out, "ends at {}\n", found.end)?;
     let mut within: usize = 0;
@@ -91,7 +91,7 @@ fn write_unfit(out: &mut String, unfit: &Unfit) -> Result<(), AllocError> {
     }
 }
 
-/// Writes where a text fails, and the names that are expected there.
+/// Writes the position where a text fails, and the expected set there.
 fn write_failure(
     alloc: Global,
     out: &mut String,
@@ -116,7 +116,7 @@ fn write_failure(
     }
 }
 
-/// Writes what the rule of a name of a grammar matches in a text.
+/// Writes the match of the rule of a name of a grammar on a text.
 fn write_answer(
     alloc: Global,
     out: &mut String,
@@ -141,8 +141,8 @@ fn write_answer(
     }
 }
 
-/// What a rule matches of a text, of `TEXT ; GRAMMAR`.
-pub(crate) fn matched(
+/// Writes the match of a rule, for the argument `TEXT ; GRAMMAR`.
+pub(crate) fn write_match(
     alloc: Global,
     rule: &str,
     written: &str,

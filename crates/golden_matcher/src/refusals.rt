@@ -1,16 +1,16 @@
-//! What is said of errors.
+//! Errors as the golden cases show them.
 use meta_base::grammar::Rule;
 use meta_base::runtime::{Error, InputLocation, LineColLocation};
 use std::alloc::{AllocError, Global};
 
-/// What is said of the errors of a refusal.
+/// Returns the lines for the errors of a refusal.
 pub(crate) fn refusal(alloc: Global, errors: &[Error<Rule>]) -> Result<String, AllocError> {
     let mut out = String::new(alloc);
     write_errors(&mut out, "refused: ", errors)?;
     Ok(out)
 }
 
-/// Writes each error as `write_error` does, behind a word.
+/// Writes each error as `write_error` does, after a word.
 pub(crate) fn write_errors(
     out: &mut String,
     word: &str,
@@ -22,7 +22,8 @@ pub(crate) fn write_errors(
     Ok(())
 }
 
-/// Writes a word, the place of an error in bytes, where it begins as line and column, and what it says.
+/// Writes a word, the byte position or span of an error, the line and the column of its start, and its
+/// message.
 fn write_error(out: &mut String, word: &str, error: &Error<Rule>) -> Result<(), AllocError> {
     match error.location {
         InputLocation::Pos(place) => write!(out, "{word}{place}")?,

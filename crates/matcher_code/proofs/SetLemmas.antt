@@ -6,7 +6,7 @@ use Rattle.std.proofs.lemmas.List.{get_or-append-add, length-map, map-append}
 use Rattle.std.proofs.Math.Seq.{get_or-append_seam}
 use Rattle.std.proofs.lemmas.Str.{char_from_byte, encodes-chars, len_utf8_ascii, IsCharBoundary-start}
 use Rattle.matcher_code.specs.declared.code.Code.{Code}
-use Rattle.matcher_code.specs.Reading.{first_of, flag, is_covered, ranges_of, taken}
+use Rattle.matcher_code.specs.Reading.{char_len, first_of, flag, is_covered, ranges_of}
 use Rattle.matcher_code.specs.Sets.{IsRowOf, IsSetOf, flag_of}
 
 -- a text that begins with a byte of ASCII begins with that character
@@ -23,11 +23,11 @@ below ranges b h = let t : nat_lt b 128 ≡ true = grind arith in rw t refl
 above : (ranges : List (ℕ × ℕ)) (b : ℕ) → 128 ≤ b → flag_of ranges b ≡ 5
 above ranges b h = let t : nat_lt b 128 ≡ false = grind arith in rw t refl
 
-taken_below : (code : Code) (set b : ℕ) (bs : List ℕ) → flag code set b ≤ 4 → taken code set (b ∷ bs) ≡ flag code set b
+taken_below : (code : Code) (set b : ℕ) (bs : List ℕ) → flag code set b ≤ 4 → char_len code set (b ∷ bs) ≡ flag code set b
 taken_below code set b bs h = let t : nat_lt 4 (flag code set b) ≡ false = grind arith in rw t refl
 
 taken_above : (code : Code) (set b : ℕ) (bs : List ℕ) → 4 < flag code set b → 192 ≤ b
-    → taken code set (b ∷ bs) ≡ first_of (ranges_of code set) (chars (b ∷ bs))
+    → char_len code set (b ∷ bs) ≡ first_of (ranges_of code set) (chars (b ∷ bs))
 taken_above code set b bs h k =
     let t : nat_lt 4 (flag code set b) ≡ true = grind arith in
     let s : nat_lt b 192 ≡ false = grind arith in

@@ -1,13 +1,13 @@
 //! Operations, and programs of them.
 
-/// What is done at a place of a text. Each operation names the operations that come next: `next` where it
-/// goes on, `fail` where it fails. All these are numbers of operations.
+/// An operation at a position of a text. An operation has the numbers of the next operations: `next` for
+/// success, `fail` for failure.
 #[derive(Clone, Copy, Debug)]
 pub enum Op {
-    /// What was begun fails: what waits last says what comes of that.
+    /// Fails: pops a slot and goes to its `fail`.
     Fail,
-    /// The operations from `to` on are called for the rule of a row, with a tree. `counts` says whether a
-    /// failure of the call is noted.
+    /// Calls the operations from `to` on for the rule of a row, with a tree. If `counts` is set, a failure of
+    /// the call is recorded.
     Call {
         to: u32,
         row: u32,
@@ -15,138 +15,139 @@ pub enum Op {
         fail: u32,
         counts: bool,
     },
-    /// The operations from `to` on are called, without a tree.
+    /// Calls the operations from `to` on, without a tree.
     Sub {
         to: u32,
         next: u32,
         fail: u32,
     },
-    /// The end of what was called with a tree.
+    /// Returns from a call with a tree.
     Return,
-    /// The end of what was called without a tree.
+    /// Returns from a call without a tree.
     Back,
-    /// By the byte that stands here, or by the end: the operation that a table names. `table` is the number
-    /// of the table's first entry.
+    /// Goes to the operation that a table names for the byte here, or for the end. `table` is the number of
+    /// the table's first entry.
     Switch {
         table: u32,
     },
-    /// One character of a set.
+    /// Takes one character of a set.
     One {
         set: u32,
         next: u32,
         fail: u32,
     },
-    /// Whether a character of a set stands here.
+    /// Checks whether the next character is in a set.
     IsOne {
         set: u32,
         next: u32,
         fail: u32,
     },
-    /// So many bytes, or those that are left.
+    /// Takes so many bytes, or all remaining ones.
     Take {
         count: u32,
         next: u32,
     },
-    /// All characters of a set that stand here.
+    /// Takes all characters of a set from here on.
     All {
         set: u32,
         next: u32,
     },
-    /// The same, and then `slow` where a byte of the row `stops` stands behind them.
+    /// Takes all characters of a set, and goes to `slow` if the byte after them has a flag in the row
+    /// `stops`.
     Gap {
         set: u32,
         stops: u32,
         next: u32,
         slow: u32,
     },
-    /// A text.
+    /// Takes a text.
     Text {
         text: u32,
         next: u32,
         fail: u32,
     },
-    /// Whether a text stands here.
+    /// Checks whether a text begins here.
     IsText {
         text: u32,
         next: u32,
         fail: u32,
     },
-    /// A text, whatever the case of its ASCII letters.
+    /// Takes a text, ignoring the case of ASCII letters.
     AnyCase {
         text: u32,
         next: u32,
         fail: u32,
     },
-    /// On to the first place where one of some texts stands, or to the end. A text stands only where a byte
-    /// of the row `firsts` does.
+    /// Goes forward to the first occurrence of one of some texts, or to the end. Only positions whose byte
+    /// has a flag in the row `firsts` count.
     Until {
         firsts: u32,
         list: u32,
         next: u32,
     },
-    /// What there was so many bytes before here waits, to be put back if what comes next fails.
+    /// Pushes a slot with the state so many bytes before here, which a later failure restores.
     Try {
         back: u32,
         next: u32,
         fail: u32,
     },
-    /// What waits last waits no longer.
+    /// Pops the last slot, and keeps the state.
     Commit {
         next: u32,
     },
-    /// The same, and what there was is put back.
+    /// Pops the last slot, and restores its state.
     Ahead {
         next: u32,
     },
-    /// A call that counts fails here.
+    /// Records a failure of a call that counts here.
     Note {
         next: u32,
     },
-    /// Back by so many bytes.
+    /// Goes back by so many bytes.
     GoBack {
         count: u32,
         next: u32,
     },
-    /// Whether this is the start of the text.
+    /// Checks whether this is the start of the text.
     Start {
         next: u32,
         fail: u32,
     },
-    /// Whether this is the end of the text.
+    /// Checks whether this is the end of the text.
     End {
         next: u32,
         fail: u32,
     },
-    /// A tree is begun.
+    /// Opens a tree.
     Open {
         row: u32,
         next: u32,
     },
-    /// The tree that was begun last ends, and holds none.
+    /// Closes the tree that was opened last, without descendants.
     Close {
         next: u32,
     },
-    /// The tree that was begun last is taken away.
+    /// Removes the tree that was opened last.
     Undo {
         next: u32,
     },
-    /// The run has found what it was begun for.
+    /// Ends the run with a match.
     Halt,
-    /// It has failed.
+    /// Ends the run with a failure.
     Lose,
 }
 
 /// The character ranges of a set above ASCII, both ends among them.
 pub type Ranges = Vec<(u32, u32)>;
 
-/// A program: its operations, and what they name by numbers.
+/// A program: its operations, and the lists that these refer to by numbers.
 #[derive(Drop)]
 pub struct Code {
     pub ops: Vec<Op>,
-    /// Rows of 256, each with a flag for each byte: 0 where a set has no character that begins with it; how
-    /// many bytes are taken of a character that does; or more than 4, where the set's ranges tell.
+    /// Rows of 256 flags, one for each byte: 0 if no character of the set begins with it; the length of a
+    /// character that does; or more than 4, if the set's ranges decide.
     pub rows: Vec<u8>,
-    /// For each row the ranges of its set.
+    /// The ranges of the set of each row.
     pub ranges: Vec<Ranges>,
     /// Tables of 257 numbers of operations, for each byte and for the end.
     pub tables: Vec<u32>,

@@ -1,4 +1,4 @@
-//! Programs of operations that match texts, and what their rows, tables and texts tell of a place of a text.
+//! Programs of operations that match texts, and the functions by which operations read a text.
 #![tactic(auto)]
 
 pub mod code;

@@ -6,7 +6,7 @@ use crate::code::{Code, Ranges};
 use crate::reading::is_covered;
 use std::alloc::{AllocError, Global};
 
-/// The flag of a byte in a set's row.
+/// Returns the flag of a byte in a set's row.
 fn flag_of(ranges: &[(u32, u32)], byte: u32) -> u8
     ensures { result ≡ flag_of ranges.now byte }
 {
@@ -17,7 +17,7 @@ fn flag_of(ranges: &[(u32, u32)], byte: u32) -> u8
     }
 }
 
-/// The row of a set.
+/// Returns the row of a set.
 fn row_of(alloc: Global, ranges: &[(u32, u32)]) -> Result<Vec<u8>, AllocError>
     ensures { IfOk result (λ row. IsRowOf ranges.now row.items) }
 {
@@ -28,8 +28,8 @@ fn row_of(alloc: Global, ranges: &[(u32, u32)]) -> Result<Vec<u8>, AllocError>
     Ok(row)
 }
 
-/// Adds the set of the characters of some ranges, both their ends among them. Its number is that of sets before
-/// it.
+/// Adds the set of the characters in some ranges, both ends included. Returns its number, the number of sets
+/// before it.
 pub fn add_set(code: &mut Code, ranges: Ranges) -> Result<u32, AllocError>
     requires aligned { IsAligned code.old }
     requires few { length code.old.ranges.items < 2 ^ 32 }

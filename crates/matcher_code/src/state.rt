@@ -1,23 +1,23 @@
-//! What a run of a program keeps.
+//! The state of a run of a program.
 
-/// What waits: for what was called, or for what may fail.
+/// A continuation frame: of a call, or of a choice that may fail.
 #[derive(Clone, Copy, Debug)]
 pub struct Slot {
-    /// The operation that comes where what was called is found.
+    /// The operation after success.
     pub next: u32,
-    /// The operation that comes where it fails.
+    /// The operation after failure.
     pub fail: u32,
-    /// Whether a failure is noted.
+    /// Whether a failure is recorded.
     pub counts: bool,
-    /// The place, in bytes, and how many trees there were: a failure puts both back.
+    /// The position, in bytes, and the number of trees, which a failure restores.
     pub at: usize,
     pub trees: usize,
 }
 
-/// A tree, before those that it holds. Its start and its end are places in bytes, and `after` is the number
-/// of trees up to the last that it holds.
+/// A tree, followed by its descendants. `start` and `end` are positions in bytes, and `after` is the number
+/// of trees up to its last descendant.
 #[derive(Clone, Copy, Debug)]
-pub struct Node {
+pub struct TreeNode {
     pub row: u32,
     pub start: usize,
     pub end: usize,

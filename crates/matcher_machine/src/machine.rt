@@ -1,48 +1,48 @@
-//! What a machine keeps.
+//! The state of a machine.
 ghost use Rattle.std.specs.Prelude.{◌≡◌, []};
 
-use matcher_code::state::{Node, Slot};
+use matcher_code::state::{Slot, TreeNode};
 use std::alloc::Global;
 
-/// What a run keeps, beside the place and the operation that comes next.
+/// The state of a run, without the position and the next operation.
 #[derive(Drop)]
 pub struct Machine {
-    /// What waits, the last behind the others.
+    /// The continuation frames, the last one at the end.
     pub slots: Vec<Slot>,
-    /// The trees so far, each before those that it holds.
-    pub trees: Vec<Node>,
-    /// The furthest place, in bytes, at which a call that counts has failed.
+    /// The trees so far in preorder.
+    pub trees: Vec<TreeNode>,
+    /// The furthest position, in bytes, at which a call that counts has failed.
     pub furthest: usize,
 }
 
-/// What comes of an operation.
+/// The result of an operation.
 #[derive(Clone, Copy, Debug)]
 pub enum Next {
-    /// The operation of a number comes next, at a place in bytes.
+    /// The number of the next operation, and its position in bytes.
     At(u32, usize),
-    /// The run has found what it was begun for.
+    /// The run has matched.
     Found,
     /// The run has failed.
     Lost,
-    /// Nothing waits for what was done.
+    /// The operation needs a slot, and there is none.
     Stuck,
 }
 
-/// How a run ended.
+/// The end of a run.
 #[derive(Clone, Copy, Debug)]
-pub enum Ended {
-    /// It was found, up to a place in bytes.
+pub enum RunEnd {
+    /// A match that ends at this position, in bytes.
     Found(usize),
-    /// It failed.
+    /// No match.
     Failed,
-    /// An answer came while nothing waited for one.
+    /// An operation needed a slot, and there was none.
     Stuck,
-    /// It takes more steps than were allowed.
+    /// The run takes more steps than were allowed.
     OutOfSteps,
 }
 
 impl Machine {
-    /// A machine that has done nothing yet.
+    /// Returns a machine before its first step.
     pub fn new(alloc: Global) -> Machine
         ensures slots { result.slots.items ≡ [] }
         ensures trees { result.trees.items ≡ [] }

@@ -1,4 +1,4 @@
--- What compiled rules have to do with their source.
+-- Compiled rules and their source.
 use Rattle.std.specs.Prelude.{◌≡◌, List, map}
 use Rattle.meta_base.specs.Language.Text.{Text}
 use Rattle.meta_base.specs.Language.Expression.{Expression, Grammar}
@@ -9,7 +9,7 @@ use Rattle.matcher_program.specs.Programs.{IsBound, expression_of}
 abbrev pub names_in : Grammar → List Text
 names_in g = map (λ r. r.name) g
 
--- the form says what the expression says, and its names mean what they say
+-- the form represents the expression, and its names mean what they are resolved to
 pub record Compiles (g : Grammar) (ps : List Property) (e : Expression) (f : Form) : Type 0 where
   pub says : expression_of (names_in g) f ≡ e
   pub bound : IsBound g (names_in g) ps f

@@ -3,7 +3,7 @@ use Rattle.std.specs.Prelude.{ℕ, ◌+◌, ◌*◌}
 use Rattle.matcher_program.specs.declared.form.Form.{Form}
 use Rattle.matcher_program.specs.declared.form.Form.TheVariants as form
 
--- its size, in which left sides weigh double: each rotation makes a form lighter
+-- the size of a form in which left sides weigh double, so that a rotation makes it lighter
 abbrev pub weight : Form → ℕ
 weight (form.Set' flags p a) = weight a + 1
 weight (form.PosPred' p a) = weight a + 1

@@ -1,4 +1,4 @@
--- What stands around an operand while its form is made.
+-- Continuation frames of the compiler: the operator around an operand while its form is made.
 use Rattle.std.specs.Prelude.{ℕ, ◌+◌, ◌*◌, List, [], ◌∷◌, ◌++◌, ⊤}
 use Rattle.std.specs.Borrow.{Bor}
 use Rattle.meta_base.specs.Language.Text.{Text}
@@ -16,15 +16,15 @@ use Rattle.matcher_program.specs.Programs.{IsBound, expression_of}
 use Rattle.matcher_program.specs.Refusals.{IsWithin}
 use Rattle.matcher_program.specs.declared.form.Form.{Form}
 use Rattle.matcher_program.specs.declared.form.Property.{Property}
-use Rattle.matcher_program.specs.declared.forms.Around.{Around}
-use Rattle.matcher_program.specs.declared.forms.Around.TheVariants as around
+use Rattle.matcher_program.specs.declared.forms.CompilerFrame.{CompilerFrame}
+use Rattle.matcher_program.specs.declared.forms.CompilerFrame.TheVariants as around
 
--- an expression of code, and what is at hand of it
+-- an expression of code, as one of the definitions
 abbrev pub said : Bor OptimizedExpr → Expression
 said e = optimized_expression_of e.now
 
--- an operand inside what stands around it, where the rules have these names
-abbrev pub with_operand : List Text → Around → Expression → Expression
+-- an operand inside the operator of its frame, where the rules have these names
+abbrev pub with_operand : List Text → CompilerFrame → Expression → Expression
 with_operand names around.PosPred x = spec.PosPred x
 with_operand names around.NegPred x = spec.NegPred x
 with_operand names around.Opt x = spec.Opt x
@@ -38,20 +38,20 @@ with_operand names (around.FirstOfChoice right) x = spec.Choice x (optimized_exp
 with_operand names (around.SecondOfSeq left) x = spec.Seq (expression_of names left.value.value) x
 with_operand names (around.SecondOfChoice left) x = spec.Choice (expression_of names left.value.value) x
 
--- what comes of a step, as an expression
-abbrev pub comes_of : List Text → Step (Bor OptimizedExpr) Around Form → Expression
+-- the result of a step, as an expression
+abbrev pub comes_of : List Text → Step (Bor OptimizedExpr) CompilerFrame Form → Expression
 comes_of names step = meaning_of said (expression_of names) (with_operand names) step
 
 -- how much there is to be done
 abbrev pub size : Bor OptimizedExpr → ℕ
 size e = 4 * weight (said e)
 
-abbrev pub waits_of : Around → ℕ
+abbrev pub waits_of : CompilerFrame → ℕ
 waits_of (around.FirstOfSeq right) = 4 * weight (optimized_expression_of right.now.value) + 3
 waits_of (around.FirstOfChoice right) = 4 * weight (optimized_expression_of right.now.value) + 3
 waits_of _ = 1
 
-abbrev pub effort : Step (Bor OptimizedExpr) Around Form → ℕ
+abbrev pub effort : Step (Bor OptimizedExpr) CompilerFrame Form → ℕ
 effort step = work_of size waits_of step
 
 -- the weight of expressions that wait
@@ -60,26 +60,26 @@ heft [] = 0
 heft (e ∷ es) = weight (said e) + heft es
 
 module _ (g : Grammar) (ps : List Property) where
-  -- the names in a form that waits mean what it says
-  abbrev pub IsReady : Around → Type 0
+  -- the names in a form that waits mean what they are resolved to
+  abbrev pub IsReady : CompilerFrame → Type 0
   IsReady (around.SecondOfSeq left) = IsBound g (names_in g) ps left.value.value
   IsReady (around.SecondOfChoice left) = IsBound g (names_in g) ps left.value.value
   IsReady _ = ⊤
 
-  -- so do those in what comes of a step
-  abbrev pub IsSoundStep : Step (Bor OptimizedExpr) Around Form → Type 0
+  -- the names in the result of a step mean what they are resolved to
+  abbrev pub IsSoundStep : Step (Bor OptimizedExpr) CompilerFrame Form → Type 0
   IsSoundStep (is.Made f) = IsBound g (names_in g) ps f
   IsSoundStep (is.Inside a e) = IsReady a
 
 module _ (whole : Expression) where
-  -- the operand that waits stands in the whole
-  abbrev pub IsAroundWithin : Around → Type 0
+  -- the operand that waits is part of the whole
+  abbrev pub IsAroundWithin : CompilerFrame → Type 0
   IsAroundWithin (around.FirstOfSeq right) = IsWithin whole (optimized_expression_of right.now.value)
   IsAroundWithin (around.FirstOfChoice right) = IsWithin whole (optimized_expression_of right.now.value)
   IsAroundWithin _ = ⊤
 
-  -- so do those in what comes of a step
-  abbrev pub IsStepWithin : Step (Bor OptimizedExpr) Around Form → Type 0
+  -- the operands in the result of a step are parts of the whole
+  abbrev pub IsStepWithin : Step (Bor OptimizedExpr) CompilerFrame Form → Type 0
   IsStepWithin step = GoesOn (λ e. IsWithin whole (said e)) IsAroundWithin step
 
 -- the names that an expression calls, from the left to the right

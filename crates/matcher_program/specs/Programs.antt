@@ -1,4 +1,4 @@
--- What compiled rules stand for.
+-- The grammar of compiled rules.
 use Rattle.std.specs.Prelude.{◌≡◌, ◌<◌, ℕ, List, [], ◌∷◌, Option, Some, None, Bool, true, false, ◌&&◌, ◌||◌, ◌==◌, bytes_eq, codes, get_or, length, map, nat_eq, ⊤}
 use Rattle.meta_base.specs.Language.Text.{Text}
 use Rattle.meta_ast.specs.Ast.{rule_type_of, text_of}
@@ -61,12 +61,12 @@ characters_of (form.One k) = set_of k
 characters_of (form.Choice' p a q b) = λ c. characters_of a c || characters_of b c
 characters_of _ = λ c. false
 
--- flags tell, of the first characters by number, whether the form matches them
+-- for a first character, by number, the flag is set iff the form matches it
 pub record IsSetOf (flags : List Bool) (f : Form) : Type 0 where
   pub one : is_set f ≡ true
   pub told : (c : ℕ) → c < length flags → get_or flags c false ≡ characters_of f c
 
--- whether a text may begin with a character, whatever stands behind it
+-- whether a text may begin with a character, for any continuation of that
 abbrev pub may_start : Text → ℕ → Bool
 may_start [] c = true
 may_start (d ∷ t) c = nat_eq d c
@@ -86,12 +86,12 @@ may_begin (form.Tag' p a t) = may_begin a
 may_begin (form.Restore' p a) = may_begin a
 may_begin _ = λ c. true
 
--- the text begins with a character that has a flag, which says no
+-- the text begins with a character that has a flag, which is not set
 abbrev pub IsBarred : List Bool → Text → Type 0
 IsBarred flags [] = ⊥
 IsBarred flags (c ∷ t) = (c < length flags) × (get_or flags c true ≡ false)
 
--- none of the texts begins with one of the first characters by number whose flag says that none does
+-- none of the texts begins with one of the first characters by number whose flag is not set
 abbrev pub AreStops : List Bool → List Text → Type 0
 AreStops flags texts = (c : ℕ) (u : Text) → c < length flags → get_or flags c true ≡ false
     → any_begins texts (c ∷ u) ≡ false
@@ -101,7 +101,7 @@ abbrev pub is_in_ranges : List (ℕ × ℕ) → ℕ → Bool
 is_in_ranges [] c = false
 is_in_ranges (r ∷ rs) c = is_between r.0 r.1 c || is_in_ranges rs c
 
--- each of the properties has the set of its name; the numbers are those of characters
+-- every property has the set of its name; the numbers are those of characters
 abbrev pub Fits : List Property → Classes → Type 0
 Fits ps classes = (i : ℕ) (d : Property) → i < length ps → (c : ℕ) → c < 1114112
     → is_in_ranges (get_or ps i d).ranges.items c ≡ classes (text_of (get_or ps i d).name) c
@@ -145,7 +145,7 @@ module _ (names : List Text) where
   abbrev pub rule_of_row : Row → Rule
   rule_of_row r = record { name = text_of r.name; type_of = rule_type_of r.kind; body = expression_of r.body }
 
--- the names of rows, and the grammar that they stand for
+-- the names of rows, and the grammar that the rows represent
 abbrev pub names_of : List Row → List Text
 names_of rs = map (λ r. text_of r.name) rs
 
@@ -175,7 +175,7 @@ IsPropertyOf g ps n i = record {
   is : builtin_of n ≡ Some (PropertyOf n);
 }
 
--- names mean what the form says
+-- the names in a form mean what they are resolved to
 abbrev pub IsBound : Grammar → List Text → List Property → Form → Type 0
 IsBound g names ps (form.One k) = rule_of g (class_name k) ≡ None
 IsBound g names ps (form.Set' flags p a) = IsSetOf flags.items a × IsBound g names ps a

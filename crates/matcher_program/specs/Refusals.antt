@@ -1,4 +1,4 @@
--- Why rules are not run.
+-- Reasons to refuse rules.
 use Rattle.std.specs.Prelude.{◌≡◌, ◌≢◌, ◌⊎◌, ⊤, List, Bool, false, true, Some, None, [], ◌∷◌, codes, length, map}
 use Rattle.meta_base.specs.Language.Builtins.{Property as PropertyOf, builtin_of, is_one_of}
 use Rattle.meta_base.specs.Language.Expression.{Expression, Grammar, Ident, Part, Range, rule_of}
@@ -9,7 +9,7 @@ use Rattle.matcher_program.specs.declared.compile.Unfit.{Unfit}
 use Rattle.matcher_program.specs.declared.compile.Unfit.TheVariants as is
 use Rattle.matcher_program.specs.declared.form.Property.{Property}
 
--- it is no builtin's name, or a property's that is not known
+-- the name is no builtin's, or that of a property that is not known
 abbrev pub IsNoBuiltin : (Text → Bool) → Text → Type 0
 IsNoBuiltin knows n = (builtin_of n ≡ None) ⊎ ((builtin_of n ≡ Some (PropertyOf n)) × (knows n ≡ false))
 
@@ -17,7 +17,7 @@ IsNoBuiltin knows n = (builtin_of n ≡ None) ⊎ ((builtin_of n ≡ Some (Prope
 abbrev pub IsUnknown : (Text → Bool) → Grammar → Text → Type 0
 IsUnknown knows g n = (rule_of g n ≡ None) × IsNoBuiltin knows n
 
--- each property is known
+-- every property is known
 abbrev pub KnowsProperties : (Text → Bool) → Type 0
 KnowsProperties knows = (n : Text) → builtin_of n ≡ Some (PropertyOf n) → knows n ≡ true
 
@@ -25,7 +25,7 @@ KnowsProperties knows = (n : Text) → builtin_of n ≡ Some (PropertyOf n) → 
 abbrev pub IsNoCharacter : Text → Type 0
 IsNoCharacter t = length t ≢ 1
 
--- it is refused as a bound of a range
+-- the text is refused as a bound of a range
 abbrev pub IsWrongBound : Text → Unfit → Type 0
 IsWrongBound t is.Memory = ⊤
 IsWrongBound t (is.UnknownName n) = ⊥
@@ -35,14 +35,14 @@ IsWrongBound t (is.Bound u) = (text_of u ≡ t) × IsNoCharacter t
 abbrev pub IsBoundOf : (Expression → Type 0) → Text → Type 0
 IsBoundOf Has t = (u : Text) × (Has (Range t u) ⊎ Has (Range u t))
 
--- what is wrong with expressions: memory is wanting; or one of them is an unknown name, or a range with a bound
--- that is no character
+-- the reason to refuse expressions: an allocation failed; or one of them is an unknown name, or a range
+-- with a bound that is no character
 abbrev pub IsWrong : (Text → Bool) → Grammar → (Expression → Type 0) → Unfit → Type 0
 IsWrong knows g Has is.Memory = ⊤
 IsWrong knows g Has (is.UnknownName n) = Has (Ident (text_of n)) × IsUnknown knows g (text_of n)
 IsWrong knows g Has (is.Bound t) = IsBoundOf Has (text_of t) × IsNoCharacter (text_of t)
 
--- why rules are not run
+-- the reason to refuse rules
 abbrev pub IsReason : (Text → Bool) → Grammar → Unfit → Type 0
 IsReason knows g = IsWrong knows g (InSomeRule g)
 
@@ -50,11 +50,11 @@ IsReason knows g = IsWrong knows g (InSomeRule g)
 abbrev pub has_property : List Property → Text → Bool
 has_property ps n = is_one_of (map (λ p. text_of p.name) ps) n
 
--- what is wrong with an expression, where the properties at hand are known
+-- the reason to refuse an expression, where the properties of the list are known
 abbrev pub IsWrongIn : List Property → Grammar → Expression → Unfit → Type 0
 IsWrongIn ps g e = IsWrong (has_property ps) g (Part e)
 
--- all parts of the second stand in the first
+-- all parts of the second are parts of the first
 abbrev pub IsWithin : Expression → Expression → Type 0
 IsWithin whole e = (x : Expression) → Part e x → Part whole x
 

@@ -1,4 +1,4 @@
-//! From optimized rules to rules as they are run.
+//! The compiler, from optimized rules to forms.
 ghost use Rattle.std.specs.Prelude.{◌≡◌, ℕ, List, false, Option, IfErr, IfNone, IfOk, IfSome, None, bytes_eq, chars, map, codes, ◌∷◌, [], ◌||◌};
 ghost use Rattle.meta_base.specs.Language.Text.{Text};
 ghost use Rattle.meta_base.specs.Language.Expression.{Grammar, Ident, rule_of, whitespace, comment};
@@ -14,18 +14,18 @@ ghost use Rattle.meta_ast.specs.Ast.{text_of};
 
 use crate::form::{Class, Form, Program, Property, Row};
 use crate::forms::form_of;
-use crate::indexed::{Indexed, numbered};
+use crate::indexed::{Indexed, index_rules};
 use crate::properties::{Properties, find_property, properties_in};
-use crate::sets::{firsts_of, gathered};
+use crate::sets::{firsts_of, to_set};
 use crate::texts::same;
 use meta_ast::optimized::OptimizedRule;
 use meta_names::unicode_property_names;
 use std::alloc::{AllocError, Global};
 
-/// Why rules are not run.
+/// The reason to refuse rules.
 #[derive(Debug, Drop)]
 pub enum Unfit {
-    /// Memory was wanting.
+    /// An allocation failed.
     Memory,
     /// A name is called that is neither a rule's nor a builtin's.
     UnknownName(String),
@@ -41,7 +41,7 @@ impl From<AllocError> for Unfit {
     }
 }
 
-/// The name of a class.
+/// Returns the name of a class.
 fn name_of(class: Class) -> &'static str
     ensures { chars result.now ≡ class_name class }
 {
@@ -60,7 +60,7 @@ fn name_of(class: Class) -> &'static str
     }
 }
 
-/// The class of a name.
+/// Returns the class of a name.
 fn class_of(name: &str) -> Option<Class>
     ensures none { IfNone result (is_one_of class_names (chars name.now) ≡ false) }
     ensures some { IfSome result (λ class. chars name.now ≡ class_name class) }
@@ -85,7 +85,7 @@ fn class_of(name: &str) -> Option<Class>
     None
 }
 
-/// The one character of a text.
+/// Returns the character of a text with exactly one.
 fn single(text: &str) -> Option<char>
     ensures none { IfNone result (IsNoCharacter (chars text.now)) }
     ensures some { IfSome result (λ c. chars text.now ≡ c ∷ []) }
@@ -99,8 +99,8 @@ fn single(text: &str) -> Option<char>
     }
 }
 
-/// The one character of a range's bound.
-pub(crate) fn bound(text: &String) -> Result<char, Unfit>
+/// Returns the character of a range's bound.
+pub(crate) fn range_bound(text: &String) -> Result<char, Unfit>
     ensures refused { IfErr result (IsWrongBound (text_of text.now)) }
     ensures character { IfOk result (λ c. text_of text.now ≡ c ∷ []) }
 {
@@ -110,11 +110,11 @@ pub(crate) fn bound(text: &String) -> Result<char, Unfit>
     }
 }
 
-/// What the name of a builtin that matches no set of characters stands for.
+/// Returns the form of a builtin that matches no set of characters.
 fn sign(name: &str) -> Option<Form>
     ensures none { IfNone result (is_one_of sign_names (chars name.now) ≡ false) }
-    ensures some { IfSome result (λ form. (g : Grammar) (ps : List Property) → rule_of g (chars name.now) ≡ None
-        → Compiles g ps (Ident (chars name.now)) form) }
+    ensures some { IfSome result (λ form. (g : Grammar) (ps : List Property)
+        → rule_of g (chars name.now) ≡ None → Compiles g ps (Ident (chars name.now)) form) }
 {
     if same(name, "SOI") {
         Some(Form::Start)
@@ -127,11 +127,11 @@ fn sign(name: &str) -> Option<Form>
     }
 }
 
-/// What the name of a builtin of the stack stands for.
+/// Returns the form of a builtin of the stack.
 fn of_stack(name: &str) -> Option<Form>
     ensures none { IfNone result (is_one_of stack_names (chars name.now) ≡ false) }
-    ensures some { IfSome result (λ form. (g : Grammar) (ps : List Property) → rule_of g (chars name.now) ≡ None
-        → Compiles g ps (Ident (chars name.now)) form) }
+    ensures some { IfSome result (λ form. (g : Grammar) (ps : List Property)
+        → rule_of g (chars name.now) ≡ None → Compiles g ps (Ident (chars name.now)) form) }
 {
     if same(name, "PEEK") {
         Some(Form::Peek)
@@ -161,7 +161,7 @@ pub fn is_property(name: &str) -> bool
     false
 }
 
-/// What a name stands for that is no rule's, or `None` where it stands for nothing.
+/// Returns the form of a name that no rule has, or `None` if it is no builtin and no known property.
 fn builtin(properties: &[Property], name: &String) -> Result<Option<Form>, AllocError>
     ensures some { IfOk result (λ found. IfSome found (λ form. (g : Grammar)
         → rule_of g (text_of name.now) ≡ None
@@ -187,8 +187,8 @@ fn builtin(properties: &[Property], name: &String) -> Result<Option<Form>, Alloc
     }
 }
 
-/// What a name stands for: the last rule of that name, or else a builtin.
-pub(crate) fn named(
+/// Resolves a name to the last rule of that name, or else to a builtin.
+pub(crate) fn resolve_name(
     rules: &Indexed<'_>,
     properties: &[Property],
     name: &String,
@@ -208,7 +208,7 @@ pub(crate) fn named(
     }
 }
 
-/// Whether a name is one of the two that are skipped.
+/// Whether a name is one of the two that are skipped implicitly.
 fn is_blank(name: &str) -> bool
     ensures { result ≡ (bytes_eq (chars name.now) whitespace || bytes_eq (chars name.now) comment) }
 {
@@ -219,7 +219,7 @@ fn is_blank(name: &str) -> bool
     }
 }
 
-/// The row of a rule.
+/// Compiles a rule.
 fn row_of(
     alloc: Global,
     rules: &Indexed<'_>,
@@ -236,7 +236,7 @@ fn row_of(
 {
     let name = rule.name.clone()?;
     let blank = is_blank(name.as_str());
-    let body = gathered(alloc, form_of(alloc, rules, properties, &rule.expr)?)?;
+    let body = to_set(alloc, form_of(alloc, rules, properties, &rule.expr)?)?;
     let firsts = firsts_of(alloc, &body)?;
     Ok(Row {
         name,
@@ -247,7 +247,7 @@ fn row_of(
     })
 }
 
-/// The rows of rules.
+/// Compiles rules.
 fn rows_of(alloc: Global, rules: &Indexed<'_>, properties: &[Property]) -> Result<Vec<Row>, Unfit>
     requires { KnowsLast (optimized_rules_of rules.now.rules.now) rules.now.numbers }
     ensures sound { IfOk result (λ rows. (white note : Option ℕ)
@@ -268,9 +268,9 @@ fn rows_of(alloc: Global, rules: &Indexed<'_>, properties: &[Property]) -> Resul
     Ok(rows)
 }
 
-/// The rules as they are run, with the sets of the property names that they name. Refused for want of memory;
-/// for a name in a body that is neither a rule's nor a builtin's, or a property's that `properties` does not
-/// know; and for a bound of a range that is not one character.
+/// Compiles rules, with the sets of the property names that they name. Errors: an allocation failure; a
+/// name in a body that is neither a rule's nor a builtin's, or a property's that `properties` does not
+/// know; and a bound of a range that is not one character.
 pub fn program_of<P: Properties>(
     alloc: Global,
     rules: &[OptimizedRule],
@@ -283,7 +283,7 @@ pub fn program_of<P: Properties>(
     ensures refused { IfErr result (IsReason P.knows (optimized_rules_of rules.now)) }
 {
     let properties = properties_in(alloc, rules, properties)?;
-    let rules = numbered(alloc, rules)?;
+    let rules = index_rules(alloc, rules)?;
     let rows = rows_of(alloc, &rules, &properties)?;
     let whitespace = rules.number_of("WHITESPACE");
     let comment = rules.number_of("COMMENT");

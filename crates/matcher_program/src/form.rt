@@ -1,4 +1,4 @@
-//! Rules as they are run: names are resolved.
+//! Compiled rules, with resolved names.
 use meta_ast::ast::RuleType;
 use meta_ast::deep::Release;
 
@@ -18,21 +18,21 @@ pub enum Class {
     Ascii,
 }
 
-/// An expression whose names are resolved.
+/// A compiled expression, an instruction of the matcher, with resolved names.
 #[derive(Drop)]
 pub enum Form {
     Str(String),
     Insens(String),
     Range(char, char),
     One(Class),
-    /// One of some characters, as the form in the box says; the flags tell it of the first ones by number.
+    /// One of some characters, those of the boxed form; the flags by number are for the first characters.
     Set(Vec<bool>, Box<Form>),
     Start,
     End,
     Newline,
-    /// A rule, by its number.
+    /// A call, with the index of the rule.
     Call(usize),
-    /// A property's name, and the number of its set.
+    /// A property's name, and the index of its set.
     Property(String, usize),
     PosPred(Box<Form>),
     NegPred(Box<Form>),
@@ -41,12 +41,12 @@ pub enum Form {
     Opt(Box<Form>),
     Rep(Box<Form>),
     RepOnce(Box<Form>),
-    /// To the first of some texts, or to the end: flags tell of the first characters by number whether one of
-    /// the texts may begin with them.
+    /// A forward search for the first of some texts, or to the end; a flag is set if one of the texts may
+    /// begin with the character of that number.
     Skip(Vec<String>, Vec<bool>),
     Push(Box<Form>),
     PushLiteral(String),
-    /// What is tagged, with its tag.
+    /// A tagged form, with its tag.
     Tag(Box<Form>, String),
     Restore(Box<Form>),
     Peek,
@@ -57,8 +57,9 @@ pub enum Form {
     PeekSlice(i32, Option<i32>),
 }
 
-/// A rule: `blank` if it has one of the two names that are skipped. The flags `firsts` tell of the first
-/// characters by number whether the body may begin with them. The body is let go by a loop.
+/// A compiled rule. `blank`: the rule has one of the two names that are skipped implicitly. `firsts`: the
+/// first set; a flag is set if the body may begin with the character of that number. The body is dropped
+/// iteratively.
 pub struct Row {
     pub name: String,
     pub kind: RuleType,
@@ -87,7 +88,7 @@ pub struct Property {
     pub ranges: Vec<(u32, u32)>,
 }
 
-/// Rules, the properties that they name, and which of them are skipped.
+/// Compiled rules, the properties that they name, and the indices of those that are skipped implicitly.
 #[derive(Drop)]
 pub struct Program {
     pub rows: Vec<Row>,

@@ -1,5 +1,5 @@
-//! The forms of expressions. They are made by a loop with a list of what stands around an operand, so no
-//! nesting of a grammar takes the machine's stack.
+//! The compiler of expressions, iterative with continuation frames, so that stack use does not depend on
+//! the nesting of a grammar.
 ghost use Rattle.std.specs.Prelude.{◌≡◌, ◌<◌, ◌≤◌, ◌*◌, IfErr, IfOk, List};
 ghost use Rattle.meta_base.specs.Language.Expression.{Expression, Grammar};
 ghost use Rattle.meta_base.specs.Language.Text.{Text};
@@ -13,19 +13,19 @@ ghost use Rattle.matcher_program.specs.Refusals.{IsWrongIn};
 ghost use Rattle.matcher_program.specs.declared.compile.Unfit.TheVariants.{Memory};
 ghost use Rattle.matcher_program.specs.declared.form.Property.{Property};
 
-use crate::compile::{Unfit, bound, named};
+use crate::compile::{Unfit, range_bound, resolve_name};
 use crate::form::{Form, Property};
 use crate::indexed::Indexed;
-use crate::sets::{gathered, stops_of};
+use crate::sets::{stops_of, to_set};
 use meta_ast::deep::Deep;
 use meta_ast::optimized::OptimizedExpr;
 use meta_ast::rebuilt::Step;
 use meta_ast::texts::copy_texts;
 use std::alloc::Global;
 
-/// What an operand stands under while its form is made.
+/// A continuation frame, the operator around an operand while the form of that is made.
 #[derive(Drop)]
-pub enum Around<'e> {
+pub enum CompilerFrame<'e> {
     PosPred,
     NegPred,
     Opt,
@@ -34,23 +34,24 @@ pub enum Around<'e> {
     Push,
     Restore,
     Tag(String),
-    /// A `~` whose left side is at hand, and the right one.
+    /// A `~` whose left side is compiled, and the right side.
     FirstOfSeq(&'e Box<OptimizedExpr>),
-    /// The same of a `|`.
+    /// A `|` whose left side is compiled, and the right side.
     FirstOfChoice(&'e Box<OptimizedExpr>),
-    /// A `~` whose right side is at hand, and the form of the left one.
+    /// A `~` whose right side is compiled, and the form of the left side.
     SecondOfSeq(Deep<Box<Form>>),
-    /// The same of a `|`.
+    /// A `|` whose right side is compiled, and the form of the left side.
     SecondOfChoice(Deep<Box<Form>>),
 }
 
-/// The form of an expression without operands; else its first operand, and what it stands under.
-fn begun<'e>(
+/// Begins to compile: returns the form of an expression without operands, or the first operand with its
+/// frame.
+fn begin<'e>(
     alloc: Global,
     rules: &Indexed<'_>,
     properties: &[Property],
     expr: &'e OptimizedExpr,
-) -> Result<Step<&'e OptimizedExpr, Around<'e>, Form>, Unfit>
+) -> Result<Step<&'e OptimizedExpr, CompilerFrame<'e>, Form>, Unfit>
     requires { KnowsLast (optimized_rules_of rules.now.rules.now) rules.now.numbers }
     ensures says { IfOk result (λ step. comes_of (names_in (optimized_rules_of rules.now.rules.now)) step
         ≡ optimized_expression_of expr.entry.now) }
@@ -64,8 +65,11 @@ fn begun<'e>(
     let (around, operand) = match expr {
         E::Str(text) => return Ok(Step::Made(Form::Str(text.clone()?))),
         E::Insens(text) => return Ok(Step::Made(Form::Insens(text.clone()?))),
-        E::Range(low, high) => return Ok(Step::Made(Form::Range(bound(low)?, bound(high)?))),
-        E::Ident(name) => return Ok(Step::Made(named(rules, properties, name)?)),
+        E::Range(low, high) => return Ok(Step::Made(Form::Range(
+            range_bound(low)?,
+            range_bound(high)?,
+        ))),
+        E::Ident(name) => return Ok(Step::Made(resolve_name(rules, properties, name)?)),
         E::PeekSlice(start, end) => return Ok(Step::Made(Form::PeekSlice(*start, *end))),
         E::Skip(texts) => {
             let texts = copy_texts(texts)?;
@@ -73,42 +77,42 @@ fn begun<'e>(
             return Ok(Step::Made(Form::Skip(texts, stops)));
         }
         E::PushLiteral(text) => return Ok(Step::Made(Form::PushLiteral(text.clone()?))),
-        E::PosPred(inner) => (Around::PosPred, inner),
-        E::NegPred(inner) => (Around::NegPred, inner),
-        E::Opt(inner) => (Around::Opt, inner),
-        E::Rep(inner) => (Around::Rep, inner),
-        E::RepOnce(inner) => (Around::RepOnce, inner),
-        E::Push(inner) => (Around::Push, inner),
-        E::RestoreOnErr(inner) => (Around::Restore, inner),
-        E::NodeTag(inner, tag) => (Around::Tag(tag.clone()?), inner),
-        E::Seq(left, right) => (Around::FirstOfSeq(right), left),
-        E::Choice(left, right) => (Around::FirstOfChoice(right), left),
+        E::PosPred(inner) => (CompilerFrame::PosPred, inner),
+        E::NegPred(inner) => (CompilerFrame::NegPred, inner),
+        E::Opt(inner) => (CompilerFrame::Opt, inner),
+        E::Rep(inner) => (CompilerFrame::Rep, inner),
+        E::RepOnce(inner) => (CompilerFrame::RepOnce, inner),
+        E::Push(inner) => (CompilerFrame::Push, inner),
+        E::RestoreOnErr(inner) => (CompilerFrame::Restore, inner),
+        E::NodeTag(inner, tag) => (CompilerFrame::Tag(tag.clone()?), inner),
+        E::Seq(left, right) => (CompilerFrame::FirstOfSeq(right), left),
+        E::Choice(left, right) => (CompilerFrame::FirstOfChoice(right), left),
     };
     Ok(Step::Inside(around, operand))
 }
 
-/// An operand's form in a box: a set where it is one, but in a choice, which may be one as a whole.
-fn in_place(alloc: Global, around: &Around<'_>, form: Form) -> Result<Deep<Box<Form>>, Unfit>
+/// Boxes an operand's form, made to a set if it is one, except in a choice, which may be one as a whole.
+fn in_place(alloc: Global, around: &CompilerFrame<'_>, form: Form) -> Result<Deep<Box<Form>>, Unfit>
     ensures memory { IfErr result (λ unfit. unfit ≡ Memory) }
     ensures same { IfOk result (λ made. (g : Grammar) (ps : List Property) (e : Expression)
         → Compiles g ps e form → Compiles g ps e made.value.value) }
 {
     match around {
-        Around::FirstOfChoice(_) | Around::SecondOfChoice(_) => {
-            Ok(Deep { value: form }.boxed(alloc)?)
+        CompilerFrame::FirstOfChoice(_) | CompilerFrame::SecondOfChoice(_) => {
+            Ok(Deep { value: form }.into_box(alloc)?)
         }
         _ => {
-            let value = gathered(alloc, form)?;
-            Ok(Deep { value }.boxed(alloc)?)
+            let value = to_set(alloc, form)?;
+            Ok(Deep { value }.into_box(alloc)?)
         }
     }
 }
 
-/// The form of the whole, once that of its last operand is at hand; else the next operand.
-fn closed<'e>(
-    around: Around<'e>,
+/// Continues with the boxed form of an operand: returns the form of the whole, or the next operand.
+fn resume_boxed<'e>(
+    around: CompilerFrame<'e>,
     form: Deep<Box<Form>>,
-) -> Step<&'e OptimizedExpr, Around<'e>, Form>
+) -> Step<&'e OptimizedExpr, CompilerFrame<'e>, Form>
     ensures says { (names : List Text) → comes_of names result
         ≡ with_operand names around.entry (expression_of names form.value.value) }
     ensures work { effort result < waits_of around.entry }
@@ -117,29 +121,34 @@ fn closed<'e>(
     ensures within { (whole : Expression) → IsAroundWithin whole around.entry → IsStepWithin whole result }
 {
     match around {
-        Around::FirstOfSeq(right) => Step::Inside(Around::SecondOfSeq(form), right),
-        Around::FirstOfChoice(right) => Step::Inside(Around::SecondOfChoice(form), right),
-        Around::PosPred => Step::Made(Form::PosPred(form.into_inner())),
-        Around::NegPred => Step::Made(Form::NegPred(form.into_inner())),
-        Around::Opt => Step::Made(Form::Opt(form.into_inner())),
-        Around::Rep => Step::Made(Form::Rep(form.into_inner())),
-        Around::RepOnce => Step::Made(Form::RepOnce(form.into_inner())),
-        Around::Push => Step::Made(Form::Push(form.into_inner())),
-        Around::Restore => Step::Made(Form::Restore(form.into_inner())),
-        Around::Tag(tag) => Step::Made(Form::Tag(form.into_inner(), tag)),
-        Around::SecondOfSeq(left) => { Step::Made(Form::Seq(left.into_inner(), form.into_inner())) }
-        Around::SecondOfChoice(left) => {
+        CompilerFrame::FirstOfSeq(right) => Step::Inside(CompilerFrame::SecondOfSeq(form), right),
+        CompilerFrame::FirstOfChoice(right) => Step::Inside(
+            CompilerFrame::SecondOfChoice(form),
+            right,
+        ),
+        CompilerFrame::PosPred => Step::Made(Form::PosPred(form.into_inner())),
+        CompilerFrame::NegPred => Step::Made(Form::NegPred(form.into_inner())),
+        CompilerFrame::Opt => Step::Made(Form::Opt(form.into_inner())),
+        CompilerFrame::Rep => Step::Made(Form::Rep(form.into_inner())),
+        CompilerFrame::RepOnce => Step::Made(Form::RepOnce(form.into_inner())),
+        CompilerFrame::Push => Step::Made(Form::Push(form.into_inner())),
+        CompilerFrame::Restore => Step::Made(Form::Restore(form.into_inner())),
+        CompilerFrame::Tag(tag) => Step::Made(Form::Tag(form.into_inner(), tag)),
+        CompilerFrame::SecondOfSeq(left) => {
+            Step::Made(Form::Seq(left.into_inner(), form.into_inner()))
+        }
+        CompilerFrame::SecondOfChoice(left) => {
             Step::Made(Form::Choice(left.into_inner(), form.into_inner()))
         }
     }
 }
 
-/// The form of the whole, once its last operand has a form; else the next operand.
-fn ended<'e>(
+/// Continues with the form of an operand: returns the form of the whole, or the next operand.
+fn resume<'e>(
     alloc: Global,
-    around: Around<'e>,
+    around: CompilerFrame<'e>,
     operand: Form,
-) -> Result<Step<&'e OptimizedExpr, Around<'e>, Form>, Unfit>
+) -> Result<Step<&'e OptimizedExpr, CompilerFrame<'e>, Form>, Unfit>
     ensures says { IfOk result (λ step. (g : Grammar) (ps : List Property)
         → IsBound g (names_in g) ps operand → comes_of (names_in g) step
         ≡ with_operand (names_in g) around.entry (expression_of (names_in g) operand)) }
@@ -151,11 +160,11 @@ fn ended<'e>(
     ensures memory { IfErr result (λ unfit. unfit ≡ Memory) }
 {
     let form = in_place(alloc, &around, operand)?;
-    Ok(closed(around, form))
+    Ok(resume_boxed(around, form))
 }
 
-/// The form of an expression. Refused for want of memory, for a name that means nothing, and for a bound of a
-/// range that is not one character.
+/// Compiles an expression. Errors: an allocation failure, a name that means nothing, and a bound of a range
+/// that is not one character.
 pub(crate) fn form_of(
     alloc: Global,
     rules: &Indexed<'_>,
@@ -169,15 +178,15 @@ pub(crate) fn form_of(
         (optimized_expression_of expr.now)) }
 {
     let mut outside = Vec::new(alloc);
-    let mut step = begun(alloc, rules, properties, expr)?;
+    let mut step = begin(alloc, rules, properties, expr)?;
     'steps: loop {
         match step {
             Step::Inside(around, operand) => match outside.push(around) {
-                Ok(()) => step = begun(alloc, rules, properties, operand)?,
+                Ok(()) => step = begin(alloc, rules, properties, operand)?,
                 Err(_) => return Err(Unfit::Memory),
             },
             Step::Made(form) => match outside.pop() {
-                Some(around) => step = ended(alloc, around, form)?,
+                Some(around) => step = resume(alloc, around, form)?,
                 None => return Ok(form),
             },
         }

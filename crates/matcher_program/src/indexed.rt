@@ -1,4 +1,4 @@
-//! Rules with their numbers by name.
+//! Rules with an index by name.
 ghost use Rattle.std.specs.Prelude.{◌≡◌, IfOk, chars};
 ghost use Rattle.meta_ast.specs.Optimized.{optimized_rules_of};
 ghost use Rattle.matcher_program.specs.Indexed.{KnowsLast};
@@ -8,15 +8,15 @@ use meta_ast::optimized::OptimizedRule;
 use std::alloc::{AllocError, Global};
 use std::collections::HashMap;
 
-/// Rules, and for each name the number of its last rule.
+/// Rules, and the index of the last rule of each name.
 #[derive(Drop)]
 pub struct Indexed<'r> {
     pub rules: &'r [OptimizedRule],
     pub numbers: HashMap<String, usize>,
 }
 
-/// The rules with their numbers by name. The only fault is a want of memory.
-pub(crate) fn numbered<'r>(
+/// Builds the index. The only error is an allocation failure.
+pub(crate) fn index_rules<'r>(
     alloc: Global,
     rules: &'r [OptimizedRule],
 ) -> Result<Indexed<'r>, AllocError>
@@ -32,7 +32,7 @@ pub(crate) fn numbered<'r>(
 }
 
 impl<'r> Indexed<'r> {
-    /// The number of the last rule of a name.
+    /// Returns the index of the last rule of a name.
     pub(crate) fn number_of(&self, name: &str) -> Option<usize>
         requires { KnowsLast (optimized_rules_of self.now.rules.now) self.now.numbers }
         ensures { IsSkippedRule (optimized_rules_of self.now.rules.now) (chars name.now) result }

@@ -6,8 +6,8 @@ ghost use Rattle.meta_base.specs.Language.Text.{Text};
 ghost use Rattle.meta_base.specs.Language.WellFormed.{InSomeRule};
 ghost use Rattle.matcher_program.specs.Refusals.{IsUnknown, KnowsProperties};
 
-/// Where rules call rules and builtins alone, as those of each accepted text do, and each property is known, no
-/// name is unknown: so no such rules are refused for a name.
+/// Proves that no name is unknown if rules call rules and builtins alone, as those of each accepted text
+/// do, and each property is known; so no such rules are refused for a name.
 pub fn known_names_are_taken()
     ensures { (knows : Text → Bool) (g : Grammar) → HasKnownNames g → KnowsProperties knows
         → (n : Text) → InSomeRule g (Ident n) → IsUnknown knows g n → ⊥ }

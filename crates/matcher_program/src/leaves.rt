@@ -1,4 +1,4 @@
-//! What is matched by the text alone.
+//! Leaf expressions, matched by the text alone.
 ghost use Rattle.std.specs.Prelude.{◌≡◌, ℕ, [], ◌∷◌, List, length, true, false, nat_eq, chars};
 ghost use Rattle.meta_base.specs.Language.Text.{Text};
 ghost use Rattle.std.specs.Prelude.{map, ◌<◌, Bool, reverse};
@@ -152,14 +152,14 @@ pub fn newline<'i>(rest: &'i str) -> Option<&'i str>
     }
 }
 
-/// Whether what is left begins with a text.
+/// Whether the remaining input begins with a text.
 fn begins(text: &str, rest: &str) -> bool
     ensures { result ≡ begins nat_eq (chars text.now) (chars rest.now) }
 {
     literal(text, rest).is_some()
 }
 
-/// Whether what is left begins with one of some texts.
+/// Whether the remaining input begins with one of some texts.
 fn any_begins(texts: &Vec<String>, rest: &str) -> bool
     ensures { result ≡ any_begins (map text_of texts.now.items) (chars rest.now) }
 {
@@ -171,7 +171,7 @@ fn any_begins(texts: &Vec<String>, rest: &str) -> bool
     false
 }
 
-/// Whether one of some texts stands here, where a character is the first.
+/// Whether one of some texts is here, where a character is the first.
 #[inline(always)]
 fn stands(texts: &Vec<String>, stops: &Vec<bool>, first: char, rest: &str) -> bool
     requires { AreStops stops.now.items (map text_of texts.now.items) }
@@ -184,7 +184,7 @@ fn stands(texts: &Vec<String>, stops: &Vec<bool>, first: char, rest: &str) -> bo
     }
 }
 
-/// Goes on to the first place at which one of some texts stands, or to the end.
+/// Goes on to the first position at which one of some texts is, or to the end.
 pub fn ahead_to<'i>(texts: &Vec<String>, stops: &Vec<bool>, from: &'i str) -> &'i str
     requires { AreStops stops.now.items (map text_of texts.now.items) }
     ensures goes_on { (whole : List ℕ) → IsLeft whole from.entry.now
@@ -209,7 +209,7 @@ pub fn ahead_to<'i>(texts: &Vec<String>, stops: &Vec<bool>, from: &'i str) -> &'
     }
 }
 
-/// Matches texts, one right behind another.
+/// Matches texts, one right after another.
 pub fn literals<'i>(texts: &[&str], from: &'i str) -> Option<&'i str>
     ensures goes_on { (whole : List ℕ) → IsLeft whole from.entry.now
         → Progress whole from.entry.now result }
@@ -240,7 +240,7 @@ fn is_in_ranges(ranges: &[(u32, u32)], c: u32) -> bool
 }
 
 /// Matches one character that is in one of some ranges.
-pub fn within<'i>(ranges: &[(u32, u32)], rest: &'i str) -> Option<&'i str>
+pub fn one_in_ranges<'i>(ranges: &[(u32, u32)], rest: &'i str) -> Option<&'i str>
     ensures goes_on { (whole : List ℕ) → IsLeft whole rest.entry.now
         → Progress whole rest.entry.now result }
     ensures means { (whole : List ℕ) (ts : List Text) (set : ℕ → Bool) → IsLeft whole rest.entry.now
@@ -260,7 +260,8 @@ pub fn within<'i>(ranges: &[(u32, u32)], rest: &'i str) -> Option<&'i str>
     }
 }
 
-/// A slice's number as a place in a stack of so many entries: from the end where it is below zero.
+/// Converts a slice's number to an index in a stack of `count` entries, counted from the end if it is
+/// negative.
 fn place(count: usize, number: i32) -> Option<usize>
     ensures { result ≡ place count number }
 {
@@ -277,7 +278,7 @@ fn place(count: usize, number: i32) -> Option<usize>
     }
 }
 
-/// A slice's end as a place: the stack's length where there is none.
+/// Converts a slice's end to an index, the stack's length if there is none.
 fn end_place(count: usize, number: Option<i32>) -> Option<usize>
     ensures { result ≡ end_place count number }
 {
@@ -287,8 +288,8 @@ fn end_place(count: usize, number: Option<i32>) -> Option<usize>
     }
 }
 
-/// Matches the texts of a slice of a stack, whose texts are handed in from its bottom. It fails where the
-/// slice does not lie in the stack.
+/// Matches the texts of a slice of a stack, whose texts are given from its bottom. Fails if the slice is
+/// not inside the stack.
 pub fn slice<'i>(texts: &[&str], from: i32, to: Option<i32>, rest: &'i str) -> Option<&'i str>
     ensures goes_on { (whole : List ℕ) → IsLeft whole rest.entry.now
         → Progress whole rest.entry.now result }

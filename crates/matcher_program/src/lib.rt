@@ -1,4 +1,4 @@
-//! Optimized rules as they are run, with each name resolved, and what a form without parts matches.
+//! Optimized rules compiled for the matcher, with resolved names, and the leaf expressions.
 #![tactic(auto)]
 
 pub mod compile;

@@ -14,23 +14,23 @@ use crate::texts::same;
 use meta_ast::optimized::{OptimizedExpr, OptimizedRule};
 use std::alloc::{AllocError, Global};
 
-/// What the names of Unicode's properties stand for.
+/// The sets of Unicode property names.
 pub trait Properties {
     /// Whether the set of a name is known.
     ghost knows: { Text → Bool };
 
-    /// The set of each name.
+    /// The set of a name.
     ghost classes: { Text → ℕ → Bool };
 
-    /// The set of a name as ranges of code points, both ends among them, or `None` where it is not known.
-    /// The only fault is a want of memory.
+    /// Returns the set of a name as ranges of code points, both ends included, or `None` if it is not
+    /// known. The only error is an allocation failure.
     fn ranges(&self, alloc: Global, name: &str) -> Result<Option<Vec<(u32, u32)>>, AllocError>
         ensures known { IfOk result (λ found. is_some found ≡ knows (chars name.now)) }
         ensures ranges { IfOk result (λ found. IfSome found (λ ranges. (c : ℕ) → c < 1114112
             → is_in_ranges ranges.items c ≡ classes (chars name.now) c)) };
 }
 
-/// No property is known: rules that name one are refused.
+/// The environment without known properties, in which rules that name one are refused.
 #[derive(Clone, Copy, Debug)]
 pub struct NoProperties;
 
@@ -44,7 +44,7 @@ impl Properties for NoProperties {
     }
 }
 
-/// Puts two operands on a list, the left one on top.
+/// Pushes two operands on a list, the left one on top.
 #[tactic(auto, using(crate::proofs::Forming::heavier))]
 fn put_both<'a>(
     waiting: &mut Vec<&'a OptimizedExpr>,
@@ -54,7 +54,8 @@ fn put_both<'a>(
     ensures heft { OnOk result (heft waiting.new.items ≡ heft waiting.old.items
         + (weight (optimized_expression_of left.entry.now)
         + weight (optimized_expression_of right.entry.now))) }
-    ensures calls { OnOk result (calls_waiting waiting.new.items ≡ (calls_of (optimized_expression_of left.entry.now)
+    ensures calls { OnOk result (calls_waiting waiting.new.items
+        ≡ (calls_of (optimized_expression_of left.entry.now)
         ++ calls_of (optimized_expression_of right.entry.now)) ++ calls_waiting waiting.old.items) }
 {
     waiting.push(right)?;
@@ -62,7 +63,7 @@ fn put_both<'a>(
     Ok(())
 }
 
-/// Puts the operands of an expression on a list.
+/// Pushes the operands of an expression on a list.
 #[tactic(auto, using(crate::proofs::Forming::heavier, crate::proofs::Forming::calls_more))]
 fn put_operands<'a>(
     waiting: &mut Vec<&'a OptimizedExpr>,
@@ -70,7 +71,8 @@ fn put_operands<'a>(
 ) -> Result<(), AllocError>
     ensures heft { OnOk result (heft waiting.new.items
         < heft waiting.old.items + weight (optimized_expression_of expr.entry.now)) }
-    ensures calls { OnOk result (own_call (optimized_expression_of expr.entry.now) ++ calls_waiting waiting.new.items
+    ensures calls { OnOk result (own_call (optimized_expression_of expr.entry.now)
+        ++ calls_waiting waiting.new.items
         ≡ calls_of (optimized_expression_of expr.entry.now) ++ calls_waiting waiting.old.items) }
 {
     match expr {
@@ -96,7 +98,7 @@ fn put_operands<'a>(
     Ok(())
 }
 
-/// Adds the names that an expression calls, by a loop.
+/// Adds the names that an expression calls, iteratively.
 #[tactic(auto, using(crate::proofs::Forming::heavier))]
 fn add_names<'a>(
     alloc: Global,
@@ -117,7 +119,7 @@ fn add_names<'a>(
     Ok(())
 }
 
-/// The number of a property of a name.
+/// Returns the index of a property of a name.
 pub(crate) fn find_property(properties: &[Property], name: &str) -> Option<usize>
     ensures none { IfNone result (has_property properties.now (chars name.now) ≡ false) }
     ensures some { IfSome result (λ i. IsNumberOf properties.now (chars name.now) i) }
@@ -130,7 +132,7 @@ pub(crate) fn find_property(properties: &[Property], name: &str) -> Option<usize
     None
 }
 
-/// Adds the property of a name, where it is known and not there yet.
+/// Adds the property of a name, if it is known and not in the list.
 fn add_property<P: Properties>(
     alloc: Global,
     found: &mut Vec<Property>,
@@ -141,7 +143,8 @@ fn add_property<P: Properties>(
     ensures fits { Fits found.new.items P.classes }
     ensures known { OnOk result (P.knows (chars name.now) ≡ true
         → has_property found.new.items (chars name.now) ≡ true) }
-    ensures others { (n : Text) → has_property found.old.items n ≡ true → has_property found.new.items n ≡ true }
+    ensures others { (n : Text) → has_property found.old.items n ≡ true
+        → has_property found.new.items n ≡ true }
 {
     if find_property(found, name).is_some() {
         return Ok(());
@@ -155,7 +158,7 @@ fn add_property<P: Properties>(
     }
 }
 
-/// The properties that rules name, each once, as far as they are known.
+/// Returns the known properties that rules name, without duplicates.
 pub(crate) fn properties_in<P: Properties>(
     alloc: Global,
     rules: &[OptimizedRule],

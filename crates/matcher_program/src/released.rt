@@ -1,4 +1,4 @@
-//! Letting go of forms by a loop.
+//! Iterative drop of forms.
 ghost use Rattle.std.specs.Prelude.{◌+◌, ◌*◌, ◌<◌};
 ghost use Rattle.matcher_program.specs.FormWeight.{weight};
 
@@ -21,15 +21,16 @@ impl Release for Form {
                     rest = Box::into_inner(inner);
                 }
                 Form::Tag(inner, _tag) => rest = Box::into_inner(inner),
-                Form::Seq(left, right) | Form::Choice(left, right) => rest = leaned(left, right),
+                Form::Seq(left, right) | Form::Choice(left, right) => rest = rotate(left, right),
                 _ => return,
             }
         }
     }
 }
 
-/// What is left of two sides, with less on the left: its operator is gone, or all of it.
-fn leaned(mut left: Box<Form>, right: Box<Form>) -> Form
+/// Rotates two sides to the right, so that less is on the left. Of a left side with one operand the
+/// operator is dropped, and a left side without operands is dropped.
+fn rotate(mut left: Box<Form>, right: Box<Form>) -> Form
     ensures { weight result < 2 * weight left.value + weight right.value + 1 }
 {
     match Box::replace(&mut left, Form::Peek) {

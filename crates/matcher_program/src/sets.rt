@@ -1,4 +1,4 @@
-//! Forms that match one character of a set.
+//! Sets, forms that match one character; and first sets.
 ghost use Rattle.std.specs.Prelude.{◌≡◌, ◌==◌, ◌<◌, ◌∷◌, ℕ, List, IfOk, chars, false, get_or, length, map, nat_eq, true};
 ghost use Rattle.meta_ast.specs.Ast.{text_of};
 ghost use Rattle.meta_base.specs.Language.Expression.{Expression, Grammar};
@@ -14,11 +14,10 @@ use crate::form::Form;
 use crate::leaves::is_in;
 use std::alloc::{AllocError, Global};
 
-/// Flags tell of so many characters, which are those of ASCII.
+/// The number of flags, one for each ASCII character.
 const FLAGS: u8 = 128;
 
-/// How many levels of a body are looked at for the characters with which it may begin: alternatives count
-/// one each.
+/// The levels of a body that are searched for its first set; alternatives count one each.
 const LEVELS: u8 = 200;
 
 /// Whether a text is one character.
@@ -53,7 +52,7 @@ fn is_one(form: &Form) -> bool
     }
 }
 
-/// Whether a form matches one character and no more. No choice takes the machine's stack, however wide.
+/// Whether a form matches one character and no more. Iterative, so that no wide choice takes stack space.
 fn is_set(form: &Form) -> bool
     ensures { result ≡ true → is_set form.now ≡ true }
 {
@@ -95,7 +94,7 @@ fn matches_one(form: &Form, c: char) -> bool
     has_here(rest, c)
 }
 
-/// Flags that tell of the first characters by number whether a form matches them.
+/// Returns a flag for each first character by number, set if a form matches it.
 fn flags_of(alloc: Global, form: &Form) -> Result<Vec<bool>, AllocError>
     requires { is_set form.now ≡ true }
     ensures { IfOk result (λ flags. IsSetOf flags.items form.now) }
@@ -107,7 +106,7 @@ fn flags_of(alloc: Global, form: &Form) -> Result<Vec<bool>, AllocError>
     Ok(flags)
 }
 
-/// Whether a text may begin with a character, whatever stands behind it.
+/// Whether a text may begin with a character, for any continuation of that.
 fn may_start(text: &str, c: char) -> bool
     ensures { result ≡ may_start (chars text.now) c }
 {
@@ -130,7 +129,7 @@ fn any_may_begin_with(texts: &Vec<String>, c: char) -> bool
     false
 }
 
-/// Flags that tell of the first characters by number whether one of some texts may begin with them.
+/// Returns a flag for each first character by number, set if one of some texts may begin with it.
 pub(crate) fn stops_of(alloc: Global, texts: &Vec<String>) -> Result<Vec<bool>, AllocError>
     ensures { IfOk result (λ flags. AreStops flags.items (map text_of texts.now.items)) }
 {
@@ -153,8 +152,8 @@ fn may_match(form: &Form, c: char) -> bool
     }
 }
 
-/// Whether a form may begin with a character, as far as that is seen from so many levels. Where not, it fails
-/// at once, and calls no rule before.
+/// Whether a form may begin with a character, as far as that is seen from `levels` levels. Where not, it
+/// fails at once, and calls no rule before.
 #[cycle(may_begin)]
 fn may_begin(form: &Form, c: char, levels: u8) -> bool
     ensures { result ≡ false → may_begin form.now c ≡ false }
@@ -180,7 +179,8 @@ fn may_begin(form: &Form, c: char, levels: u8) -> bool
     }
 }
 
-/// Flags that tell of the first characters by number whether a form may begin with them.
+/// Returns the first set of a form: a flag for each first character by number, set if the form may begin
+/// with it.
 pub(crate) fn firsts_of(alloc: Global, form: &Form) -> Result<Vec<bool>, AllocError>
     ensures { IfOk result (λ flags. (c : ℕ) → c < length flags.items
         → get_or flags.items c true ≡ false → may_begin form.now c ≡ false) }
@@ -192,7 +192,7 @@ pub(crate) fn firsts_of(alloc: Global, form: &Form) -> Result<Vec<bool>, AllocEr
     Ok(flags)
 }
 
-/// Whether it is told that what is left begins with none of some first characters.
+/// Whether a first set refuses the first character of the remaining input.
 #[inline(always)]
 pub fn is_barred(firsts: &Vec<bool>, rest: &str) -> bool
     ensures { result ≡ true → IsBarred firsts.now.items (chars rest.now) }
@@ -206,8 +206,8 @@ pub fn is_barred(firsts: &Vec<bool>, rest: &str) -> bool
     }
 }
 
-/// The form of a set, where a form matches one character and no more, and else the form itself.
-pub(crate) fn gathered(alloc: Global, form: Form) -> Result<Form, AllocError>
+/// Returns a set if a form matches one character and no more, and else the form itself.
+pub(crate) fn to_set(alloc: Global, form: Form) -> Result<Form, AllocError>
     ensures { IfOk result (λ made. (g : Grammar) (ps : List Property) (e : Expression)
         → Compiles g ps e form → Compiles g ps e made) }
 {
@@ -253,7 +253,7 @@ pub fn one_of<'i>(flags: &Vec<bool>, form: &Form, rest: &'i str) -> Option<&'i s
     }
 }
 
-/// Goes past all characters of a set that stand here.
+/// Goes past all characters of a set that are here.
 pub fn past_all<'i>(flags: &Vec<bool>, form: &Form, from: &'i str) -> &'i str
     requires { IsSetOf flags.now.items form.now }
     ensures goes_on { (whole : List ℕ) → IsLeft whole from.entry.now

@@ -1,4 +1,4 @@
-//! Texts that are compared.
+//! Comparison of texts.
 ghost use Rattle.std.specs.Prelude.{◌≡◌, bytes_eq, chars};
 
 /// Whether two texts are the same.

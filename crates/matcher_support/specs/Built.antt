@@ -1,4 +1,4 @@
--- What the code that makes values of entries is proved by: the trees that are done, and those that are open.
+-- Invariant of the code that makes values of entries: complete trees and open trees.
 use Rattle.std.specs.Prelude.{ℕ, List, [], ◌∷◌, chars}
 use Rattle.meta_base.specs.Language.Text.{Text}
 use Rattle.meta_syntax.specs.Entries.{Entry, Starts, Ends}

@@ -5,17 +5,17 @@ use Rattle.std.specs.Str.{chars}
 use Rattle.meta_base.specs.Language.State.{Trees, None', Tree}
 use Rattle.meta_ast.specs.Printing.{literal}
 
--- a place stands between two characters of a text, at its start or at its end
+-- a position is between two characters of a text, at its start or at its end
 abbrev pub is_boundary : List ℕ → ℕ → Bool
 is_boundary text i = nat_le i (length text)
     && (nat_le (length text) i || (nat_lt (slice_index text i) 128 || nat_le 192 (slice_index text i)))
 
--- the part of a text between two places, or nothing where they are not between characters in this order
+-- the part of a text between two positions, or nothing if they are not between characters in this order
 abbrev pub part : List ℕ → ℕ → ℕ → List ℕ
 part text i j =
     if nat_le i j && (is_boundary text i && is_boundary text j) then slice_range text i j else []
 
--- the part of a text between two places in quotes, and the end of a line
+-- the part of a text between two positions in quotes, and the end of a line
 abbrev pub leaf : List ℕ → ℕ → ℕ → List ℕ
 leaf text i j = codes ": " ++ encode_utf8_all (literal 34 (chars (part text i j))) ++ codes "\n"
 
@@ -30,7 +30,7 @@ abbrev mutual
   shown text level (Tree r i j inner others) =
       line_start level ++ encode_utf8_all r ++ behind text level i j inner ++ shown text level others
 
-  -- what stands behind the name of a tree: its part of the text where it holds no tree, the one tree that it
+  -- the text after the name of a tree: its part of the text if it holds no tree, the one tree that it
   -- holds, or all that it holds on lines further in
   pub behind : List ℕ → ℕ → ℕ → ℕ → Trees → List ℕ
   behind text level i j None' = leaf text i j

@@ -20,7 +20,7 @@ inner_data rule i j inner = object
     (member (codes "rule") (string rule)
     (member (codes "start") (number (unsigned i)) no_members))))
 
--- a tree that holds these trees; it has its part of the text where there are none
+-- a tree that holds these trees, or has its part of the text if there are none
 abbrev pub tree_data : List ℕ → Text → ℕ → ℕ → Items → Data
 tree_data text r i j no_items = leaf_data (encode_utf8_all r) i j (part text i j)
 tree_data text r i j (item first others) = inner_data (encode_utf8_all r) i j (item first others)

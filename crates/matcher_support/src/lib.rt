@@ -1,4 +1,4 @@
-//! What programs over the matcher need: its token trees as text and as JSON, and the sets of property names.
+//! Support for programs over the matcher: token trees as text and as JSON, and the sets of property names.
 #![tactic(auto)]
 
 pub mod json;

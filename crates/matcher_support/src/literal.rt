@@ -6,9 +6,8 @@ ghost use Rattle.meta_ast.specs.Printing.{literal};
 use meta_ast::printing::fmt_literal;
 use std::fmt;
 
-/// A text that is written between quotes, as a literal of a grammar is: a quote and a backslash stand behind
-/// a backslash, and control characters are written by a letter or by their number, as Rust's `Debug` writes
-/// them.
+/// A text that is written in quotes, as a literal of a grammar. Quotes and backslashes are escaped by a
+/// backslash, and control characters are written by a letter or by their number, as by Rust's `Debug`.
 #[derive(Clone, Copy, Debug)]
 pub struct Literal<'a>(pub &'a str);
 

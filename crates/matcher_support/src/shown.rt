@@ -11,8 +11,8 @@ use crate::literal::Literal;
 use meta_matcher::entries::Entry;
 use std::alloc::{AllocError, Global};
 
-/// What stands before an entry of a list: nothing, the start of a tree, or the end of one. Each has the
-/// number of its other entry.
+/// The entry before an entry of a list: none, the start of a tree, or the end of one. Starts and ends have
+/// the index of their partner.
 #[derive(Clone, Copy)]
 enum Before {
     Nothing,
@@ -20,11 +20,11 @@ enum Before {
     End { partner: usize },
 }
 
-/// The trees of a text, given as the list of their starts and ends, as lines of text.
+/// Writes the trees of a text, given as the list of their starts and ends, as lines of text.
 ///
-/// A tree stands on a line of its own, two blanks further in than the one that holds it. A tree that another
-/// holds alone stands behind that on the same line. A tree that holds no other is followed by its part of the
-/// text in quotes. The only error is a want of memory.
+/// A tree has a line of its own, two blanks further in than the one that holds it. A tree that another
+/// holds alone follows that on the same line. A tree that holds no other is followed by its part of the
+/// text in quotes. The only error is an allocation failure.
 pub fn tree_text(alloc: Global, text: &str, entries: &[Entry<'_>]) -> Result<String, AllocError>
     ensures { IfOk result (λ lines. (trees : Trees) → seen entries.now ≡ entries_of 0 trees
         → string_bytes lines ≡ shown text.now 0 trees) }
@@ -40,7 +40,7 @@ pub fn tree_text(alloc: Global, text: &str, entries: &[Entry<'_>]) -> Result<Str
     Ok(lines)
 }
 
-/// Writes what an entry of a list adds to the lines.
+/// Writes the lines of an entry of a list.
 fn write_entry(
     alloc: Global,
     lines: &mut String,
@@ -65,7 +65,7 @@ fn write_entry(
     }
 }
 
-/// Writes what stands before the name of a tree whose end has a number.
+/// Writes the text before the name of a tree whose end has an index.
 fn write_opening(
     alloc: Global,
     lines: &mut String,
@@ -114,7 +114,8 @@ fn write_leaf(lines: &mut String, text: &str, from: usize, to: usize) -> Result<
     write!(lines, ": {part}\n")
 }
 
-/// The part of a text between two places, or nothing where they are not between characters in this order.
+/// Returns the part of the text between two positions, or nothing if they are not between characters in
+/// this order.
 pub(crate) fn part_of(text: &str, from: usize, to: usize) -> &str
     ensures { result.now ≡ part text.now from to }
 {
@@ -125,7 +126,7 @@ pub(crate) fn part_of(text: &str, from: usize, to: usize) -> &str
     }
 }
 
-/// The level of what stands behind an entry of a list.
+/// Returns the level after an entry of a list.
 fn level_behind(level: usize, before: Before, entry: &Entry<'_>) -> usize
     requires { level < 2 ^ 63 }
     ensures value { result ≡ level_after level before (entry_of entry.now) }
@@ -150,7 +151,7 @@ fn level_behind(level: usize, before: Before, entry: &Entry<'_>) -> usize
     }
 }
 
-/// An entry as what stands before the next one.
+/// Converts an entry to the one before the next.
 fn seen_as(entry: &Entry<'_>) -> Before
     ensures { result ≡ before_of (entry_of entry.now) }
 {

@@ -20,8 +20,8 @@ impl Properties for UnicodeProperties {
 
     ghost classes = { is_in_property };
 
-    /// The set of a property's name as ranges of code points, both ends among them. `None` for a name that is
-    /// none of the 115. The only fault is a want of memory.
+    /// Returns the set of a property's name as ranges of code points, both ends included, or `None` if the
+    /// name is none of the 115. The only error is an allocation failure.
     fn ranges(&self, alloc: Global, name: &str) -> Result<Option<Vec<(u32, u32)>>, AllocError> {
         if is_property(name) {
             ranges_of(alloc, name)
@@ -31,7 +31,7 @@ impl Properties for UnicodeProperties {
     }
 }
 
-/// The set of a name as ranges, or `None` where the tables don't have the name.
+/// Returns the set of a name as ranges, or `None` if the tables don't have the name.
 fn ranges_of(alloc: Global, name: &str) -> Result<Option<Vec<(u32, u32)>>, AllocError>
     ensures known { IfOk result (λ found. is_some found ≡ is_some (by_name (normalize (chars name.now)))) }
     ensures ranges { IfOk result (λ found. IfSome found (λ ranges. (c : ℕ) → c < 1114112

@@ -14,7 +14,7 @@ use serde_json::{Value, json};
 use std::alloc::{AllocError, Global};
 use std::mem;
 
-/// A tree that has started: its rule, where it starts, and the trees before it.
+/// An open tree: its rule, its start, and the trees before it.
 #[derive(Drop)]
 struct Open<'a> {
     rule: &'a str,
@@ -22,11 +22,12 @@ struct Open<'a> {
     before: Vec<Value>,
 }
 
-/// The trees of a text, given as the list of their starts and ends, and where the match ended, as a value.
+/// Converts the trees of a text, given as the list of their starts and ends, and the position after the
+/// match to a value.
 ///
-/// It is an object with `end` and the array `trees`. A tree is an object with `rule`, `start` and `end`, and
-/// with `children`, the trees that it holds, or with `text`, its part of the text, where it holds none.
-/// Places are in bytes. The only error is a want of memory.
+/// The value is an object with `end` and the array `trees`. A tree is an object with `rule`, `start` and
+/// `end`, and with `children`, the trees that it holds, or with `text`, its part of the text, if it holds
+/// none. Positions are in bytes. The only error is an allocation failure.
 pub fn tree_value(
     alloc: Global,
     text: &str,
@@ -40,7 +41,7 @@ pub fn tree_value(
     answer_of(alloc, end, trees)
 }
 
-/// Where a match ended, and its trees.
+/// Returns the object with the position after the match, and its trees.
 fn answer_of(alloc: Global, end: usize, trees: Vec<Value>) -> Result<Value, AllocError>
     ensures { IfOk result (λ value. view value ≡ ended_data end (items_view trees.items)) }
 {
@@ -48,7 +49,7 @@ fn answer_of(alloc: Global, end: usize, trees: Vec<Value>) -> Result<Value, Allo
     json!(in alloc; {"end": end, "trees": trees})
 }
 
-/// The trees of a list of their starts and ends.
+/// Returns the trees of a list of their starts and ends.
 fn values_of(alloc: Global, text: &str, entries: &[Entry<'_>]) -> Result<Vec<Value>, AllocError>
     ensures { IfOk result (λ values.
         items_view values.items ≡ built text.now no_items [] (seen entries.now)) }
@@ -80,7 +81,7 @@ fn take<'a>(
     }
 }
 
-/// Starts a tree: the trees before it wait until it ends.
+/// Starts a tree; the trees before it wait until it ends.
 fn start<'a>(
     alloc: Global,
     done: &mut Vec<Value>,
@@ -119,7 +120,7 @@ fn finish(
     Ok(())
 }
 
-/// A tree that holds these.
+/// Returns a tree that holds these.
 fn value_of(
     alloc: Global,
     text: &str,
@@ -145,7 +146,7 @@ fn is_none(values: &[Value]) -> bool
     values.is_empty()
 }
 
-/// A tree that holds no other.
+/// Returns a tree that holds no other.
 fn leaf_of(
     alloc: Global,
     rule: &str,
@@ -158,7 +159,7 @@ fn leaf_of(
     json!(in alloc; {"rule": rule, "start": from, "end": to, "text": part})
 }
 
-/// A tree that holds others.
+/// Returns a tree that holds others.
 fn inner_of(
     alloc: Global,
     rule: &str,

@@ -14,12 +14,12 @@ use Rattle.meta_fixpoint.specs.Least.{is_set_at}
 use Rattle.meta_analysis.proofs.Resolved.{Named, absent, named, resolved}
 use Rattle.meta_analysis.specs.Names.{grammar_of, rule_said, is_end}
 use Rattle.meta_analysis.specs.NameKinds.{kind_in, name_kind}
-use Rattle.meta_analysis.specs.Kinds.{Says, counted, repeated, wrap_kind}
+use Rattle.meta_analysis.specs.Kinds.{Represents, counted, repeated, wrap_kind}
 use Rattle.meta_analysis.specs.KindTable.{is_of_taking, at_root, fires}
 use Rattle.meta_fixpoint.specs.Least.{follows}
 use Rattle.meta_analysis.specs.RightAnswers.{AreSound, AreClosed, Holds}
-use Rattle.meta_analysis.specs.Facts.{IsTableOf, Asked, AreAnswers}
-use Rattle.meta_analysis.specs.declared.kind_table.Kind.{Kind}
+use Rattle.meta_analysis.specs.Facts.{IsTableOf, IsTrueOf, AreAnswers}
+use Rattle.meta_analysis.specs.declared.kind_table.NodeKind.{NodeKind}
 use Rattle.meta_analysis.specs.declared.kind_table.Question.{Question}
 use Rattle.meta_analysis.specs.declared.kind_table.Question.TheVariants as asks
 use Rattle.meta_analysis.specs.declared.kind_table.KindTable.{KindTable}
@@ -36,87 +36,87 @@ end_null g n h = elim (or_cases (bytes_eq n (codes "SOI")) (bytes_eq n (codes "E
 
 -- 2. what a question asks of an expression follows from its operands
 module _ (g : Grammar) where
-  call_asked : (q : Question) (n : Text) (r : Rule) → rule_of g n ≡ Some r → Asked q g r.body → Asked q g (Ident n)
+  call_asked : (q : Question) (n : Text) (r : Rule) → rule_of g n ≡ Some r → IsTrueOf q g r.body → IsTrueOf q g (Ident n)
   call_asked asks.TakesNothing n r e d = nullable_call e d
   call_asked asks.CannotFail n r e d = cannot_fail_call e d
 
-  end_asked : (q : Question) (n : Text) → is_end n ≡ true → is_of_taking q ≡ true → Asked q g (Ident n)
+  end_asked : (q : Question) (n : Text) → is_end n ≡ true → is_of_taking q ≡ true → IsTrueOf q g (Ident n)
   end_asked asks.TakesNothing n e h = end_null g n e
   end_asked asks.CannotFail n e h = cc
 
-  empty_asked : (q : Question) → Asked q g (Str [])
+  empty_asked : (q : Question) → IsTrueOf q g (Str [])
   empty_asked asks.TakesNothing = nullable_str
   empty_asked asks.CannotFail = cannot_fail_str
 
-  empty_asked_too : (q : Question) → Asked q g (Insens [])
+  empty_asked_too : (q : Question) → IsTrueOf q g (Insens [])
   empty_asked_too asks.TakesNothing = nullable_insens
   empty_asked_too asks.CannotFail = cannot_fail_insens
 
-  ahead_asked : (q : Question) (e : Expression) (b : Bool) → (is_of_taking q || b) ≡ true → (b ≡ true → Asked q g e) → Asked q g (PosPred e)
+  ahead_asked : (q : Question) (e : Expression) (b : Bool) → (is_of_taking q || b) ≡ true → (b ≡ true → IsTrueOf q g e) → IsTrueOf q g (PosPred e)
   ahead_asked asks.TakesNothing e b h f = nullable_pos_pred
   ahead_asked asks.CannotFail e b h f = cannot_fail_pos_pred (f h)
 
-  not_ahead_asked : (q : Question) (e : Expression) → is_of_taking q ≡ true → Asked q g (NegPred e)
+  not_ahead_asked : (q : Question) (e : Expression) → is_of_taking q ≡ true → IsTrueOf q g (NegPred e)
   not_ahead_asked asks.TakesNothing e h = nullable_neg_pred
   not_ahead_asked asks.CannotFail e h = cc
 
-  opt_asked : (q : Question) (e : Expression) → Asked q g (Opt e)
+  opt_asked : (q : Question) (e : Expression) → IsTrueOf q g (Opt e)
   opt_asked asks.TakesNothing e = nullable_opt
   opt_asked asks.CannotFail e = cannot_fail_opt
 
-  rep_asked : (q : Question) (e : Expression) → Asked q g (Rep e)
+  rep_asked : (q : Question) (e : Expression) → IsTrueOf q g (Rep e)
   rep_asked asks.TakesNothing e = nullable_rep
   rep_asked asks.CannotFail e = cannot_fail_rep
 
-  max_asked : (q : Question) (e : Expression) (n : ℕ) → Asked q g (RepMax e n)
+  max_asked : (q : Question) (e : Expression) (n : ℕ) → IsTrueOf q g (RepMax e n)
   max_asked asks.TakesNothing e n = nullable_rep_max
   max_asked asks.CannotFail e n = cannot_fail_rep_max
 
-  once_asked : (q : Question) (e : Expression) → Asked q g e → Asked q g (RepOnce e)
+  once_asked : (q : Question) (e : Expression) → IsTrueOf q g e → IsTrueOf q g (RepOnce e)
   once_asked asks.TakesNothing e d = nullable_rep_once d
   once_asked asks.CannotFail e d = cannot_fail_rep_once d
 
-  push_asked : (q : Question) (e : Expression) → Asked q g e → Asked q g (Push e)
+  push_asked : (q : Question) (e : Expression) → IsTrueOf q g e → IsTrueOf q g (Push e)
   push_asked asks.TakesNothing e d = nullable_push d
   push_asked asks.CannotFail e d = cannot_fail_push d
 
-  tag_asked : (q : Question) (e : Expression) (t : Text) → Asked q g e → Asked q g (NodeTag e t)
+  tag_asked : (q : Question) (e : Expression) (t : Text) → IsTrueOf q g e → IsTrueOf q g (NodeTag e t)
   tag_asked asks.TakesNothing e t d = nullable_tag d
   tag_asked asks.CannotFail e t d = cannot_fail_tag d
 
-  literal_asked : (q : Question) (t : Text) → Asked q g (PushLiteral t)
+  literal_asked : (q : Question) (t : Text) → IsTrueOf q g (PushLiteral t)
   literal_asked asks.TakesNothing t = nullable_push_literal
   literal_asked asks.CannotFail t = cannot_fail_push_literal
 
-  seq_asked : (q : Question) (a b : Expression) → Asked q g a → Asked q g b → Asked q g (Seq a b)
+  seq_asked : (q : Question) (a b : Expression) → IsTrueOf q g a → IsTrueOf q g b → IsTrueOf q g (Seq a b)
   seq_asked asks.TakesNothing a b d e = nullable_seq d e
   seq_asked asks.CannotFail a b d e = cannot_fail_seq d e
 
-  choice_asked : (q : Question) (a b : Expression) → Asked q g a ⊎ Asked q g b → Asked q g (Choice a b)
+  choice_asked : (q : Question) (a b : Expression) → IsTrueOf q g a ⊎ IsTrueOf q g b → IsTrueOf q g (Choice a b)
   choice_asked asks.TakesNothing a b (inl d) = nullable_left d
   choice_asked asks.TakesNothing a b (inr d) = nullable_right d
   choice_asked asks.CannotFail a b (inl d) = cannot_fail_left d
   choice_asked asks.CannotFail a b (inr d) = cannot_fail_right d
 
-  exact_asked : (q : Question) (e : Expression) (n : ℕ) → (n ≡ 0) ⊎ Asked q g e → Asked q g (RepExact e n)
+  exact_asked : (q : Question) (e : Expression) (n : ℕ) → (n ≡ 0) ⊎ IsTrueOf q g e → IsTrueOf q g (RepExact e n)
   exact_asked asks.TakesNothing e n (inl h) = subst (λ k. IsNullable g (RepExact e k)) (sym h) nullable_exact_zero
   exact_asked asks.TakesNothing e n (inr d) = nullable_exact d
   exact_asked asks.CannotFail e n (inl h) = subst (λ k. CannotFail g (RepExact e k)) (sym h) cannot_fail_exact_zero
   exact_asked asks.CannotFail e n (inr d) = cannot_fail_exact d
 
-  min_asked : (q : Question) (e : Expression) (n : ℕ) → (n ≡ 0) ⊎ Asked q g e → Asked q g (RepMin e n)
+  min_asked : (q : Question) (e : Expression) (n : ℕ) → (n ≡ 0) ⊎ IsTrueOf q g e → IsTrueOf q g (RepMin e n)
   min_asked asks.TakesNothing e n (inl h) = subst (λ k. IsNullable g (RepMin e k)) (sym h) nullable_min_zero
   min_asked asks.TakesNothing e n (inr d) = nullable_min d
   min_asked asks.CannotFail e n (inl h) = subst (λ k. CannotFail g (RepMin e k)) (sym h) cannot_fail_min_zero
   min_asked asks.CannotFail e n (inr d) = cannot_fail_min d
 
-  min_max_asked : (q : Question) (e : Expression) (m n : ℕ) → (m ≡ 0) ⊎ Asked q g e → Asked q g (RepMinMax e m n)
+  min_max_asked : (q : Question) (e : Expression) (m n : ℕ) → (m ≡ 0) ⊎ IsTrueOf q g e → IsTrueOf q g (RepMinMax e m n)
   min_max_asked asks.TakesNothing e m n (inl h) = subst (λ k. IsNullable g (RepMinMax e k n)) (sym h) nullable_min_max_zero
   min_max_asked asks.TakesNothing e m n (inr d) = nullable_min_max d
   min_max_asked asks.CannotFail e m n (inl h) = subst (λ k. CannotFail g (RepMinMax e k n)) (sym h) cannot_fail_min_max_zero
   min_max_asked asks.CannotFail e m n (inr d) = cannot_fail_min_max d
 
-same_kind : {k l : Kind} (o : Option Kind) → o ≡ Some k → o ≡ Some l → k ≡ l
+same_kind : {k l : NodeKind} (o : Option NodeKind) → o ≡ Some k → o ≡ Some l → k ≡ l
 same_kind o e f = let h = sym e ∙ f in cc
 
 counted_fires : (q : Question) (roots : List ℕ) (p : ℕ → Bool) (n j : ℕ) → fires q roots p (wrap_kind (counted n) j) ≡ true → (n ≡ 0) ⊎ (p j ≡ true)
@@ -140,20 +140,20 @@ pub same_rule : {o : Option Rule} {a b : Rule} → o ≡ Some a → o ≡ Some b
 same_rule e f = let h = sym e ∙ f in cc
 
 -- 3. what a name is taken for: nothing, or a rule whose body lies in the table
-pub data Sense (G : Grammar) (kind_of : Text → Kind) (t : KindTable) (n : Text) : Option ℕ → Type 0 where
+pub data Sense (G : Grammar) (kind_of : Text → NodeKind) (t : KindTable) (n : Text) : Option ℕ → Type 0 where
   absent_from : rule_of G n ≡ None → Sense G kind_of t n None
-  lies_at : {k j : ℕ} (r : Rule) → rule_of G n ≡ Some r → slice_get t.roots.items k ≡ Some j → Says kind_of t.kinds.items j r.body → Sense G kind_of t n (Some k)
+  lies_at : {k j : ℕ} (r : Rule) → rule_of G n ≡ Some r → slice_get t.roots.items k ≡ Some j → Represents kind_of t.kinds.items j r.body → Sense G kind_of t n (Some k)
 
-abbrev pub kinds_by : (Text → Option ℕ) → Text → Kind
+abbrev pub kinds_by : (Text → Option ℕ) → Text → NodeKind
 kinds_by place_of n = name_kind (is_end n) (place_of n)
 
 -- 4. what holds is asked
 module _ (q : Question) (G : Grammar) (place_of : Text → Option ℕ) (t : KindTable) (sense : (n : Text) → Sense G (kinds_by place_of) t n (place_of n)) where
   abbrev Says_ : ℕ → Expression → Type 0
-  Says_ i e = Says (kinds_by place_of) t.kinds.items i e
+  Says_ i e = Represents (kinds_by place_of) t.kinds.items i e
 
-  module _ (p : ℕ → Bool) (below : (j : ℕ) (e : Expression) → p j ≡ true → Says_ j e → Asked q G e) where
-    name_asked : (n : Text) (o : Option ℕ) → Sense G (kinds_by place_of) t n o → (b : Bool) → is_end n ≡ b → fires q t.roots.items p (name_kind b o) ≡ true → Asked q G (Ident n)
+  module _ (p : ℕ → Bool) (below : (j : ℕ) (e : Expression) → p j ≡ true → Says_ j e → IsTrueOf q G e) where
+    name_asked : (n : Text) (o : Option ℕ) → Sense G (kinds_by place_of) t n o → (b : Bool) → is_end n ≡ b → fires q t.roots.items p (name_kind b o) ≡ true → IsTrueOf q G (Ident n)
     name_asked n o (absent_from e) true h f = end_asked G q n h f
     name_asked n o (absent_from e) false h f = cc
     name_asked n o (lies_at {k = k} {j = j} r e at s) true h f = elim (or_cases (is_of_taking q) (at_root p (slice_get t.roots.items k)) f) [
@@ -162,7 +162,7 @@ module _ (q : Question) (G : Grammar) (place_of : Text → Option ℕ) (t : Kind
     ]
     name_asked n o (lies_at {k = k} {j = j} r e at s) false h f = call_asked G q n r e (below j r.body (sym (ap (at_root p) at) ∙ f) s)
 
-    step : (i : ℕ) (k : Kind) (e : Expression) → slice_get t.kinds.items i ≡ Some k → Says_ i e → fires q t.roots.items p k ≡ true → Asked q G e
+    step : (i : ℕ) (k : NodeKind) (e : Expression) → slice_get t.kinds.items i ≡ Some k → Says_ i e → fires q t.roots.items p k ≡ true → IsTrueOf q G e
     step i k (Str []) at s f = empty_asked G q
     step i k (Str (c ∷ u)) at s f = let h = subst (λ z. fires q t.roots.items p z ≡ true) (same_kind _ at s) f in cc
     step i k (Insens []) at s f = empty_asked_too G q
@@ -187,7 +187,7 @@ module _ (q : Question) (G : Grammar) (place_of : Text → Option ℕ) (t : Kind
     step i k (Skip ts) at s f = absurd s
     step i k (RestoreOnErr e) at s f = absurd s
 
-  pub asked : {i : ℕ} → Holds q t i → (e : Expression) → Says_ i e → Asked q G e
+  pub asked : {i : ℕ} → Holds q t i → (e : Expression) → Says_ i e → IsTrueOf q G e
   asked (follows {i = i} {a = k} p at f g) e s = step p (λ j d h z. asked (g j h) d z) i k e at s f
 
 -- 5. what is asked is answered
@@ -212,7 +212,7 @@ repeated_holds q roots p n j h = go (nat_eq n 0)
 
 module _ (G : Grammar) (place_of : Text → Option ℕ) (t : KindTable) (sense : (n : Text) → Sense G (kinds_by place_of) t n (place_of n)) where
   abbrev Lies : ℕ → Expression → Type 0
-  Lies i e = Says (kinds_by place_of) t.kinds.items i e
+  Lies i e = Represents (kinds_by place_of) t.kinds.items i e
 
   module _ (q : Question) (p : ℕ → Bool) (n : Text) (r : Rule) (at : rule_of G n ≡ Some r) (inner : (j : ℕ) → Lies j r.body → p j ≡ true) where
     root_fires : (k j : ℕ) (m : Rule) → rule_of G n ≡ Some m → slice_get t.roots.items k ≡ Some j → Lies j m.body → at_root p (slice_get t.roots.items k) ≡ true
@@ -276,7 +276,7 @@ module _ (G : Grammar) (place_of : Text → Option ℕ) (t : KindTable) (sense :
     sure_marked cannot_fail_skip i s = absurd s
     sure_marked (cannot_fail_restore d) i s = absurd s
 
-  pub answered : (q : Question) (answers : List Bool) → AreSound q t answers → AreClosed q t answers → (i : ℕ) (e : Expression) → Lies i e → Decides (is_set_at answers i) (Asked q G e)
+  pub answered : (q : Question) (answers : List Bool) → AreSound q t answers → AreClosed q t answers → (i : ℕ) (e : Expression) → Lies i e → Decides (is_set_at answers i) (IsTrueOf q G e)
   answered asks.TakesNothing answers s c i e l = ((λ h. asked asks.TakesNothing G place_of t sense (s.right i h) e l), (λ d. null_marked answers c d i l))
   answered asks.CannotFail answers s c i e l = ((λ h. asked asks.CannotFail G place_of t sense (s.right i h) e l), (λ d. sure_marked answers c d i l))
 

@@ -6,7 +6,7 @@ use Rattle.meta_spanned.specs.Nodes.{view, view_at, piece_of}
 use Rattle.meta_spanned.specs.Spanned.{Span, Spanned, Leaf, One, Two, Unary, Binary}
 use Rattle.meta_spanned.specs.declared.node.ParserNode.{ParserNode}
 use Rattle.meta_analysis.specs.Nodes.{postorder, size, IsSimple}
-use Rattle.meta_analysis.specs.Layout.{all_below, forwards, IsBehind, AreLaidOut, start_at, AreNumbered}
+use Rattle.meta_analysis.specs.Layout.{all_below, forwards, IsAfter, AreLaidOut, start_at, AreNumbered}
 use Rattle.meta_analysis.specs.Shapes.{IsShape, sign_of, joint_of}
 use Rattle.meta_analysis.specs.declared.shapes.Shape.TheVariants as is
 use Rattle.meta_analysis.specs.declared.table.Node.{Node}
@@ -39,27 +39,27 @@ none_before [] z vs e = cc
 none_before (u ∷ us) z vs e = cc
 
 -- 2. trees are laid out
-behind_more : (pre front : List Spanned) (z : Spanned) → IsBehind front z → IsBehind (pre ++ front) z
+behind_more : (pre front : List Spanned) (z : Spanned) → IsAfter front z → IsAfter (pre ++ front) z
 behind_more pre front (Leaf s e) b = tt
 behind_more pre front (One s f x) b = (pre ++ b.0, ap (λ z. pre ++ z) b.1 ∙ sym (append_assoc pre b.0 (postorder x)))
 behind_more pre front (Two s f x y) b = (pre ++ b.0, ap (λ z. pre ++ z) b.1 ∙ (sym (append_assoc pre (b.0 ++ postorder x) (postorder y)) ∙ ap (λ z. z ++ postorder y) (sym (append_assoc pre b.0 (postorder x)))))
 
-alone : (pre : List Spanned) (y : Spanned) → IsBehind pre y → (us : List Spanned) (z : Spanned) (vs : List Spanned) → y ∷ [] ≡ us ++ z ∷ vs → IsBehind (pre ++ us) z
-alone pre y b [] z vs e = subst (λ p. IsBehind p z) (sym (append-nil pre)) (subst (λ w. IsBehind pre w) (heads e) b)
+alone : (pre : List Spanned) (y : Spanned) → IsAfter pre y → (us : List Spanned) (z : Spanned) (vs : List Spanned) → y ∷ [] ≡ us ++ z ∷ vs → IsAfter (pre ++ us) z
+alone pre y b [] z vs e = subst (λ p. IsAfter p z) (sym (append-nil pre)) (subst (λ w. IsAfter pre w) (heads e) b)
 alone pre y b (u ∷ us) z vs e = absurd (none_before us z vs (tails e))
 
-laid_tree : (t : Spanned) (front : List Spanned) (z : Spanned) (back : List Spanned) → postorder t ≡ front ++ z ∷ back → IsBehind front z
+laid_tree : (t : Spanned) (front : List Spanned) (z : Spanned) (back : List Spanned) → postorder t ≡ front ++ z ∷ back → IsAfter front z
 laid_tree (Leaf s e) front z back h = alone [] (Leaf s e) tt front z back h
 laid_tree (One s f x) front z back h = elim (split (postorder x) (One s f x ∷ []) front z back h) [
   | in_first b g ↦ laid_tree x front z b g
-  | in_second w g k ↦ subst (λ p. IsBehind p z) (sym g) (alone (postorder x) (One s f x) ([], refl) w z back k)
+  | in_second w g k ↦ subst (λ p. IsAfter p z) (sym g) (alone (postorder x) (One s f x) ([], refl) w z back k)
 ]
 laid_tree (Two s f x y) front z back h = elim (split (postorder x ++ postorder y) (Two s f x y ∷ []) front z back h) [
   | in_first b g ↦ elim (split (postorder x) (postorder y) front z b g) [
     | in_first d i ↦ laid_tree x front z d i
-    | in_second w i k ↦ subst (λ p. IsBehind p z) (sym i) (behind_more (postorder x) w z (laid_tree y w z b k))
+    | in_second w i k ↦ subst (λ p. IsAfter p z) (sym i) (behind_more (postorder x) w z (laid_tree y w z b k))
   ]
-  | in_second w g k ↦ subst (λ p. IsBehind p z) (sym g) (alone (postorder x ++ postorder y) (Two s f x y) ([], refl) w z back k)
+  | in_second w g k ↦ subst (λ p. IsAfter p z) (sym g) (alone (postorder x ++ postorder y) (Two s f x y) ([], refl) w z back k)
 ]
 
 pub laid_none : AreLaidOut []
@@ -68,13 +68,13 @@ laid_none front x back e = absurd (none_before front x back e)
 pub laid_more : (nodes : List Spanned) → AreLaidOut nodes → (t : Spanned) → AreLaidOut (nodes ++ postorder t)
 laid_more nodes h t front z back e = elim (split nodes (postorder t) front z back e) [
   | in_first b g ↦ h front z b g
-  | in_second w g k ↦ subst (λ p. IsBehind p z) (sym g) (behind_more nodes w z (laid_tree t w z back k))
+  | in_second w g k ↦ subst (λ p. IsAfter p z) (sym g) (behind_more nodes w z (laid_tree t w z back k))
 ]
 
-laid_one : (nodes : List Spanned) → AreLaidOut nodes → (x : Spanned) → IsBehind nodes x → AreLaidOut (nodes ++ x ∷ [])
+laid_one : (nodes : List Spanned) → AreLaidOut nodes → (x : Spanned) → IsAfter nodes x → AreLaidOut (nodes ++ x ∷ [])
 laid_one nodes h x b front z back e = elim (split nodes (x ∷ []) front z back e) [
   | in_first d g ↦ h front z d g
-  | in_second w g k ↦ subst (λ p. IsBehind p z) (sym g) (alone nodes x b w z back k)
+  | in_second w g k ↦ subst (λ p. IsAfter p z) (sym g) (alone nodes x b w z back k)
 ]
 
 pub laid_all : (nodes : List Spanned) → AreLaidOut nodes → (ns : List (Bor ParserNode)) → AreLaidOut (nodes ++ all_below ns)
@@ -99,7 +99,7 @@ module _ (done : List Spanned) (old new : List Node) (own : ℕ) (h : AreNumbere
   abbrev pub said : Spanned
   said = view_at (piece_of n.span.now) n.expr.now
 
-  put : (x : Spanned) → said ≡ x → IsBehind done x → IsShape done own n.shape x → n.start + size x ≡ own + 1 → AreNumbered (done ++ said ∷ []) new
+  put : (x : Spanned) → said ≡ x → IsAfter done x → IsShape done own n.shape x → n.start + size x ≡ own + 1 → AreNumbered (done ++ said ∷ []) new
   put x e b shape start = subst (λ z. AreNumbered (done ++ z ∷ []) new) (sym e) (record {
     laid_out = laid_one done h.laid_out x b;
     nodes = nodes_pushed done old new n own x pushed is_own h.nodes (record { said = e; shape = shape; start = start });
@@ -116,9 +116,9 @@ module _ (done : List Spanned) (old new : List Node) (own : ℕ) (h : AreNumbere
   pub put_leaf : (s : Span) (e : Expression) → IsSimple e → said ≡ Leaf s e → n.shape ≡ is.Leaf → n.start ≡ own → AreNumbered (done ++ said ∷ []) new
   put_leaf s e i v f g = put (Leaf s e) v tt (i, f) (omega arith)
 
-  pub put_one : (s : Span) (f : Unary) (x : Spanned) → IsBehind done said → said ≡ One s f x → n.shape ≡ is.One (sign_of f) (own - 1) → n.start ≡ start_at old (own - 1) → AreNumbered (done ++ said ∷ []) new
+  pub put_one : (s : Span) (f : Unary) (x : Spanned) → IsAfter done said → said ≡ One s f x → n.shape ≡ is.One (sign_of f) (own - 1) → n.start ≡ start_at old (own - 1) → AreNumbered (done ++ said ∷ []) new
   put_one s f x behind v shape start =
-      let b : IsBehind done (One s f x) = subst (IsBehind done) v behind in
+      let b : IsAfter done (One s f x) = subst (IsAfter done) v behind in
       let l : length done ≡ length (b.0 ++ postorder x) = ap (λ z. length z) b.1 in
       let m = length-append b.0 (postorder x) in
       let n = length-postorder x in
@@ -128,10 +128,10 @@ module _ (done : List Spanned) (old new : List Node) (own : ℕ) (h : AreNumbere
       let begins = begins_at (own - 1) x at in
       put (One s f x) v b (own - 1, omega arith, at, shape) (omega arith)
 
-  pub put_two : (s : Span) (f : Binary) (x y : Spanned) → IsBehind done said → said ≡ Two s f x y → n.shape ≡ is.Two (joint_of f) (start_at old (own - 1) - 1) (own - 1)
+  pub put_two : (s : Span) (f : Binary) (x y : Spanned) → IsAfter done said → said ≡ Two s f x y → n.shape ≡ is.Two (joint_of f) (start_at old (own - 1) - 1) (own - 1)
       → n.start ≡ start_at old (start_at old (own - 1) - 1) → AreNumbered (done ++ said ∷ []) new
   put_two s f x y behind v shape start =
-      let b : IsBehind done (Two s f x y) = subst (IsBehind done) v behind in
+      let b : IsAfter done (Two s f x y) = subst (IsAfter done) v behind in
       let l : length done ≡ length ((b.0 ++ postorder x) ++ postorder y) = ap (λ z. length z) b.1 in
       let m = length-append (b.0 ++ postorder x) (postorder y) in
       let m2 = length-append b.0 (postorder x) in

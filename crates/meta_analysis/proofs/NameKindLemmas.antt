@@ -2,7 +2,7 @@
 use Rattle.std.proofs.Common.{◌≡◌, ℕ, List, [], ◌∷◌, true, false, refl}
 use Rattle.meta_analysis.proofs.NameLemmas.{is_empty_text}
 use Rattle.meta_analysis.specs.Kinds.{text_kind}
-use Rattle.meta_analysis.specs.declared.kind_table.Kind.TheVariants as is
+use Rattle.meta_analysis.specs.declared.kind_table.NodeKind.TheVariants as is
 
 pub still_text : (t : List ℕ) → is_empty_text t ≡ true → is.Still ≡ text_kind t
 still_text [] e = refl

@@ -15,16 +15,16 @@ use Rattle.meta_spanned.specs.Erasure.{without_spans}
 use Rattle.meta_analysis.specs.Nodes.{IsSimple}
 use Rattle.meta_analysis.specs.Shapes as shapes
 use Rattle.meta_analysis.specs.declared.table.Node.{Node}
-use Rattle.meta_analysis.specs.Kinds.{AreNodes, Fits, Stands, Says, leaf_kind, kind_of_code, node_kind}
-use Rattle.meta_analysis.specs.declared.kind_table.Kind.{Kind}
+use Rattle.meta_analysis.specs.Kinds.{AreNodes, Fits, RepresentsNode, Represents, leaf_kind, kind_of_code, node_kind}
+use Rattle.meta_analysis.specs.declared.kind_table.NodeKind.{NodeKind}
 
 -- what lies among the nodes of a list stands there
-pub stands_at : (kind_of : Text → Kind) (nodes : List Spanned) (ks : List Kind) → AreNodes kind_of nodes ks → (x : Spanned) (i : ℕ) → slice_get nodes i ≡ Some x → Stands kind_of ks i x
+pub stands_at : (kind_of : Text → NodeKind) (nodes : List Spanned) (ks : List NodeKind) → AreNodes kind_of nodes ks → (x : Spanned) (i : ℕ) → slice_get nodes i ≡ Some x → RepresentsNode kind_of ks i x
 stands_at kind_of nodes ks h (Leaf s e) i g = let (k, at, fit) = h.fit i _ g in (fit.0, at ∙ ap Some fit.1)
 stands_at kind_of nodes ks h (One s f x) i g = let (k, at, fit) = h.fit i _ g in (fit.0, fit.1, at ∙ ap Some fit.3, stands_at kind_of nodes ks h x fit.0 fit.2)
 stands_at kind_of nodes ks h (Two s f x y) i g = let (k, at, fit) = h.fit i _ g in (fit.0, fit.1, fit.2, fit.3, at ∙ ap Some fit.6, stands_at kind_of nodes ks h x fit.0 fit.4, stands_at kind_of nodes ks h y fit.1 fit.5)
 
-simple_says : (kind_of : Text → Kind) (ks : List Kind) (i : ℕ) (e : Expression) → IsSimple e → slice_get ks i ≡ Some (leaf_kind kind_of e) → Says kind_of ks i e
+simple_says : (kind_of : Text → NodeKind) (ks : List NodeKind) (i : ℕ) (e : Expression) → IsSimple e → slice_get ks i ≡ Some (leaf_kind kind_of e) → Represents kind_of ks i e
 simple_says kind_of ks i (bare.Str t) l h = h
 simple_says kind_of ks i (bare.Insens t) l h = h
 simple_says kind_of ks i (bare.Range t u) l h = h
@@ -33,7 +33,7 @@ simple_says kind_of ks i (bare.PeekSlice a b) l h = h
 simple_says kind_of ks i (bare.PushLiteral t) l h = h
 simple_says kind_of ks i _ l h = absurd l
 
-pub says : (kind_of : Text → Kind) (ks : List Kind) (i : ℕ) (x : Spanned) → Stands kind_of ks i x → Says kind_of ks i (without_spans x)
+pub says : (kind_of : Text → NodeKind) (ks : List NodeKind) (i : ℕ) (x : Spanned) → RepresentsNode kind_of ks i x → Represents kind_of ks i (without_spans x)
 says kind_of ks i (Leaf s e) h = simple_says kind_of ks i e h.0 h.1
 says kind_of ks i (One s PosPred x) h = (h.0, h.1, h.2, says kind_of ks h.0 x h.3)
 says kind_of ks i (One s NegPred x) h = (h.0, h.1, h.2, says kind_of ks h.0 x h.3)
@@ -50,7 +50,7 @@ says kind_of ks i (Two s Seq x y) h = (h.0, h.1, h.2, h.3, h.4, says kind_of ks 
 says kind_of ks i (Two s Choice x y) h = (h.0, h.1, h.2, h.3, h.4, says kind_of ks h.0 x h.5, says kind_of ks h.1 y h.6)
 
 -- an expression of code that is one without operands does what that does
-pub leaf_done : (kind_of : Text → Kind) (x : ParserExpr) (d : Expression) (t at : Span) → view_at t x ≡ Leaf at d → kind_of_code kind_of x ≡ leaf_kind kind_of d
+pub leaf_done : (kind_of : Text → NodeKind) (x : ParserExpr) (d : Expression) (t at : Span) → view_at t x ≡ Leaf at d → kind_of_code kind_of x ≡ leaf_kind kind_of d
 leaf_done kind_of (code.Str s) d t at h = let e : bare.Str (text_of s) ≡ d = cc in ap (leaf_kind kind_of) e
 leaf_done kind_of (code.Insens s) d t at h = let e : bare.Insens (text_of s) ≡ d = cc in ap (leaf_kind kind_of) e
 leaf_done kind_of (code.Ident s) d t at h = let e : bare.Ident (text_of s) ≡ d = cc in ap (leaf_kind kind_of) e
@@ -71,17 +71,17 @@ leaf_done kind_of (code.Push' p e s) d t at h = cc
 leaf_done kind_of (code.PushLiteral s) d t at h = let e : bare.PushLiteral (text_of s) ≡ d = cc in ap (leaf_kind kind_of) e
 leaf_done kind_of (code.NodeTag' p e s u) d t at h = cc
 
-fits_node : (kind_of : Text → Kind) (all : List Spanned) (i : ℕ) (n : Node) (x : Spanned) → view_at (piece_of n.span.now) n.expr.now ≡ x → shapes.IsShape all i n.shape x → Fits kind_of all i (node_kind kind_of n.expr.now n.shape) x
+fits_node : (kind_of : Text → NodeKind) (all : List Spanned) (i : ℕ) (n : Node) (x : Spanned) → view_at (piece_of n.span.now) n.expr.now ≡ x → shapes.IsShape all i n.shape x → Fits kind_of all i (node_kind kind_of n.expr.now n.shape) x
 fits_node kind_of all i n (Leaf s e) said (simple, shape) = (simple, ap (node_kind kind_of n.expr.now) shape ∙ leaf_done kind_of n.expr.now e (piece_of n.span.now) s said)
 fits_node kind_of all i n (One s f x) said (j, next, at, shape) = (j, omega arith, at, ap (node_kind kind_of n.expr.now) shape, next)
 fits_node kind_of all i n (Two s f x y) said (j, l, between, next, at, at_2, shape) = (j, l, omega arith, omega arith, at, at_2, ap (node_kind kind_of n.expr.now) shape, next, between)
 
 -- what a node of a table does
-abbrev pub kind_at : (Text → Kind) → Node → Kind
+abbrev pub kind_at : (Text → NodeKind) → Node → NodeKind
 kind_at kind_of n = node_kind kind_of n.expr.now n.shape
 
 -- what the nodes of a table do
-pub with_kinds : (kind_of : Text → Kind) (all : List Spanned) (ns : List Node) (ks : List Kind) → shapes.AreNodes all ns → ks ≡ map (kind_at kind_of) ns → AreNodes kind_of all ks
+pub with_kinds : (kind_of : Text → NodeKind) (all : List Spanned) (ns : List Node) (ks : List NodeKind) → shapes.AreNodes all ns → ks ≡ map (kind_at kind_of) ns → AreNodes kind_of all ks
 with_kinds kind_of all ns ks h e = record {
   alike = ap (λ z. length z) e ∙ (length-map ns (kind_at kind_of) ∙ h.alike);
   fit = λ i x g. let (n, at, is) = h.fit i x g in (

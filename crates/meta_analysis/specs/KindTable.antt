@@ -1,7 +1,7 @@
--- Which nodes of a table answer a question with yes, by what their kinds say.
+-- The inference of a question: when a node's answer is yes, by the kinds of nodes.
 use Rattle.std.specs.Prelude.{◌≡◌, ℕ, List, Option, Some, None, Bool, true, false, ◌&&◌, ◌||◌, slice_get, ⊤}
-use Rattle.meta_analysis.specs.declared.kind_table.Kind.{Kind}
-use Rattle.meta_analysis.specs.declared.kind_table.Kind.TheVariants as is
+use Rattle.meta_analysis.specs.declared.kind_table.NodeKind.{NodeKind}
+use Rattle.meta_analysis.specs.declared.kind_table.NodeKind.TheVariants as is
 use Rattle.meta_analysis.specs.declared.kind_table.Question.{Question}
 use Rattle.meta_analysis.specs.declared.kind_table.Question.TheVariants as asks
 
@@ -14,7 +14,7 @@ at_root p None = false
 at_root p (Some j) = p j
 
 -- whether a node's answer is yes, by the answers of others
-abbrev pub fires : Question → List ℕ → (ℕ → Bool) → Kind → Bool
+abbrev pub fires : Question → List ℕ → (ℕ → Bool) → NodeKind → Bool
 fires q roots p is.Taking = false
 fires q roots p is.Still = true
 fires q roots p is.End = is_of_taking q
@@ -29,7 +29,7 @@ fires q roots p (is.OnceAgain j) = p j
 fires q roots p (is.Seq j k) = p j && p k
 fires q roots p (is.Choice j k) = p j || p k
 
--- two answers are the same at this node, if there is one
+-- two assignments agree at this node, if there is one
 abbrev pub AgreeAt : (ℕ → Bool) → (ℕ → Bool) → Option ℕ → Type 0
 AgreeAt p r None = ⊤
 AgreeAt p r (Some j) = p j ≡ r j

@@ -10,4 +10,4 @@ pub mod Kinds
 pub mod KindTable
 pub mod RightAnswers
 pub mod Facts
-pub mod Groundwork
+pub mod Analysis

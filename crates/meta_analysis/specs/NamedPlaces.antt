@@ -1,8 +1,8 @@
--- Places of names in a list.
+-- Indices of names in a list.
 use Rattle.std.specs.Prelude.{ℕ, suc, List, [], ◌∷◌, Option, Some, None, if◌then◌else◌, bytes_eq}
 use Rattle.std.specs.Borrow.{Bor}
 
--- the place of the last equal name
+-- the index of the last equal name
 abbrev pub last_name : List (Bor (List ℕ)) → List ℕ → Option ℕ
 last_name [] b = None
 last_name (n ∷ ns) b = elim (last_name ns b) [

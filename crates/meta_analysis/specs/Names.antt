@@ -1,4 +1,4 @@
--- What rules of code say, and which names are builtins that take nothing.
+-- Rules of code without their spans, and the builtins that take nothing.
 use Rattle.std.specs.Prelude.{List, Bool, ◌||◌, bytes_eq, codes}
 use Rattle.meta_base.specs.Language.Text.{Text}
 use Rattle.meta_base.specs.Language.Expression.{Rule, Grammar}

@@ -1,4 +1,4 @@
--- The nodes of all bodies, in one order.
+-- The nodes of all bodies, in postorder.
 use Rattle.std.specs.Prelude.{ℕ, suc, ◌+◌, List, [], ◌∷◌, ◌++◌, flat_map, ⊤}
 use Rattle.meta_base.specs.Language.Expression as bare
 use Rattle.meta_base.specs.Language.Expression.{Expression}
@@ -6,13 +6,14 @@ use Rattle.meta_spanned.specs.Nodes.{rule_views}
 use Rattle.meta_spanned.specs.Spanned.{Spanned, Leaf, One, Two, SpannedRule}
 use Rattle.meta_spanned.specs.declared.node.ParserRule.{ParserRule}
 
--- how many nodes there are, with those inside
+-- the number of nodes in a tree
 abbrev pub size : Spanned → ℕ
 size (Leaf s e) = 1
 size (One s f x) = suc (size x)
 size (Two s f x y) = suc (size x + size y)
 
--- a node and all nodes below it, each behind those inside it, the left one before the right
+-- a node and all nodes inside it in postorder: a node after those inside it, the left one before the
+-- right
 abbrev pub postorder : Spanned → List Spanned
 postorder (Leaf s e) = Leaf s e ∷ []
 postorder (One s f x) = postorder x ++ One s f x ∷ []
@@ -22,7 +23,7 @@ postorder (Two s f x y) = (postorder x ++ postorder y) ++ Two s f x y ∷ []
 abbrev pub every_node : List SpannedRule → List Spanned
 every_node rules = flat_map (λ r. postorder r.body) rules
 
--- the same of the rules of code
+-- the nodes of all bodies of rules of code
 abbrev pub all_nodes : List ParserRule → List Spanned
 all_nodes rules = every_node (rule_views rules)
 

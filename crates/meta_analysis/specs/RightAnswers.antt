@@ -1,4 +1,4 @@
--- Answers to a question for each node of a table.
+-- Sound and closed answers to a question for all nodes of a table.
 use Rattle.std.specs.Prelude.{ℕ, List, Bool}
 use Rattle.meta_fixpoint.specs.Least as least
 use Rattle.meta_fixpoint.specs.Least.{Follows}
@@ -10,10 +10,10 @@ use Rattle.meta_analysis.specs.declared.kind_table.KindTable.{KindTable}
 abbrev pub Holds : Question → KindTable → ℕ → Type 0
 Holds q t = Follows (fires q t.roots.items) t.kinds.items
 
--- as many answers as nodes, and each is right
+-- as many answers as nodes, and all of them right
 abbrev pub AreSound : Question → KindTable → List Bool → Type 0
 AreSound q t = least.AreSound (fires q t.roots.items) t.kinds.items
 
--- a node whose answer is yes by those of others is answered so
+-- the answer is yes for every node of which that follows from other answers
 abbrev pub AreClosed : Question → KindTable → List Bool → Type 0
 AreClosed q t = least.AreClosed (fires q t.roots.items) t.kinds.items

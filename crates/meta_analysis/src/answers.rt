@@ -1,44 +1,47 @@
-//! Which nodes answer a question with yes: the least flags that follow from one another.
+//! Nodes for which the answer to a question is yes: a least fixpoint, by a worklist.
 ghost use Rattle.std.specs.Prelude.{◌≡◌, ℕ, Bool, IfOk};
 ghost use Rattle.meta_analysis.specs.RightAnswers.{AreSound, AreClosed};
 ghost use Rattle.meta_analysis.specs.KindTable.{AgreeAt, fires};
 ghost use Rattle.meta_analysis.specs.declared.kind_table.Question.{Question};
 
-use crate::kind_table::{Kind, KindTable, Question};
-use meta_fixpoint::{Inference, Listeners, Listening, Told, least_flags};
+use crate::kind_table::{KindTable, NodeKind, Question};
+use meta_fixpoint::{DependencyGraph, DependencyVisitor, Inference, Listeners, least_flags};
 use std::alloc::{AllocError, Global};
 
-/// The nodes on which the answers for a node depend, two at most: for any other the answers may change.
-pub fn listened_to(table: &KindTable, kind: Kind) -> (Option<usize>, Option<usize>)
+/// Returns the nodes on which the answers for a node depend, two at most.
+pub fn dependencies_of(table: &KindTable, kind: NodeKind) -> (Option<usize>, Option<usize>)
     ensures { (q : Question) (p r : ℕ → Bool) → AgreeAt p r result.0 → AgreeAt p r result.1
         → fires q table.now.roots.items p kind ≡ fires q table.now.roots.items r kind }
 {
     match kind {
-        Kind::Taking | Kind::Still | Kind::End => (None, None),
-        Kind::Call(rule) | Kind::EndCall(rule) => (table.roots.get(rule).copied(), None),
-        Kind::Ahead(body)
-        | Kind::NotAhead(body)
-        | Kind::Free(body)
-        | Kind::Inside(body)
-        | Kind::Again(body)
-        | Kind::OnceAgain(body) => (Some(body), None),
-        Kind::Seq(first, second) | Kind::Choice(first, second) => (Some(first), Some(second)),
+        NodeKind::Taking | NodeKind::Still | NodeKind::End => (None, None),
+        NodeKind::Call(rule) | NodeKind::EndCall(rule) => (table.roots.get(rule).copied(), None),
+        NodeKind::Ahead(body)
+        | NodeKind::NotAhead(body)
+        | NodeKind::Free(body)
+        | NodeKind::Inside(body)
+        | NodeKind::Again(body)
+        | NodeKind::OnceAgain(body) => (Some(body), None),
+        NodeKind::Seq(first, second) | NodeKind::Choice(first, second) => (
+            Some(first),
+            Some(second),
+        ),
     }
 }
 
-impl Listening for KindTable {
+impl DependencyGraph for KindTable {
     fn count(&self) -> usize {
         self.kinds.len()
     }
 
-    fn tell<T: Told>(&self, node: usize, told: &mut T) {
+    fn visit_dependencies<V: DependencyVisitor>(&self, node: usize, visitor: &mut V) {
         if let Some(kind) = self.kinds.get(node) {
-            let (first, second) = listened_to(self, *kind);
+            let (first, second) = dependencies_of(self, *kind);
             if let Some(first) = first {
-                told.listens_to(first);
+                visitor.visit(first);
             }
             if let Some(second) = second {
-                told.listens_to(second);
+                visitor.visit(second);
             }
         }
     }
@@ -46,15 +49,15 @@ impl Listening for KindTable {
 
 /// A question about the nodes of a table.
 #[derive(Clone, Copy)]
-struct Asked<'a> {
+struct Query<'a> {
     question: Question,
     table: &'a KindTable,
 }
 
-impl<'a> Inference for Asked<'a> {
+impl<'a> Inference for Query<'a> {
     ghost use Rattle.meta_analysis.specs.KindTable.{fires};
 
-    type Item = Kind;
+    type Item = NodeKind;
 
     ghost items = { λ asked. asked.table.now.kinds.items };
 
@@ -70,8 +73,8 @@ impl<'a> Inference for Asked<'a> {
     }
 }
 
-/// Which nodes answer a question with yes: the least flags that follow from one another. The only fault is a
-/// want of memory.
+/// Computes for which nodes the answer to a question is yes, as a least fixpoint. The only fault is an
+/// allocation failure.
 pub fn answers_to(
     alloc: Global,
     table: &KindTable,
@@ -81,5 +84,5 @@ pub fn answers_to(
     ensures sound { IfOk result (λ answers. AreSound question table.now answers.items) }
     ensures closed { IfOk result (λ answers. AreClosed question table.now answers.items) }
 {
-    least_flags(alloc, &Asked { question, table }, listeners)
+    least_flags(alloc, &Query { question, table }, listeners)
 }

@@ -1,23 +1,23 @@
-//! The answer for one expression.
+//! The answer to a question for one expression.
 ghost use Rattle.std.specs.Prelude.{IfOk};
 ghost use Rattle.std.specs.Bool.{Decides};
 ghost use Rattle.meta_spanned.specs.Erasure.{without_spans};
 ghost use Rattle.meta_spanned.specs.Nodes.{unplaced};
-ghost use Rattle.meta_analysis.specs.Facts.{Asked};
+ghost use Rattle.meta_analysis.specs.Facts.{IsTrueOf};
 ghost use Rattle.meta_analysis.specs.Names.{grammar_of};
 
 use crate::answers::answers_to;
 use crate::kind_table::{KindTable, Question};
 use crate::kinds::kinds_of;
 use crate::names::names_of;
-use crate::table::{Unnumbered, number, tabulated};
+use crate::table::{Unnumbered, number, tabulate};
 use meta_base::runtime::Span;
-use meta_fixpoint::{is_set, who_listens};
+use meta_fixpoint::{find_listeners, is_set};
 use meta_spanned::{ParserExpr, ParserRule};
 use std::alloc::{AllocError, Global};
 
-/// The answer for an expression, where its names mean these rules (the last of a name): its nodes are put
-/// behind those of the rules, and then asked. The only fault is a want of memory.
+/// Answers a question about an expression, where its names mean these rules (the last of a name), by
+/// adding its nodes after those of the rules. The only fault is an allocation failure.
 pub fn answer_for<'i>(
     alloc: Global,
     expr: &ParserExpr<'i>,
@@ -25,11 +25,11 @@ pub fn answer_for<'i>(
     question: Question,
 ) -> Result<bool, AllocError>
     ensures { IfOk result (λ yes. Decides yes
-        (Asked question (grammar_of rules.now) (without_spans (unplaced expr.now)))) }
+        (IsTrueOf question (grammar_of rules.now) (without_spans (unplaced expr.now)))) }
 {
     let nowhere = Span::of("", 0, 0);
     let names = names_of(alloc, rules)?;
-    let mut nodes = tabulated(alloc, rules)?;
+    let mut nodes = tabulate(alloc, rules)?;
     let own = number(
         &mut Unnumbered::new(alloc),
         rules.len(),
@@ -41,7 +41,7 @@ pub fn answer_for<'i>(
         kinds: kinds_of(alloc, rules, &names, nodes.nodes.as_slice())?,
         roots: nodes.roots,
     };
-    let listeners = who_listens(alloc, &table)?;
+    let listeners = find_listeners(alloc, &table)?;
     let answers = answers_to(alloc, &table, &listeners, question)?;
     let answer = is_set(answers.as_slice(), own);
     Ok(answer)

@@ -1,4 +1,4 @@
-//! What is known of the nodes of all rules.
+//! Facts of the nodes of all rules: nullability and failure.
 ghost use Rattle.std.specs.Prelude.{◌≡◌, IfOk};
 ghost use Rattle.meta_analysis.specs.NameMaps.{KnowsRules};
 ghost use Rattle.meta_analysis.specs.Roots.{IsTabled};
@@ -9,23 +9,23 @@ use crate::kind_table::{KindTable, Question};
 use crate::kinds::kinds_of;
 use crate::names::Names;
 use crate::table::Table;
-use meta_fixpoint::who_listens;
+use meta_fixpoint::find_listeners;
 use meta_spanned::ParserRule;
 use std::alloc::{AllocError, Global};
 
-/// What is known of the nodes of all rules.
+/// The facts of the nodes of all rules.
 #[derive(Drop)]
 pub struct Facts {
     pub table: KindTable,
-    /// Which nodes may succeed without taking anything.
+    /// Flags of the nodes that may succeed without taking anything.
     pub nullable: Vec<bool>,
-    /// Which nodes cannot fail.
+    /// Flags of the nodes that cannot fail.
     pub certain: Vec<bool>,
 }
 
 impl Facts {
-    /// Which nodes may succeed without taking anything, once more.
-    pub fn copied_nullable(&self, alloc: Global) -> Result<Vec<bool>, AllocError>
+    /// Copies the flags `nullable`.
+    pub fn copy_nullable(&self, alloc: Global) -> Result<Vec<bool>, AllocError>
         ensures { IfOk result (λ flags. flags.items ≡ self.now.nullable.items) }
     {
         let mut flags = Vec::new(alloc);
@@ -34,7 +34,7 @@ impl Facts {
     }
 }
 
-/// The table of rules, with what its nodes do.
+/// Makes the table of the kinds of the nodes of rules.
 fn table_with_kinds<'i>(
     alloc: Global,
     rules: &[ParserRule<'i>],
@@ -46,11 +46,11 @@ fn table_with_kinds<'i>(
     ensures { IfOk result (λ made. AreTabled rules.now made) }
 {
     let kinds = kinds_of(alloc, rules, names, table.nodes.as_slice())?;
-    let roots = table.copied_roots(alloc)?;
+    let roots = table.copy_roots(alloc)?;
     Ok(KindTable { kinds, roots })
 }
 
-/// Finds out which nodes may take nothing, and which cannot fail. The only fault is a want of memory.
+/// Computes which nodes may take nothing, and which cannot fail. The only fault is an allocation failure.
 pub fn facts_of<'i>(
     alloc: Global,
     rules: &[ParserRule<'i>],
@@ -62,7 +62,7 @@ pub fn facts_of<'i>(
     ensures { IfOk result (λ facts. AreFacts rules.now facts) }
 {
     let table = table_with_kinds(alloc, rules, names, table)?;
-    let listeners = who_listens(alloc, &table)?;
+    let listeners = find_listeners(alloc, &table)?;
     let nullable = answers_to(alloc, &table, &listeners, Question::TakesNothing)?;
     let certain = answers_to(alloc, &table, &listeners, Question::CannotFail)?;
     Ok(Facts {

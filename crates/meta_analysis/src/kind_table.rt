@@ -1,66 +1,66 @@
-//! What the nodes of all rules do, by number.
+//! The kinds of the nodes of all rules, by number.
 ghost use Rattle.std.specs.Prelude.{◌≡◌, ◌<◌, slice_get};
 ghost use Rattle.meta_fixpoint.specs.Least.{is_set_at};
 ghost use Rattle.meta_analysis.specs.KindTable.{fires, at_root};
 
 use meta_fixpoint::is_set;
 
-/// What a node does, its operands by their numbers.
+/// The kind of a node, with its operands by their numbers.
 #[derive(Clone, Copy)]
-pub enum Kind {
-    /// It takes something, or fails.
+pub enum NodeKind {
+    /// Takes something, or fails.
     Taking,
-    /// It takes nothing, and cannot fail.
+    /// Takes nothing, and cannot fail.
     Still,
-    /// It takes nothing, and may fail.
+    /// Takes nothing, and may fail.
     End,
     /// A call, by the number of the rule.
     Call(usize),
-    /// A call of a rule that is named as a builtin which takes nothing.
+    /// Succeeds in place where its operand succeeds.
     EndCall(usize),
-    /// It succeeds in place where its operand succeeds.
+    /// Succeeds in place where its operand fails.
     Ahead(usize),
-    /// It succeeds in place where its operand fails.
+    /// May leave its operand out.
     NotAhead(usize),
-    /// It may leave its operand out.
+    /// Does the same as its operand.
     Free(usize),
-    /// It does what its operand does.
+    /// Repeats its operand without end, and may leave it out.
     Inside(usize),
-    /// It repeats its operand without end, and may leave it out.
+    /// Repeats its operand without end, once at least.
     Again(usize),
-    /// It repeats its operand without end, once at least.
+    /// Repeats its operand without end, once at least.
     OnceAgain(usize),
     Seq(usize, usize),
     Choice(usize, usize),
 }
 
-/// What is asked of each node.
+/// A question about nodes.
 #[derive(Clone, Copy)]
 pub enum Question {
-    /// Whether it may succeed without taking anything.
+    /// Whether a node may succeed without taking anything.
     TakesNothing,
-    /// Whether it cannot fail.
+    /// Whether a node cannot fail.
     CannotFail,
 }
 
-/// What the nodes of all rules do, each behind those inside it.
+/// The kinds of the nodes of all rules, in the order of the node table.
 #[derive(Drop)]
 pub struct KindTable {
-    pub kinds: Vec<Kind>,
-    /// The number of each rule's body.
+    pub kinds: Vec<NodeKind>,
+    /// The numbers of the rules' bodies.
     pub roots: Vec<usize>,
 }
 
 impl KindTable {
-    /// What the node of a number does.
-    pub fn kind_at(&self, node: usize) -> Kind
+    /// Returns the kind of the node of a number.
+    pub fn kind_at(&self, node: usize) -> NodeKind
         requires { node < self.now.kinds.len }
         ensures { slice_get self.now.kinds.items node ≡ Some result }
     {
         self.kinds[node]
     }
 
-    /// The node of a rule's body.
+    /// Returns the number of a rule's body.
     pub fn root_at(&self, rule: usize) -> usize
         requires { rule < self.now.roots.len }
         ensures { slice_get self.now.roots.items rule ≡ Some result }
@@ -68,7 +68,7 @@ impl KindTable {
         self.roots[rule]
     }
 
-    /// Whether the flag of a rule's body is set.
+    /// Reports whether the flag of a rule's body is set.
     pub fn is_root_set(&self, answers: &[bool], rule: usize) -> bool
         ensures { result ≡ at_root (is_set_at answers.now) (slice_get self.now.roots.items rule) }
     {
@@ -78,20 +78,20 @@ impl KindTable {
         }
     }
 
-    /// Whether the answer for a node is yes by the answers for others.
-    pub fn fires(&self, question: Question, answers: &[bool], kind: Kind) -> bool
+    /// Reports whether the answer for a node is yes by the answers for others.
+    pub fn fires(&self, question: Question, answers: &[bool], kind: NodeKind) -> bool
         ensures { result ≡ fires question self.now.roots.items (is_set_at answers.now) kind }
     {
         match kind {
-            Kind::Taking => false,
-            Kind::Still | Kind::Free(_) | Kind::Again(_) => true,
-            Kind::End | Kind::NotAhead(_) => question.is_of_taking(),
-            Kind::Call(rule) => self.is_root_set(answers, rule),
-            Kind::EndCall(rule) => question.is_of_taking() || self.is_root_set(answers, rule),
-            Kind::Ahead(body) => question.is_of_taking() || is_set(answers, body),
-            Kind::Inside(body) | Kind::OnceAgain(body) => is_set(answers, body),
-            Kind::Seq(first, second) => is_set(answers, first) && is_set(answers, second),
-            Kind::Choice(first, second) => is_set(answers, first) || is_set(answers, second),
+            NodeKind::Taking => false,
+            NodeKind::Still | NodeKind::Free(_) | NodeKind::Again(_) => true,
+            NodeKind::End | NodeKind::NotAhead(_) => question.is_of_taking(),
+            NodeKind::Call(rule) => self.is_root_set(answers, rule),
+            NodeKind::EndCall(rule) => question.is_of_taking() || self.is_root_set(answers, rule),
+            NodeKind::Ahead(body) => question.is_of_taking() || is_set(answers, body),
+            NodeKind::Inside(body) | NodeKind::OnceAgain(body) => is_set(answers, body),
+            NodeKind::Seq(first, second) => is_set(answers, first) && is_set(answers, second),
+            NodeKind::Choice(first, second) => is_set(answers, first) || is_set(answers, second),
         }
     }
 }

@@ -1,4 +1,4 @@
-//! What the nodes of all rules do.
+//! Computes the kinds of the nodes of all rules.
 ghost use Rattle.std.specs.Prelude.{◌≡◌, IfOk, List};
 ghost use Rattle.meta_ast.specs.Ast.{text_of};
 ghost use Rattle.meta_spanned.specs.Spanned.{Spanned};
@@ -8,15 +8,15 @@ ghost use Rattle.meta_analysis.specs.Shapes as shapes;
 ghost use Rattle.meta_analysis.specs.Kinds.{AreNodes, both_kind, counted, kind_of_code, node_kind, repeated, sign_wrap, text_kind, wrap_kind};
 ghost use Rattle.meta_analysis.specs.NameKinds.{kind_in};
 
-use crate::kind_table::Kind;
+use crate::kind_table::NodeKind;
 use crate::name_kinds::kind_of_name;
 use crate::names::Names;
-use crate::shapes::{Joint, Shape, Sign};
+use crate::shapes::{Joint, Shape, UnaryOperator};
 use crate::table::Node;
 use meta_spanned::{ParserExpr, ParserRule};
 use std::alloc::{AllocError, Global};
 
-/// What stands round one operand.
+/// The effect of an operator round one operand.
 #[derive(Clone, Copy)]
 pub enum Wrap {
     Ahead,
@@ -27,8 +27,8 @@ pub enum Wrap {
     OnceAgain,
 }
 
-/// What an expression without operands does.
-fn kind_of_leaf<'i>(rules: &[ParserRule<'i>], names: &Names, expr: &ParserExpr<'i>) -> Kind
+/// Returns the kind of an expression without operands.
+fn kind_of_leaf<'i>(rules: &[ParserRule<'i>], names: &Names, expr: &ParserExpr<'i>) -> NodeKind
     requires { KnowsRules rules.now names.now }
     ensures { result ≡ kind_of_code (kind_in (grammar_of rules.now)) expr.now }
 {
@@ -36,32 +36,32 @@ fn kind_of_leaf<'i>(rules: &[ParserRule<'i>], names: &Names, expr: &ParserExpr<'
         ParserExpr::Str(text) => kind_of_text(text),
         ParserExpr::Insens(text) => kind_of_text(text),
         ParserExpr::Ident(name) => kind_of_name(rules, names, name),
-        ParserExpr::PushLiteral(_) => Kind::Still,
-        ParserExpr::Range(_, _) => Kind::Taking,
-        ParserExpr::PeekSlice(_, _) => Kind::Taking,
-        ParserExpr::PosPred(_) => Kind::Taking,
-        ParserExpr::NegPred(_) => Kind::Taking,
-        ParserExpr::Opt(_) => Kind::Taking,
-        ParserExpr::Push(_) => Kind::Taking,
-        ParserExpr::NodeTag(_, _) => Kind::Taking,
-        ParserExpr::Seq(_, _) => Kind::Taking,
-        ParserExpr::Choice(_, _) => Kind::Taking,
-        ParserExpr::Rep(_) => Kind::Taking,
-        ParserExpr::RepOnce(_) => Kind::Taking,
-        ParserExpr::RepExact(_, _) => Kind::Taking,
-        ParserExpr::RepMin(_, _) => Kind::Taking,
-        ParserExpr::RepMax(_, _) => Kind::Taking,
-        ParserExpr::RepMinMax(_, _, _) => Kind::Taking,
+        ParserExpr::PushLiteral(_) => NodeKind::Still,
+        ParserExpr::Range(_, _) => NodeKind::Taking,
+        ParserExpr::PeekSlice(_, _) => NodeKind::Taking,
+        ParserExpr::PosPred(_) => NodeKind::Taking,
+        ParserExpr::NegPred(_) => NodeKind::Taking,
+        ParserExpr::Opt(_) => NodeKind::Taking,
+        ParserExpr::Push(_) => NodeKind::Taking,
+        ParserExpr::NodeTag(_, _) => NodeKind::Taking,
+        ParserExpr::Seq(_, _) => NodeKind::Taking,
+        ParserExpr::Choice(_, _) => NodeKind::Taking,
+        ParserExpr::Rep(_) => NodeKind::Taking,
+        ParserExpr::RepOnce(_) => NodeKind::Taking,
+        ParserExpr::RepExact(_, _) => NodeKind::Taking,
+        ParserExpr::RepMin(_, _) => NodeKind::Taking,
+        ParserExpr::RepMax(_, _) => NodeKind::Taking,
+        ParserExpr::RepMinMax(_, _, _) => NodeKind::Taking,
     }
 }
 
-fn kind_of_text(text: &String) -> Kind
+fn kind_of_text(text: &String) -> NodeKind
     ensures { result ≡ text_kind (text_of text.now) }
 {
     if text.is_empty() {
-        Kind::Still
+        NodeKind::Still
     } else {
-        Kind::Taking
+        NodeKind::Taking
     }
 }
 
@@ -81,53 +81,53 @@ fn repeated_wrap(count: u32) -> Wrap
     }
 }
 
-fn wrap_of(sign: Sign) -> Wrap
+fn wrap_of(sign: UnaryOperator) -> Wrap
     ensures { result ≡ sign_wrap sign }
 {
     match sign {
-        Sign::PosPred => Wrap::Ahead,
-        Sign::NegPred => Wrap::NotAhead,
-        Sign::Opt => Wrap::Free,
-        Sign::Push => Wrap::Inside,
-        Sign::NodeTag => Wrap::Inside,
-        Sign::Rep => Wrap::Again,
-        Sign::RepOnce => Wrap::OnceAgain,
-        Sign::RepExact(count) => counted_wrap(count),
-        Sign::RepMin(count) => repeated_wrap(count),
-        Sign::RepMax(_) => Wrap::Free,
-        Sign::RepMinMax(low, _) => counted_wrap(low),
+        UnaryOperator::PosPred => Wrap::Ahead,
+        UnaryOperator::NegPred => Wrap::NotAhead,
+        UnaryOperator::Opt => Wrap::Free,
+        UnaryOperator::Push => Wrap::Inside,
+        UnaryOperator::NodeTag => Wrap::Inside,
+        UnaryOperator::Rep => Wrap::Again,
+        UnaryOperator::RepOnce => Wrap::OnceAgain,
+        UnaryOperator::RepExact(count) => counted_wrap(count),
+        UnaryOperator::RepMin(count) => repeated_wrap(count),
+        UnaryOperator::RepMax(_) => Wrap::Free,
+        UnaryOperator::RepMinMax(low, _) => counted_wrap(low),
     }
 }
 
-fn kind_of_wrap(wrap: Wrap, body: usize) -> Kind
+fn kind_of_wrap(wrap: Wrap, body: usize) -> NodeKind
     ensures { result ≡ wrap_kind wrap body }
 {
     match wrap {
-        Wrap::Ahead => Kind::Ahead(body),
-        Wrap::NotAhead => Kind::NotAhead(body),
-        Wrap::Free => Kind::Free(body),
-        Wrap::Inside => Kind::Inside(body),
-        Wrap::Again => Kind::Again(body),
-        Wrap::OnceAgain => Kind::OnceAgain(body),
+        Wrap::Ahead => NodeKind::Ahead(body),
+        Wrap::NotAhead => NodeKind::NotAhead(body),
+        Wrap::Free => NodeKind::Free(body),
+        Wrap::Inside => NodeKind::Inside(body),
+        Wrap::Again => NodeKind::Again(body),
+        Wrap::OnceAgain => NodeKind::OnceAgain(body),
     }
 }
 
-fn kind_of_both(joint: Joint, first: usize, second: usize) -> Kind
+fn kind_of_both(joint: Joint, first: usize, second: usize) -> NodeKind
     ensures { result ≡ both_kind joint first second }
 {
     match joint {
-        Joint::Sequence => Kind::Seq(first, second),
-        Joint::Choice => Kind::Choice(first, second),
+        Joint::Sequence => NodeKind::Seq(first, second),
+        Joint::Choice => NodeKind::Choice(first, second),
     }
 }
 
-/// What an expression of this shape does.
+/// Returns the kind of an expression of this shape.
 fn kind_of_shape<'i>(
     rules: &[ParserRule<'i>],
     names: &Names,
     expr: &ParserExpr<'i>,
     shape: Shape,
-) -> Kind
+) -> NodeKind
     requires { KnowsRules rules.now names.now }
     ensures { result ≡ node_kind (kind_in (grammar_of rules.now)) expr.now shape }
 {
@@ -138,13 +138,13 @@ fn kind_of_shape<'i>(
     }
 }
 
-/// What the nodes of a table do.
+/// Computes the kinds of the nodes of a table.
 pub(crate) fn kinds_of<'i>(
     alloc: Global,
     rules: &[ParserRule<'i>],
     names: &Names,
     nodes: &[Node<'_, 'i>],
-) -> Result<Vec<Kind>, AllocError>
+) -> Result<Vec<NodeKind>, AllocError>
     requires { KnowsRules rules.now names.now }
     ensures { IfOk result (λ kinds. (all : List Spanned) → shapes.AreNodes all nodes.now
         → AreNodes (kind_in (grammar_of rules.now)) all kinds.items) }

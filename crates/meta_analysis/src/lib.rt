@@ -1,11 +1,11 @@
-//! What the passes over rules with spans share, made once for a grammar: rules by the names that mean them, the nodes
-//! of all bodies by number, and which nodes are nullable or cannot fail.
+//! The analysis of rules with spans that the passes share, made once for a grammar: rules by the names
+//! that mean them, the nodes of all bodies by number, and which nodes are nullable or cannot fail.
 #![tactic(auto)]
 
+mod analysis;
 mod answers;
 mod expressions;
 mod facts;
-mod groundwork;
 mod kind_table;
 mod kinds;
 mod name_kinds;
@@ -14,12 +14,12 @@ mod places;
 mod shapes;
 mod table;
 
-pub use answers::{answers_to, listened_to};
+pub use analysis::{Analysis, analyze};
+pub use answers::{answers_to, dependencies_of};
 pub use expressions::answer_for;
 pub use facts::{Facts, facts_of};
-pub use groundwork::{Groundwork, groundwork_of};
-pub use kind_table::{Kind, KindTable, Question};
+pub use kind_table::{KindTable, NodeKind, Question};
 pub use names::{Names, is_end, is_literal, names_of, rule_of_name};
 pub use places::rule_number;
-pub use shapes::{Joint, Shape, Sign};
-pub use table::{Node, Table, Unnumbered, number, tabulated};
+pub use shapes::{Joint, Shape, UnaryOperator};
+pub use table::{Node, Table, Unnumbered, number, tabulate};

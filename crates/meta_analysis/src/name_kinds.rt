@@ -1,16 +1,16 @@
-//! What names do.
+//! The kinds of names.
 ghost use Rattle.std.specs.Prelude.{◌≡◌};
 ghost use Rattle.meta_ast.specs.Ast.{text_of};
 ghost use Rattle.meta_analysis.specs.NameMaps.{KnowsRules};
 ghost use Rattle.meta_analysis.specs.Names.{grammar_of};
 ghost use Rattle.meta_analysis.specs.NameKinds.{kind_in};
 
-use crate::kind_table::Kind;
+use crate::kind_table::NodeKind;
 use crate::names::{Names, is_end, rule_of_name};
 use meta_spanned::ParserRule;
 
-/// What a name does.
-pub(crate) fn kind_of_name<'i>(rules: &[ParserRule<'i>], names: &Names, name: &String) -> Kind
+/// Returns the kind of a name.
+pub(crate) fn kind_of_name<'i>(rules: &[ParserRule<'i>], names: &Names, name: &String) -> NodeKind
     requires { KnowsRules rules.now names.now }
     ensures { result ≡ kind_in (grammar_of rules.now) (text_of name.now) }
 {
@@ -18,11 +18,17 @@ pub(crate) fn kind_of_name<'i>(rules: &[ParserRule<'i>], names: &Names, name: &S
     match rule_of_name(rules, names, name) {
         Some(rule) => {
             if is_end {
-                Kind::EndCall(rule)
+                NodeKind::EndCall(rule)
             } else {
-                Kind::Call(rule)
+                NodeKind::Call(rule)
             }
         }
-        None => { if is_end { Kind::End } else { Kind::Taking } }
+        None => {
+            if is_end {
+                NodeKind::End
+            } else {
+                NodeKind::Taking
+            }
+        }
     }
 }

@@ -10,13 +10,13 @@ use meta_spanned::ParserRule;
 use std::alloc::{AllocError, Global};
 use std::collections::HashMap;
 
-/// For each name the place of its last rule.
+/// The map from names to the indices of their last rules.
 #[derive(Drop)]
 pub struct Names {
     pub places: HashMap<String, usize>,
 }
 
-/// The names of rules.
+/// Makes the map of the names of rules.
 pub fn names_of<'i>(alloc: Global, rules: &[ParserRule<'i>]) -> Result<Names, AllocError>
     ensures { IfOk result (λ names. KnowsRules rules.now names) }
 {
@@ -32,7 +32,7 @@ impl Names {
     ghost use Rattle.std.specs.Prelude.{string_bytes};
     ghost use Rattle.std.specs.HashMap.{get_by_text};
 
-    /// The place of the last rule of that name, if there is one.
+    /// Returns the index of the last rule of that name, if there is one.
     pub fn place_of(&self, name: &str) -> Option<usize>
         ensures { result ≡ get_by_text self.now.places name.now }
     {
@@ -40,7 +40,7 @@ impl Names {
     }
 }
 
-/// The place of the last rule of that name, if there is one.
+/// Returns the index of the last rule of that name, if there is one.
 pub fn rule_of_name<'i>(rules: &[ParserRule<'i>], names: &Names, name: &String) -> Option<usize>
     requires { KnowsRules rules.now names.now }
     ensures { result ≡ last_place (grammar_of rules.now) (text_of name.now) }
@@ -48,7 +48,7 @@ pub fn rule_of_name<'i>(rules: &[ParserRule<'i>], names: &Names, name: &String) 
     names.place_of(name.as_str())
 }
 
-/// Whether a name is a literal's text.
+/// Reports whether a name is a literal's text.
 pub fn is_literal(name: &String, literal: &str) -> bool
     requires { IsAscii literal.now }
     ensures { result ≡ bytes_eq (text_of name.now) literal.now }
@@ -56,7 +56,7 @@ pub fn is_literal(name: &String, literal: &str) -> bool
     name.as_str() == literal
 }
 
-/// Whether a name is that of a builtin that takes nothing.
+/// Reports whether a name is that of a builtin that takes nothing.
 pub fn is_end(name: &String) -> bool
     ensures { result ≡ is_end (text_of name.now) }
 {

@@ -1,8 +1,8 @@
-//! Rules by their names.
+//! Indices of rules by their names.
 ghost use Rattle.std.specs.Prelude.{◌≡◌};
 ghost use Rattle.meta_analysis.specs.NamedPlaces.{last_name};
 
-/// The place of the last name that is equal to this one, if there is one.
+/// Returns the index of the last name that is equal to this one, if there is one.
 pub fn rule_number(names: &Vec<&str>, name: &str) -> Option<usize>
     ensures { result ≡ last_name names.now.items name.now }
 {

@@ -1,11 +1,11 @@
-//! What nodes are made of.
+//! The shapes of nodes: operators and operands.
 ghost use Rattle.meta_analysis.specs.Shapes.{IsMadeOf};
 
 use meta_spanned::{ParserExpr, ParserNode};
 
-/// What stands round one operand.
+/// The operator round one operand.
 #[derive(Clone, Copy)]
-pub enum Sign {
+pub enum UnaryOperator {
     PosPred,
     NegPred,
     Opt,
@@ -20,33 +20,33 @@ pub enum Sign {
     NodeTag,
 }
 
-/// What stands between two operands.
+/// The operator between two operands.
 #[derive(Clone, Copy)]
 pub enum Joint {
     Sequence,
     Choice,
 }
 
-/// How a node stands to those inside it, its operands by their numbers.
+/// The operator of a node, with its operands by their numbers.
 #[derive(Clone, Copy)]
 pub enum Shape {
     Leaf,
-    One(Sign, usize),
+    One(UnaryOperator, usize),
     Two(Joint, usize, usize),
 }
 
-/// What an expression is made of.
+/// The operator and the operands of an expression.
 pub enum Operands<'n, 'i> {
-    /// Nothing inside.
+    /// No operand.
     Nothing,
-    /// One operand, and what stands round it.
-    Inside(Sign, &'n ParserNode<'i>),
-    /// Two, and what stands between them.
+    /// One operand, and the operator round it.
+    Inside(UnaryOperator, &'n ParserNode<'i>),
+    /// Two operands, and the operator between them.
     Both(Joint, &'n ParserNode<'i>, &'n ParserNode<'i>),
 }
 
-/// What an expression is made of.
-pub(crate) fn taken_apart<'n, 'i>(expr: &'n ParserExpr<'i>) -> Operands<'n, 'i>
+/// Destructures an expression into its operator and operands.
+pub(crate) fn destructure<'n, 'i>(expr: &'n ParserExpr<'i>) -> Operands<'n, 'i>
     ensures { IsMadeOf expr.now result }
 {
     match expr {
@@ -56,20 +56,23 @@ pub(crate) fn taken_apart<'n, 'i>(expr: &'n ParserExpr<'i>) -> Operands<'n, 'i>
         ParserExpr::Ident(_) => Operands::Nothing,
         ParserExpr::PeekSlice(_, _) => Operands::Nothing,
         ParserExpr::PushLiteral(_) => Operands::Nothing,
-        ParserExpr::PosPred(body) => Operands::Inside(Sign::PosPred, body),
-        ParserExpr::NegPred(body) => Operands::Inside(Sign::NegPred, body),
-        ParserExpr::Opt(body) => Operands::Inside(Sign::Opt, body),
-        ParserExpr::Push(body) => Operands::Inside(Sign::Push, body),
-        ParserExpr::NodeTag(body, _) => Operands::Inside(Sign::NodeTag, body),
+        ParserExpr::PosPred(body) => Operands::Inside(UnaryOperator::PosPred, body),
+        ParserExpr::NegPred(body) => Operands::Inside(UnaryOperator::NegPred, body),
+        ParserExpr::Opt(body) => Operands::Inside(UnaryOperator::Opt, body),
+        ParserExpr::Push(body) => Operands::Inside(UnaryOperator::Push, body),
+        ParserExpr::NodeTag(body, _) => Operands::Inside(UnaryOperator::NodeTag, body),
         ParserExpr::Seq(first, second) => Operands::Both(Joint::Sequence, first, second),
         ParserExpr::Choice(first, second) => Operands::Both(Joint::Choice, first, second),
-        ParserExpr::Rep(body) => Operands::Inside(Sign::Rep, body),
-        ParserExpr::RepOnce(body) => Operands::Inside(Sign::RepOnce, body),
-        ParserExpr::RepExact(body, count) => Operands::Inside(Sign::RepExact(*count), body),
-        ParserExpr::RepMin(body, count) => Operands::Inside(Sign::RepMin(*count), body),
-        ParserExpr::RepMax(body, count) => Operands::Inside(Sign::RepMax(*count), body),
+        ParserExpr::Rep(body) => Operands::Inside(UnaryOperator::Rep, body),
+        ParserExpr::RepOnce(body) => Operands::Inside(UnaryOperator::RepOnce, body),
+        ParserExpr::RepExact(body, count) => Operands::Inside(
+            UnaryOperator::RepExact(*count),
+            body,
+        ),
+        ParserExpr::RepMin(body, count) => Operands::Inside(UnaryOperator::RepMin(*count), body),
+        ParserExpr::RepMax(body, count) => Operands::Inside(UnaryOperator::RepMax(*count), body),
         ParserExpr::RepMinMax(body, low, high) => {
-            Operands::Inside(Sign::RepMinMax(*low, *high), body)
+            Operands::Inside(UnaryOperator::RepMinMax(*low, *high), body)
         }
     }
 }

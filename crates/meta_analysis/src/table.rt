@@ -1,42 +1,42 @@
-//! The nodes of all rules, numbered, each behind those inside it; by lists, so that a choice of many parts is
-//! no depth.
+//! The node table: all nodes of all rules in postorder, built iteratively, so that nesting takes no stack
+//! space.
 ghost use Rattle.std.specs.Prelude.{◌≡◌, ◌+◌, ◌-◌, ◌++◌, ◌∷◌, [], IfOk, OnOk, List, length, replicate};
 ghost use Rattle.meta_spanned.specs.Nodes.{view_at, piece_of};
 ghost use Rattle.meta_spanned.specs.Spanned as spanned;
 ghost use Rattle.meta_spanned.specs.Spanned.{Spanned};
-ghost use Rattle.meta_analysis.specs.Layout.{AreNumbered, AreLaidOut, IsBehind, NothingWaits, start_at, all_below, forwards, rule_numbers};
+ghost use Rattle.meta_analysis.specs.Layout.{AreNumbered, AreLaidOut, IsAfter, NothingWaits, start_at, all_below, forwards, rule_numbers};
 ghost use Rattle.meta_analysis.specs.Nodes.{postorder, size};
 ghost use Rattle.meta_analysis.specs.Roots.{IsTabled};
 ghost use Rattle.meta_analysis.specs.declared.shapes.Shape.TheVariants as shapes;
 
-use crate::shapes::{Joint, Operands, Shape, Sign, taken_apart};
+use crate::shapes::{Joint, Operands, Shape, UnaryOperator, destructure};
 use meta_base::runtime::Span;
 use meta_spanned::{ParserExpr, ParserNode, ParserRule};
 use std::alloc::{AllocError, Global};
 
-/// A node: an expression, where it stands, and how it stands to the nodes inside it.
+/// A node: an expression, its span, and its shape.
 #[derive(Clone, Copy)]
 pub struct Node<'n, 'i> {
     pub expr: &'n ParserExpr<'i>,
     pub span: &'n Span<'i>,
     pub shape: Shape,
-    /// The number of the first node inside it, or its own where there is none inside.
+    /// The number of the first node inside this one, or its own where there is none inside.
     pub start: usize,
-    /// The number of the rule that it stands in.
+    /// The number of the rule in which the node is.
     pub rule: usize,
 }
 
-/// The nodes of all rules, each behind those inside it.
+/// The nodes of all rules in postorder.
 #[derive(Drop)]
 pub struct Table<'n, 'i> {
     pub nodes: Vec<Node<'n, 'i>>,
-    /// The number of each rule's body.
+    /// The numbers of the rules' bodies.
     pub roots: Vec<usize>,
 }
 
 impl<'n, 'i> Table<'n, 'i> {
-    /// The numbers of the rules' bodies, once more.
-    pub fn copied_roots(&self, alloc: Global) -> Result<Vec<usize>, AllocError>
+    /// Copies the numbers of the rules' bodies.
+    pub fn copy_roots(&self, alloc: Global) -> Result<Vec<usize>, AllocError>
         ensures { IfOk result (λ roots. roots.items ≡ self.now.roots.items) }
     {
         let mut roots = Vec::new(alloc);
@@ -45,7 +45,7 @@ impl<'n, 'i> Table<'n, 'i> {
     }
 }
 
-/// The number of the first node inside a node, or the node's own where there is none inside.
+/// Returns the number of the first node inside a node, or the node's own where there is none inside.
 fn start_at<'n, 'i>(nodes: &[Node<'n, 'i>], node: usize) -> usize
     ensures { result ≡ start_at nodes.now node }
 {
@@ -57,31 +57,31 @@ fn start_at<'n, 'i>(nodes: &[Node<'n, 'i>], node: usize) -> usize
 
 /// The shape of a node, and the number of the first node inside it.
 #[derive(Clone, Copy)]
-pub struct Placed {
+pub struct Placement {
     pub shape: Shape,
     pub start: usize,
 }
 
-/// A node round the one in front of it.
-fn placed_round<'n, 'i>(sign: Sign, own: usize, nodes: &[Node<'n, 'i>]) -> Placed
+/// Shapes a node round the one before it.
+fn shape_unary<'n, 'i>(sign: UnaryOperator, own: usize, nodes: &[Node<'n, 'i>]) -> Placement
     ensures shape { result.shape ≡ shapes.One sign (own - 1) }
     ensures start { result.start ≡ start_at nodes.now (own - 1) }
 {
     let inside = own.saturating_sub(1);
-    Placed {
+    Placement {
         shape: Shape::One(sign, inside),
         start: start_at(nodes, inside),
     }
 }
 
-/// A node between two in front of it: the second one ends there, the first one in front of the second.
-fn placed_between<'n, 'i>(joint: Joint, own: usize, nodes: &[Node<'n, 'i>]) -> Placed
+/// Shapes a node with two operands before it: the second one ends there, the first one before the second.
+fn shape_binary<'n, 'i>(joint: Joint, own: usize, nodes: &[Node<'n, 'i>]) -> Placement
     ensures shape { result.shape ≡ shapes.Two joint (start_at nodes.now (own - 1) - 1) (own - 1) }
     ensures start { result.start ≡ start_at nodes.now (start_at nodes.now (own - 1) - 1) }
 {
     let second = own.saturating_sub(1);
     let first = start_at(nodes, second).saturating_sub(1);
-    Placed {
+    Placement {
         shape: Shape::Two(joint, first, second),
         start: start_at(nodes, first),
     }
@@ -95,7 +95,7 @@ fn push_operands<'n, 'i>(
     ensures { OnOk result ((t : spanned.Span) → all_below waiting.new.items ++ view_at t expr.now ∷ []
         ≡ all_below waiting.old.items ++ postorder (view_at t expr.now)) }
 {
-    match taken_apart(expr) {
+    match destructure(expr) {
         Operands::Nothing => {}
         Operands::Inside(_, body) => waiting.push(body)?,
         Operands::Both(_, first, second) => {
@@ -106,9 +106,9 @@ fn push_operands<'n, 'i>(
     Ok(())
 }
 
-/// Takes the nodes of a list, and puts them and all nodes inside them on another, from behind: a node before
-/// those inside it, and a right one before the left.
-fn put_backwards<'n, 'i>(
+/// Moves the nodes of a list, with all nodes inside them, to another list in reverse postorder: a node
+/// before those inside it, and a right one before the left.
+fn reverse_nodes<'n, 'i>(
     waiting: &mut Vec<&'n ParserNode<'i>>,
     inside: &mut Vec<&'n ParserNode<'i>>,
 ) -> Result<(), AllocError>
@@ -135,17 +135,17 @@ fn add_node<'n, 'i>(
         ≡ rule_numbers nodes.old.items ++ rule ∷ []) }
     ensures nodes { OnOk result ((done : List Spanned)
         → AreNumbered done nodes.old.items
-        → IsBehind done (view_at (piece_of span.now) expr.now)
+        → IsAfter done (view_at (piece_of span.now) expr.now)
         → AreNumbered (done ++ view_at (piece_of span.now) expr.now ∷ []) nodes.new.items) }
 {
     let own = nodes.len();
-    let placed = match taken_apart(expr) {
-        Operands::Nothing => Placed {
+    let placed = match destructure(expr) {
+        Operands::Nothing => Placement {
             shape: Shape::Leaf,
             start: own,
         },
-        Operands::Inside(sign, _) => placed_round(sign, own, nodes.as_slice()),
-        Operands::Both(joint, _, _) => placed_between(joint, own, nodes.as_slice()),
+        Operands::Inside(sign, _) => shape_unary(sign, own, nodes.as_slice()),
+        Operands::Both(joint, _, _) => shape_binary(joint, own, nodes.as_slice()),
     };
     nodes.push(Node {
         expr,
@@ -157,7 +157,7 @@ fn add_node<'n, 'i>(
     Ok(())
 }
 
-/// Takes the nodes of a list, from its end to its start, and numbers them.
+/// Numbers the nodes of a list, from its end to its start, and empties the list.
 fn add_nodes<'n, 'i>(
     rule: usize,
     inside: &mut Vec<&'n ParserNode<'i>>,
@@ -177,18 +177,18 @@ fn add_nodes<'n, 'i>(
     Ok(())
 }
 
-/// The nodes of an expression that have no number yet. Between two expressions there are none, so that one of
-/// these serves a whole grammar.
+/// The worklist of an expression's nodes that have no number yet. Between two expressions the list is
+/// empty, so that one list serves a whole grammar.
 #[derive(Drop)]
 pub struct Unnumbered<'n, 'i> {
-    /// Those whose operands wait as well.
+    /// Nodes whose operands are not in the list yet.
     pub waiting: Vec<&'n ParserNode<'i>>,
-    /// The others, from behind.
+    /// The others, in reverse postorder.
     pub inside: Vec<&'n ParserNode<'i>>,
 }
 
 impl<'n, 'i> Unnumbered<'n, 'i> {
-    /// None.
+    /// Makes an empty worklist.
     pub fn new(alloc: Global) -> Unnumbered<'n, 'i>
         ensures { NothingWaits result }
     {
@@ -199,7 +199,8 @@ impl<'n, 'i> Unnumbered<'n, 'i> {
     }
 }
 
-/// The nodes inside an expression at the end of the list, and then the expression itself: its number.
+/// Numbers the nodes inside an expression, after those in the list, and then the expression itself, and
+/// returns its number.
 pub fn number<'n, 'i>(
     unnumbered: &mut Unnumbered<'n, 'i>,
     rule: usize,
@@ -217,15 +218,15 @@ pub fn number<'n, 'i>(
         ≡ rule_numbers nodes.old.items ++ replicate (size (view_at (piece_of span.now) expr.now)) rule) }
 {
     push_operands(expr, &mut unnumbered.waiting)?;
-    put_backwards(&mut unnumbered.waiting, &mut unnumbered.inside)?;
+    reverse_nodes(&mut unnumbered.waiting, &mut unnumbered.inside)?;
     add_nodes(rule, &mut unnumbered.inside, nodes)?;
     let own = nodes.len();
     add_node(rule, expr, span, nodes)?;
     Ok(own)
 }
 
-/// The nodes of all rules, and which of them are the rules' bodies.
-pub fn tabulated<'n, 'i>(
+/// Makes the node table of rules: the nodes of all bodies, and the numbers of the bodies.
+pub fn tabulate<'n, 'i>(
     alloc: Global,
     rules: &'n [ParserRule<'i>],
 ) -> Result<Table<'n, 'i>, AllocError>

@@ -6,8 +6,8 @@ use Rattle.meta_ast.specs.Operands.{operands, over, count_of_nodes}
 use Rattle.meta_ast.specs.Frames.{Unary, PosPred, NegPred, Opt, Rep, RepOnce, RepExact, RepMin, RepMax, RepMinMax, Push, NodeTag, around, joined, AllClose, Opens, leaf, one, two, Closes, enclosed, put_together, turned, work_aside, work_left}
 use Rattle.meta_ast.specs.declared.shape.Joint.{Joint}
 use Rattle.meta_ast.specs.declared.shape.Joint.TheVariants as joint
-use Rattle.meta_ast.specs.declared.walks.Frame.{Frame}
-use Rattle.meta_ast.specs.declared.walks.Frame.TheVariants as frame
+use Rattle.meta_ast.specs.declared.walks.WalkFrame.{WalkFrame}
+use Rattle.meta_ast.specs.declared.walks.WalkFrame.TheVariants as frame
 use Rattle.meta_ast.specs.declared.walks.Onward.{Onward}
 use Rattle.meta_ast.specs.declared.walks.Onward.TheVariants as onward
 
@@ -150,7 +150,7 @@ module _ {K F : Type 0} (closes : K → F → Expression → Expression → F �
       let i = split_last ks k f h d m a in record { middle = i.middle; state = i.state; last = i.last; others = (m, h, i.others, b) }
 
 module _ {E S : Type 0} (says : E → Expression) where
-  work_aside-last : (ks : List (Frame E S)) (k : Frame E S) → work_aside says (ks ++ (k ∷ [])) ≡ work_aside says ks + work_aside says (k ∷ [])
+  work_aside-last : (ks : List (WalkFrame E S)) (k : WalkFrame E S) → work_aside says (ks ++ (k ∷ [])) ≡ work_aside says ks + work_aside says (k ∷ [])
   work_aside-last [] (frame.Around s) = omega arith
   work_aside-last [] (frame.Before j x) = omega arith
   work_aside-last [] (frame.After j x) = omega arith
@@ -160,7 +160,7 @@ module _ {E S : Type 0} (says : E → Expression) where
 
   module _ (stands_for : S → Unary) where
     -- less is left below an expression of no more than `n` nodes
-    pub opens_less : (ks ls : List (Frame E S)) (whole : Expression) (n : ℕ) (next : Onward E) → count_of_nodes whole ≤ n → Opens says stands_for whole ks next ls → work_left says next ls < 3 * n + work_aside says ks
+    pub opens_less : (ks ls : List (WalkFrame E S)) (whole : Expression) (n : ℕ) (next : Onward E) → count_of_nodes whole ≤ n → Opens says stands_for whole ks next ls → work_left says next ls < 3 * n + work_aside says ks
     opens_less ks ls whole n (onward.Done x) b (leaf p q e) =
         let h : work_aside says ls ≡ work_aside says ks = ap (work_aside says) e in
         let i : 0 < count_of_nodes whole = some_node whole in
@@ -175,7 +175,7 @@ module _ {E S : Type 0} (says : E → Expression) where
         omega arith
 
     -- less is left once the last frame is closed, or its right side is met next
-    pub closes_less : (ks ls ms : List (Frame E S)) (d : E) (k : Frame E S) (next : Onward E) → ms ≡ ks ++ (k ∷ []) → Closes says stands_for ks d k next ls → work_left says next ls < work_aside says ms
+    pub closes_less : (ks ls ms : List (WalkFrame E S)) (d : E) (k : WalkFrame E S) (next : Onward E) → ms ≡ ks ++ (k ∷ []) → Closes says stands_for ks d k next ls → work_left says next ls < work_aside says ms
     closes_less ks ls ms d (frame.Around s) (onward.Done x) m (enclosed p q) =
         let h : work_aside says ms ≡ work_aside says ks + (1 + 0) = rw m (work_aside-last ks (frame.Around s)) in
         let i : work_aside says ls ≡ work_aside says ks = ap (work_aside says) q in

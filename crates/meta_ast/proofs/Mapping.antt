@@ -8,8 +8,8 @@ use Rattle.meta_ast.specs.Maps.{Progress, Becomes, answered, refused, stayed, To
 use Rattle.meta_ast.specs.Frames.{Unary, around, joined, Opens, leaf, one, two, Closes, enclosed, put_together, turned, AllClose, ClosesTopDown, ClosesBottomUp, EndsTopDown, EndsBottomUp}
 use Rattle.meta_ast.proofs.Frames.{operands-around, over-around, operands-joined, over-joined, over-nil, over-operands, last_closes, split_last}
 use Rattle.meta_ast.specs.declared.shape.Joint.{Joint}
-use Rattle.meta_ast.specs.declared.walks.Frame.{Frame}
-use Rattle.meta_ast.specs.declared.walks.Frame.TheVariants as frame
+use Rattle.meta_ast.specs.declared.walks.WalkFrame.{WalkFrame}
+use Rattle.meta_ast.specs.declared.walks.WalkFrame.TheVariants as frame
 use Rattle.meta_ast.specs.declared.walks.Onward.{Onward}
 use Rattle.meta_ast.specs.declared.walks.Onward.TheVariants as onward
 
@@ -122,43 +122,43 @@ module _ {F E : Type 0} (says : E → Expression) (step : F → E → Result E F
 
   module _ {S : Type 0} (stands_for : S → Unary) where
     -- a node with one operand, which is to be met next
-    down_one : (ks ls : List (Frame E S)) (s : S) (o y x : E) (f g : F) → step f o (Ok y) g → says y ≡ around (stands_for s) (says x) → ls ≡ ks ++ (frame.Around s ∷ [])
+    down_one : (ks ls : List (WalkFrame E S)) (s : S) (o y x : E) (f g : F) → step f o (Ok y) g → says y ≡ around (stands_for s) (says x) → ls ≡ ks ++ (frame.Around s ∷ [])
         → (w : Expression) (k : Progress F) → EndsTopDown says stands_for step (onward.Next x) ls (Ok g) w k → EndsTopDown says stands_for step (onward.Next o) ks (Ok f) w k
     down_one ks ls s o y x f g c p q w k (d, h, t, a) =
         let i = split_last (ClosesTopDown says stands_for step) ks (frame.Around s) h k d w (rw q at a) in
         (i.middle, i.state, rw (i.last.0, i.last.1) (met_around (stands_for s) (answers c) p t), i.others)
 
     -- a node with two, of which the left one is to be met next
-    down_two : (ks ls : List (Frame E S)) (j : Joint) (o z x y : E) (f g : F) → step f o (Ok z) g → says z ≡ joined j (says x) (says y) → ls ≡ ks ++ (frame.Before j y ∷ [])
+    down_two : (ks ls : List (WalkFrame E S)) (j : Joint) (o z x y : E) (f g : F) → step f o (Ok z) g → says z ≡ joined j (says x) (says y) → ls ≡ ks ++ (frame.Before j y ∷ [])
         → (w : Expression) (k : Progress F) → EndsTopDown says stands_for step (onward.Next x) ls (Ok g) w k → EndsTopDown says stands_for step (onward.Next o) ks (Ok f) w k
     down_two ks ls j o z x y f g c p q w k (d, h, t, a) =
         let i = split_last (ClosesTopDown says stands_for step) ks (frame.Before j y) h k d w (rw q at a) in
         (i.middle, i.state, rw i.last.2 (met_joined j (answers c) p t i.last.1), i.others)
 
     -- the last frame is closed
-    up_around : (ks ls : List (Frame E S)) (s : S) (x y : E) (f : Progress F) → says y ≡ around (stands_for s) (says x) → ls ≡ ks ++ (frame.Around s ∷ [])
+    up_around : (ks ls : List (WalkFrame E S)) (s : S) (x y : E) (f : Progress F) → says y ≡ around (stands_for s) (says x) → ls ≡ ks ++ (frame.Around s ∷ [])
         → (w : Expression) (k : Progress F) → AllClose (ClosesTopDown says stands_for step) ks f (says y) w k → AllClose (ClosesTopDown says stands_for step) ls f (says x) w k
     up_around ks ls s x y f p q w k a = rw q (last_closes (ClosesTopDown says stands_for step) ks (frame.Around s) f k f (says x) (says y) w (p, refl) a)
 
-    up_after : (ks ls : List (Frame E S)) (j : Joint) (l x y : E) (f : Progress F) → says y ≡ joined j (says l) (says x) → ls ≡ ks ++ (frame.After j l ∷ [])
+    up_after : (ks ls : List (WalkFrame E S)) (j : Joint) (l x y : E) (f : Progress F) → says y ≡ joined j (says l) (says x) → ls ≡ ks ++ (frame.After j l ∷ [])
         → (w : Expression) (k : Progress F) → AllClose (ClosesTopDown says stands_for step) ks f (says y) w k → AllClose (ClosesTopDown says stands_for step) ls f (says x) w k
     up_after ks ls j l x y f p q w k a = rw q (last_closes (ClosesTopDown says stands_for step) ks (frame.After j l) f k f (says x) (says y) w (p, refl) a)
 
     -- the left side is done, and the right one is to be met next
-    over_to_right : (ks ls ms : List (Frame E S)) (j : Joint) (x y : E) (f : Progress F) → ls ≡ ks ++ (frame.After j x ∷ []) → ms ≡ ks ++ (frame.Before j y ∷ [])
+    over_to_right : (ks ls ms : List (WalkFrame E S)) (j : Joint) (x y : E) (f : Progress F) → ls ≡ ks ++ (frame.After j x ∷ []) → ms ≡ ks ++ (frame.Before j y ∷ [])
         → (w : Expression) (k : Progress F) → EndsTopDown says stands_for step (onward.Next y) ls f w k → AllClose (ClosesTopDown says stands_for step) ms f (says x) w k
     over_to_right ks ls ms j x y f q r w k (d, h, t, a) =
         let i = split_last (ClosesTopDown says stands_for step) ks (frame.After j x) h k d w (rw q at a) in
         rw r (last_closes (ClosesTopDown says stands_for step) ks (frame.Before j y) f k i.state (says x) i.middle w (d, rw i.last.1 t, i.last.0) i.others)
 
     -- from what is opened on, and from what is closed on, a map ends as before
-    pub opens_top_down : (ks ls : List (Frame E S)) (o y : E) (f g : F) (next : Onward E) → step f o (Ok y) g → Opens says stands_for (says y) ks next ls
+    pub opens_top_down : (ks ls : List (WalkFrame E S)) (o y : E) (f g : F) (next : Onward E) → step f o (Ok y) g → Opens says stands_for (says y) ks next ls
         → (w : Expression) (k : Progress F) → EndsTopDown says stands_for step next ls (Ok g) w k → EndsTopDown says stands_for step (onward.Next o) ks (Ok f) w k
     opens_top_down ks ls o y f g (onward.Done x) c (leaf p q e) w k a = (says y, Ok g, met_leaf (answers c) q, rw (e, p) at a)
     opens_top_down ks ls o y f g (onward.Next x) c (one s p q) w k t = down_one ks ls s o y x f g c p q w k t
     opens_top_down ks ls o y f g (onward.Next x) c (two j z p q) w k t = down_two ks ls j o y x z f g c p q w k t
 
-    pub closes_top_down : (ks ls ms : List (Frame E S)) (d : E) (k : Frame E S) (next : Onward E) (f : Progress F) → ms ≡ ks ++ (k ∷ []) → Closes says stands_for ks d k next ls
+    pub closes_top_down : (ks ls ms : List (WalkFrame E S)) (d : E) (k : WalkFrame E S) (next : Onward E) (f : Progress F) → ms ≡ ks ++ (k ∷ []) → Closes says stands_for ks d k next ls
         → (w : Expression) (t : Progress F) → EndsTopDown says stands_for step next ls f w t → EndsTopDown says stands_for step (onward.Done d) ms f w t
     closes_top_down ks ls ms d (frame.Around s) (onward.Done x) f m (enclosed p q) w t a = up_around ks ms s d x f p m w t (rw q at a)
     closes_top_down ks ls ms d (frame.After j l) (onward.Done x) f m (put_together p q) w t a = up_after ks ms j l d x f p m w t (rw q at a)
@@ -168,32 +168,32 @@ module _ {F E : Type 0} (says : E → Expression) (step : F → E → Result E F
     closes_top_down ks ls ms d (frame.Before j x) (onward.Done _) f m c w t a = elim c [ ]
 
     -- the same of maps from the leaves up
-    open_one : (ks ls : List (Frame E S)) (s : S) (o x : E) (f : Progress F) → says o ≡ around (stands_for s) (says x) → ls ≡ ks ++ (frame.Around s ∷ [])
+    open_one : (ks ls : List (WalkFrame E S)) (s : S) (o x : E) (f : Progress F) → says o ≡ around (stands_for s) (says x) → ls ≡ ks ++ (frame.Around s ∷ [])
         → (w : Expression) (k : Progress F) → EndsBottomUp says stands_for step (onward.Next x) ls f w k → EndsBottomUp says stands_for step (onward.Next o) ks f w k
     open_one ks ls s o x f p q w k (d, h, t, a) =
         let i = split_last (ClosesBottomUp says stands_for step) ks (frame.Around s) h k d w (rw q at a) in
         (i.middle, i.state, left_around (stands_for s) p t i.last, i.others)
 
-    open_two : (ks ls : List (Frame E S)) (j : Joint) (o x y : E) (f : Progress F) → says o ≡ joined j (says x) (says y) → ls ≡ ks ++ (frame.Before j y ∷ [])
+    open_two : (ks ls : List (WalkFrame E S)) (j : Joint) (o x y : E) (f : Progress F) → says o ≡ joined j (says x) (says y) → ls ≡ ks ++ (frame.Before j y ∷ [])
         → (w : Expression) (k : Progress F) → EndsBottomUp says stands_for step (onward.Next x) ls f w k → EndsBottomUp says stands_for step (onward.Next o) ks f w k
     open_two ks ls j o x y f p q w k (d, h, t, a) =
         let i = split_last (ClosesBottomUp says stands_for step) ks (frame.Before j y) h k d w (rw q at a) in
         (i.middle, i.state, left_joined j p t i.last.2 i.last.3, i.others)
 
-    turn_to_right : (ks ls ms : List (Frame E S)) (j : Joint) (x y : E) (f : Progress F) → ls ≡ ks ++ (frame.After j x ∷ []) → ms ≡ ks ++ (frame.Before j y ∷ [])
+    turn_to_right : (ks ls ms : List (WalkFrame E S)) (j : Joint) (x y : E) (f : Progress F) → ls ≡ ks ++ (frame.After j x ∷ []) → ms ≡ ks ++ (frame.Before j y ∷ [])
         → (w : Expression) (k : Progress F) → EndsBottomUp says stands_for step (onward.Next y) ls f w k → AllClose (ClosesBottomUp says stands_for step) ms f (says x) w k
     turn_to_right ks ls ms j x y f q r w k (d, h, t, a) =
         let i = split_last (ClosesBottomUp says stands_for step) ks (frame.After j x) h k d w (rw q at a) in
         rw r (last_closes (ClosesBottomUp says stands_for step) ks (frame.Before j y) f k i.state (says x) i.middle w (d, h, t, i.last) i.others)
 
-    pub opens_bottom_up : (ks ls : List (Frame E S)) (o : E) (f : Progress F) (next : Onward E) → Opens says stands_for (says o) ks next ls
+    pub opens_bottom_up : (ks ls : List (WalkFrame E S)) (o : E) (f : Progress F) (next : Onward E) → Opens says stands_for (says o) ks next ls
         → (w : Expression) (k : Progress F) → EndsBottomUp says stands_for step next ls f w k → EndsBottomUp says stands_for step (onward.Next o) ks f w k
     opens_bottom_up ks ls o f (onward.Done x) (leaf p q e) w k (d, r, b, a) = (d, r, left_leaf q (rw p at b), rw e at a)
     opens_bottom_up ks ls o f (onward.Next x) (one s p q) w k t = open_one ks ls s o x f p q w k t
     opens_bottom_up ks ls o f (onward.Next x) (two j y p q) w k t = open_two ks ls j o x y f p q w k t
 
     -- a call at what is done, and its frame closed
-    pub closes_bottom_up : (ks ls ms : List (Frame E S)) (o d : E) (k : Frame E S) (next : Onward E) (f g : F) → step f o (Ok d) g → ms ≡ ks ++ (k ∷ []) → Closes says stands_for ks d k next ls
+    pub closes_bottom_up : (ks ls ms : List (WalkFrame E S)) (o d : E) (k : WalkFrame E S) (next : Onward E) (f g : F) → step f o (Ok d) g → ms ≡ ks ++ (k ∷ []) → Closes says stands_for ks d k next ls
         → (w : Expression) (t : Progress F) → EndsBottomUp says stands_for step next ls (Ok g) w t → EndsBottomUp says stands_for step (onward.Done o) ms (Ok f) w t
     closes_bottom_up ks ls ms o d (frame.Around s) (onward.Done x) f g c m (enclosed p q) w t (v, r, b, a) =
         (says d, Ok g, answers c, rw m (last_closes (ClosesBottomUp says stands_for step) ks (frame.Around s) (Ok g) t r (says d) v w (rw p at b) (rw q at a)))
@@ -205,11 +205,11 @@ module _ {F E : Type 0} (says : E → Expression) (step : F → E → Result E F
     closes_bottom_up ks ls ms o d (frame.Before j x) (onward.Done _) f g c m h w t a = elim h [ ]
 
     -- a call answers a fault: all that is left stays
-    pub record IsLeft (Closes : Frame E S → Progress F → Expression → Expression → Progress F → Type 0) (ks : List (Frame E S)) (fault : Fault) (d : Expression) : Type 0 where
+    pub record IsLeft (Closes : WalkFrame E S → Progress F → Expression → Expression → Progress F → Type 0) (ks : List (WalkFrame E S)) (fault : Fault) (d : Expression) : Type 0 where
       pub whole : Expression
       pub closes : AllClose Closes ks (Err fault) d whole (Err fault)
 
-    left_top_down : (ks : List (Frame E S)) (fault : Fault) (d : Expression) → IsLeft (ClosesTopDown says stands_for step) ks fault d
+    left_top_down : (ks : List (WalkFrame E S)) (fault : Fault) (d : Expression) → IsLeft (ClosesTopDown says stands_for step) ks fault d
     left_top_down [] fault d = record { whole = d; closes = (refl, refl) }
     left_top_down (frame.Around s ∷ ks) fault d =
         let i = left_top_down ks fault d in record { whole = around (stands_for s) i.whole; closes = (i.whole, Err fault, i.closes, (refl, refl)) }
@@ -219,7 +219,7 @@ module _ {F E : Type 0} (says : E → Expression) (step : F → E → Result E F
     left_top_down (frame.After j x ∷ ks) fault d =
         let i = left_top_down ks fault d in record { whole = joined j (says x) i.whole; closes = (i.whole, Err fault, i.closes, (refl, refl)) }
 
-    left_bottom_up : (ks : List (Frame E S)) (fault : Fault) (d : Expression) → IsLeft (ClosesBottomUp says stands_for step) ks fault d
+    left_bottom_up : (ks : List (WalkFrame E S)) (fault : Fault) (d : Expression) → IsLeft (ClosesBottomUp says stands_for step) ks fault d
     left_bottom_up [] fault d = record { whole = d; closes = (refl, refl) }
     left_bottom_up (frame.Around s ∷ ks) fault d =
         let i = left_bottom_up ks fault d in record { whole = around (stands_for s) i.whole; closes = (i.whole, Err fault, i.closes, stayed) }
@@ -229,17 +229,17 @@ module _ {F E : Type 0} (says : E → Expression) (step : F → E → Result E F
     left_bottom_up (frame.After j x ∷ ks) fault d =
         let i = left_bottom_up ks fault d in record { whole = joined j (says x) i.whole; closes = (i.whole, Err fault, i.closes, stayed) }
 
-    pub stops_at : (ks : List (Frame E S)) (o : E) (f g : F) (fault : Fault) → step f o (Err fault) g → (w : Expression) × EndsTopDown says stands_for step (onward.Next o) ks (Ok f) w (Err fault)
+    pub stops_at : (ks : List (WalkFrame E S)) (o : E) (f g : F) (fault : Fault) → step f o (Err fault) g → (w : Expression) × EndsTopDown says stands_for step (onward.Next o) ks (Ok f) w (Err fault)
     stops_at ks o f g fault c =
         let i = left_top_down ks fault (says o) in
         let t : TopDown says step (Ok f) (says o) (over (says o) (operands (says o))) (Err fault) = met (refuses c) (each_stays_top_down fault (says o)) in
         (i.whole, (says o, Err fault, subst (λ z. TopDown says step (Ok f) (says o) z (Err fault)) (over-operands (says o)) t, i.closes))
 
     -- a call at what is done, with no frame round it
-    pub ends_at_done : (ks : List (Frame E S)) (o d : E) (f g : F) → step f o (Ok d) g → ks ≡ [] → EndsBottomUp says stands_for step (onward.Done o) ks (Ok f) (says d) (Ok g)
+    pub ends_at_done : (ks : List (WalkFrame E S)) (o d : E) (f g : F) → step f o (Ok d) g → ks ≡ [] → EndsBottomUp says stands_for step (onward.Done o) ks (Ok f) (says d) (Ok g)
     ends_at_done ks o d f g c p = (says d, Ok g, answers c, rw p (refl, refl))
 
-    pub stops_at_done : (ks : List (Frame E S)) (o : E) (f g : F) (fault : Fault) → step f o (Err fault) g → (w : Expression) × EndsBottomUp says stands_for step (onward.Done o) ks (Ok f) w (Err fault)
+    pub stops_at_done : (ks : List (WalkFrame E S)) (o : E) (f g : F) (fault : Fault) → step f o (Err fault) g → (w : Expression) × EndsBottomUp says stands_for step (onward.Done o) ks (Ok f) w (Err fault)
     stops_at_done ks o f g fault c =
         let i = left_bottom_up ks fault (says o) in
         (i.whole, (says o, Err fault, refuses c, i.closes))

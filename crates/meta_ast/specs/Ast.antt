@@ -1,4 +1,4 @@
--- What a rule and an expression of code say: those of the definitions, which forget memory.
+-- Views of a rule and an expression of code as those of the definitions, without memory.
 use Rattle.std.specs.Prelude.{List, map, string_bytes}
 use Rattle.std.specs.Str.{chars}
 use Rattle.std.specs.declared.string.String.{String}
@@ -23,7 +23,7 @@ rule_type_of Atomic = e.Atomic
 rule_type_of CompoundAtomic = e.CompoundAtomic
 rule_type_of NonAtomic = e.NonAtomic
 
--- an expression's; the `p` and `q` are where its boxes lie
+-- the view of an expression; `p` and `q` are the addresses of its boxes
 abbrev pub expression_of : Expr → Expression
 expression_of (Str s) = e.Str (text_of s)
 expression_of (Insens s) = e.Insens (text_of s)

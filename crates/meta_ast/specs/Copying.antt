@@ -1,9 +1,9 @@
--- What stands around an operand of a tree while it is copied.
+-- The context of an operand while a tree is copied.
 use Rattle.std.specs.Prelude.{ℕ, ◌+◌, ◌*◌}
 use Rattle.meta_ast.specs.declared.shape.copying.Around.{Around}
 use Rattle.meta_ast.specs.declared.shape.copying.Around.TheVariants as is
 
--- the whole, by what the operand means
+-- the meaning of the whole, from that of the operand
 module _ {T S J M : Type 0} (says : T → M) (around : S → M → M) (between : J → M → M → M) where
   abbrev pub with_operand : Around T S J → M → M
   with_operand (is.Sign s) m = around s m

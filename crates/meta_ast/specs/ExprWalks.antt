@@ -1,4 +1,4 @@
--- What the walks over expressions of code go by.
+-- Views that the walks over expressions use.
 use Rattle.std.specs.Prelude.{List}
 use Rattle.meta_base.specs.Language.Expression.{Expression}
 use Rattle.meta_ast.specs.Ast.{expression_of, text_of}

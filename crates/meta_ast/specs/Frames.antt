@@ -1,4 +1,4 @@
--- How a walk takes expressions apart, and what stands round the place where it is.
+-- Continuation frames of a walk: how it destructures expressions, and the context of its position.
 use Rattle.std.specs.Prelude.{◌≡◌, ℕ, ◌+◌, ◌*◌, List, [], ◌∷◌, ◌++◌, Result}
 use Rattle.meta_base.specs.Language.Text.{Text}
 use Rattle.meta_base.specs.Language.Expression.{Expression}
@@ -10,12 +10,12 @@ use Rattle.meta_ast.specs.declared.shape.Joint.{Joint}
 use Rattle.meta_ast.specs.declared.shape.Joint.TheVariants as joint
 use Rattle.meta_ast.specs.declared.walks.Node.{Node}
 use Rattle.meta_ast.specs.declared.walks.Node.TheVariants as node
-use Rattle.meta_ast.specs.declared.walks.Frame.{Frame}
-use Rattle.meta_ast.specs.declared.walks.Frame.TheVariants as frame
+use Rattle.meta_ast.specs.declared.walks.WalkFrame.{WalkFrame}
+use Rattle.meta_ast.specs.declared.walks.WalkFrame.TheVariants as frame
 use Rattle.meta_ast.specs.declared.walks.Onward.{Onward}
 use Rattle.meta_ast.specs.declared.walks.Onward.TheVariants as onward
 
--- what stands round one operand
+-- the operator over one operand
 pub data Unary : Type 0 where
   PosPred : Unary
   NegPred : Unary
@@ -48,42 +48,44 @@ joined joint.Choice a b = e.Choice a b
 
 -- `says x`: the expression that a value x of code says; `stands_for s`: the sign that a value s of code is
 module _ {E S : Type 0} (says : E → Expression) (stands_for : S → Unary) where
-  -- an expression was taken apart
+  -- the node is the expression, destructured
   abbrev pub IsOpened : Expression → Node E S → Type 0
   IsOpened whole (node.Leaf x) = (says x ≡ whole) × (operands whole ≡ [])
   IsOpened whole (node.One s x) = whole ≡ around (stands_for s) (says x)
   IsOpened whole (node.Two j x y) = whole ≡ joined j (says x) (says y)
 
-  -- what is to be met next of an expression; what stands round it is behind the frames `ks`
-  pub data Opens (whole : Expression) (ks : List (Frame E S)) : Onward E → List (Frame E S) → Type 0 where
-    leaf : {x : E} {ls : List (Frame E S)}
+  -- the next node of a walk at an expression; its context is pushed after the frames `ks`
+  pub data Opens (whole : Expression) (ks : List (WalkFrame E S)) : Onward E → List (WalkFrame E S)
+      → Type 0 where
+    leaf : {x : E} {ls : List (WalkFrame E S)}
         → says x ≡ whole → operands whole ≡ [] → ls ≡ ks → Opens whole ks (onward.Done x) ls
-    one : (s : S) {x : E} {ls : List (Frame E S)}
+    one : (s : S) {x : E} {ls : List (WalkFrame E S)}
         → whole ≡ around (stands_for s) (says x) → ls ≡ ks ++ (frame.Around s ∷ [])
         → Opens whole ks (onward.Next x) ls
-    two : (j : Joint) {x : E} (y : E) {ls : List (Frame E S)}
+    two : (j : Joint) {x : E} (y : E) {ls : List (WalkFrame E S)}
         → whole ≡ joined j (says x) (says y) → ls ≡ ks ++ (frame.Before j y ∷ [])
         → Opens whole ks (onward.Next x) ls
 
-  -- what becomes of the frame behind the frames `ks`, once `d` is done in it
-  pub data Closes (ks : List (Frame E S)) (d : E) : Frame E S → Onward E → List (Frame E S) → Type 0 where
-    enclosed : {s : S} {x : E} {ls : List (Frame E S)}
+  -- the result of a frame that follows the frames `ks`, once `d` is done in it
+  pub data Closes (ks : List (WalkFrame E S)) (d : E) : WalkFrame E S → Onward E → List (WalkFrame E S)
+      → Type 0 where
+    enclosed : {s : S} {x : E} {ls : List (WalkFrame E S)}
         → says x ≡ around (stands_for s) (says d) → ls ≡ ks → Closes ks d (frame.Around s) (onward.Done x) ls
-    put_together : {j : Joint} {a x : E} {ls : List (Frame E S)}
+    put_together : {j : Joint} {a x : E} {ls : List (WalkFrame E S)}
         → says x ≡ joined j (says a) (says d) → ls ≡ ks → Closes ks d (frame.After j a) (onward.Done x) ls
-    turned : {j : Joint} {x : E} {ls : List (Frame E S)}
+    turned : {j : Joint} {x : E} {ls : List (WalkFrame E S)}
         → ls ≡ ks ++ (frame.After j d ∷ []) → Closes ks d (frame.Before j x) (onward.Next x) ls
 
   module _ {F : Type 0} (step : F → E → Result E Fault → F → Type 0) where
     -- with `d` in its place a frame becomes `w`, while the calls lead from `s` to `t`: node before operands
-    abbrev pub ClosesTopDown : Frame E S → Progress F → Expression → Expression → Progress F → Type 0
+    abbrev pub ClosesTopDown : WalkFrame E S → Progress F → Expression → Expression → Progress F → Type 0
     ClosesTopDown (frame.Around u) s d w t = (w ≡ around (stands_for u) d) × (t ≡ s)
     ClosesTopDown (frame.Before j x) s d w t =
         (b : Expression) × TopDown says step s (says x) b t × (w ≡ joined j d b)
     ClosesTopDown (frame.After j x) s d w t = (w ≡ joined j (says x) d) × (t ≡ s)
 
-    -- the same, operands before node
-    abbrev pub ClosesBottomUp : Frame E S → Progress F → Expression → Expression → Progress F → Type 0
+    -- one call at a finished frame, operands before node
+    abbrev pub ClosesBottomUp : WalkFrame E S → Progress F → Expression → Expression → Progress F → Type 0
     ClosesBottomUp (frame.Around u) s d w t = Becomes says step s (around (stands_for u) d) w t
     ClosesBottomUp (frame.Before j x) s d w t =
         (b : Expression) × (r : Progress F) × BottomUp says step s (says x) b r
@@ -100,27 +102,27 @@ module _ {K C : Type 0} (closes : K → C → Expression → Expression → C �
 -- `says x`: the expression that a value x of code says
 module _ {E : Type 0} (says : E → Expression) where
   -- how much there is to be done with the frames of a list
-  abbrev pub work_aside : {S : Type 0} → List (Frame E S) → ℕ
+  abbrev pub work_aside : {S : Type 0} → List (WalkFrame E S) → ℕ
   work_aside [] = 0
   work_aside (frame.Around s ∷ fs) = 1 + work_aside fs
   work_aside (frame.Before j x ∷ fs) = 3 * count_of_nodes (says x) + 2 + work_aside fs
   work_aside (frame.After j x ∷ fs) = 1 + work_aside fs
 
   -- how much there is to be done at all
-  abbrev pub work_left : {S : Type 0} → Onward E → List (Frame E S) → ℕ
+  abbrev pub work_left : {S : Type 0} → Onward E → List (WalkFrame E S) → ℕ
   work_left (onward.Next x) fs = 3 * count_of_nodes (says x) + work_aside fs
   work_left (onward.Done x) fs = work_aside fs
 
 module _ {E S F : Type 0} (says : E → Expression) (stands_for : S → Unary)
     (step : F → E → Result E Fault → F → Type 0) where
-  -- what is left of a map becomes `w`, while the calls lead from `s` to `t`: node before operands
-  abbrev pub EndsTopDown : Onward E → List (Frame E S) → Progress F → Expression → Progress F → Type 0
+  -- the rest of a map gives `w`, and its calls lead from `s` to `t`, node before operands
+  abbrev pub EndsTopDown : Onward E → List (WalkFrame E S) → Progress F → Expression → Progress F → Type 0
   EndsTopDown (onward.Next x) ks s w t = (d : Expression) × (r : Progress F)
       × TopDown says step s (says x) d r × AllClose (ClosesTopDown says stands_for step) ks r d w t
   EndsTopDown (onward.Done x) ks s w t = AllClose (ClosesTopDown says stands_for step) ks s (says x) w t
 
-  -- the same, operands before node: at what is done a call is still to come
-  abbrev pub EndsBottomUp : Onward E → List (Frame E S) → Progress F → Expression → Progress F → Type 0
+  -- the rest of a map, operands before node: a finished operand still has its call
+  abbrev pub EndsBottomUp : Onward E → List (WalkFrame E S) → Progress F → Expression → Progress F → Type 0
   EndsBottomUp (onward.Next x) ks s w t = (d : Expression) × (r : Progress F)
       × BottomUp says step s (says x) d r × AllClose (ClosesBottomUp says stands_for step) ks r d w t
   EndsBottomUp (onward.Done x) ks s w t = (d : Expression) × (r : Progress F)

@@ -1,4 +1,4 @@
--- What a map of an expression answers: the tree that the answers of the closure determine.
+-- The result of a map of an expression: the tree that the answers of the closure determine.
 use Rattle.std.specs.Prelude.{◌≡◌, ◌≤◌, ◌⊎◌, List, [], ◌∷◌, Result, Ok, Err, alloc_error}
 use Rattle.meta_base.specs.Language.Expression.{Expression}
 use Rattle.meta_base.specs.declared.runtime.faults.Fault.{Fault}
@@ -28,14 +28,14 @@ module _ {F E : Type 0} (says : E → Expression) (step : F → E → Result E F
     pub node_says : says node ≡ a
     pub called : step f node (Err fault) after
 
-  -- what becomes of an expression: what `f` answers; where `f` answers a fault, and from then on, it stays
+  -- the result of a call of `f`; once `f` answers a fault, that fault stays
   pub data Becomes : Progress F → Expression → Expression → Progress F → Type 0 where
     answered : {f g : F} {a b : Expression} → Answers f a b g → Becomes (Ok f) a b (Ok g)
     refused : {f : F} {a : Expression} {fault : Fault} → Refuses f a fault → Becomes (Ok f) a a (Err fault)
     stayed : {a : Expression} {fault : Fault} → Becomes (Err fault) a a (Err fault)
 
   mutual
-    -- first a call at the expression, then the same at each operand of what it answered
+    -- a call at the expression, then a map of each operand of its answer
     pub data TopDown : Progress F → Expression → Expression → Progress F → Type 0 where
       met : {s t u : Progress F} {a m : Expression} {xs : List Expression}
           → Becomes s a m t → EachTopDown t (operands m) xs u
@@ -48,7 +48,7 @@ module _ {F E : Type 0} (says : E → Expression) (step : F → E → Result E F
           → EachTopDown s (a ∷ xs) (b ∷ ys) u
 
   mutual
-    -- first the same at each operand, then a call at what that gives
+    -- a map of each operand, then a call at the result
     pub data BottomUp : Progress F → Expression → Expression → Progress F → Type 0 where
       left : {s t u : Progress F} {a b : Expression} {xs : List Expression}
           → EachBottomUp s (operands a) xs t → Becomes t (over a xs) b u
@@ -60,16 +60,16 @@ module _ {F E : Type 0} (says : E → Expression) (step : F → E → Result E F
           → BottomUp s a b t → EachBottomUp t xs ys u
           → EachBottomUp s (a ∷ xs) (b ∷ ys) u
 
-  -- calls from `f` on, node before operands, make of x what y says
+  -- calls from `f` on, node before operands, turn x into y
   abbrev pub MapsTopDown : F → E → E → Type 0
   MapsTopDown f x y = (last : F) × TopDown (Ok f) (says x) (says y) (Ok last)
 
-  -- memory is wanting, or such calls come to a fault that one of them answers
+  -- memory is refused, or such calls come to a fault that one of them answers
   abbrev pub RefusesTopDown : F → E → Fault → Type 0
   RefusesTopDown f x fault =
       (fault ≡ Memory alloc_error) ⊎ ((b : Expression) × TopDown (Ok f) (says x) b (Err fault))
 
-  -- the same, operands before node
+  -- calls from `f` on, operands before node, turn x into y
   abbrev pub MapsBottomUp : F → E → E → Type 0
   MapsBottomUp f x y = (last : F) × BottomUp (Ok f) (says x) (says y) (Ok last)
 

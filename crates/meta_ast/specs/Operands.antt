@@ -1,9 +1,8 @@
--- What stands in an expression: its operands, the expression over others, all of it in order, and how much it
--- is.
+-- Operands of an expression, the expression over other operands, its nodes in preorder, and its size.
 use Rattle.std.specs.Prelude.{ℕ, ◌+◌, List, [], ◌∷◌, ◌++◌}
 use Rattle.meta_base.specs.Language.Expression.{Expression, PosPred, NegPred, Seq, Choice, Opt, Rep, RepOnce, RepExact, RepMin, RepMax, RepMinMax, Push, NodeTag, RestoreOnErr}
 
--- what a walk meets next below an expression, in order; below a wrapper it meets nothing
+-- the nodes right below an expression, in order; none below a wrapper
 abbrev pub operands : Expression → List Expression
 operands (PosPred e) = e ∷ []
 operands (NegPred e) = e ∷ []
@@ -20,7 +19,7 @@ operands (Push e) = e ∷ []
 operands (NodeTag e t) = e ∷ []
 operands _ = []
 
--- the same expression over other operands, as many as it has
+-- an expression with its operands replaced by the first of a list
 abbrev pub over : Expression → List Expression → Expression
 over (PosPred e) (a ∷ xs) = PosPred a
 over (NegPred e) (a ∷ xs) = NegPred a
@@ -37,7 +36,7 @@ over (Push e) (a ∷ xs) = Push a
 over (NodeTag e t) (a ∷ xs) = NodeTag a t
 over e _ = e
 
--- an expression and all that a walk meets below it, each before what stands in it, the left before the right
+-- an expression and all nodes of a walk below it: node before operands, left before right
 abbrev pub preorder : Expression → List Expression
 preorder (PosPred e) = PosPred e ∷ preorder e
 preorder (NegPred e) = NegPred e ∷ preorder e

@@ -1,4 +1,4 @@
--- What an optimized rule and expression say: those of the definitions, which forget memory.
+-- Views of an optimized rule and expression as those of the definitions, without memory.
 use Rattle.std.specs.Prelude.{List, map}
 use Rattle.meta_base.specs.Language.Expression.{Expression, Rule, Grammar}
 use Rattle.meta_base.specs.Language.Expression as e
@@ -6,7 +6,7 @@ use Rattle.meta_ast.specs.Ast.{text_of, rule_type_of}
 use Rattle.meta_ast.specs.declared.optimized.OptimizedExpr.{OptimizedExpr, Str, Insens, Range, Ident, PeekSlice, PosPred', NegPred', Seq', Choice', Opt', Rep', RepOnce', Skip, Push', PushLiteral, NodeTag', RestoreOnErr'}
 use Rattle.meta_ast.specs.declared.optimized.OptimizedRule.{OptimizedRule}
 
--- an expression's; the `p` and `q` are where its boxes lie
+-- the view of an expression; `p` and `q` are the addresses of its boxes
 abbrev pub optimized_expression_of : OptimizedExpr → Expression
 optimized_expression_of (Str s) = e.Str (text_of s)
 optimized_expression_of (Insens s) = e.Insens (text_of s)

@@ -1,4 +1,4 @@
--- What stands round an operand of an optimized expression.
+-- The operator over one operand of an optimized expression.
 use Rattle.meta_base.specs.Language.Expression.{Expression, RestoreOnErr}
 use Rattle.meta_ast.specs.Frames.{around}
 use Rattle.meta_ast.specs.OptimizedWalks.{optimized_unary_of}

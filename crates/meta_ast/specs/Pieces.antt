@@ -1,4 +1,4 @@
--- What is written of expressions that are taken apart, and of what is still to be written.
+-- The bytes of destructured expressions, and of the pieces that are still to be written.
 use Rattle.std.specs.Prelude.{◌≡◌, ◌≤◌, ℕ, ◌+◌, ◌*◌, List, [], ◌∷◌, ◌++◌, codes, encode_utf8_all}
 use Rattle.std.specs.Str.{chars}
 use Rattle.meta_ast.specs.Printing.{literal}
@@ -23,19 +23,19 @@ leaf_bytes (leaf.Skip ss) = skip_bytes ss.now
 leaf_bytes (leaf.PushLiteral s) =
     codes "PUSH_LITERAL(" ++ encode_utf8_all (literal 34 (chars s.now)) ++ codes ")"
 
--- what is written at a place
+-- the bytes of an expression at a position
 abbrev pub bytes_at : Place → ByPlace → List ℕ
 bytes_at place.Alone x = x.alone
 bytes_at place.AfterTilde x = x.after_tilde
 bytes_at place.AfterBar x = x.after_bar
 bytes_at place.BeforePostfix x = x.before_postfix
 
--- where the operand of a wrapper stands
+-- the position of a wrapper's operand
 abbrev pub inside : Place → Place
 inside place.BeforePostfix = place.BeforePostfix
 inside _ = place.Alone
 
--- `bytes` is what is written of an operand, and `heft` is how much that is
+-- `bytes` gives the bytes of an operand, and `heft` the work to write them
 module _ {E : Type 0} (bytes : E → ByPlace) where
   abbrev pub bytes_of_parts : Parts E → ByPlace
   bytes_of_parts (parts.Leaf l) = everywhere (leaf_bytes l)
@@ -79,7 +79,7 @@ module _ {E : Type 0} (heft : E → ℕ) where
   load [] = 0
   load (p ∷ ps) = piece_load p + load ps
 
--- the text is written before what was to be written already, and there is no more than so much more of it
+-- the text is pushed before the pieces of the list, and adds at most `more` work
 pub record Puts {E : Type 0} (bytes : E → ByPlace) (heft : E → ℕ) (old new : List (Piece E))
     (text : List ℕ) (more : ℕ) : Type 0 where
   pub first : in_turn bytes new ≡ text ++ in_turn bytes old

@@ -1,4 +1,4 @@
--- What is written of the code's expressions, in bytes, put together in the order in which it is written.
+-- The bytes of the code's expressions, concatenated in the order in which they are written.
 use Rattle.std.specs.Prelude.{ℕ, ℤ, Option, List, [], ◌∷◌, ◌++◌, codes, string_bytes, encode_utf8_all}
 use Rattle.std.specs.List.{flat_map}
 use Rattle.std.specs.declared.string.String.{String}
@@ -19,7 +19,7 @@ pub record ByPlace : Type 0 where
   pub after_bar : List ℕ
   pub before_postfix : List ℕ
 
--- the same at each place
+-- one text at all four positions
 abbrev pub everywhere : List ℕ → ByPlace
 everywhere t = record { alone = t; after_tilde = t; after_bar = t; before_postfix = t }
 
@@ -81,20 +81,20 @@ counts_bytes (counts.AtLeast m) = codes "{" ++ decimal m ++ codes ",}"
 counts_bytes (counts.AtMost n) = codes "{," ++ decimal n ++ codes "}"
 counts_bytes (counts.Between m n) = codes "{" ++ decimal m ++ codes ", " ++ decimal n ++ codes "}"
 
--- what pushes a text itself
+-- a push of a literal
 abbrev pub push_literal_bytes : String Global → List ℕ
 push_literal_bytes s = codes "PUSH_LITERAL(" ++ literal_bytes s ++ codes ")"
 
--- what is under a tag
+-- a tagged expression
 abbrev pub tagged_bytes : List ℕ → ByPlace → ByPlace
 tagged_bytes tag x = everywhere (enclosed (codes "#" ++ tag ++ codes " = " ++ x.alone))
 
--- what a wrapper holds
+-- a wrapper, by its operand
 abbrev pub wrapper_bytes : ByPlace → ByPlace
 wrapper_bytes x =
     record { alone = x.alone; after_tilde = x.alone; after_bar = x.alone; before_postfix = x.before_postfix }
 
--- an expression; the `p` and `q` are where its boxes lie
+-- an expression; `p` and `q` are the addresses of its boxes
 abbrev pub written_bytes : bare.Expr → ByPlace
 written_bytes (bare.Str s) = everywhere (literal_bytes s)
 written_bytes (bare.Insens s) = everywhere (codes "^" ++ literal_bytes s)

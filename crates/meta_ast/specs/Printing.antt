@@ -56,14 +56,14 @@ alternatives [] = []
 alternatives (t ∷ []) = literal 34 t
 alternatives (t ∷ u ∷ ts) = literal 34 t ++ codes " | " ++ alternatives (u ∷ ts)
 
--- where an expression stands: by itself, on the right of a `~` or a `|`, or before a postfix operator
+-- the position of an expression: alone, on the right of a `~` or a `|`, or before a postfix operator
 pub data Place : Type 0 where
   Alone : Place
   AfterTilde : Place
   AfterBar : Place
   BeforePostfix : Place
 
--- before a postfix operator a predicate has parentheses: in `!e?` the option is what the predicate is over
+-- before a postfix operator a predicate has parentheses: in `!e?` the predicate is over the option
 abbrev pub predicate_at : Place → Text → Text
 predicate_at BeforePostfix t = parenthesized t
 predicate_at _ t = t
@@ -77,12 +77,12 @@ abbrev pub choice_at : Place → Text → Text
 choice_at AfterBar t = t
 choice_at _ t = parenthesized t
 
--- a wrapper prints as what it holds, which is no part of a chain around the wrapper
+-- a wrapper prints as its operand, which is no part of a chain around the wrapper
 abbrev pub inside_wrapper : Place → Place
 inside_wrapper BeforePostfix = BeforePostfix
 inside_wrapper _ = Alone
 
--- an expression at a place
+-- an expression at a position
 abbrev pub printed_at : Place → Expression → Text
 printed_at k (Str t) = literal 34 t
 printed_at k (Insens t) = codes "^" ++ literal 34 t

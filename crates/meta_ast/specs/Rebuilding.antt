@@ -1,16 +1,16 @@
--- What is said of trees that are made of other trees, an operand at a time.
+-- Trees that are built from other trees, an operand at a time.
 use Rattle.std.specs.Prelude.{ℕ, ◌+◌, List, [], ◌∷◌, ⊤}
 use Rattle.meta_ast.specs.declared.rebuilt.Step.{Step}
 use Rattle.meta_ast.specs.declared.rebuilt.Step.TheVariants as is
 
--- `says` and `made` are what a tree means, and `fills` is what an operand means inside what stands around it
+-- `says` and `made` give the meaning of a tree, and `fills` that of an operand inside its context
 module _ {S A T M : Type 0} (says : S → M) (made : T → M) (fills : A → M → M) where
-  -- what comes of a step
+  -- the meaning of a step
   abbrev pub meaning_of : Step S A T → M
   meaning_of (is.Made t) = made t
   meaning_of (is.Inside a s) = fills a (says s)
 
--- what an operand means inside all that stands around it, the last of it innermost
+-- the meaning of an operand inside its contexts, the last of them innermost
 abbrev pub filled : {A M : Type 0} → (A → M → M) → List A → M → M
 filled fills [] m = m
 filled fills (a ∷ others) m = fills a (filled fills others m)
@@ -25,7 +25,7 @@ abbrev pub waiting : {A : Type 0} → (A → ℕ) → List A → ℕ
 waiting waits [] = 0
 waiting waits (a ∷ others) = waits a + waiting waits others
 
--- what is left may be gone on with
+-- the rest of a build satisfies its preconditions
 module _ {S A T : Type 0} (is_right : S → Type 0) (is_ready : A → Type 0) where
   abbrev pub GoesOn : Step S A T → Type 0
   GoesOn (is.Made t) = ⊤

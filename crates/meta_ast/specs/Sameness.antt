@@ -1,8 +1,8 @@
 -- Trees that are to be compared.
 use Rattle.std.specs.Prelude.{ℕ, ◌+◌, Bool, true, ◌&&◌, List, [], ◌∷◌}
 use Rattle.meta_ast.specs.declared.sameness.Both.{Both}
-use Rattle.meta_ast.specs.declared.sameness.Left.{Left}
-use Rattle.meta_ast.specs.declared.sameness.Left.TheVariants as left
+use Rattle.meta_ast.specs.declared.sameness.Comparison.{Comparison}
+use Rattle.meta_ast.specs.declared.sameness.Comparison.TheVariants as left
 
 -- `is_equal` is whether two trees are
 module _ {T : Type 0} (is_equal : T → T → Bool) where
@@ -14,8 +14,8 @@ module _ {T : Type 0} (is_equal : T → T → Bool) where
   are_equal [] = true
   are_equal (p ∷ ps) = are_both p && are_equal ps
 
-  -- whether two are, by what is left to be compared of them
-  abbrev pub is_same : Left T → Bool
+  -- whether two trees are equal, by the comparisons that remain
+  abbrev pub is_same : Comparison T → Bool
   is_same (left.Nothing answer) = answer
   is_same (left.One p answer) = answer && are_both p
   is_same (left.Two p q) = are_both p && are_both q
@@ -28,7 +28,7 @@ module _ {T : Type 0} (heaviness : T → ℕ) where
   heaviness_of_all (p ∷ ps) = heaviness p.first.now.value + heaviness_of_all ps
 
   -- how much is left to be
-  abbrev pub heaviness_left : Left T → ℕ
+  abbrev pub heaviness_left : Comparison T → ℕ
   heaviness_left (left.Nothing answer) = 0
   heaviness_left (left.One p answer) = heaviness p.first.now.value
   heaviness_left (left.Two p q) = heaviness p.first.now.value + heaviness q.first.now.value

@@ -1,9 +1,10 @@
--- Trees that are taken apart into what stands round their operands, and these.
+-- Trees destructured into an operator and its operands.
 use Rattle.std.specs.Prelude.{ℕ, ◌+◌, ◌*◌, ⊤}
 use Rattle.meta_ast.specs.declared.shape.Shape.{Shape}
 use Rattle.meta_ast.specs.declared.shape.Shape.TheVariants as is
 
--- `made` and `says` are what leaves and operands mean, `around` and `between` what operands mean in the whole
+-- `made` and `says` are the meanings of leaves and operands, `around` and `between` of operands in the
+-- whole
 module _ {L S J O M : Type 0} (made : L → M) (says : O → M) (around : S → M → M)
     (between : J → M → M → M) where
   -- the whole
@@ -18,7 +19,7 @@ heaviness_of heaviness (is.Leaf x) = 0
 heaviness_of heaviness (is.One s x) = heaviness x
 heaviness_of heaviness (is.Two j x y) = 2 * heaviness x + heaviness y
 
--- what has no operands is left whole
+-- a leaf is kept whole
 abbrev pub LeafIs : {L S J O : Type 0} → (L → Type 0) → Shape L S J O → Type 0
 LeafIs is_bare (is.Leaf x) = is_bare x
 LeafIs is_bare _ = ⊤

@@ -1,4 +1,4 @@
--- What the iterators over expressions give.
+-- The items of the iterators over expressions.
 use Rattle.std.specs.Prelude.{◌≡◌, ◌<◌, List, [], ◌∷◌, ◌++◌, length, Option, MatchOption, Result, MatchResult, alloc_error}
 use Rattle.meta_base.specs.Language.Expression.{Expression}
 use Rattle.meta_base.specs.declared.runtime.faults.Fault.{Fault}
@@ -7,16 +7,16 @@ use Rattle.meta_ast.specs.Operands.{preorder}
 
 -- `says x`: the expression that a value x of code says
 module _ {E : Type 0} (says : E → Expression) where
-  -- what is met of the expressions on a stack, from its top to its bottom; the last of the list is the top
+  -- the nodes of the expressions on a stack, from its top to its bottom; the last of the list is the top
   abbrev pub waiting : List E → List Expression
   waiting [] = []
   waiting (x ∷ xs) = waiting xs ++ preorder (says x)
 
   -- `left i`: the expressions that an iterator i has still to give
   module _ {I : Type 0} (left : I → List Expression) where
-    -- the first is given, where there is one; or memory is wanting for it, and from then on there is none
-    abbrev pub GivesFirstOrFails : I → Option (Result E Fault) → I → Type 0
-    GivesFirstOrFails old given new = MatchOption given
+    -- the first is given, if there is one; or memory for it is refused, and from then on there is none
+    abbrev pub YieldsFirstOrFails : I → Option (Result E Fault) → I → Type 0
+    YieldsFirstOrFails old given new = MatchOption given
         ((left old ≡ []) × (left new ≡ []))
         (λ item. MatchResult item
         (λ x. left old ≡ says x ∷ left new)

@@ -2,7 +2,7 @@
 use Rattle.std.specs.Prelude.{ℕ, ◌+◌, ◌*◌}
 use Rattle.meta_base.specs.Language.Expression.{Expression, PosPred, NegPred, Seq, Choice, Opt, Rep, RepOnce, RepExact, RepMin, RepMax, RepMinMax, Push, NodeTag, RestoreOnErr}
 
--- its size, in which left sides weigh double: each rotation makes an expression lighter
+-- the size, in which left sides count double: rotations make an expression lighter
 abbrev pub weight : Expression → ℕ
 weight (PosPred e) = weight e + 1
 weight (NegPred e) = weight e + 1

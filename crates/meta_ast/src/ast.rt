@@ -53,12 +53,12 @@ pub enum Expr {
     Range(String, String),
     /// A call of the rule or the builtin of that name.
     Ident(String),
-    /// The texts from one place of the stack up to another, from its bottom. A negative place
+    /// The texts from one index of the stack up to another, counted from its bottom. A negative index
     /// counts from the stack's length, which is also the end where none is given: `PEEK[0..-1]`.
     PeekSlice(i32, Option<i32>),
-    /// Succeeds in place where the expression succeeds: `&e`.
+    /// Succeeds where the expression succeeds, and takes nothing: `&e`.
     PosPred(Box<Expr>),
-    /// Succeeds in place where the expression fails: `!e`.
+    /// Succeeds where the expression fails, and takes nothing: `!e`.
     NegPred(Box<Expr>),
     /// One expression after another: `a ~ b`.
     Seq(Box<Expr>, Box<Expr>),
@@ -68,7 +68,7 @@ pub enum Expr {
     Opt(Box<Expr>),
     /// The expression as often as it succeeds: `e*`.
     Rep(Box<Expr>),
-    /// The same, at least once: `e+`.
+    /// The expression as often as it succeeds, and at least once: `e+`.
     RepOnce(Box<Expr>),
     /// So many times: `e{2}`.
     RepExact(Box<Expr>, u32),
@@ -78,12 +78,12 @@ pub enum Expr {
     RepMax(Box<Expr>, u32),
     /// From the first number of times to the second: `e{2, 3}`.
     RepMinMax(Box<Expr>, u32, u32),
-    /// Goes on to the next place where one of the texts stands, or to the end.
+    /// Goes to the next position where one of the texts occurs, or to the end.
     Skip(Vec<String>),
-    /// The expression, whose text then lies on the stack: `PUSH(e)`.
+    /// The expression; its text is then pushed onto the stack: `PUSH(e)`.
     Push(Box<Expr>),
     /// Pushes the text onto the stack, and takes nothing: `PUSH_LITERAL("a")`.
     PushLiteral(String),
-    /// The expression under a tag, without the `#`; it means what the expression means: `#tag = e`.
+    /// The expression under a tag, without the `#`; the tag does not change its meaning: `#tag = e`.
     NodeTag(Box<Expr>, String),
 }

@@ -1,17 +1,16 @@
-//! Values that may be very deep or wide, let go by a loop wherever they go out of scope.
+//! Values that may be very deep or wide, dropped iteratively wherever they go out of scope.
 //!
-//! A value of nested boxes that goes out of scope is let go by a call a level, and can run out of the
-//! machine's stack. So what a function has at hand while a request for memory can be refused is kept in a
-//! [`Deep`].
+//! A value of nested boxes that goes out of scope is dropped recursively, and can overflow the stack. So a
+//! function keeps such a value in a [`Deep`] while an allocation can fail.
 ghost use Rattle.std.specs.Prelude.{◌≡◌, ◌∷◌, ◌++◌, [], IfOk, OnErr, OnOk};
 
 use std::alloc::{AllocError, Global};
 use std::collections::HashMap;
 use std::hash::Hash;
 
-/// What can be let go by a loop.
+/// Values that can be dropped iteratively.
 pub trait Release: Drop {
-    /// Lets it go by a loop, without memory.
+    /// Drops the value iteratively, without allocating.
     fn release(self);
 }
 
@@ -41,7 +40,7 @@ impl<K: Drop + Eq + Hash, V: Release> Release for HashMap<K, V> {
     }
 }
 
-/// A value that is let go by a loop wherever it goes out of scope.
+/// A value that is dropped iteratively wherever it goes out of scope.
 pub struct Deep<T: Release> {
     /// The value itself.
     pub value: T,
@@ -55,7 +54,7 @@ impl<T: Release> Drop for Deep<T> {
 }
 
 impl<T: Release> Deep<T> {
-    /// The value, which is no longer kept.
+    /// Unwraps the value.
     pub fn into_inner(self) -> T
         ensures { result ≡ self.value }
     {
@@ -63,8 +62,8 @@ impl<T: Release> Deep<T> {
         value
     }
 
-    /// The value in a box of its own. Where memory is refused for the box, the value is let go.
-    pub fn boxed(self, alloc: Global) -> Result<Deep<Box<T>>, AllocError>
+    /// Moves the value into a box. Where memory is refused for the box, the value is dropped.
+    pub fn into_box(self, alloc: Global) -> Result<Deep<Box<T>>, AllocError>
         ensures { IfOk result (λ boxed. boxed.value.value ≡ self.value) }
     {
         match Box::new(alloc, self.into_inner()) {
@@ -78,8 +77,7 @@ impl<T: Release> Deep<T> {
 }
 
 impl<T: Release> Deep<Vec<T>> {
-    /// Puts a value behind those of the list. Where memory is refused, the value is let go and the list is as
-    /// it was.
+    /// Pushes a value. Where memory is refused, the value is dropped and the list is unchanged.
     pub fn push(&mut self, item: Deep<T>) -> Result<(), AllocError>
         ensures pushed { OnOk result (self.new.value.items ≡ self.old.value.items ++ (item.value ∷ [])) }
         ensures unchanged { OnErr result (self.new.value.items ≡ self.old.value.items) }

@@ -1,6 +1,6 @@
-//! What the derived clone and `==` of `RuleType` answer: laws on the ghost members of the derived impls,
-//! which the derived methods are proved to answer. Those of the other types of this crate are written by
-//! hand, with a contract.
+//! Laws of the derived clone and `==` of `RuleType`, on the ghost members of the derived impls, which the
+//! derived methods are proved to answer. The other types of this crate have impls written by hand, with a
+//! contract.
 ghost use Rattle.std.specs.Prelude.{◌≡◌, ◌↔◌, IsTrue};
 
 use crate::ast::RuleType;

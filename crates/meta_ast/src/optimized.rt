@@ -1,4 +1,4 @@
-//! Optimized rules as values: what the passes make of rules.
+//! Optimized rules as values: the result of the optimizer's passes.
 use crate::ast::RuleType;
 
 mod cloned;
@@ -35,12 +35,12 @@ pub enum OptimizedExpr {
     Range(String, String),
     /// A call of the rule or the builtin of that name.
     Ident(String),
-    /// The texts from one place of the stack up to another, from its bottom. A negative place
+    /// The texts from one index of the stack up to another, counted from its bottom. A negative index
     /// counts from the stack's length, which is also the end where none is given: `PEEK[0..-1]`.
     PeekSlice(i32, Option<i32>),
-    /// Succeeds in place where the expression succeeds: `&e`.
+    /// Succeeds where the expression succeeds, and takes nothing: `&e`.
     PosPred(Box<OptimizedExpr>),
-    /// Succeeds in place where the expression fails: `!e`.
+    /// Succeeds where the expression fails, and takes nothing: `!e`.
     NegPred(Box<OptimizedExpr>),
     /// One expression after another: `a ~ b`.
     Seq(Box<OptimizedExpr>, Box<OptimizedExpr>),
@@ -52,13 +52,13 @@ pub enum OptimizedExpr {
     Rep(Box<OptimizedExpr>),
     /// The expression as often as it succeeds, and at least once: `e+`.
     RepOnce(Box<OptimizedExpr>),
-    /// Goes on to the next place where one of the texts stands, or to the end.
+    /// Goes to the next position where one of the texts occurs, or to the end.
     Skip(Vec<String>),
-    /// The expression, whose text then lies on the stack: `PUSH(e)`.
+    /// The expression; its text is then pushed onto the stack: `PUSH(e)`.
     Push(Box<OptimizedExpr>),
     /// Pushes the text onto the stack, and takes nothing: `PUSH_LITERAL("a")`.
     PushLiteral(String),
-    /// The expression under a tag, without the `#`; it means what the expression means: `#tag = e`.
+    /// The expression under a tag, without the `#`; the tag does not change its meaning: `#tag = e`.
     NodeTag(Box<OptimizedExpr>, String),
     /// The expression; where it fails, the stack is as it was before.
     RestoreOnErr(Box<OptimizedExpr>),

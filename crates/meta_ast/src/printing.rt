@@ -11,9 +11,9 @@ use std::fmt;
 
 /// Writes a text as a literal: between two quotes `quote`, which is `"` or `'`.
 ///
-/// Escaped are the quote itself by a backslash, a backslash, the characters of `\0`, `\t`, `\n` and
-/// `\r` by those, and U+2028, U+2029 and the other control characters by their number, as
-/// `\u{1f}`, in two digits or more of lower case. The other quote and all else stand as they are.
+/// Escaped are the quote itself by a backslash, a backslash, the characters of `\0`, `\t`, `\n` and `\r` by
+/// those, and U+2028, U+2029 and the other control characters by their number, as `\u{1f}`, in two digits
+/// or more of lower case. The other quote and all else are written unchanged.
 pub fn fmt_literal<W: fmt::Write>(f: &mut fmt::Formatter<W>, text: &str, quote: char) -> fmt::Result
     ensures { WritesOnOk W.write_str_gives f.old result
         (encode_utf8_all (literal quote (chars text.now))) f.new }
@@ -42,10 +42,12 @@ fn fmt_escaped<W: fmt::Write>(f: &mut fmt::Formatter<W>, c: char, quote: char) -
     }
 }
 
-// What stands for a character that has an escape of its own.
+// Returns the escape of a character that has one of its own.
 fn escape_of(c: char) -> Option<&'static str>
-    ensures some { IfSome result (λ text. (quote : ℕ) → c ≢ quote → text.now ≡ encode_utf8_all (escaped quote c)) }
-    ensures none { IfNone result ((quote : ℕ) → c ≢ quote → escaped quote c ≡ cond (is_control c) (numbered c) (c ∷ [])) }
+    ensures some { IfSome result (λ text.
+        (quote : ℕ) → c ≢ quote → text.now ≡ encode_utf8_all (escaped quote c)) }
+    ensures none { IfNone result ((quote : ℕ) → c ≢ quote
+        → escaped quote c ≡ cond (is_control c) (numbered c) (c ∷ [])) }
 {
     match c {
         '\0' => Some("\\0"),
@@ -151,7 +153,7 @@ pub(crate) fn fmt_skip<W: fmt::Write>(f: &mut fmt::Formatter<W>, texts: &[String
     f.write_str(") ~ ANY)*")
 }
 
-// Writes what pushes a text itself: `PUSH_LITERAL("a")`.
+// Writes a push of a literal: `PUSH_LITERAL("a")`.
 pub(crate) fn fmt_push_literal<W: fmt::Write>(f: &mut fmt::Formatter<W>, text: &str) -> fmt::Result
     ensures { WritesOnOk W.write_str_gives f.old result
         (codes "PUSH_LITERAL(" ++ encode_utf8_all (literal 34 (chars text.now)) ++ codes ")") f.new }

@@ -1,27 +1,27 @@
-//! Trees that are made of other trees by a loop: what is wide or deep takes no more of the machine's stack.
+//! Trees built from other trees iteratively: neither width nor depth takes stack space.
 ghost use Rattle.std.specs.Prelude.{◌≡◌, ◌≤◌, ◌<◌, ℕ, IfOk};
 ghost use Rattle.meta_ast.specs.Rebuilding.{meaning_of, work_of, GoesOn};
 
 use crate::deep::{Deep, Release};
 use std::alloc::{AllocError, Global};
 
-/// What comes of a step.
+/// The result of a step.
 #[derive(Drop)]
 pub enum Step<S, A, T> {
     /// A tree that is made.
     Made(T),
-    /// What stands around an operand, and the operand, which is to be dealt with first.
+    /// The context of an operand, and the operand, which is to be built first.
     Inside(A, S),
 }
 
-/// What stands around an operand while a tree is made of the operand.
+/// The context of an operand while a tree is built from the operand.
 pub trait Rebuild: Drop {
-    /// What a tree is made of.
+    /// Trees to build from.
     type Source: Release;
-    /// What is made.
+    /// Trees to build.
     type Target: Release;
 
-    // what trees mean, and what an operand means inside this
+    // the meaning of trees, and of an operand inside its context
     ghost Meaning: { Type 0 };
 
     ghost says: { Self.Source → Meaning };
@@ -40,14 +40,14 @@ pub trait Rebuild: Drop {
 
     ghost waits: { Self → ℕ };
 
-    /// What is made of a tree without operands; else its first operand, and what stands around it.
+    /// Builds a tree from one without operands; else returns its first operand and the context of that.
     fn open(source: Self::Source) -> Result<Step<Self::Source, Self, Self::Target>, AllocError>
         requires { is_right source }
         ensures meaning { IfOk result (λ step. meaning_of says made fills step ≡ says source) }
         ensures work { IfOk result (λ step. work_of size waits step ≤ size source) }
         ensures ready { IfOk result (GoesOn is_right is_ready) };
 
-    /// What is made of the whole, once its last operand is made; else the next operand.
+    /// Builds the whole from its last operand; else returns the next operand.
     fn close(
         self,
         alloc: Global,
@@ -59,9 +59,8 @@ pub trait Rebuild: Drop {
         ensures ready { IfOk result (GoesOn is_right is_ready) };
 }
 
-/// The tree that is made of another one, with what stands around its operands as `R` says. The only fault is
-/// a want of memory.
-pub fn rebuilt<R: Rebuild>(alloc: Global, source: R::Source) -> Result<R::Target, AllocError>
+/// Builds a tree from another one, in the contexts that `R` defines. The only error is allocation failure.
+pub fn rebuild_tree<R: Rebuild>(alloc: Global, source: R::Source) -> Result<R::Target, AllocError>
     requires { R.is_right source }
     ensures { IfOk result (λ tree. R.made tree ≡ R.says source) }
 {

@@ -1,4 +1,4 @@
-//! Equality of trees: by a list of what is left to be compared, and by calls where there is no memory for it.
+//! Equality of trees, iteratively with a worklist, and recursively where there is no memory for it.
 ghost use Rattle.std.specs.Prelude.{◌≡◌, ◌+◌, ◌<◌, ◌≤◌, ◌&&◌, Bool, IfOk};
 ghost use Rattle.meta_ast.specs.Sameness.{are_equal, heaviness_left, heaviness_of_all, is_same};
 
@@ -12,51 +12,51 @@ pub struct Both<'a, T> {
     pub second: &'a Box<T>,
 }
 
-/// What is left to be compared of two trees.
+/// The comparisons that remain between two trees.
 #[derive(Drop)]
-pub enum Left<'a, T> {
+pub enum Comparison<'a, T> {
     /// Nothing: this is the answer.
     Nothing(bool),
-    /// Their operands, beside the answer on all else.
+    /// Their operands, and the answer on all else.
     One(Both<'a, T>, bool),
     /// Their operands, where all else is equal.
     Two(Both<'a, T>, Both<'a, T>),
 }
 
 /// Trees that are compared.
-pub trait Compared: Shaped {
+pub trait TreeEq: Shaped {
     ghost is_equal: { Self → Self → Bool };
 
-    /// What is left to be compared of two trees, once all but their operands is.
-    fn compared<'a>(&'a self, other: &'a Self) -> Left<'a, Self>
+    /// Compares two trees except their operands, and returns the comparisons that remain.
+    fn compare_roots<'a>(&'a self, other: &'a Self) -> Comparison<'a, Self>
         ensures same { is_same is_equal result ≡ is_equal self.entry.now other.entry.now }
         ensures work { heaviness_left Self.heaviness result < Self.heaviness self.entry.now };
 }
 
 /// Whether two trees are equal.
-pub fn equal<T: Compared>(a: &T, b: &T) -> bool
+pub fn equal<T: TreeEq>(a: &T, b: &T) -> bool
     ensures { result ≡ T.is_equal a.now b.now }
 {
-    are_same(&a.compared(b))
+    are_same(&a.compare_roots(b))
 }
 
-/// Whether what is left to be compared is equal, with a list of it; by calls where there is no memory for it.
-pub fn are_same<T: Compared>(left: &Left<'_, T>) -> bool
+/// Whether the remaining comparisons hold, iteratively; recursively where memory is refused.
+pub fn are_same<T: TreeEq>(left: &Comparison<'_, T>) -> bool
     ensures { result ≡ is_same T.is_equal left.now }
 {
     let alloc = match left {
-        Left::Nothing(answer) => return *answer,
-        Left::One(both, _) | Left::Two(both, _) => *Box::allocator(both.first),
+        Comparison::Nothing(answer) => return *answer,
+        Comparison::One(both, _) | Comparison::Two(both, _) => *Box::allocator(both.first),
     };
-    match same_by_list(alloc, left) {
+    match same_iteratively(alloc, left) {
         Ok(answer) => answer,
-        Err(_) => same_by_calls(left),
+        Err(_) => same_recursively(left),
     }
 }
 
-/// The same, by a loop. The only fault is a want of memory.
+/// Whether the remaining comparisons hold, iteratively. The only error is allocation failure.
 #[tactic(auto, using(crate::proofs::Pairs::lighter))]
-fn same_by_list<T: Compared>(alloc: Global, left: &Left<'_, T>) -> Result<bool, AllocError>
+fn same_iteratively<T: TreeEq>(alloc: Global, left: &Comparison<'_, T>) -> Result<bool, AllocError>
     ensures { IfOk result (λ answer. answer ≡ is_same T.is_equal left.now) }
 {
     let mut others = Vec::new(alloc);
@@ -65,15 +65,15 @@ fn same_by_list<T: Compared>(alloc: Global, left: &Left<'_, T>) -> Result<bool, 
         let Some(both) = others.pop() else {
             return Ok(true);
         };
-        let inside = T::compared(both.first, both.second);
+        let inside = T::compare_roots(both.first, both.second);
         is_equal = put(&inside, &mut others)?;
     }
     Ok(false)
 }
 
-/// Puts what is left to be compared on a list, and answers all else. The only fault is a want of memory.
-fn put<'a, T: Compared>(
-    left: &Left<'a, T>,
+/// Pushes the remaining comparisons, and answers all else. The only error is allocation failure.
+fn put<'a, T: TreeEq>(
+    left: &Comparison<'a, T>,
     others: &mut Vec<Both<'a, T>>,
 ) -> Result<bool, AllocError>
     ensures same { IfOk result (λ answer. (answer && are_equal T.is_equal others.new.items)
@@ -82,15 +82,15 @@ fn put<'a, T: Compared>(
         ≤ heaviness_left T.heaviness left.now + heaviness_of_all T.heaviness others.old.items) }
 {
     match left {
-        Left::Nothing(answer) => Ok(*answer),
-        Left::One(both, answer) => {
+        Comparison::Nothing(answer) => Ok(*answer),
+        Comparison::One(both, answer) => {
             others.push(Both {
                 first: both.first,
                 second: both.second,
             })?;
             Ok(*answer)
         }
-        Left::Two(left, right) => {
+        Comparison::Two(left, right) => {
             others.push(Both {
                 first: right.first,
                 second: right.second,
@@ -104,18 +104,18 @@ fn put<'a, T: Compared>(
     }
 }
 
-/// Whether what is left to be compared is equal, by calls.
-fn same_by_calls<T: Compared>(left: &Left<'_, T>) -> bool
+/// Whether the remaining comparisons hold, recursively.
+fn same_recursively<T: TreeEq>(left: &Comparison<'_, T>) -> bool
     ensures { result ≡ is_same T.is_equal left.now }
 {
     match left {
-        Left::Nothing(answer) => *answer,
-        Left::One(both, answer) => {
-            *answer && same_by_calls(&T::compared(both.first, both.second))
+        Comparison::Nothing(answer) => *answer,
+        Comparison::One(both, answer) => {
+            *answer && same_recursively(&T::compare_roots(both.first, both.second))
         }
-        Left::Two(left, right) => {
-            same_by_calls(&T::compared(left.first, left.second))
-                && same_by_calls(&T::compared(right.first, right.second))
+        Comparison::Two(left, right) => {
+            same_recursively(&T::compare_roots(left.first, left.second))
+                && same_recursively(&T::compare_roots(right.first, right.second))
         }
     }
 }

@@ -1,14 +1,13 @@
-//! Which operands a tree has, and what stands round them: said once for each kind of tree. What is done with
-//! trees of any kind goes by it.
+//! The operator and operands of a tree, defined once for each type of tree. Generic algorithms use them.
 mod copying;
 
 ghost use Rattle.std.specs.Prelude.{◌≡◌, ◌+◌, ◌*◌, ◌≤◌, ◌<◌, ℕ, IfOk};
 ghost use Rattle.meta_ast.specs.Shapes.{heaviness_of, meaning_of, LeafIs};
 
-pub use copying::{copied, copied_box};
+pub use copying::{copy_box, copy_tree};
 use std::alloc::AllocError;
 
-/// What stands between two operands.
+/// The operator between two operands.
 #[derive(Drop)]
 pub enum Joint {
     /// One after another.
@@ -17,25 +16,25 @@ pub enum Joint {
     Choice,
 }
 
-/// A tree that is taken apart.
+/// A destructured tree.
 #[derive(Drop)]
 pub enum Shape<L, S, J, O> {
-    /// It has no operands.
+    /// A tree without operands.
     Leaf(L),
-    /// What stands round its operand, and the operand.
+    /// The operator over one operand, and the operand.
     One(S, O),
-    /// What stands between its operands, the left one and the right one.
+    /// The operator between two operands, the left one and the right one.
     Two(J, O, O),
 }
 
-/// Trees that are taken apart and put together again.
+/// Trees that can be destructured and rebuilt.
 pub trait Shaped: Drop {
-    /// What may stand round one operand.
+    /// Operators over one operand.
     type Sign: Drop;
-    /// What may stand between two operands.
+    /// Operators between two operands.
     type Joint: Drop;
 
-    // what trees mean, and what their operands mean in them
+    // the meaning of trees, and of operands in them
     ghost Meaning: { Type 0 };
 
     ghost says: { Self → Meaning };
@@ -50,14 +49,14 @@ pub trait Shaped: Drop {
     // how large a tree is, where left sides count double
     ghost heaviness: { Self → ℕ };
 
-    /// The tree taken apart, without memory. What has no operands is left whole.
+    /// Destructures the tree without allocating. A tree without operands is kept whole.
     fn open(self) -> Shape<Self, Self::Sign, Self::Joint, Box<Self>>
         ensures meaning { meaning_of says (λ operand. says operand.value) around between result ≡ says self }
         ensures lighter { heaviness_of (λ operand. heaviness operand.value) result < heaviness self }
         ensures bare { LeafIs is_bare result };
 
-    /// The shape of the tree: its operands as they stand there, and copies of all else. The only fault is a
-    /// want of memory.
+    /// Returns the shape of the tree, with its operands borrowed and copies of all else. The only error is
+    /// allocation failure.
     fn shape<'a>(
         &'a self,
     ) -> Result<Shape<Self, Self::Sign, Self::Joint, &'a Box<Self>>, AllocError>
@@ -66,11 +65,11 @@ pub trait Shaped: Drop {
         ensures lighter { IfOk result (λ shape.
             heaviness_of (λ operand. heaviness operand.now.value) shape < heaviness self.entry.now) };
 
-    /// An operand in its sign.
+    /// Rebuilds a tree from an operator and its operand.
     fn enclose(sign: Self::Sign, operand: Box<Self>) -> Self
         ensures { says result ≡ around sign (says operand.value) };
 
-    /// Two operands side by side.
+    /// Rebuilds a tree from an operator and its two operands.
     fn join(joint: Self::Joint, left: Box<Self>, right: Box<Self>) -> Self
         ensures { says result ≡ between joint (says left.value) (says right.value) };
 
@@ -78,13 +77,13 @@ pub trait Shaped: Drop {
     fn take(place: &mut Box<Self>) -> Self
         ensures { result ≡ place.old.value };
 
-    /// Two trees as the operands of one.
+    /// Chains two trees as the operands of one.
     fn chain(first: Box<Self>, second: Box<Self>) -> Self
         ensures { heaviness result ≤ 2 * heaviness first.value + heaviness second.value + 1 };
 }
 
-/// Lets a tree go by a loop, without memory.
-pub fn let_go<T: Shaped>(tree: T) {
+/// Drops a tree iteratively, without allocating.
+pub fn release_tree<T: Shaped>(tree: T) {
     let mut rest = tree;
     'parts: loop {
         match rest.open() {
@@ -98,14 +97,14 @@ pub fn let_go<T: Shaped>(tree: T) {
             }
             Shape::Two(joint, left, right) => {
                 drop(joint);
-                rest = leaned(left, right);
+                rest = drop_left_operator(left, right);
             }
         }
     }
 }
 
-/// What is left of two sides, with less on the left: its operator is gone, or all of it.
-fn leaned<T: Shaped>(mut left: Box<T>, right: Box<T>) -> T
+/// Drops the operator on the left of two sides, or all of the left side, and chains the rest.
+fn drop_left_operator<T: Shaped>(mut left: Box<T>, right: Box<T>) -> T
     ensures { T.heaviness result < 2 * T.heaviness left.value + T.heaviness right.value + 1 }
 {
     match T::take(&mut left).open() {

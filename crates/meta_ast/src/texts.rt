@@ -1,4 +1,4 @@
-//! Strings as texts: a string stands for the list of its characters.
+//! Strings as texts: a string is viewed as the list of its characters.
 ghost use Rattle.std.specs.Prelude.{◌≡◌, ◌↔◌, IsTrue, IfOk, map};
 ghost use Rattle.meta_ast.specs.Ast.{text_of};
 ghost use Rattle.meta_base.specs.Rewritings.Equality.{text_eq, texts_eq};
@@ -13,7 +13,7 @@ pub fn same_text(s: &String, t: &String) -> bool
     s == t
 }
 
-/// Whether two lists have the same texts, place by place.
+/// Whether two lists have the same texts in the same order.
 pub fn same_texts(ss: &Vec<String>, ts: &Vec<String>) -> bool
     ensures computed { result ≡ texts_eq (map text_of ss.now.items) (map text_of ts.now.items) }
     ensures exact { IsTrue result ↔ (map text_of ss.now.items ≡ map text_of ts.now.items) }
@@ -21,7 +21,7 @@ pub fn same_texts(ss: &Vec<String>, ts: &Vec<String>) -> bool
     ss == ts
 }
 
-/// The same texts again, with the same allocators. The only fault is a want of memory.
+/// Copies texts, with their allocators. The only error is allocation failure.
 pub fn copy_texts(texts: &Vec<String>) -> Result<Vec<String>, AllocError>
     ensures { IfOk result (λ copy. map text_of copy.items ≡ map text_of texts.now.items) }
 {

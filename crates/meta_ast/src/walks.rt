@@ -1,8 +1,7 @@
-//! What the maps and the iterators of both kinds of expressions share: each is written once, over trees that
-//! are taken apart and put together again.
+//! Maps and iterators of both types of expressions, each written once over trees that can be destructured
+//! and rebuilt.
 //!
-//! A map keeps the frames round the place where it is on a list of its own, so no nesting of an expression
-//! takes depth.
+//! A map keeps its continuation frames on an explicit stack, so nesting takes no stack space.
 mod bottom_up;
 mod frames;
 mod preorder;
@@ -20,17 +19,17 @@ pub(crate) use preorder::take_first;
 use std::alloc::{AllocError, Global};
 pub(crate) use top_down::map_top_down;
 
-/// An expression that was taken apart.
+/// A destructured expression.
 #[derive(Drop)]
 pub(crate) enum Node<E, S> {
-    /// It has no operands, or is a wrapper.
+    /// An expression without operands, or a wrapper.
     Leaf(E),
     One(S, E),
     Two(Joint, E, E),
 }
 
-/// What stands round an operand that a map is at.
-pub(crate) enum Frame<E: Release, S: Drop> {
+/// A continuation frame of a map: the context of the operand that it visits.
+pub(crate) enum WalkFrame<E: Release, S: Drop> {
     Around(S),
     /// The operand is the left one, and the right one is still to be met.
     Before(Joint, E),
@@ -38,11 +37,11 @@ pub(crate) enum Frame<E: Release, S: Drop> {
     After(Joint, E),
 }
 
-impl<E: Release, S: Drop> Drop for Frame<E, S> {
+impl<E: Release, S: Drop> Drop for WalkFrame<E, S> {
     fn drop(self) {
         match self {
-            Frame::Around(sign) => drop(sign),
-            Frame::Before(joint, operand) | Frame::After(joint, operand) => {
+            WalkFrame::Around(sign) => drop(sign),
+            WalkFrame::Before(joint, operand) | WalkFrame::After(joint, operand) => {
                 drop(joint);
                 operand.release();
             }
@@ -55,13 +54,13 @@ impl<E: Release, S: Drop> Drop for Frame<E, S> {
 pub(crate) enum Onward<E> {
     /// This is to be met next.
     Next(E),
-    /// All that stands in this is met.
+    /// This expression and all in it are done.
     Done(E),
 }
 
-/// Expressions that can be taken apart and put together again.
+/// Expressions that can be destructured and rebuilt.
 pub(crate) trait Tree: Release {
-    /// What may stand round one operand.
+    /// Operators over one operand.
     type Sign: Drop;
 
     ghost says: { Self → Expression };
@@ -72,30 +71,33 @@ pub(crate) trait Tree: Release {
     fn open(self) -> Node<Self, Self::Sign>
         ensures { IsOpened says stands_for (says self) result };
 
-    /// An operand in its sign.
+    /// Rebuilds an expression from an operator and its operand.
     fn enclose(alloc: Global, sign: Self::Sign, operand: Self) -> Result<Self, Fault>
         ensures whole { IfOk result (λ whole. says whole ≡ around (stands_for sign) (says operand)) }
         ensures memory { IfErr result (λ fault. fault ≡ Fault.Memory alloc_error) };
 
-    /// Two operands side by side.
+    /// Rebuilds an expression from an operator and its two operands.
     fn join(alloc: Global, joint: Joint, left: Self, right: Self) -> Result<Self, Fault>
         ensures whole { IfOk result (λ whole. says whole ≡ joined joint (says left) (says right)) }
         ensures memory { IfErr result (λ fault. fault ≡ Fault.Memory alloc_error) };
 
-    /// The same expression again.
+    /// Copies the expression.
     fn copy(&self) -> Result<Self, AllocError>
         ensures { IfOk result (λ copy. says copy ≡ says self.now) };
 }
 
-/// An operand in a box of its own.
-pub(crate) fn boxed<E: Release>(alloc: Global, operand: Deep<E>) -> Result<Deep<Box<E>>, Fault>
+/// Moves an operand into a box.
+pub(crate) fn box_operand<E: Release>(
+    alloc: Global,
+    operand: Deep<E>,
+) -> Result<Deep<Box<E>>, Fault>
     ensures boxed { IfOk result (λ b. b.value.value ≡ operand.value) }
     ensures memory { IfErr result (λ fault. fault ≡ Fault.Memory alloc_error) }
 {
-    Ok(operand.boxed(alloc)?)
+    Ok(operand.into_box(alloc)?)
 }
 
-/// Two operands without their boxes.
+/// Unboxes two operands.
 pub(crate) fn two<E: Drop, S: Drop>(joint: Joint, left: Box<E>, right: Box<E>) -> Node<E, S>
     ensures { result ≡ Node.Two joint left.value right.value }
 {

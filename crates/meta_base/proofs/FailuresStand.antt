@@ -6,7 +6,7 @@ use Rattle.meta_base.specs.Language.State.{Classes, State, Outcome, Success, Fai
 use Rattle.meta_base.specs.Language.Text.{Text, IsPosition}
 use Rattle.meta_base.specs.Language.Meaning.{Does, Task, str, insens, range, slice, skip, call, other, pos_pred, neg_pred, push, restore, seq, seq_first, seq_second, left, right, opt, opt_none, rep_none, turn, turn_none, rep_exact, rep_max, rep_min_max, skips, atomic, compound_atomic, between, seen_from, gives_token, rep, rep_once, rep_min, push_literal, tag}
 use Rattle.meta_base.specs.Language.FurthestFailure.{furthest, place_of, is_eoi}
-use Rattle.meta_base.specs.Language.Places.{Stands}
+use Rattle.meta_base.specs.Language.Places.{IsStateIn}
 use Rattle.meta_base.proofs.TreesAreNested.{fits}
 
 module _ (text : Text) where
@@ -23,15 +23,15 @@ module _ (text : Text) where
   greater : (a b : ℕ) → IsPosition text a → IsPosition text b → IsPosition text (max a b)
   greater a b p q = either a b (leb_tells a b) p q
 
-  on : (s : State) → Stands text s → IsPosition text s.position
+  on : (s : State) → IsStateIn text s → IsPosition text s.position
   on s h = record { front = h.front; back = s.rest; split = h.split; size = h.size }
 
-  of_call : (b : Bool) (s : State) (o : Outcome) → Stands text s → IsPosition text (place_of b s o)
+  of_call : (b : Bool) (s : State) (o : Outcome) → IsStateIn text s → IsPosition text (place_of b s o)
   of_call b s (Success t us) h = at_start
   of_call true s Failure h = on s h
   of_call false s Failure h = at_start
 
-  pub stands_at : {g : Grammar} {classes : Classes} {k : Task} {s : State} {o : Outcome} (d : Does g classes k s o) → Stands text s → IsPosition text (furthest d)
+  pub stands_at : {g : Grammar} {classes : Classes} {k : Task} {s : State} {o : Outcome} (d : Does g classes k s o) → IsStateIn text s → IsPosition text (furthest d)
   stands_at str h = at_start
   stands_at insens h = at_start
   stands_at range h = at_start

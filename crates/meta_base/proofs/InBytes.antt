@@ -9,7 +9,7 @@ use Rattle.std.proofs.lemmas.List.{length-append}
 use Rattle.std.proofs.lemmas.List.Sums.{sum_by-cons}
 use Rattle.std.proofs.lemmas.Str.{encodes-append, encodes-chars, length-encode, scalars-chars, IsCharBoundary-at_seam}
 use Rattle.meta_base.specs.Language.Text.{Text, IsPosition, size_of}
-use Rattle.meta_base.specs.Language.Places.{Nested, Stands}
+use Rattle.meta_base.specs.Language.Places.{Nested, IsStateIn}
 use Rattle.meta_base.specs.Language.State.{State}
 use Rattle.meta_base.specs.Pieces.TokenTrees.{TokenTrees, NoTokens, Token, AreNested}
 use Rattle.meta_base.specs.Pieces.NamedTrees.{named}
@@ -43,7 +43,7 @@ module _ (text : List ℕ) (utf8 : IsUtf8 text) where
   nested_bytes (Token rule start end_ inner others) from to n =
       ((n.0, (on_bytes start n.1, on_bytes end_ n.2)), (nested_bytes inner start end_ n.3, nested_bytes others end_ to n.4))
 
-  pub ends_within : (s : State) → Stands (chars text) s → s.position ≤ length text
+  pub ends_within : (s : State) → IsStateIn (chars text) s → s.position ≤ length text
   ends_within s h =
       let e = ap length (split_bytes h.front s.rest h.split) ∙ length-append (encodes h.front) (encodes s.rest) in
       omega (arith, e, h.size, sizes h.front)

@@ -1,4 +1,4 @@
--- What grammars are, and what they match.
+-- Grammars, and the meaning of their expressions.
 pub mod Builtins
 pub mod Expected
 pub mod Expression

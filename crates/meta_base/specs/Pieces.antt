@@ -1,4 +1,4 @@
--- Pieces of a text, trees over them, and errors that tell of them.
+-- Pieces of a text, trees over them, and errors about them.
 pub mod Comparing
 pub mod Faults
 pub mod LineColumn

@@ -1,4 +1,4 @@
--- What the optimizer may do to rules.
+-- Rewritings that the optimizer may apply to rules.
 pub mod Equality
 pub mod Erased
 pub mod Listing

@@ -1,5 +1,5 @@
-//! What the derived clone, `==`, order and hash of this crate's types answer: laws on the ghost members of
-//! the derived impls, which the derived methods are proved to answer.
+//! Laws of the derived clone, `==`, order and hash of this crate's types, on the ghost members of the
+//! derived impls, which the derived methods are proved to answer.
 ghost use Rattle.std.specs.Prelude.{◌≡◌, ◌↔◌, ℕ, Some, IsTrue, Contains, slice_get};
 ghost use Rattle.std.specs.Ordering.{nat_cmp};
 ghost use Rattle.std.specs.Hash as fed;
@@ -16,7 +16,7 @@ pub fn equality_of_rules()
 {}
 
 /// `EOI` is the least rule, and the others are in the order of the meta-grammar: two rules compare as their
-/// places in this list, which has them all.
+/// indices in this list, which has them all.
 pub fn order_of_rules()
     ensures listed { (rule : Rule) → Contains ascending_rules rule }
     ensures cmp { (a b : Rule) (i j : ℕ)
@@ -26,7 +26,7 @@ pub fn order_of_rules()
         → ⟦<Rule as PartialOrd>⟧.partial_cmp a b ≡ Some (⟦<Rule as Ord>⟧.cmp a b) }
 {}
 
-/// Of a rule a hasher is fed its place in that order, as a `usize`, and nothing else.
+/// A hasher is fed a rule's index in that order, as a `usize`, and nothing else.
 pub fn hash_of_rules()
     ensures { (rule : Rule) (i : ℕ) → slice_get ascending_rules i ≡ Some rule
         → ⟦<Rule as Hash>⟧.hash_input rule ≡ fed.usize i }
@@ -68,17 +68,17 @@ pub fn equality_of_spans()
         ↔ (piece_of a ≡ piece_of b) }
 {}
 
-/// Two positions are equal where they stand before one byte of texts that are equal.
+/// Two positions are equal where they are before one byte of texts that are equal.
 pub fn equality_of_positions()
     ensures { (a b : Position) → IsTrue (⟦<Position<'static> as PartialEq>⟧.eq a b) ↔ SamePlace a b }
 {}
 
-/// What is wrong is equal where both times no rule matched, or both times the message is the same.
+/// Two variants are equal where both times no rule matched, or both messages are equal.
 pub fn equality_of_variants()
     ensures { (a b : ErrorVariant) → IsTrue (⟦<ErrorVariant as PartialEq>⟧.eq a b) ↔ SaySame a b }
 {}
 
-/// Two locations in bytes are equal where they are one place, or one start and one end.
+/// Two locations in bytes are equal where they are one position, or one start and one end.
 pub fn equality_of_locations()
     ensures { (a b : InputLocation) → IsTrue (⟦<InputLocation as PartialEq>⟧.eq a b) ↔ (a ≡ b) }
 {}
@@ -88,7 +88,7 @@ pub fn equality_of_lines_and_columns()
     ensures { (a b : LineColLocation) → IsTrue (⟦<LineColLocation as PartialEq>⟧.eq a b) ↔ (a ≡ b) }
 {}
 
-/// Two errors are equal where they say the same, stand at the same places and print the same line.
+/// Two errors are equal where their messages, positions and printed lines are equal.
 pub fn equality_of_errors<R>()
     ensures { (a b : Error R) → IsTrue (⟦<Error<R> as PartialEq>⟧.eq a b) ↔ SameError a b }
 {}

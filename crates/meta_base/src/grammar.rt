@@ -79,7 +79,7 @@ impl Rule {
     ghost use Rattle.std.specs.Prelude.{◌≡◌};
     ghost use Rattle.meta_base.specs.Pieces.MetaRules.{meta_rules, name_of};
 
-    /// All rules of the meta-grammar, in its order: 65, `EOI` not among them.
+    /// Returns all rules of the meta-grammar, in its order: 65, without `EOI`.
     pub fn all_rules() -> &'static [Rule]
         ensures { result.now ≡ meta_rules }
     {

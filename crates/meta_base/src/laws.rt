@@ -12,7 +12,7 @@ ghost use Rattle.meta_base.specs.Language.LooseMeaning.{Restored, IsSafe, SameEn
 ghost use Rattle.meta_base.specs.Language.WellFormed.{IsNullable, CannotFail, HasReadableCounts, NamesHaveReadableCounts};
 ghost use Rattle.meta_base.specs.Language.WellFormed.{InRules, InSomeRule, IsWellFormed, IsPlain, Start, EndsFrom};
 ghost use Rattle.meta_base.specs.Language.Grammar.{HasDistinctNames, IsGrammar};
-ghost use Rattle.meta_base.specs.Language.Places.{FitsIn, Stands};
+ghost use Rattle.meta_base.specs.Language.Places.{FitsIn, IsStateIn};
 ghost use Rattle.meta_base.specs.Language.Text.{IsPosition, Text};
 
 /// An expression has at most one outcome from one start.
@@ -32,9 +32,9 @@ pub fn terminates()
         → NamesHaveReadableCounts g → IsWellFormed g → IsPlain g → EndsFrom g classes start }
 {}
 
-/// Where names are distinct, what stands in some rule of the list stands in the rule that a name means, and
-/// the other way round; and readable counts are the same by the rules of the list and by the rules that names
-/// mean.
+/// Where names are distinct, an expression that occurs in some rule of the list occurs in the rule that a
+/// name means, and the other way round; and readable counts are the same by the rules of the list and by
+/// the rules that names mean.
 pub fn distinct_names_hide_no_rule()
     ensures parts { (g : Grammar) (p : Expression) → HasDistinctNames g → InSomeRule g p ↔ InRules g p }
     ensures counts { (g : Grammar) → HasDistinctNames g → HasReadableCounts g ↔ NamesHaveReadableCounts g }
@@ -51,7 +51,7 @@ pub fn steps_keep_plain()
     ensures { (g h : Grammar) → Chain g h → IsPlain g → IsPlain h }
 {}
 
-/// What steps make of a grammar is a grammar, and counts stay readable in every list of rules.
+/// Steps turn a grammar into a grammar, and counts stay readable in every list of rules.
 pub fn steps_keep_grammars()
     ensures grammar { (g h : Grammar) → Chain g h → IsGrammar g → IsGrammar h }
     ensures counts { (g h : Grammar) → Chain g h → HasReadableCounts g → HasReadableCounts h }
@@ -92,7 +92,7 @@ pub fn stays_well_formed()
     ensures wrappers_plain { (g h : Grammar) → EachRestored g h → IsPlain g → IsPlain h }
 {}
 
-/// Whatever cannot fail is nullable: it may succeed without taking anything.
+/// An expression that cannot fail is nullable.
 pub fn what_cannot_fail_is_nullable()
     ensures { (g : Grammar) (e : Expression) → CannotFail g e → IsNullable g e }
 {}
@@ -102,25 +102,25 @@ pub fn bodies_run_in_rule_modes()
     ensures { (r : Rule) (m : Mode) → IsRuleMode (body_mode r m) }
 {}
 
-/// A failure has one place.
+/// A failure has one position.
 pub fn one_place_of_failure()
     ensures { (g : Grammar) (classes : Classes) (e : Expression) (m : Mode) (s : State) (o : Outcome)
         → (d f : Matches g classes e m s o) → furthest d ≡ furthest f }
 {}
 
-/// From one start there is one list of what is expected at the furthest place.
+/// From one start there is one list of the names that are expected at the furthest position.
 pub fn one_list_of_what_is_expected()
     ensures { (g : Grammar) (classes : Classes) (e : Expression) (m : Mode) (s : State) (o p : Outcome)
         → (d : Matches g classes e m s o) → (f : Matches g classes e m s p) → expected d ≡ expected f }
 {}
 
-/// Where nothing is skipped, a listed rule matches what it matched before.
+/// Where nothing is skipped, a listed rule matches the same texts as before.
 pub fn listing_keeps_matches()
     ensures { ListingKeeps }
 {}
 
-/// Where wrappers stand as they should, a meaning in which a failed POP keeps its removal has the same
-/// outcomes.
+/// With wrappers where the restorer puts them, a meaning in which a failed POP keeps its removal has the
+/// same outcomes.
 pub fn restored_agrees()
     ensures { (g : Grammar) (classes : Classes) (e : Expression) (m : Mode) (s : State)
         → Restored g → IsSafe g e → SameEndings g classes e m s }
@@ -132,20 +132,20 @@ pub fn pass_is_a_chain()
     ensures { (g h i : Grammar) → Chain g h → EachRewritten g h i → Chain h i }
 {}
 
-/// Rotations at any places of any rules keep the outcomes, whatever the rules are called.
+/// Rotations at any positions of any rules keep the outcomes, whatever the rules are called.
 pub fn rotations_keep_outcomes()
     ensures { (g h : Grammar) → EachBody (λ _. Many Rotates) g h → SameOutcomes g h }
 {}
 
-/// What is found from a place of a text stands in that text: the trees are in order and apart, each lies
-/// around those that it holds, and each begins and ends on a character.
+/// The trees of a match from a position of a text are in that text: in order and disjoint, around the trees
+/// inside them, and on character boundaries.
 pub fn trees_are_nested()
     ensures { (text : Text) (g : Grammar) (classes : Classes) (k : Task) (s : State) (o : Outcome)
-        → Does g classes k s o → Stands text s → FitsIn text s o }
+        → Does g classes k s o → IsStateIn text s → FitsIn text s o }
 {}
 
-/// The place of a failure stands on a character of the text.
+/// The position of a failure is on a character boundary of the text.
 pub fn failures_are_on_characters()
     ensures { (text : Text) (g : Grammar) (classes : Classes) (k : Task) (s : State) (o : Outcome)
-        → (d : Does g classes k s o) → Stands text s → IsPosition text (furthest d) }
+        → (d : Does g classes k s o) → IsStateIn text s → IsPosition text (furthest d) }
 {}

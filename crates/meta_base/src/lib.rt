@@ -1,4 +1,4 @@
-//! The base of the front end: what an expression means, and the types that every layer above speaks of.
+//! The base of the front end: the meaning of expressions, and the types that every layer above uses.
 #![tactic(auto)]
 
 pub mod derived;

@@ -1,5 +1,5 @@
-//! What stands for the parts of the crate `pest` that a reader of grammars calls: places in a text, pairs and
-//! errors; and the faults of every call.
+//! The parts of the crate `pest` that a reader of grammars calls: positions in a text, pairs and errors;
+//! and the faults of every call.
 
 mod errors;
 mod faults;

@@ -7,10 +7,10 @@ use Rattle.meta_base.specs.Language.Meaning.{Matches, str, call, seq, seq_second
 use Rattle.meta_base.specs.Language.FurthestFailure.{furthest}
 use Rattle.meta_base.proofs.FailurePlaces.{one_place}
 use Rattle.meta_examples.specs.SmallGrammars.{at_start}
-use Rattle.meta_examples.specs.FurthestPlaces.{ComesTo, CountsUnderPredicate, CountsByMode, CountsWhenGivenUp}
+use Rattle.meta_examples.specs.FurthestPlaces.{HasRun, CountsUnderPredicate, CountsByMode, CountsWhenGivenUp}
 
 -- all derivations have the place of one
-comes_to : {g : Grammar} {classes : Classes} {t : Text} {o : Outcome} {n : ℕ} (f : Matches g classes (Ident (codes "a")) NonAtomicMode (at_start t) o) → furthest f ≡ n → ComesTo g classes t o n
+comes_to : {g : Grammar} {classes : Classes} {t : Text} {o : Outcome} {n : ℕ} (f : Matches g classes (Ident (codes "a")) NonAtomicMode (at_start t) o) → furthest f ≡ n → HasRun g classes t o n
 comes_to {g} {classes} f h = record { outcome = f; furthest_failure = λ d. one_place g classes d f ∙ h }
 
 module _ (classes : Classes) where

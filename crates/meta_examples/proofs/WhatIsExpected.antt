@@ -8,24 +8,24 @@ use Rattle.meta_base.specs.Language.Builtins.{builtins}
 use Rattle.meta_base.specs.Language.Expected.{expected}
 use Rattle.meta_base.proofs.ExpectedOnce.{one_expected}
 use Rattle.meta_examples.specs.SmallGrammars.{at_start}
-use Rattle.meta_examples.specs.ExpectedPlaces.{Expects, NoneBelowNot, NoneInAtomic, TellsAll, TellsTheOuter}
+use Rattle.meta_examples.specs.ExpectedPlaces.{Expects, NoneBelowNot, NoneInAtomic, ExpectsAll, ExpectsTheOuter}
 
 -- all derivations tell what one tells
 pub expects : {g : Grammar} {classes : Classes} {t : Text} {names : List Text} (f : Matches g classes (Ident (codes "a")) NonAtomicMode (at_start t) Failure) → expected f ≡ names → Expects g classes t names
 expects {g} {classes} f h = record { fails = f; expects = λ d. one_expected g classes d f ∙ h }
 
 module _ (classes : Classes) where
-  pub tells_the_outer : TellsTheOuter classes
+  pub expects_the_outer : ExpectsTheOuter classes
   unfolding whitespace comment
-  tells_the_outer = record {
+  expects_the_outer = record {
     of_both = expects (call refl (seq_second str compound_atomic (call refl (right (call refl str) str)))) refl;
     below_silent = expects (call refl (seq_second str compound_atomic (call refl (right (call refl str) str)))) refl;
     further_on = expects (call refl (seq_second str compound_atomic (call refl (seq_second str compound_atomic (call refl str))))) refl;
   }
 
-  pub tells_all : TellsAll classes
+  pub expects_all : ExpectsAll classes
   unfolding whitespace comment builtins
-  tells_all = record {
+  expects_all = record {
     both = expects (call refl (seq_second str compound_atomic (right (call refl str) (call refl str)))) refl;
     the_end = expects (call refl (seq_second str compound_atomic (right (other refl refl) (call refl str)))) refl;
   }

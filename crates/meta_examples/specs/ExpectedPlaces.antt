@@ -1,4 +1,4 @@
--- What is expected where a match gets no further.
+-- Expected names where a match gets no further.
 use Rattle.std.specs.Prelude.{◌≡◌, List, [], ◌∷◌, codes}
 use Rattle.meta_base.specs.Language.Text.{Text}
 use Rattle.meta_base.specs.Language.Expression.{Expression, Str, Ident, Seq, Choice, Opt, NegPred, PosPred, RuleType, Normal, Silent, Atomic, CompoundAtomic, Grammar}
@@ -23,7 +23,7 @@ above_b_and_c type_of_a a type_of_b b =
 
 -- on `xw`, `a = ${ "x" ~ b }` with b = { c | "y" } expects b: the call of c began where that of b did. Where
 -- b is Silent it expects c, and so it does where b takes a `w` before c
-pub record TellsTheOuter (classes : Classes) : Type 0 where
+pub record ExpectsTheOuter (classes : Classes) : Type 0 where
   pub of_both : Expects (above_b_and_c CompoundAtomic (Seq (Str (codes "x")) (Ident (codes "b")))
       Normal (Choice (Ident (codes "c")) (Str (codes "y")))) classes (codes "xw") (codes "b" ∷ [])
   pub below_silent : Expects (above_b_and_c CompoundAtomic (Seq (Str (codes "x")) (Ident (codes "b")))
@@ -33,7 +33,7 @@ pub record TellsTheOuter (classes : Classes) : Type 0 where
 
 -- on `xw`, `a = ${ "x" ~ (b | c) }` expects both, in this order, and EOI with them where it is asked for
 -- first
-pub record TellsAll (classes : Classes) : Type 0 where
+pub record ExpectsAll (classes : Classes) : Type 0 where
   pub both : Expects (above_b_and_c CompoundAtomic
       (Seq (Str (codes "x")) (Choice (Ident (codes "b")) (Ident (codes "c"))))
       Normal (Str (codes "y"))) classes (codes "xw") (codes "b" ∷ codes "c" ∷ [])

@@ -1,4 +1,4 @@
--- Which failures count for the place that an error tells of.
+-- Failures that count for the position of an error.
 use Rattle.std.specs.Prelude.{◌≡◌, ℕ, [], ◌∷◌, codes}
 use Rattle.meta_base.specs.Language.Text.{Text}
 use Rattle.meta_base.specs.Language.Expression.{Expression, Str, Ident, Seq, Choice, NegPred, RuleType, Normal, Atomic, CompoundAtomic, Grammar}
@@ -7,8 +7,8 @@ use Rattle.meta_base.specs.Language.Meaning.{Matches}
 use Rattle.meta_base.specs.Language.FurthestFailure.{furthest}
 use Rattle.meta_examples.specs.SmallGrammars.{at_start, end_of}
 
--- the rule `a` has this outcome on a text, and the furthest failure that counts stands here
-pub record ComesTo (g : Grammar) (classes : Classes) (t : Text) (o : Outcome) (place : ℕ) : Type 0 where
+-- the rule `a` has this outcome on a text, and this is the position of the furthest failure that counts
+pub record HasRun (g : Grammar) (classes : Classes) (t : Text) (o : Outcome) (place : ℕ) : Type 0 where
   pub outcome : Matches g classes (Ident (codes "a")) NonAtomicMode (at_start t) o
   pub furthest_failure : (d : Matches g classes (Ident (codes "a")) NonAtomicMode (at_start t) o)
       → furthest d ≡ place
@@ -22,24 +22,24 @@ above_b type_of body =
 
 -- on `xz`, `a = ${ "x" ~ !b ~ "z" }` succeeds: the call of `b` that failed below the predicate counts
 abbrev pub CountsUnderPredicate : Classes → Type 0
-CountsUnderPredicate classes = ComesTo
+CountsUnderPredicate classes = HasRun
     (above_b CompoundAtomic (Seq (Str (codes "x")) (Seq (NegPred (Ident (codes "b"))) (Str (codes "z")))))
     classes (codes "xz") (Success (end_of 2 (at_start [])) (Tree (codes "a") 0 2 None' None')) 1
 
 -- on `xz`, the call of `b` in `"x" ~ b` fails at 1: in an Atomic rule it doesn't count, so that no place is
 -- further than the start, where the rule itself fails; in a CompoundAtomic one it counts
 pub record CountsByMode (classes : Classes) : Type 0 where
-  pub in_atomic : ComesTo (above_b Atomic (Seq (Str (codes "x")) (Ident (codes "b")))) classes (codes "xz")
+  pub in_atomic : HasRun (above_b Atomic (Seq (Str (codes "x")) (Ident (codes "b")))) classes (codes "xz")
       Failure 0
-  pub in_compound_atomic : ComesTo (above_b CompoundAtomic (Seq (Str (codes "x")) (Ident (codes "b"))))
+  pub in_compound_atomic : HasRun (above_b CompoundAtomic (Seq (Str (codes "x")) (Ident (codes "b"))))
       classes (codes "xz") Failure 1
 
 -- on `xz`, the first side of `a = ${ "x" ~ b | "z" }` is given up at 1: its call of `b` counts, also where
 -- another side then matches
 pub record CountsWhenGivenUp (classes : Classes) : Type 0 where
-  pub both_fail : ComesTo
+  pub both_fail : HasRun
       (above_b CompoundAtomic (Choice (Seq (Str (codes "x")) (Ident (codes "b"))) (Str (codes "z"))))
       classes (codes "xz") Failure 1
-  pub second_matches : ComesTo
+  pub second_matches : HasRun
       (above_b CompoundAtomic (Choice (Seq (Str (codes "x")) (Ident (codes "b"))) (Str (codes "xz"))))
       classes (codes "xz") (Success (end_of 2 (at_start [])) (Tree (codes "a") 0 2 None' None')) 1

@@ -1,4 +1,4 @@
--- What a few expressions do in the meaning in which a failure leaves a stack.
+-- Outcomes of a few expressions in the meaning in which a failure leaves a stack.
 use Rattle.std.specs.Prelude.{[], ◌∷◌, codes}
 use Rattle.meta_base.specs.Language.Expression.{Str, Ident, Choice, RepOnce, RepExact, RestoreOnErr, Normal, Grammar}
 use Rattle.meta_base.specs.Language.State.{NonAtomicMode, None', Tree, Success, Failure, Classes}
@@ -17,8 +17,8 @@ pub record FailuresLose (classes : Classes) : Type 0 where
   pub one_copy : MatchesLoosely [] classes (RepExact (Ident (codes "POP")) 1) NonAtomicMode
       (stacked (codes "a")) (Lost (codes "a" ∷ []))
 
--- `POP | PEEK` goes on from what the failed POP left: so it matches where it fails in the strict meaning;
--- with the wrapper round POP it fails in both
+-- in `POP | PEEK` the second starts from the stack that the failed POP left: so it matches where it fails
+-- in the strict meaning; with the wrapper around POP it fails in both
 pub record GoesOnFromWhatIsLeft (classes : Classes) : Type 0 where
   pub loosely : MatchesLoosely [] classes (Choice (Ident (codes "POP")) (Ident (codes "PEEK"))) NonAtomicMode
       (stacked (codes "a")) (Done (record { position = 1; rest = []; stack = codes "a" ∷ [] }) None')

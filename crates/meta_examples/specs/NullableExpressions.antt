@@ -44,7 +44,7 @@ pub record CannotFailOrMay : Type 0 where
   pub tagged_empty : (t : Text) → CannotFail [] (NodeTag (Str []) t)
   pub tagged_literal : (t : Text) → CannotFail [] (NodeTag (Str (codes "x")) t) → ⊥
 
--- below predicates and tags, and behind a left side that is nullable
+-- below predicates and tags, and after a left side that is nullable
 pub record LeftCalledOrNot : Type 0 where
   pub below_pos_pred : LeftCalls [] (PosPred (Ident (codes "a"))) (codes "a")
   pub below_neg_pred : LeftCalls [] (NegPred (Ident (codes "a"))) (codes "a")

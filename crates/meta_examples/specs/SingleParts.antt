@@ -1,11 +1,11 @@
--- What single parts do: builtins, copies, options and turns.
+-- Outcomes of single parts: builtins, copies, options and turns.
 use Rattle.std.specs.Prelude.{◌≡◌, true, false, [], ◌∷◌, codes}
 use Rattle.meta_base.specs.Language.Expression.{Str, Ident, Seq, Opt, Rep, RepExact, RepMin, Silent, Normal, Grammar}
 use Rattle.meta_base.specs.Language.State.{NonAtomicMode, AtomicMode, None', Tree, Success, Failure, Classes}
 use Rattle.meta_base.specs.Language.Meaning.{Matches}
 use Rattle.meta_examples.specs.SmallGrammars.{at_start, end_of, ends_at}
 
--- SOI takes nothing at position 0, also where text follows, and fails behind a character
+-- SOI takes nothing at position 0, also before more text, and fails after a character
 pub record OnlyAtTheStart (classes : Classes) : Type 0 where
   pub before_text : Matches [] classes (Ident (codes "SOI")) NonAtomicMode (at_start (codes "a"))
       (ends_at (at_start (codes "a")))
@@ -25,7 +25,7 @@ pub record HexDigits (classes : Classes) : Type 0 where
       Failure
   pub at_the_end : Matches [] classes (Ident (codes "ASCII_HEX_DIGIT")) NonAtomicMode (at_start []) Failure
 
--- LETTER takes one character, of two bytes here, if it is in the set that the name stands for
+-- LETTER takes one character, of two bytes here, if it is in the set of that name
 pub record AsksTheSet (classes : Classes) : Type 0 where
   pub among : classes (codes "LETTER") 233 ≡ true
       → Matches [] classes (Ident (codes "LETTER")) NonAtomicMode (at_start (233 ∷ []))
@@ -57,7 +57,7 @@ turns =
     ∷ record { name = codes "a"; type_of = Normal; body = Rep (Str (codes "x")) }
     ∷ []
 
--- a later turn that fails gives back what it took, and what was skipped before it
+-- a later turn that fails gives back the input that it took, and that was skipped before it
 pub record LaterTurnsFail (classes : Classes) : Type 0 where
   pub taken : Matches [] classes (Rep (Seq (Str (codes "x")) (Str (codes "y")))) AtomicMode
       (at_start (codes "xyxz")) (ends_at (record { position = 2; rest = codes "xz"; stack = [] }))

@@ -1,4 +1,4 @@
--- Small grammars and single expressions, and what they do.
+-- Small grammars and single expressions, and their outcomes.
 use Rattle.std.specs.Prelude.{ℕ, Some, None, pos, negsuc, [], ◌∷◌, codes}
 use Rattle.meta_base.specs.Language.Text.{Text}
 use Rattle.meta_base.specs.Language.Expression.{Expression, Str, Ident, Seq, Choice, Opt, Rep, RepOnce, Normal, Silent, CompoundAtomic, NonAtomic, Grammar, Atomic, Insens, PeekSlice, PosPred, NegPred, Push, Range, RepMinMax, Skip, RuleType}
@@ -45,7 +45,7 @@ ListingDiffers = (classes : Classes) (m : Mode)
     × Matches listed_grammar classes (Ident (codes "r")) m (at_start (codes "ab"))
     (Success (record { position = 1; rest = codes "b"; stack = [] }) (Tree (codes "r") 0 1 None' None'))
 
--- on `x` and a blank, `a` ends behind the blank
+-- on `x` and a blank, `a` ends after the blank
 abbrev pub BlankIsTaken : Type 0
 BlankIsTaken = (classes : Classes) → Matches blanks classes (Ident (codes "a")) NonAtomicMode
     (at_start (codes "x "))
@@ -56,7 +56,7 @@ abbrev pub HasNone : Type 0
 HasNone = (classes : Classes) (m : Mode) (o : Outcome)
     → Matches endless classes (Ident (codes "b")) m (at_start (codes "y")) o → ⊥
 
--- the same place with a stack of two entries, "a" pushed before "b"
+-- the start of a text with a stack of two entries, "a" pushed before "b"
 abbrev pub stacked : Text → State
 stacked t = record { position = 0; rest = t; stack = codes "b" ∷ codes "a" ∷ [] }
 
@@ -93,8 +93,8 @@ pub record OrdersOfTheStack (classes : Classes) : Type 0 where
       (ends_at (end_of 2 (stacked [])))
   pub slice_fails : Matches [] classes (PeekSlice (pos 0) None) NonAtomicMode (stacked (codes "ba")) Failure
 
--- a negative number counts from the stack's length: -1 is the top; -3 lies below two entries;
--- an end before the start matches nothing
+-- a negative number counts from the stack's length: -1 is the top; -3 is below two entries; an end before
+-- the start matches nothing
 pub record NegativeSlices (classes : Classes) : Type 0 where
   pub top : Matches [] classes (PeekSlice (negsuc 0) None) NonAtomicMode (stacked (codes "b"))
       (ends_at (end_of 1 (stacked [])))
@@ -127,8 +127,7 @@ abbrev pub PushPushes : Classes → Type 0
 PushPushes classes = Matches [] classes (Push (Str (codes "a"))) NonAtomicMode (at_start (codes "ab"))
     (ends_at (record { position = 1; rest = codes "b"; stack = codes "a" ∷ [] }))
 
--- `Skip` stays where the empty text is among its strings, goes to the end where none stands,
--- and stays at the end
+-- `Skip` stays if the empty text is among its strings, goes to the end if none occurs, and stays at the end
 pub record Skips (classes : Classes) : Type 0 where
   pub empty : Matches [] classes (Skip (codes "x" ∷ [] ∷ [])) AtomicMode (at_start (codes "ab"))
       (ends_at (at_start (codes "ab")))
@@ -139,7 +138,7 @@ pub record Skips (classes : Classes) : Type 0 where
   pub found : Matches [] classes (Skip (codes "x" ∷ codes "b" ∷ [])) AtomicMode (at_start (codes "ab"))
       (ends_at (record { position = 1; rest = codes "b"; stack = [] }))
 
--- NEWLINE takes a carriage return and the line feed behind it, and a carriage return alone
+-- NEWLINE takes a carriage return and the line feed after it, and a carriage return alone
 pub record Newlines (classes : Classes) : Type 0 where
   pub both : Matches [] classes (Ident (codes "NEWLINE")) NonAtomicMode (at_start (13 ∷ 10 ∷ []))
       (ends_at (end_of 2 (at_start [])))
@@ -218,13 +217,13 @@ pub record EmptiesTheStack (classes : Classes) : Type 0 where
   pub pop_all_fails : Matches [] classes (Ident (codes "POP_ALL")) NonAtomicMode (stacked (codes "ab"))
       Failure
 
--- `!"a"` succeeds where `"a"` fails, and takes nothing; it fails where `"a"` succeeds
+-- `!"a"` succeeds where `"a"` fails, and takes nothing; where `"a"` succeeds, it fails
 pub record NegativePredicates (classes : Classes) : Type 0 where
   pub holds : Matches [] classes (NegPred (Str (codes "a"))) NonAtomicMode (at_start (codes "b"))
       (ends_at (at_start (codes "b")))
   pub fails : Matches [] classes (NegPred (Str (codes "a"))) NonAtomicMode (at_start (codes "a")) Failure
 
--- a second alternative is taken after the first has failed, from the same place, and only then
+-- a second alternative is tried after the first has failed, from the same position, and only then
 pub record Alternatives (classes : Classes) : Type 0 where
   pub second : Matches [] classes
       (Choice (Seq (Str (codes "a")) (Str (codes "b"))) (Str (codes "ac"))) AtomicMode
@@ -242,7 +241,7 @@ commented =
     ∷ record { name = codes "a"; type_of = Normal; body = Seq (Str (codes "x")) (Str (codes "y")) }
     ∷ []
 
--- comments are skipped with blanks before, between and behind them
+-- comments are skipped with blanks before, between and after them
 abbrev pub CommentsAreSkipped : Classes → Type 0
 CommentsAreSkipped classes = Matches commented classes (Ident (codes "a")) NonAtomicMode
     (at_start (codes "x # # y")) (Success (end_of 7 (at_start []))
@@ -314,8 +313,8 @@ wordy_comments type_of =
     ∷ record { name = codes "a"; type_of = Normal; body = Seq (Str (codes "x")) (Str (codes "y")) }
     ∷ []
 
--- a COMMENT declared `$` runs CompoundAtomic, so what it calls gives tokens; another runs Atomic, and there
--- it gives none
+-- a COMMENT declared `$` runs CompoundAtomic, so its calls give tokens; another runs Atomic, and there they
+-- give none
 pub record CompoundComments (classes : Classes) : Type 0 where
   pub declared : Matches (wordy_comments CompoundAtomic) classes (Ident (codes "a")) NonAtomicMode
       (at_start (codes "x#wy")) (Success (end_of 4 (at_start []))

@@ -20,7 +20,7 @@ two_literals =
     ∷ record { name = codes "b"; type_of = Normal; body = Str (codes "yz") }
     ∷ []
 
--- the strings that `a | b` stands for, in order
+-- the strings of `a | b` as a choice of literals, in order
 abbrev pub StringsOfNames : Type 0
 StringsOfNames =
     Strings two_literals (Choice (Ident (codes "a")) (Ident (codes "b"))) (codes "x" ∷ codes "yz" ∷ [])

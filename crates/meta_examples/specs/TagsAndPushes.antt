@@ -1,4 +1,4 @@
--- What tags and literal pushes do.
+-- Outcomes of tags and literal pushes.
 use Rattle.std.specs.Prelude.{◌≡◌, ◌↔◌, [], ◌∷◌, codes}
 use Rattle.meta_base.specs.Language.Text.{Text}
 use Rattle.meta_base.specs.Language.Expression.{Expression, Str, Ident, Seq, Choice, PushLiteral, NodeTag, Normal, CompoundAtomic, Grammar}
@@ -19,9 +19,9 @@ pushing =
     ∷ record { name = codes "b"; type_of = Normal; body = Str (codes "y") }
     ∷ []
 
--- a literal push pushes its text, be it empty or at the end of what is read, and takes nothing; it has no
--- other outcome, and gives no tree; a POP behind it takes the text; where a sequence fails behind it, its
--- text is off the stack again
+-- a literal push pushes its text, be it empty or at the end of the input, and takes nothing; no other
+-- outcome exists, and no tree; a POP after it takes the text; where a sequence fails after it, its text is
+-- off the stack again
 pub record LiteralPushes (classes : Classes) : Type 0 where
   pub pushes : Matches [] classes (PushLiteral (codes "x")) NonAtomicMode (stacked (codes "y"))
       (ends_at (record { position = 0; rest = codes "y"; stack = codes "x" ∷ codes "b" ∷ codes "a" ∷ [] }))
@@ -48,8 +48,8 @@ tagged =
     ∷ record { name = codes "b"; type_of = Normal; body = Str (codes "x") }
     ∷ []
 
--- a tag means what is in it, in every grammar and from every state, and trees are as without it; a failed POP
--- in it loses its entry; a call in it that fails is expected, as without it
+-- a tag means the expression in it, in every grammar and from every state, and trees are as without it; a
+-- failed POP in it loses its entry; a failed call in it is expected, as without it
 pub record TagsMeanNothing (classes : Classes) : Type 0 where
   pub same_outcomes : (g : Grammar) (e : Expression) (t : Text) (m : Mode) (s : State) (o : Outcome)
       → Matches g classes (NodeTag e t) m s o ↔ Matches g classes e m s o

@@ -1,9 +1,9 @@
-//! Facts on small grammars: what they do, tied to the definitions.
+//! Facts on small grammars: their outcomes by the definitions.
 ghost use Rattle.meta_base.specs.Language.State.{Classes};
 ghost use Rattle.meta_examples.specs.SmallGrammars.{ListingDiffers, BlankIsTaken, HasNone, ReadsEmptyStack, OrdersOfTheStack, NegativeSlices, TokensOfAtomicRules, PredicateRestores, PushPushes, Skips, Newlines, RangesThatFail, BlankGivesToken, NonAtomicInside, LastRuleIsMeant, OtherReadings, ReadsTheTop, EmptiesTheStack, NegativePredicates, Alternatives, CommentsAreSkipped, UndefinedNames, LoudBlanks, SlicesPastTheLength, TokensOfTheEnd, CompoundInsideAtomic, CompoundComments};
 ghost use Rattle.meta_examples.specs.SingleParts.{OnlyAtTheStart, HexDigits, AsksTheSet, TwoCopies, Options, LaterTurnsFail};
 ghost use Rattle.meta_examples.specs.FurthestPlaces.{CountsUnderPredicate, CountsByMode, CountsWhenGivenUp};
-ghost use Rattle.meta_examples.specs.ExpectedPlaces.{NoneBelowNot, NoneInAtomic, TellsAll, TellsTheOuter};
+ghost use Rattle.meta_examples.specs.ExpectedPlaces.{NoneBelowNot, NoneInAtomic, ExpectsAll, ExpectsTheOuter};
 ghost use Rattle.meta_examples.specs.NullableExpressions.{NullableOrNot, CannotFailOrMay, LeftCalledOrNot};
 ghost use Rattle.meta_examples.specs.SmallRewritings.{ListingIsComputed, StringsOfNames};
 ghost use Rattle.meta_examples.specs.LooseRuns.{FailuresLose, GoesOnFromWhatIsLeft, RepeatsInBoth};
@@ -14,7 +14,7 @@ pub fn listing_differs()
     ensures { ListingDiffers }
 {}
 
-/// With `WHITESPACE = _{ " " }`, the rule `a = { "x"+ }` on `x` and a blank ends behind the blank, at 2.
+/// With `WHITESPACE = _{ " " }`, the rule `a = { "x"+ }` on `x` and a blank ends after the blank, at 2.
 pub fn blank_is_taken()
     ensures { BlankIsTaken }
 {}
@@ -56,12 +56,12 @@ pub fn push_pushes()
     ensures { (classes : Classes) → PushPushes classes }
 {}
 
-/// `Skip` stays where the empty text is among its strings, and goes to the end where none of them stands.
+/// `Skip` stays if the empty text is among its strings, and goes to the end if none of them occurs.
 pub fn skips()
     ensures { (classes : Classes) → Skips classes }
 {}
 
-/// `NEWLINE` takes a carriage return with the line feed behind it, and a carriage return alone.
+/// `NEWLINE` takes a carriage return with the line feed after it, and a carriage return alone.
 pub fn newlines()
     ensures { (classes : Classes) → Newlines classes }
 {}
@@ -107,12 +107,12 @@ pub fn negative_predicates()
     ensures { (classes : Classes) → NegativePredicates classes }
 {}
 
-/// A second alternative is taken after the first has failed, from the same place, and only then.
+/// A second alternative is tried after the first has failed, from the same position, and only then.
 pub fn alternatives()
     ensures { (classes : Classes) → Alternatives classes }
 {}
 
-/// With `WHITESPACE` and `COMMENT`, comments are skipped with blanks before, between and behind them.
+/// With `WHITESPACE` and `COMMENT`, comments are skipped with blanks before, between and after them.
 pub fn comments_are_skipped()
     ensures { (classes : Classes) → CommentsAreSkipped classes }
 {}
@@ -148,7 +148,7 @@ pub fn cannot_fail_or_may()
     ensures { CannotFailOrMay }
 {}
 
-/// A name is left-called below a predicate and behind a nullable left side, and not behind a literal or
+/// A name is left-called below a predicate and after a nullable left side, and not after a literal or
 /// `PEEK`.
 pub fn left_called_or_not()
     ensures { LeftCalledOrNot }
@@ -160,7 +160,7 @@ pub fn listing_is_computed()
     ensures { ListingIsComputed }
 {}
 
-/// A choice of two names stands for the strings of both, in order.
+/// A choice of two names has the strings of both, in order.
 pub fn strings_of_names()
     ensures { StringsOfNames }
 {}
@@ -182,7 +182,7 @@ pub fn repeats_in_both()
     ensures { (classes : Classes) → RepeatsInBoth classes }
 {}
 
-/// `SOI` takes nothing at the start of a text, and fails behind a character.
+/// `SOI` takes nothing at the start of a text, and fails after a character.
 pub fn start_of_the_text()
     ensures { (classes : Classes) → OnlyAtTheStart classes }
 {}
@@ -192,7 +192,7 @@ pub fn hex_digits()
     ensures { (classes : Classes) → HexDigits classes }
 {}
 
-/// `LETTER`, a property name, takes one character if it is in the set that the name stands for.
+/// `LETTER`, a property name, takes one character if it is in the set of that name.
 pub fn asks_the_set()
     ensures { (classes : Classes) → AsksTheSet classes }
 {}
@@ -207,7 +207,7 @@ pub fn options()
     ensures { (classes : Classes) → Options classes }
 {}
 
-/// A later turn that fails gives back what it took, and what was skipped before it.
+/// A later turn that fails gives back the input that it took, and that was skipped before it.
 pub fn later_turns_fail()
     ensures { (classes : Classes) → LaterTurnsFail classes }
 {}
@@ -217,7 +217,7 @@ pub fn compound_inside_atomic()
     ensures { (classes : Classes) → CompoundInsideAtomic classes }
 {}
 
-/// What a `COMMENT` declared `$` calls gives tokens, and what a plain one calls gives none.
+/// Calls in a `COMMENT` declared `$` give tokens, and calls in a plain one give none.
 pub fn compound_comments()
     ensures { (classes : Classes) → CompoundComments classes }
 {}
@@ -237,35 +237,33 @@ pub fn counts_when_given_up()
     ensures { (classes : Classes) → CountsWhenGivenUp classes }
 {}
 
-/// Of two calls that failed at one place, one within the other, the outer is expected; a silent rule tells
-/// what is called in it.
-pub fn tells_the_outer()
-    ensures { (classes : Classes) → TellsTheOuter classes }
+/// Of two calls that failed at one position, one within the other, the outer is expected; for a silent
+/// rule, the inner.
+pub fn expects_the_outer()
+    ensures { (classes : Classes) → ExpectsTheOuter classes }
 {}
 
-/// All calls that failed at the furthest place are expected, in their order, `EOI` among them.
-pub fn tells_all()
-    ensures { (classes : Classes) → TellsAll classes }
+/// All calls that failed at the furthest position are expected, in their order, `EOI` among them.
+pub fn expects_all()
+    ensures { (classes : Classes) → ExpectsAll classes }
 {}
 
-/// What failed below a `!` is not expected, so that nothing may be; what failed below a `&` is.
+/// A failure below a `!` is not expected, so that nothing may be; a failure below a `&` is.
 pub fn none_below_not()
     ensures { (classes : Classes) → NoneBelowNot classes }
 {}
 
-/// What is called in Atomic is not expected.
+/// A call in Atomic is not expected.
 pub fn none_in_atomic()
     ensures { (classes : Classes) → NoneInAtomic classes }
 {}
 
-/// `PUSH_LITERAL("x")` pushes `x` and takes nothing, wherever it stands, and has no other outcome; it gives
-/// no tree.
+/// `PUSH_LITERAL("x")` pushes `x` and takes nothing, at any position, and has no other outcome and no tree.
 pub fn literal_pushes()
     ensures { (classes : Classes) → LiteralPushes classes }
 {}
 
-/// `#t = e` has the outcomes of `e` and no others, with the same trees, and what is expected in it is
-/// expected.
+/// `#t = e` has the outcomes of `e` and no others, with the same trees and the same expected names.
 pub fn tags_mean_nothing()
     ensures { (classes : Classes) → TagsMeanNothing classes }
 {}

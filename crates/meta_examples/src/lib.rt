@@ -1,4 +1,4 @@
-//! What small grammars do, tied to the definitions: rows of the meaning of expressions, each a theorem.
+//! Outcomes of small grammars by the definitions: cases of the meaning of expressions, each a theorem.
 #![tactic(auto)]
 
 pub mod facts;

@@ -1,6 +1,6 @@
-//! The least flags that follow from one another: rounds over all items that set what follows from the flags
-//! that are set, until a round sets none. An item whose flag is set at once tells those that listen to it, so
-//! that the second round sets none.
+//! The least fixpoint of boolean equations, by a worklist: rounds over all items set the flags that follow
+//! from those that are set, until a round sets none. An item whose flag is set goes on the worklist, from
+//! which its listeners are visited, so that the second round sets none.
 ghost use Rattle.std.specs.Prelude.{◌≡◌, ◌<◌, ◌≤◌, ◌+◌, ℕ, Bool, List, length, slice_get, Some, IfOk, OnOk, true, false};
 ghost use Rattle.meta_fixpoint.specs.Least.{AreSound, AreClosed, IsClosedAt, is_set_at, unset};
 
@@ -9,7 +9,7 @@ use std::alloc::{AllocError, Global};
 
 /// How the flag of an item follows from the flags of others.
 pub trait Inference {
-    /// What is known of an item.
+    /// The data of an item.
     type Item;
 
     ghost items: { Self → List Self.Item };
@@ -17,7 +17,7 @@ pub trait Inference {
     // whether the flag of an item follows from others, where these say which of them are set
     ghost infers: { Self → (ℕ → Bool) → Self.Item → Bool };
 
-    /// How many items there are.
+    /// Counts the items.
     fn count(&self) -> usize
         ensures { result ≡ length (items self.now) };
 
@@ -38,7 +38,7 @@ pub fn is_set(flags: &[bool], number: usize) -> bool
     }
 }
 
-/// Sets the flag of an item where it follows; the item then waits to tell its listeners. Whether it was set
+/// Sets the flag of an item if it follows, and puts the item on the worklist. Returns whether it was set
 /// now.
 fn set<I: Inference>(
     inference: &I,
@@ -68,7 +68,7 @@ fn set<I: Inference>(
     Ok(true)
 }
 
-/// Lets all that wait tell their listeners.
+/// Visits the listeners of all items on the worklist.
 fn spread<I: Inference>(
     inference: &I,
     listeners: &Listeners,
@@ -87,8 +87,8 @@ fn spread<I: Inference>(
     Ok(())
 }
 
-/// Sets each flag that follows from those that are set, and what follows of it. Whether any was set.
-fn round<I: Inference>(
+/// Sets each flag that follows from those that are set, and visits listeners. Returns whether any was set.
+fn run_round<I: Inference>(
     inference: &I,
     listeners: &Listeners,
     flags: &mut Vec<bool>,
@@ -110,8 +110,8 @@ fn round<I: Inference>(
     Ok(added)
 }
 
-/// The least flags that follow from one another: each that is set follows, and what follows from those that
-/// are set is set. The only fault is a want of memory.
+/// Computes the least flags that are sound and closed: a flag is set if and only if it follows from set
+/// flags. The only error is allocation failure.
 pub fn least_flags<I: Inference>(
     alloc: Global,
     inference: &I,
@@ -125,7 +125,7 @@ pub fn least_flags<I: Inference>(
     let mut flags = vec![in alloc; false; inference.count()]?;
     let mut waiting = Vec::new(alloc);
     loop {
-        if !round(inference, listeners, &mut flags, &mut waiting)? {
+        if !run_round(inference, listeners, &mut flags, &mut waiting)? {
             return Ok(flags);
         }
     }

@@ -5,4 +5,4 @@ mod least;
 mod listeners;
 
 pub use least::{Inference, is_set, least_flags};
-pub use listeners::{Listeners, Listening, Told, who_listens};
+pub use listeners::{DependencyGraph, DependencyVisitor, Listeners, find_listeners};

@@ -1,20 +1,20 @@
-//! Which items' flags hang on which others: for each item a list of those that listen to it. What is asked of
-//! the lists is only that they save time; no flag rests on them.
+//! The dependency graph of flags: for each item the list of its listeners, whose flags depend on its own.
+//! The lists only save time; no flag's correctness rests on them.
 use std::alloc::{AllocError, Global};
 
 /// Items that are known by number, each of which listens to some of them.
-pub trait Listening {
-    /// How many items there are.
+pub trait DependencyGraph {
+    /// Counts the items.
     fn count(&self) -> usize;
 
-    /// Tells each one to which an item listens.
-    fn tell<T: Told>(&self, item: usize, told: &mut T);
+    /// Calls `visit` for each item to which this one listens.
+    fn visit_dependencies<V: DependencyVisitor>(&self, item: usize, visitor: &mut V);
 }
 
-/// Whoever is told to which items one listens.
-pub trait Told {
-    /// It listens to this one.
-    fn listens_to(&mut self, item: usize);
+/// A visitor of the items to which one item listens.
+pub trait DependencyVisitor {
+    /// Visits an item to which the current one listens.
+    fn visit(&mut self, item: usize);
 }
 
 /// For each item those that listen to it, all in one list.
@@ -26,7 +26,7 @@ pub struct Listeners {
 }
 
 impl Listeners {
-    /// The listeners of an item.
+    /// Returns the listeners of an item.
     pub fn of(&self, item: usize) -> &[usize] {
         let start = place_at(&self.starts, item);
         let end = place_at(&self.starts, item.saturating_add(1));
@@ -43,12 +43,12 @@ fn place_at(places: &[usize], item: usize) -> usize {
 
 /// How many listen to each item; and one number more.
 #[derive(Drop)]
-struct Counts {
+struct ListenerCounts {
     counts: Vec<usize>,
 }
 
-impl Told for Counts {
-    fn listens_to(&mut self, item: usize) {
+impl DependencyVisitor for ListenerCounts {
+    fn visit(&mut self, item: usize) {
         if let Some(count) = self.counts.get_mut(item) {
             *count = count.saturating_add(1);
         }
@@ -57,14 +57,14 @@ impl Told for Counts {
 
 /// The listeners of all items, while each is put in front of those of its item that were put.
 #[derive(Drop)]
-struct Places {
+struct ListenerLists {
     starts: Vec<usize>,
     all: Vec<usize>,
     listener: usize,
 }
 
-impl Told for Places {
-    fn listens_to(&mut self, item: usize) {
+impl DependencyVisitor for ListenerLists {
+    fn visit(&mut self, item: usize) {
         if let Some(start) = self.starts.get_mut(item) {
             *start = start.saturating_sub(1);
             if let Some(place) = self.all.get_mut(*start) {
@@ -74,17 +74,17 @@ impl Told for Places {
     }
 }
 
-/// How many listen to each item; and one number more.
-fn counts_of<L: Listening>(alloc: Global, listening: &L) -> Result<Vec<usize>, AllocError> {
-    let counts = vec![in alloc; 0; listening.count().saturating_add(1)]?;
-    let mut told = Counts { counts };
-    for item in 0..listening.count() {
-        listening.tell(item, &mut told);
+/// Counts the listeners of each item, with one 0 more at the end.
+fn count_listeners<L: DependencyGraph>(alloc: Global, graph: &L) -> Result<Vec<usize>, AllocError> {
+    let counts = vec![in alloc; 0; graph.count().saturating_add(1)]?;
+    let mut visitor = ListenerCounts { counts };
+    for item in 0..graph.count() {
+        graph.visit_dependencies(item, &mut visitor);
     }
-    Ok(told.counts)
+    Ok(visitor.counts)
 }
 
-/// Each number becomes its sum with those in front of it; and the sum of all.
+/// Replaces each number by its sum with those before it, and returns the total.
 fn add_up(counts: &mut [usize]) -> usize {
     let mut sum: usize = 0;
     for count in counts.iter_mut() {
@@ -94,20 +94,23 @@ fn add_up(counts: &mut [usize]) -> usize {
     sum
 }
 
-/// Who listens to whom.
-pub fn who_listens<L: Listening>(alloc: Global, listening: &L) -> Result<Listeners, AllocError> {
-    let mut starts = counts_of(alloc, listening)?;
+/// Collects the listeners of each item.
+pub fn find_listeners<L: DependencyGraph>(
+    alloc: Global,
+    graph: &L,
+) -> Result<Listeners, AllocError> {
+    let mut starts = count_listeners(alloc, graph)?;
     let sum = add_up(&mut starts);
     let all = vec![in alloc; 0; sum]?;
-    let mut told = Places {
+    let mut visitor = ListenerLists {
         starts,
         all,
         listener: 0,
     };
-    for item in 0..listening.count() {
-        told.listener = item;
-        listening.tell(item, &mut told);
+    for item in 0..graph.count() {
+        visitor.listener = item;
+        graph.visit_dependencies(item, &mut visitor);
     }
-    let Places { starts, all, .. } = told;
+    let ListenerLists { starts, all, .. } = visitor;
     Ok(Listeners { starts, all })
 }

@@ -13,7 +13,7 @@ use Rattle.meta_syntax.specs.MetaGrammar.{meta_grammar}
 use Rattle.meta_syntax.specs.Parses.{Spells, start_of}
 use Rattle.meta_reader.specs.Flaws.{first_flaw, Flaw}
 use Rattle.meta_reader.specs.Reading.{ReadsRules}
-use Rattle.meta_reader.specs.Refusals.{IsReadRefusal, TellsOf}
+use Rattle.meta_reader.specs.Refusals.{IsReadRefusal, ReportsFlaw}
 use Rattle.meta_reader.proofs.Uniqueness.{rules_once}
 use Rattle.meta_spanned.specs.Erasure.{rules_without_spans}
 use Rattle.meta_spanned.specs.Spanned.{SpannedRule}
@@ -64,7 +64,7 @@ some_flaw (Some flaw) P r e = absurd cc
 
 refusal_flaw : (first : Option Flaw) (fault : Fault) → IsReadRefusal first fault → ¬ (IsMemory fault) → first ≢ None
 refusal_flaw first (Memory e) r m = absurd (m tt)
-refusal_flaw first (Grammar errors) r m = some_flaw first (λ flaw. TellsOf flaw errors.items) r
+refusal_flaw first (Grammar errors) r m = some_flaw first (λ flaw. ReportsFlaw flaw errors.items) r
 
 pub pairs_not_read : (text shown : List ℕ) (us vs : Trees) (fault : Fault) → shown ≡ text → vs ≡ us → Spells grammar_rules text us → IsReadRefusal (first_flaw shown vs) fault → ¬ (IsMemory fault) → IsNotRead text
 pairs_not_read text shown us vs fault e f s r m = not_read text us s (refusal_flaw (first_flaw text us) fault (rw (e, f) at r) m)

@@ -1,7 +1,7 @@
 -- The comments of a gap, which is the text between two tokens.
 use Rattle.std.specs.Prelude.{ℕ, ◌+◌, ◌-◌, ◌^◌, ◌==◌, ◌&&◌, ◌||◌, List, [], ◌∷◌, ◌++◌, Bool, true, false, not, min, if◌then◌else◌}
-use Rattle.meta_format.specs.declared.contents.Place.{Place}
-use Rattle.meta_format.specs.declared.contents.Place.TheVariants.{Outside, AfterSlash, InLine, InBlock, InBlockAfterSlash, InBlockAfterStar}
+use Rattle.meta_format.specs.declared.contents.GapState.{GapState}
+use Rattle.meta_format.specs.declared.contents.GapState.TheVariants.{Outside, AfterSlash, InLine, InBlock, InBlockAfterSlash, InBlockAfterStar}
 
 -- a space, a tab, or a carriage return
 abbrev pub is_blank : ℕ → Bool
@@ -24,44 +24,44 @@ abbrev pub trimmed : List ℕ → List ℕ
 trimmed [] = []
 trimmed (c ∷ cs) = with_byte c (trimmed cs)
 
--- the same of a piece that a line end follows
+-- a piece before a line end, without the blanks at the ends of its lines
 abbrev pub trimmed_line : List ℕ → List ℕ
 trimmed_line cs = trimmed (cs ++ 10 ∷ [])
 
--- after a slash outside of comments
-abbrev pub after_slash : ℕ → Place
+-- the state after a slash outside of comments
+abbrev pub after_slash : ℕ → GapState
 after_slash c = if c == 47 then InLine else if c == 42 then InBlock 0 else Outside
 
--- within so many block comments; their number is kept in 64 bits
+-- one block comment deeper; the depth is kept in 64 bits
 abbrev pub deeper : ℕ → ℕ
 deeper n = min (n + 1) (2 ^ 64 - 1)
 
-abbrev pub within_block : ℕ → ℕ → Place
+abbrev pub within_block : ℕ → ℕ → GapState
 within_block n c = if c == 47 then InBlockAfterSlash n else if c == 42 then InBlockAfterStar n else InBlock n
 
-abbrev pub after_block : ℕ → Place
+abbrev pub after_block : ℕ → GapState
 after_block n = if n == 0 then Outside else InBlock (n - 1)
 
--- where the next byte of a gap is, after a byte
-abbrev pub place_after : Place → ℕ → Place
-place_after Outside c = if c == 47 then AfterSlash else Outside
-place_after AfterSlash c = after_slash c
-place_after InLine c = if c == 10 then Outside else InLine
-place_after (InBlock n) c = within_block n c
-place_after (InBlockAfterSlash n) c = if c == 42 then InBlock (deeper n) else within_block n c
-place_after (InBlockAfterStar n) c = if c == 47 then after_block n else within_block n c
+-- the state after a byte of a gap
+abbrev pub state_after : GapState → ℕ → GapState
+state_after Outside c = if c == 47 then AfterSlash else Outside
+state_after AfterSlash c = after_slash c
+state_after InLine c = if c == 10 then Outside else InLine
+state_after (InBlock n) c = within_block n c
+state_after (InBlockAfterSlash n) c = if c == 42 then InBlock (deeper n) else within_block n c
+state_after (InBlockAfterStar n) c = if c == 47 then after_block n else within_block n c
 
 -- white space outside of comments means nothing
-abbrev pub is_kept : Place → ℕ → Bool
+abbrev pub is_kept : GapState → ℕ → Bool
 is_kept Outside c = not (is_white c)
 is_kept _ c = true
 
--- what is kept of a gap from a place on
-abbrev pub kept_from : Place → List ℕ → List ℕ
+-- the bytes that are kept of a gap from a state on
+abbrev pub kept_from : GapState → List ℕ → List ℕ
 kept_from place [] = []
 kept_from place (c ∷ cs) = if is_kept place c
-    then c ∷ kept_from (place_after place c) cs
-    else kept_from (place_after place c) cs
+    then c ∷ kept_from (state_after place c) cs
+    else kept_from (state_after place c) cs
 
 -- the comments of a gap, without the blanks at the ends of their lines, and the words that have no token of
 -- their own

@@ -1,10 +1,10 @@
--- What the formatted text of a grammar is.
+-- The formatted text of a grammar.
 use Rattle.std.specs.Prelude.{◌≡◌, ◌≢◌, ◌≤◌, ◌-◌, ◌⊎◌, ℕ, List, [], length, slice_index, true}
 use Rattle.std.specs.String.{string_bytes}
 use Rattle.meta_base.specs.declared.grammar.Rule.TheVariants.{grammar_rules}
 use Rattle.meta_syntax.specs.declared.entries.Entry.{Entry}
 use Rattle.meta_syntax.specs.declared.entries.Entry.TheVariants.{End}
-use Rattle.meta_syntax.specs.Parses.{TokensGive}
+use Rattle.meta_syntax.specs.Parses.{AreTokensOf}
 use Rattle.meta_format.specs.Reading.{SameRules}
 use Rattle.meta_format.specs.Tokens.{tokens_after, comments_after, has_clean_lines}
 use Rattle.meta_format.specs.declared.Formatted.{Formatted}
@@ -12,19 +12,19 @@ use Rattle.meta_format.specs.declared.LineEnds.{LineEnds}
 use Rattle.meta_format.specs.declared.LineEnds.TheVariants.{LineFeed}
 use Rattle.meta_format.specs.declared.Formatted.TheVariants as answer
 
--- the place before the first token
+-- the position before the first token
 abbrev pub start : Entry
 start = End 0 0
 
 -- these are the tokens of a grammar's text
 abbrev pub AreTokens : List ℕ → List Entry → Type 0
-AreTokens text entries = TokensGive grammar_rules text entries
+AreTokens text entries = AreTokensOf grammar_rules text entries
 
--- two texts have the same tokens, those that hold no others with the same texts
+-- two texts have equal tokens, those without children with equal texts
 abbrev pub SameTokens : List ℕ → List Entry → List ℕ → List Entry → Type 0
 SameTokens text entries other others = tokens_after text start entries ≡ tokens_after other start others
 
--- between each two tokens they have the same comments
+-- two texts have equal comments between every two tokens
 abbrev pub SameComments : List ℕ → List Entry → List ℕ → List Entry → Type 0
 SameComments text entries other others = comments_after text start entries ≡ comments_after other start others
 
@@ -49,7 +49,7 @@ pub record IsFormatted (line_ends : LineEnds) (text formatted : List ℕ) : Type
   pub last_line : EndsOnce formatted
   pub rules : SameRules text formatted
 
--- the formatted text of a grammar, or nothing, where a text is one
+-- the answer is the formatted text of a grammar, or the text is a grammar's and stays unchanged
 abbrev pub IsAnswer : LineEnds → List ℕ → Formatted → Type 0
 IsAnswer line_ends text (answer.Text formatted) = IsFormatted line_ends text (string_bytes formatted)
 IsAnswer line_ends text answer.Unchanged = (entries : List Entry) × AreTokens text entries

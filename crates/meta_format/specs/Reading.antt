@@ -27,6 +27,6 @@ pub record IsReadOnlyAs (text : List ℕ) (rules : Grammar) : Type 0 where
 abbrev pub IsNotRead : List ℕ → Type 0
 IsNotRead text = (rules : Grammar) → ¬ (IsReadAs text rules)
 
--- what one text is read as, so is another
+-- another text is read as all rules that a text is read as
 pub record SameRules (text other : List ℕ) : Type 0 where
   pub kept : (rules : Grammar) → IsReadAs text rules → IsReadAs other rules

@@ -1,22 +1,22 @@
-//! From the tokens of a grammar to what it is printed from.
+//! Builds the pieces of a grammar from its tokens.
 use crate::gaps::{Comment, Gap, find_line_feed, scan_gap, trim_end};
 use crate::pieces::{Item, ItemKind, Piece, Separator};
 use meta_base::grammar::Rule;
 use meta_syntax::entries::Entry;
 use std::alloc::{AllocError, Global};
 
-/// An expression around what is read.
+/// An expression that is not yet complete.
 #[derive(Clone, Copy)]
-struct Around {
-    /// Whether it is a choice, whose alternatives are groups of their own.
+struct OpenExpression {
+    /// Whether this is a choice, whose alternatives are groups of their own.
     is_choice: bool,
-    /// Whether an alternative of it is open.
+    /// Whether one of its alternatives is open.
     in_alternative: bool,
-    /// Whether nothing of it was read.
+    /// Whether nothing of the expression was read.
     is_fresh: bool,
 }
 
-/// What is made of the tokens read so far.
+/// The pieces of the tokens read so far.
 #[derive(Drop)]
 pub struct Builder<'t> {
     text: &'t str,
@@ -24,24 +24,24 @@ pub struct Builder<'t> {
     pub items: Vec<Item>,
     /// The byte after the last word.
     cursor: usize,
-    /// What the last word wants between it and the next one.
+    /// The separator between the last word and the next one.
     after: Separator,
     /// Whether the last word opened braces or parentheses.
     is_opening: bool,
     /// How many alternatives start with the next word.
     starting: usize,
-    expressions: Vec<Around>,
-    /// Of the parentheses around what is read, whether they are a group.
+    expressions: Vec<OpenExpression>,
+    /// For each open parenthesis, whether it is a group.
     parentheses: Vec<bool>,
     /// Whether the next parentheses hold a literal alone.
     holds_literal: bool,
     /// Whether a blank follows the next comma.
     has_two_counts: bool,
-    /// The number of the first entry that is not yet written, where those of an outer token were.
+    /// The number of the first entry that is not yet written.
     next: usize,
 }
 
-/// Which expressions are choices, by the numbers of their entries.
+/// Returns which expressions are choices, by the numbers of their entries.
 fn find_choices(alloc: Global, entries: &[Entry]) -> Result<Vec<bool>, AllocError> {
     let mut choices = vec![in alloc; false; entries.len()]?;
     let mut around: Vec<usize> = Vec::new(alloc);
@@ -75,7 +75,7 @@ fn mark_last(around: &[usize], choices: &mut [bool]) {
     }
 }
 
-/// What a grammar of these tokens is printed from.
+/// Builds the pieces of a grammar with these tokens.
 pub fn build<'t>(
     alloc: Global,
     text: &'t str,
@@ -148,7 +148,7 @@ impl<'t> Builder<'t> {
                 self.doc(pos, end, partner)
             }
             Rule::expression => {
-                self.expressions.push(Around {
+                self.expressions.push(OpenExpression {
                     is_choice,
                     in_alternative: false,
                     is_fresh: true,
@@ -174,7 +174,7 @@ impl<'t> Builder<'t> {
         }
     }
 
-    /// Reads a token that holds no others.
+    /// Reads a token without children.
     fn leaf(
         &mut self,
         alloc: Global,
@@ -270,7 +270,7 @@ impl<'t> Builder<'t> {
         Ok(())
     }
 
-    /// Writes what is before a word that starts at a byte: comments, and what separates it from the last one.
+    /// Writes the comments before a word that starts at a byte, and the separator from the last word.
     fn before_word(
         &mut self,
         alloc: Global,
@@ -289,7 +289,7 @@ impl<'t> Builder<'t> {
         Ok(())
     }
 
-    /// Writes the comments of the gap before a byte, and what separates the words around it.
+    /// Writes the comments of the gap before a byte, and the separator of the words around it.
     fn gap(&mut self, alloc: Global, end: usize, separator: Separator) -> Result<(), AllocError> {
         let gap = scan_gap(alloc, self.text.as_bytes(), self.cursor, end)?;
         let Some(first) = gap.comments.first().copied() else {
@@ -392,7 +392,7 @@ impl<'t> Builder<'t> {
         Ok(())
     }
 
-    /// Writes the comments before a byte between two items, and answers whether an empty line follows them.
+    /// Writes the comments before a byte between two items, and returns whether an empty line follows them.
     fn outer_comments(&mut self, alloc: Global, pos: usize) -> Result<bool, AllocError> {
         let gap = scan_gap(alloc, self.text.as_bytes(), self.cursor, pos)?;
         let mut is_trailing = !self.items.is_empty();
@@ -434,7 +434,7 @@ impl<'t> Builder<'t> {
         }
     }
 
-    /// Says what the last item is.
+    /// Sets the kind of the last item.
     fn set_kind(&mut self, kind: ItemKind) {
         if let Some(item) = self.items.last_mut() {
             item.kind = kind;
@@ -573,8 +573,8 @@ impl<'t> Builder<'t> {
     }
 }
 
-/// Whether the first comment after an opening brace or parenthesis begins a line where the group is broken:
-/// it does in the text, or what follows it is on its line.
+/// Returns whether the first comment after an opening brace or parenthesis begins a line where the group is
+/// broken: either it is so in the text, or the next token is on its line.
 fn is_after_line(gap: &Gap, first: Comment) -> bool {
     if first.line_ends > 0 {
         return true;

@@ -12,7 +12,7 @@ use meta_base::grammar::Rule;
 use meta_syntax::entries::Entry;
 use std::alloc::{AllocError, Global};
 
-/// The bytes `start..end`, up to the end of the text.
+/// Returns the bytes `start..end`, up to the end of the text.
 fn part(text: &[u8], start: usize, end: usize) -> &[u8]
     ensures { result.now ≡ slice_range text.entry.now start end }
 {
@@ -24,7 +24,7 @@ fn part(text: &[u8], start: usize, end: usize) -> &[u8]
     }
 }
 
-/// The byte at which a token starts or ends.
+/// Returns the byte at which a token starts or ends.
 fn place_of(entry: Entry) -> usize
     ensures { result ≡ token.place_of entry }
 {
@@ -34,7 +34,7 @@ fn place_of(entry: Entry) -> usize
     }
 }
 
-/// Whether two rules are the same.
+/// Returns whether two rules are the same.
 fn is_same_rule(rule: Rule, other: Rule) -> bool
     ensures { result ≡ true → rule ≡ other }
 {
@@ -42,7 +42,7 @@ fn is_same_rule(rule: Rule, other: Rule) -> bool
     rule == other
 }
 
-/// Whether two entries are the same, but for their places.
+/// Returns whether two entries are equal, but for their positions.
 fn is_same_entry(entry: Entry, other: Entry) -> bool
     ensures { result ≡ true → token.unplaced entry ≡ token.unplaced other }
 {
@@ -66,7 +66,7 @@ fn is_same_entry(entry: Entry, other: Entry) -> bool
     }
 }
 
-/// Whether two pieces, of tokens that hold no others, are the same: of doc comments without the blanks at
+/// Returns whether two pieces, of tokens without children, are equal: of doc comments without the blanks at
 /// their ends.
 fn is_same_token(
     alloc: Global,
@@ -90,7 +90,7 @@ fn is_same_token(
     }
 }
 
-/// Whether two pieces are the same without the blanks at the ends of their lines.
+/// Returns whether two pieces are the same without the blanks at the ends of their lines.
 fn is_same_line(alloc: Global, text: &[u8], other: &[u8]) -> Result<bool, AllocError>
     ensures { IfOk result (λ same. same ≡ true
         → comment.trimmed_line text.now ≡ comment.trimmed_line other.now) }
@@ -100,7 +100,7 @@ fn is_same_line(alloc: Global, text: &[u8], other: &[u8]) -> Result<bool, AllocE
     Ok(line.as_slice() == other_line.as_slice())
 }
 
-/// Whether two gaps have the same comments.
+/// Returns whether two gaps have the same comments.
 fn is_same_gap(alloc: Global, gap: &[u8], other: &[u8]) -> Result<bool, AllocError>
     ensures { IfOk result (λ same. same ≡ true
         → comment.comments_of gap.now ≡ comment.comments_of other.now) }
@@ -113,7 +113,7 @@ fn is_same_gap(alloc: Global, gap: &[u8], other: &[u8]) -> Result<bool, AllocErr
     Ok(comments.as_slice() == other_comments.as_slice())
 }
 
-/// Whether two texts are the same between the entry of a cursor and another one.
+/// Returns whether two texts are the same between the entry of a cursor and another one.
 fn is_same_between(
     alloc: Global,
     text: &[u8],
@@ -156,7 +156,7 @@ fn is_same_between(
     }
 }
 
-/// Whether two texts have the same tokens and the same comments.
+/// Returns whether two texts have the same tokens and the same comments.
 pub fn is_same(
     alloc: Global,
     text: &[u8],
@@ -196,7 +196,8 @@ pub fn is_same(
     is_same_gap(alloc, gap, part(other, place_of(other_last), other.len()))
 }
 
-/// Whether no line ends with a blank between two neighbouring entries, or in a doc comment before them.
+/// Returns whether no line ends with a blank between two neighbouring entries, or in a doc comment before
+/// them.
 fn is_clean_between(text: &[u8], last: Entry, entry: Entry) -> bool
     ensures { result ≡ true → token.is_clean_between text.now last entry ≡ true }
 {
@@ -206,7 +207,7 @@ fn is_clean_between(text: &[u8], last: Entry, entry: Entry) -> bool
     }
 }
 
-/// Whether no line ends with a blank in a gap or a doc comment.
+/// Returns whether no line ends with a blank in a gap or a doc comment.
 pub fn has_clean_lines(text: &[u8], entries: &[Entry]) -> bool
     ensures { result ≡ true → token.has_clean_lines text.now (End 0 0) entries.now ≡ true }
 {
@@ -222,7 +223,7 @@ pub fn has_clean_lines(text: &[u8], entries: &[Entry]) -> bool
     true
 }
 
-/// Whether a text is empty, or ends with one line feed.
+/// Returns whether a text is empty, or ends with one line feed.
 pub fn ends_once(text: &[u8]) -> bool
     ensures { result ≡ true → EndsOnce text.now }
 {

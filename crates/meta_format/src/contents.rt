@@ -1,94 +1,94 @@
-//! What a gap, the text between two tokens, holds beside white space.
+//! The comments of a gap, the text between two tokens, found by an automaton.
 ghost use Rattle.std.specs.Prelude.{◌≡◌, IfOk, false, reverse};
 ghost use Rattle.meta_format.specs.Comments as spec;
 
 use std::alloc::{AllocError, Global};
 
-/// Where a byte of a gap is.
+/// The state of the automaton at a byte of a gap.
 #[derive(Clone, Copy, Debug)]
-pub enum Place {
+pub enum GapState {
     Outside,
     AfterSlash,
     InLine,
-    /// Within a block comment, and so many others around it.
+    /// In a block comment that is nested in so many others.
     InBlock(usize),
     InBlockAfterSlash(usize),
     InBlockAfterStar(usize),
 }
 
-/// Whether a byte is a blank: a space, a tab, or the carriage return of a line end.
+/// Returns whether a byte is a blank: a space, a tab, or the carriage return of a line end.
 pub fn is_blank(byte: u8) -> bool
     ensures { result ≡ spec.is_blank byte }
 {
     byte == b' ' || byte == b'\t' || byte == b'\r'
 }
 
-/// Where the byte after one within a block comment is.
-fn within_block(around: usize, byte: u8) -> Place
+/// Returns the state after a byte in a block comment.
+fn within_block(around: usize, byte: u8) -> GapState
     ensures { result ≡ spec.within_block around byte }
 {
     if byte == b'/' {
-        Place::InBlockAfterSlash(around)
+        GapState::InBlockAfterSlash(around)
     } else if byte == b'*' {
-        Place::InBlockAfterStar(around)
+        GapState::InBlockAfterStar(around)
     } else {
-        Place::InBlock(around)
+        GapState::InBlock(around)
     }
 }
 
-/// Where the byte after a slash outside of comments and another byte is.
-fn after_slash(byte: u8) -> Place
+/// Returns the state after a slash outside of comments and another byte.
+fn after_slash(byte: u8) -> GapState
     ensures { result ≡ spec.after_slash byte }
 {
     if byte == b'/' {
-        Place::InLine
+        GapState::InLine
     } else if byte == b'*' {
-        Place::InBlock(0)
+        GapState::InBlock(0)
     } else {
-        Place::Outside
+        GapState::Outside
     }
 }
 
-/// Where the byte after a block comment is.
-fn after_block(around: usize) -> Place
+/// Returns the state after a block comment.
+fn after_block(around: usize) -> GapState
     ensures { result ≡ spec.after_block around }
 {
     if around == 0 {
-        Place::Outside
+        GapState::Outside
     } else {
-        Place::InBlock(around - 1)
+        GapState::InBlock(around - 1)
     }
 }
 
-/// Where the byte after one is.
-fn place_after(place: Place, byte: u8) -> Place
-    ensures { result ≡ spec.place_after place byte }
+/// Returns the state after a byte.
+fn state_after(place: GapState, byte: u8) -> GapState
+    ensures { result ≡ spec.state_after place byte }
 {
     match place {
-        Place::Outside => {
+        GapState::Outside => {
             if byte == b'/' {
-                Place::AfterSlash
+                GapState::AfterSlash
             } else {
-                Place::Outside
+                GapState::Outside
             }
         }
-        Place::AfterSlash => after_slash(byte),
-        Place::InLine => {
+        GapState::AfterSlash => after_slash(byte),
+        GapState::InLine => {
             if byte == b'\n' {
-                Place::Outside
+                GapState::Outside
             } else {
-                Place::InLine
+                GapState::InLine
             }
         }
-        Place::InBlock(around) => within_block(around, byte),
-        Place::InBlockAfterSlash(around) => {
+        GapState::InBlock(around) => within_block(around, byte),
+        GapState::InBlockAfterSlash(around) => {
             if byte == b'*' {
-                Place::InBlock(around.saturating_add(1))
+                GapState::InBlock(around.saturating_add(1))
             } else {
                 within_block(around, byte)
             }
         }
-        Place::InBlockAfterStar(around) => {
+        GapState::InBlockAfterStar(around) => {
             if byte == b'/' {
                 after_block(around)
             } else {
@@ -98,17 +98,17 @@ fn place_after(place: Place, byte: u8) -> Place
     }
 }
 
-/// Whether a byte is more than white space outside of comments.
-fn is_kept(place: Place, byte: u8) -> bool
+/// Returns whether a byte is more than white space outside of comments.
+fn is_kept(place: GapState, byte: u8) -> bool
     ensures { result ≡ spec.is_kept place byte }
 {
     match place {
-        Place::Outside => !(is_blank(byte) || byte == b'\n'),
+        GapState::Outside => !(is_blank(byte) || byte == b'\n'),
         _ => true,
     }
 }
 
-/// The lines of a piece that a line end follows, without the blanks at their ends, and the last byte first.
+/// Returns the lines of a piece before a line end, without the blanks at their ends, in reverse.
 pub fn trim_lines(alloc: Global, text: &[u8]) -> Result<Vec<u8>, AllocError>
     ensures { IfOk result (λ bytes. reverse bytes.items ≡ spec.trimmed_line text.now) }
 {
@@ -127,23 +127,23 @@ pub fn trim_lines(alloc: Global, text: &[u8]) -> Result<Vec<u8>, AllocError>
     Ok(bytes)
 }
 
-/// The comments of a gap, and the words that have no token of their own.
+/// Returns the comments of a gap, and the words that have no token of their own.
 pub fn comments_of(alloc: Global, gap: &[u8]) -> Result<Vec<u8>, AllocError>
     ensures { IfOk result (λ kept. kept.items ≡ spec.comments_of gap.now) }
 {
     let mut bytes = trim_lines(alloc, gap)?;
     let mut kept = Vec::new(alloc);
-    let mut place = Place::Outside;
+    let mut place = GapState::Outside;
     while let Some(byte) = bytes.pop() {
         if is_kept(place, byte) {
             kept.push(byte)?;
         }
-        place = place_after(place, byte);
+        place = state_after(place, byte);
     }
     Ok(kept)
 }
 
-/// Whether a line may end with a blank; where it answers that none does, none does.
+/// Returns whether a line may end with a blank; `false` is definite.
 pub fn has_blank_end(text: &[u8]) -> bool
     ensures { result ≡ false → spec.has_blank_end text.now ≡ false }
 {

@@ -11,7 +11,7 @@ pub struct Comment {
     pub end: usize,
     /// Whether it is a line comment.
     pub is_line: bool,
-    /// How many line ends are between it and what is before it in the gap.
+    /// The number of line ends between the comment and the one before, or the start of the gap.
     pub line_ends: usize,
 }
 
@@ -19,11 +19,11 @@ pub struct Comment {
 #[derive(Drop)]
 pub struct Gap {
     pub comments: Vec<Comment>,
-    /// How many line ends are after the last comment, or in the whole gap where there is none.
+    /// The number of line ends after the last comment, or in the whole gap without comments.
     pub line_ends: usize,
 }
 
-/// The place after the last byte of `start..end` that is no blank.
+/// Returns the position after the last byte of `start..end` that is no blank.
 pub fn trim_end(bytes: &[u8], start: usize, end: usize) -> usize {
     let mut trimmed = end;
     for _ in start..end {
@@ -36,13 +36,13 @@ pub fn trim_end(bytes: &[u8], start: usize, end: usize) -> usize {
     trimmed
 }
 
-/// Whether two bytes are at a place.
+/// Returns whether two bytes are at a position.
 fn has_pair(bytes: &[u8], at: usize, first: u8, second: u8) -> bool {
     bytes.get(at).copied() == Some(first)
         && bytes.get(at.saturating_add(1)).copied() == Some(second)
 }
 
-/// The place of the first line feed from a place on, or `end`.
+/// Returns the position of the first line feed from a position on, or `end`.
 pub fn find_line_feed(bytes: &[u8], from: usize, end: usize) -> usize {
     for at in from..end {
         if bytes.get(at).copied() == Some(b'\n') {
@@ -52,7 +52,7 @@ pub fn find_line_feed(bytes: &[u8], from: usize, end: usize) -> usize {
     end
 }
 
-/// The place after the block comment that starts at a place, or `end` where it is left open.
+/// Returns the position after the block comment that starts at a position, or `end` if it is left open.
 fn find_block_end(bytes: &[u8], from: usize, end: usize) -> usize {
     let mut depth = 0usize;
     let mut next = from;
@@ -74,7 +74,7 @@ fn find_block_end(bytes: &[u8], from: usize, end: usize) -> usize {
     end
 }
 
-/// The comments of the gap `from..end`.
+/// Finds the comments of the gap `from..end`.
 pub fn scan_gap(alloc: Global, bytes: &[u8], from: usize, end: usize) -> Result<Gap, AllocError> {
     let mut comments = Vec::new(alloc);
     let mut line_ends = 0usize;

@@ -3,20 +3,20 @@ use crate::pieces::{Item, Piece};
 use crate::spacing::space_items;
 use std::alloc::{AllocError, Global};
 
-/// What is known of each piece before it is printed.
+/// The measures of all pieces.
 #[derive(Drop)]
 struct Measures {
-    /// How many columns all pieces before it take in one line.
+    /// The number of columns of all pieces before a piece, in one line.
     columns: Vec<usize>,
-    /// How many line ends that cannot be left out are before it.
+    /// The number of line ends before a piece that cannot be left out.
     line_ends: Vec<usize>,
-    /// Of the start of a group the number of its end.
+    /// The number of the end of a group, for its start.
     closing: Vec<usize>,
-    /// How many columns are before the next place where a line may end, from it on.
+    /// The number of columns from a piece on up to the next possible line end.
     next_line: Vec<usize>,
 }
 
-/// How many columns a piece takes in one line.
+/// Returns the number of columns of a piece in one line.
 fn columns_of(text: &str, piece: Piece) -> usize {
     match piece {
         Piece::Text { start, end } | Piece::Comment { start, end } => {
@@ -59,7 +59,7 @@ fn measure(alloc: Global, text: &str, pieces: &[Piece]) -> Result<Measures, Allo
     })
 }
 
-/// Notes that the innermost group ends with the piece of a number.
+/// Records that the innermost group ends with the piece of a number.
 fn close(open: &mut Vec<usize>, closing: &mut [usize], last: usize) {
     if let Some(first) = open.pop() {
         if let Some(end) = closing.get_mut(first) {
@@ -68,7 +68,7 @@ fn close(open: &mut Vec<usize>, closing: &mut [usize], last: usize) {
     }
 }
 
-/// How many columns are before the next place where a line may end, from each piece on.
+/// Computes the number of columns from each piece on up to the next possible line end.
 fn find_next_lines(
     alloc: Global,
     pieces: &[Piece],
@@ -91,55 +91,55 @@ fn find_next_lines(
     Ok(next_line)
 }
 
-/// The number at a place of a list, or 0.
+/// Returns the number at an index of a list, or 0.
 fn at(list: &[usize], i: usize) -> usize {
     list.get(i).copied().unwrap_or(0)
 }
 
 impl Measures {
-    /// Whether the pieces `first..end` have a line end that cannot be left out.
+    /// Returns whether the pieces `first..end` have a line end that cannot be left out.
     fn has_line_end(&self, first: usize, end: usize) -> bool {
         at(&self.line_ends, first) < at(&self.line_ends, end)
     }
 
-    /// How many columns the group that starts with a piece takes in one line, and what follows up to the
-    /// next place where the line may end.
+    /// Returns the number of columns of the group that starts with a piece, with the pieces after it up to
+    /// the next possible line end.
     fn columns_of_group(&self, first: usize) -> usize {
         at(&self.next_line, at(&self.closing, first)).saturating_sub(at(&self.columns, first))
     }
 
-    /// Whether an item takes more than one line of a width.
+    /// Returns whether an item takes more than one line of a width.
     fn is_broken(&self, item: &Item, width: usize) -> bool {
         let columns = at(&self.columns, item.end).saturating_sub(at(&self.columns, item.first));
         self.has_line_end(item.first, item.end) || columns > width
     }
 }
 
-/// How pieces are printed.
+/// The style of printed pieces.
 #[derive(Clone, Copy)]
 pub struct Style {
-    /// How many columns a line has at most, where it can be broken.
+    /// The greatest number of columns of a line, where it can be broken.
     pub width: usize,
-    /// How many columns a step of indentation has.
+    /// The number of columns of a step of indentation.
     pub indent: usize,
     pub line_end: &'static str,
 }
 
-/// What is printed so far.
+/// The text printed so far.
 #[derive(Drop)]
 struct Printer<'t> {
     text: &'t str,
     out: String,
     style: Style,
-    /// How many steps lines are indented by.
+    /// The number of steps of indentation.
     depth: usize,
     column: usize,
-    /// How many line ends are to be written before the next word.
+    /// The number of line ends to write before the next word.
     line_ends: usize,
-    /// How many columns the next word is indented by, where line ends are before it.
+    /// The number of columns before the next word, after line ends.
     start_column: usize,
     has_blank: bool,
-    /// Of the groups around it, whether they are broken.
+    /// For each open group, whether it is broken.
     groups: Vec<bool>,
 }
 
@@ -176,21 +176,21 @@ impl<'t> Printer<'t> {
         Ok(())
     }
 
-    /// Has a line end printed before the next word, and an empty line where one is to be.
+    /// Requests a line end before the next word, or one and an empty line.
     fn end_line(&mut self, count: usize, column: usize) {
         self.line_ends = self.line_ends.max(count);
         self.start_column = column;
         self.has_blank = false;
     }
 
-    /// How many columns lines are indented by: half of the width at most, so that lines of deep parentheses
-    /// take no more than that each.
+    /// Returns the number of columns of indentation: at most half of the width, so that lines of deep
+    /// parentheses take no more than that each.
     fn indentation(&self) -> usize {
         let columns = self.depth.saturating_mul(self.style.indent);
         columns.min(self.style.width / 2)
     }
 
-    /// The column at which the next word starts.
+    /// Returns the column at which the next word starts.
     fn next_column(&self) -> usize {
         if self.line_ends > 0 {
             self.start_column
@@ -217,7 +217,7 @@ impl<'t> Printer<'t> {
         Ok(())
     }
 
-    /// Prints what a line end is in the group around it.
+    /// Prints a possible line end, by the group around it.
     fn line(&mut self, is_blank: bool, is_operator: bool) {
         let is_broken = self.groups.last().copied().unwrap_or(false);
         if is_broken {
@@ -263,7 +263,7 @@ impl<'t> Printer<'t> {
     }
 }
 
-/// The text of items and their pieces.
+/// Prints items and their pieces.
 pub fn print(
     alloc: Global,
     text: &str,

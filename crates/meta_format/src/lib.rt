@@ -28,27 +28,27 @@ use meta_syntax::entries::Entry;
 use meta_syntax::grammar::PestParser;
 use std::alloc::{AllocError, Global};
 
-/// How lines end.
+/// The line ends of formatted texts.
 #[derive(Clone, Copy, PartialEq, Eq)]
 pub enum LineEnds {
-    /// By a line feed.
+    /// Line feeds.
     LineFeed,
-    /// As the first line of the text ends: by a line feed, or by a carriage return and a line feed.
+    /// The line end of the text's first line: a line feed, or a carriage return and a line feed.
     OfFirstLine,
 }
 
-/// How grammars are formatted.
+/// The options of the formatter.
 #[derive(Clone, Copy)]
 pub struct Options {
-    /// How many columns a line has at most, where it can be broken.
+    /// The greatest number of columns of a line, where it can be broken.
     pub width: usize,
-    /// How many columns a step of indentation has.
+    /// The number of columns of a step of indentation.
     pub indent: usize,
     pub line_ends: LineEnds,
 }
 
 impl Default for Options {
-    /// 100 columns, four for each step, and line feeds.
+    /// Returns 100 columns, four for each step, and line feeds.
     fn default() -> Options {
         Options {
             width: 100,
@@ -58,7 +58,7 @@ impl Default for Options {
     }
 }
 
-/// What the formatter answers.
+/// The formatter's answer.
 #[derive(Drop)]
 pub enum Formatted {
     /// The formatted text.
@@ -67,12 +67,12 @@ pub enum Formatted {
     Unchanged,
 }
 
-/// The formatted text of a grammar. It has the same tokens and the same comments, each between the same two
-/// tokens; only blanks at the ends of lines of comments are gone. Where lines end with line feeds, no line
-/// outside of literals ends with a blank. The text is empty, or ends with one line feed.
+/// Returns the formatted text of a grammar. This text has equal tokens and equal comments, each between the
+/// same two tokens; only blanks at the ends of lines of comments are removed. Where lines end with line
+/// feeds, no line outside of literals ends with a blank. The text is empty, or ends with one line feed.
 ///
-/// All texts that `PestParser::parse` takes for `grammar_rules` are formatted, also with undefined names.
-/// Where the text is refused, so is it here, with the same error. Any other fault is a want of memory.
+/// All texts that `PestParser::parse` takes for `grammar_rules` are formatted, also with undefined names. A
+/// text that it refuses is refused with an equal error. Any other fault is an allocation failure.
 pub fn format(alloc: Global, text: &str, options: Options) -> Result<Formatted, Fault>
     ensures { MatchResult result (IsAnswer options.line_ends text.now)
         (ParseRefuses grammar_rules text.now) }
@@ -86,7 +86,7 @@ pub fn format(alloc: Global, text: &str, options: Options) -> Result<Formatted, 
     }
 }
 
-/// A grammar of these tokens in its style; what it is to have is checked afterwards.
+/// Prints a grammar of these tokens in a style. The caller checks the result.
 fn print_grammar(
     alloc: Global,
     text: &str,
@@ -106,7 +106,7 @@ fn print_grammar(
     print(alloc, text, &pieces, &mut items, style)
 }
 
-/// The line end that is asked for.
+/// Returns the line end that the options ask for.
 fn line_end_of(text: &str, line_ends: LineEnds) -> &'static str {
     match (line_ends, text.split_once('\n')) {
         (LineEnds::OfFirstLine, Some((line, _))) if line.ends_with('\r') => "\r\n",
@@ -114,7 +114,7 @@ fn line_end_of(text: &str, line_ends: LineEnds) -> &'static str {
     }
 }
 
-/// Whether a text is the formatted text of a grammar with these tokens.
+/// Returns whether a text is the formatted text of a grammar with these tokens.
 fn is_formatted(
     alloc: Global,
     text: &str,
@@ -140,7 +140,7 @@ fn is_formatted(
     is_same(alloc, text.as_bytes(), entries, bytes, &others)
 }
 
-/// Whether no line outside of literals ends with a blank, where lines are to end with line feeds.
+/// Returns whether no line outside of literals ends with a blank, where lines are to end with line feeds.
 fn has_lines(text: &[u8], entries: &[Entry], line_ends: LineEnds) -> bool
     ensures { result ≡ true → line_ends ≡ LineFeed
         → token.has_clean_lines text.now (End 0 0) entries.now ≡ true }

@@ -1,6 +1,6 @@
-//! What a grammar is printed from: pieces of its text, and where lines may be broken between them.
+//! The pieces that a grammar is printed from, and the possible line ends between them.
 
-/// A piece of what is printed.
+/// A piece of the printed text.
 #[derive(Clone, Copy)]
 pub enum Piece {
     /// Bytes of the text, as they are.
@@ -11,10 +11,10 @@ pub enum Piece {
     Word(&'static str),
     /// A blank between two pieces of one line.
     Blank,
-    /// A line end where its group is broken, and else a blank or nothing. What follows is an operator, which
-    /// is two columns before its operand, or an operand.
+    /// A possible line end: a line end if its group is broken, and else a blank or nothing. The next piece is
+    /// an operator, which is two columns before its operand, or an operand.
     Line { is_blank: bool, is_operator: bool },
-    /// A line end, or one and an empty line: all groups around it are broken.
+    /// A line end, or one and an empty line. All groups around it are broken.
     LineEnd { has_empty_line: bool },
     /// A line end within a comment.
     CommentLineEnd,
@@ -28,7 +28,7 @@ pub enum Piece {
     Dedent,
 }
 
-/// What an item of a grammar is.
+/// The kind of an item of a grammar.
 #[derive(Clone, Copy, PartialEq, Eq)]
 pub enum ItemKind {
     Rule,
@@ -45,14 +45,14 @@ pub struct Item {
     pub kind: ItemKind,
     /// The number of its first piece.
     pub first: usize,
-    /// The number of the piece after its own ones; what is between that and the next item is comments that
-    /// follow on its last line.
+    /// The number of the piece after its own ones. The pieces between that and the next item are comments
+    /// that follow on its last line.
     pub end: usize,
     /// Whether an empty line is before it.
     pub after_empty_line: bool,
 }
 
-/// What stands between two words where no comment does.
+/// The separator of two words without comments between them.
 #[derive(Clone, Copy)]
 pub enum Separator {
     Nothing,
@@ -61,7 +61,7 @@ pub enum Separator {
 }
 
 impl Separator {
-    /// What stands before comments that lead an operand or an operator.
+    /// Returns the separator before comments that lead an operand or an operator.
     pub fn before_operand(self) -> Separator {
         match self {
             Separator::Line { is_blank, .. } => Separator::Line {
@@ -72,7 +72,7 @@ impl Separator {
         }
     }
 
-    /// What stands between such comments and an operator; nothing before an operand.
+    /// Returns the separator between such comments and an operator; nothing before an operand.
     pub fn before_operator(self) -> Separator {
         match self {
             Separator::Line {
@@ -83,7 +83,7 @@ impl Separator {
         }
     }
 
-    /// What serves both, of two that meet between two words.
+    /// Joins the separators of two neighbouring words into one that serves both.
     pub fn join(self, other: Separator) -> Separator {
         match (self, other) {
             (

@@ -13,7 +13,8 @@ use meta_syntax::entries::Entry;
 use meta_syntax::trees::from_entries;
 use std::alloc::{AllocError, Global};
 
-/// The rules that a text of these tokens is read as, without their spans, or none where it has a flaw.
+/// Returns the rules that a text of these tokens is read as, without their spans, or none where it has a
+/// flaw.
 fn read_rules(
     alloc: Global,
     text: &str,
@@ -35,14 +36,14 @@ fn read_rules(
     }
 }
 
-/// Whether two rules are the same.
+/// Returns whether two rules are the same.
 fn is_same_rule(rule: &ast::Rule, other: &ast::Rule) -> bool
     ensures { result ≡ true → rule_of_code rule.now ≡ rule_of_code other.now }
 {
     rule == other
 }
 
-/// Whether two lists have the same rules.
+/// Returns whether two lists have the same rules.
 fn are_same(rules: &[ast::Rule], others: &[ast::Rule]) -> bool
     ensures { result ≡ true → rules_of rules.now ≡ rules_of others.now }
 {
@@ -61,7 +62,7 @@ fn are_same(rules: &[ast::Rule], others: &[ast::Rule]) -> bool
     other_rest.is_empty()
 }
 
-/// Whether a text of a grammar is read as what another one is read as, where that has no flaw.
+/// Returns whether a text of a grammar is read as all rules that another one is read as, if that has no flaw.
 #[tactic(auto, using(crate::proofs::Readings::same_rules, crate::proofs::Readings::not_read_same))]
 pub fn has_same_rules(
     alloc: Global,

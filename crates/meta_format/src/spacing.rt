@@ -1,18 +1,18 @@
-//! Where empty lines are between the items of a grammar.
+//! Empty lines between the items of a grammar.
 use crate::pieces::{Item, ItemKind};
 
-/// Whether an item is a rule of more than one line.
+/// Returns whether an item is a rule of more than one line.
 fn is_broken_rule(items: &[Item], broken: &[bool], i: usize) -> bool {
     items.get(i).is_some_and(|item| item.kind == ItemKind::Rule)
         && broken.get(i).copied().unwrap_or(false)
 }
 
-/// Whether the item before one is of a kind.
+/// Returns whether the item before one is of a kind.
 fn has_kind_before(items: &[Item], i: usize, kind: ItemKind) -> bool {
     i > 0 && items.get(i - 1).is_some_and(|item| item.kind == kind)
 }
 
-/// Sets which items an empty line is before, by what the text has and by the rules of more than one line.
+/// Sets before which items an empty line is, by the text and by the rules of more than one line.
 pub fn space_items(items: &mut [Item], broken: &[bool]) {
     for i in 0..items.len() {
         let is_after_broken = i > 0 && is_broken_rule(items, broken, i - 1);

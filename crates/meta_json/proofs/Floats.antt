@@ -19,12 +19,12 @@ use Rattle.meta_ast.specs.declared.ast.Rule as bare_rule
 use Rattle.meta_ast.specs.declared.ast.Expr as bare
 use Rattle.meta_ast.specs.declared.optimized.OptimizedExpr as optimized
 use Rattle.meta_ast.specs.declared.optimized.OptimizedRule.{OptimizedRule}
-use Rattle.meta_json.specs.Errors.{answer_data, error_data, error_members, errors_data, line_col_data, location_data, names_data, rule_names_data, said_members}
+use Rattle.meta_json.specs.Errors.{answer_data, error_data, error_members, errors_data, line_col_data, location_data, message_members, names_data, rule_names_data}
 use Rattle.meta_json.specs.Format.{end_data, nodes_of, optimized_nodes_of, optimized_rules_data, place_data, rules_data, text_data, texts_data}
-use Rattle.meta_json.specs.Refusals.{refusal_data, said_at}
-use Rattle.meta_json.specs.declared.refusal.Place.{Place}
-use Rattle.meta_json.specs.declared.refusal.Place.TheVariants as place
-use Rattle.meta_json.specs.declared.refusal.Why.{Why}
+use Rattle.meta_json.specs.Refusals.{message_data, refusal_data}
+use Rattle.meta_json.specs.declared.refusal.RefusalLocation.{RefusalLocation}
+use Rattle.meta_json.specs.declared.refusal.RefusalLocation.TheVariants as place
+use Rattle.meta_json.specs.declared.refusal.RefusalReason.{RefusalReason}
 use Rattle.meta_json.specs.Refusals.{message_of}
 use Rattle.meta_json.specs.Tokens.{entry_data, tokens_data}
 use Rattle.meta_syntax.specs.declared.entries.Entry.{Entry}
@@ -122,20 +122,20 @@ line_col_free : (l : LineColLocation) → has_float (line_col_data l) ≡ false
 line_col_free (line_col.Pos p) = refl
 line_col_free (line_col.Span p q) = refl
 
-said_free : (expected : List Rule) (variant : ErrorVariant) (line : List ℕ) (l : InputLocation) (p : LineColLocation) → members_have_float (error_members expected variant (said_members line (line_col_data p) (location_data l))) ≡ false
+said_free : (expected : List Rule) (variant : ErrorVariant) (line : List ℕ) (l : InputLocation) (p : LineColLocation) → members_have_float (error_members expected variant (message_members line (line_col_data p) (location_data l))) ≡ false
 said_free expected ParsingError line l p = or_from (has_float (rule_names_data expected)) _ (rule_names_free expected) (then_free (has_float (line_col_data p)) (has_float (location_data l)) (line_col_free p) (location_free l))
 said_free expected (CustomError m) line l p = then_free (has_float (line_col_data p)) (has_float (location_data l)) (line_col_free p) (location_free l)
 
 pub errors_without_floats : (expected : List Rule) (errors : List (Error Rule)) → has_float (errors_data expected errors) ≡ false
 errors_without_floats expected errors = map_free (error_data expected) (λ e. said_free expected e.variant (error_line e) e.location e.line_col) errors
 
-said_at_free : (p : Place) (message : List ℕ) → has_float (said_at p message) ≡ false
+said_at_free : (p : RefusalLocation) (message : List ℕ) → has_float (message_data p message) ≡ false
 said_at_free (place.Text l c) m = refl
 said_at_free place.Whole m = refl
 said_at_free (place.Rule r) m = refl
 said_at_free (place.Node r n) m = refl
 
-pub refusal_without_floats : (p : Place) (why : Why) → has_float (refusal_data p why) ≡ false
+pub refusal_without_floats : (p : RefusalLocation) (why : RefusalReason) → has_float (refusal_data p why) ≡ false
 refusal_without_floats p why = said_at_free p (message_of why)
 
 entry_free : (e : Entry) → has_float (entry_data e) ≡ false

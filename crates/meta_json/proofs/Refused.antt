@@ -1,7 +1,7 @@
 -- Refusals in a rule.
 use Rattle.std.proofs.Common.{◌≡◌, refl, subst, sym, ℕ, List}
 use Rattle.meta_json.specs.Refusals.{IsInRule, IsRefusedText, in_rule}
-use Rattle.meta_json.specs.declared.refusal.Place.TheVariants as place
+use Rattle.meta_json.specs.declared.refusal.RefusalLocation.TheVariants as place
 use Rattle.meta_json.specs.declared.refusal.Refusal.{Refusal}
 use Rattle.meta_json.specs.declared.refusal.Refusal.TheVariants as refusal
 use Rattle.meta_json.specs.declared.refusal.Unread.{Unread}
@@ -18,7 +18,7 @@ of_rule text rule (refusal.Text (place.Node n node) why) h = tt
 -- a part that is refused is refused in its rule
 here : (u : Unread) (rule : ℕ) → IsInRule rule (in_rule u rule)
 here unread.Memory rule = tt
-here (unread.Why why) rule = refl
+here (unread.Reason why) rule = refl
 here (unread.At node why) rule = refl
 
 pub in_its_rule : (u : Unread) (rule : ℕ) (r : Refusal) → r ≡ in_rule u rule → IsInRule rule r

@@ -29,12 +29,12 @@ names_data names = list_data (map (λ name. string name.now) names)
 abbrev pub rule_names_data : List Rule → Data
 rule_names_data rules = list_data (map (λ rule. string (name_of rule)) rules)
 
--- where an error stands: its place, or its start and its end, in bytes
+-- the location of an error: its position, or its start and its end, in bytes
 abbrev pub location_data : InputLocation → Data
 location_data (location.Pos place) = list_data (size_data place ∷ [])
 location_data (location.Span places) = list_data (size_data places.0 ∷ size_data places.1 ∷ [])
 
--- the same as lines and columns
+-- a line and a column
 abbrev pub pair_data : ℕ × ℕ → Data
 pair_data place = list_data (size_data place.0 ∷ size_data place.1 ∷ [])
 
@@ -42,13 +42,14 @@ abbrev pub line_col_data : LineColLocation → Data
 line_col_data (line_col.Pos place) = list_data (pair_data place ∷ [])
 line_col_data (line_col.Span start end) = list_data (pair_data start ∷ pair_data end ∷ [])
 
--- what an error says, with the line of the text, its lines and columns, and its places
-abbrev pub said_members : List ℕ → Data → Data → List ℕ → Members
-said_members line places location message =
+-- the members of an error's message, the line of the text, its lines and columns, and its location
+abbrev pub message_members : List ℕ → Data → Data → List ℕ → Members
+message_members line places location message =
     member (codes "line") (string line) (member (codes "line_col") places
     (member (codes "location") location (member (codes "message") (string message) no_members)))
 
--- what an error is of, syntax or not, and what it says; one of syntax says which rules were expected
+-- the members of an error's kind, syntax or not, and of its message; a syntax error has the expected rules,
+-- too
 abbrev pub error_members : List Rule → ErrorVariant → (List ℕ → Members) → Members
 error_members expected ParsingError said = member (codes "expected") (rule_names_data expected)
     (member (codes "kind") (string (codes "parsing")) (said (codes "unknown parsing error")))
@@ -58,13 +59,13 @@ error_members expected (CustomError message) said =
 -- an error
 abbrev pub error_data : List Rule → Error Rule → Data
 error_data expected error = object (error_members expected error.variant
-    (said_members (error_line error) (line_col_data error.line_col) (location_data error.location)))
+    (message_members (error_line error) (line_col_data error.line_col) (location_data error.location)))
 
 -- a list of errors
 abbrev pub errors_data : List Rule → List (Error Rule) → Data
 errors_data expected errors = list_data (map (error_data expected) errors)
 
--- what is answered for a text: the builtins, and the optimized rules
+-- the answer for a text: the builtins, and the optimized rules
 abbrev pub answer_data : List (Bor (List ℕ)) → List OptimizedRule → Data
 answer_data builtins rules = object (member (codes "builtins") (names_data builtins)
     (member (codes "rules") (optimized_rules_data rules) no_members))

@@ -22,7 +22,7 @@ form_with name x = array (item (string name) (item x no_items))
 abbrev pub form_with_two : List ℕ → Data → Data → Data
 form_with_two name x y = array (item (string name) (item x (item y no_items)))
 
--- arguments: a text, a count, a place of the stack, where a slice ends, and texts
+-- arguments: a text, a count, an index of the stack, the end of a slice, and texts
 abbrev pub text_data : String Global → Data
 text_data s = string (string_bytes s)
 
@@ -39,7 +39,7 @@ end_data (Some z) = place_data z
 abbrev pub texts_data : List (String Global) → Data
 texts_data ss = array (items_of (map text_data ss))
 
--- an expression's nodes, each before its operands; the `p` and `q` are where its boxes lie
+-- an expression's nodes in preorder; the `p` and `q` are the addresses of its boxes
 abbrev pub nodes_of : bare.Expr → List Data
 nodes_of (bare.Str s) = form_with (codes "str") (text_data s) ∷ []
 nodes_of (bare.Insens s) = form_with (codes "insens") (text_data s) ∷ []
@@ -63,7 +63,7 @@ nodes_of (bare.Push' p x) = form (codes "push") ∷ nodes_of x
 nodes_of (bare.PushLiteral s) = form_with (codes "push_literal") (text_data s) ∷ []
 nodes_of (bare.NodeTag' p x s) = form_with (codes "node_tag") (text_data s) ∷ nodes_of x
 
--- an optimized expression's
+-- an optimized expression's nodes in preorder
 abbrev pub optimized_nodes_of : optimized.OptimizedExpr → List Data
 optimized_nodes_of (optimized.Str s) = form_with (codes "str") (text_data s) ∷ []
 optimized_nodes_of (optimized.Insens s) = form_with (codes "insens") (text_data s) ∷ []
@@ -87,7 +87,7 @@ optimized_nodes_of (optimized.NodeTag' p x s) =
     form_with (codes "node_tag") (text_data s) ∷ optimized_nodes_of x
 optimized_nodes_of (optimized.RestoreOnErr' p x) = form (codes "restore_on_err") ∷ optimized_nodes_of x
 
--- a type's name
+-- the name of a type
 abbrev pub type_name : RuleType → List ℕ
 type_name Normal = codes "normal"
 type_name Silent = codes "silent"

@@ -1,15 +1,15 @@
--- Nodes without their operands, and what is still to be written; by these the code is proved.
+-- Nodes without their operands, and the worklist of the writer; the proofs of the code use these.
 use Rattle.std.specs.Prelude.{ℕ, ◌+◌, List, [], ◌∷◌, ◌++◌, codes}
 use Rattle.std.specs.Borrow.{Bor}
 use Rattle.serde_json.specs.Data.{Data, string}
 use Rattle.meta_json.specs.Format.{count_data, end_data, form, form_with, form_with_two, place_data, texts_data}
-use Rattle.meta_json.specs.declared.expressions.Operands.{Operands}
-use Rattle.meta_json.specs.declared.expressions.Operands.TheVariants as operands
-use Rattle.meta_json.specs.declared.nodes.Node.{Node}
-use Rattle.meta_json.specs.declared.nodes.Node.TheVariants as node
+use Rattle.meta_json.specs.declared.expressions.NodeOperands.{NodeOperands}
+use Rattle.meta_json.specs.declared.expressions.NodeOperands.TheVariants as operands
+use Rattle.meta_json.specs.declared.nodes.JsonNode.{JsonNode}
+use Rattle.meta_json.specs.declared.nodes.JsonNode.TheVariants as node
 
 -- a node
-abbrev pub node_data : Node → Data
+abbrev pub node_data : JsonNode → Data
 node_data (node.Str s) = form_with (codes "str") (string s.now)
 node_data (node.Insens s) = form_with (codes "insens") (string s.now)
 node_data (node.Range s t) = form_with_two (codes "range") (string s.now) (string t.now)
@@ -32,29 +32,29 @@ node_data (node.PushLiteral s) = form_with (codes "push_literal") (string s.now)
 node_data (node.NodeTag s) = form_with (codes "node_tag") (string s.now)
 node_data node.RestoreOnErr = form (codes "restore_on_err")
 
--- the nodes of expressions that stand in a list, the last of them first
+-- the nodes of expressions in a list, the last of them first
 abbrev pub in_turn : {A : Type 0} → (A → List Data) → List A → List Data
 in_turn nodes [] = []
 in_turn nodes (e ∷ es) = in_turn nodes es ++ nodes e
 
--- the same of expressions that are lent
+-- the nodes of borrowed expressions
 module _ {E : Type 0} (nodes : E → List Data) where
   abbrev pub now_in_turn : List (Bor E) → List Data
   now_in_turn [] = []
   now_in_turn (e ∷ es) = now_in_turn es ++ nodes e.now
 
-  abbrev pub nodes_of_operands : Operands E → List Data
+  abbrev pub nodes_of_operands : NodeOperands E → List Data
   nodes_of_operands operands.None = []
   nodes_of_operands (operands.One x) = nodes x.now
   nodes_of_operands (operands.Two x y) = nodes x.now ++ nodes y.now
 
--- how much they are
+-- their size
 module _ {E : Type 0} (heft : E → ℕ) where
   abbrev pub heft_now : List (Bor E) → ℕ
   heft_now [] = 0
   heft_now (e ∷ es) = heft e.now + heft_now es
 
-  abbrev pub heft_of_operands : Operands E → ℕ
+  abbrev pub heft_of_operands : NodeOperands E → ℕ
   heft_of_operands operands.None = 0
   heft_of_operands (operands.One x) = heft x.now
   heft_of_operands (operands.Two x y) = heft x.now + heft y.now

@@ -1,4 +1,4 @@
--- Rules with the places of their nodes as JSON values.
+-- Rules with the spans of their nodes as JSON values.
 use Rattle.std.specs.Prelude.{List, [], ◌∷◌, ◌++◌, codes, map, string_bytes}
 use Rattle.serde_json.specs.Data.{Data, member, no_members, object, string}
 use Rattle.meta_json.specs.Errors.{list_data, size_data}
@@ -10,8 +10,8 @@ use Rattle.meta_spanned.specs.declared.node.ParserExpr.{ParserExpr}
 use Rattle.meta_spanned.specs.declared.node.ParserExpr.TheVariants as is
 use Rattle.meta_spanned.specs.declared.node.ParserRule.{ParserRule}
 
--- an expression's nodes, each before its operands; the `p` and `q` are where its boxes lie, the `s` and `t`
--- where its operands stand
+-- an expression's nodes in preorder; the `p` and `q` are the addresses of its boxes, the `s` and `t` the
+-- spans of its operands
 abbrev pub nodes_of_placed : ParserExpr → List Data
 nodes_of_placed (is.Str u) = form_with (codes "str") (text_data u) ∷ []
 nodes_of_placed (is.Insens u) = form_with (codes "insens") (text_data u) ∷ []
@@ -34,15 +34,15 @@ nodes_of_placed (is.Push' p x s) = form (codes "push") ∷ nodes_of_placed x
 nodes_of_placed (is.PushLiteral u) = form_with (codes "push_literal") (text_data u) ∷ []
 nodes_of_placed (is.NodeTag' p x s u) = form_with (codes "node_tag") (text_data u) ∷ nodes_of_placed x
 
--- where a piece of a text starts and ends
+-- the start and the end of a piece of a text
 abbrev pub span_data : Span → Data
 span_data s = list_data (size_data s.start ∷ size_data s.end ∷ [])
 
--- where a node and all below it stand, each before those inside it
+-- the spans of a node and its descendants in preorder
 abbrev pub spans_data : Spanned → Data
 spans_data x = list_data (map (λ y. span_data (span_of y)) (preorder x))
 
--- a rule with its places
+-- a rule with its spans
 abbrev pub placed_rule_data : ParserRule → Data
 placed_rule_data r = object (member (codes "expr") (list_data (nodes_of_placed r.node.expr))
     (member (codes "name") (string (string_bytes r.name))

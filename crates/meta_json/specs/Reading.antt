@@ -1,4 +1,4 @@
--- What is read as rules.
+-- Texts in JSON that are read as rules.
 use Rattle.std.specs.Prelude.{◌≡◌, ℕ, Option, Some, List, codes, map, string_bytes}
 use Rattle.serde_json.specs.Data.{Data, array, string}
 use Rattle.serde_json.specs.Find.{get}
@@ -22,7 +22,7 @@ members_of d = record {
   body = get (codes "expr") d;
 }
 
--- those of a rule of that name and type, whose body has these nodes
+-- the members of a rule of that name and type, whose body has these nodes
 abbrev pub rule_members : List ℕ → RuleType → List Data → Members
 rule_members name ty nodes = record {
   name = Some (string name);

@@ -4,17 +4,17 @@ use Rattle.serde_json.specs.Data.{Data, member, no_members, object, string}
 use Rattle.serde_json.specs.Find.{as_array}
 use Rattle.serde_json.specs.Read.{read}
 use Rattle.meta_json.specs.Errors.{size_data}
-use Rattle.meta_json.specs.declared.refusal.Place.{Place}
-use Rattle.meta_json.specs.declared.refusal.Place.TheVariants as place
+use Rattle.meta_json.specs.declared.refusal.RefusalLocation.{RefusalLocation}
+use Rattle.meta_json.specs.declared.refusal.RefusalLocation.TheVariants as place
 use Rattle.meta_json.specs.declared.refusal.Refusal.{Refusal}
 use Rattle.meta_json.specs.declared.refusal.Refusal.TheVariants as refusal
 use Rattle.meta_json.specs.declared.refusal.Unread.{Unread}
 use Rattle.meta_json.specs.declared.refusal.Unread.TheVariants as unread
-use Rattle.meta_json.specs.declared.refusal.Why.{Why}
-use Rattle.meta_json.specs.declared.refusal.Why.TheVariants as is
+use Rattle.meta_json.specs.declared.refusal.RefusalReason.{RefusalReason}
+use Rattle.meta_json.specs.declared.refusal.RefusalReason.TheVariants as is
 
--- what is wrong, in words
-abbrev pub message_of : Why → List ℕ
+-- the message of a reason
+abbrev pub message_of : RefusalReason → List ℕ
 message_of is.Json = codes "this is no JSON"
 message_of is.NoList = codes "a list of rules is wanted"
 message_of is.Name = codes "a rule's `name` has to be a text"
@@ -26,34 +26,34 @@ message_of is.Operands = codes "an operand of this node is missing"
 message_of is.Left = codes "there are more nodes than the expression has"
 message_of is.UnknownRule = codes "no rule of the meta-grammar has this name"
 
--- a message and its place
-abbrev pub said_at : Place → List ℕ → Data
-said_at (place.Text line column) message = object (member (codes "column") (size_data column)
+-- a message and its location
+abbrev pub message_data : RefusalLocation → List ℕ → Data
+message_data (place.Text line column) message = object (member (codes "column") (size_data column)
     (member (codes "line") (size_data line) (member (codes "message") (string message) no_members)))
-said_at place.Whole message = object (member (codes "message") (string message) no_members)
-said_at (place.Rule rule) message = object (member (codes "message") (string message)
+message_data place.Whole message = object (member (codes "message") (string message) no_members)
+message_data (place.Rule rule) message = object (member (codes "message") (string message)
     (member (codes "rule") (size_data rule) no_members))
-said_at (place.Node rule node) message = object (member (codes "message") (string message)
+message_data (place.Node rule node) message = object (member (codes "message") (string message)
     (member (codes "node") (size_data node) (member (codes "rule") (size_data rule) no_members)))
 
--- a refusal: its place, and what is wrong there
-abbrev pub refusal_data : Place → Why → Data
-refusal_data p w = said_at p (message_of w)
+-- a refusal: its location, and its message
+abbrev pub refusal_data : RefusalLocation → RefusalReason → Data
+refusal_data p w = message_data p (message_of w)
 
 -- a part that is refused, in the rule of that number
 abbrev pub in_rule : Unread → ℕ → Refusal
 in_rule unread.Memory rule = refusal.Memory
-in_rule (unread.Why why) rule = refusal.Text (place.Rule rule) why
+in_rule (unread.Reason why) rule = refusal.Text (place.Rule rule) why
 in_rule (unread.At node why) rule = refusal.Text (place.Node rule node) why
 
--- the same at the node of that number
+-- a part that is refused, at the node of that number
 abbrev pub at_node : Unread → ℕ → Unread
 at_node unread.Memory node = unread.Memory
-at_node (unread.Why why) node = unread.At node why
+at_node (unread.Reason why) node = unread.At node why
 at_node (unread.At other why) node = unread.At other why
 
--- why a text is refused: memory was wanting; it is no JSON, of which a line and a column are told; it is no
--- list; or something is wrong in a rule of it, of which nothing is said here
+-- the refusal of a text: an allocation failure; no JSON, with a line and a column; no list; or a reason in
+-- one of its rules, which has no further condition
 abbrev pub IsRefusedText : List ℕ → Refusal → Type 0
 IsRefusedText text refusal.Memory = ⊤
 IsRefusedText text (refusal.Text (place.Text line column) why) = (why ≡ is.Json) × (read text ≡ None)
@@ -62,7 +62,7 @@ IsRefusedText text (refusal.Text place.Whole why) =
 IsRefusedText text (refusal.Text (place.Rule rule) why) = ⊤
 IsRefusedText text (refusal.Text (place.Node rule node) why) = ⊤
 
--- memory was wanting, or something is wrong in the rule of that number
+-- an allocation failure, or a reason in the rule of that number
 abbrev pub IsInRule : ℕ → Refusal → Type 0
 IsInRule rule refusal.Memory = ⊤
 IsInRule rule (refusal.Text (place.Text line column) why) = ⊥

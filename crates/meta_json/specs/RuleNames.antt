@@ -1,4 +1,4 @@
--- Which names are of no rule of the meta-grammar.
+-- Names of no rule of the meta-grammar.
 use Rattle.std.specs.Prelude.{◌≢◌, ℕ, List}
 use Rattle.meta_base.specs.Pieces.MetaRules.{name_of}
 use Rattle.meta_base.specs.declared.grammar.Rule.{Rule}

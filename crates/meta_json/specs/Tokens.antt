@@ -6,7 +6,7 @@ use Rattle.meta_json.specs.Errors.{list_data, size_data}
 use Rattle.meta_syntax.specs.declared.entries.Entry.{Entry}
 use Rattle.meta_syntax.specs.declared.entries.Entry.TheVariants as entry
 
--- a token: the rule of a tree and where it starts, or where one ends, and the number of the other one
+-- a token: the rule and the start of a tree, or its end, and the number of the other one
 abbrev pub entry_data : Entry → Data
 entry_data (entry.Start rule place partner) =
     list_data (string (name_of rule) ∷ size_data place ∷ size_data partner ∷ [])

@@ -1,4 +1,4 @@
-//! What is answered for a grammar's text, as JSON.
+//! The answer for a grammar's text, as JSON.
 ghost use Rattle.std.specs.Prelude.{◌≡◌, IfOk, string_bytes};
 ghost use Rattle.serde_json.specs.View.{view};
 ghost use Rattle.serde_json.specs.Written.{compact_text};
@@ -10,7 +10,8 @@ use meta_ast::optimized::OptimizedRule;
 use serde_json::{Value, json};
 use std::alloc::{AllocError, Global};
 
-/// The builtins that a grammar uses and its optimized rules, as JSON. The only error is a want of memory.
+/// Returns the builtins that a grammar uses and its optimized rules, as JSON. The only error is an allocation
+/// failure.
 #[tactic(auto, using(crate::proofs::Floats::answer_without_floats))]
 pub fn answer_text(
     alloc: Global,
@@ -22,7 +23,7 @@ pub fn answer_text(
     answer_value(alloc, builtins, rules)?.to_string(alloc)
 }
 
-/// The same as a value.
+/// Returns the builtins and the rules as a value.
 fn answer_value(
     alloc: Global,
     builtins: &[&str],

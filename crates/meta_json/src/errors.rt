@@ -9,7 +9,7 @@ use meta_base::runtime::{Error, ErrorVariant, InputLocation, LineColLocation};
 use serde_json::{Value, json};
 use std::alloc::{AllocError, Global};
 
-/// Errors as JSON, those of syntax with the rules that were expected. The only error is a want of memory.
+/// Returns errors as JSON; syntax errors have the expected rules. The only error is an allocation failure.
 #[tactic(auto, using(crate::proofs::Floats::errors_without_floats))]
 pub fn errors_text(
     alloc: Global,
@@ -21,7 +21,7 @@ pub fn errors_text(
     errors_value(alloc, errors, expected)?.to_string(alloc)
 }
 
-/// Names as JSON. The only error is a want of memory.
+/// Returns names as JSON. The only error is an allocation failure.
 #[tactic(auto, using(crate::proofs::Floats::names_without_floats))]
 pub fn names_text(alloc: Global, names: &[&str]) -> Result<String, AllocError>
     ensures { IfOk result (λ text. string_bytes text ≡ compact_text (names_data names.now)) }
@@ -29,7 +29,7 @@ pub fn names_text(alloc: Global, names: &[&str]) -> Result<String, AllocError>
     names_value(alloc, names)?.to_string(alloc)
 }
 
-/// Errors as a value.
+/// Returns errors as a value.
 fn errors_value(
     alloc: Global,
     errors: &[Error<Rule>],
@@ -44,7 +44,7 @@ fn errors_value(
     Ok(Value::Array(values))
 }
 
-/// Names as a value.
+/// Returns names as a value.
 pub(crate) fn names_value(alloc: Global, names: &[&str]) -> Result<Value, AllocError>
     ensures { IfOk result (λ value. view value ≡ names_data names.now) }
 {
@@ -55,7 +55,7 @@ pub(crate) fn names_value(alloc: Global, names: &[&str]) -> Result<Value, AllocE
     Ok(Value::Array(values))
 }
 
-/// The names of rules, as a value.
+/// Returns the names of rules, as a value.
 fn rule_names_value(alloc: Global, rules: &[Rule]) -> Result<Value, AllocError>
     ensures { IfOk result (λ value. view value ≡ rule_names_data rules.now) }
 {
@@ -66,7 +66,7 @@ fn rule_names_value(alloc: Global, rules: &[Rule]) -> Result<Value, AllocError>
     Ok(Value::Array(values))
 }
 
-/// An error as a value.
+/// Returns an error as a value.
 fn error_value(alloc: Global, error: &Error<Rule>, expected: &[Rule]) -> Result<Value, AllocError>
     ensures { IfOk result (λ value. view value ≡ error_data expected.now error.now) }
 {
@@ -94,7 +94,7 @@ fn error_value(alloc: Global, error: &Error<Rule>, expected: &[Rule]) -> Result<
     }
 }
 
-/// Where an error stands, as a value.
+/// Returns the location of an error, as a value.
 fn location_value(alloc: Global, location: InputLocation) -> Result<Value, AllocError>
     ensures { IfOk result (λ value. view value ≡ location_data location) }
 {
@@ -104,7 +104,7 @@ fn location_value(alloc: Global, location: InputLocation) -> Result<Value, Alloc
     }
 }
 
-/// The lines and columns of an error, as a value.
+/// Returns the lines and columns of an error, as a value.
 fn line_col_value(alloc: Global, places: LineColLocation) -> Result<Value, AllocError>
     ensures { IfOk result (λ value. view value ≡ line_col_data places) }
 {
@@ -121,7 +121,7 @@ fn line_col_value(alloc: Global, places: LineColLocation) -> Result<Value, Alloc
     }
 }
 
-/// A line and a column, as a value.
+/// Returns a line and a column, as a value.
 fn pair_value(alloc: Global, place: (usize, usize)) -> Result<Value, AllocError>
     ensures { IfOk result (λ value. view value ≡ pair_data place) }
 {

@@ -1,19 +1,18 @@
-//! Expressions as lists of nodes, each before its operands, and read back. No nesting takes depth of the
-//! stack.
+//! Expressions as lists of nodes in preorder, and read back. Stack use does not depend on nesting depth.
 ghost use Rattle.std.specs.Prelude.{◌≡◌, ◌<◌, ◌+◌, ◌++◌, ℕ, List, [], ◌∷◌, IfOk, OnOk, map};
 ghost use Rattle.serde_json.specs.Data.{Data};
 ghost use Rattle.serde_json.specs.View.{view};
 ghost use Rattle.meta_json.specs.Nodes.{heft_now, heft_of_operands, in_turn, node_data, nodes_of_operands, now_in_turn};
 
-use crate::nodes::Node;
-use crate::refusal::{Unread, Why};
+use crate::nodes::JsonNode;
+use crate::refusal::{RefusalReason, Unread};
 use meta_ast::deep::{Deep, Release};
 use serde_json::Value;
 use std::alloc::{AllocError, Global};
 
 /// The operands of a node.
 #[derive(Clone, Copy)]
-pub(crate) enum Operands<'a, E> {
+pub(crate) enum NodeOperands<'a, E> {
     None,
     One(&'a E),
     Two(&'a E, &'a E),
@@ -21,33 +20,33 @@ pub(crate) enum Operands<'a, E> {
 
 /// Expressions that are written as nodes.
 pub(crate) trait AsNodes {
-    // what is written of an expression
+    // the nodes of an expression
     ghost nodes: { Self → List Data };
 
-    // how much there is to be written
+    // the size of an expression, by which the walk ends
     ghost heft: { Self → ℕ };
 
-    /// The node at the top of an expression, and its operands.
-    fn top(&self, alloc: Global) -> Result<(Node<'_>, Operands<'_, Self>), AllocError>
+    /// Returns the node at the top of an expression, and its operands.
+    fn top(&self, alloc: Global) -> Result<(JsonNode<'_>, NodeOperands<'_, Self>), AllocError>
         ensures written { IfOk result
             (λ top. node_data top.0 ∷ nodes_of_operands nodes top.1 ≡ nodes self.now) }
         ensures lighter { IfOk result (λ top. heft_of_operands heft top.1 < heft self.now) };
 }
 
-/// Expressions that are read from nodes too.
+/// Expressions that are also read from nodes.
 pub(crate) trait FromNodes: AsNodes + Release {
-    /// The expression of a node with the first of these operands, the last of which comes first. It takes
-    /// those that it needs.
+    /// Builds the expression of a node. Its operands are popped from the end of the list, the first one
+    /// first.
     fn of_node(
         alloc: Global,
-        node: Node<'_>,
+        node: JsonNode<'_>,
         operands: &mut Deep<Vec<Self>>,
     ) -> Result<Self, Unread>
         ensures { IfOk result (λ expr. Self.nodes expr ++ in_turn Self.nodes operands.new.value.items
             ≡ node_data node.entry ∷ in_turn Self.nodes operands.old.value.items) };
 }
 
-/// The nodes of an expression, as values.
+/// Returns the nodes of an expression in preorder, as values.
 #[tactic(auto, using(crate::proofs::Turns::now_in_turn_last, crate::proofs::Turns::heft_now_last))]
 pub(crate) fn nodes_of<E: AsNodes>(alloc: Global, expr: &E) -> Result<Vec<Value>, AllocError>
     ensures { IfOk result (λ values. map view values.items ≡ E.nodes expr.now) }
@@ -63,11 +62,11 @@ pub(crate) fn nodes_of<E: AsNodes>(alloc: Global, expr: &E) -> Result<Vec<Value>
     Ok(values)
 }
 
-/// Puts operands on a list, the first of them last.
+/// Pushes operands on a worklist, the first of them last.
 #[tactic(auto, using(crate::proofs::Turns::put_last))]
 fn put<'a, E: AsNodes>(
     waiting: &mut Vec<&'a E>,
-    operands: Operands<'a, E>,
+    operands: NodeOperands<'a, E>,
 ) -> Result<(), AllocError>
     ensures nodes { OnOk result (now_in_turn E.nodes waiting.new.items
         ≡ nodes_of_operands E.nodes operands.entry ++ now_in_turn E.nodes waiting.old.items) }
@@ -75,12 +74,12 @@ fn put<'a, E: AsNodes>(
         ≡ heft_of_operands E.heft operands.entry + heft_now E.heft waiting.old.items) }
 {
     match operands {
-        Operands::None => Ok(()),
-        Operands::One(operand) => {
+        NodeOperands::None => Ok(()),
+        NodeOperands::One(operand) => {
             waiting.push(operand)?;
             Ok(())
         }
-        Operands::Two(left, right) => {
+        NodeOperands::Two(left, right) => {
             waiting.push(right)?;
             waiting.push(left)?;
             Ok(())
@@ -88,7 +87,7 @@ fn put<'a, E: AsNodes>(
     }
 }
 
-/// The expression whose nodes these values are.
+/// Builds the expression whose nodes in preorder these values are. Reads them from the last to the first.
 #[tactic(auto, using(crate::proofs::Turns::in_turn_last))]
 pub(crate) fn expression_of<E: FromNodes>(alloc: Global, nodes: &[Value]) -> Result<E, Unread>
     ensures { IfOk result (λ expr. E.nodes expr ≡ map view nodes.now) }
@@ -107,13 +106,13 @@ pub(crate) fn expression_of<E: FromNodes>(alloc: Global, nodes: &[Value]) -> Res
         Some(expr) if operands.value.is_empty() => Ok(expr),
         Some(expr) => {
             expr.release();
-            Err(Unread::Why(Why::Left))
+            Err(Unread::Reason(RefusalReason::Left))
         }
-        None => Err(Unread::Why(Why::Body)),
+        None => Err(Unread::Reason(RefusalReason::Body)),
     }
 }
 
-/// Puts the expression of a node with the first of these operands in their place.
+/// Builds the expression of a node, and replaces its operands on the list by it.
 #[tactic(auto, using(crate::proofs::Turns::in_turn_last))]
 fn expression_with<E: FromNodes>(
     alloc: Global,
@@ -123,23 +122,23 @@ fn expression_with<E: FromNodes>(
     ensures { OnOk result (in_turn E.nodes operands.new.value.items
         ≡ view node.now ∷ in_turn E.nodes operands.old.value.items) }
 {
-    let expr = E::of_node(alloc, Node::of_value(alloc, node)?, operands)?;
+    let expr = E::of_node(alloc, JsonNode::of_value(alloc, node)?, operands)?;
     operands.push(Deep { value: expr })?;
     Ok(())
 }
 
-/// Takes the first of these operands, in a box that is let go by a loop.
+/// Pops an operand, in a box that is dropped iteratively.
 fn operand<E: Release>(alloc: Global, operands: &mut Deep<Vec<E>>) -> Result<Deep<Box<E>>, Unread>
     ensures { IfOk result (λ taken. operands.old.value.items
         ≡ operands.new.value.items ++ (taken.value.value ∷ [])) }
 {
     match operands.value.pop() {
-        Some(expr) => Ok(Deep { value: expr }.boxed(alloc)?),
-        None => Err(Unread::Why(Why::Operands)),
+        Some(expr) => Ok(Deep { value: expr }.into_box(alloc)?),
+        None => Err(Unread::Reason(RefusalReason::Operands)),
     }
 }
 
-/// Takes the first of these operands, in a box.
+/// Pops an operand, in a box.
 pub(crate) fn one_operand<E: Release>(
     alloc: Global,
     operands: &mut Deep<Vec<E>>,
@@ -150,7 +149,7 @@ pub(crate) fn one_operand<E: Release>(
     Ok(operand(alloc, operands)?.into_inner())
 }
 
-/// Takes the first two of these operands, each in a box.
+/// Pops two operands, each in a box.
 pub(crate) fn two_operands<E: Release>(
     alloc: Global,
     operands: &mut Deep<Vec<E>>,

@@ -17,7 +17,7 @@ mod versions;
 pub use answers::answer_text;
 pub use errors::{errors_text, names_text};
 pub use placed::nodes_text;
-pub use refusal::{Place, Refusal, Why, refusal_text};
+pub use refusal::{Refusal, RefusalLocation, RefusalReason, refusal_text};
 pub use rule_names::rule_named;
 pub use rules::{optimized_rules_text, read_optimized_rules, read_rules, rules_text};
 pub use tokens::tokens_text;

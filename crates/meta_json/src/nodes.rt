@@ -5,13 +5,13 @@ ghost use Rattle.serde_json.specs.View.{items_view, view};
 ghost use Rattle.meta_json.specs.Format.{count_data, end_data, form as form_data, form_with, form_with_two, place_data, texts_data};
 ghost use Rattle.meta_json.specs.Nodes.{node_data};
 
-use crate::refusal::{Unread, Why};
+use crate::refusal::{RefusalReason, Unread};
 use serde_json::{Value, json};
 use std::alloc::{AllocError, Global};
 
 /// A node of an expression: its form and its arguments, without its operands.
 #[derive(Debug, Drop)]
-pub(crate) enum Node<'a> {
+pub(crate) enum JsonNode<'a> {
     Str(&'a str),
     Insens(&'a str),
     Range(&'a str, &'a str),
@@ -35,75 +35,76 @@ pub(crate) enum Node<'a> {
     RestoreOnErr,
 }
 
-impl<'a> Node<'a> {
-    /// The node as a value.
+impl<'a> JsonNode<'a> {
+    /// Returns the node as a value.
     pub(crate) fn to_value(&self, alloc: Global) -> Result<Value, AllocError>
         ensures { IfOk result (λ value. view value ≡ node_data self.now) }
     {
         match self {
-            Node::Str(text) => with_text(alloc, "str", text),
-            Node::Insens(text) => with_text(alloc, "insens", text),
-            Node::Range(low, high) => json!(in alloc; ["range", *low, *high]),
-            Node::Ident(name) => with_text(alloc, "ident", name),
-            Node::PeekSlice(start, end) => slice_value(alloc, *start, *end),
-            Node::PosPred => alone(alloc, "pos_pred"),
-            Node::NegPred => alone(alloc, "neg_pred"),
-            Node::Seq => alone(alloc, "seq"),
-            Node::Choice => alone(alloc, "choice"),
-            Node::Opt => alone(alloc, "opt"),
-            Node::Rep => alone(alloc, "rep"),
-            Node::RepOnce => alone(alloc, "rep_once"),
-            Node::RepExact(count) => with_count(alloc, "rep_exact", *count),
-            Node::RepMin(least) => with_count(alloc, "rep_min", *least),
-            Node::RepMax(greatest) => with_count(alloc, "rep_max", *greatest),
-            Node::RepMinMax(least, greatest) => json!(in alloc; ["rep_min_max", *least, *greatest]),
-            Node::Skip(texts) => skip_value(alloc, texts),
-            Node::Push => alone(alloc, "push"),
-            Node::PushLiteral(text) => with_text(alloc, "push_literal", text),
-            Node::NodeTag(tag) => with_text(alloc, "node_tag", tag),
-            Node::RestoreOnErr => alone(alloc, "restore_on_err"),
+            JsonNode::Str(text) => with_text(alloc, "str", text),
+            JsonNode::Insens(text) => with_text(alloc, "insens", text),
+            JsonNode::Range(low, high) => json!(in alloc; ["range", *low, *high]),
+            JsonNode::Ident(name) => with_text(alloc, "ident", name),
+            JsonNode::PeekSlice(start, end) => slice_value(alloc, *start, *end),
+            JsonNode::PosPred => alone(alloc, "pos_pred"),
+            JsonNode::NegPred => alone(alloc, "neg_pred"),
+            JsonNode::Seq => alone(alloc, "seq"),
+            JsonNode::Choice => alone(alloc, "choice"),
+            JsonNode::Opt => alone(alloc, "opt"),
+            JsonNode::Rep => alone(alloc, "rep"),
+            JsonNode::RepOnce => alone(alloc, "rep_once"),
+            JsonNode::RepExact(count) => with_count(alloc, "rep_exact", *count),
+            JsonNode::RepMin(least) => with_count(alloc, "rep_min", *least),
+            JsonNode::RepMax(greatest) => with_count(alloc, "rep_max", *greatest),
+            JsonNode::RepMinMax(least, greatest) =>
+                json!(in alloc; ["rep_min_max", *least, *greatest]),
+            JsonNode::Skip(texts) => skip_value(alloc, texts),
+            JsonNode::Push => alone(alloc, "push"),
+            JsonNode::PushLiteral(text) => with_text(alloc, "push_literal", text),
+            JsonNode::NodeTag(tag) => with_text(alloc, "node_tag", tag),
+            JsonNode::RestoreOnErr => alone(alloc, "restore_on_err"),
         }
     }
 
-    /// The node that a value is.
-    pub(crate) fn of_value(alloc: Global, value: &'a Value) -> Result<Node<'a>, Unread>
+    /// Reads a node from a value.
+    pub(crate) fn of_value(alloc: Global, value: &'a Value) -> Result<JsonNode<'a>, Unread>
         ensures { IfOk result (λ node. node_data node ≡ view value.now) }
     {
         let Some(parts) = value.as_array() else {
-            return Err(Unread::Why(Why::Node));
+            return Err(Unread::Reason(RefusalReason::Node));
         };
         let [form, arguments @ ..] = parts.as_slice() else {
-            return Err(Unread::Why(Why::Node));
+            return Err(Unread::Reason(RefusalReason::Node));
         };
         match form.as_str() {
             Some(form) => node_of(alloc, form, arguments),
-            None => Err(Unread::Why(Why::Node)),
+            None => Err(Unread::Reason(RefusalReason::Node)),
         }
     }
 }
 
-/// A form without arguments.
+/// Returns a form without arguments.
 fn alone(alloc: Global, form: &str) -> Result<Value, AllocError>
     ensures { IfOk result (λ value. view value ≡ form_data form.now) }
 {
     json!(in alloc; [form])
 }
 
-/// A form with a text.
+/// Returns a form with a text.
 fn with_text(alloc: Global, form: &str, text: &str) -> Result<Value, AllocError>
     ensures { IfOk result (λ value. view value ≡ form_with form.now (string text.now)) }
 {
     json!(in alloc; [form, text])
 }
 
-/// A form with a count.
+/// Returns a form with a count.
 fn with_count(alloc: Global, form: &str, count: u32) -> Result<Value, AllocError>
     ensures { IfOk result (λ value. view value ≡ form_with form.now (count_data count)) }
 {
     json!(in alloc; [form, count])
 }
 
-/// A slice of the stack.
+/// Returns a slice of the stack.
 fn slice_value(alloc: Global, start: i32, end: Option<i32>) -> Result<Value, AllocError>
     ensures { IfOk result (λ value. view value
         ≡ form_with_two (codes "peek_slice") (place_data start) (end_data end)) }
@@ -114,7 +115,7 @@ fn slice_value(alloc: Global, start: i32, end: Option<i32>) -> Result<Value, All
     }
 }
 
-/// A search for one of the texts.
+/// Returns a search for one of the texts.
 fn skip_value(alloc: Global, texts: &[String]) -> Result<Value, AllocError>
     ensures { IfOk result (λ value. view value ≡ form_with (codes "skip") (texts_data texts.now)) }
 {
@@ -125,8 +126,8 @@ fn skip_value(alloc: Global, texts: &[String]) -> Result<Value, AllocError>
     json!(in alloc; ["skip", Value::Array(values)])
 }
 
-/// The node of that form with these arguments.
-fn node_of<'a>(alloc: Global, form: &'a str, arguments: &'a [Value]) -> Result<Node<'a>, Unread>
+/// Returns the node of that form with these arguments.
+fn node_of<'a>(alloc: Global, form: &'a str, arguments: &'a [Value]) -> Result<JsonNode<'a>, Unread>
     ensures { IfOk result (λ node. node_data node
         ≡ array (item (string form.now) (items_view arguments.now))) }
 {
@@ -134,81 +135,85 @@ fn node_of<'a>(alloc: Global, form: &'a str, arguments: &'a [Value]) -> Result<N
         [] => node_alone(form),
         [one] => node_with(alloc, form, one),
         [first, second] => node_with_two(form, first, second),
-        _ => Err(Unread::Why(Why::Form)),
+        _ => Err(Unread::Reason(RefusalReason::Form)),
     }
 }
 
-/// The node of that form without arguments.
-fn node_alone<'a>(form: &'a str) -> Result<Node<'a>, Unread>
+/// Returns the node of that form without arguments.
+fn node_alone<'a>(form: &'a str) -> Result<JsonNode<'a>, Unread>
     ensures { IfOk result (λ node. node_data node ≡ form_data form.now) }
 {
     match form {
-        "pos_pred" => Ok(Node::PosPred),
-        "neg_pred" => Ok(Node::NegPred),
-        "seq" => Ok(Node::Seq),
-        "choice" => Ok(Node::Choice),
-        "opt" => Ok(Node::Opt),
-        "rep" => Ok(Node::Rep),
-        "rep_once" => Ok(Node::RepOnce),
-        "push" => Ok(Node::Push),
-        "restore_on_err" => Ok(Node::RestoreOnErr),
-        _ => Err(Unread::Why(Why::Form)),
+        "pos_pred" => Ok(JsonNode::PosPred),
+        "neg_pred" => Ok(JsonNode::NegPred),
+        "seq" => Ok(JsonNode::Seq),
+        "choice" => Ok(JsonNode::Choice),
+        "opt" => Ok(JsonNode::Opt),
+        "rep" => Ok(JsonNode::Rep),
+        "rep_once" => Ok(JsonNode::RepOnce),
+        "push" => Ok(JsonNode::Push),
+        "restore_on_err" => Ok(JsonNode::RestoreOnErr),
+        _ => Err(Unread::Reason(RefusalReason::Form)),
     }
 }
 
-/// The node of that form with one argument.
-fn node_with<'a>(alloc: Global, form: &'a str, one: &'a Value) -> Result<Node<'a>, Unread>
+/// Returns the node of that form with one argument.
+fn node_with<'a>(alloc: Global, form: &'a str, one: &'a Value) -> Result<JsonNode<'a>, Unread>
     ensures { IfOk result (λ node. node_data node
         ≡ form_with form.now (view one.now)) }
 {
     match form {
-        "str" => Ok(Node::Str(text_of(one)?)),
-        "insens" => Ok(Node::Insens(text_of(one)?)),
-        "ident" => Ok(Node::Ident(text_of(one)?)),
-        "push_literal" => Ok(Node::PushLiteral(text_of(one)?)),
-        "node_tag" => Ok(Node::NodeTag(text_of(one)?)),
-        "rep_exact" => Ok(Node::RepExact(count_of(one)?)),
-        "rep_min" => Ok(Node::RepMin(count_of(one)?)),
-        "rep_max" => Ok(Node::RepMax(count_of(one)?)),
-        "skip" => Ok(Node::Skip(texts_of(alloc, one)?)),
-        _ => Err(Unread::Why(Why::Form)),
+        "str" => Ok(JsonNode::Str(text_of(one)?)),
+        "insens" => Ok(JsonNode::Insens(text_of(one)?)),
+        "ident" => Ok(JsonNode::Ident(text_of(one)?)),
+        "push_literal" => Ok(JsonNode::PushLiteral(text_of(one)?)),
+        "node_tag" => Ok(JsonNode::NodeTag(text_of(one)?)),
+        "rep_exact" => Ok(JsonNode::RepExact(count_of(one)?)),
+        "rep_min" => Ok(JsonNode::RepMin(count_of(one)?)),
+        "rep_max" => Ok(JsonNode::RepMax(count_of(one)?)),
+        "skip" => Ok(JsonNode::Skip(texts_of(alloc, one)?)),
+        _ => Err(Unread::Reason(RefusalReason::Form)),
     }
 }
 
-/// The node of that form with two arguments.
-fn node_with_two<'a>(form: &'a str, first: &'a Value, second: &'a Value) -> Result<Node<'a>, Unread>
+/// Returns the node of that form with two arguments.
+fn node_with_two<'a>(
+    form: &'a str,
+    first: &'a Value,
+    second: &'a Value,
+) -> Result<JsonNode<'a>, Unread>
     ensures { IfOk result (λ node. node_data node
         ≡ form_with_two form.now (view first.now) (view second.now)) }
 {
     match form {
-        "range" => Ok(Node::Range(text_of(first)?, text_of(second)?)),
-        "rep_min_max" => Ok(Node::RepMinMax(count_of(first)?, count_of(second)?)),
-        "peek_slice" => Ok(Node::PeekSlice(index_of(first)?, end_of(second)?)),
-        _ => Err(Unread::Why(Why::Form)),
+        "range" => Ok(JsonNode::Range(text_of(first)?, text_of(second)?)),
+        "rep_min_max" => Ok(JsonNode::RepMinMax(count_of(first)?, count_of(second)?)),
+        "peek_slice" => Ok(JsonNode::PeekSlice(index_of(first)?, end_of(second)?)),
+        _ => Err(Unread::Reason(RefusalReason::Form)),
     }
 }
 
-/// A value that is a text.
+/// Returns a text, if the value is one.
 fn text_of(value: &Value) -> Result<&str, Unread>
     ensures { IfOk result (λ text. string text.now ≡ view value.now) }
 {
     match value.as_str() {
         Some(text) => Ok(text),
-        None => Err(Unread::Why(Why::Form)),
+        None => Err(Unread::Reason(RefusalReason::Form)),
     }
 }
 
-/// A value that is a number of 32 bits.
+/// Returns a number of 32 bits, if the value is one.
 fn count_of(value: &Value) -> Result<u32, Unread>
     ensures { IfOk result (λ count. count_data count ≡ view value.now) }
 {
     match value.as_u64() {
         Some(count) if count <= u64::from(u32::MAX) => Ok(count as u32),
-        _ => Err(Unread::Why(Why::Form)),
+        _ => Err(Unread::Reason(RefusalReason::Form)),
     }
 }
 
-/// A value that is a number of 32 bits, with a sign.
+/// Returns a signed number of 32 bits, if the value is one.
 fn index_of(value: &Value) -> Result<i32, Unread>
     ensures { IfOk result (λ index. place_data index ≡ view value.now) }
 {
@@ -216,11 +221,11 @@ fn index_of(value: &Value) -> Result<i32, Unread>
         Some(index) if i64::from(i32::MIN) <= index && index <= i64::from(i32::MAX) => Ok(
             index as i32,
         ),
-        _ => Err(Unread::Why(Why::Form)),
+        _ => Err(Unread::Reason(RefusalReason::Form)),
     }
 }
 
-/// A value that is such a number, or null.
+/// Returns a signed number of 32 bits, or `None` if the value is null.
 fn end_of(value: &Value) -> Result<Option<i32>, Unread>
     ensures { IfOk result (λ end. end_data end ≡ view value.now) }
 {
@@ -230,12 +235,12 @@ fn end_of(value: &Value) -> Result<Option<i32>, Unread>
     }
 }
 
-/// A value that is a list of texts.
+/// Returns a list of texts, if the value is one.
 fn texts_of(alloc: Global, value: &Value) -> Result<Vec<String>, Unread>
     ensures { IfOk result (λ texts. texts_data texts.items ≡ view value.now) }
 {
     let Some(values) = value.as_array() else {
-        return Err(Unread::Why(Why::Form));
+        return Err(Unread::Reason(RefusalReason::Form));
     };
     let mut texts = Vec::new(alloc);
     for value in values {
@@ -244,7 +249,7 @@ fn texts_of(alloc: Global, value: &Value) -> Result<Vec<String>, Unread>
     Ok(texts)
 }
 
-/// The same texts again.
+/// Copies texts.
 pub(crate) fn copies(alloc: Global, texts: &[String]) -> Result<Vec<String>, AllocError>
     ensures { IfOk result (λ copies. texts_data copies.items ≡ texts_data texts.now) }
 {

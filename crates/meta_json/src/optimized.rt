@@ -3,9 +3,9 @@ ghost use Rattle.meta_ast.specs.Optimized.{optimized_expression_of};
 ghost use Rattle.meta_ast.specs.Weight.{weight};
 ghost use Rattle.meta_json.specs.Format.{optimized_nodes_of};
 
-use crate::expressions::{AsNodes, FromNodes, Operands, one_operand, two_operands};
-use crate::nodes::{Node, copies};
-use crate::refusal::{Unread, Why};
+use crate::expressions::{AsNodes, FromNodes, NodeOperands, one_operand, two_operands};
+use crate::nodes::{JsonNode, copies};
+use crate::refusal::{RefusalReason, Unread};
 use meta_ast::deep::Deep;
 use meta_ast::optimized::OptimizedExpr;
 use std::alloc::{AllocError, Global};
@@ -15,39 +15,51 @@ impl AsNodes for OptimizedExpr {
 
     ghost heft = { λ expr. weight (optimized_expression_of expr) };
 
-    fn top(&self, alloc: Global) -> Result<(Node<'_>, Operands<'_, OptimizedExpr>), AllocError> {
+    fn top(
+        &self,
+        alloc: Global,
+    ) -> Result<(JsonNode<'_>, NodeOperands<'_, OptimizedExpr>), AllocError> {
         match self {
-            OptimizedExpr::Str(text) => Ok((Node::Str(text.as_str()), Operands::None)),
-            OptimizedExpr::Insens(text) => Ok((Node::Insens(text.as_str()), Operands::None)),
+            OptimizedExpr::Str(text) => Ok((JsonNode::Str(text.as_str()), NodeOperands::None)),
+            OptimizedExpr::Insens(text) => Ok((
+                JsonNode::Insens(text.as_str()),
+                NodeOperands::None,
+            )),
             OptimizedExpr::Range(low, high) => Ok((
-                Node::Range(low.as_str(), high.as_str()),
-                Operands::None,
+                JsonNode::Range(low.as_str(), high.as_str()),
+                NodeOperands::None,
             )),
-            OptimizedExpr::Ident(name) => Ok((Node::Ident(name.as_str()), Operands::None)),
+            OptimizedExpr::Ident(name) => Ok((JsonNode::Ident(name.as_str()), NodeOperands::None)),
             OptimizedExpr::PeekSlice(start, end) => Ok((
-                Node::PeekSlice(*start, *end),
-                Operands::None,
+                JsonNode::PeekSlice(*start, *end),
+                NodeOperands::None,
             )),
-            OptimizedExpr::PosPred(inner) => Ok((Node::PosPred, Operands::One(inner))),
-            OptimizedExpr::NegPred(inner) => Ok((Node::NegPred, Operands::One(inner))),
-            OptimizedExpr::Seq(left, right) => Ok((Node::Seq, Operands::Two(left, right))),
-            OptimizedExpr::Choice(left, right) => Ok((Node::Choice, Operands::Two(left, right))),
-            OptimizedExpr::Opt(inner) => Ok((Node::Opt, Operands::One(inner))),
-            OptimizedExpr::Rep(inner) => Ok((Node::Rep, Operands::One(inner))),
-            OptimizedExpr::RepOnce(inner) => Ok((Node::RepOnce, Operands::One(inner))),
-            OptimizedExpr::RestoreOnErr(inner) => Ok((Node::RestoreOnErr, Operands::One(inner))),
+            OptimizedExpr::PosPred(inner) => Ok((JsonNode::PosPred, NodeOperands::One(inner))),
+            OptimizedExpr::NegPred(inner) => Ok((JsonNode::NegPred, NodeOperands::One(inner))),
+            OptimizedExpr::Seq(left, right) => Ok((JsonNode::Seq, NodeOperands::Two(left, right))),
+            OptimizedExpr::Choice(left, right) => Ok((
+                JsonNode::Choice,
+                NodeOperands::Two(left, right),
+            )),
+            OptimizedExpr::Opt(inner) => Ok((JsonNode::Opt, NodeOperands::One(inner))),
+            OptimizedExpr::Rep(inner) => Ok((JsonNode::Rep, NodeOperands::One(inner))),
+            OptimizedExpr::RepOnce(inner) => Ok((JsonNode::RepOnce, NodeOperands::One(inner))),
+            OptimizedExpr::RestoreOnErr(inner) => Ok((
+                JsonNode::RestoreOnErr,
+                NodeOperands::One(inner),
+            )),
             OptimizedExpr::Skip(texts) => Ok((
-                Node::Skip(copies(alloc, texts.as_slice())?),
-                Operands::None,
+                JsonNode::Skip(copies(alloc, texts.as_slice())?),
+                NodeOperands::None,
             )),
-            OptimizedExpr::Push(inner) => Ok((Node::Push, Operands::One(inner))),
+            OptimizedExpr::Push(inner) => Ok((JsonNode::Push, NodeOperands::One(inner))),
             OptimizedExpr::PushLiteral(text) => Ok((
-                Node::PushLiteral(text.as_str()),
-                Operands::None,
+                JsonNode::PushLiteral(text.as_str()),
+                NodeOperands::None,
             )),
             OptimizedExpr::NodeTag(inner, tag) => Ok((
-                Node::NodeTag(tag.as_str()),
-                Operands::One(inner),
+                JsonNode::NodeTag(tag.as_str()),
+                NodeOperands::One(inner),
             )),
         }
     }
@@ -57,44 +69,47 @@ impl FromNodes for OptimizedExpr {
     #[tactic(auto, using(crate::proofs::Turns::in_turn_last, crate::proofs::Turns::in_turn_last_two))]
     fn of_node(
         alloc: Global,
-        node: Node<'_>,
+        node: JsonNode<'_>,
         operands: &mut Deep<Vec<OptimizedExpr>>,
     ) -> Result<OptimizedExpr, Unread> {
         match node {
-            Node::Str(text) => Ok(OptimizedExpr::Str(String::from_str(alloc, text)?)),
-            Node::Insens(text) => Ok(OptimizedExpr::Insens(String::from_str(alloc, text)?)),
-            Node::Range(low, high) => {
+            JsonNode::Str(text) => Ok(OptimizedExpr::Str(String::from_str(alloc, text)?)),
+            JsonNode::Insens(text) => Ok(OptimizedExpr::Insens(String::from_str(alloc, text)?)),
+            JsonNode::Range(low, high) => {
                 let low = String::from_str(alloc, low)?;
                 Ok(OptimizedExpr::Range(low, String::from_str(alloc, high)?))
             }
-            Node::Ident(name) => Ok(OptimizedExpr::Ident(String::from_str(alloc, name)?)),
-            Node::PeekSlice(start, end) => Ok(OptimizedExpr::PeekSlice(start, end)),
-            Node::PosPred => Ok(OptimizedExpr::PosPred(one_operand(alloc, operands)?)),
-            Node::NegPred => Ok(OptimizedExpr::NegPred(one_operand(alloc, operands)?)),
-            Node::Seq => {
+            JsonNode::Ident(name) => Ok(OptimizedExpr::Ident(String::from_str(alloc, name)?)),
+            JsonNode::PeekSlice(start, end) => Ok(OptimizedExpr::PeekSlice(start, end)),
+            JsonNode::PosPred => Ok(OptimizedExpr::PosPred(one_operand(alloc, operands)?)),
+            JsonNode::NegPred => Ok(OptimizedExpr::NegPred(one_operand(alloc, operands)?)),
+            JsonNode::Seq => {
                 let (left, right) = two_operands(alloc, operands)?;
                 Ok(OptimizedExpr::Seq(left, right))
             }
-            Node::Choice => {
+            JsonNode::Choice => {
                 let (left, right) = two_operands(alloc, operands)?;
                 Ok(OptimizedExpr::Choice(left, right))
             }
-            Node::Opt => Ok(OptimizedExpr::Opt(one_operand(alloc, operands)?)),
-            Node::Rep => Ok(OptimizedExpr::Rep(one_operand(alloc, operands)?)),
-            Node::RepOnce => Ok(OptimizedExpr::RepOnce(one_operand(alloc, operands)?)),
-            Node::Skip(texts) => Ok(OptimizedExpr::Skip(texts)),
-            Node::Push => Ok(OptimizedExpr::Push(one_operand(alloc, operands)?)),
-            Node::PushLiteral(text) => {
+            JsonNode::Opt => Ok(OptimizedExpr::Opt(one_operand(alloc, operands)?)),
+            JsonNode::Rep => Ok(OptimizedExpr::Rep(one_operand(alloc, operands)?)),
+            JsonNode::RepOnce => Ok(OptimizedExpr::RepOnce(one_operand(alloc, operands)?)),
+            JsonNode::Skip(texts) => Ok(OptimizedExpr::Skip(texts)),
+            JsonNode::Push => Ok(OptimizedExpr::Push(one_operand(alloc, operands)?)),
+            JsonNode::PushLiteral(text) => {
                 Ok(OptimizedExpr::PushLiteral(String::from_str(alloc, text)?))
             }
-            Node::NodeTag(tag) => {
+            JsonNode::NodeTag(tag) => {
                 let tag = String::from_str(alloc, tag)?;
                 Ok(OptimizedExpr::NodeTag(one_operand(alloc, operands)?, tag))
             }
-            Node::RestoreOnErr => Ok(OptimizedExpr::RestoreOnErr(one_operand(alloc, operands)?)),
-            Node::RepExact(_) | Node::RepMin(_) | Node::RepMax(_) | Node::RepMinMax(_, _) => {
-                Err(Unread::Why(Why::Form))
-            }
+            JsonNode::RestoreOnErr => Ok(OptimizedExpr::RestoreOnErr(one_operand(
+                alloc, operands,
+            )?)),
+            JsonNode::RepExact(_)
+            | JsonNode::RepMin(_)
+            | JsonNode::RepMax(_)
+            | JsonNode::RepMinMax(_, _) => { Err(Unread::Reason(RefusalReason::Form)) }
         }
     }
 }

@@ -1,4 +1,4 @@
-//! Rules with the places of their nodes as JSON.
+//! Rules with the spans of their nodes as JSON.
 ghost use Rattle.std.specs.Prelude.{◌≡◌, IfOk, string_bytes};
 ghost use Rattle.serde_json.specs.View.{view as value_view};
 ghost use Rattle.serde_json.specs.Written.{compact_text};
@@ -7,15 +7,15 @@ ghost use Rattle.meta_spanned.specs.Erasure.{without_spans};
 ghost use Rattle.meta_spanned.specs.Nodes.{piece_of, view};
 ghost use Rattle.meta_json.specs.Placed.{nodes_of_placed, placed_rule_data, placed_rules_data, span_data, spans_data};
 
-use crate::expressions::{AsNodes, Operands, nodes_of};
-use crate::nodes::Node;
+use crate::expressions::{AsNodes, NodeOperands, nodes_of};
+use crate::nodes::JsonNode;
 use crate::rules::name_of_type;
 use meta_base::runtime::Span;
 use meta_spanned::{ParserExpr, ParserNode, ParserRule, push_operands};
 use serde_json::{Value, json};
 use std::alloc::{AllocError, Global};
 
-/// Rules with the places of their names and nodes as JSON. The only error is a want of memory.
+/// Returns rules with the spans of their names and nodes as JSON. The only error is an allocation failure.
 #[tactic(auto, using(crate::proofs::PlacedFloats::placed_without_floats))]
 pub fn nodes_text(alloc: Global, rules: &[ParserRule<'_>]) -> Result<String, AllocError>
     ensures { IfOk result (λ text. string_bytes text ≡ compact_text (placed_rules_data rules.now)) }
@@ -23,7 +23,7 @@ pub fn nodes_text(alloc: Global, rules: &[ParserRule<'_>]) -> Result<String, All
     placed_rules_value(alloc, rules)?.to_string(alloc)
 }
 
-/// The same as a value.
+/// Returns rules with spans as a value.
 fn placed_rules_value(alloc: Global, rules: &[ParserRule<'_>]) -> Result<Value, AllocError>
     ensures { IfOk result (λ value. value_view value ≡ placed_rules_data rules.now) }
 {
@@ -34,7 +34,7 @@ fn placed_rules_value(alloc: Global, rules: &[ParserRule<'_>]) -> Result<Value, 
     Ok(Value::Array(values))
 }
 
-/// A rule with places as a value.
+/// Returns a rule with spans as a value.
 fn placed_rule_value(alloc: Global, rule: &ParserRule<'_>) -> Result<Value, AllocError>
     ensures { IfOk result (λ value. value_view value ≡ placed_rule_data rule.now) }
 {
@@ -50,7 +50,7 @@ fn placed_rule_value(alloc: Global, rule: &ParserRule<'_>) -> Result<Value, Allo
     })
 }
 
-/// The places of a node and of all below it, each before those inside it, as a value.
+/// Returns the spans of a node and its descendants in preorder, as a value.
 fn spans_value(alloc: Global, node: &ParserNode<'_>) -> Result<Value, AllocError>
     ensures { IfOk result (λ value. value_view value ≡ spans_data (view node.now)) }
 {
@@ -64,7 +64,7 @@ fn spans_value(alloc: Global, node: &ParserNode<'_>) -> Result<Value, AllocError
     Ok(Value::Array(spans))
 }
 
-/// A place as a value.
+/// Returns a span as a value.
 fn span_value(alloc: Global, span: &Span<'_>) -> Result<Value, AllocError>
     ensures { IfOk result (λ value. value_view value ≡ span_data (piece_of span.now)) }
 {
@@ -76,30 +76,39 @@ impl<'i> AsNodes for ParserNode<'i> {
 
     ghost heft = { λ node. weight (without_spans (view node)) };
 
-    fn top(&self, _alloc: Global) -> Result<(Node<'_>, Operands<'_, ParserNode<'i>>), AllocError> {
+    fn top(
+        &self,
+        _alloc: Global,
+    ) -> Result<(JsonNode<'_>, NodeOperands<'_, ParserNode<'i>>), AllocError> {
         use ParserExpr as E;
         Ok(match &self.expr {
-            E::Str(text) => (Node::Str(text.as_str()), Operands::None),
-            E::Insens(text) => (Node::Insens(text.as_str()), Operands::None),
-            E::Range(low, high) => (Node::Range(low.as_str(), high.as_str()), Operands::None),
-            E::Ident(name) => (Node::Ident(name.as_str()), Operands::None),
-            E::PeekSlice(start, end) => (Node::PeekSlice(*start, *end), Operands::None),
-            E::PosPred(inner) => (Node::PosPred, Operands::One(inner)),
-            E::NegPred(inner) => (Node::NegPred, Operands::One(inner)),
-            E::Seq(left, right) => (Node::Seq, Operands::Two(left, right)),
-            E::Choice(left, right) => (Node::Choice, Operands::Two(left, right)),
-            E::Opt(inner) => (Node::Opt, Operands::One(inner)),
-            E::Rep(inner) => (Node::Rep, Operands::One(inner)),
-            E::RepOnce(inner) => (Node::RepOnce, Operands::One(inner)),
-            E::RepExact(inner, count) => (Node::RepExact(*count), Operands::One(inner)),
-            E::RepMin(inner, least) => (Node::RepMin(*least), Operands::One(inner)),
-            E::RepMax(inner, greatest) => (Node::RepMax(*greatest), Operands::One(inner)),
+            E::Str(text) => (JsonNode::Str(text.as_str()), NodeOperands::None),
+            E::Insens(text) => (JsonNode::Insens(text.as_str()), NodeOperands::None),
+            E::Range(low, high) => (
+                JsonNode::Range(low.as_str(), high.as_str()),
+                NodeOperands::None,
+            ),
+            E::Ident(name) => (JsonNode::Ident(name.as_str()), NodeOperands::None),
+            E::PeekSlice(start, end) => (JsonNode::PeekSlice(*start, *end), NodeOperands::None),
+            E::PosPred(inner) => (JsonNode::PosPred, NodeOperands::One(inner)),
+            E::NegPred(inner) => (JsonNode::NegPred, NodeOperands::One(inner)),
+            E::Seq(left, right) => (JsonNode::Seq, NodeOperands::Two(left, right)),
+            E::Choice(left, right) => (JsonNode::Choice, NodeOperands::Two(left, right)),
+            E::Opt(inner) => (JsonNode::Opt, NodeOperands::One(inner)),
+            E::Rep(inner) => (JsonNode::Rep, NodeOperands::One(inner)),
+            E::RepOnce(inner) => (JsonNode::RepOnce, NodeOperands::One(inner)),
+            E::RepExact(inner, count) => (JsonNode::RepExact(*count), NodeOperands::One(inner)),
+            E::RepMin(inner, least) => (JsonNode::RepMin(*least), NodeOperands::One(inner)),
+            E::RepMax(inner, greatest) => (JsonNode::RepMax(*greatest), NodeOperands::One(inner)),
             E::RepMinMax(inner, least, greatest) => {
-                (Node::RepMinMax(*least, *greatest), Operands::One(inner))
+                (
+                    JsonNode::RepMinMax(*least, *greatest),
+                    NodeOperands::One(inner),
+                )
             }
-            E::Push(inner) => (Node::Push, Operands::One(inner)),
-            E::PushLiteral(text) => (Node::PushLiteral(text.as_str()), Operands::None),
-            E::NodeTag(inner, tag) => (Node::NodeTag(tag.as_str()), Operands::One(inner)),
+            E::Push(inner) => (JsonNode::Push, NodeOperands::One(inner)),
+            E::PushLiteral(text) => (JsonNode::PushLiteral(text.as_str()), NodeOperands::None),
+            E::NodeTag(inner, tag) => (JsonNode::NodeTag(tag.as_str()), NodeOperands::One(inner)),
         })
     }
 }

@@ -1,16 +1,16 @@
-//! Why a text is not read as rules, or as the name of one.
+//! The refusal of a text that is not read as rules, or as the name of one.
 ghost use Rattle.std.specs.Prelude.{◌≡◌, IfOk, string_bytes};
 ghost use Rattle.serde_json.specs.View.{view};
 ghost use Rattle.serde_json.specs.Written.{compact_text};
 ghost use Rattle.meta_json.specs.declared.refusal.Refusal.TheVariants.{Memory};
-ghost use Rattle.meta_json.specs.Refusals.{at_node, in_rule, message_of, refusal_data, said_at};
+ghost use Rattle.meta_json.specs.Refusals.{at_node, in_rule, message_data, message_of, refusal_data};
 
 use serde_json::{Value, json};
 use std::alloc::{AllocError, AllocFailed, Global};
 
-/// What is wrong with a text.
+/// The reason of a refusal.
 #[derive(Clone, Copy, Debug, PartialEq, Eq)]
-pub enum Why {
+pub enum RefusalReason {
     /// The text is no JSON.
     Json,
     /// The value is no list.
@@ -23,56 +23,56 @@ pub enum Why {
     Body,
     /// A node is no list that begins with a text.
     Node,
-    /// A node's form is unknown, does not stand in rules of this kind, or has other arguments.
+    /// A node's form is unknown, does not occur in rules of this kind, or has other arguments.
     Form,
-    /// A node has too few operands behind it.
+    /// A node has too few operands after it.
     Operands,
-    /// More nodes stand behind an expression than belong to it.
+    /// There are more nodes after an expression than belong to it.
     Left,
     /// No rule of the meta-grammar has this name.
     UnknownRule,
 }
 
-impl Why {
-    /// What is wrong, in words.
+impl RefusalReason {
+    /// Returns the message of a reason.
     pub fn message(self) -> &'static str
         ensures { result.now ≡ message_of self }
     {
         match self {
-            Why::Json => "this is no JSON",
-            Why::NoList => "a list of rules is wanted",
-            Why::Name => "a rule's `name` has to be a text",
-            Why::Type => "a rule's `type` has to be one of the five types",
-            Why::Body => "a rule's `expr` has to be a list of nodes",
-            Why::Node => "a node is a list that begins with the name of its form",
-            Why::Form => "no node here has this form with these arguments",
-            Why::Operands => "an operand of this node is missing",
-            Why::Left => "there are more nodes than the expression has",
-            Why::UnknownRule => "no rule of the meta-grammar has this name",
+            RefusalReason::Json => "this is no JSON",
+            RefusalReason::NoList => "a list of rules is wanted",
+            RefusalReason::Name => "a rule's `name` has to be a text",
+            RefusalReason::Type => "a rule's `type` has to be one of the five types",
+            RefusalReason::Body => "a rule's `expr` has to be a list of nodes",
+            RefusalReason::Node => "a node is a list that begins with the name of its form",
+            RefusalReason::Form => "no node here has this form with these arguments",
+            RefusalReason::Operands => "an operand of this node is missing",
+            RefusalReason::Left => "there are more nodes than the expression has",
+            RefusalReason::UnknownRule => "no rule of the meta-grammar has this name",
         }
     }
 }
 
-/// Where something is wrong.
+/// The location of a reason.
 #[derive(Clone, Copy, Debug, PartialEq, Eq)]
-pub enum Place {
-    /// In the text, by line and column.
+pub enum RefusalLocation {
+    /// A line and a column of the text.
     Text(usize, usize),
-    /// Nowhere in it: the whole is wrong.
+    /// The whole text.
     Whole,
-    /// In the rule of that number, counted from 0.
+    /// The rule of that number, counted from 0.
     Rule(usize),
-    /// In the rule of the first number, at the node of the second, both counted from 0.
+    /// The node of the second number in the rule of the first, both counted from 0.
     Node(usize, usize),
 }
 
-/// Why a text is not read as rules.
+/// The refusal of a text that is not read as rules.
 #[derive(Debug, Drop)]
 pub enum Refusal {
-    /// Want of memory.
+    /// An allocation failed.
     Memory,
     /// The text is at fault.
-    Text(Place, Why),
+    Text(RefusalLocation, RefusalReason),
 }
 
 impl From<AllocError> for Refusal {
@@ -83,13 +83,13 @@ impl From<AllocError> for Refusal {
     }
 }
 
-/// Why a part of a value is not read.
+/// The refusal of a part of a value.
 #[derive(Debug, Drop)]
 pub(crate) enum Unread {
     Memory,
-    Why(Why),
-    /// At the node of that number.
-    At(usize, Why),
+    Reason(RefusalReason),
+    /// A reason at the node of that number.
+    At(usize, RefusalReason),
 }
 
 impl From<AllocError> for Unread {
@@ -105,47 +105,51 @@ impl<T: Drop> From<AllocFailed<T>> for Unread {
 }
 
 impl Unread {
-    /// The same of a node.
+    /// Adds the number of the node to a reason without one.
     pub(crate) fn at_node(self, node: usize) -> Unread
         ensures { result ≡ at_node self node }
     {
         match self {
-            Unread::Why(why) => Unread::At(node, why),
+            Unread::Reason(why) => Unread::At(node, why),
             other => other,
         }
     }
 
-    /// The same of a rule.
+    /// Returns the refusal of a text, with the number of the rule.
     pub(crate) fn in_rule(self, rule: usize) -> Refusal
         ensures { result ≡ in_rule self rule }
     {
         match self {
             Unread::Memory => Refusal::Memory,
-            Unread::Why(why) => Refusal::Text(Place::Rule(rule), why),
-            Unread::At(node, why) => Refusal::Text(Place::Node(rule, node), why),
+            Unread::Reason(why) => Refusal::Text(RefusalLocation::Rule(rule), why),
+            Unread::At(node, why) => Refusal::Text(RefusalLocation::Node(rule, node), why),
         }
     }
 }
 
-/// A refusal's place and what is wrong there, as JSON. The only error is a want of memory.
+/// Returns a refusal's location and message as JSON. The only error is an allocation failure.
 #[tactic(auto, using(crate::proofs::Floats::refusal_without_floats))]
-pub fn refusal_text(alloc: Global, place: Place, why: Why) -> Result<String, AllocError>
+pub fn refusal_text(
+    alloc: Global,
+    place: RefusalLocation,
+    why: RefusalReason,
+) -> Result<String, AllocError>
     ensures { IfOk result (λ text. string_bytes text ≡ compact_text (refusal_data place why)) }
 {
     refusal_value(alloc, place, why.message())?.to_string(alloc)
 }
 
-/// A refusal's place and what is wrong there, as a value.
-fn refusal_value(alloc: Global, place: Place, message: &str) -> Result<Value, AllocError>
-    ensures { IfOk result (λ value. view value ≡ said_at place message.now) }
+/// Returns a refusal's location and message as a value.
+fn refusal_value(alloc: Global, place: RefusalLocation, message: &str) -> Result<Value, AllocError>
+    ensures { IfOk result (λ value. view value ≡ message_data place message.now) }
 {
     match place {
-        Place::Text(line, column) => {
+        RefusalLocation::Text(line, column) => {
             json!(in alloc; {"column": column, "line": line, "message": message})
         }
-        Place::Whole => json!(in alloc; {"message": message}),
-        Place::Rule(rule) => json!(in alloc; {"message": message, "rule": rule}),
-        Place::Node(rule, node) => {
+        RefusalLocation::Whole => json!(in alloc; {"message": message}),
+        RefusalLocation::Rule(rule) => json!(in alloc; {"message": message, "rule": rule}),
+        RefusalLocation::Node(rule, node) => {
             json!(in alloc; {"message": message, "node": node, "rule": rule})
         }
     }

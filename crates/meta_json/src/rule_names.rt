@@ -5,7 +5,7 @@ ghost use Rattle.meta_json.specs.RuleNames.{IsOfNoRule};
 
 use meta_base::grammar::Rule;
 
-/// The rule of that name, if there is one.
+/// Returns the rule of that name, if there is one.
 pub fn rule_named(name: &str) -> Option<Rule>
     ensures found { IfSome result (λ rule. name_of rule ≡ name.now) }
     ensures none { IfNone result (IsOfNoRule name.now) }

@@ -11,14 +11,14 @@ ghost use Rattle.meta_json.specs.Refusals.{IsInRule, IsRefusedText};
 ghost use Rattle.meta_json.specs.Reading.{AreOptimizedRules, AreRules, members_of, members_of_optimized, members_of_rule, rule_members};
 
 use crate::expressions::{AsNodes, FromNodes, expression_of, nodes_of};
-use crate::refusal::{Place, Refusal, Unread, Why};
+use crate::refusal::{Refusal, RefusalLocation, RefusalReason, Unread};
 use meta_ast::ast::{Rule, RuleType};
 use meta_ast::deep::Deep;
 use meta_ast::optimized::OptimizedRule;
 use serde_json::{Value, json};
 use std::alloc::{AllocError, Global};
 
-/// Rules as JSON. The only error is a want of memory.
+/// Returns rules as JSON. The only error is an allocation failure.
 #[tactic(auto, using(crate::proofs::Floats::rules_without_floats))]
 pub fn rules_text(alloc: Global, rules: &[Rule]) -> Result<String, AllocError>
     ensures { IfOk result (λ text. string_bytes text ≡ compact_text (rules_data rules.now)) }
@@ -26,7 +26,7 @@ pub fn rules_text(alloc: Global, rules: &[Rule]) -> Result<String, AllocError>
     rules_value(alloc, rules)?.to_string(alloc)
 }
 
-/// Optimized rules as JSON. The only error is a want of memory.
+/// Returns optimized rules as JSON. The only error is an allocation failure.
 #[tactic(auto, using(crate::proofs::Floats::optimized_without_floats))]
 pub fn optimized_rules_text(alloc: Global, rules: &[OptimizedRule]) -> Result<String, AllocError>
     ensures { IfOk result (λ text. string_bytes text ≡ compact_text (optimized_rules_data rules.now)) }
@@ -34,7 +34,7 @@ pub fn optimized_rules_text(alloc: Global, rules: &[OptimizedRule]) -> Result<St
     optimized_rules_value(alloc, rules)?.to_string(alloc)
 }
 
-/// Rules as a value.
+/// Returns rules as a value.
 pub(crate) fn rules_value(alloc: Global, rules: &[Rule]) -> Result<Value, AllocError>
     ensures { IfOk result (λ value. view value ≡ rules_data rules.now) }
 {
@@ -45,7 +45,7 @@ pub(crate) fn rules_value(alloc: Global, rules: &[Rule]) -> Result<Value, AllocE
     Ok(Value::Array(values))
 }
 
-/// Optimized rules as a value.
+/// Returns optimized rules as a value.
 pub(crate) fn optimized_rules_value(
     alloc: Global,
     rules: &[OptimizedRule],
@@ -59,7 +59,7 @@ pub(crate) fn optimized_rules_value(
     Ok(Value::Array(values))
 }
 
-/// A rule as a value.
+/// Returns a rule as a value.
 fn rule_value<E: AsNodes>(
     alloc: Global,
     name: &str,
@@ -72,7 +72,7 @@ fn rule_value<E: AsNodes>(
     json!(in alloc; {"expr": Value::Array(nodes), "name": name, "type": name_of_type(ty)})
 }
 
-/// The name of a type.
+/// Returns the name of a type.
 pub(crate) fn name_of_type(ty: RuleType) -> &'static str
     ensures { result.now ≡ type_name ty }
 {
@@ -85,8 +85,8 @@ pub(crate) fn name_of_type(ty: RuleType) -> &'static str
     }
 }
 
-/// The rules that a text in JSON has. Refused for want of memory; where the text is no JSON, or no list; and
-/// at the first object that is no rule.
+/// Reads rules from a text in JSON. Refuses a text that is no JSON, or no list, or has an object that is no
+/// rule, and reports the first one. An allocation failure is a refusal, too.
 #[tactic(auto, using(crate::proofs::Refused::of_rule))]
 pub fn read_rules(alloc: Global, text: &str) -> Result<Vec<Rule>, Refusal>
     ensures rules { IfOk result (λ rules. AreRules text.now rules.items) }
@@ -106,7 +106,7 @@ pub fn read_rules(alloc: Global, text: &str) -> Result<Vec<Rule>, Refusal>
     Ok(rules.into_inner())
 }
 
-/// The optimized rules that a text in JSON has. It is refused as by `read_rules`.
+/// Reads optimized rules from a text in JSON. Refuses as `read_rules` does.
 #[tactic(auto, using(crate::proofs::Refused::of_rule))]
 pub fn read_optimized_rules(alloc: Global, text: &str) -> Result<Vec<OptimizedRule>, Refusal>
     ensures rules { IfOk result (λ rules. AreOptimizedRules text.now rules.items) }
@@ -126,7 +126,7 @@ pub fn read_optimized_rules(alloc: Global, text: &str) -> Result<Vec<OptimizedRu
     Ok(rules.into_inner())
 }
 
-/// The value of a text in JSON.
+/// Reads a text as JSON.
 fn value_of(alloc: Global, text: &str) -> Result<Value, Refusal>
     ensures value { IfOk result (λ value. read text.now ≡ Some (view value)) }
     ensures refused { IfErr result (IsRefusedText text.now) }
@@ -134,23 +134,27 @@ fn value_of(alloc: Global, text: &str) -> Result<Value, Refusal>
     match Value::from_str(alloc, text) {
         Ok(value) => Ok(value),
         Err(error) if error.is_memory() => Err(Refusal::Memory),
-        Err(error) => Err(Refusal::Text(Place::Text(error.line(), error.column()), Why::Json)),
+        Err(error) => Err(Refusal::Text(
+            RefusalLocation::Text(error.line(), error.column()),
+            RefusalReason::Json,
+        )),
     }
 }
 
-/// The values of a list.
+/// Returns the values of a list, if the value is one.
 fn values_of(value: &Value) -> Result<&Vec<Value>, Refusal>
     ensures list { IfOk result (λ values. view value.now ≡ array (items_view values.now.items)) }
-    ensures refused { IfErr result (λ refusal. (refusal ≡ Refusal.Text Place.Whole Why.NoList)
+    ensures refused { IfErr result (λ refusal.
+        (refusal ≡ Refusal.Text RefusalLocation.Whole RefusalReason.NoList)
         × (as_array (view value.now) ≡ None)) }
 {
     match value {
         Value::Array(values) => Ok(values),
-        _ => Err(Refusal::Text(Place::Whole, Why::NoList)),
+        _ => Err(Refusal::Text(RefusalLocation::Whole, RefusalReason::NoList)),
     }
 }
 
-/// The rule that a value is, the one of that number.
+/// Reads a rule from a value. `place` is its number in the list.
 #[tactic(auto, using(crate::proofs::Refused::in_its_rule))]
 fn rule_of(alloc: Global, value: &Value, place: usize) -> Result<Rule, Refusal>
     ensures members { IfOk result (λ rule. members_of (view value.now) ≡ members_of_rule rule) }
@@ -162,7 +166,7 @@ fn rule_of(alloc: Global, value: &Value, place: usize) -> Result<Rule, Refusal>
     }
 }
 
-/// The optimized rule that a value is, the one of that number.
+/// Reads an optimized rule from a value. `place` is its number in the list.
 #[tactic(auto, using(crate::proofs::Refused::in_its_rule))]
 fn optimized_rule_of(alloc: Global, value: &Value, place: usize) -> Result<OptimizedRule, Refusal>
     ensures members { IfOk result (λ rule. members_of (view value.now) ≡ members_of_optimized rule) }
@@ -174,7 +178,7 @@ fn optimized_rule_of(alloc: Global, value: &Value, place: usize) -> Result<Optim
     }
 }
 
-/// A rule's name, type and body.
+/// Reads a rule's name, type and body.
 fn parts_of<E: FromNodes>(alloc: Global, value: &Value) -> Result<(String, RuleType, E), Unread>
     ensures { IfOk result (λ parts. members_of (view value.now)
         ≡ rule_members (string_bytes parts.0) parts.1 (E.nodes parts.2)) }
@@ -186,47 +190,47 @@ fn parts_of<E: FromNodes>(alloc: Global, value: &Value) -> Result<(String, RuleT
     Ok((name, ty, body))
 }
 
-/// A rule's name.
+/// Returns a rule's name.
 fn name_in(value: &Value) -> Result<&str, Unread>
     ensures name { IfOk result (λ name. get (codes "name") (view value.now) ≡ Some (string name.now)) }
-    ensures refused { IfErr result (λ unread. (unread ≡ Unread.Why Why.Name)
+    ensures refused { IfErr result (λ unread. (unread ≡ Unread.Reason RefusalReason.Name)
         × (option_and_then as_str (get (codes "name") (view value.now)) ≡ None)) }
 {
     match value.get("name") {
         Some(Value::String(name)) => Ok(name.as_str()),
-        _ => Err(Unread::Why(Why::Name)),
+        _ => Err(Unread::Reason(RefusalReason::Name)),
     }
 }
 
-/// A rule's type.
+/// Returns a rule's type.
 fn type_in(value: &Value) -> Result<RuleType, Unread>
     ensures ty { IfOk result (λ ty. get (codes "type") (view value.now) ≡ Some (string (type_name ty))) }
-    ensures refused { IfErr result (λ unread. (unread ≡ Unread.Why Why.Type)
+    ensures refused { IfErr result (λ unread. (unread ≡ Unread.Reason RefusalReason.Type)
         × ((ty : RuleType) → get (codes "type") (view value.now) ≡ Some (string (type_name ty)) → ⊥)) }
 {
     match value.get("type") {
         Some(Value::String(name)) => type_named(name.as_str()),
-        _ => Err(Unread::Why(Why::Type)),
+        _ => Err(Unread::Reason(RefusalReason::Type)),
     }
 }
 
-/// A rule's nodes.
+/// Returns a rule's nodes.
 fn nodes_in(value: &Value) -> Result<&Vec<Value>, Unread>
     ensures nodes { IfOk result (λ nodes. get (codes "expr") (view value.now)
         ≡ Some (array (items_view nodes.now.items))) }
-    ensures refused { IfErr result (λ unread. (unread ≡ Unread.Why Why.Body)
+    ensures refused { IfErr result (λ unread. (unread ≡ Unread.Reason RefusalReason.Body)
         × (option_and_then as_array (get (codes "expr") (view value.now)) ≡ None)) }
 {
     match value.get("expr") {
         Some(Value::Array(nodes)) => Ok(nodes),
-        _ => Err(Unread::Why(Why::Body)),
+        _ => Err(Unread::Reason(RefusalReason::Body)),
     }
 }
 
-/// The type of that name.
+/// Returns the type of that name.
 fn type_named(name: &str) -> Result<RuleType, Unread>
     ensures ty { IfOk result (λ ty. name.now ≡ type_name ty) }
-    ensures refused { IfErr result (λ unread. (unread ≡ Unread.Why Why.Type)
+    ensures refused { IfErr result (λ unread. (unread ≡ Unread.Reason RefusalReason.Type)
         × ((ty : RuleType) → name.now ≡ type_name ty → ⊥)) }
 {
     match name {
@@ -235,6 +239,6 @@ fn type_named(name: &str) -> Result<RuleType, Unread>
         "atomic" => Ok(RuleType::Atomic),
         "compound_atomic" => Ok(RuleType::CompoundAtomic),
         "non_atomic" => Ok(RuleType::NonAtomic),
-        _ => Err(Unread::Why(Why::Type)),
+        _ => Err(Unread::Reason(RefusalReason::Type)),
     }
 }

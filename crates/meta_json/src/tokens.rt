@@ -8,7 +8,7 @@ use meta_syntax::grammar::Entry;
 use serde_json::{Value, json};
 use std::alloc::{AllocError, Global};
 
-/// Tokens as JSON. The only error is a want of memory.
+/// Returns tokens as JSON. The only error is an allocation failure.
 #[tactic(auto, using(crate::proofs::Floats::tokens_without_floats))]
 pub fn tokens_text(alloc: Global, entries: &[Entry]) -> Result<String, AllocError>
     ensures { IfOk result (λ text. string_bytes text ≡ compact_text (tokens_data entries.now)) }
@@ -16,7 +16,7 @@ pub fn tokens_text(alloc: Global, entries: &[Entry]) -> Result<String, AllocErro
     tokens_value(alloc, entries)?.to_string(alloc)
 }
 
-/// Tokens as a value.
+/// Returns tokens as a value.
 fn tokens_value(alloc: Global, entries: &[Entry]) -> Result<Value, AllocError>
     ensures { IfOk result (λ value. view value ≡ tokens_data entries.now) }
 {
@@ -27,7 +27,7 @@ fn tokens_value(alloc: Global, entries: &[Entry]) -> Result<Value, AllocError>
     Ok(Value::Array(values))
 }
 
-/// A token as a value.
+/// Returns a token as a value.
 fn entry_value(alloc: Global, entry: Entry) -> Result<Value, AllocError>
     ensures { IfOk result (λ value. view value ≡ entry_data entry) }
 {

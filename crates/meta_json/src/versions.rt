@@ -7,15 +7,15 @@ ghost use Rattle.meta_json.specs.Versions.{version_data};
 use serde_json::{Value, json};
 use std::alloc::{AllocError, Global};
 
-/// The number of the format and the version of the original crate that is ported, as JSON. The only error is
-/// a want of memory.
+/// Returns the number of the format and the version of the original crate, as JSON. The only error is an
+/// allocation failure.
 pub fn version_text(alloc: Global) -> Result<String, AllocError>
     ensures { IfOk result (λ text. string_bytes text ≡ compact_text version_data) }
 {
     version_value(alloc)?.to_string(alloc)
 }
 
-/// The same as a value.
+/// Returns the two versions as a value.
 fn version_value(alloc: Global) -> Result<Value, AllocError>
     ensures { IfOk result (λ value. view value ≡ version_data) }
 {

@@ -18,7 +18,7 @@ use Rattle.meta_matcher.specs.Frames.{FailsFrom, starting}
 use Rattle.meta_matcher.specs.Machines.{IsBoundIn, IsSoundIn, grammar_in, names_within, said}
 use Rattle.matcher_program.specs.Programs.{IsBarred, IsBound, characters_of, expression_of, may_begin, may_start, rule_of_row}
 use Rattle.matcher_program.specs.Rests.{standing}
-use Rattle.meta_matcher.specs.Runs.{Notes, Now, Ran, mode_of, noting}
+use Rattle.meta_matcher.specs.Runs.{Notes, Now, Ran, mode_of, with_failure}
 use Rattle.matcher_program.proofs.TextLemmas.{not_begun}
 use Rattle.meta_matcher.proofs.Noting.{ran_ahead, ran_range, ran_rep_once, ran_restore, ran_right, ran_seq_fails, ran_str, ran_tag}
 use Rattle.meta_matcher.proofs.Spans.{ran_set}
@@ -82,7 +82,7 @@ opened : (flags : List Bool) (t : Text) → IsBarred flags t → (c : ℕ) × (u
 opened flags [] h = absurd h
 opened flags (c ∷ u) h = (c, u, refl, h.0, h.1)
 
-pub fails_barred : (scene : Scene) (i : ℕ) (m : mode.Mode) (rest : List ℕ) (a b : Now) (row : Row) (counts : Bool) (place told : ℕ) → IsSoundIn scene → IsBoundIn scene (form.Call i) → row ≡ get_or scene.program.now.rows.items i row → IsBarred row.firsts.items (chars rest) → counts ≡ (seen_from (mode_of m) && gives_token (rule_type_of row.kind) (mode_of m)) → place ≡ length scene.text.now - length rest → told ≡ length a.notes.told → b.entries ≡ a.entries → b.stack ≡ a.stack → b.notes ≡ noting scene.asked counts (text_of row.name) place told a.notes → FailsFrom scene (starting (Run (mode_of m) (said scene (form.Call i))) rest a 0) b
+pub fails_barred : (scene : Scene) (i : ℕ) (m : mode.Mode) (rest : List ℕ) (a b : Now) (row : Row) (counts : Bool) (place told : ℕ) → IsSoundIn scene → IsBoundIn scene (form.Call i) → row ≡ get_or scene.program.now.rows.items i row → IsBarred row.firsts.items (chars rest) → counts ≡ (seen_from (mode_of m) && gives_token (rule_type_of row.kind) (mode_of m)) → place ≡ length scene.text.now - length rest → told ≡ length a.notes.told → b.entries ≡ a.entries → b.stack ≡ a.stack → b.notes ≡ with_failure scene.asked counts (text_of row.name) place told a.notes → FailsFrom scene (starting (Run (mode_of m) (said scene (form.Call i))) rest a 0) b
 fails_barred scene i m rest a b row counts place told sound bound is barred h p t es ss ns =
     let names = names_within scene in
     let known = row_known _ _ _ _ _ _ _ sound bound is in

@@ -10,7 +10,7 @@ use Rattle.meta_base.specs.Language.FurthestFailure.{furthest, place_of, is_eoi}
 use Rattle.meta_base.specs.Language.Expected.{expected_at, told}
 use Rattle.meta_base.proofs.Steps.{after_trees, nowhere, same_body_mode, same_gives, same_with_token}
 use Rattle.meta_matcher.specs.Runs.{Notes, Ran}
-use Rattle.meta_matcher.specs.Told.{is_among, with_name, with_names}
+use Rattle.meta_matcher.specs.ExpectedNames.{is_among, with_name, with_names}
 
 -- names, and then more
 names_append : (names ns ms : List Text) → with_names names (ns ++ ms) ≡ with_names (with_names names ns) ms

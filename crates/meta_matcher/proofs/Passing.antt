@@ -14,12 +14,12 @@ use Rattle.meta_matcher.specs.declared.machine.Machine.{Machine}
 use Rattle.meta_matcher.specs.declared.machine.Scene.{Scene}
 use Rattle.meta_matcher.specs.declared.modes.Mode as mode
 use Rattle.meta_matcher.specs.declared.modes.Mode.TheVariants as in_mode
-use Rattle.meta_matcher.specs.Frames.{ComesAtOnce, FindsFrom, GivesFrom, IsNested, blanks, starting}
+use Rattle.meta_matcher.specs.Frames.{LeadsAtOnce, FindsFrom, HasResultFrom, IsNested, blanks, starting}
 use Rattle.meta_matcher.specs.Machines.{IsBlankName, IsBoundIn, grammar_in, is_comment, is_whitespace, names_within, now_of, said}
 use Rattle.matcher_program.specs.Programs.{characters_of, is_set}
 use Rattle.matcher_program.specs.Rests.{GoesOn, Progress, leaving, span, standing}
 use Rattle.meta_matcher.specs.Runs.{Notes, Now, Ran, mode_of}
-use Rattle.meta_matcher.specs.Tight.{GivesAtOnce, IsTight}
+use Rattle.meta_matcher.specs.Tight.{HasPureResult, IsTight}
 use Rattle.meta_matcher.proofs.Noting.{ran_atomic, ran_between, ran_compound_atomic, ran_quietly, ran_rep_none, ran_seq, ran_seq_fails, ran_silent, ran_skips}
 use Rattle.meta_matcher.proofs.Spans.{ran_all, ran_set}
 use Rattle.meta_matcher.proofs.Steps.{blank_is_no_end, finds_rep_once, finds_seq, gives_leaving}
@@ -57,7 +57,7 @@ ran_blank_set scene f one bound r {classes} {s} {n} h silent body =
     ran_silent h silent (subst (λ z. Ran (grammar_in scene) classes scene.asked (Run (body_mode r Between) z) s (character_outcome (characters_of f) s) n n) (sym body) y)
 
 -- one of a set, and one or more
-pub gives_one : (scene : Scene) (f : Form) (m : mode.Mode) (rest : List ℕ) (now : Now) (o : Option (Bor (List ℕ))) → is_set f ≡ true → IsBoundIn scene f → leaving scene.text.now now.stack o ≡ character_outcome (characters_of f) (standing scene.text.now rest now.stack) → Progress scene.text.now rest o → GivesFrom scene (starting (Run (mode_of m) (said scene f)) rest now 0) now o
+pub gives_one : (scene : Scene) (f : Form) (m : mode.Mode) (rest : List ℕ) (now : Now) (o : Option (Bor (List ℕ))) → is_set f ≡ true → IsBoundIn scene f → leaving scene.text.now now.stack o ≡ character_outcome (characters_of f) (standing scene.text.now rest now.stack) → Progress scene.text.now rest o → HasResultFrom scene (starting (Run (mode_of m) (said scene f)) rest now 0) now o
 gives_one scene f m rest now o one bound e p = gives_from scene _ rest now now o (gives_leaving _ _ _ _ _ o (λ classes fits. rw e (ran_set (names_within scene) scene.program.now.properties.items m f one bound))) p
 
 module _ {scene : Scene} where
@@ -98,6 +98,6 @@ module _ {scene : Scene} (f : Form) {rest after : List ℕ} {now : Now} (one : i
       commented.found now after (finds_no_comments n g.left u)
 
 -- what was found at once is what comes at once of a form
-pub comes_at_once : (scene : Scene) (f : Form) (m : mode.Mode) (rest : List ℕ) (k : Machine) (a : AtOnce) → IsNested f → GivesAtOnce scene (said scene f) m rest a → ComesAtOnce scene f m rest k k a
+pub comes_at_once : (scene : Scene) (f : Form) (m : mode.Mode) (rest : List ℕ) (k : Machine) (a : AtOnce) → IsNested f → HasPureResult scene (said scene f) m rest a → LeadsAtOnce scene f m rest k k a
 comes_at_once scene f m rest k (at_once.Answered answer) n h = h (now_of k)
 comes_at_once scene f m rest k at_once.Nested n h = (refl, n)

@@ -21,7 +21,7 @@ use Rattle.meta_base.specs.Language.FurthestFailure.{is_eoi}
 use Rattle.meta_syntax.proofs.EntryLists.{not_grown}
 use Rattle.meta_matcher.specs.declared.modes.Mode as mode
 use Rattle.matcher_program.specs.Rests.{GoesOn, IsLeft, leaving, standing}
-use Rattle.meta_matcher.specs.Runs.{Fails, Finds, Gives, Notes, Now, Ran, Setting, mode_of}
+use Rattle.meta_matcher.specs.Runs.{Fails, Finds, HasResult, Notes, Now, Ran, Setting, mode_of}
 use Rattle.meta_matcher.proofs.Noting.{ran_quietly, ran_silently}
 use Rattle.meta_matcher.proofs.Steps.{by_builtin, eoi_builtin, gives_leaving}
 
@@ -50,7 +50,7 @@ module _ (g : Setting) (m : mode.Mode) (text rest : List ℕ) (a : Now) (t : Tex
   popped : pop_outcome a.stack (standing text rest a.stack) ≡ Some (with_stack ts (text_outcome nat_eq t (standing text rest a.stack)))
   popped = ap (λ us. pop_outcome us (standing text rest a.stack)) is
 
-  pub gives_peek : (o : Option (Bor (List ℕ))) → rule_of g.grammar (codes "PEEK") ≡ None → leaving text a.stack o ≡ text_outcome nat_eq t (standing text rest a.stack) → Gives g (Run (mode_of m) (Ident (codes "PEEK"))) text rest a a o
+  pub gives_peek : (o : Option (Bor (List ℕ))) → rule_of g.grammar (codes "PEEK") ≡ None → leaving text a.stack o ≡ text_outcome nat_eq t (standing text rest a.stack) → HasResult g (Run (mode_of m) (Ident (codes "PEEK"))) text rest a a o
   gives_peek o u e = gives_leaving g _ text rest a o (λ classes fits. ran_builtin m (codes "PEEK") Peek peek_builtin refl u (peeked ∙ ap Some (sym e)))
 
   pub finds_pop : (b : Now) (after : Bor (List ℕ)) → rule_of g.grammar (codes "POP") ≡ None → b.entries ≡ a.entries → b.stack ≡ ts → b.notes ≡ a.notes → leaving text a.stack (Some after) ≡ text_outcome nat_eq t (standing text rest a.stack) → Finds g (Run (mode_of m) (Ident (codes "POP"))) text rest a b after.now
@@ -86,14 +86,14 @@ unfolding builtins
 newline_builtin = refl
 
 module _ (g : Setting) (m : mode.Mode) (text rest : List ℕ) (a : Now) where
-  pub gives_newline : (o : Option (Bor (List ℕ))) → rule_of g.grammar (codes "NEWLINE") ≡ None → leaving text a.stack o ≡ newline_outcome (standing text rest a.stack) → Gives g (Run (mode_of m) (Ident (codes "NEWLINE"))) text rest a a o
+  pub gives_newline : (o : Option (Bor (List ℕ))) → rule_of g.grammar (codes "NEWLINE") ≡ None → leaving text a.stack o ≡ newline_outcome (standing text rest a.stack) → HasResult g (Run (mode_of m) (Ident (codes "NEWLINE"))) text rest a a o
   gives_newline o u e = gives_leaving g _ text rest a o (λ classes fits. ran_builtin m (codes "NEWLINE") Newline newline_builtin refl u (ap Some (sym e)))
 
-  pub gives_property : (o : Option (Bor (List ℕ))) (n : Text) → builtin_of n ≡ Some (Property n) → is_eoi n ≡ false → rule_of g.grammar n ≡ None → ((classes : Classes) → Fits g.properties classes → leaving text a.stack o ≡ character_outcome (classes n) (standing text rest a.stack)) → Gives g (Run (mode_of m) (Ident n)) text rest a a o
+  pub gives_property : (o : Option (Bor (List ℕ))) (n : Text) → builtin_of n ≡ Some (Property n) → is_eoi n ≡ false → rule_of g.grammar n ≡ None → ((classes : Classes) → Fits g.properties classes → leaving text a.stack o ≡ character_outcome (classes n) (standing text rest a.stack)) → HasResult g (Run (mode_of m) (Ident n)) text rest a a o
   gives_property o n b i u e = gives_leaving g _ text rest a o (λ classes fits. ran_builtin m n (Property n) b i u (ap Some (sym (e classes fits))))
 
   module _ (us : List Text) (is : us ≡ a.stack) where
-    pub gives_peek_all : (o : Option (Bor (List ℕ))) → rule_of g.grammar (codes "PEEK_ALL") ≡ None → leaving text a.stack o ≡ text_outcome nat_eq (concatenated us) (standing text rest a.stack) → Gives g (Run (mode_of m) (Ident (codes "PEEK_ALL"))) text rest a a o
+    pub gives_peek_all : (o : Option (Bor (List ℕ))) → rule_of g.grammar (codes "PEEK_ALL") ≡ None → leaving text a.stack o ≡ text_outcome nat_eq (concatenated us) (standing text rest a.stack) → HasResult g (Run (mode_of m) (Ident (codes "PEEK_ALL"))) text rest a a o
     gives_peek_all o u e = gives_leaving g _ text rest a o (λ classes fits. ran_builtin m (codes "PEEK_ALL") PeekAll peek_all_builtin refl u (ap Some (sym (e ∙ ap (λ ts. text_outcome nat_eq (concatenated ts) (standing text rest a.stack)) is))))
 
     pub finds_pop_all : (b : Now) (after : Bor (List ℕ)) → rule_of g.grammar (codes "POP_ALL") ≡ None → b.entries ≡ a.entries → b.stack ≡ [] → b.notes ≡ a.notes → leaving text a.stack (Some after) ≡ text_outcome nat_eq (concatenated us) (standing text rest a.stack) → Finds g (Run (mode_of m) (Ident (codes "POP_ALL"))) text rest a b after.now
@@ -106,7 +106,7 @@ module _ (g : Setting) (m : mode.Mode) (text rest : List ℕ) (a : Now) where
     pub fails_pop_all : rule_of g.grammar (codes "POP_ALL") ≡ None → leaving text a.stack None ≡ text_outcome nat_eq (concatenated us) (standing text rest a.stack) → Fails g (Run (mode_of m) (Ident (codes "POP_ALL"))) text rest a a
     fails_pop_all u e = record { kept = refl; same = refl; ran = λ classes fits. ran_builtin m (codes "POP_ALL") PopAll pop_all_builtin refl u (ap (λ o. Some (with_stack [] o)) (sym (e ∙ ap (λ ts. text_outcome nat_eq (concatenated ts) (standing text rest a.stack)) is))) }
 
-    pub gives_slice : (i : ℤ) (j : Option ℤ) (o : Option (Bor (List ℕ))) → leaving text us o ≡ slice_outcome i j (standing text rest us) → Gives g (Run (mode_of m) (PeekSlice i j)) text rest a a o
+    pub gives_slice : (i : ℤ) (j : Option ℤ) (o : Option (Bor (List ℕ))) → leaving text us o ≡ slice_outcome i j (standing text rest us) → HasResult g (Run (mode_of m) (PeekSlice i j)) text rest a a o
     gives_slice i j o e =
         let f : leaving text a.stack o ≡ slice_outcome i j (standing text rest a.stack) = subst (λ ts. leaving text ts o ≡ slice_outcome i j (standing text rest ts)) is e in
         gives_leaving g _ text rest a o (λ classes fits. ran_slice f)
@@ -117,7 +117,7 @@ ran_insens e = rw e (ran_silently insens refl refl)
 ran_skip : {g : Grammar} {classes : Classes} {place : ℕ} {m : Mode} {ts : List Text} {s t : State} {p : Notes} → t ≡ moved (distance ts s.rest) s → Ran g classes place (Run m (Skip ts)) s (Success t None') p p
 ran_skip e = rw e (ran_silently skip refl refl)
 
-pub gives_insens : (g : Setting) (m : Mode) (t : Text) (text rest : List ℕ) (a : Now) (o : Option (Bor (List ℕ))) → leaving text a.stack o ≡ text_outcome eq_ignore_ascii_case t (standing text rest a.stack) → Gives g (Run m (Insens t)) text rest a a o
+pub gives_insens : (g : Setting) (m : Mode) (t : Text) (text rest : List ℕ) (a : Now) (o : Option (Bor (List ℕ))) → leaving text a.stack o ≡ text_outcome eq_ignore_ascii_case t (standing text rest a.stack) → HasResult g (Run m (Insens t)) text rest a a o
 gives_insens g m t text rest a o e = gives_leaving g _ text rest a o (λ classes fits. ran_insens e)
 
 pub finds_skip : (g : Setting) (m : Mode) (ts : List Text) (text rest after : List ℕ) (a : Now) → standing text after a.stack ≡ moved (distance ts (chars rest)) (standing text rest a.stack) → Finds g (Run m (Skip ts)) text rest a a after
@@ -138,7 +138,7 @@ in_class : (ps : List Row.Property) (n : Text) (i : ℕ) (p : Row.Property) (rs 
 in_class ps n i p rs classes f h e r c b = ap (λ xs. is_in_ranges xs c) (r ∙ ap (λ q. q.ranges.items) e) ∙ (f i p h.within c b ∙ ap (λ m. classes m c) (h.named p))
 
 pub gives_class : (g : Setting) (m : mode.Mode) (text rest : List ℕ) (a : Now) (o : Option (Bor (List ℕ))) (n : Text) (i : ℕ) (p : Row.Property) (rs : List (ℕ × ℕ)) → IsPropertyOf g.grammar g.properties n i → p ≡ get_or g.properties i p → rs ≡ p.ranges.items
-    → ((set : ℕ → Bool) → ((c : ℕ) → c < 1114112 → is_in_ranges rs c ≡ set c) → leaving text a.stack o ≡ character_outcome set (standing text rest a.stack)) → Gives g (Run (mode_of m) (Ident n)) text rest a a o
+    → ((set : ℕ → Bool) → ((c : ℕ) → c < 1114112 → is_in_ranges rs c ≡ set c) → leaving text a.stack o ≡ character_outcome set (standing text rest a.stack)) → HasResult g (Run (mode_of m) (Ident n)) text rest a a o
 gives_class g m text rest a o n i p rs h e r f = gives_property g m text rest a o n h.is (property_is_no_end n h.is) h.unnamed (λ classes fits. f (classes n) (in_class g.properties n i p rs classes fits h.number e r))
 
 -- what is left after more was taken

@@ -28,8 +28,8 @@ use Rattle.matcher_program.specs.Programs.{Fits, class_name, expression_of, gram
 use Rattle.meta_matcher.specs.Machines.{IsBlankName, is_whitespace, is_comment}
 use Rattle.meta_matcher.specs.Frames.{blanks, comments}
 use Rattle.matcher_program.specs.Rests.{IsLeft, leaving, standing}
-use Rattle.meta_matcher.specs.Runs.{Fails, Finds, Gives, IsReset, Notes, Now, Ran, Setting, forgetting, mode_of, noting}
-use Rattle.meta_matcher.specs.Told.{with_names}
+use Rattle.meta_matcher.specs.Runs.{Fails, Finds, HasResult, IsReset, Notes, Now, Ran, Setting, forgetting, mode_of, with_failure}
+use Rattle.meta_matcher.specs.ExpectedNames.{with_names}
 
 -- what a builtin's name does in a mode of the code
 pub by_builtin : (classes : Classes) (m : mode.Mode) (n : Text) (b : Builtin) (s : State) → builtin_of n ≡ Some b → other_outcome classes (mode_of m) n s ≡ builtin_outcome classes (mode_of m) b s
@@ -93,7 +93,7 @@ module _ {g : Grammar} {classes : Classes} {place : ℕ} where
   pub ran_end : (m : mode.Mode) {s t : State} {us : Trees} {p : Notes} → rule_of g (codes "EOI") ≡ None → Success t us ≡ end_outcome (mode_of m) s.rest s → Ran g classes place (Run (mode_of m) (Ident (codes "EOI"))) s (Success t us) p p
   ran_end m u e = ran_eoi m u e (omega arith) refl
 
-  pub ran_not_end : (m : mode.Mode) {s : State} {p q : Notes} (sees : Bool) (first : ℕ) → rule_of g (codes "EOI") ≡ None → Failure ≡ end_outcome (mode_of m) s.rest s → sees ≡ seen_from (mode_of m) → first ≡ length p.told → q ≡ noting place sees (codes "EOI") s.position first p → Ran g classes place (Run (mode_of m) (Ident (codes "EOI"))) s Failure p q
+  pub ran_not_end : (m : mode.Mode) {s : State} {p q : Notes} (sees : Bool) (first : ℕ) → rule_of g (codes "EOI") ≡ None → Failure ≡ end_outcome (mode_of m) s.rest s → sees ≡ seen_from (mode_of m) → first ≡ length p.told → q ≡ with_failure place sees (codes "EOI") s.position first p → Ran g classes place (Run (mode_of m) (Ident (codes "EOI"))) s Failure p q
   ran_not_end m {s} {p} sees first u e h k n = ran_eoi m u e (rw (← h) (ap (λ z. z.furthest) n)) (rw (← h) (ap (λ z. z.told) n ∙ told_failing place sees (codes "EOI") first s.position p.told [] p.told refl k))
 
   module _ (r : Rule) (n : Text) (m mode : Mode) (meant : rule_of g n ≡ Some r) (same_mode : mode ≡ body_mode r m) where
@@ -103,13 +103,13 @@ module _ {g : Grammar} {classes : Classes} {place : ℕ} where
     pub call_found : {s t : State} {us : Trees} {p q : Notes} (gives : Bool) → Ran g classes place (Run mode r.body) s (Success t us) p q → gives ≡ gives_token r.type_of m → Ran g classes place (Run m (Ident n)) s (Success t (token gives r.name s.position t.position us)) p q
     call_found gives x h = let y = in_its_mode x in rw h (ran_call meant y (omega arith) y.told)
 
-    pub call_failed : {s : State} {p q z : Notes} (counts : Bool) (first : ℕ) → Ran g classes place (Run mode r.body) s Failure p q → counts ≡ (seen_from m && gives_token r.type_of m) → first ≡ length p.told → z ≡ noting place counts n s.position first q → Ran g classes place (Run m (Ident n)) s Failure p z
+    pub call_failed : {s : State} {p q z : Notes} (counts : Bool) (first : ℕ) → Ran g classes place (Run mode r.body) s Failure p q → counts ≡ (seen_from m && gives_token r.type_of m) → first ≡ length p.told → z ≡ with_failure place counts n s.position first q → Ran g classes place (Run m (Ident n)) s Failure p z
     call_failed {s} {p} {q} counts first x h k e =
         let y = in_its_mode x in
         ran_call meant y (rw (← h) (ap (λ z. z.furthest) e)) (rw (← h) (ap (λ z. z.told) e ∙ told_failing place counts n first s.position p.told (expected_at place y.found) q.told y.told k))
 
 -- forms without tokens
-pub gives_leaving : (g : Setting) (k : Task) (text rest : List ℕ) (a : Now) (o : Option (Bor (List ℕ))) → ((classes : Classes) → Fits g.properties classes → Ran g.grammar classes g.asked k (standing text rest a.stack) (leaving text a.stack o) a.notes a.notes) → Gives g k text rest a a o
+pub gives_leaving : (g : Setting) (k : Task) (text rest : List ℕ) (a : Now) (o : Option (Bor (List ℕ))) → ((classes : Classes) → Fits g.properties classes → Ran g.grammar classes g.asked k (standing text rest a.stack) (leaving text a.stack o) a.notes a.notes) → HasResult g k text rest a a o
 gives_leaving g k text rest a None h = record { kept = refl; same = refl; ran = h }
 gives_leaving g k text rest a (Some after) h = record { trees = None'; added = not_grown a.entries; ran = h }
 
@@ -391,7 +391,7 @@ found_row g m inner names row text rest after a b c d gives name place end_ firs
 pub failed_row : (g : Setting) (m inner : Mode) (names : List Text) (row : Row) (text rest : List ℕ) (a b c d : Now) (gives counts : Bool) (name : Text) (place first told_before : ℕ) → rule_of g.grammar (text_of row.name) ≡ Some (rule_of_row names row) → inner ≡ body_mode (rule_of_row names row) m → counts ≡ (seen_from m && gives_token (rule_type_of row.kind) m)
     → place ≡ length text - length rest
     → b.entries ≡ a.entries ++ open_start gives name place → b.stack ≡ a.stack → b.notes ≡ a.notes → Fails g (Run inner (expression_of names row.body)) text rest b c → first ≡ length a.entries
-    → d.entries ≡ take first c.entries → d.stack ≡ c.stack → told_before ≡ length a.notes.told → d.notes ≡ noting g.asked counts (text_of row.name) place told_before c.notes
+    → d.entries ≡ take first c.entries → d.stack ≡ c.stack → told_before ≡ length a.notes.told → d.notes ≡ with_failure g.asked counts (text_of row.name) place told_before c.notes
     → Fails g (Run m (Ident (text_of row.name))) text rest a d
 failed_row g m inner names row text rest a b c d gives counts name place first told_before meant same_mode h p o bs bf x f cut ds e df = record {
   kept = cut_opened a.entries b.entries c.entries d.entries first _ o x.kept cut f;

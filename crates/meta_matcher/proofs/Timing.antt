@@ -19,7 +19,7 @@ use Rattle.meta_matcher.specs.declared.machine.Scene.{Scene}
 use Rattle.meta_matcher.specs.declared.machine.Stop.{Stop}
 use Rattle.meta_matcher.specs.declared.machine.Stop.TheVariants as stop
 use Rattle.meta_matcher.specs.declared.modes.Mode as mode
-use Rattle.meta_matcher.specs.Frames.{Comes, FailsFrom, FindsFrom, Follows, IsInTime, IsStuck, IsStuckAtOnce, IsWaiting, IsWithin, Leads, Start, starting, top_of}
+use Rattle.meta_matcher.specs.Frames.{StepsLead, FailsFrom, FindsFrom, Follows, IsInTime, IsStuck, IsStuckAtOnce, IsWaiting, IsWithin, Leads, Start, starting, top_of}
 use Rattle.meta_matcher.specs.Machines.{IsBoundIn, grammar_in, now_of, said}
 use Rattle.matcher_program.specs.Rests.{standing}
 use Rattle.meta_matcher.specs.Runs.{Now, mode_of}
@@ -152,7 +152,7 @@ pub led_astray : (scene : Scene) (m : Machine) (n : ℕ) (r : Result Control Sto
 led_astray scene m n (Ok x) why h s = absurd h
 led_astray scene m n (Err e) why h s = rw h s
 
-pub came_to_nothing : (scene : Scene) (m : Machine) (n : ℕ) (r : Result Came Stop) (why : Stop) → IsErrAnd r (λ e. e ≡ why) → IsStuck scene why → Comes scene m n r
+pub came_to_nothing : (scene : Scene) (m : Machine) (n : ℕ) (r : Result Came Stop) (why : Stop) → IsErrAnd r (λ e. e ≡ why) → IsStuck scene why → StepsLead scene m n r
 came_to_nothing scene m n (Ok x) why h s = absurd h
 came_to_nothing scene m n (Err e) why h s = rw h s
 

@@ -23,10 +23,10 @@ use Rattle.meta_matcher.specs.declared.machine.Machine.{Machine}
 use Rattle.meta_matcher.specs.declared.machine.Scene.{Scene}
 use Rattle.meta_matcher.specs.declared.modes.Mode as mode
 use Rattle.meta_matcher.specs.declared.modes.Mode.TheVariants as in_mode
-use Rattle.meta_matcher.specs.Frames.{Awaits, Decides, FailsFrom, FindsFrom, Finishes, Follows, GivesFrom, HasFrom, IsAhead, IsAnswered, IsBlank, IsBoundSecond, IsCall, IsComment, IsFirst, IsGap, IsInTime, IsLeftSide, IsNegated, IsOnTheWay, IsOptional, IsPushed, IsResumed, IsSecond, IsStarting, IsTurn, IsTurnGap, IsWaiting, IsWithin, Skips, Start, blanks, comments, said_second, gives_in, starting, top_of}
+use Rattle.meta_matcher.specs.Frames.{Awaits, Decides, FailsFrom, FindsFrom, Finishes, Follows, HasResultFrom, HasFrom, IsAhead, IsAnswered, IsBlank, IsBoundSecond, IsCall, IsComment, IsFirst, IsGap, IsInTime, IsLeftSide, IsNegated, IsOnTheWay, IsOptional, IsPushed, IsResumed, IsSecond, IsStarting, IsTurn, IsTurnGap, IsWaiting, IsWithin, Skips, Start, blanks, comments, said_second, gives_in, starting, top_of}
 use Rattle.meta_matcher.specs.Machines.{IsBoundIn, IsSaved, grammar_in, names_within, now_of, is_comment, is_whitespace, said, setting_of, steps_of}
 use Rattle.matcher_program.specs.Rests.{GoesOn, IsLeft, Progress}
-use Rattle.meta_matcher.specs.Runs.{Finds, Gives, IsReset, Now, Setting, forgetting, mode_of}
+use Rattle.meta_matcher.specs.Runs.{Finds, HasResult, IsReset, Now, Setting, forgetting, mode_of}
 use Rattle.meta_matcher.specs.Stacked.{stack_of}
 use Rattle.meta_matcher.proofs.Steps.{failed_row, fails_ahead, fails_blank, fails_first, fails_gap, fails_not, fails_rep_once, fails_reset, fails_restored, fails_right, fails_second, fails_tagged, fails_undefined, finds_ahead, finds_blank, finds_comment, finds_last_turn, finds_left, finds_more, finds_no_opt, finds_no_rep, finds_no_skipping, finds_no_turn, finds_not, finds_opt, finds_rep, finds_rep_once, finds_restored, finds_right, finds_seq, finds_skipped, finds_tagged, finds_turn, found_row}
 use Rattle.meta_matcher.proofs.Stacking.{fails_push, finds_push}
@@ -56,7 +56,7 @@ reset_twice a b c {n} l r = record { entries = r.entries ∙ sym (take-take n (l
 here : (text r : List ℕ) → IsLeft text r → GoesOn text r r
 here text r l = record { left = l; shorter = omega arith }
 
-pub gives_from : (scene : Scene) (k : Task) (rest : List ℕ) (a b : Now) (o : Option (Bor (List ℕ))) → Gives (setting_of scene) k scene.text.now rest a b o → Progress scene.text.now rest o → GivesFrom scene (starting k rest a 0) b o
+pub gives_from : (scene : Scene) (k : Task) (rest : List ℕ) (a b : Now) (o : Option (Bor (List ℕ))) → HasResult (setting_of scene) k scene.text.now rest a b o → Progress scene.text.now rest o → HasResultFrom scene (starting k rest a 0) b o
 gives_from scene k rest a b None x p = x
 gives_from scene k rest a b (Some after) x p = record { found = x; goes_on = p }
 
@@ -73,7 +73,7 @@ module _ {scene : Scene} where
   pub finishes_itself : (s : Start) → Finishes scene s s
   finishes_itself s = record { within = within_itself s; found = λ b t f. f }
 
-  pub gives_whole : {part whole : Start} (b : Now) (o : Option (Bor (List ℕ))) → Decides scene part whole → GivesFrom scene part b o → GivesFrom scene whole b o
+  pub gives_whole : {part whole : Start} (b : Now) (o : Option (Bor (List ℕ))) → Decides scene part whole → HasResultFrom scene part b o → HasResultFrom scene whole b o
   gives_whole b None d x = d.failed b x
   gives_whole b (Some after) d x = d.found b after.now x
 
@@ -249,7 +249,7 @@ module _ {scene : Scene} where
   within_call {n = n} meant e bs = rw e (within_one (n + 1) (omega arith) bs (λ classes o d. body_of_call meant d))
 
   -- a call, whose entry was opened
-  pub follows_call : (k : Called) {inner : Mode} {rest : List ℕ} {a b : Now} {n : ℕ} {whole : Start} → rule_of (grammar_in scene) (text_of k.row.now.name) ≡ Some (rule_of_row (names_within scene) k.row.now) → inner ≡ body_mode (rule_of_row (names_within scene) k.row.now) (mode_of k.mode) → k.place ≡ length scene.text.now - length rest → b.entries ≡ a.entries ++ open_start (gives_in scene k) (text_of k.row.now.name) k.place → b.stack ≡ a.stack → b.notes ≡ a.notes → k.first ≡ length a.entries → k.told ≡ length a.notes.told → Decides scene (starting (Run (mode_of k.mode) (Ident (text_of k.row.now.name))) rest a n) whole → IsCall scene k (starting (Run inner (said scene k.row.now.body)) rest b (n + 1)) whole
+  pub follows_call : (k : Called) {inner : Mode} {rest : List ℕ} {a b : Now} {n : ℕ} {whole : Start} → rule_of (grammar_in scene) (text_of k.row.now.name) ≡ Some (rule_of_row (names_within scene) k.row.now) → inner ≡ body_mode (rule_of_row (names_within scene) k.row.now) (mode_of k.mode) → k.place ≡ length scene.text.now - length rest → b.entries ≡ a.entries ++ open_start (gives_in scene k) (text_of k.row.now.name) k.place → b.stack ≡ a.stack → b.notes ≡ a.notes → k.first ≡ length a.entries → k.expected_count ≡ length a.notes.told → Decides scene (starting (Run (mode_of k.mode) (Ident (text_of k.row.now.name))) rest a n) whole → IsCall scene k (starting (Run inner (said scene k.row.now.body)) rest b (n + 1)) whole
   follows_call k {inner} {rest} {a} {b} meant same_mode place opened bs bf first told d = record {
     opened = λ e. let o = rw e at opened in let l = ap length o ∙ length-append a.entries _ in omega (arith, l, first);
     within = within_then (within_call meant same_mode bs) d.within;
@@ -257,7 +257,7 @@ module _ {scene : Scene} where
       found = found_row (setting_of scene) (mode_of k.mode) inner (names_within scene) k.row.now scene.text.now rest after a b c z (gives_in scene k) (text_of k.row.now.name) k.place (length scene.text.now - length after) k.first refl meant same_mode refl place refl opened bs bf f.found first closes cs cf;
       goes_on = f.goes_on;
     });
-    failed = λ c z f cut cs cf. d.failed z (failed_row (setting_of scene) (mode_of k.mode) inner (names_within scene) k.row.now scene.text.now rest a b c z (gives_in scene k) (seen_from (mode_of k.mode) && gives_in scene k) (text_of k.row.now.name) k.place k.first k.told meant same_mode refl place opened bs bf f first cut cs told cf);
+    failed = λ c z f cut cs cf. d.failed z (failed_row (setting_of scene) (mode_of k.mode) inner (names_within scene) k.row.now scene.text.now rest a b c z (gives_in scene k) (seen_from (mode_of k.mode) && gives_in scene k) (text_of k.row.now.name) k.place k.first k.expected_count meant same_mode refl place opened bs bf f first cut cs told cf);
   }
 
   -- the entry that a call opened is there at its end
@@ -336,7 +336,7 @@ module _ {scene : Scene} where
   not_skipped {rest} {a} n k l e = record { found = finds_no_skipping (setting_of scene) k scene.text.now rest a e; goes_on = here scene.text.now rest l }
 
 -- when a task began makes no difference to what came of it
-pub gives_at : (scene : Scene) (k : Task) (rest : List ℕ) (a b : Now) (n i : ℕ) (o : Option (Bor (List ℕ))) → GivesFrom scene (starting k rest a n) b o → GivesFrom scene (starting k rest a i) b o
+pub gives_at : (scene : Scene) (k : Task) (rest : List ℕ) (a b : Now) (n i : ℕ) (o : Option (Bor (List ℕ))) → HasResultFrom scene (starting k rest a n) b o → HasResultFrom scene (starting k rest a i) b o
 gives_at scene k rest a b n i None x = x
 gives_at scene k rest a b n i (Some after) x = record { found = x.found; goes_on = x.goes_on }
 
@@ -364,7 +364,7 @@ module _ {scene : Scene} {m n : Machine} where
     pushed_skip k rest e steps w = pushed_on (starting (Skipping k) rest (now_of m) (steps_of m)) w (rw (e, now, steps) skips_all)
 
   -- a frame gets its answer at once
-  pub resumed : {relation : Start → Start → Type 0} (k : Task) (rest : List ℕ) {answer : Option (Bor (List ℕ))} → n.frames ≡ m.frames → n.steps ≡ m.steps → Awaits scene m (relation (starting k rest (now_of m) (steps_of m + 1))) → GivesFrom scene (starting k rest (now_of m) 0) (now_of n) answer → IsResumed scene n relation answer
+  pub resumed : {relation : Start → Start → Type 0} (k : Task) (rest : List ℕ) {answer : Option (Bor (List ℕ))} → n.frames ≡ m.frames → n.steps ≡ m.steps → Awaits scene m (relation (starting k rest (now_of m) (steps_of m + 1))) → HasResultFrom scene (starting k rest (now_of m) 0) (now_of n) answer → IsResumed scene n relation answer
   resumed k rest {answer} e steps w g = record {
     part = starting k rest (now_of m) (steps_of m + 1);
     whole = w.whole;
@@ -399,11 +399,11 @@ module _ {scene : Scene} {m n : Machine} {follows : Start → Start → Type 0} 
   }
 
 -- an answer that the next step takes
-pub answers : {scene : Scene} {m : Machine} (n : ℕ) {part whole : Start} {answer : Option (Bor (List ℕ))} → IsWithin scene 1 part whole → IsInTime scene part n → GivesFrom scene whole (now_of m) answer → IsAnswered scene m n answer whole
+pub answers : {scene : Scene} {m : Machine} (n : ℕ) {part whole : Start} {answer : Option (Bor (List ℕ))} → IsWithin scene 1 part whole → IsInTime scene part n → HasResultFrom scene whole (now_of m) answer → IsAnswered scene m n answer whole
 answers n w t g = record { gives = g; in_time = in_time_whole n w t }
 
 -- an answer to a task that was begun in this step
-pub answers_now : {scene : Scene} {m : Machine} (n : ℕ) {k : Task} {rest : List ℕ} {a : Now} {whole : Start} {answer : Option (Bor (List ℕ))} → IsWithin scene 0 (starting k rest a n) whole → GivesFrom scene whole (now_of m) answer → IsAnswered scene m n answer whole
+pub answers_now : {scene : Scene} {m : Machine} (n : ℕ) {k : Task} {rest : List ℕ} {a : Now} {whole : Start} {answer : Option (Bor (List ℕ))} → IsWithin scene 0 (starting k rest a n) whole → HasResultFrom scene whole (now_of m) answer → IsAnswered scene m n answer whole
 answers_now n w g = record { gives = g; in_time = in_time_same (n + 1) w (in_time_before (n + 1) (in_time_soon n)) }
 
 -- an alternative was run at once: the choice has its answer, or the alternatives behind it decide
@@ -418,7 +418,7 @@ module _ {scene : Scene} (m : mode.Mode) (right : Form) {x : Expression} {rest :
   right_decides {b} f = (follows_left {m = m} {right = right} n (omega arith) bound l d).failed b n f (in_time_now n)
 
 -- an answer that was given at once
-pub answers_at_once : {scene : Scene} {m : Machine} (n : ℕ) {k : Task} {rest : List ℕ} {a : Now} {whole : Start} {answer : Option (Bor (List ℕ))} → IsWithin scene 0 (starting k rest a n) whole → GivesFrom scene whole (now_of m) answer → IsAnswered scene m (n + 1) answer whole
+pub answers_at_once : {scene : Scene} {m : Machine} (n : ℕ) {k : Task} {rest : List ℕ} {a : Now} {whole : Start} {answer : Option (Bor (List ℕ))} → IsWithin scene 0 (starting k rest a n) whole → HasResultFrom scene whole (now_of m) answer → IsAnswered scene m (n + 1) answer whole
 answers_at_once n w g = record { gives = g; in_time = in_time_same ((n + 1) + 1) w (in_time_soon n) }
 
 pub starts_at_top : (scene : Scene) (m : Machine) → m.frames.items ≡ [] → now_of m ≡ (top_of scene).now → steps_of m ≡ 0 → IsStarting scene m (top_of scene).task (top_of scene).rest
@@ -438,7 +438,7 @@ no_more : (fs : List Frame) → length fs ≡ 0 → fs ≡ []
 no_more [] e = refl
 no_more (f ∷ fs) e = absurd (omega arith)
 
-pub at_top : (scene : Scene) (m n : Machine) (i : ℕ) (answer : Option (Bor (List ℕ))) → length m.frames.items ≡ 0 → now_of n ≡ now_of m → Awaits scene m (IsAnswered scene m i answer) → GivesFrom scene (top_of scene) (now_of n) answer
+pub at_top : (scene : Scene) (m n : Machine) (i : ℕ) (answer : Option (Bor (List ℕ))) → length m.frames.items ≡ 0 → now_of n ≡ now_of m → Awaits scene m (IsAnswered scene m i answer) → HasResultFrom scene (top_of scene) (now_of n) answer
 at_top scene m n i answer e now w =
     let z : m.frames.items ≡ [] = no_more m.frames.items e in
     let x : w.whole ≡ top_of scene = rw z at w.waiting in

@@ -20,12 +20,12 @@ use Rattle.meta_matcher.specs.declared.machine.Scene.{Scene}
 use Rattle.meta_matcher.specs.declared.machine.Stop.{Stop}
 use Rattle.meta_matcher.specs.declared.machine.Stop.TheVariants as stop
 use Rattle.meta_matcher.specs.Sizes.{size}
-use Rattle.meta_matcher.specs.Frames.{GivesFrom, HasFrom, IsOnTheWay, IsStuck, top_of}
+use Rattle.meta_matcher.specs.Frames.{HasResultFrom, HasFrom, IsOnTheWay, IsStuck, top_of}
 use Rattle.meta_matcher.specs.Machines.{grammar_in, setting_of}
 use Rattle.meta_matcher.specs.Written.{seen}
 use Rattle.matcher_program.specs.Rests.{standing}
-use Rattle.meta_matcher.specs.Runs.{Fails, Finds, Gives, Notes, Now, Ran, Setting}
-use Rattle.meta_matcher.specs.Told.{each_once, told_of}
+use Rattle.meta_matcher.specs.Runs.{Fails, Finds, HasResult, Notes, Now, Ran, Setting}
+use Rattle.meta_matcher.specs.ExpectedNames.{each_once, name_texts}
 use Rattle.meta_matcher.proofs.Waiting.{out_of_steps}
 use Rattle.std.proofs.Math.Logic.{∥∥₁_elim}
 use Rattle.meta_matcher.specs.Endings.{HasAnOutcome, classes_in}
@@ -58,13 +58,13 @@ told_from_start g n k text classes o a q ts i s f h r =
     let x = subst (λ j. Ran g.grammar classes g.asked (Run NonAtomicMode (Ident j)) (start_of text) o a.notes q) i w in
     (x.found, sym h ∙ rw f at x.told)
 
-expected : (g : Setting) (n k : Text) (text : List ℕ) (a b : Now) (o : Option (Bor (List ℕ))) (names : List (Bor (List ℕ))) → k ≡ n → Gives g (Run NonAtomicMode (Ident k)) text text a b o → a.stack ≡ [] → a.notes.told ≡ [] → b.notes.told ≡ told_of names → AreExpectedAt g.grammar g.properties n text g.asked names
+expected : (g : Setting) (n k : Text) (text : List ℕ) (a b : Now) (o : Option (Bor (List ℕ))) (names : List (Bor (List ℕ))) → k ≡ n → HasResult g (Run NonAtomicMode (Ident k)) text text a b o → a.stack ≡ [] → a.notes.told ≡ [] → b.notes.told ≡ name_texts names → AreExpectedAt g.grammar g.properties n text g.asked names
 expected g n k text a b None names i x s f h classes fits =
-    let w = told_from_start g n k text classes Failure a b.notes (told_of names) i s f h (x.ran classes fits) in
+    let w = told_from_start g n k text classes Failure a b.notes (name_texts names) i s f h (x.ran classes fits) in
     (Failure, w.0, w.1)
 expected g n k text a b (Some after) names i x s f h classes fits =
     let o = Success (standing text after.now b.stack) x.trees in
-    let w = told_from_start g n k text classes o a b.notes (told_of names) i s f h (x.ran classes fits) in
+    let w = told_from_start g n k text classes o a b.notes (name_texts names) i s f h (x.ran classes fits) in
     (o, w.0, w.1)
 
 -- a derivation from the start, as one of the rule that is called
@@ -106,6 +106,6 @@ pub stopped_as : (g : Grammar) (ps : List Property) (text : List ℕ) (steps : �
 stopped_as g ps text steps why k n e x = subst (λ j. IsStopped g ps j text steps why) e x
 
 -- what comes of the rule that is called
-pub expected_of_top : (scene : Scene) (n : Text) (b : Now) (o : Option (Bor (List ℕ))) (names : List (Bor (List ℕ))) → text_of scene.row.now.name ≡ n → GivesFrom scene (top_of scene) b o → b.notes.told ≡ told_of names → AreExpectedAt (grammar_in scene) scene.program.now.properties.items n scene.text.now scene.asked names
+pub expected_of_top : (scene : Scene) (n : Text) (b : Now) (o : Option (Bor (List ℕ))) (names : List (Bor (List ℕ))) → text_of scene.row.now.name ≡ n → HasResultFrom scene (top_of scene) b o → b.notes.told ≡ name_texts names → AreExpectedAt (grammar_in scene) scene.program.now.properties.items n scene.text.now scene.asked names
 expected_of_top scene n b None names i x h = expected (setting_of scene) n (text_of scene.row.now.name) scene.text.now (top_of scene).now b None names i x refl refl h
 expected_of_top scene n b (Some after) names i x h = expected (setting_of scene) n (text_of scene.row.now.name) scene.text.now (top_of scene).now b (Some after) names i x.found refl refl h

@@ -1,4 +1,4 @@
--- What a text has for a rule.
+-- Outcomes of a rule on a text, and the refusals of a run.
 use Rattle.std.specs.Prelude.{◌≡◌, ◌<◌, List, [], ℕ, None, chars, ⊤}
 use Rattle.std.specs.Borrow.{Bor}
 use Rattle.meta_base.specs.Language.Text.{Text}
@@ -17,7 +17,7 @@ use Rattle.meta_matcher.specs.declared.machine.Stop.{Stop}
 use Rattle.meta_matcher.specs.declared.machine.Stop.TheVariants as stop
 use Rattle.matcher_program.specs.Programs.{Fits, IsSound}
 use Rattle.meta_matcher.specs.Sizes.{most_steps}
-use Rattle.meta_matcher.specs.Told.{each_once, told_of}
+use Rattle.meta_matcher.specs.ExpectedNames.{each_once, name_texts}
 use Rattle.meta_matcher.specs.Written.{seen}
 
 -- the names of its rules mean what they are resolved to
@@ -41,8 +41,8 @@ pub record IsMatched (g : Grammar) (ps : List Property) (n : Text) (text : List 
       → (t : State) × (t.position ≡ end_) × Has g n text classes (Success t trees)
   pub entries : seen es ≡ entries_of 0 trees
 
--- memory was wanting; or each outcome of the rule takes more steps than there were; or, where the stack was
--- empty for `PEEK` or `POP`, the rule has no outcome: whatever the classes are
+-- an allocation failed; or every outcome of the rule takes more steps than were allowed; or, where the
+-- stack was empty for `PEEK` or `POP`, the rule has no outcome, for all fitting classes
 abbrev pub IsStopped : Grammar → List Property → Text → List ℕ → ℕ → Stop → Type 0
 IsStopped g ps n text steps stop.Memory = ⊤
 IsStopped g ps n text steps stop.OutOfSteps =
@@ -50,13 +50,13 @@ IsStopped g ps n text steps stop.OutOfSteps =
 IsStopped g ps n text steps stop.EmptyStack =
     (classes : Classes) → Fits ps classes → (o : Outcome) → Has g n text classes o → ⊥
 
--- the rule fails, whatever the classes are, and this is the place of the failure
+-- the rule fails, for all fitting classes, and this is the position of the failure
 abbrev pub FailsAt : Grammar → List Property → Text → List ℕ → ℕ → Type 0
 FailsAt g ps n text place =
     (classes : Classes) → Fits ps classes → (d : Has g n text classes Failure) × (place ≡ furthest d)
 
--- no rule has the name; or what is said of a place holds of that of the failure; or what is said of a stop
--- holds of the one that came
+-- no rule has the name; or the position of the failure satisfies `fails`; or the reason of the stop
+-- satisfies `stops`
 abbrev pub IsRefusedAs : Grammar → Text → (ℕ → Type 0) → (Stop → Type 0) → Refusal → Type 0
 IsRefusedAs g n fails stops (is.UnknownRule name) = (rule_of g n ≡ None) × (chars name.now ≡ n)
 IsRefusedAs g n fails stops (is.NoMatch place) = fails place
@@ -67,17 +67,17 @@ abbrev pub IsRefused : Grammar → List Property → Text → List ℕ → ℕ �
 IsRefused g ps n text steps why =
     IsRefusedAs g n (FailsAt g ps n text) (IsStopped g ps n text steps) why
 
--- the same where the run ends, so that it was stopped by want of memory alone
+-- a refusal of a run without a limit, which only an allocation failure stops
 abbrev pub IsRefusedAtTheEnd : Grammar → List Property → Text → List ℕ → Refusal → Type 0
 IsRefusedAtTheEnd g ps n text why =
     IsRefusedAs g n (FailsAt g ps n text) (λ stopped. stopped ≡ stop.Memory) why
 
--- the same where a failure is an answer: no rule has the name, or the run was stopped
+-- a refusal where a failure of the rule has an answer: no rule has the name, or the run was stopped
 abbrev pub IsUnanswered : Grammar → List Property → Text → List ℕ → ℕ → Refusal → Type 0
 IsUnanswered g ps n text steps why = IsRefusedAs g n (λ place. ⊥) (IsStopped g ps n text steps) why
 
--- the names are those that are expected at a place, whatever the classes are: each once, in the order of
--- their calls, where the rule fails or matches
+-- the names are the expected set at a position, for all fitting classes, every name once, in the order of
+-- the calls, where the rule fails or matches
 abbrev pub AreExpectedAt : Grammar → List Property → Text → List ℕ → ℕ → List (Bor (List ℕ)) → Type 0
 AreExpectedAt g ps n text place names = (classes : Classes) → Fits ps classes
-    → (o : Outcome) × (d : Has g n text classes o) × (told_of names ≡ each_once (expected_at place d))
+    → (o : Outcome) × (d : Has g n text classes o) × (name_texts names ≡ each_once (expected_at place d))

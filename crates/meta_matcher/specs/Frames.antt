@@ -1,4 +1,4 @@
--- What waits for an answer, and what the answer makes of it.
+-- Continuation frames, and the effect of an answer on each of them.
 use Rattle.std.specs.Prelude.{◌≡◌, ◌<◌, ◌≤◌, ℕ, ◌+◌, ◌-◌, List, [], ◌∷◌, Bool, true, ◌&&◌, IsUtf8, Option, Some, None, Result, Ok, Err, chars, length, reverse, take, ⊤}
 use Rattle.std.specs.Borrow.{Bor}
 use Rattle.meta_ast.specs.Ast.{rule_type_of, text_of}
@@ -30,12 +30,12 @@ use Rattle.meta_matcher.specs.declared.machine.Stop.TheVariants as stop
 use Rattle.meta_matcher.specs.Machines.{IsBoundIn, grammar_in, now_of, said, setting_of, steps_of}
 use Rattle.matcher_program.specs.Programs.{Fits}
 use Rattle.matcher_program.specs.Rests.{GoesOn, IsLeft, standing}
-use Rattle.meta_matcher.specs.Runs.{Fails, Finds, IsReset, Now, forgetting, mode_of, noting}
+use Rattle.meta_matcher.specs.Runs.{Fails, Finds, IsReset, Now, forgetting, mode_of, with_failure}
 use Rattle.meta_matcher.specs.Sizes.{most_steps}
 use Rattle.meta_matcher.specs.Stacked.{stack_of}
 use Rattle.meta_matcher.specs.Written.{Closes}
 
--- where a task starts: what is left of the text, what there is then, and how many steps were taken before
+-- the start of a task: the remaining input, the state of the machine, and the steps taken before
 pub record Start : Type 0 where
   pub task : Task
   pub rest : List ℕ
@@ -45,7 +45,7 @@ pub record Start : Type 0 where
 abbrev pub starting : Task → List ℕ → Now → ℕ → Start
 starting k rest now n = record { task = k; rest = rest; now = now; since = n }
 
--- what comes second in a sequence, as an expression; and its names mean what it says
+-- the second operand of a sequence, as an expression; its names mean what they are resolved to
 abbrev pub said_second : Scene → second.Second → Expression
 said_second scene (is.Once f) = said scene f.now
 said_second scene (is.Repeated f) = Rep (said scene f.now)
@@ -81,7 +81,7 @@ IsNested (form.Tag' p a t) = ⊤
 IsNested (form.Restore' p a) = ⊤
 IsNested _ = ⊥
 
--- memory was wanting, or the stack is empty
+-- an allocation failed, or the stack is empty
 abbrev pub IsOutOfTexts : Stop → Machine → Type 0
 IsOutOfTexts stop.Memory m = ⊤
 IsOutOfTexts stop.OutOfSteps m = ⊥
@@ -104,9 +104,9 @@ module _ (scene : Scene) where
   abbrev pub FailsFrom : Start → Now → Type 0
   FailsFrom s later = Fails (setting_of scene) s.task scene.text.now s.rest s.now later
 
-  abbrev pub GivesFrom : Start → Now → Option (Bor (List ℕ)) → Type 0
-  GivesFrom s later None = FailsFrom s later
-  GivesFrom s later (Some after) = FindsFrom s later after.now
+  abbrev pub HasResultFrom : Start → Now → Option (Bor (List ℕ)) → Type 0
+  HasResultFrom s later None = FailsFrom s later
+  HasResultFrom s later (Some after) = FindsFrom s later after.now
 
   -- the task has this outcome from its start
   abbrev pub HasFrom : Classes → Start → Outcome → Type 0
@@ -132,7 +132,7 @@ module _ (scene : Scene) where
     pub within : IsWithin 0 part whole
     pub found : Ends part whole
 
-  -- what comes of the part comes of the whole
+  -- the whole has the answer of the part
   pub record Decides (part whole : Start) : Type 0 where
     pub within : IsWithin 0 part whole
     pub found : Ends part whole
@@ -155,7 +155,7 @@ module _ (scene : Scene) where
     pub failed : (b c : Now) → FailsFrom part b → IsReset s.saved.entries (stack_of s.saved.stack) b c
         → FailsFrom whole c
 
-  -- the first form is run, or one behind it: the skipping comes where it ends
+  -- the first form is run, or a later one: the skipping follows it
   pub record IsFirst (s : Sequence) (part whole : Start) : Type 0 where
     pub within : IsWithin 1 part whole
     pub found : (b : Now) (after : List ℕ) (n : ℕ) → FindsFrom part b after → IsInTime part n
@@ -195,7 +195,7 @@ module _ (scene : Scene) where
     pub failed : (b c : Now) → FailsFrom part b → IsReset r.saved.entries (stack_of r.saved.stack) b c
         → FindsFrom whole c r.rest.now
 
-  -- the form of a predicate is run: all that it did is put back, and what is told below a `!` is forgotten
+  -- the form of a predicate is run: its effects are undone, and names recorded below a `!` are dropped
   pub record IsNegated (p : Predicate) (told : ℕ) (part whole : Start) : Type 0 where
     pub within : IsWithin 1 part whole
     pub found : (b c : Now) (after : List ℕ) → FindsFrom part b after
@@ -244,7 +244,7 @@ module _ (scene : Scene) where
   abbrev pub gives_in : Called → Bool
   gives_in k = gives_token (rule_type_of k.row.now.kind) (mode_of k.mode)
 
-  -- the body of a rule is run: its trees come to stand in one tree, or its failure is noted
+  -- the body of a rule is run: its trees become the children of one tree, or its failure is recorded
   pub record IsCall (k : Called) (part whole : Start) : Type 0 where
     pub opened : gives_in k ≡ true → k.first < length part.now.entries
     pub within : IsWithin 1 part whole
@@ -253,8 +253,8 @@ module _ (scene : Scene) where
         b.entries c.entries
         → c.stack ≡ b.stack → c.notes ≡ b.notes → FindsFrom whole c after
     pub failed : (b c : Now) → FailsFrom part b → c.entries ≡ take k.first b.entries → c.stack ≡ b.stack
-        → c.notes ≡ noting scene.asked (seen_from (mode_of k.mode) && gives_in k) (text_of k.row.now.name)
-        k.place k.told b.notes → FailsFrom whole c
+        → c.notes ≡ with_failure scene.asked (seen_from (mode_of k.mode) && gives_in k)
+        (text_of k.row.now.name) k.place k.expected_count b.notes → FailsFrom whole c
 
   -- the part is run for the sake of the whole, and this frame waits for it
   abbrev pub Follows : Frame → Start → Start → Type 0
@@ -283,7 +283,7 @@ module _ (scene : Scene) where
     pub waiting : IsWaiting (reverse m.frames.items) whole
     pub is : known whole
 
-  -- what comes of a task that is begun in this step comes of what is waited for
+  -- a task that begins in this step decides what the frames wait for
   abbrev pub IsStarting : Machine → Task → List ℕ → Type 0
   IsStarting m k rest = Awaits m (Decides (starting k rest (now_of m) (steps_of m)))
 
@@ -294,7 +294,7 @@ module _ (scene : Scene) where
     pub whole : Start
     pub waiting : IsWaiting (reverse m.frames.items) whole
     pub follows : relation part whole
-    pub gives : GivesFrom part (now_of m) answer
+    pub gives : HasResultFrom part (now_of m) answer
     pub in_time : IsInTime part (steps_of m + 1)
 
   -- the form that is run once n steps were taken
@@ -303,42 +303,43 @@ module _ (scene : Scene) where
     pub left : IsLeft scene.text.now rest
     pub starts : Awaits m (Decides (starting (Run (mode_of mode) (said scene f)) rest (now_of m) n))
 
-  -- the same of a form that has parts
+  -- the form is run, and has operands
   pub record IsParting (m : Machine) (n : ℕ) (f : Form) (mode : Mode) (rest : List ℕ) : Type 0 where
     pub running : IsRunning m n f mode rest
     pub nested : IsNested f
 
   -- the answer that is given once n steps were taken, which the next one takes
   pub record IsAnswered (m : Machine) (n : ℕ) (answer : Option (Bor (List ℕ))) (whole : Start) : Type 0 where
-    pub gives : GivesFrom whole (now_of m) answer
+    pub gives : HasResultFrom whole (now_of m) answer
     pub in_time : IsInTime whole (n + 1)
 
-  -- what the machine does once n steps were taken leads to what comes of the rule that is called
+  -- after n steps, the next task of the machine leads to the answer of the rule that is called
   abbrev pub IsOnTheWay : Machine → ℕ → Control → Type 0
   IsOnTheWay m n (control.Run f mode rest) = IsRunning m n f.now mode rest.now
   IsOnTheWay m n (control.Parts f mode rest) = IsParting m n f.now mode rest.now
   IsOnTheWay m n (control.Answer answer) = Awaits m (IsAnswered m n answer)
 
-  -- a run is stopped by want of memory, or on the empty stack, where the rule that is called has no outcome
+  -- a run is stopped by an allocation failure, or on the empty stack, where the rule that is called has no
+  -- outcome
   abbrev pub IsStuck : Stop → Type 0
   IsStuck stop.Memory = ⊤
   IsStuck stop.OutOfSteps = ⊥
   IsStuck stop.EmptyStack = (classes : Classes) → Fits scene.program.now.properties.items classes
       → (o : Outcome) → HasFrom classes (top_of scene) o → ⊥
 
-  -- what comes of a step
+  -- the result of a step
   abbrev pub Leads : Machine → ℕ → Result Control Stop → Type 0
   Leads m n (Ok c) = IsOnTheWay m n c
   Leads m n (Err why) = IsStuck why
 
-  -- what comes of several steps, after which n were taken in all
-  abbrev pub Comes : Machine → ℕ → Result Came Stop → Type 0
-  Comes m n (Ok (came.Ended answer)) = GivesFrom (top_of scene) (now_of m) answer
-  Comes m n (Ok (came.Going c)) = IsOnTheWay m n c
-  Comes m n (Err why) = IsStuck why
+  -- the result of several steps, n steps in all
+  abbrev pub StepsLead : Machine → ℕ → Result Came Stop → Type 0
+  StepsLead m n (Ok (came.Ended answer)) = HasResultFrom (top_of scene) (now_of m) answer
+  StepsLead m n (Ok (came.Going c)) = IsOnTheWay m n c
+  StepsLead m n (Err why) = IsStuck why
 
-  -- what comes of a form that is run at once: an answer, or nothing where it has parts
-  abbrev pub ComesAtOnce : Form → Mode → List ℕ → Machine → Machine → AtOnce → Type 0
-  ComesAtOnce f mode rest old new (at_once.Answered answer) =
-      GivesFrom (starting (Run (mode_of mode) (said scene f)) rest (now_of old) 0) (now_of new) answer
-  ComesAtOnce f mode rest old new at_once.Nested = (now_of new ≡ now_of old) × IsNested f
+  -- the result of a form that is run without a frame: an answer, or nothing if the form has operands
+  abbrev pub LeadsAtOnce : Form → Mode → List ℕ → Machine → Machine → AtOnce → Type 0
+  LeadsAtOnce f mode rest old new (at_once.Answered answer) =
+      HasResultFrom (starting (Run (mode_of mode) (said scene f)) rest (now_of old) 0) (now_of new) answer
+  LeadsAtOnce f mode rest old new at_once.Nested = (now_of new ≡ now_of old) × IsNested f

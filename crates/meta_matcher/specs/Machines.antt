@@ -1,4 +1,4 @@
--- What a machine keeps, and what its functions say.
+-- The state of a machine, and the statements of its functions.
 use Rattle.std.specs.Prelude.{◌≡◌, ◌+◌, ◌*◌, ℕ, List, Option, Some, length}
 use Rattle.std.specs.Borrow.{Bor}
 use Rattle.meta_ast.specs.Ast.{text_of}
@@ -13,16 +13,16 @@ use Rattle.meta_matcher.specs.declared.machine.Machine.{Machine}
 use Rattle.meta_matcher.specs.declared.machine.Scene.{Scene}
 use Rattle.meta_matcher.specs.Written.{seen}
 use Rattle.meta_matcher.specs.Stacked.{stack_of}
-use Rattle.meta_matcher.specs.Told.{told_of}
+use Rattle.meta_matcher.specs.ExpectedNames.{name_texts}
 use Rattle.matcher_program.specs.Programs.{IsBound, IsRow, IsSound, expression_of, grammar_of, names_of, rule_of_row}
-use Rattle.meta_matcher.specs.Runs.{Gives, Now, Setting}
+use Rattle.meta_matcher.specs.Runs.{HasResult, Now, Setting}
 
--- what a machine has so far
+-- the state of a machine without its frames and steps
 abbrev pub now_of : Machine → Now
 now_of m = record {
   entries = seen m.entries.items;
   stack = stack_of m.stack;
-  notes = record { furthest = m.furthest; told = told_of m.told.items };
+  notes = record { furthest = m.furthest; told = name_texts m.expected.items };
 }
 
 -- how many steps a round has, and how many were taken
@@ -39,7 +39,7 @@ names_within scene = names_of scene.program.now.rows.items
 abbrev pub grammar_in : Scene → Grammar
 grammar_in scene = grammar_of scene.program.now.rows.items
 
--- the grammar, the sets of the property names that it names, and the place that is asked for
+-- the grammar, the sets of the property names that it names, and the position that is asked for
 abbrev pub setting_of : Scene → Setting
 setting_of scene = record {
   grammar = grammar_in scene;
@@ -56,7 +56,7 @@ abbrev pub IsSoundIn : Scene → Type 0
 IsSoundIn scene = IsSound scene.program.now.rows.items scene.program.now.properties.items
     scene.program.now.whitespace scene.program.now.comment
 
--- the names in a form mean what it says
+-- the names in a form mean what they are resolved to
 abbrev pub IsBoundIn : Scene → Form → Type 0
 IsBoundIn scene form =
     IsBound (grammar_in scene) (names_within scene) scene.program.now.properties.items form
@@ -66,7 +66,7 @@ abbrev pub IsRowIn : Scene → Row → Type 0
 IsRowIn scene row =
     IsRow (grammar_in scene) (names_within scene) scene.program.now.properties.items row
 
--- the scene has a program, a text, a place that is asked for, and the row that a name means
+-- the scene has a program, a text, a position that is asked for, and the row that a name means
 pub record IsSceneOf (program : Program) (n : Text) (text : List ℕ) (asked : ℕ) (scene : Scene) : Type 0 where
   pub same_program : scene.program.now ≡ program
   pub same_text : scene.text.now ≡ text
@@ -77,9 +77,9 @@ pub record IsSceneOf (program : Program) (n : Text) (text : List ℕ) (asked : �
       ≡ Some (rule_of_row (names_within scene) scene.row.now)
 
 -- the task was found to fail, or to succeed, as the answer says
-abbrev pub GivesIn : Scene → Task → List ℕ → Machine → Machine → Option (Bor (List ℕ)) → Type 0
-GivesIn scene k rest old new answer =
-    Gives (setting_of scene) k scene.text.now rest (now_of old) (now_of new) answer
+abbrev pub HasResultIn : Scene → Task → List ℕ → Machine → Machine → Option (Bor (List ℕ)) → Type 0
+HasResultIn scene k rest old new answer =
+    HasResult (setting_of scene) k scene.text.now rest (now_of old) (now_of new) answer
 
 -- how many entries there were, and which stack
 pub record IsSaved (saved : Saved) (now : Now) : Type 0 where

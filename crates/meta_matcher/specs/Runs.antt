@@ -1,4 +1,4 @@
--- What a run answers.
+-- The results of a run.
 use Rattle.std.specs.Prelude.{◌≡◌, ℕ, ◌&&◌, max, List, ◌++◌, Bool, Option, Some, None, take, length, if◌then◌else◌, nat_eq}
 use Rattle.std.specs.Borrow.{Bor}
 use Rattle.meta_base.specs.Language.Text.{Text}
@@ -11,7 +11,7 @@ use Rattle.meta_syntax.specs.Entries.{Entry, entries_of}
 use Rattle.matcher_program.specs.declared.form.Property.{Property}
 use Rattle.matcher_program.specs.Programs.{Fits}
 use Rattle.matcher_program.specs.Rests.{standing}
-use Rattle.meta_matcher.specs.Told.{with_name, with_names}
+use Rattle.meta_matcher.specs.ExpectedNames.{with_name, with_names}
 use Rattle.meta_matcher.specs.declared.modes.Mode as mode
 use Rattle.meta_matcher.specs.declared.modes.Mode.TheVariants as in_mode
 
@@ -21,26 +21,26 @@ mode_of in_mode.NonAtomic = NonAtomicMode
 mode_of in_mode.Atomic = AtomicMode
 mode_of in_mode.CompoundAtomic = CompoundAtomicMode
 
--- what is noted of failures: the furthest place of one, and which names are told at the place that is asked
+-- the record of failures: the furthest position of one, and the expected set at the position that is asked
 -- for
 pub record Notes : Type 0 where
   pub furthest : ℕ
   pub told : List Text
 
--- what a run keeps beside the place: the entries so far, the stack, and what is noted of failures
+-- the state of a run without its position: the entries so far, the stack, and the record of failures
 pub record Now : Type 0 where
   pub entries : List Entry
   pub stack : List Text
   pub notes : Notes
 
--- a grammar, the sets of the property names that it names, and the place that is asked for
+-- a grammar, the sets of the property names that it names, and the position that is asked for
 pub record Setting : Type 0 where
   pub grammar : Grammar
   pub properties : List Property
   pub asked : ℕ
 
--- the task k from s was found to have the outcome o; its furthest failure was noted, and what is expected in
--- it at the place was told
+-- the task k from s has the outcome o; its furthest failure and its expected set at the position are
+-- recorded
 pub record Ran (g : Grammar) (classes : Classes) (place : ℕ) (k : Task) (s : State) (o : Outcome)
     (old new : Notes) : Type 0 where
   pub found : Does g classes k s o
@@ -62,18 +62,18 @@ pub record Finds (g : Setting) (k : Task) (text rest : List ℕ) (a b : Now) (af
       → Ran g.grammar classes g.asked k (standing text rest a.stack)
       (Success (standing text after b.stack) trees) a.notes b.notes
 
-abbrev pub Gives : Setting → Task → List ℕ → List ℕ → Now → Now → Option (Bor (List ℕ)) → Type 0
-Gives g k text rest a b None = Fails g k text rest a b
-Gives g k text rest a b (Some after) = Finds g k text rest a b after.now
+abbrev pub HasResult : Setting → Task → List ℕ → List ℕ → Now → Now → Option (Bor (List ℕ)) → Type 0
+HasResult g k text rest a b None = Fails g k text rest a b
+HasResult g k text rest a b (Some after) = Finds g k text rest a b after.now
 
 -- the furthest failure, with one more at a position if it counts
 abbrev pub noted : Bool → ℕ → ℕ → ℕ
 noted counts position old = max old (if counts then position else 0)
 
--- what is noted of a call of a name that failed at a place, where it counts: the place, and, if it is the one
--- that is asked for, the name, in place of all that was told but the first names
-abbrev pub noting : ℕ → Bool → Text → ℕ → ℕ → Notes → Notes
-noting asked counts n place first old = record {
+-- the record after a call of a name failed at a position, if the call counts: the position, and, if it is
+-- the one that is asked for, the name, instead of all recorded names but the first ones
+abbrev pub with_failure : ℕ → Bool → Text → ℕ → ℕ → Notes → Notes
+with_failure asked counts n place first old = record {
   furthest = noted counts place old.furthest;
   told = if counts && nat_eq place asked then with_name (take first old.told) n else old.told;
 }
@@ -86,7 +86,7 @@ forgetting first a = record {
   notes = record { furthest = a.notes.furthest; told = take first a.notes.told };
 }
 
--- entries cut back to a length, and a stack put in place
+-- entries cut back to a length, and a stack restored
 pub record IsReset (n : ℕ) (ts : List Text) (a b : Now) : Type 0 where
   pub entries : b.entries ≡ take n a.entries
   pub stack : b.stack ≡ ts

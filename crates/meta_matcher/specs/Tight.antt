@@ -1,4 +1,4 @@
--- What is matched at once, and where nothing is skipped.
+-- Forms matched without a frame, and modes in which nothing is skipped.
 use Rattle.std.specs.Prelude.{ℕ, List, ⊤}
 use Rattle.meta_base.specs.Language.Expression.{Expression}
 use Rattle.meta_base.specs.Language.Meaning.{Run, Skipping}
@@ -7,17 +7,17 @@ use Rattle.meta_matcher.specs.declared.frames.AtOnce.{AtOnce}
 use Rattle.meta_matcher.specs.declared.frames.AtOnce.TheVariants as at_once
 use Rattle.meta_matcher.specs.declared.machine.Scene.{Scene}
 use Rattle.meta_matcher.specs.declared.modes.Mode.{Mode}
-use Rattle.meta_matcher.specs.Frames.{GivesFrom, starting}
+use Rattle.meta_matcher.specs.Frames.{HasResultFrom, starting}
 use Rattle.meta_matcher.specs.Machines.{grammar_in}
 use Rattle.meta_matcher.specs.Runs.{Notes, Now, Ran, mode_of}
 
--- nothing is skipped in the mode, and nothing is noted of it
+-- nothing is skipped in the mode, and no failure is recorded of it
 abbrev pub IsTight : Scene → Mode → Type 0
 IsTight scene mode = (classes : Classes) (s : State) (n : Notes)
     → Ran (grammar_in scene) classes scene.asked (Skipping (mode_of mode)) s (Success s None') n n
 
--- an answer is what comes of the expression, which writes and notes nothing
-abbrev pub GivesAtOnce : Scene → Expression → Mode → List ℕ → AtOnce → Type 0
-GivesAtOnce scene e mode rest (at_once.Answered answer) =
-    (now : Now) → GivesFrom scene (starting (Run (mode_of mode) e) rest now 0) now answer
-GivesAtOnce scene e mode rest at_once.Nested = ⊤
+-- an answer is that of the expression, which adds no entry and records no failure
+abbrev pub HasPureResult : Scene → Expression → Mode → List ℕ → AtOnce → Type 0
+HasPureResult scene e mode rest (at_once.Answered answer) =
+    (now : Now) → HasResultFrom scene (starting (Run (mode_of mode) e) rest now 0) now answer
+HasPureResult scene e mode rest at_once.Nested = ⊤

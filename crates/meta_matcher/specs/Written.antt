@@ -13,8 +13,8 @@ entry_of (is.End j n) = Ends j n
 abbrev pub seen : List code.Entry → List Entry
 seen es = map entry_of es
 
--- whatever trees were written behind an open_start start of the number `first`, they stand now in one tree,
--- if there is to be one
+-- all trees added after the start entry with the index `first` become the children of one tree, if the call
+-- gives a token
 abbrev pub Closes : Bool → Text → ℕ → ℕ → ℕ → List Entry → List Entry → Type 0
 Closes gives r i j first old new =
     (before : List Entry) (us : Trees) → length before ≡ first

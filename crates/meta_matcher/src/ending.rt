@@ -1,9 +1,9 @@
-//! A rule and a text on which it comes to an end.
+//! A rule and a text that has an outcome for it.
 ghost use Rattle.meta_matcher.specs.Endings.{HasAnOutcome};
 
 use crate::machine::Scene;
 
-/// A rule and a text that has an outcome for it.
+/// A scene whose rule has an outcome on its text.
 #[derive(Clone, Copy)]
 pub struct Ending<'a> {
     pub scene: Scene<'a>,

@@ -1,12 +1,11 @@
-//! Trees as one flat list of entries.
+//! Token trees as one flat list of entries.
 ghost use Rattle.std.specs.Prelude.{◌≡◌, ◌<◌, ◌++◌, OnOk, length, take, true, chars};
 ghost use Rattle.meta_syntax.specs.Entries.{open_start};
 ghost use Rattle.meta_matcher.specs.Written.{Closes, seen};
 
 use std::alloc::AllocError;
 
-/// One end of a tree: where it starts, or where it ends, in bytes, and the number of its other
-/// entry in the list.
+/// The start or the end of a tree: its position, in bytes, and the index of the partner entry in the list.
 #[derive(Clone, Copy, Debug)]
 pub enum Entry<'a> {
     Start {
@@ -20,15 +19,15 @@ pub enum Entry<'a> {
     },
 }
 
-/// How many entries there are.
+/// Returns the number of entries.
 #[inline(always)]
-pub(crate) fn written(entries: &Vec<Entry>) -> usize
+pub(crate) fn entry_count(entries: &Vec<Entry>) -> usize
     ensures { result ≡ length (seen entries.now.items) }
 {
     entries.len()
 }
 
-/// Starts a tree, if there is to be one. Its partner is not known yet.
+/// Adds the start entry of a tree, if the call gives a token. The index of its partner is not known yet.
 #[inline(always)]
 pub(crate) fn open<'a>(
     entries: &mut Vec<Entry<'a>>,
@@ -49,7 +48,7 @@ pub(crate) fn open<'a>(
     Ok(())
 }
 
-/// Ends the tree, if there is one, that was started by the entry of a number.
+/// Ends the tree whose start entry has the index `first`, if the call gives a token.
 #[inline(always)]
 pub(crate) fn close<'a>(
     entries: &mut Vec<Entry<'a>>,
@@ -78,7 +77,7 @@ pub(crate) fn close<'a>(
     Ok(())
 }
 
-/// Cuts the list back to a length that it had.
+/// Cuts the list back to an earlier length.
 #[inline(always)]
 pub(crate) fn cut(entries: &mut Vec<Entry>, length: usize)
     ensures { seen entries.new.items ≡ take length (seen entries.old.items) }

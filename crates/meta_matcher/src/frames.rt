@@ -1,32 +1,32 @@
-//! What waits while a part of a form is run.
+//! Continuation frames: the form that is run gives its answer to the last of them.
 use crate::modes::Mode;
 use crate::stack::Stack;
 use matcher_program::form::{Form, Row};
 
-/// What there was at some place, to be put back.
+/// The state to restore after a failure.
 #[derive(Drop)]
 pub struct Saved<'a> {
-    /// How many entries there were.
+    /// The number of entries.
     pub entries: usize,
     /// The stack.
     pub stack: Stack<'a>,
 }
 
-/// What comes second in a sequence.
+/// The second operand of a sequence.
 #[derive(Clone, Copy)]
 pub enum Second<'a> {
     /// A form.
     Once(&'a Form),
-    /// As many turns of a form as there are.
+    /// As many turns of a form as match.
     Repeated(&'a Form),
 }
 
-/// A sequence one of whose forms is run, or is done: what comes behind that form.
+/// A sequence while its first form or the skipping after that is run.
 #[derive(Drop)]
 pub struct Sequence<'a> {
     pub second: Second<'a>,
     pub mode: Mode,
-    /// What there was before the sequence.
+    /// The state before the sequence.
     pub saved: Saved<'a>,
 }
 
@@ -35,18 +35,18 @@ pub struct Sequence<'a> {
 pub struct Repetition<'a> {
     pub body: &'a Form,
     pub mode: Mode,
-    /// What is left of the text before the turn.
+    /// The remaining input before the turn.
     pub rest: &'a str,
-    /// What there was before the turn.
+    /// The state before the turn.
     pub saved: Saved<'a>,
 }
 
 /// A predicate.
 #[derive(Drop)]
 pub struct Predicate<'a> {
-    /// What is left of the text before it.
+    /// The remaining input before the predicate.
     pub rest: &'a str,
-    /// What there was before it.
+    /// The state before the predicate.
     pub saved: Saved<'a>,
 }
 
@@ -56,70 +56,70 @@ pub struct Called<'a> {
     pub row: &'a Row,
     /// The caller's mode.
     pub mode: Mode,
-    /// Where it begins, in bytes.
+    /// The position of its start, in bytes.
     pub place: usize,
-    /// How many entries there were before it.
+    /// The number of entries before it.
     pub first: usize,
-    /// How many names were told before it.
-    pub told: usize,
+    /// The number of expected names before it.
+    pub expected_count: usize,
 }
 
-/// What waits for the answer of what is run.
+/// A continuation frame.
 #[derive(Drop)]
 pub enum Frame<'a> {
     /// A form of a sequence is run, but not the last.
     First(Sequence<'a>),
-    /// What lies between the forms of a sequence is skipped.
+    /// The skipping between the forms of a sequence is run.
     Gap(Sequence<'a>),
-    /// The last form of a sequence is run, and here is what there was before the sequence.
+    /// The last form of a sequence is run; the state before the sequence.
     Second(Saved<'a>),
-    /// The left side of a choice is run: the right side, its mode, and what is left of the text.
+    /// The left side of a choice is run; the right side, its mode, and the remaining input.
     Left(&'a Form, Mode, &'a str),
-    /// The form of an option is run, with this left of the text.
+    /// The form of an option is run; the remaining input before it.
     Optional(&'a str),
     /// The form of a repetition is run.
     Turn(Repetition<'a>),
-    /// What lies before the form of a repetition is skipped.
+    /// The skipping before the form of a repetition is run.
     TurnGap(Repetition<'a>),
-    /// The form of a negative predicate is run, before which so many names were told.
+    /// The form of a negative predicate is run; the number of expected names before it.
     Not(Predicate<'a>, usize),
     /// The form of a positive predicate is run.
     Ahead(Predicate<'a>),
-    /// A form is run whose text is pushed, with this left of the text.
+    /// A form is run whose text is pushed; the remaining input before it.
     Push(&'a str),
     /// The body of a rule is run.
     Call(Called<'a>),
-    /// `WHITESPACE` is run, with this left of the text.
+    /// `WHITESPACE` is run; the remaining input before it.
     Blank(&'a str),
-    /// `COMMENT` is run, with this left of the text.
+    /// `COMMENT` is run; the remaining input before it.
     Comment(&'a str),
 }
 
-/// What a machine does next.
+/// The next task of a machine.
 #[derive(Clone, Copy)]
 pub enum Control<'a> {
-    /// It runs a form in a mode on what is left of the text.
+    /// Run a form in a mode on the remaining input.
     Run(&'a Form, Mode, &'a str),
-    /// The same with a form that has parts, and was not matched at once.
+    /// Run a form that has operands, and was not matched without a frame.
     Parts(&'a Form, Mode, &'a str),
-    /// It gives the last frame an answer: what is left of the text, or `None` for a failure.
+    /// Give the last frame an answer: the remaining input, or `None` for a failure.
     Answer(Option<&'a str>),
 }
 
-/// What comes of a form that is run at once.
+/// The result of a form that is run without a frame.
 #[derive(Clone, Copy)]
 pub enum AtOnce<'a> {
-    /// The answer.
+    /// The remaining input, or `None` for a failure.
     Answered(Option<&'a str>),
     /// The form has parts, and was not run.
     Nested,
 }
 
-/// What comes of several steps.
+/// The result of several steps.
 #[derive(Clone, Copy)]
 pub enum Came<'a> {
-    /// The run is at its end, with this answer.
+    /// The run ended with this answer.
     Ended(Option<&'a str>),
-    /// The run goes on with this.
+    /// The run goes on with this task.
     Going(Control<'a>),
 }

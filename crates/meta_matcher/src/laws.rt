@@ -7,7 +7,7 @@ ghost use Rattle.meta_base.specs.Language.WellFormed.{EndsFrom, Start};
 ghost use Rattle.meta_matcher.specs.Endings.{EndsOn};
 ghost use Rattle.matcher_program.specs.declared.form.Property.{Property};
 
-/// A grammar whose rules have an outcome from every start has one on every text.
+/// Proves that a grammar whose rules have an outcome from every start has one on every text.
 pub fn ends_on_every_text()
     ensures { (g : Grammar) → ((classes : Classes) (start : Start g) → EndsFrom g classes start)
         → (properties : List Property) (n : Text) (text : List ℕ) → EndsOn g properties n text }

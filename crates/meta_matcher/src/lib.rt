@@ -3,6 +3,7 @@
 
 pub mod ending;
 pub mod entries;
+mod expected_names;
 pub mod frames;
 pub mod laws;
 pub mod machine;
@@ -11,5 +12,4 @@ mod modes;
 mod running;
 mod skipping;
 pub mod stack;
-mod told;
 mod turns;

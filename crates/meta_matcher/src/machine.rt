@@ -1,35 +1,35 @@
-//! What a machine keeps, and what it matches at once.
+//! The state of a machine, and leaf expressions, which are matched without a frame.
 ghost use Rattle.std.specs.Prelude.{◌≡◌, false, true, IfErr, IfOk, OnOk, [], None, chars, codes};
 ghost use Rattle.meta_ast.specs.Ast.{text_of};
 ghost use Rattle.meta_base.specs.Language.Expression.{Ident, PeekSlice, PushLiteral, rule_of};
 ghost use Rattle.meta_base.specs.Language.Meaning.{Run};
 ghost use Rattle.matcher_program.specs.declared.form.Form.TheVariants.{Call};
-ghost use Rattle.meta_matcher.specs.Frames.{ComesAtOnce, FailsFrom, IsOutOfTexts, IsStuckAtOnce, starting};
-ghost use Rattle.meta_matcher.specs.Machines.{GivesIn, IsBoundIn, IsSaved, IsSoundIn, grammar_in, now_of, said, steps_of};
+ghost use Rattle.meta_matcher.specs.Frames.{LeadsAtOnce, FailsFrom, IsOutOfTexts, IsStuckAtOnce, starting};
+ghost use Rattle.meta_matcher.specs.Machines.{HasResultIn, IsBoundIn, IsSaved, IsSoundIn, grammar_in, now_of, said, steps_of};
 ghost use Rattle.matcher_program.specs.Rests.{IsLeft, Progress};
-ghost use Rattle.meta_matcher.specs.Runs.{IsReset, forgetting, mode_of, noting};
+ghost use Rattle.meta_matcher.specs.Runs.{IsReset, forgetting, mode_of, with_failure};
 ghost use Rattle.meta_matcher.specs.Stacked.{stack_of};
 ghost use Rattle.meta_matcher.specs.declared.machine.Stop.TheVariants.{Memory};
 
-use crate::entries::{Entry, close, cut, open, written};
+use crate::entries::{Entry, close, cut, entry_count, open};
+use crate::expected_names::{add_name, count, forget};
 use crate::frames::{AtOnce, Frame, Saved};
-use crate::modes::{Mode, call_counts, is_seen_from, noted};
-use crate::skipping::{repeated, repeated_once};
-use crate::stack::{Stack, pushed, shared, texts_of};
-use crate::told::{count, forget, tell};
+use crate::modes::{Mode, call_counts, furthest_failure, is_seen_from};
+use crate::skipping::{repeat_set, repeat_set_once};
+use crate::stack::{Stack, push_onto, share, texts_of};
 use matcher_program::form::{Form, Program, Row};
 use matcher_program::leaves::{
-    ahead_to, character, insens, literal, literals, newline, one, slice, within,
+    ahead_to, character, insens, literal, literals, newline, one, one_in_ranges, slice,
 };
 use matcher_program::sets::{is_barred, one_of};
 use std::alloc::{AllocError, Global};
 
-/// Why a run has no answer.
+/// The reason why a run has no answer.
 #[derive(Debug, Drop)]
 pub enum Stop {
-    /// Memory was wanting.
+    /// An allocation failed.
     Memory,
-    /// It takes more steps than were allowed.
+    /// More steps than were allowed are needed.
     OutOfSteps,
     /// `PEEK` or `POP` on the empty stack.
     EmptyStack,
@@ -43,37 +43,37 @@ impl From<AllocError> for Stop {
     }
 }
 
-/// Rules, the one that is called, and the text that it is run on.
+/// The compiled rules, the row of the called rule, and the text that it is run on.
 #[derive(Clone, Copy)]
 pub struct Scene<'a> {
     pub program: &'a Program,
     pub row: &'a Row,
     pub text: &'a str,
-    /// The place, in bytes, at which is told what is expected.
+    /// The position, in bytes, whose expected set is collected.
     pub asked: usize,
 }
 
-/// How many steps were taken: in whole rounds, of 2^64 - 2 steps each, and since the last.
+/// The number of steps taken: whole rounds of 2^64 - 2 steps each, and the steps since the last round.
 #[derive(Clone, Copy)]
 pub struct Steps {
     pub rounds: usize,
     pub since: u64,
 }
 
-/// What a run has written and noted so far, and what waits.
+/// The state of a run, with its continuation frames.
 #[derive(Drop)]
 pub struct Machine<'a> {
     /// The tokens, in order.
     pub entries: Vec<Entry<'a>>,
-    /// The texts that were pushed.
+    /// The pushed texts.
     pub stack: Stack<'a>,
-    /// The furthest place, in bytes, at which a call that counts has failed.
+    /// The furthest position, in bytes, at which a call that counts has failed.
     pub furthest: usize,
-    /// The names of the calls that failed at the place that is asked for, each once.
-    pub told: Vec<&'a str>,
-    /// What waits for answers: the last frame for what is run now.
+    /// The names of the calls that failed at the position that is asked for, without duplicates.
+    pub expected: Vec<&'a str>,
+    /// The continuation frames, the innermost one last.
     pub frames: Vec<Frame<'a>>,
-    /// How many steps were taken before this one.
+    /// The number of steps taken before this one.
     pub steps: Steps,
 }
 
@@ -90,7 +90,7 @@ impl<'a> Machine<'a> {
             entries: Vec::new(alloc),
             stack: Stack::Empty,
             furthest: 0,
-            told: Vec::new(alloc),
+            expected: Vec::new(alloc),
             frames: Vec::new(alloc),
             steps: Steps {
                 rounds: 0,
@@ -99,7 +99,7 @@ impl<'a> Machine<'a> {
         }
     }
 
-    /// The tokens that were written.
+    /// Returns the tokens.
     pub fn into_entries(self) -> Vec<Entry<'a>>
         ensures { result ≡ self.entry.entries }
     {
@@ -107,61 +107,63 @@ impl<'a> Machine<'a> {
             entries,
             stack: _,
             furthest: _,
-            told: _,
+            expected: _,
             frames: _,
             steps: _,
         } = self;
         entries
     }
 
-    /// The names that were told.
-    pub fn into_told(self) -> Vec<&'a str>
-        ensures { result ≡ self.entry.told }
+    /// Returns the expected names.
+    pub fn into_expected(self) -> Vec<&'a str>
+        ensures { result ≡ self.entry.expected }
     {
         let Machine {
             entries: _,
             stack: _,
             furthest: _,
-            told,
+            expected,
             frames: _,
             steps: _,
         } = self;
-        told
+        expected
     }
 
-    /// Notes a call that failed at a place, where it counts. If that is the place that is asked for, its name
-    /// is told in place of what was told within it: before it so many names were told.
+    /// Records a call that failed at `place`, in bytes, if the call counts. If that position is the one
+    /// that is asked for, the name replaces the names recorded within the call, which are all but the first
+    /// `mark`.
     pub fn note(
         &mut self,
         scene: &Scene<'a>,
         counts: bool,
         name: &'a str,
         place: usize,
-        told: usize,
+        mark: usize,
     ) -> Result<(), AllocError>
         ensures entries { self.new.entries ≡ self.old.entries }
         ensures stack { self.new.stack ≡ self.old.stack }
         ensures frames { self.new.frames ≡ self.old.frames }
         ensures steps { self.new.steps ≡ self.old.steps }
         ensures notes { OnOk result ((now_of self.new).notes
-            ≡ noting scene.entry.now.asked counts (chars name.entry.now) place told (now_of self.old).notes) }
+            ≡ with_failure scene.entry.now.asked counts (chars name.entry.now) place mark
+            (now_of self.old).notes) }
     {
-        self.furthest = noted(counts, place, self.furthest);
+        self.furthest = furthest_failure(counts, place, self.furthest);
         if counts && place == scene.asked {
-            forget(&mut self.told, told);
-            tell(&mut self.told, name)?;
+            forget(&mut self.expected, mark);
+            add_name(&mut self.expected, name)?;
         }
         Ok(())
     }
 
-    /// Forgets all names that were told but so many of the first.
+    /// Drops all expected names but the first `mark`.
     #[inline(always)]
-    pub fn forget(&mut self, told: usize)
+    pub fn forget(&mut self, mark: usize)
         ensures frames { self.new.frames ≡ self.old.frames }
         ensures steps { self.new.steps ≡ self.old.steps }
-        ensures now { now_of self.new ≡ forgetting told (now_of self.old) }
+        ensures now { now_of self.new ≡ forgetting mark (now_of self.old) }
     {
-        forget(&mut self.told, told);
+        forget(&mut self.expected, mark);
     }
 
     /// Matches the end of the text, with a token.
@@ -177,23 +179,23 @@ impl<'a> Machine<'a> {
         ensures steps { self.new.steps ≡ self.old.steps }
         ensures goes_on { IfOk result (Progress scene.entry.now.text.now rest.entry.now) }
         ensures means { IfOk result
-            (GivesIn scene.entry.now (Run (mode_of mode) (Ident (codes "EOI")))
+            (HasResultIn scene.entry.now (Run (mode_of mode) (Ident (codes "EOI")))
             rest.entry.now self.old self.new) }
     {
         let seen = is_seen_from(mode);
         let place = scene.text.len() - rest.len();
         if !rest.is_empty() {
-            let told = count(&self.told);
-            self.note(scene, seen, "EOI", place, told)?;
+            let mark = count(&self.expected);
+            self.note(scene, seen, "EOI", place, mark)?;
             return Ok(None);
         }
-        let first = written(&self.entries);
+        let first = entry_count(&self.entries);
         open(&mut self.entries, seen, "EOI", place)?;
         close(&mut self.entries, seen, "EOI", first, place, place)?;
         Ok(Some(rest))
     }
 
-    /// The text on top of the stack.
+    /// Matches the text on top of the stack.
     fn peek(
         &mut self,
         scene: &Scene<'a>,
@@ -207,7 +209,7 @@ impl<'a> Machine<'a> {
         ensures stopped { IfErr result (λ stop. IsOutOfTexts stop self.old) }
         ensures goes_on { IfOk result (Progress scene.entry.now.text.now rest.entry.now) }
         ensures means { IfOk result
-            (GivesIn scene.entry.now (Run (mode_of mode) (Ident (codes "PEEK")))
+            (HasResultIn scene.entry.now (Run (mode_of mode) (Ident (codes "PEEK")))
             rest.entry.now self.old self.new) }
     {
         match &self.stack {
@@ -216,7 +218,7 @@ impl<'a> Machine<'a> {
         }
     }
 
-    /// The same, which is then taken off.
+    /// Matches the text on top of the stack, and pops it.
     fn pop(&mut self, scene: &Scene<'a>, mode: Mode, rest: &'a str) -> Result<Option<&'a str>, Stop>
         requires unnamed { rule_of (grammar_in scene.now) (codes "POP") ≡ None }
         requires left { IsLeft scene.now.text.now rest.now }
@@ -225,14 +227,14 @@ impl<'a> Machine<'a> {
         ensures stopped { IfErr result (λ stop. IsOutOfTexts stop self.old) }
         ensures goes_on { IfOk result (Progress scene.entry.now.text.now rest.entry.now) }
         ensures means { IfOk result
-            (GivesIn scene.entry.now (Run (mode_of mode) (Ident (codes "POP")))
+            (HasResultIn scene.entry.now (Run (mode_of mode) (Ident (codes "POP")))
             rest.entry.now self.old self.new) }
     {
         match &self.stack {
             Stack::Empty => Err(Stop::EmptyStack),
             Stack::Pushed(top, below) => match literal(top, rest) {
                 Some(after) => {
-                    let below = shared(below.as_ref())?;
+                    let below = share(below.as_ref())?;
                     self.stack = below;
                     Ok(Some(after))
                 }
@@ -241,7 +243,7 @@ impl<'a> Machine<'a> {
         }
     }
 
-    /// Takes the top text off.
+    /// Pops the text on top of the stack.
     fn discard(
         &mut self,
         scene: &Scene<'a>,
@@ -254,20 +256,20 @@ impl<'a> Machine<'a> {
         ensures steps { self.new.steps ≡ self.old.steps }
         ensures goes_on { IfOk result (Progress scene.entry.now.text.now rest.entry.now) }
         ensures means { IfOk result
-            (GivesIn scene.entry.now (Run (mode_of mode) (Ident (codes "DROP")))
+            (HasResultIn scene.entry.now (Run (mode_of mode) (Ident (codes "DROP")))
             rest.entry.now self.old self.new) }
     {
         match &self.stack {
             Stack::Empty => Ok(None),
             Stack::Pushed(_, below) => {
-                let below = shared(below.as_ref())?;
+                let below = share(below.as_ref())?;
                 self.stack = below;
                 Ok(Some(rest))
             }
         }
     }
 
-    /// All texts on the stack, from its top.
+    /// Matches all texts of the stack, from its top.
     fn peek_all(
         &mut self,
         scene: &Scene<'a>,
@@ -280,14 +282,14 @@ impl<'a> Machine<'a> {
         ensures steps { self.new.steps ≡ self.old.steps }
         ensures goes_on { IfOk result (Progress scene.entry.now.text.now rest.entry.now) }
         ensures means { IfOk result
-            (GivesIn scene.entry.now (Run (mode_of mode) (Ident (codes "PEEK_ALL")))
+            (HasResultIn scene.entry.now (Run (mode_of mode) (Ident (codes "PEEK_ALL")))
             rest.entry.now self.old self.new) }
     {
         let texts = texts_of(*self.entries.allocator(), &self.stack)?;
         Ok(literals(&texts, rest))
     }
 
-    /// The same, which are then taken off.
+    /// Matches all texts of the stack, from its top, and empties it.
     fn pop_all(
         &mut self,
         scene: &Scene<'a>,
@@ -300,7 +302,7 @@ impl<'a> Machine<'a> {
         ensures steps { self.new.steps ≡ self.old.steps }
         ensures goes_on { IfOk result (Progress scene.entry.now.text.now rest.entry.now) }
         ensures means { IfOk result
-            (GivesIn scene.entry.now (Run (mode_of mode) (Ident (codes "POP_ALL")))
+            (HasResultIn scene.entry.now (Run (mode_of mode) (Ident (codes "POP_ALL")))
             rest.entry.now self.old self.new) }
     {
         let texts = texts_of(*self.entries.allocator(), &self.stack)?;
@@ -313,7 +315,7 @@ impl<'a> Machine<'a> {
         }
     }
 
-    /// A slice of the stack, from its bottom.
+    /// Matches a slice of the stack, from its bottom.
     fn peek_slice(
         &mut self,
         scene: &Scene<'a>,
@@ -327,7 +329,7 @@ impl<'a> Machine<'a> {
         ensures steps { self.new.steps ≡ self.old.steps }
         ensures goes_on { IfOk result (Progress scene.entry.now.text.now rest.entry.now) }
         ensures means { IfOk result
-            (GivesIn scene.entry.now (Run (mode_of mode) (PeekSlice from to))
+            (HasResultIn scene.entry.now (Run (mode_of mode) (PeekSlice from to))
             rest.entry.now self.old self.new) }
     {
         let mut texts = texts_of(*self.entries.allocator(), &self.stack)?;
@@ -335,7 +337,7 @@ impl<'a> Machine<'a> {
         Ok(slice(&texts, from, to, rest))
     }
 
-    /// Puts a text on the stack.
+    /// Pushes a text on the stack.
     fn push_text(
         &mut self,
         scene: &Scene<'a>,
@@ -348,28 +350,28 @@ impl<'a> Machine<'a> {
         ensures steps { self.new.steps ≡ self.old.steps }
         ensures goes_on { IfOk result (Progress scene.entry.now.text.now rest.entry.now) }
         ensures means { IfOk result
-            (GivesIn scene.entry.now (Run (mode_of mode) (PushLiteral (text_of pushed_text.entry.now)))
+            (HasResultIn scene.entry.now (Run (mode_of mode) (PushLiteral (text_of pushed_text.entry.now)))
             rest.entry.now self.old self.new) }
     {
         let alloc = *self.entries.allocator();
-        let below = shared(&self.stack)?;
-        self.stack = pushed(alloc, pushed_text.as_str(), below)?;
+        let below = share(&self.stack)?;
+        self.stack = push_onto(alloc, pushed_text.as_str(), below)?;
         Ok(Some(rest))
     }
 
-    /// What there is.
+    /// Returns the state to restore.
     #[inline(always)]
-    pub fn saved(&self) -> Result<Saved<'a>, AllocError>
+    pub fn save(&self) -> Result<Saved<'a>, AllocError>
         ensures { IfOk result (λ saved. IsSaved saved (now_of self.now)) }
     {
-        let stack = shared(&self.stack)?;
+        let stack = share(&self.stack)?;
         Ok(Saved {
-            entries: written(&self.entries),
+            entries: entry_count(&self.entries),
             stack,
         })
     }
 
-    /// Puts back what there was.
+    /// Restores a state.
     #[inline(always)]
     pub fn back_to(&mut self, saved: Saved<'a>)
         ensures frames { self.new.frames ≡ self.old.frames }
@@ -382,8 +384,8 @@ impl<'a> Machine<'a> {
         self.stack = stack;
     }
 
-    /// Whether a call of a rule is refused at once, since its body cannot begin with the character that
-    /// stands here. Its failure is then noted.
+    /// Whether a call is refused by its first character, as its rule's first set shows. The failure is
+    /// recorded then.
     #[inline(always)]
     fn is_refused(
         &mut self,
@@ -407,14 +409,14 @@ impl<'a> Machine<'a> {
             return Ok(false);
         }
         let place = scene.text.len() - rest.len();
-        let told = count(&self.told);
+        let mark = count(&self.expected);
         let counts = call_counts(row.kind, mode);
-        self.note(scene, counts, row.name.as_str(), place, told)?;
+        self.note(scene, counts, row.name.as_str(), place, mark)?;
         Ok(true)
     }
 
-    /// Runs a form at once where `simple` does, and an option of such a form. The answer is what is left of
-    /// the text after it, or `None` where it fails. Another form with parts is left alone.
+    /// Runs a form without a frame if `simple` does, or an option of such a form. The answer is the
+    /// remaining input, or `None` for a failure. Other forms are left alone.
     #[inline]
     pub fn at_once(
         &mut self,
@@ -430,7 +432,7 @@ impl<'a> Machine<'a> {
         ensures steps { self.new.steps ≡ self.old.steps }
         ensures stopped { IfErr result (IsStuckAtOnce form.entry.now self.old) }
         ensures means { IfOk result
-            (ComesAtOnce scene.entry.now form.entry.now mode rest.entry.now self.old self.new) }
+            (LeadsAtOnce scene.entry.now form.entry.now mode rest.entry.now self.old self.new) }
     {
         match form {
             Form::Opt(body) => match self.simple(scene, body, mode, rest)? {
@@ -444,9 +446,9 @@ impl<'a> Machine<'a> {
         }
     }
 
-    /// Runs a form that has no parts, or is as many of a set as there are, and refuses a call where its rule
-    /// cannot begin here, at the front of a sequence too. The answer is what is left of the text after it, or
-    /// `None` where it fails. Another form with parts is left alone.
+    /// Runs a leaf expression, or a repetition of a set, and refuses a call whose rule cannot begin here,
+    /// also as the first form of a sequence. The answer is the remaining input, or `None` for a failure.
+    /// Other forms are left alone.
     #[inline]
     fn simple(
         &mut self,
@@ -462,7 +464,7 @@ impl<'a> Machine<'a> {
         ensures steps { self.new.steps ≡ self.old.steps }
         ensures stopped { IfErr result (IsStuckAtOnce form.entry.now self.old) }
         ensures means { IfOk result
-            (ComesAtOnce scene.entry.now form.entry.now mode rest.entry.now self.old self.new) }
+            (LeadsAtOnce scene.entry.now form.entry.now mode rest.entry.now self.old self.new) }
     {
         match form {
             Form::Str(literally) => Ok(AtOnce::Answered(literal(literally.as_str(), rest))),
@@ -486,8 +488,8 @@ impl<'a> Machine<'a> {
                 }
                 _ => Ok(AtOnce::Nested),
             },
-            Form::Rep(body) => Ok(repeated(scene, body, mode, rest)),
-            Form::RepOnce(body) => Ok(repeated_once(scene, body, mode, rest)),
+            Form::Rep(body) => Ok(repeat_set(scene, body, mode, rest)),
+            Form::RepOnce(body) => Ok(repeat_set_once(scene, body, mode, rest)),
             Form::Start => {
                 if rest.len() == scene.text.len() {
                     Ok(AtOnce::Answered(Some(rest)))
@@ -503,7 +505,7 @@ impl<'a> Machine<'a> {
             Form::Newline => Ok(AtOnce::Answered(newline(rest))),
             Form::Property(_, number) => {
                 let property = &scene.program.properties[*number];
-                Ok(AtOnce::Answered(within(&property.ranges, rest)))
+                Ok(AtOnce::Answered(one_in_ranges(&property.ranges, rest)))
             }
             Form::Skip(texts, stops) => Ok(AtOnce::Answered(Some(ahead_to(texts, stops, rest)))),
             Form::Peek => Ok(AtOnce::Answered(self.peek(scene, mode, rest)?)),

@@ -1,4 +1,4 @@
-//! Rules that are run on whole texts.
+//! The matcher's entry points: a rule is run on a text.
 ghost use Rattle.std.specs.Prelude.{◌≡◌, IfErr, IfNone, IfOk, IfSome, chars};
 ghost use Rattle.meta_ast.specs.Optimized.{optimized_rules_of};
 ghost use Rattle.meta_base.specs.Language.Expression.{rule_of};
@@ -16,21 +16,21 @@ use matcher_program::texts::same;
 use meta_ast::optimized::OptimizedRule;
 use std::alloc::Global;
 
-/// What a rule matched.
+/// The match of a rule.
 #[derive(Debug, Drop)]
 pub struct Found<'a> {
     /// The starts and the ends of the token trees, in the order of the text.
     pub entries: Vec<Entry<'a>>,
-    /// Where the match ended, in bytes.
+    /// The position after the match, in bytes.
     pub end: usize,
 }
 
-/// Why a text has no entries.
+/// The reason why a text has no entries.
 #[derive(Debug, Drop)]
 pub enum Refusal<'a> {
     /// No rule has this name.
     UnknownRule(&'a str),
-    /// The rule fails, and this is the furthest place at which a call that counts failed, in bytes.
+    /// The rule fails; the furthest position, in bytes, at which a call that counts failed.
     NoMatch(usize),
     /// The run was stopped.
     Stopped(Stop),
@@ -42,10 +42,10 @@ pub struct Matcher {
     pub program: Program,
 }
 
-/// No place of a text: at it nothing is told.
+/// A position outside every text, at which no names are collected.
 const NOWHERE: usize = usize::MAX;
 
-/// The number of the last row of a name.
+/// Returns the index of the last row of a name.
 fn find_row(rows: &[Row], name: &str) -> Option<usize>
     ensures { IsSkippedRule (grammar_of rows.now) (chars name.now) result }
 {
@@ -64,9 +64,9 @@ impl Matcher {
     ghost use Rattle.meta_matcher.specs.Endings.{EndsOn};
     ghost use Rattle.meta_matcher.specs.Machines.{IsSceneOf};
 
-    /// The rules, with each name resolved once: to the last rule of that name, or to a builtin where no rule
-    /// has it. Refused are a name in a body that is neither, or a property's that `properties` does not know,
-    /// and a bound of a range that is not one character; so is want of memory.
+    /// Compiles rules, and resolves every name once, to the last rule of that name, or to a builtin if no
+    /// rule has it. Errors: a name in a body that is neither, or a property's that `properties` does not
+    /// know; a bound of a range that is not one character; an allocation failure.
     pub fn new<P: Properties>(
         alloc: Global,
         rules: &[OptimizedRule],
@@ -82,8 +82,8 @@ impl Matcher {
         Ok(Matcher { program })
     }
 
-    /// The rule of a name and a text, with the place at which names are told: `None` where no rule has the
-    /// name.
+    /// Returns the scene of a rule on a text, with the position whose expected names are collected, or
+    /// `None` if no rule has the name.
     fn scene_of<'a>(&'a self, rule: &'a str, text: &'a str, asked: usize) -> Option<Scene<'a>>
         requires sound { IsSoundMatcher self.now }
         ensures known { IfSome result (IsSceneOf self.entry.now.program (chars rule.entry.now)
@@ -101,13 +101,13 @@ impl Matcher {
         })
     }
 
-    /// What the rule of a name matches in NonAtomic from the start of a text, with the empty stack, found in
-    /// so many steps at most: a step begins with a form, or takes an answer. Refused are a name that no rule
-    /// has, a text on which the rule fails, and what stops a run.
+    /// Matches the rule of a name in NonAtomic from the start of a text, with the empty stack, in at most
+    /// `steps` steps; a step begins a form, or takes an answer. Errors: a name that no rule has, a text on
+    /// which the rule fails, and a stopped run.
     ///
-    /// A run that has an outcome comes to it, but for want of memory, if it may take two steps for each rule
-    /// of the relation of matching that a derivation of the outcome applies. `PEEK` or `POP` on the empty
-    /// stack is met only where there is no outcome.
+    /// If the rule has an outcome on the text, the run finds it, unless an allocation fails, in two steps
+    /// for each application of a rule of the matching relation in a derivation of the outcome. `PEEK` or
+    /// `POP` on the empty stack is met only where there is no outcome.
     pub fn parse<'a>(
         &'a self,
         alloc: Global,
@@ -136,8 +136,8 @@ impl Matcher {
         }
     }
 
-    /// The same with no limit on the steps, for a rule that has an outcome on the text, as those of an
-    /// accepted plain grammar have on every text: only want of memory stops the run.
+    /// Matches as `parse` without a limit on the steps, for a rule that has an outcome on the text, as
+    /// those of an accepted plain grammar have on every text; only an allocation failure stops the run.
     pub fn parse_to_the_end<'a>(
         &'a self,
         alloc: Global,
@@ -173,16 +173,16 @@ impl Matcher {
         }
     }
 
-    /// The names that are expected at a place, in bytes, where the rule of a name is run on a text as by
-    /// `parse`: each once, in the order in which they are first called there. Where `parse` refuses a text by
-    /// `NoMatch` of that place, they are what would have let it get further.
+    /// Returns the names that are expected at `place`, in bytes, in a run as by `parse`, without
+    /// duplicates, in the order in which they are first called there. Where `parse` refuses a text by
+    /// `NoMatch` of that position, they are the rules that could have let the run get further.
     ///
-    /// A rule is expected at a place if a call of it that began there failed, gives a token, was made in a
-    /// mode other than Atomic and not below a `!`, and is within no other such call. So is `EOI`, where it
-    /// was asked for there. The list is empty where all that failed there stood below a `!`, or was no such
-    /// call.
+    /// A rule is expected at a position if a call of the rule that began there failed, gives a token, was
+    /// made in a mode other than Atomic and not below a `!`, and is within no other such call. So is `EOI`,
+    /// where it was asked for there. The list is empty if all that failed there was below a `!`, or was no
+    /// such call.
     ///
-    /// It is refused as by `parse`, but a text on which the rule fails has an answer.
+    /// Errors are those of `parse`, but a text on which the rule fails has an answer.
     pub fn expected_at<'a>(
         &'a self,
         alloc: Global,
@@ -202,7 +202,7 @@ impl Matcher {
         };
         let mut machine = Machine::new(alloc);
         match machine.run(&scene, steps) {
-            Ok(_) => Ok(machine.into_told()),
+            Ok(_) => Ok(machine.into_expected()),
             Err(stop) => Err(Refusal::Stopped(stop)),
         }
     }

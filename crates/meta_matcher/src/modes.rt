@@ -1,4 +1,4 @@
-//! What is skipped, and which rules give tokens.
+//! Atomicity: where implicit whitespace is skipped, and which rules give tokens.
 ghost use Rattle.std.specs.Prelude.{◌≡◌, ◌≤◌, ◌&&◌};
 ghost use Rattle.meta_ast.specs.Ast.{rule_type_of};
 ghost use Rattle.meta_base.specs.Language.Meaning.{gives_token, mode_in, seen_from};
@@ -34,7 +34,7 @@ pub fn gives_token(kind: RuleType, mode: Mode) -> bool
     }
 }
 
-/// Whether a failed call counts for the place.
+/// Whether a failed call counts for the furthest position.
 #[inline(always)]
 pub fn call_counts(kind: RuleType, mode: Mode) -> bool
     ensures { result ≡ (seen_from (mode_of mode) && gives_token (rule_type_of kind) (mode_of mode)) }
@@ -42,7 +42,7 @@ pub fn call_counts(kind: RuleType, mode: Mode) -> bool
     is_seen_from(mode) && gives_token(kind, mode)
 }
 
-/// The mode in which the body of a rule is run.
+/// Returns the mode in which the body of a rule is run.
 #[inline(always)]
 pub fn body_mode(kind: RuleType, blank: bool, mode: Mode) -> Mode
     ensures means { mode_of result ≡ mode_in (rule_type_of kind) blank (mode_of mode) }
@@ -55,9 +55,9 @@ pub fn body_mode(kind: RuleType, blank: bool, mode: Mode) -> Mode
     }
 }
 
-/// A failure, if it counts and is further than those before it.
+/// Returns the furthest failure, with one more at a position if it counts.
 #[inline(always)]
-pub fn noted(counts: bool, position: usize, furthest: usize) -> usize
+pub fn furthest_failure(counts: bool, position: usize, furthest: usize) -> usize
     ensures value { result ≡ noted counts position furthest }
 {
     if counts && furthest < position {

@@ -1,10 +1,10 @@
-//! The steps of a machine: what it does with the form at hand, and with an answer.
+//! The steps of a machine, each of which begins a form, or gives an answer to a continuation frame.
 ghost use Rattle.std.specs.Prelude.{◌≡◌, ◌+◌, ◌-◌, ◌*◌, ◌≤◌, IfErr, IfOk, OnOk, [], ◌∷◌, drop, length, reverse, take};
 ghost use Rattle.meta_ast.specs.Ast.{text_of};
 ghost use Rattle.meta_base.specs.Language.Expression.{Choice, Ident, NegPred, Opt, PosPred, Push, Rep, Seq, rule_of};
 ghost use Rattle.meta_base.specs.Language.Meaning.{Run};
 ghost use Rattle.meta_matcher.specs.Answers.{IsStopped};
-ghost use Rattle.meta_matcher.specs.Frames.{Awaits, Comes, Finishes, Follows, GivesFrom, IsAhead, IsBlank, IsBoundSecond, IsCall, IsComment, IsFirst, IsGap, IsLeftSide, IsNegated, IsNested, IsOnTheWay, IsOptional, IsPushed, IsResumed, IsRunning, IsSecond, IsStarting, Leads, Skips, comments, said_second, starting, top_of};
+ghost use Rattle.meta_matcher.specs.Frames.{Awaits, StepsLead, Finishes, Follows, HasResultFrom, IsAhead, IsBlank, IsBoundSecond, IsCall, IsComment, IsFirst, IsGap, IsLeftSide, IsNegated, IsNested, IsOnTheWay, IsOptional, IsPushed, IsResumed, IsRunning, IsSecond, IsStarting, Leads, Skips, comments, said_second, starting, top_of};
 ghost use Rattle.meta_matcher.specs.Endings.{classes_in};
 ghost use Rattle.meta_matcher.specs.Machines.{IsBoundIn, IsRowIn, IsSoundIn, grammar_in, names_within, now_of, round, said, steps_of};
 ghost use Rattle.matcher_program.specs.Programs.{Fits, rule_of_row};
@@ -12,19 +12,19 @@ ghost use Rattle.matcher_program.specs.Rests.{IsLeft};
 ghost use Rattle.meta_matcher.specs.Runs.{mode_of};
 
 use crate::ending::Ending;
-use crate::entries::{close, cut, open, written};
+use crate::entries::{close, cut, entry_count, open};
+use crate::expected_names::count;
 use crate::frames::{AtOnce, Called, Came, Control, Frame, Predicate, Saved, Second, Sequence};
 use crate::machine::{Machine, Scene, Steps, Stop};
 use crate::modes::{Mode, body_mode, call_counts, gives_token};
-use crate::skipping::passed;
-use crate::stack::{pushed, shared};
-use crate::told::count;
+use crate::skipping::skip_at_once;
+use crate::stack::{push_onto, share};
 use matcher_program::form::{Form, Row};
 use std::alloc::AllocError;
 
-/// What was taken of a text, of which this is left.
+/// Returns the part of the text that was taken, between two remaining inputs.
 #[inline(always)]
-fn taken<'a>(rest: &'a str, after: &'a str) -> &'a str
+fn text_between<'a>(rest: &'a str, after: &'a str) -> &'a str
     requires left { after.now ≡ drop (length rest.now - length after.now) rest.now }
     requires shorter { length after.now ≤ length rest.now }
     ensures { result.now ≡ take (length rest.entry.now - length after.entry.now) rest.entry.now }
@@ -33,7 +33,7 @@ fn taken<'a>(rest: &'a str, after: &'a str) -> &'a str
 }
 
 impl<'a> Machine<'a> {
-    /// Puts a frame on the list.
+    /// Pushes a frame.
     #[inline(always)]
     pub(crate) fn wait(&mut self, frame: Frame<'a>) -> Result<(), AllocError>
         ensures now { now_of self.new ≡ now_of self.old }
@@ -45,7 +45,7 @@ impl<'a> Machine<'a> {
         Ok(())
     }
 
-    /// Runs a form for a frame that waits for its answer, at once where the form has no parts.
+    /// Runs a form for a frame that waits for its answer, without the frame if `at_once` has the answer.
     #[inline(always)]
     fn enter(
         &mut self,
@@ -72,7 +72,7 @@ impl<'a> Machine<'a> {
         }
     }
 
-    /// A frame that was taken off the list gets its answer.
+    /// Gives a frame its answer, once the frame is popped.
     fn resume(
         &mut self,
         scene: &Scene<'a>,
@@ -91,7 +91,7 @@ impl<'a> Machine<'a> {
             Frame::Optional(rest) => Ok(self.after_optional(scene, rest, answer)),
             Frame::Turn(repetition) => Ok(self.after_turn(scene, repetition, answer)?),
             Frame::TurnGap(repetition) => Ok(self.after_turn_gap(scene, repetition, answer)?),
-            Frame::Not(predicate, told) => Ok(self.after_not(scene, predicate, told, answer)),
+            Frame::Not(predicate, mark) => Ok(self.after_not(scene, predicate, mark, answer)),
             Frame::Ahead(predicate) => Ok(self.after_ahead(scene, predicate, answer)),
             Frame::Push(rest) => Ok(self.after_push(scene, rest, answer)?),
             Frame::Call(called) => Ok(self.after_call(scene, called, answer)?),
@@ -100,7 +100,7 @@ impl<'a> Machine<'a> {
         }
     }
 
-    /// One form, the skipping, and another.
+    /// Runs a sequence: a form, the skipping, and another form.
     fn sequence(
         &mut self,
         scene: &Scene<'a>,
@@ -117,7 +117,7 @@ impl<'a> Machine<'a> {
             (Run (mode_of mode) (Seq (said scene.now first.now) (said_second scene.now second))) rest.now }
         ensures { Leads scene.entry.now self.new (steps_of self.old + 1) result }
     {
-        let saved = self.saved()?;
+        let saved = self.save()?;
         let sequence = Sequence {
             second,
             mode,
@@ -132,7 +132,7 @@ impl<'a> Machine<'a> {
         }
     }
 
-    /// A form of a sequence that is not the last has an answer.
+    /// Continues after a form of a sequence that is not the last.
     #[inline(always)]
     fn after_first(
         &mut self,
@@ -145,7 +145,7 @@ impl<'a> Machine<'a> {
         ensures { Leads scene.entry.now self.new (steps_of self.old + 1) result }
     {
         match answer {
-            Some(after) => match passed(scene, sequence.mode, after) {
+            Some(after) => match skip_at_once(scene, sequence.mode, after) {
                 Some(next) => self.second(scene, sequence, next),
                 None => {
                     self.wait(Frame::Gap(sequence))?;
@@ -159,7 +159,7 @@ impl<'a> Machine<'a> {
         }
     }
 
-    /// What lies between the forms of a sequence is skipped.
+    /// Continues after the skipping between the forms of a sequence.
     #[inline]
     fn after_gap(
         &mut self,
@@ -180,7 +180,7 @@ impl<'a> Machine<'a> {
         }
     }
 
-    /// Runs what comes second in a sequence.
+    /// Runs the second operand of a sequence.
     #[inline(always)]
     fn second(
         &mut self,
@@ -210,8 +210,8 @@ impl<'a> Machine<'a> {
         }
     }
 
-    /// Runs the forms of a sequence behind the first, for as long as they are matched at once. A form that
-    /// has parts is begun.
+    /// Runs the forms of a sequence after the first while they are matched without a frame, and begins the
+    /// first one that is not.
     fn further(
         &mut self,
         scene: &Scene<'a>,
@@ -233,7 +233,7 @@ impl<'a> Machine<'a> {
         'forms: while let Form::Seq(first, next) = form {
             match self.at_once(scene, first, mode, rest)? {
                 AtOnce::Answered(answer) => match answer {
-                    Some(after) => match passed(scene, mode, after) {
+                    Some(after) => match skip_at_once(scene, mode, after) {
                         Some(skipped) => {
                             form = next;
                             rest = skipped;
@@ -267,7 +267,7 @@ impl<'a> Machine<'a> {
         self.last(scene, form, mode, saved, rest)
     }
 
-    /// Runs the last form of a sequence, at once where it has no parts.
+    /// Runs the last form of a sequence, without a frame if it is a leaf.
     #[inline(always)]
     fn last(
         &mut self,
@@ -294,7 +294,7 @@ impl<'a> Machine<'a> {
         }
     }
 
-    /// The last form of a sequence has an answer.
+    /// Continues after the last form of a sequence.
     #[inline(always)]
     fn after_second(
         &mut self,
@@ -314,7 +314,7 @@ impl<'a> Machine<'a> {
         }
     }
 
-    /// The left side of a choice has an answer.
+    /// Continues after the left side of a choice.
     #[inline(always)]
     fn after_left(
         &mut self,
@@ -335,8 +335,8 @@ impl<'a> Machine<'a> {
         }
     }
 
-    /// Runs the alternatives of a choice behind the first, for as long as they fail at once. One that has
-    /// parts is begun.
+    /// Runs the alternatives of a choice after the first while they fail without a frame, and begins the
+    /// first one that needs a frame.
     fn alternatives(
         &mut self,
         scene: &Scene<'a>,
@@ -367,7 +367,7 @@ impl<'a> Machine<'a> {
         }
     }
 
-    /// The form of an option has an answer.
+    /// Continues after the form of an option.
     #[inline]
     fn after_optional(
         &mut self,
@@ -384,7 +384,7 @@ impl<'a> Machine<'a> {
         }
     }
 
-    /// Nothing, where a form fails.
+    /// Runs a negative predicate.
     fn negation(
         &mut self,
         scene: &Scene<'a>,
@@ -399,24 +399,24 @@ impl<'a> Machine<'a> {
             (Run (mode_of mode) (NegPred (said scene.now body.now))) rest.now }
         ensures { Leads scene.entry.now self.new (steps_of self.old + 1) result }
     {
-        let saved = self.saved()?;
-        let frame = Frame::Not(Predicate { rest, saved }, count(&self.told));
+        let saved = self.save()?;
+        let frame = Frame::Not(Predicate { rest, saved }, count(&self.expected));
         self.enter(scene, frame, body, mode, rest)
     }
 
-    /// The form of a negative predicate has an answer. What was told below it is forgotten.
+    /// Continues after the form of a negative predicate, and drops the names recorded below it.
     #[inline]
     fn after_not(
         &mut self,
         scene: &Scene<'a>,
         predicate: Predicate<'a>,
-        told: usize,
+        mark: usize,
         answer: Option<&'a str>,
     ) -> Control<'a>
-        requires follows { IsResumed scene.now self.old (IsNegated scene.now predicate told) answer }
+        requires follows { IsResumed scene.now self.old (IsNegated scene.now predicate mark) answer }
         ensures { IsOnTheWay scene.entry.now self.new (steps_of self.old + 1) result }
     {
-        self.forget(told);
+        self.forget(mark);
         match answer {
             Some(_) => {
                 self.back_to(predicate.saved);
@@ -426,7 +426,7 @@ impl<'a> Machine<'a> {
         }
     }
 
-    /// Nothing, where a form succeeds.
+    /// Runs a positive predicate.
     fn lookahead(
         &mut self,
         scene: &Scene<'a>,
@@ -441,12 +441,12 @@ impl<'a> Machine<'a> {
             (Run (mode_of mode) (PosPred (said scene.now body.now))) rest.now }
         ensures { Leads scene.entry.now self.new (steps_of self.old + 1) result }
     {
-        let saved = self.saved()?;
+        let saved = self.save()?;
         let frame = Frame::Ahead(Predicate { rest, saved });
         self.enter(scene, frame, body, mode, rest)
     }
 
-    /// The form of a positive predicate has an answer.
+    /// Continues after the form of a positive predicate.
     #[inline]
     fn after_ahead(
         &mut self,
@@ -466,7 +466,7 @@ impl<'a> Machine<'a> {
         }
     }
 
-    /// A form whose text is pushed has an answer.
+    /// Continues after a form whose text is pushed.
     fn after_push(
         &mut self,
         scene: &Scene<'a>,
@@ -478,17 +478,17 @@ impl<'a> Machine<'a> {
     {
         match answer {
             Some(after) => {
-                let taken = taken(rest, after);
+                let taken = text_between(rest, after);
                 let alloc = *self.entries.allocator();
-                let below = shared(&self.stack)?;
-                self.stack = pushed(alloc, taken, below)?;
+                let below = share(&self.stack)?;
+                self.stack = push_onto(alloc, taken, below)?;
                 Ok(Control::Answer(Some(after)))
             }
             None => Ok(Control::Answer(None)),
         }
     }
 
-    /// A call of a rule.
+    /// Calls a rule.
     #[inline(always)]
     fn call(
         &mut self,
@@ -506,8 +506,8 @@ impl<'a> Machine<'a> {
         ensures { IfOk result (IsOnTheWay scene.entry.now self.new (steps_of self.old + 1)) }
     {
         let place = scene.text.len() - rest.len();
-        let first = written(&self.entries);
-        let told = count(&self.told);
+        let first = entry_count(&self.entries);
+        let mark = count(&self.expected);
         let gives = gives_token(row.kind, mode);
         open(&mut self.entries, gives, row.name.as_str(), place)?;
         self.wait(Frame::Call(Called {
@@ -515,13 +515,13 @@ impl<'a> Machine<'a> {
             mode,
             place,
             first,
-            told,
+            expected_count: mark,
         }))?;
         let inner_mode = body_mode(row.kind, row.blank, mode);
         Ok(Control::Run(&row.body, inner_mode, rest))
     }
 
-    /// The body of a rule has an answer.
+    /// Continues after the body of a rule.
     #[inline(always)]
     fn after_call(
         &mut self,
@@ -537,7 +537,7 @@ impl<'a> Machine<'a> {
             mode,
             place,
             first,
-            told,
+            expected_count: mark,
         } = called;
         match answer {
             Some(after) => {
@@ -556,7 +556,7 @@ impl<'a> Machine<'a> {
             None => {
                 cut(&mut self.entries, first);
                 let counts = call_counts(row.kind, mode);
-                self.note(scene, counts, row.name.as_str(), place, told)?;
+                self.note(scene, counts, row.name.as_str(), place, mark)?;
                 Ok(Control::Answer(None))
             }
         }
@@ -602,7 +602,7 @@ impl<'a> Machine<'a> {
         }
     }
 
-    /// `WHITESPACE` has an answer.
+    /// Continues after `WHITESPACE`.
     #[inline]
     fn after_blank(
         &mut self,
@@ -620,7 +620,7 @@ impl<'a> Machine<'a> {
         }
     }
 
-    /// `COMMENT` has an answer.
+    /// Continues after `COMMENT`.
     #[inline]
     fn after_comment(
         &mut self,
@@ -638,7 +638,7 @@ impl<'a> Machine<'a> {
         }
     }
 
-    /// Begins with a form.
+    /// Begins a form.
     fn start(
         &mut self,
         scene: &Scene<'a>,
@@ -656,7 +656,7 @@ impl<'a> Machine<'a> {
         }
     }
 
-    /// Begins with the first part of a form that has parts.
+    /// Begins the first operand of a form that has operands.
     fn parts(
         &mut self,
         scene: &Scene<'a>,
@@ -694,7 +694,7 @@ impl<'a> Machine<'a> {
         }
     }
 
-    /// Goes on after so many rounds and a step, up to so many steps in all since those rounds.
+    /// Goes on from the first step after `rounds` rounds, for fewer than `steps` steps.
     fn go_on(
         &mut self,
         scene: &Scene<'a>,
@@ -704,7 +704,7 @@ impl<'a> Machine<'a> {
     ) -> Result<Came<'a>, Stop>
         requires sound { IsSoundIn scene.now }
         requires on_the_way { IsOnTheWay scene.now self.old (rounds * round + 1) first }
-        ensures { Comes scene.entry.now self.new (rounds * round + steps) result }
+        ensures { StepsLead scene.entry.now self.new (rounds * round + steps) result }
     {
         let mut control = first;
         'steps: for since in 1..steps {
@@ -721,9 +721,9 @@ impl<'a> Machine<'a> {
         Ok(Came::Going(control))
     }
 
-    /// Runs the scene's rule on its text, in NonAtomic, for so many steps at most, of which its call is the
-    /// first. The answer is what is left of the text after it, or `None` where it fails. Refused are want of
-    /// memory, a run of more steps, and `PEEK` or `POP` on the empty stack, after which there is no outcome.
+    /// Runs the scene's rule on its text, in NonAtomic, for at most `steps` steps, of which the call is the
+    /// first. Returns the remaining input, or `None` if the rule fails. Errors: an allocation failure, too
+    /// many steps, and `PEEK` or `POP` on the empty stack, after which there is no outcome.
     pub fn run(&mut self, scene: &Scene<'a>, steps: u64) -> Result<Option<&'a str>, Stop>
         requires sound { IsSoundIn scene.now }
         requires row { IsRowIn scene.now scene.now.row.now }
@@ -732,7 +732,8 @@ impl<'a> Machine<'a> {
         requires fresh { now_of self.old ≡ (top_of scene.now).now }
         requires no_frames { self.old.frames.items ≡ [] }
         requires no_steps { steps_of self.old ≡ 0 }
-        ensures gives { IfOk result (GivesFrom scene.entry.now (top_of scene.entry.now) (now_of self.new)) }
+        ensures gives { IfOk result
+            (HasResultFrom scene.entry.now (top_of scene.entry.now) (now_of self.new)) }
         ensures stopped { IfErr result (IsStopped (grammar_in scene.entry.now)
             scene.entry.now.program.now.properties.items (text_of scene.entry.now.row.now.name)
             scene.entry.now.text.now steps) }
@@ -744,8 +745,8 @@ impl<'a> Machine<'a> {
         }
     }
 
-    /// The same for a text that has an outcome: it has no limit, and only want of memory stops it. It counts
-    /// rounds of steps, which takes a byte each.
+    /// Runs as `run` on a text that has an outcome, without a limit; only an allocation failure stops the
+    /// run. Rounds of steps are counted, which takes a byte each.
     pub fn run_to_the_end(&mut self, ending: &Ending<'a>) -> Result<Option<&'a str>, AllocError>
         requires sound { IsSoundIn ending.now.scene }
         requires row { IsRowIn ending.now.scene ending.now.scene.row.now }
@@ -756,7 +757,7 @@ impl<'a> Machine<'a> {
         requires fresh { now_of self.old ≡ (top_of ending.now.scene).now }
         requires no_frames { self.old.frames.items ≡ [] }
         requires no_steps { steps_of self.old ≡ 0 }
-        ensures { IfOk result (GivesFrom ending.entry.now.scene (top_of ending.entry.now.scene)
+        ensures { IfOk result (HasResultFrom ending.entry.now.scene (top_of ending.entry.now.scene)
             (now_of self.new)) }
     {
         let mut control = self.call(

@@ -1,4 +1,4 @@
-//! What is skipped at once, and what is matched at once where nothing is skipped.
+//! Implicit whitespace skipped without a frame, and repetitions of sets where nothing is skipped.
 ghost use Rattle.std.specs.Prelude.{◌≡◌, ℕ, IfNone, IfSome, true};
 ghost use Rattle.meta_base.specs.Language.Expression.{Rep, RepOnce};
 ghost use Rattle.meta_base.specs.Language.Meaning.{Skipping};
@@ -7,7 +7,7 @@ ghost use Rattle.meta_matcher.specs.Frames.{FindsFrom, starting};
 ghost use Rattle.meta_matcher.specs.Machines.{IsBoundIn, IsSoundIn, said};
 ghost use Rattle.matcher_program.specs.Rests.{IsLeft};
 ghost use Rattle.meta_matcher.specs.Runs.{Now, mode_of};
-ghost use Rattle.meta_matcher.specs.Tight.{GivesAtOnce, IsTight};
+ghost use Rattle.meta_matcher.specs.Tight.{HasPureResult, IsTight};
 
 use crate::frames::AtOnce;
 use crate::machine::Scene;
@@ -34,12 +34,17 @@ fn is_tight(scene: &Scene<'_>, mode: Mode) -> bool
     }
 }
 
-/// As many of a form as there are, where it is a set and nothing is skipped.
-pub(crate) fn repeated<'a>(scene: &Scene<'_>, body: &Form, mode: Mode, rest: &'a str) -> AtOnce<'a>
+/// Matches as many of a form as there are, if it is a set and nothing is skipped.
+pub(crate) fn repeat_set<'a>(
+    scene: &Scene<'_>,
+    body: &Form,
+    mode: Mode,
+    rest: &'a str,
+) -> AtOnce<'a>
     requires sound { IsSoundIn scene.now }
     requires bound { IsBoundIn scene.now body.now }
     requires left { IsLeft scene.now.text.now rest.now }
-    ensures { GivesAtOnce scene.now (Rep (said scene.now body.now)) mode rest.entry.now result }
+    ensures { HasPureResult scene.now (Rep (said scene.now body.now)) mode rest.entry.now result }
 {
     match body {
         Form::Set(flags, form) => {
@@ -52,8 +57,8 @@ pub(crate) fn repeated<'a>(scene: &Scene<'_>, body: &Form, mode: Mode, rest: &'a
     }
 }
 
-/// One or more of a form, where it is a set and nothing is skipped.
-pub(crate) fn repeated_once<'a>(
+/// Matches one or more of a form, if it is a set and nothing is skipped.
+pub(crate) fn repeat_set_once<'a>(
     scene: &Scene<'_>,
     body: &Form,
     mode: Mode,
@@ -62,7 +67,7 @@ pub(crate) fn repeated_once<'a>(
     requires sound { IsSoundIn scene.now }
     requires bound { IsBoundIn scene.now body.now }
     requires left { IsLeft scene.now.text.now rest.now }
-    ensures { GivesAtOnce scene.now (RepOnce (said scene.now body.now)) mode rest.entry.now result }
+    ensures { HasPureResult scene.now (RepOnce (said scene.now body.now)) mode rest.entry.now result }
 {
     match body {
         Form::Set(flags, form) => {
@@ -78,9 +83,10 @@ pub(crate) fn repeated_once<'a>(
     }
 }
 
-/// What is left behind the blanks, where there are no comments, and a blank is one character without a token.
+/// Returns the remaining input after the blanks, if there are no comments and a blank is one character
+/// without a token.
 #[inline]
-fn blanks_passed<'a>(scene: &Scene<'_>, rest: &'a str) -> Option<&'a str>
+fn skip_blanks<'a>(scene: &Scene<'_>, rest: &'a str) -> Option<&'a str>
     requires sound { IsSoundIn scene.now }
     requires left { IsLeft scene.now.text.now rest.now }
     ensures { IfSome result (λ after. (now : Now) (n : ℕ) → FindsFrom scene.now
@@ -101,9 +107,9 @@ fn blanks_passed<'a>(scene: &Scene<'_>, rest: &'a str) -> Option<&'a str>
     }
 }
 
-/// What is left behind what is skipped in a mode, where that is found at once.
+/// Returns the remaining input after the skipping in a mode, if that needs no frame.
 #[inline(always)]
-pub(crate) fn passed<'a>(scene: &Scene<'_>, mode: Mode, rest: &'a str) -> Option<&'a str>
+pub(crate) fn skip_at_once<'a>(scene: &Scene<'_>, mode: Mode, rest: &'a str) -> Option<&'a str>
     requires sound { IsSoundIn scene.now }
     requires left { IsLeft scene.now.text.now rest.now }
     ensures later { IfNone result (mode_of mode ≡ NonAtomicMode) }
@@ -111,7 +117,7 @@ pub(crate) fn passed<'a>(scene: &Scene<'_>, mode: Mode, rest: &'a str) -> Option
         (starting (Skipping (mode_of mode)) rest.entry.now now n) now after.now) }
 {
     match mode {
-        Mode::NonAtomic => blanks_passed(scene, rest),
+        Mode::NonAtomic => skip_blanks(scene, rest),
         Mode::Atomic | Mode::CompoundAtomic => Some(rest),
     }
 }

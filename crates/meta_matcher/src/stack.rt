@@ -1,17 +1,17 @@
-//! The stack of texts, as a list that is shared.
+//! The stack of texts, as a shared list.
 ghost use Rattle.std.specs.Prelude.{◌≡◌, ◌∷◌, IfOk, chars, map};
 ghost use Rattle.meta_matcher.specs.Stacked.{stack_of};
 
 use std::alloc::{AllocError, Global};
 use std::rc::Rc;
 
-/// A stack: its top, and those below it.
+/// A stack: its top, and the stack below it.
 pub enum Stack<'a> {
     Empty,
     Pushed(&'a str, Rc<Stack<'a>>),
 }
 
-/// Goes by a loop, down to what is still shared.
+/// Drops iteratively, down to the first part that is still shared.
 impl Drop for Stack<'_> {
     #[inline]
     fn drop(mut self) {
@@ -27,9 +27,9 @@ impl Drop for Stack<'_> {
     }
 }
 
-/// The same stack again.
+/// Copies a stack, in constant time.
 #[inline(always)]
-pub fn shared<'a>(stack: &Stack<'a>) -> Result<Stack<'a>, AllocError>
+pub fn share<'a>(stack: &Stack<'a>) -> Result<Stack<'a>, AllocError>
     ensures { IfOk result (λ copy. stack_of copy ≡ stack_of stack.now) }
 {
     match stack {
@@ -38,14 +38,18 @@ pub fn shared<'a>(stack: &Stack<'a>) -> Result<Stack<'a>, AllocError>
     }
 }
 
-/// One more text on top.
-pub fn pushed<'a>(alloc: Global, text: &'a str, below: Stack<'a>) -> Result<Stack<'a>, AllocError>
+/// Returns the stack with one more text on top.
+pub fn push_onto<'a>(
+    alloc: Global,
+    text: &'a str,
+    below: Stack<'a>,
+) -> Result<Stack<'a>, AllocError>
     ensures { IfOk result (λ more. stack_of more ≡ chars text.entry.now ∷ stack_of below.entry) }
 {
     Ok(Stack::Pushed(text, Rc::new(alloc, below)?))
 }
 
-/// The texts of a stack, from its top.
+/// Returns the texts of a stack, from its top.
 pub fn texts_of<'a>(alloc: Global, stack: &Stack<'a>) -> Result<Vec<&'a str>, AllocError>
     ensures { IfOk result (λ texts. map (λ t. chars t.now) texts.items ≡ stack_of stack.now) }
 {

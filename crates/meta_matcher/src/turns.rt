@@ -1,4 +1,4 @@
-//! Repetitions: turns of a form, with what is skipped before each but the first.
+//! Repetitions: turns of a form, with the skipping before each but the first.
 ghost use Rattle.std.specs.Prelude.{◌+◌, IfOk};
 ghost use Rattle.meta_base.specs.Language.Expression.{Rep};
 ghost use Rattle.meta_base.specs.Language.Meaning.{Run, Turns};
@@ -10,12 +10,12 @@ ghost use Rattle.meta_matcher.specs.Runs.{mode_of};
 use crate::frames::{Control, Frame, Repetition};
 use crate::machine::{Machine, Scene};
 use crate::modes::Mode;
-use crate::skipping::passed;
+use crate::skipping::skip_at_once;
 use matcher_program::form::Form;
 use std::alloc::AllocError;
 
 impl<'a> Machine<'a> {
-    /// As many turns as there are.
+    /// Runs as many turns as match.
     pub(crate) fn repetition(
         &mut self,
         scene: &Scene<'a>,
@@ -30,7 +30,7 @@ impl<'a> Machine<'a> {
             rest.now (now_of self.old) (steps_of self.old))) }
         ensures { IfOk result (IsOnTheWay scene.entry.now self.new (steps_of self.old + 1)) }
     {
-        let saved = self.saved()?;
+        let saved = self.save()?;
         let repetition = Repetition {
             body,
             mode,
@@ -60,7 +60,7 @@ impl<'a> Machine<'a> {
         Ok(Control::Run(body, mode, rest))
     }
 
-    /// The form of a repetition has an answer.
+    /// Continues after the form of a repetition.
     #[inline]
     pub(crate) fn after_turn(
         &mut self,
@@ -81,7 +81,7 @@ impl<'a> Machine<'a> {
         }
     }
 
-    /// One more turn, with what is skipped before it.
+    /// Runs one more turn, with the skipping before it.
     #[inline]
     fn next_turn(
         &mut self,
@@ -98,14 +98,14 @@ impl<'a> Machine<'a> {
             rest.now (now_of self.old) (steps_of self.old))) }
         ensures { IfOk result (IsOnTheWay scene.entry.now self.new (steps_of self.old + 1)) }
     {
-        let saved = self.saved()?;
+        let saved = self.save()?;
         let repetition = Repetition {
             body,
             mode,
             rest,
             saved,
         };
-        match passed(scene, mode, rest) {
+        match skip_at_once(scene, mode, rest) {
             Some(next) => self.turn(scene, repetition, next),
             None => {
                 self.wait(Frame::TurnGap(repetition))?;
@@ -114,7 +114,7 @@ impl<'a> Machine<'a> {
         }
     }
 
-    /// What lies before the form of a repetition is skipped.
+    /// Continues after the skipping before the form of a repetition.
     #[inline]
     pub(crate) fn after_turn_gap(
         &mut self,

@@ -7,7 +7,7 @@ use Rattle.std.proofs.lemmas.List.{map-append, drop_all}
 use Rattle.std.proofs.Math.Bool.{or-false}
 use Rattle.meta_base.specs.Language.Text.{Text}
 use Rattle.meta_base.specs.Language.Builtins.{is_one_of}
-use Rattle.meta_base.specs.Pieces.Saying.{Span, Complaint, SaysAt, Tell, piece_of, written}
+use Rattle.meta_base.specs.Pieces.Saying.{Span, Complaint, IsErrorAt, AreErrorsFor, piece_of, written}
 use Rattle.meta_base.specs.declared.grammar.Rule.{Rule}
 use Rattle.meta_base.specs.declared.runtime.errors.Error.{Error}
 use Rattle.meta_base.specs.declared.runtime.places.Span as code
@@ -121,30 +121,30 @@ first_less all before found x rest others e b a =
     a ∙ ap (λ r. map now found ++ map written r) (ap (first_places before) e ∙ first_none before x others b)
 
 -- one more error, at the first of the places that are left
-pub told_more : (before after : Text) (all : List Complaint) (rest others : List Span) (x : Span) (errors : List (Error Rule)) (e : Error Rule) → rest ≡ x ∷ others → SaysAt (before ++ written x ++ after) x e
-    → ((more : List (Error Rule)) → Tell (said before after rest) more → Tell all (errors ++ more))
-    → (more : List (Error Rule)) → Tell (said before after others) more → Tell all ((errors ++ e ∷ []) ++ more)
+pub told_more : (before after : Text) (all : List Complaint) (rest others : List Span) (x : Span) (errors : List (Error Rule)) (e : Error Rule) → rest ≡ x ∷ others → IsErrorAt (before ++ written x ++ after) x e
+    → ((more : List (Error Rule)) → AreErrorsFor (said before after rest) more → AreErrorsFor all (errors ++ more))
+    → (more : List (Error Rule)) → AreErrorsFor (said before after others) more → AreErrorsFor all ((errors ++ e ∷ []) ++ more)
 told_more before after all rest others x errors e left s told more t = rw append_assoc (told (e ∷ more) (rw left (s, t)))
 
 -- where there is no place, nothing is said
-pub nothing_said : (before after : Text) (places : List code.Span) → (length places == 0) ≡ true → Tell (said before after (map piece_of places)) []
+pub nothing_said : (before after : Text) (places : List code.Span) → (length places == 0) ≡ true → AreErrorsFor (said before after (map piece_of places)) []
 nothing_said before after [] e = tt
 nothing_said before after (x ∷ places) e = absurd (grind (arith, nat_tests, e))
 
 -- errors that tell one thing after another
-pub tell_both : (xs ys : List Complaint) (es fs : List (Error Rule)) → Tell xs es → Tell ys fs → Tell (xs ++ ys) (es ++ fs)
+pub tell_both : (xs ys : List Complaint) (es fs : List (Error Rule)) → AreErrorsFor xs es → AreErrorsFor ys fs → AreErrorsFor (xs ++ ys) (es ++ fs)
 tell_both [] ys [] fs h k = k
 tell_both [] ys (e ∷ es) fs h k = absurd h
 tell_both (x ∷ xs) ys [] fs h k = absurd h
 tell_both (x ∷ xs) ys (e ∷ es) fs h k = (h.0, tell_both xs ys es fs h.1 k)
 
 -- errors are told where there is something to say
-pub tell_none : (xs : List Complaint) (es : List (Error Rule)) → Tell xs es → es ≡ [] → xs ≡ []
+pub tell_none : (xs : List Complaint) (es : List (Error Rule)) → AreErrorsFor xs es → es ≡ [] → xs ≡ []
 tell_none [] es h e = refl
 tell_none (x ∷ xs) [] h e = absurd h
 tell_none (x ∷ xs) (f ∷ es) h e = cc
 
-pub tell_some : (xs : List Complaint) (es : List (Error Rule)) → Tell xs es → xs ≡ [] → es ≡ []
+pub tell_some : (xs : List Complaint) (es : List (Error Rule)) → AreErrorsFor xs es → xs ≡ [] → es ≡ []
 tell_some [] [] h e = refl
 tell_some [] (f ∷ es) h e = absurd h
 tell_some (x ∷ xs) es h e = cc

@@ -16,7 +16,7 @@ use Rattle.meta_base.specs.declared.runtime.trees.TokenTree.{TokenTree}
 use Rattle.meta_base.proofs.MetaNames.{name_of-injective}
 use Rattle.meta_base.proofs.PairLemmas.{AreNested-le}
 use Rattle.meta_names.specs.GrammarNames.{own_name, names_in}
-use Rattle.meta_names.specs.Standing.{TokenTreesStandIn}
+use Rattle.meta_names.specs.Standing.{AreTreesWithin}
 
 -- another rule has another name
 pub name_differs : (r q : Rule) → ¬ (r ≡ q) → bytes_eq (name_of r) (name_of q) ≡ false
@@ -27,19 +27,19 @@ no_own_name text r i j d = ap (λ b. if b then piece text i j ∷ [] else []) (n
 
 -- where the first of some trees stands, and what is in it and behind it
 module _ {text : List ℕ} {r : Rule} {a b : ℕ} {inner others : TokenTrees Rule} where
-  pub first_order : TokenTreesStandIn text (Token r a b inner others) → a ≤ b
+  pub first_order : AreTreesWithin text (Token r a b inner others) → a ≤ b
   first_order h = AreNested-le text inner a b h.nested.1.0
 
-  pub first_start : TokenTreesStandIn text (Token r a b inner others) → IsCharBoundary text a
+  pub first_start : AreTreesWithin text (Token r a b inner others) → IsCharBoundary text a
   first_start h = h.nested.0.1.0
 
-  pub first_end : TokenTreesStandIn text (Token r a b inner others) → IsCharBoundary text b
+  pub first_end : AreTreesWithin text (Token r a b inner others) → IsCharBoundary text b
   first_end h = h.nested.0.1.1
 
-  pub stand_inner : TokenTreesStandIn text (Token r a b inner others) → TokenTreesStandIn text inner
+  pub stand_inner : AreTreesWithin text (Token r a b inner others) → AreTreesWithin text inner
   stand_inner h = record { from = a; to = b; nested = h.nested.1.0 }
 
-  pub stand_behind : TokenTreesStandIn text (Token r a b inner others) → TokenTreesStandIn text others
+  pub stand_behind : AreTreesWithin text (Token r a b inner others) → AreTreesWithin text others
   stand_behind h = record { from = b; to = h.to; nested = h.nested.1.1 }
 
 -- a slice of the code's trees
@@ -57,9 +57,9 @@ waiting_count ws = fold (λ n w. count_of (named_trees_of w.now) + n) 0 ws
 -- trees that wait, the last of them to be taken first, stand in the text
 abbrev pub AllStand : List ℕ → List Slice → Type 0
 AllStand text [] = ⊤
-AllStand text (w ∷ ws) = TokenTreesStandIn text (trees_of w.now) × AllStand text ws
+AllStand text (w ∷ ws) = AreTreesWithin text (trees_of w.now) × AllStand text ws
 
-pub all_stand-push : (text : List ℕ) (ws : List Slice) (w : Slice) → AllStand text ws → TokenTreesStandIn text (trees_of w.now) → AllStand text (ws ++ w ∷ [])
+pub all_stand-push : (text : List ℕ) (ws : List Slice) (w : Slice) → AllStand text ws → AreTreesWithin text (trees_of w.now) → AllStand text (ws ++ w ∷ [])
 all_stand-push text [] w h s = (s, tt)
 all_stand-push text (v ∷ ws) w h s = (h.0, all_stand-push text ws w h.1 s)
 
@@ -67,7 +67,7 @@ pub all_stand-rest : (text : List ℕ) (ws : List Slice) (w : Slice) → AllStan
 all_stand-rest text [] w h = tt
 all_stand-rest text (v ∷ ws) w h = (h.0, all_stand-rest text ws w h.1)
 
-pub all_stand-last : (text : List ℕ) (ws : List Slice) (w : Slice) → AllStand text (ws ++ w ∷ []) → TokenTreesStandIn text (trees_of w.now)
+pub all_stand-last : (text : List ℕ) (ws : List Slice) (w : Slice) → AllStand text (ws ++ w ∷ []) → AreTreesWithin text (trees_of w.now)
 all_stand-last text [] w h = h.0
 all_stand-last text (v ∷ ws) w h = all_stand-last text ws w h.1
 

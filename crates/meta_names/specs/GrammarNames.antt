@@ -1,11 +1,11 @@
--- The names that a grammar's text defines and calls, and what is said of them.
+-- The names that a grammar's text defines and calls, and the errors about them.
 use Rattle.std.specs.Prelude.{◌≡◌, ◌≢◌, ℕ, List, [], ◌∷◌, ◌++◌, if◌then◌else◌, map, bytes_eq, codes, ⊤}
 use Rattle.std.specs.Borrow.{Bor}
 use Rattle.meta_base.specs.Language.Text.{Text}
 use Rattle.meta_base.specs.Language.State.{Trees, None', Tree}
 use Rattle.meta_base.specs.Pieces.NamedTrees.{named}
 use Rattle.meta_base.specs.Pieces.Pairs.{pairs_text, pairs_trees}
-use Rattle.meta_base.specs.Pieces.Saying.{Span, piece, written, Complaint, Tell}
+use Rattle.meta_base.specs.Pieces.Saying.{Span, piece, written, Complaint, AreErrorsFor}
 use Rattle.meta_base.specs.declared.grammar.Rule.{Rule}
 use Rattle.meta_base.specs.declared.runtime.faults.Fault.{Fault}
 use Rattle.meta_base.specs.declared.runtime.faults.Fault.TheVariants as fault_is
@@ -13,7 +13,7 @@ use Rattle.meta_base.specs.declared.runtime.tokens.Pairs.{Pairs}
 use Rattle.meta_names.specs.Names.{first_places, pest_keyword_complaints, duplicate_complaints, undefined_complaints}
 
 module _ (text : List ℕ) where
-  -- a tree's own name: where it stands, if its rule is `identifier`
+  -- a tree's own name: its piece, if its rule is `identifier`
   abbrev pub own_name : Text → ℕ → ℕ → List Span
   own_name r i j = if bytes_eq r (codes "identifier") then piece text i j ∷ [] else []
 
@@ -22,29 +22,29 @@ module _ (text : List ℕ) where
   names_in None' = []
   names_in (Tree r i j inner others) = own_name r i j ++ (names_in inner ++ names_in others)
 
-  -- what the trees of a rule define: the name that they begin with
+  -- the names that the trees of a rule define: the one that they begin with
   abbrev pub defined_by : Trees → List Span
   defined_by None' = []
   defined_by (Tree r i j inner others) = own_name r i j
 
-  -- what they call: the names behind it
+  -- the names that they call, after the first tree
   abbrev pub called_by : Trees → List Span
   called_by None' = []
   called_by (Tree r i j inner others) = names_in others
 
-  -- what the rules of a grammar define
+  -- the names that the rules of a grammar define
   abbrev pub definitions : Trees → List Span
   definitions None' = []
   definitions (Tree r i j inner others) =
       (if bytes_eq r (codes "grammar_rule") then defined_by inner else []) ++ definitions others
 
-  -- what they call
+  -- the names that they call
   abbrev pub calls : Trees → List Span
   calls None' = []
   calls (Tree r i j inner others) =
       (if bytes_eq r (codes "grammar_rule") then called_by inner else []) ++ calls others
 
--- what is said of a grammar's names: first of keywords, then of duplicates, then of undefined names
+-- the errors about a grammar's names: first keywords, then duplicates, then undefined names
 abbrev pub name_complaints : List Span → List Span → List Complaint
 name_complaints definitions calls =
     pest_keyword_complaints definitions ++ duplicate_complaints definitions
@@ -54,7 +54,7 @@ name_complaints definitions calls =
 abbrev pub first_calls : List Span → List Span → List Span
 first_calls definitions calls = first_places (map written definitions) calls
 
--- the same of the pairs of a grammar's text
+-- the names that the pairs of a grammar's text define
 abbrev pub definitions_of : Pairs Rule → List Span
 definitions_of pairs = definitions (pairs_text pairs) (named (pairs_trees pairs))
 
@@ -67,11 +67,11 @@ complaints_of pairs = name_complaints (definitions_of pairs) (calls_of pairs)
 abbrev pub first_calls_of : Pairs Rule → List Span
 first_calls_of pairs = first_calls (definitions_of pairs) (calls_of pairs)
 
--- the texts are those that are written at these places
+-- the texts are those of these pieces
 abbrev pub AreWrittenAt : List Span → List (Bor (List ℕ)) → Type 0
 AreWrittenAt places texts = map (λ t. t.now) texts ≡ map written places
 
--- want of memory, or just what there is to say, which is something
+-- allocation failure, or just the errors that there are, at least one
 abbrev pub IsNameRefusal : List Complaint → Fault → Type 0
 IsNameRefusal complaints (fault_is.Memory e) = ⊤
-IsNameRefusal complaints (fault_is.Grammar errors) = (complaints ≢ []) × Tell complaints errors.items
+IsNameRefusal complaints (fault_is.Grammar errors) = (complaints ≢ []) × AreErrorsFor complaints errors.items

@@ -22,6 +22,6 @@ HasNames names set =
 abbrev pub is_unknown : NameSet → Text → Bool
 is_unknown set name = not (contains_by (λ k. bytes_eq name k.now) set) && not (is_builtin name)
 
--- the same of the name that is written there
+-- whether the name of a piece is not in the set
 abbrev pub is_outside : NameSet → Span → Bool
 is_outside set place = is_unknown set (written place)

@@ -1,4 +1,4 @@
--- The names that no rule may have, and the names that some places write.
+-- The names that no rule may have, and the names of some pieces.
 use Rattle.std.specs.Prelude.{◌≡◌, ⊤, ℕ, List, [], ◌∷◌, ◌++◌, Bool, not, ◌&&◌, if◌then◌else◌, is_some, map, filter, codes}
 use Rattle.meta_base.specs.Language.Text.{Text}
 use Rattle.meta_base.specs.Language.Builtins.{is_one_of, builtin_of}
@@ -22,23 +22,23 @@ rust_keywords =
 abbrev pub is_builtin : Text → Bool
 is_builtin name = is_some (builtin_of name)
 
--- all these places are in this text
+-- all these pieces are in this text
 abbrev pub AreIn : List ℕ → List Span → Type 0
 AreIn text [] = ⊤
 AreIn text (place ∷ places) = (place.text ≡ text) × AreIn text places
 
--- the places whose names are among these
+-- the pieces whose names are among these
 abbrev pub places_of : List Text → List Span → List Span
 places_of names places = filter (λ place. is_one_of names (written place)) places
 
--- the places whose names stand at a place before them, or are among these
+-- the pieces whose names occur at an earlier piece, or are among these
 abbrev pub later_places : List Text → List Span → List Span
 later_places before [] = []
 later_places before (place ∷ places) =
     if is_one_of before (written place) then place ∷ later_places (written place ∷ before) places
     else later_places (written place ∷ before) places
 
--- the other places: the first of each name that is not among these
+-- the other pieces, the first of each name that is not among these
 abbrev pub first_places : List Text → List Span → List Span
 first_places before [] = []
 first_places before (place ∷ places) =
@@ -52,7 +52,7 @@ undefined_calls definitions calls =
     && not (is_builtin (written call)))
     calls
 
--- the same of the name at each place, between two words
+-- an error about the name of each piece, between two words
 abbrev pub said : Text → Text → List Span → List Complaint
 said before after places =
     map (λ place. record { message = before ++ written place ++ after; span = place }) places
@@ -72,7 +72,7 @@ abbrev pub duplicate_complaints : List Span → List Complaint
 duplicate_complaints definitions =
     said (codes "rule ") (codes " already defined") (later_places [] definitions)
 
--- calls of what is neither defined nor a builtin
+-- calls of names that are neither defined nor a builtin
 abbrev pub undefined_complaints : List Span → List Span → List Complaint
 undefined_complaints definitions calls =
     said (codes "rule ") (codes " is undefined") (undefined_calls definitions calls)

@@ -6,13 +6,13 @@ ghost use Rattle.meta_base.specs.Pieces.NamedTrees.{named_trees_of};
 ghost use Rattle.meta_base.specs.Pieces.Saying.{piece, piece_of};
 ghost use Rattle.meta_base.specs.Pieces.TreeViews.{trees_of};
 ghost use Rattle.meta_names.specs.GrammarNames as spec;
-ghost use Rattle.meta_names.specs.Standing.{StandsIn, TokenTreesStandIn};
+ghost use Rattle.meta_names.specs.Standing.{IsTreeWithin, AreTreesWithin};
 
 use meta_base::grammar::Rule;
 use meta_base::runtime::{FirstTree, Span, TokenTree, first_tree};
 use std::alloc::{AllocError, Global};
 
-/// The piece of the text from the byte `start` to the byte `end`.
+/// Returns the piece of the text from the byte `start` to the byte `end`.
 fn place<'i>(text: &'i str, start: usize, end: usize) -> Span<'i>
     requires ordered { start ≤ end }
     requires starts_at_character { IsCharBoundary text.now start }
@@ -22,13 +22,13 @@ fn place<'i>(text: &'i str, start: usize, end: usize) -> Span<'i>
     Span::new(text, start, end).unwrap()
 }
 
-/// Adds the place of a tree to `names`, where the tree is a name.
+/// Adds the span of a tree to `names`, if the tree is a name.
 fn add_own_name<'i>(
     text: &'i str,
     tree: FirstTree<'_, Rule>,
     names: &mut Vec<Span<'i>>,
 ) -> Result<(), AllocError>
-    requires { StandsIn text.now tree }
+    requires { IsTreeWithin text.now tree }
     ensures { OnOk result (map piece_of names.new.items ≡ map piece_of names.old.items
         ++ spec.own_name text.entry.now (name_of tree.entry.rule) tree.entry.start tree.entry.end) }
 {
@@ -38,7 +38,7 @@ fn add_own_name<'i>(
     Ok(())
 }
 
-/// Leaves what is in a tree, and what is behind it, for later: what is in it comes first.
+/// Pushes the trees after a tree, and then the trees in it, which are read first.
 fn leave<'t>(
     tree: FirstTree<'t, Rule>,
     waiting: &mut Vec<&'t [TokenTree<Rule>]>,
@@ -51,14 +51,14 @@ fn leave<'t>(
     Ok(())
 }
 
-/// Adds the places of all names in some trees, in the order of the text.
+/// Adds the spans of all names in some trees, in the order of the text.
 fn add_names<'i>(
     alloc: Global,
     text: &'i str,
     trees: &[TokenTree<Rule>],
     names: &mut Vec<Span<'i>>,
 ) -> Result<(), AllocError>
-    requires { TokenTreesStandIn text.now (trees_of trees.now) }
+    requires { AreTreesWithin text.now (trees_of trees.now) }
     ensures { OnOk result (map piece_of names.new.items
         ≡ map piece_of names.old.items ++ spec.names_in text.entry.now (named_trees_of trees.now)) }
 {
@@ -72,13 +72,13 @@ fn add_names<'i>(
     Ok(())
 }
 
-/// Adds the place of the name which the trees of a rule define, where they define one.
+/// Adds the span of the name which the trees of a rule define, if they define one.
 fn add_definition<'i>(
     text: &'i str,
     trees: &[TokenTree<Rule>],
     names: &mut Vec<Span<'i>>,
 ) -> Result<(), AllocError>
-    requires { TokenTreesStandIn text.now (trees_of trees.now) }
+    requires { AreTreesWithin text.now (trees_of trees.now) }
     ensures { OnOk result (map piece_of names.new.items
         ≡ map piece_of names.old.items ++ spec.defined_by text.entry.now (named_trees_of trees.now)) }
 {
@@ -88,14 +88,14 @@ fn add_definition<'i>(
     }
 }
 
-/// Adds the places of the names which the trees of a rule call, in the order of the text.
+/// Adds the spans of the names which the trees of a rule call, in the order of the text.
 fn add_calls<'i>(
     alloc: Global,
     text: &'i str,
     trees: &[TokenTree<Rule>],
     names: &mut Vec<Span<'i>>,
 ) -> Result<(), AllocError>
-    requires { TokenTreesStandIn text.now (trees_of trees.now) }
+    requires { AreTreesWithin text.now (trees_of trees.now) }
     ensures { OnOk result (map piece_of names.new.items
         ≡ map piece_of names.old.items ++ spec.called_by text.entry.now (named_trees_of trees.now)) }
 {
@@ -105,14 +105,14 @@ fn add_calls<'i>(
     }
 }
 
-/// The places of the names that the rules of a grammar define, in the order of the text. `trees` stand in
-/// `text`; places count bytes.
+/// Collects the names that the rules of a grammar define, in the order of the text, by spans in bytes.
+/// `trees` are within `text`.
 pub(crate) fn definitions<'i>(
     alloc: Global,
     text: &'i str,
     trees: &[TokenTree<Rule>],
 ) -> Result<Vec<Span<'i>>, AllocError>
-    requires { TokenTreesStandIn text.now (trees_of trees.now) }
+    requires { AreTreesWithin text.now (trees_of trees.now) }
     ensures { IfOk result (λ found. map piece_of found.items
         ≡ spec.definitions text.entry.now (named_trees_of trees.now)) }
 {
@@ -127,14 +127,14 @@ pub(crate) fn definitions<'i>(
     Ok(found)
 }
 
-/// The places of the names that the rules of a grammar call, in the order of the text. `trees` stand in
-/// `text`; places count bytes.
+/// Collects the names that the rules of a grammar call, in the order of the text, by spans in bytes.
+/// `trees` are within `text`.
 pub(crate) fn calls<'i>(
     alloc: Global,
     text: &'i str,
     trees: &[TokenTree<Rule>],
 ) -> Result<Vec<Span<'i>>, AllocError>
-    requires { TokenTreesStandIn text.now (trees_of trees.now) }
+    requires { AreTreesWithin text.now (trees_of trees.now) }
     ensures { IfOk result (λ found. map piece_of found.items
         ≡ spec.calls text.entry.now (named_trees_of trees.now)) }
 {

@@ -1,6 +1,6 @@
 //! Names that no rule may have, and names that are defined twice.
 ghost use Rattle.std.specs.Prelude.{[], ◌≡◌, IfErr, IfOk, alloc_error, map};
-ghost use Rattle.meta_base.specs.Pieces.Saying.{Tell, piece_of};
+ghost use Rattle.meta_base.specs.Pieces.Saying.{AreErrorsFor, piece_of};
 ghost use Rattle.meta_names.specs.Names.{AreIn, duplicate_complaints, later_places, pest_keyword_complaints, places_of, rust_keyword_complaints};
 
 use crate::said::{errors, errors_in};
@@ -10,49 +10,49 @@ use meta_base::runtime::{Error, Fault, Span};
 use std::alloc::{AllocError, Global};
 use std::collections::HashSet;
 
-/// An error `NAME is a rust keyword` at each of these definitions whose name Rust keeps for itself, in
-/// their order. The only fault is a want of memory.
+/// Reports `NAME is a rust keyword` at each of these definitions whose name Rust reserves, in their order.
+/// The only error is allocation failure.
 pub fn validate_rust_keywords(
     alloc: Global,
     definitions: &Vec<Span<'_>>,
 ) -> Result<Vec<Error<Rule>>, Fault>
     ensures told { let places = map piece_of definitions.now.items in
-        IfOk result (λ errors. Tell (rust_keyword_complaints places) errors.items) }
+        IfOk result (λ errors. AreErrorsFor (rust_keyword_complaints places) errors.items) }
     ensures memory { IfErr result (λ fault. fault ≡ Fault.Memory alloc_error) }
 {
     let words = places_of(alloc, rust_keywords(), definitions)?;
     errors(alloc, "", " is a rust keyword", &words)
 }
 
-/// An error `NAME is a pest keyword` at each of these definitions whose name pest keeps for itself, in
-/// their order. The only fault is a want of memory.
+/// Reports `NAME is a pest keyword` at each of these definitions whose name pest reserves, in their order.
+/// The only error is allocation failure.
 pub fn validate_pest_keywords(
     alloc: Global,
     definitions: &Vec<Span<'_>>,
 ) -> Result<Vec<Error<Rule>>, Fault>
     ensures told { let places = map piece_of definitions.now.items in
-        IfOk result (λ errors. Tell (pest_keyword_complaints places) errors.items) }
+        IfOk result (λ errors. AreErrorsFor (pest_keyword_complaints places) errors.items) }
     ensures memory { IfErr result (λ fault. fault ≡ Fault.Memory alloc_error) }
 {
     let words = places_of(alloc, pest_keywords(), definitions)?;
     errors(alloc, "", " is a pest keyword", &words)
 }
 
-/// An error `rule NAME already defined` at each of these definitions that has one of its name before it,
-/// in their order. The only fault is a want of memory.
+/// Reports `rule NAME already defined` at each of these definitions that has an earlier one of its name, in
+/// their order. The only error is allocation failure.
 pub fn validate_already_defined(
     alloc: Global,
     definitions: &Vec<Span<'_>>,
 ) -> Result<Vec<Error<Rule>>, Fault>
     ensures told { let places = map piece_of definitions.now.items in
-        IfOk result (λ errors. Tell (duplicate_complaints places) errors.items) }
+        IfOk result (λ errors. AreErrorsFor (duplicate_complaints places) errors.items) }
     ensures memory { IfErr result (λ fault. fault ≡ Fault.Memory alloc_error) }
 {
     let again = later(alloc, definitions)?;
     errors(alloc, "rule ", " already defined", &again)
 }
 
-/// The errors of `validate_pest_keywords`, of definitions that are all in one text.
+/// Collects the errors of `validate_pest_keywords`, for definitions that are all in one text.
 pub(crate) fn pest_keywords_in(
     alloc: Global,
     text: &str,
@@ -60,14 +60,14 @@ pub(crate) fn pest_keywords_in(
 ) -> Result<Vec<Error<Rule>>, Fault>
     requires in_text { AreIn text.now (map piece_of definitions.now.items) }
     ensures told { let places = map piece_of definitions.now.items in
-        IfOk result (λ errors. Tell (pest_keyword_complaints places) errors.items) }
+        IfOk result (λ errors. AreErrorsFor (pest_keyword_complaints places) errors.items) }
     ensures memory { IfErr result (λ fault. fault ≡ Fault.Memory alloc_error) }
 {
     let found = places_of(alloc, pest_keywords(), definitions)?;
     errors_in(alloc, text, "", " is a pest keyword", &found)
 }
 
-/// The errors of `validate_already_defined`, of definitions that are all in one text.
+/// Collects the errors of `validate_already_defined`, for definitions that are all in one text.
 pub(crate) fn already_defined_in(
     alloc: Global,
     text: &str,
@@ -75,14 +75,14 @@ pub(crate) fn already_defined_in(
 ) -> Result<Vec<Error<Rule>>, Fault>
     requires in_text { AreIn text.now (map piece_of definitions.now.items) }
     ensures told { let places = map piece_of definitions.now.items in
-        IfOk result (λ errors. Tell (duplicate_complaints places) errors.items) }
+        IfOk result (λ errors. AreErrorsFor (duplicate_complaints places) errors.items) }
     ensures memory { IfErr result (λ fault. fault ≡ Fault.Memory alloc_error) }
 {
     let found = later(alloc, definitions)?;
     errors_in(alloc, text, "rule ", " already defined", &found)
 }
 
-/// Those of these places whose name stands at a place before them, in their order.
+/// Collects the spans whose name occurs at an earlier span, in their order.
 fn later<'i>(alloc: Global, places: &[Span<'i>]) -> Result<Vec<Span<'i>>, AllocError>
     ensures { IfOk result (λ later. map piece_of later.items ≡ later_places [] (map piece_of places.now)) }
 {
@@ -96,7 +96,7 @@ fn later<'i>(alloc: Global, places: &[Span<'i>]) -> Result<Vec<Span<'i>>, AllocE
     Ok(later)
 }
 
-/// Those of these places whose name is among `names`, in their order.
+/// Collects the spans whose name is among `names`, in their order.
 fn places_of<'i>(
     alloc: Global,
     names: &[&str],

@@ -1,5 +1,5 @@
-//! The names of a grammar: which are defined and which are called, and the errors that tell of names that
-//! no rule may have, that are defined twice or not at all.
+//! The names of a grammar: which are defined and which are called, and errors about names that no rule may
+//! have, that are defined twice or not at all.
 #![tactic(auto)]
 
 mod found;

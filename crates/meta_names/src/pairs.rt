@@ -1,6 +1,6 @@
 //! The names of a whole grammar.
 ghost use Rattle.std.specs.Prelude.{[], ◌≡◌, IfErr, IfOk, OnOk, alloc_error, map};
-ghost use Rattle.meta_base.specs.Pieces.Saying.{Tell, piece_of};
+ghost use Rattle.meta_base.specs.Pieces.Saying.{AreErrorsFor, piece_of};
 ghost use Rattle.meta_names.specs.Names.{AreIn};
 ghost use Rattle.meta_names.specs.GrammarNames.{AreWrittenAt, IsNameRefusal, complaints_of, first_calls, first_calls_of, name_complaints};
 
@@ -11,17 +11,17 @@ use meta_base::grammar::Rule;
 use meta_base::runtime::{Error, Fault, Pairs, Span};
 use std::alloc::{AllocError, Global};
 
-/// The names that a grammar calls and does not define, each once, in the order of their first calls, each
-/// as it is written at that call. All of them are builtins. `pairs` are those of a parse of a text by
-/// `grammar_rules`; of any others it is answered by the same rule: what a `grammar_rule` begins with is
-/// its definition, where that is an `identifier`, and all `identifier`s behind it are calls.
+/// Returns the names that a grammar calls and does not define, each once, in the order of their first calls,
+/// as written at that call. All of them are builtins. `pairs` are those of a parse of a text by
+/// `grammar_rules`. In any others, the first tree of a `grammar_rule` is its definition, if that is an
+/// `identifier`, and all `identifier`s after it are calls.
 ///
-/// Where names are wrong there is an error at each of these places, in this order:
-/// - `NAME is a pest keyword`, at each definition whose name pest keeps for itself;
-/// - `rule NAME already defined`, at each definition that has one of its name before it;
-/// - `rule NAME is undefined`, at each call of what is neither defined nor a builtin.
+/// Where names are wrong there is an error at each of these positions, in this order:
+/// - `NAME is a pest keyword`, at each definition whose name pest reserves;
+/// - `rule NAME already defined`, at each definition that has an earlier one of its name;
+/// - `rule NAME is undefined`, at each call of a name that is neither defined nor a builtin.
 ///
-/// Any other fault is a want of memory.
+/// Any other fault is an allocation failure.
 pub fn validate_pairs<'i>(alloc: Global, pairs: Pairs<'i, Rule>) -> Result<Vec<&'i str>, Fault>
     ensures no_complaints { OnOk result (complaints_of pairs.entry ≡ []) }
     ensures builtins { IfOk result (λ names. AreWrittenAt (first_calls_of pairs.entry) names.items) }
@@ -38,8 +38,8 @@ pub fn validate_pairs<'i>(alloc: Global, pairs: Pairs<'i, Rule>) -> Result<Vec<&
     Ok(first_calls(alloc, &definitions, &calls)?)
 }
 
-/// The errors that tell of the names of these definitions and calls, all in one text: of keywords, then of
-/// duplicates, then of undefined names. The only fault is a want of memory.
+/// Collects the errors about the names of these definitions and calls, all in one text: of keywords, then
+/// of duplicates, then of undefined names. The only error is allocation failure.
 fn name_errors<'i>(
     alloc: Global,
     text: &'i str,
@@ -49,7 +49,7 @@ fn name_errors<'i>(
     requires definitions_in_text { AreIn text.now (map piece_of definitions.now.items) }
     requires calls_in_text { AreIn text.now (map piece_of calls.now.items) }
     ensures told { IfOk result (λ errors.
-        Tell (name_complaints (map piece_of definitions.now.items) (map piece_of calls.now.items))
+        AreErrorsFor (name_complaints (map piece_of definitions.now.items) (map piece_of calls.now.items))
         errors.items) }
     ensures memory { IfErr result (λ fault. fault ≡ Fault.Memory alloc_error) }
 {
@@ -61,7 +61,7 @@ fn name_errors<'i>(
     Ok(errors)
 }
 
-/// The names of the calls that are no definition's, each once, in the order of their first calls.
+/// Collects the names of the calls that are no definition's, each once, in the order of their first calls.
 fn first_calls<'i>(
     alloc: Global,
     definitions: &[Span<'i>],

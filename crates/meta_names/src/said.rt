@@ -1,6 +1,6 @@
 //! The errors that say the same of several names.
 ghost use Rattle.std.specs.Prelude.{◌++◌, ◌≡◌, IfErr, IfOk, alloc_error, map};
-ghost use Rattle.meta_base.specs.Pieces.Saying.{SaysAt, Tell, piece_of, written};
+ghost use Rattle.meta_base.specs.Pieces.Saying.{IsErrorAt, AreErrorsFor, piece_of, written};
 ghost use Rattle.meta_base.specs.Pieces.Span.{span_text};
 ghost use Rattle.meta_base.specs.Pieces.Survey.{survey_text};
 ghost use Rattle.meta_names.specs.Names.{AreIn, said};
@@ -9,11 +9,11 @@ use meta_base::grammar::Rule;
 use meta_base::runtime::{Error, ErrorVariant, Fault, Span, Survey};
 use std::alloc::{AllocError, Global};
 
-/// The error that says the name at a place, between `before` and `after`. The only fault is a want of
-/// memory.
+/// Makes an error about the name at a span, with the message `before`, name, `after`. The only error is
+/// allocation failure.
 fn error(alloc: Global, before: &str, after: &str, place: Span<'_>) -> Result<Error<Rule>, Fault>
     ensures says { IfOk result
-        (SaysAt (before.now ++ written (piece_of place.entry) ++ after.now) (piece_of place.entry)) }
+        (IsErrorAt (before.now ++ written (piece_of place.entry) ++ after.now) (piece_of place.entry)) }
     ensures memory { IfErr result (λ fault. fault ≡ Fault.Memory alloc_error) }
 {
     let name = place.as_str();
@@ -21,8 +21,8 @@ fn error(alloc: Global, before: &str, after: &str, place: Span<'_>) -> Result<Er
     Error::new_from_span(alloc, ErrorVariant::CustomError { message }, place)
 }
 
-/// An error at each of these places, in their order: it says the name that is written there, between
-/// `before` and `after`. The only fault is a want of memory.
+/// Makes an error about the name at each of these spans, in their order, with the message `before`, name,
+/// `after`. The only error is allocation failure.
 pub(crate) fn errors(
     alloc: Global,
     before: &str,
@@ -30,7 +30,7 @@ pub(crate) fn errors(
     places: &[Span<'_>],
 ) -> Result<Vec<Error<Rule>>, Fault>
     ensures told { IfOk result (λ errors.
-        Tell (said before.now after.now (map piece_of places.now)) errors.items) }
+        AreErrorsFor (said before.now after.now (map piece_of places.now)) errors.items) }
     ensures memory { IfErr result (λ fault. fault ≡ Fault.Memory alloc_error) }
 {
     let mut errors = Vec::new(alloc);
@@ -41,8 +41,8 @@ pub(crate) fn errors(
     Ok(errors)
 }
 
-/// The error that says the name at a place of a text that was surveyed, between `before` and `after`. The
-/// only fault is a want of memory.
+/// Makes an error about the name at a span of a surveyed text, with the message `before`, name, `after`.
+/// The only error is allocation failure.
 fn error_in(
     alloc: Global,
     survey: &mut Survey<'_>,
@@ -52,7 +52,7 @@ fn error_in(
 ) -> Result<Error<Rule>, Fault>
     requires in_text { span_text place ≡ survey_text survey.old }
     ensures says { IfOk result
-        (SaysAt (before.now ++ written (piece_of place.entry) ++ after.now) (piece_of place.entry)) }
+        (IsErrorAt (before.now ++ written (piece_of place.entry) ++ after.now) (piece_of place.entry)) }
     ensures memory { IfErr result (λ fault. fault ≡ Fault.Memory alloc_error) }
     ensures survey { survey_text survey.new ≡ survey_text survey.old }
 {
@@ -61,7 +61,7 @@ fn error_in(
     Error::new_in_survey(alloc, ErrorVariant::CustomError { message }, survey, place)
 }
 
-/// The errors of `errors` where all places are in one text, which is walked over once.
+/// Makes the errors of `errors` where all spans are in one text, which is surveyed once.
 pub(crate) fn errors_in(
     alloc: Global,
     text: &str,
@@ -71,7 +71,7 @@ pub(crate) fn errors_in(
 ) -> Result<Vec<Error<Rule>>, Fault>
     requires in_text { AreIn text.now (map piece_of places.now) }
     ensures told { IfOk result (λ errors.
-        Tell (said before.now after.now (map piece_of places.now)) errors.items) }
+        AreErrorsFor (said before.now after.now (map piece_of places.now)) errors.items) }
     ensures memory { IfErr result (λ fault. fault ≡ Fault.Memory alloc_error) }
 {
     let mut errors = Vec::new(alloc);

@@ -160,29 +160,29 @@ static PROPERTY_NAMES: [&str; 115] = [
     "YI",
 ];
 
-/// The names of the properties of Unicode that a grammar may call: the general categories, the binary
-/// properties and the scripts, in this order.
+/// Returns the names of the properties of Unicode that a grammar may call: the general categories, the
+/// binary properties and the scripts, in this order.
 pub fn unicode_property_names() -> &'static [&'static str]
     ensures { map (λ name. name.now) result.now ≡ property_names }
 {
     &PROPERTY_NAMES
 }
 
-/// The builtins other than property names.
+/// Returns the builtins other than property names.
 fn other_builtins() -> &'static [&'static str]
     ensures { map (λ name. name.now) result.now ≡ map (λ b. b.name) builtins }
 {
     &BUILTINS
 }
 
-/// The names that pest keeps for itself.
+/// Returns the names that pest reserves.
 pub(crate) fn pest_keywords() -> &'static [&'static str]
     ensures { map (λ name. name.now) result.now ≡ keywords }
 {
     &PEST_KEYWORDS
 }
 
-/// The words that Rust keeps for itself.
+/// Returns the words that Rust reserves.
 pub(crate) fn rust_keywords() -> &'static [&'static str]
     ensures { map (λ name. name.now) result.now ≡ spec.rust_keywords }
 {
@@ -196,7 +196,7 @@ pub(crate) fn is_among(names: &[&str], name: &str) -> bool
     names.contains(&name)
 }
 
-/// Whether a grammar need not define `name`: it is the name of a builtin or of a property of Unicode.
+/// Whether a grammar need not define `name`, since a builtin or a property of Unicode has that name.
 pub fn is_builtin(name: &str) -> bool
     ensures written { result ≡ spec.is_builtin name.now }
     ensures named { result ≡ spec.is_builtin (chars name.now) }
@@ -204,7 +204,7 @@ pub fn is_builtin(name: &str) -> bool
     is_known(name)
 }
 
-/// The same, by the bytes of the names.
+/// Whether a grammar need not define `name`, by the bytes of the names.
 fn is_known(name: &str) -> bool
     ensures { result ≡ spec.is_builtin name.now }
 {

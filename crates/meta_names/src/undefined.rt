@@ -1,6 +1,6 @@
-//! Calls of what is not defined.
+//! Calls of undefined names.
 ghost use Rattle.std.specs.Prelude.{◌≡◌, IfErr, IfOk, alloc_error, filter, map};
-ghost use Rattle.meta_base.specs.Pieces.Saying.{Tell, piece_of, written};
+ghost use Rattle.meta_base.specs.Pieces.Saying.{AreErrorsFor, piece_of, written};
 ghost use Rattle.meta_names.specs.NameSets.{HasNames, is_outside, is_unknown};
 ghost use Rattle.meta_names.specs.Names.{AreIn, undefined_calls, undefined_complaints};
 
@@ -11,23 +11,24 @@ use meta_base::runtime::{Error, Fault, Span};
 use std::alloc::{AllocError, Global};
 use std::collections::HashSet;
 
-/// An error `rule NAME is undefined` at each of these calls whose name is neither that of a definition nor
-/// a builtin's, in the order of the calls. The only fault is a want of memory.
+/// Reports `rule NAME is undefined` at each of these calls whose name is neither defined nor a builtin's,
+/// in the order of the calls. The only error is allocation failure.
 pub fn validate_undefined<'i>(
     alloc: Global,
     definitions: &Vec<Span<'i>>,
     called: &Vec<Span<'i>>,
 ) -> Result<Vec<Error<Rule>>, Fault>
     ensures told { IfOk result (λ errors.
-        Tell (undefined_complaints (map piece_of definitions.now.items) (map piece_of called.now.items))
+        AreErrorsFor
+        (undefined_complaints (map piece_of definitions.now.items) (map piece_of called.now.items))
         errors.items) }
     ensures memory { IfErr result (λ fault. fault ≡ Fault.Memory alloc_error) }
 {
-    let undefined = undefined(alloc, definitions, called)?;
+    let undefined = collect_undefined(alloc, definitions, called)?;
     errors(alloc, "rule ", " is undefined", &undefined)
 }
 
-/// The errors of `validate_undefined`, of calls that are all in one text.
+/// Collects the errors of `validate_undefined`, for calls that are all in one text.
 pub(crate) fn undefined_in<'i>(
     alloc: Global,
     text: &str,
@@ -36,16 +37,17 @@ pub(crate) fn undefined_in<'i>(
 ) -> Result<Vec<Error<Rule>>, Fault>
     requires in_text { AreIn text.now (map piece_of called.now.items) }
     ensures told { IfOk result (λ errors.
-        Tell (undefined_complaints (map piece_of definitions.now.items) (map piece_of called.now.items))
+        AreErrorsFor
+        (undefined_complaints (map piece_of definitions.now.items) (map piece_of called.now.items))
         errors.items) }
     ensures memory { IfErr result (λ fault. fault ≡ Fault.Memory alloc_error) }
 {
-    let found = undefined(alloc, definitions, called)?;
+    let found = collect_undefined(alloc, definitions, called)?;
     errors_in(alloc, text, "rule ", " is undefined", &found)
 }
 
-/// Those of the calls whose name is neither that of a definition nor a builtin's, in their order.
-fn undefined<'i>(
+/// Collects the calls whose name is neither defined nor a builtin's, in their order.
+fn collect_undefined<'i>(
     alloc: Global,
     definitions: &[Span<'i>],
     called: &[Span<'i>],
@@ -58,7 +60,7 @@ fn undefined<'i>(
     Ok(calls)
 }
 
-/// Those of the calls whose name is neither in a set of names nor a builtin's, in their order.
+/// Collects the calls whose name is neither in a set of names nor a builtin's, in their order.
 fn calls_outside<'i>(
     alloc: Global,
     defined: &HashSet<&str>,
@@ -81,7 +83,7 @@ fn is_undefined(defined: &HashSet<&str>, name: &str) -> bool
     !defined.contains(&name) && !is_builtin(name)
 }
 
-/// The names that are written at these places.
+/// Collects the names at these spans.
 pub(crate) fn names<'i>(alloc: Global, places: &[Span<'i>]) -> Result<HashSet<&'i str>, AllocError>
     ensures { IfOk result (HasNames (map written (map piece_of places.now))) }
 {

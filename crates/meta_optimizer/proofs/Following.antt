@@ -11,14 +11,14 @@ use Rattle.meta_ast.specs.Ast.{expression_of, text_of}
 use Rattle.meta_ast.specs.declared.ast.Expr.{Expr, Choice'}
 use Rattle.meta_ast.specs.declared.ast.Expr.TheVariants.{Str, Ident}
 use Rattle.meta_optimizer.specs.Bodies as within
-use Rattle.meta_optimizer.specs.Bodies.{Needs, the_name, in_first, in_others, StringsWithin, HasStrings, HasNoStrings, BehindHas, BehindHasNone, BehindNeeds, met_at, KnownHave, FindsName, Splits}
+use Rattle.meta_optimizer.specs.Bodies.{Needs, the_name, in_first, in_others, StringsWithin, HasStrings, HasNoStrings, RestHas, RestHasNone, RestNeeds, met_at, KnownHave, FindsName, Splits}
 use Rattle.meta_optimizer.proofs.NamedStrings.{of_first, of_others, of_leaf}
 
 -- a leaf and what stands behind it
 has_both : (g : Grammar) (k : ℕ) {x y : Expression} → IsLeaf x → HasStrings g k x → HasStrings g k y → HasStrings g k (Choice x y)
 has_both g k l s t = record { strings = _; within = within.StringsWithin.more l s.within t.within }
 
-pub split_has : (g : Grammar) (k : ℕ) {a x : Expression} (behind : Option (Bor Expr)) → Splits a x behind → IsLeaf x → HasStrings g k x → BehindHas g k behind → HasStrings g k a
+pub split_has : (g : Grammar) (k : ℕ) {a x : Expression} (behind : Option (Bor Expr)) → Splits a x behind → IsLeaf x → HasStrings g k x → RestHas g k behind → HasStrings g k a
 split_has g k None h l s b = subst (HasStrings g k) (sym h.0) s
 split_has g k (Some others) h l s b = subst (HasStrings g k) (sym h) (has_both g k l s b)
 
@@ -26,7 +26,7 @@ pub split_needs_first : {a x : Expression} (behind : Option (Bor Expr)) {j : Tex
 split_needs_first None {j = j} h w = subst (λ y. Needs y j) (sym h.0) w
 split_needs_first (Some others) {j = j} h w = subst (λ y. Needs y j) (sym h) (in_first w)
 
-pub split_needs_behind : {a : Expression} (x : Expression) (behind : Option (Bor Expr)) {j : Text} → Splits a x behind → BehindNeeds behind j → Needs a j
+pub split_needs_behind : {a : Expression} (x : Expression) (behind : Option (Bor Expr)) {j : Text} → Splits a x behind → RestNeeds behind j → Needs a j
 split_needs_behind x None h w = absurd w
 split_needs_behind x (Some others) {j = j} h w = subst (λ y. Needs y j) (sym h) (in_others w)
 
@@ -34,7 +34,7 @@ pub split_fails_first : (g : Grammar) {a x : Expression} (behind : Option (Bor E
 split_fails_first g None h n = subst (HasNoStrings g) (sym h.0) n
 split_fails_first g {x = x} (Some others) h n = subst (HasNoStrings g) (sym h) (λ ts s. let d = of_first g s in n d.0 d.1)
 
-pub split_fails_behind : (g : Grammar) {a : Expression} (x : Expression) (behind : Option (Bor Expr)) → Splits a x behind → BehindHasNone g behind → HasNoStrings g a
+pub split_fails_behind : (g : Grammar) {a : Expression} (x : Expression) (behind : Option (Bor Expr)) → Splits a x behind → RestHasNone g behind → HasNoStrings g a
 split_fails_behind g x None h n = absurd n
 split_fails_behind g x (Some others) h n = subst (HasNoStrings g) (sym h) (λ ts s. let d = of_others g s in n d.0 d.1)
 

@@ -10,7 +10,7 @@ use Rattle.meta_ast.specs.Ast.{expression_of}
 use Rattle.meta_ast.specs.declared.ast.Expr.{Expr}
 use Rattle.meta_optimizer.specs.declared.strings.Caller.{Caller}
 use Rattle.meta_optimizer.specs.Bodies as within
-use Rattle.meta_optimizer.specs.Bodies.{Needs, the_name, StringsWithin, HasStrings, HasNoStrings, BehindHas, BehindHasNone, BehindNeeds, met_at, KnownHave, FindsName}
+use Rattle.meta_optimizer.specs.Bodies.{Needs, the_name, StringsWithin, HasStrings, HasNoStrings, RestHas, RestHasNone, RestNeeds, met_at, KnownHave, FindsName}
 use Rattle.meta_optimizer.proofs.NamedStrings.{Path, at_once, by_way, higher, no_cycle, needed_strings, of_body, no_rule_none}
 
 -- the name is one of the callers'
@@ -34,10 +34,10 @@ looks_or_last {n = n} (d ∷ cs) c (later l) = elim (looks_or_last cs c l) as (�
 
 -- an expression calls a name, which is looked through, and goes on behind it
 pub record Calls (g : Grammar) (known : ℕ) (whole : Expression) (n : Text) (behind : Option (Bor Expr)) : Type 0 where
-  pub gives : (k : ℕ) → known ≤ k → HasStrings g k (Ident n) → BehindHas g k behind → HasStrings g k whole
+  pub gives : (k : ℕ) → known ≤ k → HasStrings g k (Ident n) → RestHas g k behind → HasStrings g k whole
   pub needed : Needs whole n
-  pub behind_needed : (j : Text) → BehindNeeds behind j → Needs whole j
-  pub behind_fails : BehindHasNone g behind → HasNoStrings g whole
+  pub behind_needed : (j : Text) → RestNeeds behind j → Needs whole j
+  pub behind_fails : RestHasNone g behind → HasNoStrings g whole
 
 -- from an expression by way of the callers to another
 pub data Linked (g : Grammar) (known : ℕ) : Expression → List Caller → Expression → Type 0 where
@@ -85,9 +85,9 @@ Marks m n bs b = (q : List ℕ) → met_at n q ≡ cond (bytes_eq bs q) (Some b)
 -- where the looking stands: some names are known, others are looked through, and something is left
 module _ (g : Grammar) where
   pub record IsAt (known : ℕ) (rest : Option (Bor Expr)) (whole : Expression) : Type 0 where
-    pub gives : (k : ℕ) → known ≤ k → BehindHas g k rest → HasStrings g k whole
-    pub needed : (j : Text) → BehindNeeds rest j → Needs whole j
-    pub fails : BehindHasNone g rest → HasNoStrings g whole
+    pub gives : (k : ℕ) → known ≤ k → RestHas g k rest → HasStrings g k whole
+    pub needed : (j : Text) → RestNeeds rest j → Needs whole j
+    pub fails : RestHasNone g rest → HasNoStrings g whole
 
   -- at a name q, which is the marked one or another
   marked : (b c : Bool) (t : Bool) {o : Option Bool} → cond t (Some b) o ≡ Some c → ((t ≡ true) × (b ≡ c)) ⊎ ((t ≡ false) × (o ≡ Some c))
@@ -153,8 +153,8 @@ module _ (g : Grammar) where
     linked = through (record {
       gives = λ k l s b. s;
       needed = the_name;
-      behind_needed = λ k w. absurd (subst (λ x. BehindNeeds x k) j w);
-      behind_fails = λ w. absurd (subst (BehindHasNone g) j w);
+      behind_needed = λ k w. absurd (subst (λ x. RestNeeds x k) j w);
+      behind_fails = λ w. absurd (subst (RestHasNone g) j w);
     }) h nobody;
     at = record { gives = λ k l s. subst (HasStrings g k) (sym i) s; needed = λ k w. subst (λ x. Needs x k) (sym i) w; fails = λ w. subst (HasNoStrings g) (sym i) w };
     have = λ q l. elim (marked false true (bytes_eq c.name.now q) (sym (u q) ∙ l)) as (λ x. HasStrings g known (Ident (chars q))) [ inl p ↦ cc p.1 | inr p ↦ t.have q p.1 ];

@@ -11,16 +11,16 @@ use Rattle.std.proofs.lemmas.Slice.Eq.{bytes_eq-Decides}
 use denote.Ref.{Bor}
 use Rattle.meta_base.specs.Language.Expression.{Expression, Ident, Grammar}
 use Rattle.meta_ast.specs.declared.ast.Expr.{Expr}
-use Rattle.meta_optimizer.specs.declared.strings.Names.{Names}
-use Rattle.meta_optimizer.specs.declared.strings.Found.{Found}
-use Rattle.meta_optimizer.specs.declared.strings.Found.TheVariants as found
-use Rattle.meta_optimizer.specs.Bodies.{HoldsBodies, HasNoStrings, FindsNext, IsMet, AreRight, Tells, met_at}
+use Rattle.meta_optimizer.specs.declared.strings.StringNames.{StringNames}
+use Rattle.meta_optimizer.specs.declared.strings.NameSearch.{NameSearch}
+use Rattle.meta_optimizer.specs.declared.strings.NameSearch.TheVariants as found
+use Rattle.meta_optimizer.specs.Bodies.{HoldsBodies, HasNoStrings, FindsNext, IsMet, AreRight, AreAllRight, met_at}
 use Rattle.meta_optimizer.proofs.NamedStrings.{missing, needed_strings, no_rule_none}
 
-abbrev pub KeyIsMet : Names → String Global → Type 0
+abbrev pub KeyIsMet : StringNames → String Global → Type 0
 KeyIsMet names k = IsMet names (string_bytes k)
 
-module _ {S : Type 0} (m : HashMap (String Global) Expr S) (names : Names) (ks : List (String Global)) (all : All (KeyIsMet names) ks) where
+module _ {S : Type 0} (m : HashMap (String Global) Expr S) (names : StringNames) (ks : List (String Global)) (all : All (KeyIsMet names) ks) where
   no_body_at : (q : String Global) → (o : Option Expr) → is_some o ≡ list_any (λ k. bytes_eq (string_bytes q) (string_bytes k)) ks → met_at names.met (string_bytes q) ≡ None → o ≡ None
   no_body_at q None h i = refl
   no_body_at q (Some x) h i =
@@ -29,14 +29,14 @@ module _ {S : Type 0} (m : HashMap (String Global) Expr S) (names : Names) (ks :
       let here : KeyIsMet names a.1 = subst (KeyIsMet names) a.3 (all a.0 a.1 a.2) in
       absurd (here (subst (λ b. met_at names.met b ≡ None) same i))
 
-  pub all_told : ((q : String Global) → is_some (get_by_text m (string_bytes q)) ≡ list_any (λ k. bytes_eq (string_bytes q) (string_bytes k)) ks) → (g : Grammar) → HoldsBodies m g → AreRight names g → Tells names g
+  pub all_told : ((q : String Global) → is_some (get_by_text m (string_bytes q)) ≡ list_any (λ k. bytes_eq (string_bytes q) (string_bytes k)) ks) → (g : Grammar) → HoldsBodies m g → AreRight names g → AreAllRight names g
   all_told has g held r = record {
     right = r;
     unmet = λ s h. no_rule_none g (missing m g held s (no_body_at s (get_by_text m (string_bytes s)) (has s) h));
   }
 
 -- where a name is met that has no strings, or one that was not met, there are none
-pub none_found : (names : Names) (e : Expression) (f : Found) → FindsNext names.met e f → (f ≡ found.Strings → ⊥) → (g : Grammar) → Tells names g → HasNoStrings g e
+pub none_found : (names : StringNames) (e : Expression) (f : NameSearch) → FindsNext names.met e f → (f ≡ found.Strings → ⊥) → (g : Grammar) → AreAllRight names g → HasNoStrings g e
 none_found names e found.Nothing f n g t = f g (λ q h w. t.right.have_none q h)
 none_found names e found.Strings f n g t = absurd (n refl)
 none_found names e (found.Name b behind) f n g t = λ ts s.
@@ -45,7 +45,7 @@ none_found names e (found.Name b behind) f n g t = λ ts s.
     none d.0 d.1
 
 -- where none is met, nothing is wrong
-pub nothing_met : (names : Names) → names.met.entries ≡ [] → (g : Grammar) → AreRight names g
+pub nothing_met : (names : StringNames) → names.met.entries ≡ [] → (g : Grammar) → AreRight names g
 nothing_met names h g = record { have = λ q i. none_met q i; have_none = λ q i. none_met q i }
   where
     none_met : {P : Type 0} {b : Bool} (q : List ℕ) → met_at names.met q ≡ Some b → P

@@ -1,4 +1,4 @@
--- What stands around an operand that is made an optimized one.
+-- Continuation frames of the conversion to optimized expressions.
 use Rattle.std.specs.Prelude.{ℕ, ◌+◌, ◌*◌, ⊤}
 use Rattle.meta_base.specs.Language.Expression.{Expression}
 use Rattle.meta_ast.specs.Ast.{expression_of}
@@ -9,8 +9,8 @@ use Rattle.meta_ast.specs.Weight.{weight}
 use Rattle.meta_ast.specs.declared.ast.shaped.Sign.{Sign}
 use Rattle.meta_ast.specs.declared.ast.shaped.Sign.TheVariants as sign
 use Rattle.meta_optimizer.specs.Unrolled.{IsUnrolled}
-use Rattle.meta_optimizer.specs.declared.converted.Around.{Around}
-use Rattle.meta_optimizer.specs.declared.converted.Around.TheVariants as around
+use Rattle.meta_optimizer.specs.declared.converted.ConversionFrame.{ConversionFrame}
+use Rattle.meta_optimizer.specs.declared.converted.ConversionFrame.TheVariants as around
 
 -- a sign that is no counted repetition
 abbrev pub IsUncounted : Sign → Type 0
@@ -20,18 +20,18 @@ IsUncounted (sign.RepMax n) = ⊥
 IsUncounted (sign.RepMinMax m n) = ⊥
 IsUncounted _ = ⊤
 
--- an operand inside it
-abbrev pub with_operand : Around → Expression → Expression
+-- an operand inside a frame
+abbrev pub with_operand : ConversionFrame → Expression → Expression
 with_operand (around.Sign s) x = under_sign s x
 with_operand (around.First j right) x = joined j x (expression_of right.value.value)
 with_operand (around.Second j left) x = joined j (optimized_expression_of left.value.value) x
 
--- what waits in it has no counted repetition
-abbrev pub WaitsUnrolled : Around → Type 0
+-- the expression that waits in a frame has no counted repetition
+abbrev pub WaitsUnrolled : ConversionFrame → Type 0
 WaitsUnrolled (around.First j right) = IsUnrolled (expression_of right.value.value)
 WaitsUnrolled _ = ⊤
 
--- how much there is to be done once the operand is made
-abbrev pub waits_of : Around → ℕ
+-- a bound of the steps left once the operand is converted
+abbrev pub waits_of : ConversionFrame → ℕ
 waits_of (around.First j right) = 4 * weight (expression_of right.value.value) + 3
 waits_of _ = 1

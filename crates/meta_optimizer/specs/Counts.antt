@@ -7,7 +7,7 @@ use Rattle.meta_base.specs.Language.WellFormed.{CountIsReadable}
 abbrev pub CountsAreReadable : Expression → Type 0
 CountsAreReadable e = (p : Expression) → Part e p → CountIsReadable p
 
--- the same, from part to part
+-- the property of an expression, defined from its parts
 abbrev pub PartsAreReadable : Expression → Type 0
 PartsAreReadable (RepExact e i) = (0 < i) × PartsAreReadable e
 PartsAreReadable (RepMax e i) = (0 < i) × PartsAreReadable e
@@ -25,7 +25,7 @@ PartsAreReadable (NodeTag e t) = PartsAreReadable e
 PartsAreReadable (RestoreOnErr e) = PartsAreReadable e
 PartsAreReadable _ = ⊤
 
--- it is neither `~` nor `|`
+-- an expression is neither `~` nor `|`
 abbrev pub IsNoPair : Expression → Type 0
 IsNoPair (Seq a b) = ⊥
 IsNoPair (Choice a b) = ⊥

@@ -1,4 +1,4 @@
--- How literals in sequence are put together.
+-- The concatenation of literals in sequence.
 use Rattle.std.specs.Prelude.{ℕ, ◌+◌, ◌*◌, ◌++◌, List, [], ◌∷◌}
 use Rattle.std.specs.declared.alloc.Global.{Global}
 use Rattle.std.specs.declared.string.String.{String}
@@ -8,10 +8,10 @@ use Rattle.meta_base.specs.Language.Expression.{Expression}
 use Rattle.meta_ast.specs.Ast.{expression_of, text_of}
 use Rattle.meta_ast.specs.Weight.{weight}
 use Rattle.meta_optimizer.specs.Here.{joined_here}
-use Rattle.meta_optimizer.specs.declared.joined.Joined.{Joined}
-use Rattle.meta_optimizer.specs.declared.joined.Joined.TheVariants as joined
-use Rattle.meta_optimizer.specs.declared.joined.Around.{Around}
-use Rattle.meta_optimizer.specs.declared.joined.Around.TheVariants as around
+use Rattle.meta_optimizer.specs.declared.joined.JoinedExpr.{JoinedExpr}
+use Rattle.meta_optimizer.specs.declared.joined.JoinedExpr.TheVariants as joined
+use Rattle.meta_optimizer.specs.declared.joined.JoinFrame.{JoinFrame}
+use Rattle.meta_optimizer.specs.declared.joined.JoinFrame.TheVariants as around
 
 -- at each node from the leaves up, two literals in sequence are one
 abbrev pub concatenated : Expression → Expression
@@ -35,13 +35,13 @@ abbrev pub in_order : List (String Global) → Text
 in_order [] = []
 in_order (s ∷ others) = text_of s ++ in_order others
 
-abbrev pub said_by : Joined → Expression
+abbrev pub said_by : JoinedExpr → Expression
 said_by (joined.Texts parts) = e.Str (in_order parts.items)
 said_by (joined.Insensitive parts) = e.Insens (in_order parts.items)
 said_by (joined.Other x) = expression_of x
 
--- an operand inside what stands around it
-abbrev pub joined_with : Around → Expression → Expression
+-- an operand inside a frame
+abbrev pub joined_with : JoinFrame → Expression → Expression
 joined_with around.PosPred x = e.PosPred x
 joined_with around.NegPred x = e.NegPred x
 joined_with around.Opt x = e.Opt x
@@ -59,8 +59,8 @@ joined_with (around.FirstOfChoice right) x = e.Choice x (concatenated (expressio
 joined_with (around.SecondOfSeq left) x = joined_here (e.Seq (said_by left.value) x)
 joined_with (around.SecondOfChoice left) x = e.Choice (expression_of left.value.value) x
 
--- how much there is to be done once the operand is made
-abbrev pub waits_of : Around → ℕ
+-- a bound of the steps left once the operand is rebuilt
+abbrev pub waits_of : JoinFrame → ℕ
 waits_of (around.FirstOfSeq right) = 4 * weight (expression_of right.value.value) + 3
 waits_of (around.FirstOfChoice right) = 4 * weight (expression_of right.value.value) + 3
 waits_of _ = 1

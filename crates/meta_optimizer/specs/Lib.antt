@@ -1,5 +1,5 @@
 pub mod Traversals
-pub mod Held
+pub mod Children
 pub mod Here
 pub mod Unrolled
 pub mod Counts

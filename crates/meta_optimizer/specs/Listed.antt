@@ -1,4 +1,4 @@
--- What the listing of a rule matches.
+-- The matches that the listing of a rule keeps.
 use Rattle.std.specs.Prelude.{◌≡◌, Bool, ⊤}
 use Rattle.meta_base.specs.Language.Expression.{Expression, RuleType, Atomic, CompoundAtomic, Seq, Rep, Grammar}
 use Rattle.meta_base.specs.Language.State.{Classes, Mode, State, Success, Trees}
@@ -11,8 +11,8 @@ SkipsNothing Atomic = ⊤
 SkipsNothing CompoundAtomic = ⊤
 SkipsNothing _ = ⊥
 
--- where a body of that type is `(x ~ y)* ~ x`, and `x ~ y` lists to itself, what the body matches the other
--- matches too, with the same end, stack and trees
+-- where a body of that type is `(x ~ y)* ~ x`, and `x ~ y` lists to itself, the other matches all that
+-- the body matches, with the same end, stack and trees
 abbrev pub KeepsMatches : RuleType → Expression → Expression → Type 0
 KeepsMatches type body other =
     (g : Grammar) (classes : Classes) (x y : Expression) (blank : Bool) (m : Mode) (s t : State) (us : Trees)

@@ -1,4 +1,4 @@
--- What the passes one after another make of rules.
+-- The effect of the passes, one after another, on rules.
 use Rattle.std.specs.Prelude.{◌≡◌, ◌++◌, ◌∷◌, []}
 use Rattle.std.specs.HashMap.{HashMap}
 use Rattle.std.specs.declared.alloc.Global.{Global}
@@ -25,7 +25,7 @@ pub record IsFactoring (y : RuleType) (a b : Expression) : Type 0 where
   pub steps : Many (Factors y) a b
   pub each_once : TopDown (λ c d. factored_here y c ≡ d) a b
 
--- without wrappers, it is the listing
+-- an expression, without its wrappers, is the listing
 abbrev pub IsListing : Expression → Expression → Type 0
 IsListing a b = erased b ≡ listed a
 
@@ -44,7 +44,7 @@ pub record IsOptimizedBody (rules : Grammar) (y : RuleType) (a b : Expression) :
   pub lists : b ≡ listed factored
   pub bare : HasNoWrappers b
 
--- to optimized rules that of one more rule is added, `skip` looking names up in any rules that suffice for it
+-- one more optimized rule is added, where `skip` looks names up in any rules that suffice for it
 pub record AddsOptimized {S : Type 0} (bodies : HashMap (String Global) Expr S) (rule : Rule)
     (old new : Grammar) : Type 0 where
   pub body : Expression
@@ -52,8 +52,8 @@ pub record AddsOptimized {S : Type 0} (bodies : HashMap (String Global) Expr S) 
   pub optimized : (g : Grammar) → SufficeFor bodies g (rule ∷ [])
       → IsOptimizedBody g rule.type_of rule.body body
 
--- the passes up to the listing, with the grammar behind each; `skip` looks names up in the rules as they were
--- at first
+-- the passes up to the listing, with the grammar after each; `skip` looks names up in the rules as they
+-- were at first
 pub record Passes (rules factored : Grammar) : Type 0 where
   pub rotated : Grammar
   pub skipped : Grammar
@@ -65,8 +65,9 @@ pub record Passes (rules factored : Grammar) : Type 0 where
   pub joins : EachBody (λ y. IsDone (Joins y)) unrolled joined
   pub factors : EachBody IsFactoring joined factored
 
--- the answer, without wrappers, is the listing of a grammar to which a chain leads by way of the passes, and
--- which has the same outcomes; it has wrappers just where the restorer puts them in the listing
+-- the answer, without wrappers, is the listing of a grammar to which a chain leads by way of the passes,
+-- and that has the same outcomes; the answer has wrappers just where the restorer puts them in the
+-- listing
 pub record IsOptimized (rules answer : Grammar) : Type 0 where
   pub reached : Grammar
   pub listing : Grammar

@@ -1,4 +1,4 @@
--- What `skip` keeps, over the grammar whose bodies the map holds.
+-- The outcomes that `skip` keeps, over the grammar whose bodies the map holds.
 use Rattle.std.specs.Prelude.{◌∷◌, ◌++◌}
 use Rattle.std.specs.HashMap.{HashMap}
 use Rattle.std.specs.declared.alloc.Global.{Global}

@@ -12,7 +12,8 @@ use meta_ast::deep::Deep;
 use std::alloc::{AllocError, Global};
 use std::collections::HashMap;
 
-/// The bodies, by name; of several rules of one name the last counts. The only fault is a want of memory.
+/// Collects the bodies of rules by name; of several rules of one name the last counts. The only fault is
+/// an allocation failure.
 pub(crate) fn bodies_of(
     alloc: Global,
     rules: &Vec<Rule>,
@@ -49,8 +50,8 @@ fn add_body(bodies: &mut HashMap<String, Expr>, rule: &Rule) -> Result<(), Alloc
     }
 }
 
-/// What `skip` looks up in these rules: their bodies; none where no Atomic rule has anything in place of
-/// which a run may be put. The only fault is a want of memory.
+/// Collects the bodies that `skip` looks up in these rules, none where no Atomic rule has a repetition
+/// that a forward search may replace. The only fault is an allocation failure.
 pub(crate) fn bodies_for_skip(
     alloc: Global,
     rules: &Vec<Rule>,
@@ -67,7 +68,7 @@ pub(crate) fn bodies_for_skip(
     bodies_of(alloc, rules)
 }
 
-// Whether there is nothing in the Atomic rules in place of which a run may be put.
+// Reports whether no Atomic rule has a repetition that a forward search may replace.
 fn are_free_of_turns(alloc: Global, rules: &Vec<Rule>) -> Result<bool, AllocError>
     ensures { IfOk result (λ yes. OnTrue yes (HaveNoTurns (rules_of rules.now.items))) }
 {
@@ -80,8 +81,8 @@ fn are_free_of_turns(alloc: Global, rules: &Vec<Rule>) -> Result<bool, AllocErro
     Ok(true)
 }
 
-/// Whether there is nothing in a rule in place of which a run may be put; so it is in rules that are not
-/// Atomic.
+/// Reports whether a rule has no repetition that a forward search may replace; rules that are not Atomic
+/// have none.
 pub(crate) fn is_free_of_turns(alloc: Global, rule: &Rule) -> Result<bool, AllocError>
     ensures { IfOk result (λ yes. OnTrue yes (rule_type_of rule.now.ty ≡ Atomic
         → HasNoTurn (expression_of rule.now.expr))) }
@@ -92,7 +93,7 @@ pub(crate) fn is_free_of_turns(alloc: Global, rule: &Rule) -> Result<bool, Alloc
     }
 }
 
-// Looks for what a run may be put in place of.
+// Searches repetitions that a forward search may replace.
 #[derive(Drop)]
 struct Turns;
 

@@ -1,4 +1,4 @@
-//! Puts literals in sequence together.
+//! The pass `concatenate`, which joins literals in sequence.
 ghost use Rattle.std.specs.Prelude.{◌≡◌, IfErr, IfOk};
 ghost use Rattle.meta_base.specs.Rewritings.Replacing.{KeepsOutcomes, IsChained};
 ghost use Rattle.meta_base.specs.Rewritings.Rewriting.{IsDone, Joins};
@@ -14,9 +14,10 @@ use meta_ast::ast::{Expr, Rule, RuleType};
 use meta_ast::deep::Deep;
 use std::alloc::{AllocError, Global};
 
-/// The rule; if it is Atomic, with literals in sequence put together: `"a" ~ "b"` becomes `"ab"`, and
-/// `^"a" ~ ^"b"` becomes `^"ab"`, until no two such stand side by side in one `~`. Name and type stay, and so
-/// do the outcomes from every start, in every grammar that has the rule. The only fault is a want of memory.
+/// Returns the rule; if it is Atomic, with literals in sequence joined: `"a" ~ "b"` becomes `"ab"`, and
+/// `^"a" ~ ^"b"` becomes `^"ab"`, until no two such are side by side in one `~`. Name and type stay, and
+/// so do the outcomes from every start, in every grammar that has the rule. The only fault is an
+/// allocation failure.
 pub fn concatenate(alloc: Global, rule: Rule) -> Result<Rule, Fault>
     ensures name { IfOk result (λ r. text_of r.name ≡ text_of rule.name) }
     ensures ty { IfOk result (λ r. r.ty ≡ rule.ty) }
@@ -29,7 +30,7 @@ pub fn concatenate(alloc: Global, rule: Rule) -> Result<Rule, Fault>
     let Rule { name, ty, expr } = rule;
     match ty {
         RuleType::Atomic => {
-            let expr = joined(alloc, expr)?;
+            let expr = join_literals(alloc, expr)?;
             Ok(Rule { name, ty, expr })
         }
         _ => Ok(Rule { name, ty, expr }),
@@ -53,8 +54,8 @@ impl Pass for Concatenator {
     }
 }
 
-// The expression, with literals put together.
-fn joined(alloc: Global, expr: Expr) -> Result<Expr, AllocError>
+// Joins the literals of an expression.
+fn join_literals(alloc: Global, expr: Expr) -> Result<Expr, AllocError>
     ensures { IfOk result
         (λ e. BottomUp (λ a b. joined_here a ≡ b) (expression_of expr) (expression_of e)) }
 {

@@ -1,4 +1,4 @@
-//! Rules as optimized rules.
+//! The conversion of rules to optimized rules.
 ghost use Rattle.std.specs.Prelude.{◌≡◌, ◌*◌, [], IfOk};
 ghost use Rattle.meta_base.specs.Language.Expression.{Expression};
 ghost use Rattle.meta_ast.specs.Ast.{expression_of, rule_of_code};
@@ -15,31 +15,31 @@ use crate::{OptimizedExpr, OptimizedRule};
 use meta_ast::ast::{Expr, Rule, Sign};
 use meta_ast::deep::Deep;
 use meta_ast::optimized::{PlainSign, Sign as OptimizedSign};
-use meta_ast::rebuilt::{Rebuild, Step, rebuilt};
+use meta_ast::rebuilt::{Rebuild, Step, rebuild_tree};
 use meta_ast::shape::{Joint, Shape, Shaped};
 use std::alloc::{AllocError, Global};
 
-/// The same rule, as an optimized one. The only fault is a want of memory.
+/// Converts a rule to an optimized one. The only fault is an allocation failure.
 pub(crate) fn rule_to_optimized_rule(alloc: Global, rule: Rule) -> Result<OptimizedRule, AllocError>
     requires { IsUnrolled (expression_of rule.expr) }
     ensures { IfOk result (λ r. optimized_rule_of r ≡ rule_of_code rule) }
 {
     let Rule { name, ty, expr } = rule;
-    let expr = rebuilt::<Around>(alloc, expr)?;
+    let expr = rebuild_tree::<ConversionFrame>(alloc, expr)?;
     Ok(OptimizedRule { name, ty, expr })
 }
 
-/// What stands around an operand while that is made an optimized one.
+/// A continuation frame of the conversion.
 #[derive(Drop)]
-enum Around {
+enum ConversionFrame {
     Sign(OptimizedSign),
     /// The operand is the left one, and this the right one.
     First(Joint, Deep<Box<Expr>>),
-    /// The operand is the right one, and this the left one as it is made.
+    /// The operand is the right one, and this the converted left one.
     Second(Joint, Deep<Box<OptimizedExpr>>),
 }
 
-impl Rebuild for Around {
+impl Rebuild for ConversionFrame {
     type Source = Expr;
 
     type Target = OptimizedExpr;
@@ -61,15 +61,15 @@ impl Rebuild for Around {
     ghost waits = { λ around. waits_of around };
 
     #[tactic(auto, using(crate::proofs::Converting::uncounted))]
-    fn open(expr: Expr) -> Result<Step<Expr, Around, OptimizedExpr>, AllocError> {
+    fn open(expr: Expr) -> Result<Step<Expr, ConversionFrame, OptimizedExpr>, AllocError> {
         match expr.open() {
-            Shape::Leaf(leaf) => Ok(Step::Made(optimized_leaf(leaf))),
+            Shape::Leaf(leaf) => Ok(Step::Made(convert_leaf(leaf))),
             Shape::One(sign, operand) => {
-                let around = Around::Sign(optimized_sign(sign));
+                let around = ConversionFrame::Sign(convert_operator(sign));
                 Ok(Step::Inside(around, Box::into_inner(operand)))
             }
             Shape::Two(joint, left, right) => {
-                let around = Around::First(joint, Deep { value: right });
+                let around = ConversionFrame::First(joint, Deep { value: right });
                 Ok(Step::Inside(around, Box::into_inner(left)))
             }
         }
@@ -79,18 +79,18 @@ impl Rebuild for Around {
         self,
         alloc: Global,
         operand: OptimizedExpr,
-    ) -> Result<Step<Expr, Around, OptimizedExpr>, AllocError> {
-        let operand = Deep { value: operand }.boxed(alloc)?;
+    ) -> Result<Step<Expr, ConversionFrame, OptimizedExpr>, AllocError> {
+        let operand = Deep { value: operand }.into_box(alloc)?;
         match self {
-            Around::Sign(sign) => {
+            ConversionFrame::Sign(sign) => {
                 let whole = OptimizedExpr::enclose(sign, operand.into_inner());
                 Ok(Step::Made(whole))
             }
-            Around::First(joint, right) => {
-                let around = Around::Second(joint, operand);
+            ConversionFrame::First(joint, right) => {
+                let around = ConversionFrame::Second(joint, operand);
                 Ok(Step::Inside(around, Box::into_inner(right.into_inner())))
             }
-            Around::Second(joint, left) => {
+            ConversionFrame::Second(joint, left) => {
                 let whole = OptimizedExpr::join(joint, left.into_inner(), operand.into_inner());
                 Ok(Step::Made(whole))
             }
@@ -98,8 +98,8 @@ impl Rebuild for Around {
     }
 }
 
-/// What stands round an operand, as it stands round an optimized one.
-fn optimized_sign(sign: Sign) -> OptimizedSign
+/// Converts the operator round an operand.
+fn convert_operator(sign: Sign) -> OptimizedSign
     requires { IsUncounted sign }
     ensures { (operand : Expression) → under_sign result operand ≡ under (unary_of sign) operand }
 {
@@ -117,8 +117,8 @@ fn optimized_sign(sign: Sign) -> OptimizedSign
     OptimizedSign::Plain(sign)
 }
 
-/// An expression without operands.
-fn optimized_leaf(leaf: Expr) -> OptimizedExpr
+/// Converts an expression without operands.
+fn convert_leaf(leaf: Expr) -> OptimizedExpr
     requires { operands (expression_of leaf) ≡ [] }
     ensures { optimized_expression_of result ≡ expression_of leaf }
 {

@@ -1,15 +1,15 @@
-//! Whether counts are readable.
+//! Tests of readable counts.
 ghost use Rattle.std.specs.Prelude.{◌↔◌, IfOk, IsTrue};
 ghost use Rattle.meta_base.specs.Language.WellFormed.{CountIsReadable, HasReadableCounts};
 ghost use Rattle.meta_ast.specs.Ast.{expression_of, rules_of};
 ghost use Rattle.meta_optimizer.specs.Counts.{IsNoPair, PartsAreReadable};
 
-use crate::traversal::{Held, held_by};
+use crate::traversal::{Children, children_of};
 use meta_ast::ast::{Expr, Rule};
 use std::alloc::{AllocError, Global};
 
-/// Whether nothing in the rules may be repeated 0 times at most: each count of `e{n}` and `e{,n}`
-/// and each upper one of `e{m, n}` is at least 1. So it is for no rules.
+/// Reports whether nothing in the rules may be repeated 0 times at most, so that each count of `e{n}` and
+/// `e{,n}` and each upper one of `e{m, n}` is at least 1. For no rules the answer is yes.
 pub fn counts_are_readable(rules: &Vec<Rule>) -> bool
     ensures { IsTrue result ↔ HasReadableCounts (rules_of rules.now.items) }
 {
@@ -21,8 +21,7 @@ pub fn counts_are_readable(rules: &Vec<Rule>) -> bool
     true
 }
 
-// The same of an expression, with a list of what is left to be looked at; by calls where there is no memory
-// for it.
+// Tests an expression iteratively; where memory for the worklist is refused, recursively.
 fn is_readable(alloc: Global, expr: &Expr) -> bool
     ensures { IsTrue result ↔ PartsAreReadable (expression_of expr.now) }
 {
@@ -32,7 +31,7 @@ fn is_readable(alloc: Global, expr: &Expr) -> bool
     }
 }
 
-// The same by a loop. The only fault is a want of memory.
+// Tests an expression iteratively. The only fault is an allocation failure.
 fn is_readable_by_list(alloc: Global, expr: &Expr) -> Result<bool, AllocError>
     ensures { IfOk result (λ answer. IsTrue answer ↔ PartsAreReadable (expression_of expr.now)) }
 {
@@ -42,12 +41,12 @@ fn is_readable_by_list(alloc: Global, expr: &Expr) -> Result<bool, AllocError>
         if !has_readable_count(node) {
             return Ok(false);
         }
-        match held_by(node) {
-            Held::Nothing => {}
-            Held::One(inner) => {
+        match children_of(node) {
+            Children::Nothing => {}
+            Children::One(inner) => {
                 waiting.push(inner)?;
             }
-            Held::Two(left, right) => {
+            Children::Two(left, right) => {
                 waiting.push(right)?;
                 waiting.push(left)?;
             }
@@ -56,7 +55,7 @@ fn is_readable_by_list(alloc: Global, expr: &Expr) -> Result<bool, AllocError>
     Ok(true)
 }
 
-// Whether an expression is no count of at most 0; nothing is asked of what stands in it.
+// Reports whether an expression is no count of at most 0; its operands are not tested.
 fn has_readable_count(expr: &Expr) -> bool
     ensures { IsTrue result ↔ CountIsReadable (expression_of expr.now) }
 {
@@ -68,8 +67,7 @@ fn has_readable_count(expr: &Expr) -> bool
     }
 }
 
-// Whether nothing in an expression may be repeated 0 times at most, by calls. A `~` or `|` is walked along
-// the side on which its own sign stands.
+// Tests an expression recursively. A `~` or `|` is walked along the side on which its own operator is.
 #[cycle(is_readable_by_calls)]
 fn is_readable_by_calls(expr: &Expr) -> bool
     ensures { IsTrue result ↔ PartsAreReadable (expression_of expr.now) }
@@ -110,7 +108,7 @@ fn is_readable_by_calls(expr: &Expr) -> bool
     }
 }
 
-// The same of what is neither `~` nor `|`.
+// Tests an expression recursively that is neither `~` nor `|`.
 #[cycle(is_readable_by_calls)]
 fn is_single_readable(expr: &Expr) -> bool
     requires { IsNoPair (expression_of expr.now) }

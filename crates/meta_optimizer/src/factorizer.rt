@@ -1,4 +1,4 @@
-//! Takes out what two alternatives have in common.
+//! The pass `factor`, which takes out the common part of two alternatives.
 ghost use Rattle.std.specs.Prelude.{◌≡◌, ◌≤◌, IfErr, IfOk};
 ghost use Rattle.std.specs.Bool.{OnTrue};
 ghost use Rattle.meta_base.specs.Language.Expression.{Choice, Seq};
@@ -17,10 +17,10 @@ use meta_ast::ast::{Expr, Rule, RuleType};
 use meta_ast::deep::Deep;
 use std::alloc::{AllocError, Global};
 
-/// The rule with what two alternatives have in common taken out, once at each choice, from the root down:
-/// `(l ~ r) | (l ~ q)` becomes `l ~ (r | q)`; in the two atomic types `(l ~ r) | l` becomes `l ~ r?`;
-/// `l | (l ~ r)` becomes `l`. Name and type stay, and so do the outcomes from every start, in every grammar
-/// that has the rule. The only fault is a want of memory.
+/// Returns the rule with the common part of two alternatives taken out, once at each choice, from the
+/// root down: `(l ~ r) | (l ~ q)` becomes `l ~ (r | q)`; in the two atomic types `(l ~ r) | l` becomes `l
+/// ~ r?`; `l | (l ~ r)` becomes `l`. Name and type stay, and so do the outcomes from every start, in
+/// every grammar that has the rule. The only fault is an allocation failure.
 pub fn factor(alloc: Global, rule: Rule) -> Result<Rule, Fault>
     ensures name { IfOk result (λ r. text_of r.name ≡ text_of rule.name) }
     ensures ty { IfOk result (λ r. r.ty ≡ rule.ty) }
@@ -57,13 +57,13 @@ impl Pass for Factorizer {
 impl Shrink for Factorizer {
     fn shrink(&self, alloc: Global, expr: Expr) -> Result<Expr, AllocError> {
         match expr {
-            Expr::Choice(left, right) => factored(alloc, self.ty, left, right),
+            Expr::Choice(left, right) => factor_choice(alloc, self.ty, left, right),
             other => Ok(other),
         }
     }
 }
 
-// Whether `left | right` stays.
+// Reports whether `left | right` stays.
 fn has_nothing_common(ty: RuleType, left: &Expr, right: &Expr) -> bool
     ensures { OnTrue result
         (factored_choice (rule_type_of ty) (expression_of left.now) (expression_of right.now)
@@ -80,8 +80,8 @@ fn has_nothing_common(ty: RuleType, left: &Expr, right: &Expr) -> bool
     }
 }
 
-// `left | right`, factored.
-fn factored(
+// Factors `left | right`.
+fn factor_choice(
     alloc: Global,
     ty: RuleType,
     left: Box<Expr>,
@@ -96,18 +96,18 @@ fn factored(
             (_, Expr::Seq(other_front, other_back)) => {
                 if *front == *other_front {
                     Box::into_inner(other_front).release();
-                    return before(alloc, front, Expr::Choice(back, other_back));
+                    return make_sequence(alloc, front, Expr::Choice(back, other_back));
                 }
-                beside(
+                make_choice(
                     alloc,
                     Expr::Seq(front, back),
                     Expr::Seq(other_front, other_back),
                 )
             }
-            (RuleType::Atomic | RuleType::CompoundAtomic, right) => optional(
+            (RuleType::Atomic | RuleType::CompoundAtomic, right) => factor_optional(
                 alloc, front, back, right,
             ),
-            (_, right) => beside(alloc, Expr::Seq(front, back), right),
+            (_, right) => make_choice(alloc, Expr::Seq(front, back), right),
         },
         left => match Box::into_inner(right) {
             Expr::Seq(front, back) => {
@@ -115,33 +115,33 @@ fn factored(
                     Expr::Seq(front, back).release();
                     return Ok(left);
                 }
-                beside(alloc, left, Expr::Seq(front, back))
+                make_choice(alloc, left, Expr::Seq(front, back))
             }
-            right => beside(alloc, left, right),
+            right => make_choice(alloc, left, right),
         },
     }
 }
 
-// `front ~ back`.
-fn before(alloc: Global, front: Box<Expr>, back: Expr) -> Result<Expr, AllocError>
+// Makes `front ~ back`.
+fn make_sequence(alloc: Global, front: Box<Expr>, back: Expr) -> Result<Expr, AllocError>
     ensures { IfOk result
         (λ e. expression_of e ≡ Seq (expression_of front.value) (expression_of back)) }
 {
     let front = Deep { value: front };
-    let back = Deep { value: back }.boxed(alloc)?;
+    let back = Deep { value: back }.into_box(alloc)?;
     Ok(Expr::Seq(front.into_inner(), back.into_inner()))
 }
 
-// `left | right`.
-fn beside(alloc: Global, left: Expr, right: Expr) -> Result<Expr, AllocError>
+// Makes `left | right`.
+fn make_choice(alloc: Global, left: Expr, right: Expr) -> Result<Expr, AllocError>
     ensures { IfOk result
         (λ e. expression_of e ≡ Choice (expression_of left) (expression_of right)) }
 {
     choice_of(alloc, Deep { value: left }, Deep { value: right })
 }
 
-// `(front ~ back) | right` in the atomic types, factored.
-fn optional(
+// Factors `(front ~ back) | right` in the atomic types.
+fn factor_optional(
     alloc: Global,
     front: Box<Expr>,
     back: Box<Expr>,
@@ -153,7 +153,7 @@ fn optional(
 {
     if *front == right {
         right.release();
-        return before(alloc, front, Expr::Opt(back));
+        return make_sequence(alloc, front, Expr::Opt(back));
     }
-    beside(alloc, Expr::Seq(front, back), right)
+    make_choice(alloc, Expr::Seq(front, back), right)
 }

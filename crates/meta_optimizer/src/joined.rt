@@ -1,4 +1,4 @@
-//! Literals in sequence put together by a loop, however they nest: each text is copied once.
+//! The iterative join of literals in sequence, however they nest: every text is copied once.
 ghost use Rattle.std.specs.Prelude.{◌≡◌, ◌++◌, ◌*◌, ⊤, IfOk};
 ghost use Rattle.meta_base.specs.Language.Expression.{Expression, Insens, Seq, Str};
 ghost use Rattle.meta_ast.specs.Ast.{expression_of, text_of};
@@ -8,40 +8,40 @@ ghost use Rattle.meta_optimizer.specs.Joined.{concatenated, in_order, joined_wit
 
 use meta_ast::ast::Expr;
 use meta_ast::deep::{Deep, Release};
-use meta_ast::rebuilt::{Rebuild, Step, rebuilt};
+use meta_ast::rebuilt::{Rebuild, Step, rebuild_tree};
 use std::alloc::{AllocError, Global};
 use std::collections::VecDeque;
 
-/// The expression with two literals in sequence as one, at each node from the leaves up. The only fault is a
-/// want of memory.
+/// Returns the expression with two literals in sequence as one, at each node from the leaves up. The only
+/// fault is an allocation failure.
 pub(crate) fn with_literals_joined(alloc: Global, expr: Expr) -> Result<Expr, AllocError>
     ensures { IfOk result (λ e. expression_of e ≡ concatenated (expression_of expr)) }
 {
-    let joined = rebuilt::<Around>(alloc, expr)?;
-    whole(alloc, joined)
+    let joined = rebuild_tree::<JoinFrame>(alloc, expr)?;
+    into_expr(alloc, joined)
 }
 
-// An expression that is made. A literal of several is kept in parts, so that others can be put before it and
-// behind it.
+// A rebuilt expression. A literal of several is kept in parts, so that others can be put before it and
+// after it.
 #[derive(Drop)]
-enum Joined {
+enum JoinedExpr {
     Texts(VecDeque<String>),
     Insensitive(VecDeque<String>),
     Other(Expr),
 }
 
-impl Release for Joined {
+impl Release for JoinedExpr {
     fn release(self) {
         match self {
-            Joined::Texts(_) | Joined::Insensitive(_) => {}
-            Joined::Other(expr) => expr.release(),
+            JoinedExpr::Texts(_) | JoinedExpr::Insensitive(_) => {}
+            JoinedExpr::Other(expr) => expr.release(),
         }
     }
 }
 
-// What stands around an operand.
+// A continuation frame of the join.
 #[derive(Drop)]
-enum Around {
+enum JoinFrame {
     PosPred,
     NegPred,
     Opt,
@@ -53,17 +53,18 @@ enum Around {
     RepMinMax(u32, u32),
     Push,
     NodeTag(String),
-    // A `~` or a `|` whose left side is at hand, with the right one; and with the left one as it is made.
+    // The left side of a `~` or a `|` is being rebuilt, and the right one waits; or the left one is
+    // rebuilt.
     FirstOfSeq(Deep<Box<Expr>>),
     FirstOfChoice(Deep<Box<Expr>>),
-    SecondOfSeq(Deep<Joined>),
+    SecondOfSeq(Deep<JoinedExpr>),
     SecondOfChoice(Deep<Box<Expr>>),
 }
 
-impl Rebuild for Around {
+impl Rebuild for JoinFrame {
     type Source = Expr;
 
-    type Target = Joined;
+    type Target = JoinedExpr;
 
     ghost Meaning = { Expression };
 
@@ -81,22 +82,22 @@ impl Rebuild for Around {
 
     ghost waits = { λ around. waits_of around };
 
-    fn open(expr: Expr) -> Result<Step<Expr, Around, Joined>, AllocError> {
+    fn open(expr: Expr) -> Result<Step<Expr, JoinFrame, JoinedExpr>, AllocError> {
         let (around, operand) = match expr {
-            Expr::PosPred(inner) => (Around::PosPred, inner),
-            Expr::NegPred(inner) => (Around::NegPred, inner),
-            Expr::Opt(inner) => (Around::Opt, inner),
-            Expr::Rep(inner) => (Around::Rep, inner),
-            Expr::RepOnce(inner) => (Around::RepOnce, inner),
-            Expr::RepExact(inner, count) => (Around::RepExact(count), inner),
-            Expr::RepMin(inner, min) => (Around::RepMin(min), inner),
-            Expr::RepMax(inner, max) => (Around::RepMax(max), inner),
-            Expr::RepMinMax(inner, min, max) => (Around::RepMinMax(min, max), inner),
-            Expr::Push(inner) => (Around::Push, inner),
-            Expr::NodeTag(inner, tag) => (Around::NodeTag(tag), inner),
-            Expr::Seq(left, right) => (Around::FirstOfSeq(Deep { value: right }), left),
-            Expr::Choice(left, right) => (Around::FirstOfChoice(Deep { value: right }), left),
-            leaf => return Ok(Step::Made(Joined::Other(leaf))),
+            Expr::PosPred(inner) => (JoinFrame::PosPred, inner),
+            Expr::NegPred(inner) => (JoinFrame::NegPred, inner),
+            Expr::Opt(inner) => (JoinFrame::Opt, inner),
+            Expr::Rep(inner) => (JoinFrame::Rep, inner),
+            Expr::RepOnce(inner) => (JoinFrame::RepOnce, inner),
+            Expr::RepExact(inner, count) => (JoinFrame::RepExact(count), inner),
+            Expr::RepMin(inner, min) => (JoinFrame::RepMin(min), inner),
+            Expr::RepMax(inner, max) => (JoinFrame::RepMax(max), inner),
+            Expr::RepMinMax(inner, min, max) => (JoinFrame::RepMinMax(min, max), inner),
+            Expr::Push(inner) => (JoinFrame::Push, inner),
+            Expr::NodeTag(inner, tag) => (JoinFrame::NodeTag(tag), inner),
+            Expr::Seq(left, right) => (JoinFrame::FirstOfSeq(Deep { value: right }), left),
+            Expr::Choice(left, right) => (JoinFrame::FirstOfChoice(Deep { value: right }), left),
+            leaf => return Ok(Step::Made(JoinedExpr::Other(leaf))),
         };
         Ok(Step::Inside(around, Box::into_inner(operand)))
     }
@@ -104,65 +105,65 @@ impl Rebuild for Around {
     fn close(
         self,
         alloc: Global,
-        operand: Joined,
-    ) -> Result<Step<Expr, Around, Joined>, AllocError> {
+        operand: JoinedExpr,
+    ) -> Result<Step<Expr, JoinFrame, JoinedExpr>, AllocError> {
         let around = match self {
-            Around::FirstOfSeq(right) => {
+            JoinFrame::FirstOfSeq(right) => {
                 let left = Deep { value: operand };
                 let right = Box::into_inner(right.into_inner());
-                return Ok(Step::Inside(Around::SecondOfSeq(left), right));
+                return Ok(Step::Inside(JoinFrame::SecondOfSeq(left), right));
             }
-            Around::SecondOfSeq(left) => {
-                return Ok(Step::Made(beside(alloc, left.into_inner(), operand)?));
+            JoinFrame::SecondOfSeq(left) => {
+                return Ok(Step::Made(join_pair(alloc, left.into_inner(), operand)?));
             }
             around => around,
         };
-        let operand = boxed(alloc, operand)?;
+        let operand = into_box(alloc, operand)?;
         let whole = match around {
-            Around::FirstOfChoice(right) => {
+            JoinFrame::FirstOfChoice(right) => {
                 let right = Box::into_inner(right.into_inner());
-                return Ok(Step::Inside(Around::SecondOfChoice(Deep { value: operand }), right));
+                return Ok(Step::Inside(JoinFrame::SecondOfChoice(Deep { value: operand }), right));
             }
-            Around::SecondOfChoice(left) => Expr::Choice(left.into_inner(), operand),
-            Around::PosPred => Expr::PosPred(operand),
-            Around::NegPred => Expr::NegPred(operand),
-            Around::Opt => Expr::Opt(operand),
-            Around::Rep => Expr::Rep(operand),
-            Around::RepOnce => Expr::RepOnce(operand),
-            Around::RepExact(count) => Expr::RepExact(operand, count),
-            Around::RepMin(min) => Expr::RepMin(operand, min),
-            Around::RepMax(max) => Expr::RepMax(operand, max),
-            Around::RepMinMax(min, max) => Expr::RepMinMax(operand, min, max),
-            Around::Push => Expr::Push(operand),
-            Around::NodeTag(tag) => Expr::NodeTag(operand, tag),
-            Around::FirstOfSeq(_) | Around::SecondOfSeq(_) => unreachable!("a side of a `~`"),
+            JoinFrame::SecondOfChoice(left) => Expr::Choice(left.into_inner(), operand),
+            JoinFrame::PosPred => Expr::PosPred(operand),
+            JoinFrame::NegPred => Expr::NegPred(operand),
+            JoinFrame::Opt => Expr::Opt(operand),
+            JoinFrame::Rep => Expr::Rep(operand),
+            JoinFrame::RepOnce => Expr::RepOnce(operand),
+            JoinFrame::RepExact(count) => Expr::RepExact(operand, count),
+            JoinFrame::RepMin(min) => Expr::RepMin(operand, min),
+            JoinFrame::RepMax(max) => Expr::RepMax(operand, max),
+            JoinFrame::RepMinMax(min, max) => Expr::RepMinMax(operand, min, max),
+            JoinFrame::Push => Expr::Push(operand),
+            JoinFrame::NodeTag(tag) => Expr::NodeTag(operand, tag),
+            JoinFrame::FirstOfSeq(_) | JoinFrame::SecondOfSeq(_) => unreachable!("a side of a `~`"),
         };
-        Ok(Step::Made(Joined::Other(whole)))
+        Ok(Step::Made(JoinedExpr::Other(whole)))
     }
 }
 
-// What is made, as an expression.
-fn whole(alloc: Global, joined: Joined) -> Result<Expr, AllocError>
+// Makes an expression of a rebuilt one.
+fn into_expr(alloc: Global, joined: JoinedExpr) -> Result<Expr, AllocError>
     ensures { IfOk result (λ e. expression_of e ≡ said_by joined) }
 {
     match joined {
-        Joined::Texts(parts) => Ok(Expr::Str(together(alloc, parts)?)),
-        Joined::Insensitive(parts) => Ok(Expr::Insens(together(alloc, parts)?)),
-        Joined::Other(expr) => Ok(expr),
+        JoinedExpr::Texts(parts) => Ok(Expr::Str(concatenate_texts(alloc, parts)?)),
+        JoinedExpr::Insensitive(parts) => Ok(Expr::Insens(concatenate_texts(alloc, parts)?)),
+        JoinedExpr::Other(expr) => Ok(expr),
     }
 }
 
-fn boxed(alloc: Global, joined: Joined) -> Result<Box<Expr>, AllocError>
+fn into_box(alloc: Global, joined: JoinedExpr) -> Result<Box<Expr>, AllocError>
     ensures { IfOk result (λ e. expression_of e.value ≡ said_by joined) }
 {
     let expr = Deep {
-        value: whole(alloc, joined)?,
+        value: into_expr(alloc, joined)?,
     };
-    Ok(expr.boxed(alloc)?.into_inner())
+    Ok(expr.into_box(alloc)?.into_inner())
 }
 
-// The texts one after another.
-fn together(alloc: Global, texts: VecDeque<String>) -> Result<String, AllocError>
+// Concatenates texts.
+fn concatenate_texts(alloc: Global, texts: VecDeque<String>) -> Result<String, AllocError>
     ensures { IfOk result (λ text. text_of text ≡ in_order texts.items) }
 {
     let mut parts = texts;
@@ -173,78 +174,86 @@ fn together(alloc: Global, texts: VecDeque<String>) -> Result<String, AllocError
     Ok(text)
 }
 
-// `left ~ right`, or one literal.
-fn beside(alloc: Global, left: Joined, right: Joined) -> Result<Joined, AllocError>
+// Makes `left ~ right`, or one literal.
+fn join_pair(alloc: Global, left: JoinedExpr, right: JoinedExpr) -> Result<JoinedExpr, AllocError>
     ensures { IfOk result
         (λ j. said_by j ≡ joined_here (Seq (said_by left) (said_by right))) }
 {
     match left {
-        Joined::Texts(first) => behind_texts(alloc, first, right),
-        Joined::Insensitive(first) => behind_insensitive(alloc, first, right),
-        Joined::Other(left) => behind_other(alloc, left, right),
+        JoinedExpr::Texts(first) => append_to_texts(alloc, first, right),
+        JoinedExpr::Insensitive(first) => append_to_insensitive(alloc, first, right),
+        JoinedExpr::Other(left) => append_to_other(alloc, left, right),
     }
 }
 
-// The same, where a literal of several stands on the left.
-fn behind_texts(alloc: Global, first: VecDeque<String>, right: Joined) -> Result<Joined, AllocError>
+// Makes `left ~ right`, or one literal, where the left side is a literal of several.
+fn append_to_texts(
+    alloc: Global,
+    first: VecDeque<String>,
+    right: JoinedExpr,
+) -> Result<JoinedExpr, AllocError>
     ensures { IfOk result
         (λ j. said_by j ≡ joined_here (Seq (Str (in_order first.items)) (said_by right))) }
 {
     match right {
-        Joined::Texts(last) => Ok(Joined::Texts(both(first, last)?)),
-        Joined::Other(Expr::Str(last)) => Ok(Joined::Texts(behind(first, last)?)),
-        right => apart(alloc, Expr::Str(together(alloc, first)?), right),
+        JoinedExpr::Texts(last) => Ok(JoinedExpr::Texts(append_parts(first, last)?)),
+        JoinedExpr::Other(Expr::Str(last)) => Ok(JoinedExpr::Texts(append_part(first, last)?)),
+        right => keep_apart(alloc, Expr::Str(concatenate_texts(alloc, first)?), right),
     }
 }
 
-// The same of letters of either case.
-fn behind_insensitive(
+// Makes `left ~ right`, or one literal, where the left side is a case-insensitive literal of several.
+fn append_to_insensitive(
     alloc: Global,
     first: VecDeque<String>,
-    right: Joined,
-) -> Result<Joined, AllocError>
+    right: JoinedExpr,
+) -> Result<JoinedExpr, AllocError>
     ensures { IfOk result
         (λ j. said_by j ≡ joined_here (Seq (Insens (in_order first.items)) (said_by right))) }
 {
     match right {
-        Joined::Insensitive(last) => Ok(Joined::Insensitive(both(first, last)?)),
-        Joined::Other(Expr::Insens(last)) => Ok(Joined::Insensitive(behind(first, last)?)),
-        right => apart(alloc, Expr::Insens(together(alloc, first)?), right),
+        JoinedExpr::Insensitive(last) => Ok(JoinedExpr::Insensitive(append_parts(first, last)?)),
+        JoinedExpr::Other(Expr::Insens(last)) => Ok(JoinedExpr::Insensitive(append_part(
+            first, last,
+        )?)),
+        right => keep_apart(alloc, Expr::Insens(concatenate_texts(alloc, first)?), right),
     }
 }
 
-// The same, where an expression stands on the left that was not put together.
-fn behind_other(alloc: Global, left: Expr, right: Joined) -> Result<Joined, AllocError>
+// Makes `left ~ right`, or one literal, where the left side is no literal of several.
+fn append_to_other(alloc: Global, left: Expr, right: JoinedExpr) -> Result<JoinedExpr, AllocError>
     ensures { IfOk result
         (λ j. said_by j ≡ joined_here (Seq (expression_of left) (said_by right))) }
 {
     match (left, right) {
-        (Expr::Str(first), Joined::Texts(parts)) => Ok(Joined::Texts(before(first, parts)?)),
-        (Expr::Str(first), Joined::Other(Expr::Str(last))) => {
-            Ok(Joined::Texts(two(alloc, first, last)?))
+        (Expr::Str(first), JoinedExpr::Texts(parts)) => Ok(JoinedExpr::Texts(prepend_part(
+            first, parts,
+        )?)),
+        (Expr::Str(first), JoinedExpr::Other(Expr::Str(last))) => {
+            Ok(JoinedExpr::Texts(pair_of_parts(alloc, first, last)?))
         }
-        (Expr::Insens(first), Joined::Insensitive(parts)) => {
-            Ok(Joined::Insensitive(before(first, parts)?))
+        (Expr::Insens(first), JoinedExpr::Insensitive(parts)) => {
+            Ok(JoinedExpr::Insensitive(prepend_part(first, parts)?))
         }
-        (Expr::Insens(first), Joined::Other(Expr::Insens(last))) => {
-            Ok(Joined::Insensitive(two(alloc, first, last)?))
+        (Expr::Insens(first), JoinedExpr::Other(Expr::Insens(last))) => {
+            Ok(JoinedExpr::Insensitive(pair_of_parts(alloc, first, last)?))
         }
-        (left, right) => apart(alloc, left, right),
+        (left, right) => keep_apart(alloc, left, right),
     }
 }
 
-// `left ~ right` itself.
-fn apart(alloc: Global, left: Expr, right: Joined) -> Result<Joined, AllocError>
+// Makes `left ~ right` itself.
+fn keep_apart(alloc: Global, left: Expr, right: JoinedExpr) -> Result<JoinedExpr, AllocError>
     ensures { IfOk result (λ j. said_by j ≡ Seq (expression_of left) (said_by right)) }
 {
     let right = Deep { value: right };
-    let left = Deep { value: left }.boxed(alloc)?;
-    let right = boxed(alloc, right.into_inner())?;
-    Ok(Joined::Other(Expr::Seq(left.into_inner(), right)))
+    let left = Deep { value: left }.into_box(alloc)?;
+    let right = into_box(alloc, right.into_inner())?;
+    Ok(JoinedExpr::Other(Expr::Seq(left.into_inner(), right)))
 }
 
-// The parts of a text of two.
-fn two(alloc: Global, first: String, last: String) -> Result<VecDeque<String>, AllocError>
+// Makes the parts of a text of two.
+fn pair_of_parts(alloc: Global, first: String, last: String) -> Result<VecDeque<String>, AllocError>
     ensures { IfOk result (λ all. in_order all.items ≡ text_of first ++ text_of last) }
 {
     let mut all = VecDeque::new(alloc);
@@ -253,8 +262,8 @@ fn two(alloc: Global, first: String, last: String) -> Result<VecDeque<String>, A
     Ok(all)
 }
 
-// The parts of a text, with another one before them.
-fn before(first: String, parts: VecDeque<String>) -> Result<VecDeque<String>, AllocError>
+// Puts a part before the parts of a text.
+fn prepend_part(first: String, parts: VecDeque<String>) -> Result<VecDeque<String>, AllocError>
     ensures { IfOk result (λ all. in_order all.items ≡ text_of first ++ in_order parts.items) }
 {
     let mut all = parts;
@@ -262,8 +271,8 @@ fn before(first: String, parts: VecDeque<String>) -> Result<VecDeque<String>, Al
     Ok(all)
 }
 
-// The parts of a text, with another one behind them.
-fn behind(parts: VecDeque<String>, last: String) -> Result<VecDeque<String>, AllocError>
+// Puts a part after the parts of a text.
+fn append_part(parts: VecDeque<String>, last: String) -> Result<VecDeque<String>, AllocError>
     ensures { IfOk result (λ all. in_order all.items ≡ in_order parts.items ++ text_of last) }
 {
     let mut all = parts;
@@ -271,13 +280,16 @@ fn behind(parts: VecDeque<String>, last: String) -> Result<VecDeque<String>, All
     Ok(all)
 }
 
-// The parts of two texts, one text behind the other. The fewer of them are moved, so that no part is moved
+// Appends the parts of a text to those of another. The shorter list is moved, so that no part is moved
 // often.
-fn both(first: VecDeque<String>, last: VecDeque<String>) -> Result<VecDeque<String>, AllocError>
+fn append_parts(
+    first: VecDeque<String>,
+    last: VecDeque<String>,
+) -> Result<VecDeque<String>, AllocError>
     ensures { IfOk result (λ all. in_order all.items ≡ in_order first.items ++ in_order last.items) }
 {
     if first.len() < last.len() {
-        return all_before(first, last);
+        return prepend_all(first, last);
     }
     let mut all = first;
     let mut others = last;
@@ -285,8 +297,8 @@ fn both(first: VecDeque<String>, last: VecDeque<String>) -> Result<VecDeque<Stri
     Ok(all)
 }
 
-// The parts of two texts, where the first ones are moved.
-fn all_before(
+// Appends the parts of a text to those of another by moving the first ones.
+fn prepend_all(
     first: VecDeque<String>,
     last: VecDeque<String>,
 ) -> Result<VecDeque<String>, AllocError>

@@ -1,4 +1,4 @@
-//! Lists: `(x ~ y)* ~ x` as `x ~ (y ~ x)*`.
+//! The pass `list`: `(x ~ y)* ~ x` as `x ~ (y ~ x)*`.
 ghost use Rattle.std.specs.Prelude.{◌≡◌, IfErr, IfOk};
 ghost use Rattle.std.specs.Bool.{OnTrue};
 ghost use Rattle.meta_base.specs.Language.Expression.{Rep, Seq};
@@ -15,9 +15,9 @@ use meta_ast::ast::{Expr, Rule};
 use meta_ast::deep::Deep;
 use std::alloc::{AllocError, Global};
 
-/// The rule with each `(x ~ y)* ~ x` as `x ~ (y ~ x)*`, what stands inside first. Name and type stay. Of an
-/// Atomic or CompoundAtomic rule that is such a list, what it matched is matched still; else a listed rule
-/// may match otherwise. The only fault is a want of memory.
+/// Returns the rule with each `(x ~ y)* ~ x` as `x ~ (y ~ x)*`, inner ones first. Name and type stay.
+/// Where an Atomic or CompoundAtomic rule is such a list, the result matches all that the rule matched;
+/// else a listed rule may match otherwise. The only fault is an allocation failure.
 pub fn list(alloc: Global, rule: Rule) -> Result<Rule, Fault>
     ensures name { IfOk result (λ r. text_of r.name ≡ text_of rule.name) }
     ensures ty { IfOk result (λ r. r.ty ≡ rule.ty) }
@@ -48,7 +48,7 @@ impl Pass for Lister {
 impl Finish for Lister {
     fn finish(&self, alloc: Global, expr: Expr) -> Result<Expr, AllocError> {
         match expr {
-            Expr::Seq(left, right) => sequence(
+            Expr::Seq(left, right) => list_sequence(
                 alloc,
                 Box::into_inner(left),
                 Box::into_inner(right),
@@ -58,7 +58,7 @@ impl Finish for Lister {
     }
 }
 
-// Whether `left ~ right` stays.
+// Reports whether `left ~ right` stays.
 fn is_no_list(left: &Expr, right: &Expr) -> bool
     ensures { OnTrue result
         (listed_sequence (expression_of left.now) (expression_of right.now)
@@ -73,8 +73,8 @@ fn is_no_list(left: &Expr, right: &Expr) -> bool
     }
 }
 
-// `left ~ right`, listed.
-fn sequence(alloc: Global, left: Expr, right: Expr) -> Result<Expr, AllocError>
+// Lists `left ~ right`.
+fn list_sequence(alloc: Global, left: Expr, right: Expr) -> Result<Expr, AllocError>
     ensures { IfOk result
         (λ e. expression_of e ≡ listed_sequence (expression_of left) (expression_of right)) }
 {
@@ -84,19 +84,19 @@ fn sequence(alloc: Global, left: Expr, right: Expr) -> Result<Expr, AllocError>
             Expr::Seq(x, y) => {
                 if *x == right.value {
                     let (x, y) = (Deep { value: x }, Deep { value: y });
-                    return turned(alloc, x, y, right);
+                    return make_list(alloc, x, y, right);
                 }
                 let turn = Expr::Seq(x, y);
-                again(alloc, Deep { value: turn }, right)
+                repeat_then(alloc, Deep { value: turn }, right)
             }
-            turn => again(alloc, Deep { value: turn }, right),
+            turn => repeat_then(alloc, Deep { value: turn }, right),
         },
         left => sequence_of(alloc, Deep { value: left }, right),
     }
 }
 
-// `x ~ (y ~ right)*`.
-fn turned(
+// Makes `x ~ (y ~ right)*`.
+fn make_list(
     alloc: Global,
     x: Deep<Box<Expr>>,
     y: Deep<Box<Expr>>,
@@ -105,20 +105,20 @@ fn turned(
     ensures { IfOk result (λ e. expression_of e ≡ Seq (expression_of x.value.value)
         (Rep (Seq (expression_of y.value.value) (expression_of right.value)))) }
 {
-    let right = right.boxed(alloc)?;
+    let right = right.into_box(alloc)?;
     let turn = Expr::Seq(y.into_inner(), right.into_inner());
-    let turn = Deep { value: turn }.boxed(alloc)?;
+    let turn = Deep { value: turn }.into_box(alloc)?;
     let turns = Expr::Rep(turn.into_inner());
-    let turns = Deep { value: turns }.boxed(alloc)?;
+    let turns = Deep { value: turns }.into_box(alloc)?;
     Ok(Expr::Seq(x.into_inner(), turns.into_inner()))
 }
 
-// `turn* ~ right`.
-fn again(alloc: Global, turn: Deep<Expr>, right: Deep<Expr>) -> Result<Expr, AllocError>
+// Makes `turn* ~ right`.
+fn repeat_then(alloc: Global, turn: Deep<Expr>, right: Deep<Expr>) -> Result<Expr, AllocError>
     ensures { IfOk result
         (λ e. expression_of e ≡ Seq (Rep (expression_of turn.value)) (expression_of right.value)) }
 {
-    let turn = turn.boxed(alloc)?;
+    let turn = turn.into_box(alloc)?;
     let turns = Expr::Rep(turn.into_inner());
     sequence_of(alloc, Deep { value: turns }, right)
 }

@@ -1,4 +1,4 @@
-//! Two expressions side by side.
+//! Expressions with two operands.
 ghost use Rattle.std.specs.Prelude.{◌≡◌, IfOk};
 ghost use Rattle.meta_base.specs.Language.Expression.{Choice, Seq};
 ghost use Rattle.meta_ast.specs.Ast.{expression_of};
@@ -7,7 +7,7 @@ use meta_ast::ast::Expr;
 use meta_ast::deep::Deep;
 use std::alloc::{AllocError, Global};
 
-/// `left ~ right`. Where memory is refused, both are let go by a loop.
+/// Makes `left ~ right`. Where memory is refused, both are dropped iteratively.
 pub(crate) fn sequence_of(
     alloc: Global,
     left: Deep<Expr>,
@@ -16,12 +16,12 @@ pub(crate) fn sequence_of(
     ensures { IfOk result
         (λ e. expression_of e ≡ Seq (expression_of left.value) (expression_of right.value)) }
 {
-    let left = left.boxed(alloc)?;
-    let right = right.boxed(alloc)?;
+    let left = left.into_box(alloc)?;
+    let right = right.into_box(alloc)?;
     Ok(Expr::Seq(left.into_inner(), right.into_inner()))
 }
 
-/// `left | right`. Where memory is refused, both are let go by a loop.
+/// Makes `left | right`. Where memory is refused, both are dropped iteratively.
 pub(crate) fn choice_of(
     alloc: Global,
     left: Deep<Expr>,
@@ -30,7 +30,7 @@ pub(crate) fn choice_of(
     ensures { IfOk result
         (λ e. expression_of e ≡ Choice (expression_of left.value) (expression_of right.value)) }
 {
-    let left = left.boxed(alloc)?;
-    let right = right.boxed(alloc)?;
+    let left = left.into_box(alloc)?;
+    let right = right.into_box(alloc)?;
     Ok(Expr::Choice(left.into_inner(), right.into_inner()))
 }

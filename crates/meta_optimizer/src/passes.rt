@@ -1,18 +1,18 @@
-//! All passes over all rules.
+//! The optimizer: all passes over all rules.
 ghost use Rattle.std.specs.Prelude.{◌≡◌, ◌∷◌, [], IfErr, IfOk, IsOkAnd};
 ghost use Rattle.meta_ast.specs.Ast.{text_of, expression_of, rule_of_code, rule_type_of, rules_of};
 ghost use Rattle.meta_ast.specs.Optimized.{optimized_expression_of, optimized_rules_of};
 ghost use Rattle.meta_base.specs.Language.Expression.{Grammar};
 ghost use Rattle.meta_base.specs.Rewritings.Rewriting.{EachBody};
 ghost use Rattle.meta_restorer.specs.Agreeing.{AgreesLoosely, WrappersSuffice};
-ghost use Rattle.meta_optimizer.specs.Bodies.{AreTold, SufficeFor};
+ghost use Rattle.meta_optimizer.specs.Bodies.{AreRightForAll, SufficeFor};
 ghost use Rattle.meta_base.specs.Pieces.Faults.{IsMemory};
 ghost use Rattle.meta_optimizer.specs.Passes.{AddsOptimized, IsOptimized, IsOptimizedBody};
 
 use crate::bodies::bodies_for_skip;
 use crate::converted::rule_to_optimized_rule;
 use crate::skipper::skip_with;
-use crate::strings::{Names, names_with_strings};
+use crate::strings::{StringNames, names_with_strings};
 use crate::{Fault, OptimizedRule, concatenate, factor, list, rotate, unroll};
 use meta_ast::ast::{Expr, Rule};
 use meta_ast::deep::Deep;
@@ -20,12 +20,12 @@ use meta_restorer::restore_rules;
 use std::alloc::Global;
 use std::collections::HashMap;
 
-/// The optimized rules, in order: `rotate`, `skip`, `unroll`, `concatenate`, `factor` and `list` are done in
-/// each, and `skip` looks names up in the rules as they were handed in; then wrappers are put in, as
-/// `restore_on_err` does. Names and types stay. Up to the listing, if no rule is named `ANY`, the outcomes
-/// from every start are those of the rules that were handed in. Where `WHITESPACE` and `COMMENT` reach no
-/// `POP` and no `POP_ALL`, it does not matter for the rules that are answered what a failed `POP` or
-/// `POP_ALL` leaves of the stack. The only fault is a want of memory.
+/// Returns the optimized rules, in order: `rotate`, `skip`, `unroll`, `concatenate`, `factor` and `list`
+/// are done in each, and `skip` looks names up in the rules as they were handed in; then wrappers are put
+/// in, as `restore_on_err` does. Names and types stay. Up to the listing, if no rule is named `ANY`, the
+/// outcomes from every start are those of the rules that were handed in. Where `WHITESPACE` and `COMMENT`
+/// reach no `POP` and no `POP_ALL`, it does not matter for the rules that are answered what a failed
+/// `POP` or `POP_ALL` leaves of the stack. The only fault is an allocation failure.
 pub fn optimize(alloc: Global, rules: Vec<Rule>) -> Result<Vec<OptimizedRule>, Fault>
     ensures rules { IfOk result
         (λ answer. IsOptimized (rules_of rules.items) (optimized_rules_of answer.items)) }
@@ -40,7 +40,7 @@ pub fn optimize(alloc: Global, rules: Vec<Rule>) -> Result<Vec<OptimizedRule>, F
     restore_rules(alloc, listing?)
 }
 
-// The passes up to the listing over all rules, names being looked up in `bodies`.
+// Runs the passes up to the listing over all rules, where names are looked up in `bodies`.
 fn optimized_rules(
     alloc: Global,
     rules: Vec<Rule>,
@@ -65,15 +65,15 @@ fn optimized_rules(
     }
 }
 
-// What is answered for the rules before this one and for this one: a refusal among those before stays.
+// Adds a rule to the answer for the rules before it; a refusal among those before stays.
 fn with_rule(
     alloc: Global,
     answer: Result<Deep<Vec<OptimizedRule>>, Fault>,
     rule: Rule,
     bodies: &HashMap<String, Expr>,
-    names: &Names<'_>,
+    names: &StringNames<'_>,
 ) -> Result<Deep<Vec<OptimizedRule>>, Fault>
-    ensures added { AreTold bodies.now names.now → IfOk result (λ made. IsOkAnd answer
+    ensures added { AreRightForAll bodies.now names.now → IfOk result (λ made. IsOkAnd answer
         (λ so_far. AddsOptimized bodies.now (rule_of_code rule) (optimized_rules_of so_far.value.items)
         (optimized_rules_of made.value.items))) }
     ensures memory { IfErr answer IsMemory → IfErr result IsMemory }
@@ -85,17 +85,19 @@ fn with_rule(
     Ok(answer)
 }
 
-// The passes up to the listing over one rule, names being looked up in `bodies`, of which `names` tells.
+// Runs the passes up to the listing over one rule, where names are looked up in `bodies`, and `names` has
+// those that denote strings.
 fn optimized_rule(
     alloc: Global,
     rule: Rule,
     bodies: &HashMap<String, Expr>,
-    names: &Names<'_>,
+    names: &StringNames<'_>,
 ) -> Result<OptimizedRule, Fault>
     ensures name { IfOk result (λ r. text_of r.name ≡ text_of rule.name) }
     ensures ty { IfOk result (λ r. r.ty ≡ rule.ty) }
     ensures body { IfOk result
-        (λ r. (g : Grammar) → AreTold bodies.now names.now → SufficeFor bodies.now g (rule_of_code rule ∷ [])
+        (λ r. (g : Grammar) → AreRightForAll bodies.now names.now
+        → SufficeFor bodies.now g (rule_of_code rule ∷ [])
         → IsOptimizedBody g (rule_type_of rule.ty) (expression_of rule.expr)
         (optimized_expression_of r.expr)) }
     ensures memory { IfErr result IsMemory }

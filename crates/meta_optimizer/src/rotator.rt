@@ -1,4 +1,4 @@
-//! Nests `~` and `|` to the right.
+//! The pass `rotate`, which nests `~` and `|` to the right.
 ghost use Rattle.std.specs.Prelude.{◌≡◌, ◌≤◌, ◌+◌, IfErr, IfOk};
 ghost use Rattle.meta_base.specs.Language.Expression.{Seq, Choice};
 ghost use Rattle.meta_base.specs.Rewritings.Replacing.{KeepsOutcomes, IsChained};
@@ -14,9 +14,10 @@ use meta_ast::ast::{Expr, Rule};
 use meta_ast::deep::Deep;
 use std::alloc::{AllocError, Global};
 
-/// The rule with `~` and `|` nested to the right: `(a ~ b) ~ c` becomes `a ~ (b ~ c)`, and so for `|`, until
-/// no `~` has a `~` on its left and no `|` a `|`. Name and type stay, and in every grammar that has the rule,
-/// the rule that is given has the same outcomes from every start. The only fault is a want of memory.
+/// Returns the rule with `~` and `|` nested to the right: `(a ~ b) ~ c` becomes `a ~ (b ~ c)`, and so for
+/// `|`, until no `~` has a `~` on its left and no `|` a `|`. Name and type stay, and in every grammar
+/// that has the rule, the rule that is given has the same outcomes from every start. The only fault is an
+/// allocation failure.
 pub fn rotate(alloc: Global, rule: Rule) -> Result<Rule, Fault>
     ensures name { IfOk result (λ r. text_of r.name ≡ text_of rule.name) }
     ensures ty { IfOk result (λ r. r.ty ≡ rule.ty) }
@@ -61,7 +62,7 @@ impl Shrink for Rotator {
     }
 }
 
-// `left ~ right`, the `~` of whose left side have moved to the right.
+// Makes `left ~ right`, and moves each `~` of the left side to the right.
 fn sequence(alloc: Global, left: Box<Expr>, right: Box<Expr>) -> Result<Expr, AllocError>
     ensures gives { IfOk result
         (λ e. Exhausted Rotates (Seq (expression_of left.value) (expression_of right.value))
@@ -77,18 +78,18 @@ fn sequence(alloc: Global, left: Box<Expr>, right: Box<Expr>) -> Result<Expr, Al
             Expr::Seq(first, second) => {
                 let first = Deep { value: first };
                 let moved = Expr::Seq(second, right.into_inner());
-                right = Deep { value: moved }.boxed(alloc)?;
+                right = Deep { value: moved }.into_box(alloc)?;
                 left = first.into_inner();
             }
             other => {
-                let left = Deep { value: other }.boxed(alloc)?;
+                let left = Deep { value: other }.into_box(alloc)?;
                 return Ok(Expr::Seq(left.into_inner(), right.into_inner()));
             }
         }
     }
 }
 
-// The same for `|`.
+// Makes `left | right`, and moves each `|` of the left side to the right.
 fn choice(alloc: Global, left: Box<Expr>, right: Box<Expr>) -> Result<Expr, AllocError>
     ensures gives { IfOk result
         (λ e. Exhausted Rotates (Choice (expression_of left.value) (expression_of right.value))
@@ -104,11 +105,11 @@ fn choice(alloc: Global, left: Box<Expr>, right: Box<Expr>) -> Result<Expr, Allo
             Expr::Choice(first, second) => {
                 let first = Deep { value: first };
                 let moved = Expr::Choice(second, right.into_inner());
-                right = Deep { value: moved }.boxed(alloc)?;
+                right = Deep { value: moved }.into_box(alloc)?;
                 left = first.into_inner();
             }
             other => {
-                let left = Deep { value: other }.boxed(alloc)?;
+                let left = Deep { value: other }.into_box(alloc)?;
                 return Ok(Expr::Choice(left.into_inner(), right.into_inner()));
             }
         }

@@ -1,28 +1,28 @@
-//! Goes to the next of some texts, in place of looking for them at each character.
+//! The pass `skip`, which makes forward searches of repetitions.
 ghost use Rattle.std.specs.Prelude.{◌≡◌, IfErr, IfOk};
 ghost use Rattle.std.specs.Bool.{OnTrue};
 ghost use Rattle.meta_base.specs.Language.Expression.{Grammar};
 ghost use Rattle.meta_base.specs.Rewritings.Rewriting.{IsDone, SkipsUntil};
 ghost use Rattle.meta_ast.specs.Ast.{text_of, expression_of, rule_of_code, rule_type_of};
-ghost use Rattle.meta_optimizer.specs.Bodies.{AreTold, HoldsBodies, IsTurn, Serve, SkippedHere, TextsUntil};
+ghost use Rattle.meta_optimizer.specs.Bodies.{AreRightForAll, HoldsBodies, IsTurn, Serve, SkippedHere, TextsUntil};
 ghost use Rattle.meta_base.specs.Pieces.Faults.{IsMemory};
 ghost use Rattle.meta_optimizer.specs.Skipped.{IsSkipChained, SkipKeepsOutcomes};
 
 use crate::Fault;
 use crate::bodies::is_free_of_turns;
-use crate::strings::{Names, names_with_strings, strings_of};
+use crate::strings::{StringNames, names_with_strings, strings_of};
 use crate::traversal::{Pass, Shrink, top_down};
 use meta_ast::ast::{Expr, Rule, RuleType};
 use meta_ast::deep::Deep;
 use std::alloc::{AllocError, Global};
 use std::collections::HashMap;
 
-/// The rule; if it is Atomic, with each `(!c ~ ANY)*` as a run to the next of the strings of `c`, or to the
-/// end. A literal stands for itself, a name for what the rule's body stands for, and `x | r`, where `x` is a
-/// literal or a name, for the strings of `x` and then those of `r`; where anything else is met, or a cycle of
-/// names, the repetition stays. Names are looked up in `bodies`, so over the grammar whose bodies they are a
-/// chain of steps leads there, and where no rule of it is named `ANY`, the outcomes from every start stay.
-/// Name and type stay. The only fault is a want of memory.
+/// Returns the rule; if it is Atomic, with each `(!c ~ ANY)*` as a forward search to the next of the
+/// strings of `c`, or to the end. A literal denotes itself, a name the strings of the rule's body, and `x
+/// | r`, where `x` is a literal or a name, the strings of `x` and then those of `r`; for anything else,
+/// or a cycle of names, the repetition stays. Names are looked up in `bodies`, so over the grammar whose
+/// bodies they are a chain of steps leads there, and where no rule of it is named `ANY`, the outcomes
+/// from every start stay. Name and type stay. The only fault is an allocation failure.
 pub fn skip(alloc: Global, rule: Rule, bodies: &HashMap<String, Expr>) -> Result<Rule, Fault>
     ensures name { IfOk result (λ r. text_of r.name ≡ text_of rule.name) }
     ensures ty { IfOk result (λ r. r.ty ≡ rule.ty) }
@@ -41,20 +41,21 @@ pub fn skip(alloc: Global, rule: Rule, bodies: &HashMap<String, Expr>) -> Result
     skip_with(alloc, rule.into_inner(), bodies, &names)
 }
 
-/// The same, where it is told already which names stand for strings.
+/// Does the same as `skip`, given the names that denote strings.
 pub(crate) fn skip_with(
     alloc: Global,
     rule: Rule,
     bodies: &HashMap<String, Expr>,
-    names: &Names<'_>,
+    names: &StringNames<'_>,
 ) -> Result<Rule, Fault>
     ensures name { IfOk result (λ r. text_of r.name ≡ text_of rule.name) }
     ensures ty { IfOk result (λ r. r.ty ≡ rule.ty) }
-    ensures done { IfOk result (λ r. AreTold bodies.now names.now → (g : Grammar) → HoldsBodies bodies.now g
+    ensures done { IfOk result (λ r. AreRightForAll bodies.now names.now → (g : Grammar)
+        → HoldsBodies bodies.now g
         → IsDone (SkipsUntil g (rule_type_of rule.ty)) (expression_of rule.expr) (expression_of r.expr)) }
-    ensures chain { IfOk result (λ r. AreTold bodies.now names.now
+    ensures chain { IfOk result (λ r. AreRightForAll bodies.now names.now
         → IsSkipChained bodies.now (rule_of_code rule) (rule_of_code r)) }
-    ensures outcomes { IfOk result (λ r. AreTold bodies.now names.now
+    ensures outcomes { IfOk result (λ r. AreRightForAll bodies.now names.now
         → SkipKeepsOutcomes bodies.now (rule_of_code rule) (rule_of_code r)) }
     ensures memory { IfErr result IsMemory }
 {
@@ -71,7 +72,7 @@ pub(crate) fn skip_with(
 #[derive(Drop)]
 struct Skipper<'a> {
     bodies: &'a HashMap<String, Expr>,
-    names: &'a Names<'a>,
+    names: &'a StringNames<'a>,
 }
 
 impl Pass for Skipper<'_> {
@@ -97,7 +98,7 @@ impl Shrink for Skipper<'_> {
     }
 }
 
-/// Whether an expression is anything but `(!c ~ n)*`.
+/// Reports whether an expression is anything but `(!c ~ n)*`.
 pub(crate) fn is_no_turn(expr: &Expr) -> bool
     ensures { OnTrue result (IsTurn (expression_of expr.now) → ⊥) }
 {
@@ -116,11 +117,11 @@ pub(crate) fn is_no_turn(expr: &Expr) -> bool
     }
 }
 
-// The strings of `c`, where the expression is `!c ~ ANY`.
+// Returns the strings of `c`, where the expression is `!c ~ ANY`.
 fn texts_until(
     alloc: Global,
     bodies: &HashMap<String, Expr>,
-    names: &Names<'_>,
+    names: &StringNames<'_>,
     expr: &Expr,
 ) -> Result<Option<Vec<String>>, AllocError>
     ensures { IfOk result (λ found. (g : Grammar) → Serve bodies.now names.now g

@@ -1,54 +1,56 @@
-//! The strings that an expression stands for, where it is a literal, a name or a choice of such.
+//! The strings that an expression denotes, where it is a literal, a name or a choice of such: a
+//! depth-first search over names.
 ghost use Rattle.std.specs.Prelude.{◌≡◌, IfOk, OnOk, MatchOption, map, string_bytes};
 ghost use Rattle.meta_base.specs.Language.Expression.{Grammar};
 ghost use Rattle.meta_base.specs.Rewritings.Rewriting.{Strings};
 ghost use Rattle.meta_ast.specs.Ast.{expression_of, text_of};
-ghost use Rattle.meta_optimizer.specs.Bodies.{HoldsBodies, HasStrings, FindsNext, Splits, HaveMet, AreRight, AreTold, Serve, StringsOrNone};
+ghost use Rattle.meta_optimizer.specs.Bodies.{HoldsBodies, HasStrings, FindsNext, Splits, HaveMet, AreRight, AreRightForAll, Serve, StringsOrNone};
 
 use meta_ast::ast::Expr;
 use std::alloc::{AllocError, Global};
 use std::collections::HashMap;
 
-/// Which names of some bodies stand for strings.
+/// The names of some bodies that denote strings.
 #[derive(Drop)]
-pub(crate) struct Names<'a> {
-    /// True at a name that stands for strings; false at one that stands for none, or is looked for.
+pub(crate) struct StringNames<'a> {
+    /// True at a name that denotes strings; false at one that denotes none, or is being searched.
     met: HashMap<&'a str, bool>,
-    /// Those that stand for strings.
+    /// The names that denote strings.
     known: Vec<&'a str>,
 }
 
-/// What comes next in an expression: it stands for no strings, all its names are known, or a name
-/// is not, with what stands behind it.
+/// The next find in an expression: no strings, or strings by known names alone, or a name that is not
+/// known, with the expression after it.
 #[derive(Drop)]
-pub(crate) enum Found<'a> {
+pub(crate) enum NameSearch<'a> {
     Nothing,
     Strings,
     Name(&'a str, Option<&'a Expr>),
 }
 
-/// A name whose strings are looked for, and what stands behind it where it is called.
+/// A name that is being searched, and the expression after its call.
 #[derive(Drop)]
 pub(crate) struct Caller<'a> {
     name: &'a str,
     behind: Option<&'a Expr>,
 }
 
-/// An expression whose strings are still to be told, and how many names may lie below one another.
+/// An expression whose strings are still to be collected, and how many names may be nested in each other.
 #[derive(Drop)]
 pub(crate) struct Part<'a> {
     expr: &'a Expr,
     names: usize,
 }
 
-/// Which names stand for strings, each being looked through once. The only fault is a want of memory.
+/// Finds the names that denote strings, and searches every name once. The only fault is an allocation
+/// failure.
 pub(crate) fn names_with_strings<'a>(
     alloc: Global,
     bodies: &'a HashMap<String, Expr>,
-) -> Result<Names<'a>, AllocError>
-    ensures { IfOk result (AreTold bodies.now) }
+) -> Result<StringNames<'a>, AllocError>
+    ensures { IfOk result (AreRightForAll bodies.now) }
 {
-    let mut names = Names {
+    let mut names = StringNames {
         met: HashMap::new(alloc),
         known: Vec::new(alloc),
     };
@@ -58,24 +60,24 @@ pub(crate) fn names_with_strings<'a>(
     Ok(names)
 }
 
-/// The strings of an expression, names being looked up in `bodies`; none where there is a name of no rule, a
-/// cycle of names or anything else. The only fault is a want of memory.
+/// Collects the strings of an expression, where names are looked up in `bodies`; answers none where there
+/// is a name of no rule, a cycle of names or anything else. The only fault is an allocation failure.
 pub(crate) fn strings_of(
     alloc: Global,
     bodies: &HashMap<String, Expr>,
-    names: &Names<'_>,
+    names: &StringNames<'_>,
     expr: &Expr,
 ) -> Result<Option<Vec<String>>, AllocError>
     ensures { IfOk result (λ found. (g : Grammar) → Serve bodies.now names.now g
         → StringsOrNone g (expression_of expr.now) found) }
 {
     match next_name(&names.met, expr) {
-        Found::Strings => texts_within(alloc, bodies, expr, names.known.len()),
+        NameSearch::Strings => texts_within(alloc, bodies, expr, names.known.len()),
         _ => Ok(None),
     }
 }
 
-// The leaf that stands first, and what stands behind it.
+// Splits an expression into its first leaf and the expression after it.
 fn split(expr: &Expr) -> (&Expr, Option<&Expr>)
     ensures { Splits (expression_of expr.now) (expression_of result.0.now) result.1 }
 {
@@ -85,8 +87,8 @@ fn split(expr: &Expr) -> (&Expr, Option<&Expr>)
     }
 }
 
-// Goes along an expression up to a name that was not met yet.
-fn next_name<'a>(met: &HashMap<&'a str, bool>, expr: &'a Expr) -> Found<'a>
+// Walks along an expression to the first name that is not visited yet.
+fn next_name<'a>(met: &HashMap<&'a str, bool>, expr: &'a Expr) -> NameSearch<'a>
     ensures { FindsNext met.now (expression_of expr.now) result }
 {
     let mut rest = expr;
@@ -96,23 +98,23 @@ fn next_name<'a>(met: &HashMap<&'a str, bool>, expr: &'a Expr) -> Found<'a>
             Expr::Str(_) => {}
             Expr::Ident(name) => match met.get(name.as_str()) {
                 Some(true) => {}
-                Some(false) => return Found::Nothing,
-                None => return Found::Name(name.as_str(), behind),
+                Some(false) => return NameSearch::Nothing,
+                None => return NameSearch::Name(name.as_str(), behind),
             },
-            _ => return Found::Nothing,
+            _ => return NameSearch::Nothing,
         }
         match behind {
             Some(others) => rest = others,
-            None => return Found::Strings,
+            None => return NameSearch::Strings,
         }
     }
 }
 
-// Looks through a name and those that it reaches, but for those that are met already.
+// Searches a name and those that it reaches, but for visited ones.
 fn look_through<'a>(
     alloc: Global,
     bodies: &'a HashMap<String, Expr>,
-    names: &mut Names<'a>,
+    names: &mut StringNames<'a>,
     name: &'a String,
 ) -> Result<(), AllocError>
     ensures right { OnOk result ((g : Grammar) → HoldsBodies bodies.now g
@@ -133,9 +135,9 @@ fn look_through<'a>(
     'names: loop {
         match rest {
             Some(expr) => match next_name(&names.met, expr) {
-                Found::Nothing => return Ok(()),
-                Found::Strings => rest = None,
-                Found::Name(name, behind) => {
+                NameSearch::Nothing => return Ok(()),
+                NameSearch::Strings => rest = None,
+                NameSearch::Name(name, behind) => {
                     let Some(body) = bodies.get(name) else {
                         return Ok(());
                     };
@@ -156,7 +158,7 @@ fn look_through<'a>(
     }
 }
 
-// The strings, where fewer than so many names lie below one another.
+// Collects the strings, where fewer than `names` names are nested in each other.
 fn texts_within(
     alloc: Global,
     bodies: &HashMap<String, Expr>,

@@ -1,12 +1,12 @@
-//! Something done once at each node of an expression, from the root down or from the leaves up.
+//! Traversals: a pass at each node of an expression, from the root down or from the leaves up.
 //!
-//! Both go by the maps of expressions, which are loops: neither width nor depth takes the machine's stack.
+//! Both use the maps of expressions, which are iterative: neither width nor depth takes stack space.
 ghost use Rattle.std.specs.Prelude.{◌≡◌, ◌≤◌, IfOk, Ok};
 ghost use Rattle.std.specs.Bool.{OnTrue};
 ghost use Rattle.meta_base.specs.Language.Expression.{Expression};
 ghost use Rattle.meta_ast.specs.Ast.{expression_of};
 ghost use Rattle.meta_ast.specs.Operands.{count_of_nodes, operands};
-ghost use Rattle.meta_optimizer.specs.Held.{said_of};
+ghost use Rattle.meta_optimizer.specs.Children.{said_of};
 ghost use Rattle.meta_optimizer.specs.Traversals.{TopDown, BottomUp, AllStay};
 
 use meta_ast::ast::Expr;
@@ -14,16 +14,16 @@ use meta_ast::deep::Deep;
 use meta_base::runtime::Fault;
 use std::alloc::{AllocError, Global};
 
-/// What is done at each node.
+/// A pass over the nodes of an expression.
 pub(crate) trait Pass {
     ghost gives: { Self → Expression → Expression → Type 0 };
 
-    /// Whether nothing is done at a node.
+    /// Reports whether a node stays.
     fn stays_at(&self, node: &Expr) -> bool
         ensures { OnTrue result (gives self.now (expression_of node.now) (expression_of node.now)) };
 }
 
-/// What is done at a node from the root down. It makes no expression larger.
+/// A pass from the root down, which makes no expression larger.
 pub(crate) trait Shrink: Pass {
     fn shrink(&self, alloc: Global, expr: Expr) -> Result<Expr, AllocError>
         ensures gives { IfOk result (λ e. Self.gives self.now (expression_of expr) (expression_of e)) }
@@ -31,7 +31,7 @@ pub(crate) trait Shrink: Pass {
             (λ e. count_of_nodes (expression_of e) ≤ count_of_nodes (expression_of expr)) };
 }
 
-/// The expression with `pass` done at each node from the root down.
+/// Runs `pass` at each node from the root down.
 pub(crate) fn top_down<P: Shrink>(alloc: Global, pass: &P, expr: Expr) -> Result<Expr, AllocError>
     ensures { IfOk result (λ e. TopDown (P.gives pass.now) (expression_of expr) (expression_of e)) }
 {
@@ -45,13 +45,13 @@ pub(crate) fn top_down<P: Shrink>(alloc: Global, pass: &P, expr: Expr) -> Result
     only_memory(mapped)
 }
 
-/// What is done at a node from the leaves up.
+/// A pass from the leaves up.
 pub(crate) trait Finish: Pass {
     fn finish(&self, alloc: Global, expr: Expr) -> Result<Expr, AllocError>
         ensures { IfOk result (λ e. Self.gives self.now (expression_of expr) (expression_of e)) };
 }
 
-/// The expression with `pass` done at each node from the leaves up.
+/// Runs `pass` at each node from the leaves up.
 pub(crate) fn bottom_up<P: Finish>(alloc: Global, pass: &P, expr: Expr) -> Result<Expr, AllocError>
     ensures { IfOk result (λ e. BottomUp (P.gives pass.now) (expression_of expr) (expression_of e)) }
 {
@@ -65,7 +65,7 @@ pub(crate) fn bottom_up<P: Finish>(alloc: Global, pass: &P, expr: Expr) -> Resul
     only_memory(mapped)
 }
 
-/// Whether nothing is done at any node, so that no node needs to be made anew.
+/// Reports whether every node stays, so that none needs to be rebuilt.
 pub(crate) fn all_stay<P: Pass>(alloc: Global, pass: &P, expr: &Expr) -> Result<bool, AllocError>
     ensures { IfOk result (λ yes. OnTrue yes (AllStay (P.gives pass.now) (expression_of expr.now))) }
 {
@@ -75,12 +75,12 @@ pub(crate) fn all_stay<P: Pass>(alloc: Global, pass: &P, expr: &Expr) -> Result<
         if !pass.stays_at(node) {
             return Ok(false);
         }
-        match held_by(node) {
-            Held::Nothing => {}
-            Held::One(inner) => {
+        match children_of(node) {
+            Children::Nothing => {}
+            Children::One(inner) => {
                 waiting.push(inner)?;
             }
-            Held::Two(left, right) => {
+            Children::Two(left, right) => {
                 waiting.push(right)?;
                 waiting.push(left)?;
             }
@@ -91,14 +91,14 @@ pub(crate) fn all_stay<P: Pass>(alloc: Global, pass: &P, expr: &Expr) -> Result<
 
 /// The operands of an expression.
 #[derive(Drop)]
-pub(crate) enum Held<'a> {
+pub(crate) enum Children<'a> {
     Nothing,
     One(&'a Expr),
     Two(&'a Expr, &'a Expr),
 }
 
-/// The operands that an expression has.
-pub(crate) fn held_by<'a>(expr: &'a Expr) -> Held<'a>
+/// Returns the operands of an expression.
+pub(crate) fn children_of<'a>(expr: &'a Expr) -> Children<'a>
     ensures { said_of result ≡ operands (expression_of expr.now) }
 {
     match expr {
@@ -112,15 +112,15 @@ pub(crate) fn held_by<'a>(expr: &'a Expr) -> Held<'a>
         | Expr::RepMax(inner, _)
         | Expr::RepMinMax(inner, _, _)
         | Expr::Push(inner)
-        | Expr::NodeTag(inner, _) => Held::One(&**inner),
-        Expr::Seq(left, right) | Expr::Choice(left, right) => Held::Two(&**left, &**right),
-        Expr::Str(_) | Expr::Insens(_) | Expr::Ident(_) => Held::Nothing,
-        Expr::Range(_, _) | Expr::PeekSlice(_, _) => Held::Nothing,
-        Expr::Skip(_) | Expr::PushLiteral(_) => Held::Nothing,
+        | Expr::NodeTag(inner, _) => Children::One(&**inner),
+        Expr::Seq(left, right) | Expr::Choice(left, right) => Children::Two(&**left, &**right),
+        Expr::Str(_) | Expr::Insens(_) | Expr::Ident(_) => Children::Nothing,
+        Expr::Range(_, _) | Expr::PeekSlice(_, _) => Children::Nothing,
+        Expr::Skip(_) | Expr::PushLiteral(_) => Children::Nothing,
     }
 }
 
-// What a map answers whose closure knows no fault but a want of memory.
+// Unwraps the answer of a map whose closure has no fault but an allocation failure.
 fn only_memory(mapped: Result<Expr, Fault>) -> Result<Expr, AllocError>
     ensures { IfOk result (λ e. mapped ≡ Ok e) }
 {

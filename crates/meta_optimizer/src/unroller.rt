@@ -1,4 +1,4 @@
-//! Writes counted repetitions out.
+//! The pass `unroll`, which writes counted repetitions out.
 ghost use Rattle.std.specs.Prelude.{◌≡◌, ◌<◌, ◌∷◌, ◌++◌, replicate, IfErr, IfOk, List};
 ghost use Rattle.meta_base.specs.Language.Expression.{Expression, Opt};
 ghost use Rattle.meta_base.specs.Language.Meaning.{in_sequence, exactly, at_least, from_to};
@@ -16,10 +16,10 @@ use meta_ast::ast::{Expr, Rule};
 use meta_ast::deep::Deep;
 use std::alloc::{AllocError, Global};
 
-/// The rule with counted repetitions written out as the copies that they mean, nested to the right: `e{2,}`
-/// as `e ~ e ~ e*`, `e{,2}` as `e? ~ e?`, `e{1, 2}` as `e ~ e?`; a count of 0 leaves the empty text. `e*`
-/// and `e+` stay as they are. Name and type stay, and so do the outcomes from every start, in every grammar
-/// that has the rule. The only fault is a want of memory.
+/// Returns the rule with counted repetitions written out as the copies that they mean, nested to the
+/// right: `e{2,}` as `e ~ e ~ e*`, `e{,2}` as `e? ~ e?`, `e{1, 2}` as `e ~ e?`; a count of 0 leaves the
+/// empty text. `e*` and `e+` stay as they are. Name and type stay, and so do the outcomes from every
+/// start, in every grammar that has the rule. The only fault is an allocation failure.
 pub fn unroll(alloc: Global, rule: Rule) -> Result<Rule, Fault>
     ensures name { IfOk result (λ r. text_of r.name ≡ text_of rule.name) }
     ensures ty { IfOk result (λ r. r.ty ≡ rule.ty) }
@@ -52,8 +52,8 @@ impl Pass for Unroller {
 impl Finish for Unroller {
     fn finish(&self, alloc: Global, expr: Expr) -> Result<Expr, AllocError> {
         match expr {
-            Expr::RepExact(inner, count) => exact(alloc, unboxed(inner), count),
-            Expr::RepMin(inner, min) => min_or_more(alloc, unboxed(inner), min),
+            Expr::RepExact(inner, count) => exact(alloc, unbox(inner), count),
+            Expr::RepMin(inner, min) => min_or_more(alloc, unbox(inner), min),
             Expr::RepMax(inner, max) => exact(
                 alloc,
                 Deep {
@@ -61,13 +61,13 @@ impl Finish for Unroller {
                 },
                 max,
             ),
-            Expr::RepMinMax(inner, min, max) => between(alloc, unboxed(inner), min, max),
+            Expr::RepMinMax(inner, min, max) => min_to_max(alloc, unbox(inner), min, max),
             other => Ok(other),
         }
     }
 }
 
-fn unboxed(inner: Box<Expr>) -> Deep<Expr>
+fn unbox(inner: Box<Expr>) -> Deep<Expr>
     ensures { result.value ≡ inner.value }
 {
     Deep {
@@ -83,21 +83,21 @@ fn copy_of(expr: &Expr) -> Result<Deep<Expr>, AllocError>
     })
 }
 
-// So many copies, and then `e*`.
+// Makes `min` copies, and then `e*`.
 fn min_or_more(alloc: Global, expr: Deep<Expr>, min: u32) -> Result<Expr, AllocError>
     ensures { IfOk result (λ e. expression_of e ≡ at_least (expression_of expr.value) min) }
 {
     if min == 0 {
-        return Ok(Expr::Rep(expr.boxed(alloc)?.into_inner()));
+        return Ok(Expr::Rep(expr.into_box(alloc)?.into_inner()));
     }
-    let copy = copy_of(&expr.value)?.boxed(alloc)?;
+    let copy = copy_of(&expr.value)?.into_box(alloc)?;
     let others = Deep {
         value: Expr::Rep(copy.into_inner()),
     };
-    repeated(alloc, expr, min, others)
+    repeat_before(alloc, expr, min, others)
 }
 
-// So many copies in sequence.
+// Makes `count` copies in sequence.
 fn exact(alloc: Global, expr: Deep<Expr>, count: u32) -> Result<Expr, AllocError>
     ensures { IfOk result (λ e. expression_of e ≡ exactly (expression_of expr.value) count) }
 {
@@ -108,37 +108,37 @@ fn exact(alloc: Global, expr: Deep<Expr>, count: u32) -> Result<Expr, AllocError
         return Ok(expr.into_inner());
     }
     let last = copy_of(&expr.value)?;
-    repeated(alloc, expr, count - 1, last)
+    repeat_before(alloc, expr, count - 1, last)
 }
 
-// From `min` to `max` of them.
-fn between(alloc: Global, expr: Deep<Expr>, min: u32, max: u32) -> Result<Expr, AllocError>
+// Makes from `min` to `max` copies.
+fn min_to_max(alloc: Global, expr: Deep<Expr>, min: u32, max: u32) -> Result<Expr, AllocError>
     ensures { IfOk result (λ e. expression_of e ≡ from_to (expression_of expr.value) min max) }
 {
     if max <= min {
         return exact(alloc, expr, max);
     }
     if min == 0 {
-        return exact(alloc, optional(alloc, expr)?, max);
+        return exact(alloc, make_optional(alloc, expr)?, max);
     }
     let copy = copy_of(&expr.value)?;
-    let others = exact(alloc, optional(alloc, copy)?, max - min)?;
-    repeated(alloc, expr, min, Deep { value: others })
+    let others = exact(alloc, make_optional(alloc, copy)?, max - min)?;
+    repeat_before(alloc, expr, min, Deep { value: others })
 }
 
-// The expression, or nothing where it fails.
-fn optional(alloc: Global, expr: Deep<Expr>) -> Result<Deep<Expr>, AllocError>
+// Makes an expression optional.
+fn make_optional(alloc: Global, expr: Deep<Expr>) -> Result<Deep<Expr>, AllocError>
     ensures { IfOk result (λ e. expression_of e.value ≡ Opt (expression_of expr.value)) }
 {
-    let inner = expr.boxed(alloc)?;
+    let inner = expr.into_box(alloc)?;
     Ok(Deep {
         value: Expr::Opt(inner.into_inner()),
     })
 }
 
-// So many copies, of which there is one at least and the first is the expression itself, and what stands
-// behind them.
-fn repeated(
+// Makes `count` copies, at least one, of which the first is the expression itself, and puts `others`
+// after them.
+fn repeat_before(
     alloc: Global,
     expr: Deep<Expr>,
     count: u32,
@@ -153,7 +153,7 @@ fn repeated(
     sequence_of(alloc, expr, behind)
 }
 
-// So many copies, and what stands behind them.
+// Makes `count` copies, and puts `others` after them.
 fn copies(
     alloc: Global,
     expr: &Expr,

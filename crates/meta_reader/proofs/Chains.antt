@@ -5,14 +5,14 @@ use Rattle.std.specs.Prelude.{codes}
 use Rattle.meta_base.specs.Language.Text.{Text}
 use Rattle.meta_base.specs.Language.State.{Trees, None', Tree, joined}
 use Rattle.meta_reader.specs.Flaws.{own_flaw}
-use Rattle.meta_reader.specs.Pieces.{IsPiece, NestedInBytes, StandIn}
+use Rattle.meta_reader.specs.Pieces.{IsPiece, NestedInBytes, AreInText}
 use Rattle.meta_reader.specs.Reading as reading
 use Rattle.meta_reader.specs.Reading.{Reads, AnExpression, Alternatives, ASequence, ATerm, both}
 use Rattle.meta_base.specs.Pieces.MetaRules.{name_of}
 use Rattle.meta_syntax.specs.Shape.{Lone, IsExpression, AreTerms, IsMore, IsTerm, barred, unbarred, terms, infix_operator, tilde, bar}
 use Rattle.meta_spanned.specs.Spanned.{Span, Spanned, Binary, Seq, Choice}
 use Rattle.meta_reader.specs.Levels.{InFront, SplitOff}
-use Rattle.meta_reader.specs.Views.{IsBehindBar, IsRest, at_bar, TakesTerm, takes_term}
+use Rattle.meta_reader.specs.Views.{IsAfterBar, IsRest, at_bar, TakesTerm, takes_term}
 use Rattle.meta_spanned.specs.Nodes.{view}
 use Rattle.meta_base.specs.declared.grammar.Rule.{Rule}
 use Rattle.meta_base.specs.declared.grammar.Rule.TheVariants as rule_is
@@ -28,7 +28,7 @@ use Rattle.meta_reader.proofs.NodesStandInTrees.{reads_within, nested_joined}
 
 pub with_bar : {text : List ℕ} {i j : ℕ} {inner us : Trees}
     → IsExpression text (Tree (codes "choice_operator") i j inner us)
-    → IsBehindBar text (Tree (codes "choice_operator") i j inner us) us
+    → IsAfterBar text (Tree (codes "choice_operator") i j inner us) us
 unfolding own_flaw
 with_bar (barred h) = record { shape = h; nested = λ s. stand_behind s; reads = λ x d. reading.barred d; flaws = refl; shorter = omega arith }
 with_bar (unbarred h) = elim h [ ]
@@ -38,7 +38,7 @@ no_expression (unbarred h) = elim h [ ]
 
 pub without_bar : {text : List ℕ} {n : Text} {i j : ℕ} {inner us : Trees} (r : Rule)
     → IsExpression text (Tree n i j inner us) → n ≡ name_of r → ¬ (r ≡ rule_is.choice_operator)
-    → IsBehindBar text (Tree n i j inner us) (Tree n i j inner us)
+    → IsAfterBar text (Tree n i j inner us) (Tree n i j inner us)
 without_bar r (barred h) e d = absurd (d (name_of-injective r rule_is.choice_operator (sym e)))
 without_bar r (unbarred h) e d = record { shape = h; nested = λ s. s; reads = λ x k. reading.unbarred k; flaws = refl; shorter = omega arith }
 
@@ -102,13 +102,13 @@ module _ (text : List ℕ) where
   }
 
   -- trees in front of others stand in the text where both do
-  pub stand_front : (us vs ws : Trees) → us ≡ joined vs ws → StandIn text us → StandIn text vs
+  pub stand_front : (us vs ws : Trees) → us ≡ joined vs ws → AreInText text us → AreInText text vs
   stand_front us vs ws e h = let s = nested_joined text vs ws h.from h.to (rw e at h.nested) in record { from = h.from; to = s.0; nested = s.1 }
 
-  pub stand_rest : (us vs ws : Trees) → us ≡ joined vs ws → StandIn text us → StandIn text ws
+  pub stand_rest : (us vs ws : Trees) → us ≡ joined vs ws → AreInText text us → AreInText text ws
   stand_rest us vs ws e h = let s = nested_joined text vs ws h.from h.to (rw e at h.nested) in record { from = s.0; to = h.to; nested = s.2 }
 
-  pub sequence_piece : {i j k l : ℕ} {us inner rest : Trees} (m n : ParserNode) → StandIn text us
+  pub sequence_piece : {i j k l : ℕ} {us inner rest : Trees} (m n : ParserNode) → AreInText text us
       → InFront text us (Lone (codes "sequence_operator") i j (Tree (codes "term") k l inner rest)) (view m)
       → Reads text ATerm inner (view n) → IsPiece text m.span.start n.span.end
   sequence_piece {i} {j} {k} {l} {us} {inner} {rest} m n s h d =
@@ -121,7 +121,7 @@ module _ (text : List ℕ) where
 
   -- expressions
 
-  pub expression_start : {us vs front rest : Trees} {x : Spanned} → IsBehindBar text us vs → StandIn text us
+  pub expression_start : {us vs front rest : Trees} {x : Spanned} → IsAfterBar text us vs → AreInText text us
       → vs ≡ joined front rest → Reads text ASequence front x → SplitOff text us rest x
   expression_start {vs = vs} {front = front} b s e d = record { front = front; whole = vs; split = e; reads = reading.one_alternative d; behind = b.reads; standing = b.nested s }
 

@@ -12,23 +12,23 @@ use Rattle.meta_spanned.specs.Spanned.{Spanned, Seq, Choice, One, Push, end_of, 
 use Rattle.meta_spanned.specs.declared.node.ParserNode.{ParserNode}
 use Rattle.meta_reader.specs.Flaws.{first_flaw, own_flaw}
 use Rattle.meta_reader.specs.Levels.{GoesOn, IsAlternativeRead, IsTermRead, IsOperandRead, IsInsideRead, IsLevelRead, node_view, together, IsReadAs, InFront, SplitOff, BeginsTerm, first_term, next_term, BeginsAlternative, first_alternative, next_alternative, IsAlternative, IsTermBeside, Opens, parentheses, push, IsInside, AreOpen, open_work, waits_of, work_of}
-use Rattle.meta_reader.specs.Pieces.{IsPiece, StandIn}
+use Rattle.meta_reader.specs.Pieces.{IsPiece, AreInText}
 use Rattle.meta_reader.specs.Reading as reading
 use Rattle.meta_reader.specs.Reading.{Reads, Postfixed, AnExpression, ASequence, ATerm, ANode}
 use Rattle.meta_base.specs.Pieces.Span.{span_text}
 use Rattle.meta_reader.specs.Signs.{IsOperand, group, node, signed}
 use Rattle.meta_reader.specs.declared.rules.signs.Sign.{Sign}
-use Rattle.meta_reader.specs.Views.{IsBehindBar, IsRest, IsFirst, StandsBefore, TakesTerm, takes_term, count_of}
+use Rattle.meta_reader.specs.Views.{IsAfterBar, IsRest, IsFirst, IsNodeBefore, TakesTerm, takes_term, count_of}
 use Rattle.meta_reader.specs.declared.rules.flaws.ReadError.{ReadError}
-use Rattle.meta_reader.specs.declared.rules.levels.Beside.{Beside}
+use Rattle.meta_reader.specs.declared.rules.levels.TermContext.{TermContext}
 use Rattle.meta_reader.specs.declared.rules.levels.Level.{Level}
 use Rattle.meta_reader.specs.declared.rules.levels.Next.{Next}
 use Rattle.meta_reader.specs.declared.rules.levels.Next.TheVariants as next_is
 use Rattle.meta_base.specs.declared.grammar.Rule.{Rule}
 use Rattle.meta_base.specs.declared.runtime.trees.TokenTree.{TokenTree}
 use Rattle.std.specs.Borrow.{Bor}
-use Rattle.meta_reader.specs.declared.rules.levels.Within.{Within}
-use Rattle.meta_reader.specs.declared.rules.levels.Within.TheVariants as within_is
+use Rattle.meta_reader.specs.declared.rules.levels.Enclosure.{Enclosure}
+use Rattle.meta_reader.specs.declared.rules.levels.Enclosure.TheVariants as within_is
 use Rattle.meta_reader.proofs.Chains.{sequence_start, sequence_step, sequence_piece, expression_start, expression_step, expression_piece, stand_rest, chain_tree, same_text, rest_tree, quiet_bar, quiet_term}
 use Rattle.meta_reader.proofs.FlawsInOrder.{first_in, first_as, or_none}
 use Rattle.meta_reader.proofs.Terms.{inside, outermost, Outermost, before_operators, push_piece}
@@ -38,23 +38,23 @@ use Rattle.meta_syntax.specs.Shape.{Lone, IsExpression, IsNode, ArePostfixes, te
 -- where what is at hand stands
 
 alternative_stands : {text : List ℕ} {us vs : Trees} {o : Option Spanned} → BeginsAlternative text us o vs
-    → StandIn text us → StandIn text vs
+    → AreInText text us → AreInText text vs
 alternative_stands (first_alternative b) s = b.nested s
 alternative_stands {text} (next_alternative {bar_at = i} {bar_to = j} {vs = vs} h) s =
     stand_behind (stand_rest text h.whole h.front (Lone (codes "choice_operator") i j vs) h.split h.standing)
 
 term_stands : {text : List ℕ} {us vs : Trees} {o : Option Spanned} → BeginsTerm text us o vs
-    → StandIn text us → StandIn text vs
+    → AreInText text us → AreInText text vs
 term_stands first_term s = s
 term_stands {text} (next_term {tilde_at = i} {tilde_to = j} {us = us} {vs = vs} h) s =
     stand_behind (stand_rest text us h.front (Lone (codes "sequence_operator") i j vs) h.split s)
 
 pub stand_alternative : {text : List ℕ} {us vs : Trees} {o : Option Spanned} → IsAlternative text us o vs
-    → StandIn text vs
+    → AreInText text vs
 stand_alternative h = alternative_stands h.begins h.nested
 
-pub stand_term : {text : List ℕ} {us term : Trees} {beside : Beside} → IsTermBeside text us beside term
-    → StandIn text term
+pub stand_term : {text : List ℕ} {us term : Trees} {beside : TermContext} → IsTermBeside text us beside term
+    → AreInText text term
 stand_term h = stand_inner (term_stands h.begins (stand_alternative h.choice))
 
 -- a term that is read, behind others
@@ -66,7 +66,7 @@ term_front {text} first_term d = sequence_start text d
 term_front {text} (next_term h) d = sequence_step text h d
 
 pub term_piece : {text : List ℕ} {i j : ℕ} {us inner rest : Trees} (o : Option (Deep ParserNode)) (n : ParserNode)
-    → BeginsTerm text us (node_view o) (Tree (codes "term") i j inner rest) → StandIn text us
+    → BeginsTerm text us (node_view o) (Tree (codes "term") i j inner rest) → AreInText text us
     → Reads text ATerm inner (view n) → IfSome o (λ left. IsPiece text left.value.span.start n.span.end)
 term_piece None n b s d = tt
 term_piece {text} (Some m) n (next_term h) s d = sequence_piece text m.value n s h d
@@ -74,7 +74,7 @@ term_piece {text} (Some m) n (next_term h) s d = sequence_piece text m.value n s
 -- an alternative that is read, behind others
 
 pub alternative_front : {text : List ℕ} {us vs front rest : Trees} {o : Option Spanned} {y : Spanned}
-    → BeginsAlternative text us o vs → StandIn text us → vs ≡ joined front rest → Reads text ASequence front y
+    → BeginsAlternative text us o vs → AreInText text us → vs ≡ joined front rest → Reads text ASequence front y
     → SplitOff text us rest (together text Choice o y)
 alternative_front {text} (first_alternative b) s e d = expression_start text b s e d
 alternative_front {text} (next_alternative h) s e d = expression_step text h e d
@@ -87,7 +87,7 @@ alternative_piece {text} rest (Some m) n (next_alternative h) e d = expression_p
 
 -- what is next
 
-pub at_first_term : {text : List ℕ} {n : Text} {i j : ℕ} {us vs term : Trees} {beside : Beside}
+pub at_first_term : {text : List ℕ} {n : Text} {i j : ℕ} {us vs term : Trees} {beside : TermContext}
     → IsAlternative text us (node_view beside.choice) vs → beside.sequence ≡ None
     → vs ≡ Tree n i j term (named_trees_of beside.rest.now) → IsTermBeside text us beside term
 at_first_term {text} {i = i} {j = j} {vs = vs} {beside = beside} h e f =
@@ -103,7 +103,7 @@ at_first_term {text} {i = i} {j = j} {vs = vs} {beside = beside} h e f =
       flaws = rw (f, k.0, quiet_term) refl;
     }
 
-pub at_next_term : {text : List ℕ} {us vs rest term : Trees} {beside : Beside} (sequence : Deep ParserNode)
+pub at_next_term : {text : List ℕ} {us vs rest term : Trees} {beside : TermContext} (sequence : Deep ParserNode)
     → IsAlternative text us (node_view beside.choice) vs → beside.sequence ≡ Some sequence
     → InFront text vs rest (view sequence.value) → first_flaw text vs ≡ first_flaw text rest
     → TakesTerm text rest term (named_trees_of beside.rest.now) → IsTermBeside text us beside term
@@ -121,12 +121,12 @@ at_next_term {vs = vs} sequence c e h f (takes_term {term_at = k} {term_to = l} 
 
 pub at_next_alternative : {text : List ℕ} {n : Text} {i j : ℕ} {us inner rest vs : Trees} {x : Spanned}
     → SplitOff text us rest x → IsRest text rest → rest ≡ Tree n i j inner vs → first_flaw text us ≡ first_flaw text rest
-    → StandIn text us → IsAlternative text us (Some x) vs
+    → AreInText text us → IsAlternative text us (Some x) vs
 at_next_alternative {text} {i = i} {j = j} h r e f s =
     let k = rest_tree (rw e at r) in
     record { shape = k.2; nested = s; flaws = f ∙ rw (e, k.0, k.1, quiet_bar) refl; begins = next_alternative (rw (e, k.0, k.1) at h) }
 
-pub at_first_alternative : {text : List ℕ} {us vs : Trees} → IsBehindBar text us vs → StandIn text us
+pub at_first_alternative : {text : List ℕ} {us vs : Trees} → IsAfterBar text us vs → AreInText text us
     → IsAlternative text us None vs
 at_first_alternative b s = record { shape = b.shape; nested = s; flaws = b.flaws; begins = first_alternative b }
 
@@ -136,7 +136,7 @@ next_work (takes_term h k) = omega arith
 
 -- what is read, a part at a time
 
-pub alternative_read : {text : List ℕ} {us : Trees} {beside : Beside} {n : ParserNode} (sequence : Deep ParserNode)
+pub alternative_read : {text : List ℕ} {us : Trees} {beside : TermContext} {n : ParserNode} (sequence : Deep ParserNode)
     → IsTermRead text us beside n
     → view sequence.value ≡ together text Seq (node_view beside.sequence) (view n)
     → IsRest text (named_trees_of beside.rest.now)
@@ -149,7 +149,7 @@ alternative_read sequence h e r = record {
   behind = r;
 }
 
-pub term_read : {text : List ℕ} {us : Trees} {beside : Beside} {signs : List Sign} {operand : ParserNode} (n : ParserNode)
+pub term_read : {text : List ℕ} {us : Trees} {beside : TermContext} {signs : List Sign} {operand : ParserNode} (n : ParserNode)
     → IsOperandRead text us beside signs operand
     → view n ≡ signed (span_text operand.span) signs (view operand) → IsTermRead text us beside n
 term_read {text} {signs = signs} {operand = operand} n h e =
@@ -206,10 +206,10 @@ pub record IsOpened (text : List ℕ) (us inner postfixes : Trees) : Type 0 wher
   pub inside : IsExpression text inner
   pub behind : ArePostfixes text postfixes
   pub flaw : first_flaw text us ≡ option_or (first_flaw text inner) (first_flaw text postfixes)
-  pub stand : StandIn text us → StandIn text inner
+  pub stand : AreInText text us → AreInText text inner
   pub smaller : count_of inner < count_of us
 
-pub opened : {text : List ℕ} {us inner postfixes : Trees} {within : Within}
+pub opened : {text : List ℕ} {us inner postfixes : Trees} {within : Enclosure}
     → Opens text us within inner postfixes → IsOpened text us inner postfixes
 unfolding own_flaw
 opened (parentheses h k) = record {
@@ -231,12 +231,12 @@ opened {text} {inner = inner} {postfixes = postfixes} (push h k) = record {
 pub record IsClosed (text : List ℕ) (us postfixes : Trees) (i j : ℕ) (n : ParserNode) : Type 0 where
   pub same_text : n.span.text.now ≡ text
   pub place : IsPiece text n.span.start j
-  pub before : (x : ParserNode) → piece_of x.span ≡ piece text n.span.start j → StandsBefore text x postfixes
+  pub before : (x : ParserNode) → piece_of x.span ≡ piece text n.span.start j → IsNodeBefore text x postfixes
   pub reads : (y : Spanned) → Postfixed text (ending j (view n)) postfixes y → Reads text ATerm us (starting i y)
   pub outermost : (x : ParserNode) → Reads text ATerm us (starting i (view x)) → Outermost text i x
 
 pub close : {text : List ℕ} {us inner postfixes : Trees} {i j : ℕ} (n : ParserNode)
-    → Opens text us (within_is.Parentheses i j) inner postfixes → StandIn text us
+    → Opens text us (within_is.Parentheses i j) inner postfixes → AreInText text us
     → Reads text AnExpression inner (view n) → IsClosed text us postfixes i j n
 close n (parentheses h k) s d =
     let t = inside n s d in
@@ -252,12 +252,12 @@ close n (parentheses h k) s d =
 pub record IsPushed (text : List ℕ) (us postfixes : Trees) (i : ℕ) (n : ParserNode) : Type 0 where
   pub place : IsPiece text i n.span.end
   pub before : (x : ParserNode) → view x ≡ One (piece text i (end_of (view n))) Push (view n)
-      → StandsBefore text x postfixes
+      → IsNodeBefore text x postfixes
   pub reads : (y : Spanned) → Postfixed text (One (piece text i (end_of (view n))) Push (view n)) postfixes y
       → Reads text ATerm us y
 
 pub push_closed : {text : List ℕ} {us inner postfixes : Trees} {i : ℕ} (n : ParserNode)
-    → Opens text us (within_is.Push i) inner postfixes → StandIn text us
+    → Opens text us (within_is.Push i) inner postfixes → AreInText text us
     → Reads text AnExpression inner (view n) → IsPushed text us postfixes i n
 push_closed n (push h k) s d =
     let t = stand_inner (stand_behind (stand_inner s)) in
@@ -269,7 +269,7 @@ push_closed n (push h k) s d =
 
 -- the first flaw of an expression, by that of one of its terms, and of the expression in a term
 
-pub term_first : {text : List ℕ} {us term : Trees} {beside : Beside} (e : ReadError) → IsTermBeside text us beside term
+pub term_first : {text : List ℕ} {us term : Trees} {beside : TermContext} (e : ReadError) → IsTermBeside text us beside term
     → IsFirst (first_flaw text term) e → IsFirst (first_flaw text us) e
 term_first {text} {beside = beside} e h k =
     first_as _ _ e (h.choice.flaws ∙ h.flaws) (first_in _ (first_flaw text (named_trees_of beside.rest.now)) e k)
@@ -281,7 +281,7 @@ inside_first {text} {level = level} e h k =
     term_first e h.stands (first_as _ _ e (h.signed.flaws ∙ o.flaw) (first_in _ (first_flaw text (named_trees_of level.postfixes.now)) e k))
 
 pub stand_inside : {text : List ℕ} {us inner : Trees} {level : Level} → IsInside text us level inner
-    → StandIn text inner
+    → AreInText text inner
 stand_inside h =
     let g = h.signed.stand (stand_term h.stands) in
     let o = opened h.opens in

@@ -8,7 +8,7 @@ use Rattle.meta_reader.specs.Pieces.{IsPiece}
 use Rattle.meta_reader.specs.Reading.{Postfixed, more, both}
 use Rattle.meta_spanned.specs.Spanned as spanned
 use Rattle.meta_spanned.specs.Spanned.{Spanned, span_of, start_of, end_of, placed, One, Two, Binary}
-use Rattle.meta_reader.specs.Views.{StandsBefore, IsPostfixOf}
+use Rattle.meta_reader.specs.Views.{IsNodeBefore, IsPostfixOf}
 use Rattle.meta_spanned.specs.Nodes.{view, view_at}
 use Rattle.meta_spanned.specs.declared.node.ParserExpr as expr
 use Rattle.meta_spanned.specs.declared.node.ParserExpr.TheVariants as is
@@ -30,7 +30,7 @@ view_at-placed t u _ = refl
 module _ (text : List ℕ) where
   -- from a node's start to the end of an operator behind it
   pub piece_round : {r : Text} {a b : ℕ} {inner us : Trees} (n : ParserNode)
-      → StandsBefore text n (Tree r a b inner us) → IsPiece text n.span.start b
+      → IsNodeBefore text n (Tree r a b inner us) → IsPiece text n.span.start b
   piece_round {r} {a} {b} {inner} n h =
       let d = h.behind.nested in
       let p = piece_in n.span h.same_text in
@@ -38,8 +38,8 @@ module _ (text : List ℕ) where
 
   -- the operator's node stands before the next
   pub before_next : {r : Text} {a b : ℕ} {inner us : Trees} (n x : ParserNode) (s : spanned.Span)
-      → StandsBefore text n (Tree r a b inner us) → s ≡ piece text n.span.start b
-      → IsPostfixOf text r inner s n x → StandsBefore text x us
+      → IsNodeBefore text n (Tree r a b inner us) → s ≡ piece text n.span.start b
+      → IsPostfixOf text r inner s n x → IsNodeBefore text x us
   before_next n x s h e p =
       let t = sym (span_of-view x) ∙ ap span_of p.round ∙ e in
       record { same_text = ap (λ (v : spanned.Span). v.text) t; behind = record { to = h.behind.to; nested = rw (ap (λ (v : spanned.Span). v.end) t) h.behind.nested.4 } }

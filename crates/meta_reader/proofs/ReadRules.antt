@@ -6,7 +6,7 @@ use Rattle.meta_base.specs.Language.Text.{Text}
 use Rattle.meta_base.specs.Language.State.{Trees, None', Tree}
 use Rattle.meta_base.specs.Language.Expression.{RuleType, Normal, Silent, Atomic, CompoundAtomic, NonAtomic}
 use Rattle.meta_reader.specs.Flaws.{first_flaw, own_flaw}
-use Rattle.meta_reader.specs.Pieces.{StandIn}
+use Rattle.meta_reader.specs.Pieces.{AreInText}
 use Rattle.meta_reader.specs.Reading as reading
 use Rattle.meta_reader.specs.Reading.{Reads, AnExpression, ReadsRule, ReadsRules, Modifies, characters_between}
 use Rattle.meta_base.specs.Pieces.MetaRules.{name_of}
@@ -52,8 +52,8 @@ no_modifier r (a_modifier compound_atomic) e a b c d = absurd (c (name_of-inject
 no_modifier r (a_modifier non_atomic) e a b c d = absurd (d (name_of-injective r rule_is.non_atomic_modifier (sym e)))
 no_modifier r the_brace e a b c d = no_type
 
-pub modifier_standing : {text : List ℕ} {us vs : Trees} {t : RuleType} → StandIn text us
-    → TakesModifier us t vs → StandIn text vs
+pub modifier_standing : {text : List ℕ} {us vs : Trees} {t : RuleType} → AreInText text us
+    → TakesModifier us t vs → AreInText text vs
 modifier_standing s (a_type m) = stand_behind s
 modifier_standing s no_type = s
 

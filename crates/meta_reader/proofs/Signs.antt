@@ -18,11 +18,11 @@ use Rattle.meta_spanned.specs.Spanned.{Spanned, One, Unary, PosPred, NegPred, Ta
 use Rattle.meta_spanned.specs.Nodes.{view, piece_of}
 use Rattle.meta_spanned.specs.declared.node.ParserNode.{ParserNode}
 use Rattle.meta_reader.specs.Flaws.{first_flaw, own_flaw}
-use Rattle.meta_reader.specs.Pieces.{IsPiece, NestedInBytes, StandIn}
+use Rattle.meta_reader.specs.Pieces.{IsPiece, NestedInBytes, AreInText}
 use Rattle.meta_reader.specs.Reading as reading
 use Rattle.meta_reader.specs.Reading.{Reads, ATerm, tag_name, behind_first}
 use Rattle.meta_reader.specs.Signs as signs
-use Rattle.meta_reader.specs.Signs.{sign_of, signed, IsOperand, SignsStand, IsBehindSigns}
+use Rattle.meta_reader.specs.Signs.{sign_of, signed, IsOperand, AreSignsIn, IsAfterSigns}
 use Rattle.meta_reader.specs.Views.{count_of}
 use Rattle.meta_reader.specs.declared.rules.signs.Sign.{Sign}
 use Rattle.meta_reader.specs.declared.rules.signs.SignKind.TheVariants as sign_is
@@ -47,7 +47,7 @@ pub record IsLeftOfTerm (text : List ℕ) (us : Trees) (signs : List Sign) (vs :
   pub flaws : first_flaw text us ≡ first_flaw text vs
   pub shorter : count_of vs ≤ count_of us
   pub reads : (x : Spanned) → Reads text ATerm vs x → Reads text ATerm us (signed text signs x)
-  pub stand : StandIn text us → SignsStand text signs vs
+  pub stand : AreInText text us → AreSignsIn text signs vs
 
 pub term_start : {text : List ℕ} {us : Trees} → IsTerm text us → IsLeftOfTerm text us [] us
 term_start {text} {us} h = record {
@@ -60,7 +60,7 @@ term_start {text} {us} h = record {
 
 -- signs stand before what is behind the first tree
 stand_next : {text : List ℕ} {signs : List Sign} {r : Text} {i j : ℕ} {inner us : Trees}
-    → SignsStand text signs (Tree r i j inner us) → SignsStand text signs us
+    → AreSignsIn text signs (Tree r i j inner us) → AreSignsIn text signs us
 stand_next {text} {r = r} {i = i} {j = j} {inner = inner} s =
     let o = nested_order text inner i j s.nested.3 in
     record {
@@ -72,13 +72,13 @@ stand_next {text} {r = r} {i = i} {j = j} {inner = inner} s =
 
 -- the first tree is a piece of the text
 pub sign_piece : {text : List ℕ} {signs : List Sign} {r : Text} {i j : ℕ} {inner us : Trees}
-    → SignsStand text signs (Tree r i j inner us) → IsPiece text i j
+    → AreSignsIn text signs (Tree r i j inner us) → IsPiece text i j
 sign_piece {text} {i = i} {j = j} {inner = inner} s =
     record { starts = s.nested.1; ends = s.nested.2; order = nested_order text inner i j s.nested.3 }
 
 -- and so does the sign that the first tree is
 stand_push : {text : List ℕ} {signs : List Sign} {r : Text} {j : ℕ} {inner us : Trees} (sign : Sign)
-    → SignsStand text signs (Tree r sign.start j inner us) → SignsStand text (signs ++ sign ∷ []) us
+    → AreSignsIn text signs (Tree r sign.start j inner us) → AreSignsIn text (signs ++ sign ∷ []) us
 stand_push {text} {signs} {r} {j} {inner} {us} sign s =
     let t = stand_next s in
     let o = nested_order text inner sign.start j s.nested.3 in
@@ -152,7 +152,7 @@ pub term_operand : {text : List ℕ} {us : Trees} {ss : List Sign} {n : Text}
     {i j : ℕ} {inner vs : Trees} (r : Rule)
     → IsLeftOfTerm text us ss (Tree n i j inner vs) → n ≡ name_of r → ¬ (r ≡ rule_is.tag_id)
     → ¬ (r ≡ rule_is.positive_predicate_operator) → ¬ (r ≡ rule_is.negative_predicate_operator)
-    → IsBehindSigns text us ss (Tree n i j inner vs)
+    → IsAfterSigns text us ss (Tree n i j inner vs)
 term_operand r h e a b c = record {
   shape = operand_tree r h.shape e a b c;
   flaws = h.flaws;
@@ -174,7 +174,7 @@ sign_place {text} n i from to h d a =
     subst (λ u. IsPiece u i (span_end n.span)) (sym e) q
 
 pub signs_place : {text : List ℕ} {signs : List Sign} {us : Trees} (n : ParserNode)
-    → SignsStand text signs us → Reads text ATerm us (view n)
+    → AreSignsIn text signs us → Reads text ATerm us (view n)
     → All (λ sign. IsPiece (span_text n.span) sign.start (span_end n.span)) signs
 signs_place n s d = λ k t h. sign_place n _ s.from s.to s.nested d (s.before k t h)
 

@@ -18,7 +18,7 @@ use Rattle.meta_reader.specs.Views.{TakesNumber, TakesBound}
 use Rattle.meta_base.specs.declared.grammar.Rule.{Rule}
 use Rattle.meta_base.specs.declared.grammar.Rule.TheVariants as rule_is
 use Rattle.meta_reader.proofs.FlawsInOrder.{or_none}
-use Rattle.meta_reader.specs.Pieces.{StandIn}
+use Rattle.meta_reader.specs.Pieces.{AreInText}
 use Rattle.meta_reader.proofs.TreesStandInText.{stand_behind}
 use Rattle.meta_base.proofs.MetaNames.{name_of-injective}
 use Rattle.meta_base.specs.Pieces.Saying.{piece}
@@ -121,8 +121,8 @@ slice_reads i j (in_brackets (shape.open_start (shape.up_to h))) views.the_dots 
 slice_reads i j (in_brackets (shape.from h shape.open_end)) views.a_number views.the_end = reading.slice_from
 slice_reads i j (in_brackets (shape.from h (shape.up_to k))) views.a_number views.a_number = reading.slice_between
 
-pub takes_standing : {text : List ℕ} {us rest : Trees} {n : Option ℤ} → StandIn text us
-    → TakesNumber text us n rest → StandIn text rest
+pub takes_standing : {text : List ℕ} {us rest : Trees} {n : Option ℤ} → AreInText text us
+    → TakesNumber text us n rest → AreInText text rest
 takes_standing h views.a_number = stand_behind h
 takes_standing h views.the_dots = h
 takes_standing h views.the_end = h

@@ -6,7 +6,7 @@ use Rattle.std.specs.Option.{option_or}
 use Rattle.meta_base.specs.Language.Text.{Text}
 use Rattle.meta_base.specs.Language.State.{Trees, None', Tree}
 use Rattle.meta_reader.specs.Flaws.{first_flaw, own_flaw}
-use Rattle.meta_reader.specs.Pieces.{IsPiece, NestedInBytes, StandIn}
+use Rattle.meta_reader.specs.Pieces.{IsPiece, NestedInBytes, AreInText}
 use Rattle.meta_reader.specs.Reading as reading
 use Rattle.meta_reader.specs.Reading.{Reads, AnExpression, ATerm, ANode, tag_name}
 use Rattle.meta_base.specs.Pieces.MetaRules.{name_of}
@@ -14,7 +14,7 @@ use Rattle.meta_syntax.specs.Shape.{Lone, IsTerm, IsNode, IsTerminal, ArePostfix
 use Rattle.meta_spanned.specs.Spanned as spanned
 use Rattle.meta_spanned.specs.Spanned.{Spanned, One, PosPred, NegPred, Push, Tag, span_of, end_of, placed, starting, ending}
 use Rattle.meta_reader.specs.Signs.{IsOperand, group, node}
-use Rattle.meta_reader.specs.Views.{StandsBefore}
+use Rattle.meta_reader.specs.Views.{IsNodeBefore}
 use Rattle.meta_spanned.specs.Nodes.{view, piece_of}
 use Rattle.meta_base.specs.declared.grammar.Rule.{Rule}
 use Rattle.meta_base.specs.declared.grammar.Rule.TheVariants as rule_is
@@ -125,8 +125,8 @@ open_push (terminal h) = elim h [ ]
 
 -- a node before its operators
 pub before_operators : {text : List ℕ} {r : Text} {a b : ℕ} {inner us : Trees} (n : ParserNode)
-    → StandIn text (Tree r a b inner us) → Reads text ANode (Tree r a b inner None') (view n)
-    → StandsBefore text n us
+    → AreInText text (Tree r a b inner us) → Reads text ANode (Tree r a b inner None') (view n)
+    → IsNodeBefore text n us
 before_operators {text} {r} {a} {b} {inner} {us} n s d =
     let t : NestedInBytes text (Tree r a b inner None') s.from b = (s.nested.0, s.nested.1, s.nested.2, s.nested.3, omega arith) in
     let w = reads_within text d s.from b t in
@@ -158,10 +158,10 @@ view_starting {text} {i} n x h e f =
 pub record Inside (text : List ℕ) (q : ℕ) (n : ParserNode) (operators : Trees) : Type 0 where
   pub same_text : n.span.text.now ≡ text
   pub place : IsPiece text n.span.start q
-  pub before : (x : ParserNode) → piece_of x.span ≡ piece text n.span.start q → StandsBefore text x operators
+  pub before : (x : ParserNode) → piece_of x.span ≡ piece text n.span.start q → IsNodeBefore text x operators
 
 pub inside : {text : List ℕ} {r o p : Text} {i j k l m q : ℕ} {vs inner ws us : Trees} (n : ParserNode)
-    → StandIn text (Tree r i j vs (Tree o k l inner (Tree p m q ws us)))
+    → AreInText text (Tree r i j vs (Tree o k l inner (Tree p m q ws us)))
     → Reads text AnExpression inner (view n) → Inside text q n us
 inside {text} {k = k} {l = l} {m = m} {q = q} {ws = ws} n s d =
     let t = s.nested.4 in
@@ -185,7 +185,7 @@ pub record Outermost (text : List ℕ) (i : ℕ) (n : ParserNode) : Type 0 where
   pub place : IsPiece text i n.span.end
 
 pub outermost : {text : List ℕ} {r : Text} {i j : ℕ} {vs us : Trees} (n : ParserNode)
-    → StandIn text (Tree r i j vs us) → Reads text ATerm (Tree r i j vs us) (starting i (view n))
+    → AreInText text (Tree r i j vs us) → Reads text ATerm (Tree r i j vs us) (starting i (view n))
     → Outermost text i n
 outermost {text} {i = i} n s d =
     let w = reads_within text d s.from s.to s.nested in
@@ -197,7 +197,7 @@ outermost {text} {i = i} n s d =
 
 -- from `PUSH` to the end of its operand
 pub push_piece : {text : List ℕ} {r : Text} {i j : ℕ} {us inner : Trees} (n : ParserNode)
-    → StandIn text (Tree r i j us None') → StandIn text inner → Reads text AnExpression inner (view n)
+    → AreInText text (Tree r i j us None') → AreInText text inner → Reads text AnExpression inner (view n)
     → Reads text ANode (Tree r i j us None') (One (piece text i (end_of (view n))) Push (view n))
     → IsPiece text i n.span.end
 push_piece {text} n s k d e =

@@ -5,7 +5,7 @@ use Rattle.meta_base.specs.Language.State.{Trees, None', Tree}
 use Rattle.meta_base.specs.Pieces.NamedTrees.{named}
 use Rattle.meta_base.specs.Pieces.TokenTrees.{TokenTrees, NoTokens, Token, AreNested}
 use Rattle.meta_base.specs.declared.grammar.Rule.{Rule}
-use Rattle.meta_reader.specs.Pieces.{IsPiece, NestedInBytes, StandIn}
+use Rattle.meta_reader.specs.Pieces.{IsPiece, NestedInBytes, AreInText}
 
 module _ (text : List ℕ) where
   pub nested_order : (us : Trees) (i j : ℕ) → NestedInBytes text us i j → i ≤ j
@@ -18,21 +18,21 @@ module _ (text : List ℕ) where
 
 -- the first tree of some that stand in the text
 pub first_piece : {text : List ℕ} {r : Text} {a b : ℕ} {inner others : Trees}
-    → StandIn text (Tree r a b inner others) → IsPiece text a b
+    → AreInText text (Tree r a b inner others) → IsPiece text a b
 first_piece {text} {r} {a} {b} {inner} h = record { starts = h.nested.1; ends = h.nested.2; order = nested_order text inner a b h.nested.3 }
 
 -- what stands in the first, and what stands behind it
 pub stand_inner : {text : List ℕ} {r : Text} {a b : ℕ} {inner others : Trees}
-    → StandIn text (Tree r a b inner others) → StandIn text inner
+    → AreInText text (Tree r a b inner others) → AreInText text inner
 stand_inner {a = a} {b = b} h = record { from = a; to = b; nested = h.nested.3 }
 
 pub stand_behind : {text : List ℕ} {r : Text} {a b : ℕ} {inner others : Trees}
-    → StandIn text (Tree r a b inner others) → StandIn text others
+    → AreInText text (Tree r a b inner others) → AreInText text others
 stand_behind {b = b} h = record { from = b; to = h.to; nested = h.nested.4 }
 
 -- the first tree without what is behind it
 pub stand_alone : {text : List ℕ} {r : Text} {a b : ℕ} {inner others : Trees}
-    → StandIn text (Tree r a b inner others) → StandIn text (Tree r a b inner None')
+    → AreInText text (Tree r a b inner others) → AreInText text (Tree r a b inner None')
 stand_alone {b = b} h = record { from = h.from; to = b; nested = (h.nested.0, h.nested.1, h.nested.2, h.nested.3, omega arith) }
 
 -- nested trees of tokens, with their rules by name

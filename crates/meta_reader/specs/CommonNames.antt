@@ -1,9 +1,10 @@
--- What people call the rules of the meta-grammar.
+-- Common names of the rules of the meta-grammar.
 use Rattle.std.specs.Prelude.{ℕ, List, codes}
 use Rattle.meta_base.specs.declared.grammar.Rule.{Rule}
 use Rattle.meta_base.specs.declared.grammar.Rule.TheVariants.{EOI, grammar_rules, grammar_rule, assignment_operator, opening_brace, closing_brace, opening_paren, closing_paren, opening_brack, closing_brack, modifier, silent_modifier, atomic_modifier, compound_atomic_modifier, non_atomic_modifier, tag_id, node_tag, expression, term, node, terminal, prefix_operator, infix_operator, postfix_operator, positive_predicate_operator, negative_predicate_operator, sequence_operator, choice_operator, optional_operator, repeat_operator, repeat_once_operator, repeat_exact, repeat_min, repeat_max, repeat_min_max, number, integer, comma, _push, _push_literal, peek_slice, identifier, alpha, alpha_num, string, insensitive_string, range, character, inner_str, inner_chr, escape, code, unicode, hex_digit, quote, single_quote, range_operator, newline, WHITESPACE, line_comment, block_comment, COMMENT, space, grammar_doc, line_doc, inner_doc}
 
--- what is written in one way stands between grave accents; all else has a name in words
+-- a rule that is written in one way only has its text between grave accents; all others have a name in
+-- words
 abbrev pub common_name : Rule → List ℕ
 common_name EOI = codes "the end of the text"
 common_name grammar_rules = codes "rules"

@@ -14,7 +14,7 @@ pub data Cause : Type 0 where
   PastU32 : Cause
   ZeroTimes : Cause
 
--- what is wrong, and where
+-- the cause of a flaw, and its span
 pub record Flaw : Type 0 where
   pub cause : Cause
   pub span : Span
@@ -23,7 +23,7 @@ abbrev pub fits_i32 : ℤ → Bool
 fits_i32 (pos n) = nat_lt n (2 ^ 31)
 fits_i32 (negsuc n) = nat_lt n (2 ^ 31)
 
--- the trees in the first of them
+-- the trees in the first of the trees
 abbrev pub first_inner : Trees → Trees
 first_inner None' = None'
 first_inner (Tree r i j inner us) = inner
@@ -49,19 +49,19 @@ module _ (text : List ℕ) where
   abbrev pub past_i32 : ℕ → ℕ → Option Flaw
   past_i32 i j = flaw_if (not (fits_i32 (integer text i j))) PastI32 i j
 
-  -- a count of how often at most fits a u32, and is not 0
+  -- the greatest number of repetitions fits a u32, and is not 0
   abbrev pub zero_times : ℕ → ℕ → Option Flaw
   zero_times i j = flaw_if (nat_eq (number text i j) 0) ZeroTimes i j
 
   abbrev pub not_a_count : ℕ → ℕ → Option Flaw
   not_a_count i j = option_or (past_u32 i j) (zero_times i j)
 
-  -- what is wrong with a number, by what is behind it: before a closing brace it counts how often at most
+  -- the flaw of a number, by the trees after it: before a closing brace it is a greatest number of
+  -- repetitions
   abbrev pub number_flaw : ℕ → ℕ → Trees → Option Flaw
   number_flaw i j others = if closes others then not_a_count i j else past_u32 i j
 
-  -- what is wrong with a tree of the rule r from i to j, by itself, by what it holds and by what is
-  -- behind it
+  -- the flaw of a tree of the rule r from i to j itself, by the trees in it and those after it
   unfoldable pub own_flaw : Text → ℕ → ℕ → Trees → Trees → Option Flaw
   own_flaw r i j inner others =
       if bytes_eq r (codes "string") then wrong_literal i j inner
@@ -71,7 +71,7 @@ module _ (text : List ℕ) where
       else (if bytes_eq r (codes "number") then number_flaw i j others
       else None))))
 
-  -- the first flaw: of the first tree itself, in it, or behind it
+  -- the first flaw: of the first tree itself, in it, or after it
   abbrev pub first_flaw : Trees → Option Flaw
   first_flaw None' = None
   first_flaw (Tree r i j inner others) =

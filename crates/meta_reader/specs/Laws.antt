@@ -1,4 +1,4 @@
--- Laws of the reading.
+-- Laws of the reader.
 use Rattle.std.specs.Prelude.{◌≡◌, ℕ, List, None, All}
 use Rattle.meta_base.specs.Language.Expression as bare
 use Rattle.meta_base.specs.Language.Expression.{Expression}
@@ -19,7 +19,7 @@ abbrev pub ReadsOneGrammar : Type 0
 ReadsOneGrammar = (text : List ℕ) (us : Trees) (rs qs : List SpannedRule)
     → ReadsRules text us rs → ReadsRules text us qs → rs ≡ qs
 
--- what is read from trees without a flaw is nowhere repeated 0 times at most
+-- rules read from trees without a flaw nowhere repeat 0 times at most
 abbrev pub ReadsReadableCounts : Type 0
 ReadsReadableCounts = (text : List ℕ) (us : Trees) (rs : List SpannedRule)
     → ReadsRules text us rs → first_flaw text us ≡ None

@@ -1,4 +1,4 @@
--- What is open while an expression is read, and how much there is to be read.
+-- The expressions that are open in the reader, and how many trees are still to be read.
 use Rattle.std.specs.Prelude.{◌≡◌, ◌+◌, ℕ, List, [], ◌∷◌, Option, Some, None, codes, option_map}
 use Rattle.std.specs.Option.{option_or}
 use Rattle.meta_ast.specs.declared.deep.Deep.{Deep}
@@ -11,16 +11,16 @@ use Rattle.meta_spanned.specs.Nodes.{view}
 use Rattle.meta_spanned.specs.Spanned.{Spanned, Binary}
 use Rattle.meta_spanned.specs.declared.node.ParserNode.{ParserNode}
 use Rattle.meta_reader.specs.Flaws.{first_flaw}
-use Rattle.meta_reader.specs.Pieces.{StandIn}
+use Rattle.meta_reader.specs.Pieces.{AreInText}
 use Rattle.meta_reader.specs.Reading.{Category, AnExpression, Alternatives, ASequence, ATerm, Reads, both}
-use Rattle.meta_reader.specs.Signs.{IsBehindSigns}
-use Rattle.meta_reader.specs.Views.{IsBehindBar, IsRest, count_of}
-use Rattle.meta_reader.specs.declared.rules.levels.Beside.{Beside}
+use Rattle.meta_reader.specs.Signs.{IsAfterSigns}
+use Rattle.meta_reader.specs.Views.{IsAfterBar, IsRest, count_of}
+use Rattle.meta_reader.specs.declared.rules.levels.TermContext.{TermContext}
 use Rattle.meta_reader.specs.declared.rules.levels.Level.{Level}
 use Rattle.meta_reader.specs.declared.rules.levels.Next.{Next}
 use Rattle.meta_reader.specs.declared.rules.levels.Next.TheVariants as next_is
-use Rattle.meta_reader.specs.declared.rules.levels.Within.{Within}
-use Rattle.meta_reader.specs.declared.rules.levels.Within.TheVariants as within_is
+use Rattle.meta_reader.specs.declared.rules.levels.Enclosure.{Enclosure}
+use Rattle.meta_reader.specs.declared.rules.levels.Enclosure.TheVariants as within_is
 use Rattle.meta_reader.specs.declared.rules.signs.Sign.{Sign}
 use Rattle.meta_syntax.specs.Shape.{Lone, IsExpression, AreTerms, IsMore, IsTerm, IsTerminal, ArePostfixes}
 
@@ -28,7 +28,7 @@ use Rattle.meta_syntax.specs.Shape.{Lone, IsExpression, AreTerms, IsMore, IsTerm
 abbrev pub node_view : Option (Deep ParserNode) → Option Spanned
 node_view o = option_map (λ n. view n.value) o
 
--- a node and what stands before it, with an operator between them
+-- a node and the one before it, with an operator between them
 abbrev pub together : List ℕ → Binary → Option Spanned → Spanned → Spanned
 together text f None y = y
 together text f (Some x) y = both text f x y
@@ -37,44 +37,44 @@ together text f (Some x) y = both text f x y
 abbrev pub IsReadAs : List ℕ → Category → Trees → ParserNode → Type 0
 IsReadAs text category us n = (first_flaw text us ≡ None) × Reads text category us (view n)
 
--- a front of the trees is read as a sequence, and the rest is left
+-- a prefix of the trees is read as a sequence, and the rest follows
 pub record InFront (text : List ℕ) (us rest : Trees) (x : Spanned) : Type 0 where
   pub front : Trees
   pub split : us ≡ joined front rest
   pub reads : Reads text ASequence front x
 
--- a front of an expression's trees is read as alternatives, and the rest is left
+-- a prefix of an expression's trees is read as alternatives, and the rest follows
 pub record SplitOff (text : List ℕ) (us rest : Trees) (x : Spanned) : Type 0 where
   pub front : Trees
   pub whole : Trees
   pub split : whole ≡ joined front rest
   pub reads : Reads text Alternatives front x
   pub behind : (y : Spanned) → Reads text Alternatives whole y → Reads text AnExpression us y
-  pub standing : StandIn text whole
+  pub standing : AreInText text whole
 
--- with these trees a term begins: the first of a sequence, or the next behind others and a tilde
+-- a term begins with these trees: the first of a sequence, or the next after others and a tilde
 pub data BeginsTerm (text : List ℕ) : Trees → Option Spanned → Trees → Type 0 where
   first_term : {us : Trees} → BeginsTerm text us None us
   next_term : {tilde_at tilde_to : ℕ} {us vs : Trees} {x : Spanned}
       → InFront text us (Lone (codes "sequence_operator") tilde_at tilde_to vs) x
       → BeginsTerm text us (Some x) vs
 
--- with these trees an alternative begins: the first of an expression, or the next behind others and a bar
+-- an alternative begins with these trees: the first of an expression, or the next after others and a bar
 pub data BeginsAlternative (text : List ℕ) (us : Trees) : Option Spanned → Trees → Type 0 where
-  first_alternative : {vs : Trees} → IsBehindBar text us vs → BeginsAlternative text us None vs
+  first_alternative : {vs : Trees} → IsAfterBar text us vs → BeginsAlternative text us None vs
   next_alternative : {bar_at bar_to : ℕ} {vs : Trees} {x : Spanned}
       → SplitOff text us (Lone (codes "choice_operator") bar_at bar_to vs) x
       → BeginsAlternative text us (Some x) vs
 
--- an alternative of the expression `us` and what is behind it: `choice` is before it
+-- an alternative of the expression `us` with all after it; `choice` is the node of those before it
 pub record IsAlternative (text : List ℕ) (us : Trees) (choice : Option Spanned) (vs : Trees) : Type 0 where
   pub shape : AreTerms text vs
-  pub nested : StandIn text us
+  pub nested : AreInText text us
   pub flaws : first_flaw text us ≡ first_flaw text vs
   pub begins : BeginsAlternative text us choice vs
 
--- a term of the expression `us` stands beside all this
-pub record IsTermBeside (text : List ℕ) (us : Trees) (beside : Beside) (term : Trees) : Type 0 where
+-- a term of the expression `us`, with its surroundings
+pub record IsTermBeside (text : List ℕ) (us : Trees) (beside : TermContext) (term : Trees) : Type 0 where
   pub alternative : Trees
   pub from : ℕ
   pub to : ℕ
@@ -86,8 +86,8 @@ pub record IsTermBeside (text : List ℕ) (us : Trees) (beside : Beside) (term :
   pub flaws : first_flaw text alternative
       ≡ option_or (first_flaw text term) (first_flaw text (named_trees_of beside.rest.now))
 
--- an operand's trees: what stands round an expression, the expression's trees and the postfix operators
-pub data Opens (text : List ℕ) : Trees → Within → Trees → Trees → Type 0 where
+-- an operand's trees: its wrapper round an expression, the expression's trees and the postfix operators
+pub data Opens (text : List ℕ) : Trees → Enclosure → Trees → Trees → Type 0 where
   parentheses : {open_at open_to body_at body_to close_at close_to : ℕ} {inner us : Trees}
       → IsExpression text inner → ArePostfixes text us
       → Opens text
@@ -116,23 +116,24 @@ pub record IsInside (text : List ℕ) (us : Trees) (level : Level) (inner : Tree
   pub term : Trees
   pub operand : Trees
   pub stands : IsTermBeside text us level.beside term
-  pub signed : IsBehindSigns text term level.signs.items operand
+  pub signed : IsAfterSigns text term level.signs.items operand
   pub opens : Opens text operand level.within inner (named_trees_of level.postfixes.now)
 
--- what is next in reading the expression `us` is a term of it, or an expression in one, or it is read
+-- the next step in reading the expression `us` is a term of it, or an expression in one, or it is read
 abbrev pub GoesOn : List ℕ → Trees → Next → Type 0
 GoesOn text us (next_is.Term beside trees) = IsTermBeside text us beside (named_trees_of trees.now)
 GoesOn text us (next_is.Inner level trees) = IsInside text us level (named_trees_of trees.now)
 GoesOn text us (next_is.Done n) = IsReadAs text AnExpression us n
 
--- the trees `us` are the expression in the last of the levels; each level is in the expression of the one
--- before it, and the first in the expression `whole`
+-- the trees `us` are the expression in the last level; every level is in the expression of the one before
+-- it, and the first level is in the expression `whole`
 abbrev pub AreOpen : List ℕ → List Level → Trees → Trees → Type 0
 AreOpen text [] us whole = us ≡ whole
 AreOpen text (level ∷ others) us whole =
     (inner : Trees) × IsInside text whole level inner × AreOpen text others us inner
 
--- what is read: an alternative, a term, an operand, the expression in an operand, and that in a level
+-- an alternative, a term, an operand, the expression in an operand, and that in a level, once they are
+-- read
 pub record IsAlternativeRead (text : List ℕ) (us : Trees) (choice : Option (Deep ParserNode))
     (sequence : Deep ParserNode) (rest : Trees) : Type 0 where
   pub alternative : Trees
@@ -141,24 +142,24 @@ pub record IsAlternativeRead (text : List ℕ) (us : Trees) (choice : Option (De
   pub flaws : first_flaw text alternative ≡ first_flaw text rest
   pub behind : IsRest text rest
 
-pub record IsTermRead (text : List ℕ) (us : Trees) (beside : Beside) (node : ParserNode) : Type 0 where
+pub record IsTermRead (text : List ℕ) (us : Trees) (beside : TermContext) (node : ParserNode) : Type 0 where
   pub term : Trees
   pub stands : IsTermBeside text us beside term
   pub reads : IsReadAs text ATerm term node
 
-pub record IsOperandRead (text : List ℕ) (us : Trees) (beside : Beside) (signs : List Sign)
+pub record IsOperandRead (text : List ℕ) (us : Trees) (beside : TermContext) (signs : List Sign)
     (node : ParserNode) : Type 0 where
   pub term : Trees
   pub operand : Trees
   pub stands : IsTermBeside text us beside term
-  pub signed : IsBehindSigns text term signs operand
+  pub signed : IsAfterSigns text term signs operand
   pub reads : IsReadAs text ATerm operand node
 
-pub record IsInsideRead (text : List ℕ) (us : Trees) (within : Within) (node : ParserNode)
+pub record IsInsideRead (text : List ℕ) (us : Trees) (within : Enclosure) (node : ParserNode)
     (postfixes : Trees) : Type 0 where
   pub inner : Trees
   pub opens : Opens text us within inner postfixes
-  pub nested : StandIn text us
+  pub nested : AreInText text us
   pub reads : IsReadAs text AnExpression inner node
 
 pub record IsLevelRead (text : List ℕ) (us : Trees) (level : Level) (node : ParserNode) : Type 0 where
@@ -166,8 +167,8 @@ pub record IsLevelRead (text : List ℕ) (us : Trees) (level : Level) (node : Pa
   pub inside : IsInside text us level inner
   pub reads : IsReadAs text AnExpression inner node
 
--- how many trees are still to be read: beside a term, in what is next, and beside all levels
-abbrev pub waits_of : Beside → ℕ
+-- the number of trees still to be read: after a term, in the next step, and after all levels
+abbrev pub waits_of : TermContext → ℕ
 waits_of beside = count_of (named_trees_of beside.rest.now)
 
 abbrev pub work_of : Next → ℕ

@@ -1,9 +1,10 @@
--- What the text between two quotes stands for.
+-- The text that a literal denotes, by the text between its quotes.
 use Rattle.std.specs.Prelude.{ℕ, ◌+◌, ◌*◌, [], ◌∷◌, ◌==◌, if◌then◌else◌, nat_lt}
 use Rattle.std.specs.Char.{digit_value}
 use Rattle.meta_base.specs.Language.Text.{Text}
 
--- what a character behind a backslash stands for: `r`, `n`, `t` and `0` for controls, any other for itself
+-- the character that one after a backslash denotes: `r`, `n`, `t` and `0` are controls, any other is
+-- itself
 abbrev pub letter : ℕ → ℕ
 letter c =
     if c == 114 then 13
@@ -15,7 +16,7 @@ letter c =
 abbrev pub hex_digit_value : ℕ → ℕ
 hex_digit_value c = if nat_lt (digit_value c) 16 then digit_value c else 0
 
--- the number that one more hexadecimal digit makes of another
+-- a number with one more hexadecimal digit
 abbrev pub extended : ℕ → ℕ → ℕ
 extended n c = 16 * n + hex_digit_value c
 
@@ -25,12 +26,12 @@ abbrev mutual
   unescaped [] = []
   unescaped (c ∷ t) = if c == 92 then escape t else c ∷ unescaped t
 
-  -- behind a backslash
+  -- after a backslash
   pub escape : Text → Text
   escape [] = []
   escape (c ∷ t) = if c == 120 then two_digits t else (if c == 117 then braced t else letter c ∷ unescaped t)
 
-  -- behind `x`: two digits
+  -- after `x`: two digits
   pub two_digits : Text → Text
   two_digits [] = []
   two_digits (c ∷ t) = second_digit (extended 0 c) t
@@ -39,7 +40,7 @@ abbrev mutual
   second_digit n [] = []
   second_digit n (c ∷ t) = extended n c ∷ unescaped t
 
-  -- behind `u`: a brace, and digits up to the other
+  -- after `u`: a brace, and digits up to the other
   pub braced : Text → Text
   braced [] = []
   braced (c ∷ t) = digits 0 t

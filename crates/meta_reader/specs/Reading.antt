@@ -1,4 +1,4 @@
--- What the trees of a grammar's text are read as: spanned expressions, and rules with them.
+-- The spanned expressions and rules that the trees of a grammar's text are read as.
 use Rattle.std.specs.Prelude.{ℕ, ℤ, pos, List, [], ◌∷◌, Option, Some, None, codes, chars}
 use Rattle.std.specs.List.{slice_range}
 use Rattle.std.specs.Str.Parse.{digits_value, signed_digits_value}
@@ -10,7 +10,7 @@ use Rattle.meta_syntax.specs.Shape.{Lone, Braced}
 use Rattle.meta_spanned.specs.Spanned.{Span, Spanned, Leaf, One, Two, Unary, PosPred, NegPred, Opt, Rep, RepOnce, RepExact, RepMin, RepMax, RepMinMax, Push, Tag, Binary, Seq, Choice, start_of, end_of, starting, ending, SpannedRule}
 use Rattle.meta_reader.specs.Literal.{unescaped}
 
--- the categories of syntax: what a list of trees may be read as
+-- the categories of syntax that a list of trees may be read as
 pub data Category : Type 0 where
   AnExpression : Category
   Alternatives : Category
@@ -31,7 +31,7 @@ behind_first [] = []
 behind_first (c ∷ t) = t
 
 module _ (text : List ℕ) where
-  -- what is written there: characters, a number, a number with a sign
+  -- the text between two positions: characters, a number, a number with a sign
   abbrev pub characters_between : ℕ → ℕ → Text
   characters_between i j = chars (slice_range text i j)
 
@@ -45,7 +45,7 @@ module _ (text : List ℕ) where
   abbrev pub tag_name : ℕ → ℕ → Text
   tag_name i j = behind_first (characters_between i j)
 
-  -- what a literal stands for, by the trees in it: a quote, what is quoted, a quote
+  -- the text that a literal denotes, by the trees in it: a quote, the quoted text, a quote
   abbrev pub literal_value : Trees → Text
   literal_value (Tree q i j inner (Tree r k l inner' us)) = unescaped (characters_between k l)
   literal_value us = []
@@ -54,11 +54,11 @@ module _ (text : List ℕ) where
   abbrev pub both : Binary → Spanned → Spanned → Spanned
   both f x y = Two (piece text (start_of x) (end_of y)) f x y
 
-  -- what a postfix operator that ends at j makes of its operand
+  -- a postfix operator that ends at j, round its operand
   abbrev pub around : ℕ → Unary → Spanned → Spanned
   around j f x = One (piece text (start_of x) j) f x
 
-  -- what a postfix operator says; `_at` and `_to` are where a tree begins, and where it ends
+  -- the operator that postfix trees spell; a tree begins at `_at`, and ends at `_to`
   pub data Postfix : Text → Trees → Unary → Type 0 where
     opt : {us : Trees} → Postfix (codes "optional_operator") us Opt
     rep : {us : Trees} → Postfix (codes "repeat_operator") us Rep
@@ -92,13 +92,13 @@ module _ (text : List ℕ) where
         (Lone (codes "closing_brace") close_at close_to None')))))
         (RepMinMax (number least_at least_to) (number most_at most_to))
 
-  -- a node, and what the postfix operators behind it make of it
+  -- a node, and the result of the postfix operators after it
   pub data Postfixed : Spanned → Trees → Spanned → Type 0 where
     done : {x : Spanned} → Postfixed x None' x
     more : {x y : Spanned} {r : Text} {from to : ℕ} {inner us : Trees} {f : Unary}
         → Postfix r inner f → Postfixed (around to f x) us y → Postfixed x (Tree r from to inner us) y
 
-  -- the expression of a tree of a rule, from one place to another, where it has no operands
+  -- the expression of a tree of a rule, from one position to another, where it has no operands
   pub data Terminal : Text → ℕ → ℕ → Trees → Expression → Type 0 where
     identifier : {from to : ℕ} {us : Trees}
         → Terminal (codes "identifier") from to us (Ident (characters_between from to))
@@ -198,7 +198,7 @@ module _ (text : List ℕ) where
         (Lone (codes "closing_paren") close_at close_to us)))
         None')
         (One (piece text from (end_of x)) Push x)
-    -- a literal push stands where its string does
+    -- a literal push has the span of its string
     literally_pushed : {from to open_at open_to string_at string_to close_at close_to : ℕ} {us : Trees}
         → Reads ANode
         (Tree (codes "_push_literal") from to
@@ -208,7 +208,7 @@ module _ (text : List ℕ) where
         None')
         (Leaf (piece text string_at string_to) (PushLiteral (literal_value us)))
 
-  -- a rule whose name stands from one place to another; a comment that documents one gives none
+  -- a rule whose name reaches from one position to another; a comment that documents one gives none
   pub data ReadsRule : Trees → Option SpannedRule → Type 0 where
     line_doc : {from to : ℕ} {inner : Trees} → ReadsRule (Tree (codes "line_doc") from to inner None') None
     normal : {from to equals_at equals_to open_at open_to body_at body_to close_at close_to : ℕ}

@@ -1,7 +1,7 @@
--- What is answered to the pairs of a grammar's text.
+-- Answers of the reader to the pairs of a grammar's text.
 use Rattle.std.specs.Prelude.{◌≡◌, ℕ, List, [], ◌∷◌, Option, MatchOption, codes, ⊤}
 use Rattle.meta_base.specs.Pieces.NamedTrees.{named}
-use Rattle.meta_base.specs.Pieces.Saying.{SaysAt}
+use Rattle.meta_base.specs.Pieces.Saying.{IsErrorAt}
 use Rattle.meta_base.specs.Pieces.Pairs.{pairs_text, pairs_trees}
 use Rattle.meta_base.specs.declared.grammar.Rule.{Rule}
 use Rattle.meta_base.specs.declared.runtime.errors.Error.{Error}
@@ -12,23 +12,23 @@ use Rattle.meta_reader.specs.Flaws.{Cause, NoScalarValue, PastI32, PastU32, Zero
 use Rattle.meta_reader.specs.Reading.{ReadsRules}
 use Rattle.meta_spanned.specs.Spanned.{SpannedRule}
 
--- what the error of a flaw says
+-- the message of a flaw's error
 abbrev pub cause_message : Cause → List ℕ
 cause_message NoScalarValue = codes "escape is not a Unicode scalar value"
 cause_message PastI32 = codes "number cannot overflow i32"
 cause_message PastU32 = codes "number cannot overflow u32"
 cause_message ZeroTimes = codes "cannot repeat 0 times"
 
--- the errors are one error: it says what is wrong, and stands where the flaw does
-pub record TellsOf (flaw : Flaw) (errors : List (Error Rule)) : Type 0 where
+-- the errors are one error, which has the message of the flaw and its span
+pub record ReportsFlaw (flaw : Flaw) (errors : List (Error Rule)) : Type 0 where
   pub error : Error Rule
   pub one : errors ≡ error ∷ []
-  pub says : SaysAt (cause_message flaw.cause) flaw.span error
+  pub says : IsErrorAt (cause_message flaw.cause) flaw.span error
 
--- want of memory, or one error that tells of the first flaw
+-- an allocation failure, or one error that reports the first flaw
 abbrev pub IsReadRefusal : Option Flaw → code.Fault → Type 0
 IsReadRefusal first (code_is.Memory e) = ⊤
-IsReadRefusal first (code_is.Grammar errors) = MatchOption first ⊥ (λ flaw. TellsOf flaw errors.items)
+IsReadRefusal first (code_is.Grammar errors) = MatchOption first ⊥ (λ flaw. ReportsFlaw flaw errors.items)
 
 -- the pairs are read as these rules
 abbrev pub AreReadAs : Pairs Rule → List SpannedRule → Type 0

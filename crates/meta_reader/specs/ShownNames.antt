@@ -1,4 +1,4 @@
--- What errors call the rules of the meta-grammar.
+-- The names of the meta-grammar's rules that errors show.
 use Rattle.std.specs.Prelude.{ℕ, List, codes}
 use Rattle.meta_base.specs.Pieces.MetaRules.{name_of}
 use Rattle.meta_base.specs.declared.grammar.Rule.{Rule}

@@ -1,4 +1,4 @@
--- What the code's values stand for, and what its answers say.
+-- Views of the code's values, and relations between its arguments and its answers.
 use Rattle.std.specs.Prelude.{◌≡◌, ◌≤◌, ◌+◌, ◌⊎◌, ℕ, List, [], ◌∷◌, true, false, Option, Some, None, chars, Result, Ok, Err, MatchOption, MatchResult, ℤ, codes, option_map, string_bytes, Vec}
 use Rattle.std.specs.Borrow.{Bor}
 use Rattle.std.specs.declared.alloc.Global.{Global}
@@ -10,7 +10,7 @@ use Rattle.meta_base.specs.Language.Text.{Text}
 use Rattle.meta_base.specs.Language.State.{joined}
 use Rattle.meta_base.specs.Pieces.Span.{span_text, span_end}
 use Rattle.meta_spanned.specs.Spanned as spanned
-use Rattle.meta_reader.specs.Pieces.{StandBehind, StandIn}
+use Rattle.meta_reader.specs.Pieces.{AreAfter, AreInText}
 use Rattle.meta_syntax.specs.Shape.{Lone, AreTerms, IsMore, IsTerm, IsModifier}
 use Rattle.meta_spanned.specs.Spanned.{Spanned, Binary, Seq, Choice, One, Unary, Opt, Rep, RepOnce, RepExact, RepMin, RepMax, RepMinMax}
 use Rattle.meta_spanned.specs.Nodes.{piece_of, view, rule_view, rule_views}
@@ -50,7 +50,7 @@ abbrev pub IsFirst : Option flaws.Flaw → error.ReadError → Type 0
 IsFirst o (error_is.Memory e) = Unit {0}
 IsFirst o (error_is.Found f) = o ≡ Some (flaw_of f)
 
--- an answer: what is read has no flaw; otherwise the flaw is the first
+-- an answer is right where there is no flaw; a refusal is right where the flaw is the first
 abbrev pub Answers : {X : Type 0} → Option flaws.Flaw → Result X error.ReadError → (X → Type 0) → Type 0
 Answers o (Ok x) P = (o ≡ None) × P x
 Answers o (Err e) P = IsFirst o e
@@ -62,13 +62,13 @@ alone_as rule tree = state.Tree rule tree.start tree.end (named_trees_of tree.in
 abbrev pub alone : FirstTree Rule → state.Trees
 alone tree = alone_as (name_of tree.rule) tree
 
--- a tree of the code, and those behind it
+-- a tree of the code, and those after it
 abbrev pub all_from : FirstTree Rule → state.Trees
 all_from tree =
     state.Tree (name_of tree.rule) tree.start tree.end (named_trees_of tree.inner.now)
     (named_trees_of tree.others.now)
 
--- what the trees of a category read as, or their first flaw
+-- the node that the trees of a category are read as, or their first flaw
 abbrev pub ReadsAs : List ℕ → Category → state.Trees → Result ParserNode error.ReadError → Type 0
 ReadsAs text category us result = Answers (first_flaw text us) result (λ n. Reads text category us (view n))
 
@@ -81,7 +81,7 @@ abbrev pub AnswersRules : List ℕ → state.Trees → Result (Vec ParserRule Gl
 AnswersRules text us result =
     Answers (first_flaw text us) result (λ rules. ReadsRules text us (rule_views rules.items))
 
--- what a literal from i to j stands for, by the trees in it, or its flaw
+-- the text that a literal from i to j denotes, by the trees in it, or its flaw
 abbrev pub AnswersLiteral : List ℕ → ℕ → ℕ → state.Trees → Result (String Global) error.ReadError → Type 0
 AnswersLiteral text i j us result =
     Answers (wrong_literal text i j us) result (λ s. chars (string_bytes s) ≡ literal_value text us)
@@ -91,7 +91,7 @@ abbrev pub AnswersCount : {N : Type 0} → List ℕ → Text → state.Trees →
     → Type 0
 AnswersCount text r us says result = Answers (first_flaw text us) result (λ n. Postfix text r us (says n))
 
--- what is said of how often
+-- the operator of a number of repetitions
 abbrev pub operator_of : code_times.Times → Unary
 operator_of times_is.AtMostOnce = Opt
 operator_of times_is.AnyTimes = Rep
@@ -101,20 +101,20 @@ operator_of (times_is.AtLeast n) = RepMin n
 operator_of (times_is.AtMost n) = RepMax n
 operator_of (times_is.Between m n) = RepMinMax m n
 
--- what an operator between two nodes makes of them
+-- the binary operator of an infix
 abbrev pub binary_of : code_infix.Infix → Binary
 binary_of infix_is.Sequence = Seq
 binary_of infix_is.Choice = Choice
 
--- the same number, or both past the greatest scalar value
+-- two numbers are equal, or both are past the greatest scalar value
 abbrev pub IsSameNumber : ℕ → ℕ → Type 0
 IsSameNumber v n = (v ≡ n) ⊎ ((0x110000 ≤ v) × (0x110000 ≤ n))
 
--- the number that an escape names, and what follows it, where f says what the text stands for
+-- the number that an escape names, and the rest after it, where f reads the characters of the text
 abbrev pub Names : (List ℕ → List ℕ) → List ℕ → ℕ × Bor (List ℕ) → Type 0
 Names f t x = (n : ℕ) × IsSameNumber x.0 n × (f (chars t) ≡ n ∷ unescaped (chars x.1.now))
 
--- the same of an answer: or the text ends in the escape
+-- an answer about an escape: its number, or none where the text ends in it
 abbrev pub NamesFirst : (List ℕ → List ℕ) → List ℕ → Option (ℕ × Bor (List ℕ)) → Type 0
 NamesFirst f t result = MatchOption result (f (chars t) ≡ []) (Names f t)
 
@@ -124,10 +124,10 @@ Unescapes of t result =
     MatchOption result (all_scalars (unescaped t) ≡ false)
     (λ s. (all_scalars (unescaped t) ≡ true) × (of s ≡ unescaped t))
 
--- a node that stands in the text, before some trees
-pub record StandsBefore (text : List ℕ) (n : ParserNode) (us : state.Trees) : Type 0 where
+-- a node in the text, before some trees
+pub record IsNodeBefore (text : List ℕ) (n : ParserNode) (us : state.Trees) : Type 0 where
   pub same_text : span_text n.span ≡ text
-  pub behind : StandBehind text (span_end n.span) us
+  pub behind : AreAfter text (span_end n.span) us
 
 -- a postfix operator's node round another
 pub record IsPostfixOf (text : List ℕ) (r : Text) (us : state.Trees) (s : spanned.Span) (n x : ParserNode)
@@ -136,19 +136,19 @@ pub record IsPostfixOf (text : List ℕ) (r : Text) (us : state.Trees) (s : span
   pub says : Postfix text r us operator
   pub round : view x ≡ One s operator (view n)
 
--- what a postfix operator makes of a node, where it stands with the node, or the flaw in it
+-- a node with a postfix operator applied, and the span of both, or the operator's flaw
 abbrev pub AnswersPostfix : Span → FirstTree Rule → ParserNode → Result ParserNode error.ReadError → Type 0
 AnswersPostfix span operator node result =
     let text = span_text span in
     let us = named_trees_of operator.inner.now in
     Answers (first_flaw text us) result (IsPostfixOf text (name_of operator.rule) us (piece_of span) node)
 
--- what the postfix operators behind a node make of it, or their first flaw
+-- a node with the postfix operators after it applied, or their first flaw
 abbrev pub AnswersPostfixes : List ℕ → state.Trees → ParserNode → Result ParserNode error.ReadError → Type 0
 AnswersPostfixes text us node result =
     Answers (first_flaw text us) result (λ n. Postfixed text (view node) us (view n))
 
--- the number that may stand first, and what follows it
+-- the number that may come first, and the trees after it
 pub data TakesNumber (text : List ℕ) : state.Trees → Option ℤ → state.Trees → Type 0 where
   a_number : {from to : ℕ} {us : state.Trees}
       → TakesNumber text (Lone (codes "integer") from to us) (Some (integer text from to)) us
@@ -159,7 +159,7 @@ pub data TakesNumber (text : List ℕ) : state.Trees → Option ℤ → state.Tr
       → TakesNumber text (Lone (codes "closing_brack") from to state.None') None
       (Lone (codes "closing_brack") from to state.None')
 
--- the same of an answer: the first flaw is the number's, or that of what follows
+-- an answer about a bound: the first flaw is the number's, or that of the trees after it
 pub record TakesBound (text : List ℕ) (us : state.Trees) (n : Option ℤ) (rest : state.Trees) : Type 0 where
   pub takes : TakesNumber text us n rest
   pub flaws : first_flaw text us ≡ first_flaw text rest
@@ -169,20 +169,20 @@ abbrev pub AnswersBound : List ℕ → state.Trees
 AnswersBound text us result =
     MatchResult result (λ x. TakesBound text us x.0 (named_trees_of x.1.now)) (IsFirst (first_flaw text us))
 
--- how many trees there are, with the ends of their lists
+-- the number of trees, with the ends of their lists
 abbrev pub count_of : state.Trees → ℕ
 count_of state.None' = 1
 count_of (state.Tree r i j inner others) = 1 + (count_of inner + count_of others)
 
--- the alternatives of an expression, behind a bar before the first
-pub record IsBehindBar (text : List ℕ) (us vs : state.Trees) : Type 0 where
+-- the alternatives of an expression, after a bar before the first
+pub record IsAfterBar (text : List ℕ) (us vs : state.Trees) : Type 0 where
   pub shape : AreTerms text vs
-  pub nested : StandIn text us → StandIn text vs
+  pub nested : AreInText text us → AreInText text vs
   pub reads : (x : Spanned) → Reads text Alternatives vs x → Reads text AnExpression us x
   pub flaws : first_flaw text us ≡ first_flaw text vs
   pub shorter : count_of vs ≤ count_of us
 
--- behind a sequence: nothing, or a bar and terms
+-- the trees after a sequence: nothing, or a bar and terms
 pub data IsRest (text : List ℕ) : state.Trees → Type 0 where
   at_end : IsRest text state.None'
   at_bar : {from to : ℕ} {us : state.Trees} → AreTerms text us
@@ -195,12 +195,12 @@ pub data TakesTerm (text : List ℕ) : state.Trees → state.Trees → state.Tre
       → TakesTerm text (Lone (codes "sequence_operator") tilde_at tilde_to
       (state.Tree (codes "term") term_at term_to inner us)) inner us
 
--- where a rule's modifier may stand: it does, or the opening brace follows at once
+-- the trees where a rule's modifier may be: a modifier, or at once the opening brace
 pub data MayBeModifier : state.Trees → Type 0 where
   a_modifier : {r : Text} {from to : ℕ} {us : state.Trees} → IsModifier r → MayBeModifier (Lone r from to us)
   the_brace : {from to : ℕ} {us : state.Trees} → MayBeModifier (Lone (codes "opening_brace") from to us)
 
--- the type that a modifier gives, and what follows it
+-- the type that a modifier gives, and the trees after it
 pub data TakesModifier : state.Trees → meaning.RuleType → state.Trees → Type 0 where
   a_type : {r : Text} {t : meaning.RuleType} {from to : ℕ} {us : state.Trees} → Modifies r t
       → TakesModifier (Lone r from to us) t us

@@ -11,7 +11,7 @@ pub fn reads_one_grammar()
     ensures { ReadsOneGrammar }
 {}
 
-/// What is read from trees without a flaw has readable counts: nothing is repeated 0 times at most.
+/// Rules read from trees without a flaw have readable counts, so nothing is repeated 0 times at most.
 pub fn reads_readable_counts()
     ensures { ReadsReadableCounts }
 {}

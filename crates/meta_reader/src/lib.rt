@@ -1,4 +1,4 @@
-//! From the trees of a grammar's text to its rules.
+//! The reader turns the token trees of a grammar's text into its rules.
 #![tactic(auto)]
 
 pub mod laws;

@@ -1,10 +1,10 @@
-//! From the trees of a grammar's text to its rules.
+//! The reader turns the token trees of a grammar's text into its rules.
 ghost use Rattle.std.specs.Prelude.{◌≡◌, IfErr, IfOk, MatchResult, OnOk};
 ghost use Rattle.meta_base.specs.Pieces.Pairs.{pairs_text};
 ghost use Rattle.meta_base.specs.Pieces.NamedTrees.{named_trees_of};
 ghost use Rattle.meta_syntax.specs.Parses.{AreOfAGrammar, AreSpelled, ParseRefuses};
 ghost use Rattle.meta_reader.specs.Refusals.{AreReadAs, IsReadRefusal, first_flaw_of};
-ghost use Rattle.meta_reader.specs.Pieces.{StandIn};
+ghost use Rattle.meta_reader.specs.Pieces.{AreInText};
 ghost use Rattle.meta_syntax.specs.Shape.{AreGrammarTrees, IsRule};
 ghost use Rattle.meta_reader.specs.Views.{AnswersRule, AnswersRules, MayBeModifier, TakesModifier};
 ghost use Rattle.meta_spanned.specs.Nodes.{rule_views, type_of};
@@ -35,7 +35,8 @@ use meta_syntax::laws::trees_of_a_grammar_have_their_shape;
 use meta_syntax::trees::{first_tree, leading_tree};
 use std::alloc::Global;
 
-/// The type that a rule's modifier gives, and what follows the modifier; Normal where there is none.
+/// Returns the type that a rule's modifier gives, Normal where there is none, and the trees after the
+/// modifier.
 fn modifier(trees: &[TokenTree<Rule>]) -> (RuleType, &[TokenTree<Rule>])
     requires { MayBeModifier (named_trees_of trees.now) }
     ensures { TakesModifier (named_trees_of trees.entry.now)
@@ -51,14 +52,15 @@ fn modifier(trees: &[TokenTree<Rule>]) -> (RuleType, &[TokenTree<Rule>])
     }
 }
 
-/// A rule, by the trees in it, or its first flaw; none for a comment that documents one.
+/// Reads a rule from the trees in it, and reports its first flaw. Answers none for a comment that
+/// documents a rule.
 fn rule<'i>(
     alloc: Global,
     text: &'i str,
     trees: &[TokenTree<Rule>],
 ) -> Result<Option<ParserRule<'i>>, ReadError<'i>>
     requires shape { IsRule text.now (named_trees_of trees.now) }
-    requires nested { StandIn text.now (named_trees_of trees.now) }
+    requires nested { AreInText text.now (named_trees_of trees.now) }
     ensures { AnswersRule text.entry.now (named_trees_of trees.now) result }
 {
     let first = leading_tree(trees);
@@ -80,15 +82,15 @@ fn rule<'i>(
     }))
 }
 
-/// The rules that all trees of a grammar's text spell, in their order, or the first flaw in it.
-/// `trees` are those of a parse of `text` by `grammar_rules`; places count bytes.
+/// Reads the rules that all trees of a grammar's text spell, in their order, and reports the first flaw
+/// in it. `trees` are those of a parse of `text` by `grammar_rules`; positions count bytes.
 fn rules<'i>(
     alloc: Global,
     text: &'i str,
     trees: &[TokenTree<Rule>],
 ) -> Result<Vec<ParserRule<'i>>, ReadError<'i>>
     requires shape { AreGrammarTrees text.now (named_trees_of trees.now) }
-    requires nested { StandIn text.now (named_trees_of trees.now) }
+    requires nested { AreInText text.now (named_trees_of trees.now) }
     ensures { AnswersRules text.entry.now (named_trees_of trees.now) result }
 {
     let mut read = Deep {
@@ -106,13 +108,13 @@ fn rules<'i>(
     Ok(read.into_inner())
 }
 
-/// The pairs that the text spells for a rule of the meta-grammar, from its start on, as
-/// `PestParser::parse` answers them; those of a whole grammar are the pairs for `grammar_rules`.
+/// Returns the pairs that the text spells for a rule of the meta-grammar, from its start on, as
+/// `PestParser::parse` does. The pairs of a whole grammar are those for `grammar_rules`.
 ///
-/// The rule may stop before the end, but where it asks for `EOI`. Places in pairs and errors count bytes.
-/// Where the rule fails, the fault holds one `ParsingError`, at the greatest position at which a rule
-/// that gives a token, or `EOI`, was called and failed, in a mode other than Atomic and in any branch;
-/// at 0 where there is none. Any other fault is a want of memory.
+/// The rule may stop before the end, but where it asks for `EOI`. Positions in pairs and errors count
+/// bytes. Where the rule fails, the fault holds one `ParsingError`, at the greatest position at which a
+/// rule that gives a token, or `EOI`, was called and failed, in a mode other than Atomic and in any
+/// branch; at 0 where there is none. Any other fault is an allocation failure.
 pub fn parse<'i>(alloc: Global, rule: Rule, text: &'i str) -> Result<Pairs<'i, Rule>, Fault>
     ensures text { IfOk result (λ pairs. pairs_text pairs ≡ text.entry.now) }
     ensures spelled { MatchResult result (AreSpelled rule) (ParseRefuses rule text.entry.now) }
@@ -120,28 +122,29 @@ pub fn parse<'i>(alloc: Global, rule: Rule, text: &'i str) -> Result<Pairs<'i, R
     PestParser::parse(alloc, rule, text)
 }
 
-/// The rules that the pairs of a grammar's text spell, in their order, or its first flaw. `pairs`
-/// are all those of a parse of a text by `grammar_rules`. All places count bytes of that text.
+/// Reads the rules that the pairs of a grammar's text spell, in their order, and reports its first flaw.
+/// `pairs` are all those of a parse of a text by `grammar_rules`. All positions count bytes of that text.
 ///
 /// A choice splits at its last `|` and a sequence at its last `~`, which binds tighter. The postfix
-/// operators behind a node apply one after another, and a `!`, `&` or tag before it takes all that
-/// follows in its term. A bar before the first alternative and a comment that documents say
-/// nothing. A slice without its first number starts at 0, and one without its second has no end.
+/// operators after a node apply one after another, and a `!`, `&` or tag before it takes all that follows
+/// in its term. A bar before the first alternative and a comment that documents say nothing. A slice
+/// without its first number starts at 0, and one without its second has no end.
 ///
-/// A rule stands where its name does, and a node without operands where it is written. A choice or a sequence
-/// reaches from the start of its left operand to the end of its right one, and a postfix operator from the
-/// start of its operand to its own end. A predicate, a tag and `PUSH` begin where they are written, and end
-/// where their operand does; a literal push stands where its string does. An expression in parentheses ends
-/// with the second of them; and with all postfix operators behind them it begins with the first.
+/// A rule has the span of its name, and a node without operands has that of its own text. A choice or a
+/// sequence reaches from the start of its left operand to the end of its right one, and a postfix
+/// operator from the start of its operand to its own end. A predicate, a tag and `PUSH` begin where they
+/// are written, and end where their operand does; a literal push has the span of its string. An
+/// expression in parentheses ends with the second of them; and with all postfix operators after them it
+/// begins with the first.
 ///
-/// The first flaw of a text is told, reading from left to right and a tree before those in it: the
+/// The first flaw of a text is reported, reading from left to right and a tree before those in it: the
 /// fault holds one error with a message of its own, at the span of the piece that is wrong:
 /// - `escape is not a Unicode scalar value`, at the whole literal: an escape names no character;
 /// - `number cannot overflow i32`, at a number of a slice;
 /// - `number cannot overflow u32`, at a number in braces;
-/// - `cannot repeat 0 times`, at the number that says how often at most, or exactly.
+/// - `cannot repeat 0 times`, at the greatest or exact number of repetitions.
 ///
-/// Any other fault is a want of memory.
+/// Any other fault is an allocation failure.
 pub fn consume_rules_with_spans<'i>(
     alloc: Global,
     pairs: Pairs<'i, Rule>,

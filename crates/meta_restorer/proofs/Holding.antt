@@ -16,7 +16,7 @@ use Rattle.meta_ast.specs.declared.optimized.OptimizedExpr as code
 use Rattle.meta_ast.specs.declared.optimized.OptimizedRule.{OptimizedRule}
 use Rattle.meta_ast.proofs.Characters.{bytes_text_eq}
 use Rattle.meta_restorer.specs.Bodies.{NamedBody, named_body, rule_with, grammar_with, body_in, SameBodies}
-use Rattle.meta_restorer.specs.Telling.{Tells}
+use Rattle.meta_restorer.specs.KnownChanges.{KnowsChanges}
 use Rattle.meta_restorer.specs.declared.changes.Changes.{Changes}
 use Rattle.meta_restorer.proofs.Naming.{Named, absent, named, resolved}
 use Rattle.meta_restorer.proofs.Said.{IsSaid, said}
@@ -70,7 +70,7 @@ moved g h same f (changes_rep_max d) s = changes_rep_max (moved g h same f d s)
 moved g h same f (changes_rep_min_max d) s = changes_rep_min_max (moved g h same f d s)
 
 -- what is told of rules is told of all rules with the same bodies
-pub tells_moved : (c : Changes) (bs : List NamedBody) (h : Grammar) → SameBodies (grammar_with bs) h → Tells c (grammar_with bs) → Tells c h
+pub tells_moved : (c : Changes) (bs : List NamedBody) (h : Grammar) → SameBodies (grammar_with bs) h → KnowsChanges c (grammar_with bs) → KnowsChanges c h
 tells_moved c bs h same t n =
     let back : SameBodies h (grammar_with bs) = λ s. sym (same s) in (
       (λ k. moved (grammar_with bs) h same (named_said bs) ((t n).0 k) (n, refl)),

@@ -4,11 +4,11 @@ use Rattle.std.proofs.lemmas.List.{append_assoc, length-append, length-map, leng
 use Rattle.std.proofs.lemmas.List.Folds.{drop_split}
 use Rattle.meta_base.specs.Language.Text.{Text}
 use Rattle.meta_base.specs.Language.Expression.{Expression, Str, Insens, Range, Ident, PeekSlice, PosPred, NegPred, Seq, Choice, Opt, Rep, RepOnce, RepExact, RepMin, RepMax, RepMinMax, Skip, Push, RestoreOnErr, PushLiteral, NodeTag}
-use Rattle.meta_restorer.specs.Calls.{names_in, AreNoted}
+use Rattle.meta_restorer.specs.Calls.{names_in, AreNumbersOf}
 use Rattle.meta_restorer.specs.Names.{Numbers, number_of, numbers_of}
-use Rattle.meta_restorer.specs.Noted.{IsNotedAs}
+use Rattle.meta_restorer.specs.Summaries.{IsSummaryOf}
 use Rattle.meta_restorer.specs.declared.names.Names.{Names}
-use Rattle.meta_restorer.specs.declared.noted.Share.{Share}
+use Rattle.meta_restorer.specs.declared.summaries.Summary.{Summary}
 
 got_here : {A : Type 0} (xs ys : List A) (x : A) → slice_get (xs ++ (x ∷ ys)) (length xs) ≡ Some x
 got_here [] ys x = refl
@@ -19,11 +19,11 @@ module _ (names : Names) where
   numbers ns = numbers_of names ns
 
   abbrev Behind : Numbers → Expression → Numbers → Type 0
-  Behind before e behind = AreNoted names (before ++ (numbers (names_in e) ++ behind)) e (length before)
+  Behind before e behind = AreNumbersOf names (before ++ (numbers (names_in e) ++ behind)) e (length before)
 
   both : (a b : Expression) (before behind : Numbers) → ((qs : Numbers) → Behind before a qs) → ((qs : Numbers) → Behind qs b behind)
-      → AreNoted names (before ++ (numbers (names_in a ++ names_in b) ++ behind)) a (length before)
-      × AreNoted names (before ++ (numbers (names_in a ++ names_in b) ++ behind)) b (length before + length (names_in a))
+      → AreNumbersOf names (before ++ (numbers (names_in a ++ names_in b) ++ behind)) a (length before)
+      × AreNumbersOf names (before ++ (numbers (names_in a ++ names_in b) ++ behind)) b (length before + length (names_in a))
   both a b before behind f k =
       let whole = before ++ (numbers (names_in a ++ names_in b) ++ behind) in
       let parts : numbers (names_in a ++ names_in b) ++ behind ≡ numbers (names_in a) ++ (numbers (names_in b) ++ behind)
@@ -32,8 +32,8 @@ module _ (names : Names) where
       let second : (before ++ numbers (names_in a)) ++ (numbers (names_in b) ++ behind) ≡ whole = append_assoc before (numbers (names_in a)) (numbers (names_in b) ++ behind) ∙ first in
       let place : length (before ++ numbers (names_in a)) ≡ length before + length (names_in a)
       = length-append before (numbers (names_in a)) ∙ ap (λ n. length before + n) (length-map (names_in a) (number_of names)) in (
-        subst (λ qs. AreNoted names qs a (length before)) first (f (numbers (names_in b) ++ behind)),
-        subst (λ i. AreNoted names whole b i) place (subst (λ qs. AreNoted names qs b (length (before ++ numbers (names_in a)))) second (k (before ++ numbers (names_in a)))),
+        subst (λ qs. AreNumbersOf names qs a (length before)) first (f (numbers (names_in b) ++ behind)),
+        subst (λ i. AreNumbersOf names whole b i) place (subst (λ qs. AreNumbersOf names qs b (length (before ++ numbers (names_in a)))) second (k (before ++ numbers (names_in a)))),
       )
 
   behind_all : (e : Expression) (before behind : Numbers) → Behind before e behind
@@ -60,10 +60,10 @@ module _ (names : Names) where
   behind_all (PushLiteral t) before behind = tt
 
   -- what is noted of an expression stands from a place on
-  pub noted_from : (e : Expression) (qs : Numbers) (s : Share) → IsNotedAs names e qs s → AreNoted names qs e s.start
+  pub noted_from : (e : Expression) (qs : Numbers) (s : Summary) → IsSummaryOf names e qs s → AreNumbersOf names qs e s.start
   noted_from e qs s h =
       let ns = numbers_of names (names_in e) in
       let rest : drop s.start qs ≡ ns ++ drop s.end qs = drop_split qs s.start s.end h.within.start ∙ ap (λ xs. xs ++ drop s.end qs) h.numbers in
       let whole : take s.start qs ++ (ns ++ drop s.end qs) ≡ qs = ap (λ xs. take s.start qs ++ xs) (sym rest) ∙ take-append-drop s.start qs in
       let place : length (take s.start qs) ≡ s.start = length-take-le s.start qs (let a = h.within.start in let b = h.within.end in omega arith) in
-      subst (λ i. AreNoted names qs e i) place (subst (λ rs. AreNoted names rs e (length (take s.start qs))) whole (behind_all e (take s.start qs) (drop s.end qs)))
+      subst (λ i. AreNumbersOf names qs e i) place (subst (λ rs. AreNumbersOf names rs e (length (take s.start qs))) whole (behind_all e (take s.start qs) (drop s.end qs)))

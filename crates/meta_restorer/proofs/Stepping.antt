@@ -8,22 +8,22 @@ use Rattle.meta_ast.specs.declared.optimized.OptimizedExpr.{OptimizedExpr}
 use Rattle.meta_ast.specs.declared.rebuilt.Step.{Step}
 use Rattle.meta_ast.specs.declared.rebuilt.Step.TheVariants as is
 use Rattle.meta_ast.proofs.Rebuilding.{filled-last, same_outside}
-use Rattle.meta_restorer.specs.Around.{names_around, names_beside, names_left, names_to_meet}
+use Rattle.meta_restorer.specs.Frames.{names_around, names_beside, names_left, names_to_meet}
 use Rattle.meta_restorer.specs.Calls.{names_in}
-use Rattle.meta_restorer.specs.Telling.{AreNumbers, IsNext, IsNotedFrom, ReadsOn}
-use Rattle.meta_restorer.specs.declared.around.Around.{Around}
-use Rattle.meta_restorer.specs.declared.around.Restored.{Restored}
-use Rattle.meta_restorer.specs.declared.around.Sign.{Sign}
-use Rattle.meta_restorer.specs.declared.around.Sign.TheVariants as sign
+use Rattle.meta_restorer.specs.KnownChanges.{AreNumbers, IsNext, HasNumbersFrom, ReadsOn}
+use Rattle.meta_restorer.specs.declared.frames.RestorerFrame.{RestorerFrame}
+use Rattle.meta_restorer.specs.declared.frames.RestoredExpr.{RestoredExpr}
+use Rattle.meta_restorer.specs.declared.frames.FrameOperator.{FrameOperator}
+use Rattle.meta_restorer.specs.declared.frames.FrameOperator.TheVariants as sign
 use Rattle.meta_restorer.specs.declared.changes.Changes.{Changes}
 
 -- names beside others stand behind them
-beside-append : (s : Sign) (ns ms : List Text) → names_beside s (ns ++ ms) ≡ ns ++ names_beside s ms
+beside-append : (s : FrameOperator) (ns ms : List Text) → names_beside s (ns ++ ms) ≡ ns ++ names_beside s ms
 beside-append (sign.FirstOfSeq right) ns ms = append_assoc ns ms _
 beside-append (sign.FirstOfChoice right) ns ms = append_assoc ns ms _
 beside-append _ ns ms = refl
 
-around-append : (os : List Around) (ns : List Text) → filled names_around os ns ≡ ns ++ filled names_around os []
+around-append : (os : List RestorerFrame) (ns : List Text) → filled names_around os ns ≡ ns ++ filled names_around os []
 around-append [] ns = sym (append-nil ns)
 around-append (a ∷ os) ns = ap (names_around a) (around-append os ns) ∙ beside-append a.sign ns (filled names_around os [])
 
@@ -43,7 +43,7 @@ module _ (c : Changes) where
   none i = omega arith
 
   -- what is noted of an expression from a place on are the numbers of its names
-  pub numbers_from : (e : Expression) (i : ℕ) → IsNotedFrom c e i → AreNumbers c (names_in e) i (i + length (names_in e))
+  pub numbers_from : (e : Expression) (i : ℕ) → HasNumbersFrom c e i → AreNumbers c (names_in e) i (i + length (names_in e))
   numbers_from (Ident n) i h = (h, refl)
   numbers_from (PosPred e) i h = numbers_from e i h
   numbers_from (NegPred e) i h = numbers_from e i h
@@ -61,16 +61,16 @@ module _ (c : Changes) where
   next_of [] ms i k h = tt
   next_of (n ∷ ns) ms i k h = h.0
 
-  pub next_around : (os : List Around) (ns : List Text) (i k : ℕ) → AreNumbers c (filled names_around os ns) i k → IsNext c ns i
+  pub next_around : (os : List RestorerFrame) (ns : List Text) (i k : ℕ) → AreNumbers c (filled names_around os ns) i k → IsNext c ns i
   next_around os ns i k h = next_of ns (filled names_around os []) i k (subst (λ ms. AreNumbers c ms i k) (around-append os ns) h)
 
   -- names are read on, whatever stands around them
-  pub on_around : (os : List Around) (ns ms : List Text) (i j k : ℕ) → ReadsOn c ns i ms j → AreNumbers c (filled names_around os ns) i k → AreNumbers c (filled names_around os ms) j k
+  pub on_around : (os : List RestorerFrame) (ns ms : List Text) (i j k : ℕ) → ReadsOn c ns i ms j → AreNumbers c (filled names_around os ns) i k → AreNumbers c (filled names_around os ms) j k
   on_around os ns ms i j k r h =
       subst (λ xs. AreNumbers c xs j k) (sym (around-append os ms)) (r (filled names_around os []) k (subst (λ xs. AreNumbers c xs i k) (around-append os ns) h))
 
   -- an operand is gone into
-  pub into : (step : Step OptimizedExpr Around Restored) (os ns : List Around) (a : Around) (x : OptimizedExpr) (i k : ℕ) → step ≡ is.Inside a x → ns ≡ os ++ (a ∷ [])
+  pub into : (step : Step OptimizedExpr RestorerFrame RestoredExpr) (os ns : List RestorerFrame) (a : RestorerFrame) (x : OptimizedExpr) (i k : ℕ) → step ≡ is.Inside a x → ns ≡ os ++ (a ∷ [])
       → AreNumbers c (filled names_around os (names_left step)) i k → AreNumbers c (filled names_around ns (names_to_meet x)) i k
   into step os ns a x i k h g n =
       let same : filled names_around os (names_left step) ≡ filled names_around ns (names_to_meet x)
@@ -79,7 +79,7 @@ module _ (c : Changes) where
       subst (λ xs. AreNumbers c xs i k) same n
 
   -- an operand is restored
-  pub out : (step next : Step OptimizedExpr Around Restored) (os ns : List Around) (a : Around) (r : Restored) (i k : ℕ) → step ≡ is.Made r → os ≡ ns ++ (a ∷ []) → names_left next ≡ names_around a []
+  pub out : (step next : Step OptimizedExpr RestorerFrame RestoredExpr) (os ns : List RestorerFrame) (a : RestorerFrame) (r : RestoredExpr) (i k : ℕ) → step ≡ is.Made r → os ≡ ns ++ (a ∷ []) → names_left next ≡ names_around a []
       → AreNumbers c (filled names_around os (names_left step)) i k → AreNumbers c (filled names_around ns (names_left next)) i k
   out step next os ns a r i k h g e n =
       let same : filled names_around ns (names_left next) ≡ filled names_around os (names_left step)

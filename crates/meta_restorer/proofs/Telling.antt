@@ -12,16 +12,16 @@ use Rattle.meta_restorer.specs.Bodies.{NamedBody, rule_with, grammar_with}
 use Rattle.meta_restorer.specs.Calls.{number_changes, name_changes}
 use Rattle.meta_restorer.specs.Changing.{is_changer, changes_by}
 use Rattle.meta_restorer.specs.Names.{number_of, KnowsNames}
-use Rattle.meta_restorer.specs.Noted.{AreClosed, AreNotedOf, AreSound, Holds}
+use Rattle.meta_restorer.specs.Summaries.{AreClosed, AreSummariesOf, AreSound, Holds}
 use Rattle.meta_restorer.specs.declared.names.Names.{Names}
-use Rattle.meta_restorer.specs.declared.noted.Noted.{Noted}
+use Rattle.meta_restorer.specs.declared.summaries.Summaries.{Summaries}
 use Rattle.meta_restorer.proofs.Changers.{changer_changes, drop_named, pop_all_named, pop_named}
 use Rattle.meta_restorer.proofs.Deciding.{changing}
 use Rattle.meta_restorer.proofs.Looking.{shown_at}
 use Rattle.meta_restorer.proofs.Naming.{Named, absent, named, resolved}
 use Rattle.meta_restorer.proofs.Said.{IsSaid, said}
 
-module _ (bs : List NamedBody) (names : Names) (noted : Noted) (known : KnowsNames names (grammar_with bs)) (met : AreNotedOf names bs noted) where
+module _ (bs : List NamedBody) (names : Names) (noted : Summaries) (known : KnowsNames names (grammar_with bs)) (met : AreSummariesOf names bs noted) where
   -- a name changes the stack where its rule does
   by_number : (p : ℕ → Bool) → ((i : ℕ) (b : NamedBody) → slice_get bs i ≡ Some b → p i ≡ true → ChangesStack (grammar_with bs) (optimized_expression_of b.1))
       → (s : String Global) → name_changes names p (text_of s) ≡ true → ChangesStack (grammar_with bs) (Ident (text_of s))

@@ -32,7 +32,7 @@ grammar_with bs = map rule_with bs
 abbrev pub body_in : Grammar → String Global → Option Expression
 body_in g n = option_map (λ (r : Rule). r.body) (rule_of g (text_of n))
 
--- at each name the map holds the body of the rule that the name means
+-- the map holds the body of the rule that a name means, for every name
 abbrev pub HoldsOptimizedBodies : {S : Type 0} → HashMap (String Global) OptimizedExpr S → Grammar → Type 0
 HoldsOptimizedBodies m g = (n : String Global)
     → option_map optimized_expression_of (get_by_text m (string_bytes n)) ≡ body_in g n

@@ -1,4 +1,4 @@
--- The names that are met in expressions, and the rules that they mean.
+-- The names that occur in expressions, and the rules that they mean.
 use Rattle.std.specs.Prelude.{◌≡◌, ⊤, ℕ, ◌+◌, List, [], ◌∷◌, ◌++◌, Option, Some, None, Bool, false, ◌||◌, slice_get, length}
 use Rattle.meta_base.specs.Language.Text.{Text}
 use Rattle.meta_base.specs.Language.Expression.{Expression, Ident, PosPred, NegPred, Seq, Choice, Opt, Rep, RepOnce, Push, NodeTag}
@@ -14,7 +14,7 @@ number_changes p (Some i) = p i
 abbrev pub name_changes : Names → (ℕ → Bool) → Text → Bool
 name_changes names p n = is_changer n || number_changes p (number_of names n)
 
--- the names that are met in an expression, not below a wrapper, in order
+-- the names that occur in an expression, not below a wrapper, in order
 abbrev pub names_in : Expression → List Text
 names_in (Ident n) = n ∷ []
 names_in (PosPred e) = names_in e
@@ -28,16 +28,18 @@ names_in (Rep e) = names_in e
 names_in (RepOnce e) = names_in e
 names_in _ = []
 
--- the numbers from a place on are those of the names that are met in an expression
-abbrev pub AreNoted : Names → Numbers → Expression → ℕ → Type 0
-AreNoted names qs (Ident n) i = slice_get qs i ≡ Some (number_of names n)
-AreNoted names qs (PosPred e) i = AreNoted names qs e i
-AreNoted names qs (NegPred e) i = AreNoted names qs e i
-AreNoted names qs (Push e) i = AreNoted names qs e i
-AreNoted names qs (NodeTag e t) i = AreNoted names qs e i
-AreNoted names qs (Seq a b) i = AreNoted names qs a i × AreNoted names qs b (i + length (names_in a))
-AreNoted names qs (Choice a b) i = AreNoted names qs a i × AreNoted names qs b (i + length (names_in a))
-AreNoted names qs (Opt e) i = AreNoted names qs e i
-AreNoted names qs (Rep e) i = AreNoted names qs e i
-AreNoted names qs (RepOnce e) i = AreNoted names qs e i
-AreNoted names qs _ i = ⊤
+-- the numbers from an index on are those of the names that occur in an expression
+abbrev pub AreNumbersOf : Names → Numbers → Expression → ℕ → Type 0
+AreNumbersOf names qs (Ident n) i = slice_get qs i ≡ Some (number_of names n)
+AreNumbersOf names qs (PosPred e) i = AreNumbersOf names qs e i
+AreNumbersOf names qs (NegPred e) i = AreNumbersOf names qs e i
+AreNumbersOf names qs (Push e) i = AreNumbersOf names qs e i
+AreNumbersOf names qs (NodeTag e t) i = AreNumbersOf names qs e i
+AreNumbersOf names qs (Seq a b) i = AreNumbersOf names qs a i
+    × AreNumbersOf names qs b (i + length (names_in a))
+AreNumbersOf names qs (Choice a b) i = AreNumbersOf names qs a i
+    × AreNumbersOf names qs b (i + length (names_in a))
+AreNumbersOf names qs (Opt e) i = AreNumbersOf names qs e i
+AreNumbersOf names qs (Rep e) i = AreNumbersOf names qs e i
+AreNumbersOf names qs (RepOnce e) i = AreNumbersOf names qs e i
+AreNumbersOf names qs _ i = ⊤

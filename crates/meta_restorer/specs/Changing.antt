@@ -1,4 +1,4 @@
--- What changes the stack and what the restorer makes of it, where it is known which names change the stack.
+-- Expressions that change the stack, and restored ones, given the names that change the stack.
 use Rattle.std.specs.Prelude.{◌≡◌, ⊤, Bool, true, false, ◌||◌, if◌then◌else◌, bytes_eq, codes}
 use Rattle.meta_base.specs.Language.Text.{Text}
 use Rattle.meta_base.specs.Language.Expression.{Expression, Ident, PosPred, NegPred, Seq, Choice, Opt, Rep, RepOnce, RepExact, RepMin, RepMax, RepMinMax, Push, PushLiteral, RestoreOnErr, Part, NodeTag}
@@ -26,11 +26,11 @@ changes_by p (RepMax e i) = changes_by p e
 changes_by p (RepMinMax e i j) = changes_by p e
 changes_by p _ = false
 
--- it is told rightly whether an expression changes the stack
-abbrev pub IsTold : (Text → Bool) → Bool → Expression → Type 0
-IsTold p b e = b ≡ changes_by p e
+-- the answer whether an expression changes the stack is right
+abbrev pub IsRightAbout : (Text → Bool) → Bool → Expression → Type 0
+IsRightAbout p b e = b ≡ changes_by p e
 
--- a wrapper round what changes the stack
+-- an expression, in a wrapper if the expression changes the stack
 abbrev pub wrapped_by : (Text → Bool) → Expression → Expression
 wrapped_by p e = if changes_by p e then RestoreOnErr e else e
 
@@ -57,6 +57,6 @@ IsNoPair _ = ⊤
 abbrev pub HasNoWrappers : Expression → Type 0
 HasNoWrappers e = (x : Expression) → Part e (RestoreOnErr x) → ⊥
 
--- each wrapper of the first stands in the second, with what is below it
+-- every wrapper of the first occurs in the second, with all below it
 abbrev pub KeepsWrappers : Expression → Expression → Type 0
 KeepsWrappers a b = (x : Expression) → Part a (RestoreOnErr x) → Part b (RestoreOnErr x)

@@ -1,11 +1,11 @@
 pub mod Agreeing
-pub mod Around
+pub mod Frames
 pub mod Bodies
 pub mod Calls
 pub mod Changing
 pub mod Names
-pub mod Noted
+pub mod Summaries
 pub mod Restoring
 pub mod Size
-pub mod Telling
+pub mod KnownChanges
 pub mod Turns

@@ -12,13 +12,13 @@ use Rattle.meta_restorer.specs.declared.names.Names.{Names}
 abbrev pub number_of : Names → Text → Option ℕ
 number_of names n = get_by_text names.numbers (encode_utf8_all n)
 
--- for each of some names the number of its rule, if it means one
+-- the numbers of the rules that some names mean
 abbrev pub Numbers : Type 0
 Numbers = List (Option ℕ)
 
 abbrev pub numbers_of : Names → List Text → Numbers
 numbers_of names ns = map (number_of names) ns
 
--- each name's number is the place of the last rule of that name
+-- the number of every name is the index of the last rule of that name
 abbrev pub KnowsNames : Names → Grammar → Type 0
 KnowsNames names g = (n : String Global) → number_of names (text_of n) ≡ last_place g (text_of n)

@@ -1,4 +1,4 @@
--- What the restorer makes of rules.
+-- Restored rules.
 use Rattle.std.specs.Prelude.{◌≡◌, List, Bool, false, map}
 use Rattle.std.specs.Bool.{Decides}
 use Rattle.std.specs.HashMap.{HashMap}
@@ -18,7 +18,7 @@ use Rattle.meta_ast.specs.declared.optimized.OptimizedExpr.{OptimizedExpr}
 use Rattle.meta_restorer.specs.Bodies.{HoldsOptimizedBodies}
 use Rattle.meta_restorer.specs.Changing.{changes_by, is_changer, restored_by}
 
--- no wrapper stands in a rule of the list
+-- no wrapper occurs in a rule of the list
 abbrev pub HaveNoWrappers : Grammar → Type 0
 HaveNoWrappers g = (e : Expression) → InSomeRule g (RestoreOnErr e) → ⊥
 
@@ -26,7 +26,7 @@ HaveNoWrappers g = (e : Expression) → InSomeRule g (RestoreOnErr e) → ⊥
 abbrev pub AreSameErased : Grammar → Grammar → Type 0
 AreSameErased = EachBody (λ y a b. erased b ≡ erased a)
 
--- no `PUSH`, `PUSH_LITERAL`, `POP`, `POP_ALL` or `DROP` is met in the body of a rule, not below a wrapper
+-- no `PUSH`, `PUSH_LITERAL`, `POP`, `POP_ALL` or `DROP` occurs in the body of a rule, not below a wrapper
 abbrev pub IsQuiet : OptimizedRule → Type 0
 IsQuiet r = changes_by is_changer (optimized_expression_of r.expr) ≡ false
 

@@ -1,8 +1,8 @@
--- How large an expression is.
+-- The size of an expression.
 use Rattle.std.specs.Prelude.{ℕ, ◌+◌}
 use Rattle.meta_base.specs.Language.Expression.{Expression, PosPred, NegPred, Seq, Choice, Opt, Rep, RepOnce, Push, RestoreOnErr, NodeTag}
 
--- how many places it has, where there is no counted repetition
+-- the number of nodes of an expression without counted repetitions
 abbrev pub size : Expression → ℕ
 size (PosPred e) = size e + 1
 size (NegPred e) = size e + 1

@@ -1,4 +1,4 @@
--- Expressions that wait for their turn, the last of them first.
+-- Expressions in the worklist, the last of them first.
 use Rattle.std.specs.Prelude.{ℕ, ◌+◌, List, [], ◌∷◌, ◌++◌, Bool, false, ◌||◌}
 use Rattle.std.specs.Borrow.{Bor}
 use Rattle.meta_base.specs.Language.Text.{Text}
@@ -8,7 +8,7 @@ use Rattle.meta_restorer.specs.Calls.{names_in}
 use Rattle.meta_restorer.specs.Changing.{changes_by, is_changer}
 use Rattle.meta_restorer.specs.Size.{size}
 
--- the names that are met in them
+-- the names that occur in them
 abbrev pub names_in_turn : List (Bor OptimizedExpr) → List Text
 names_in_turn [] = []
 names_in_turn (x ∷ xs) = names_in_turn xs ++ names_in (optimized_expression_of x.now)
@@ -18,7 +18,7 @@ abbrev pub changes_in_turn : List (Bor OptimizedExpr) → Bool
 changes_in_turn [] = false
 changes_in_turn (x ∷ xs) = changes_in_turn xs || changes_by is_changer (optimized_expression_of x.now)
 
--- how large they are
+-- their size
 abbrev pub work_in_turn : List (Bor OptimizedExpr) → ℕ
 work_in_turn [] = 0
 work_in_turn (x ∷ xs) = size (optimized_expression_of x.now) + work_in_turn xs

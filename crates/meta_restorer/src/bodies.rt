@@ -14,7 +14,7 @@ pub struct Body<'a> {
     pub expr: &'a OptimizedExpr,
 }
 
-/// The bodies that a map holds.
+/// Collects the bodies that a map holds.
 pub(crate) fn bodies_of_map<'a>(
     alloc: Global,
     rules: &'a HashMap<String, OptimizedExpr>,
@@ -29,7 +29,7 @@ pub(crate) fn bodies_of_map<'a>(
     Ok(bodies)
 }
 
-/// The bodies of rules, in order.
+/// Collects the bodies of rules, in order.
 pub(crate) fn bodies_of_rules<'a>(
     alloc: Global,
     rules: &'a [OptimizedRule],

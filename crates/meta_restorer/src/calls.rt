@@ -1,4 +1,4 @@
-//! Flags of the rules that are called, and expressions that nothing is met in.
+//! Flags of the rules that are called, and expressions that need no visit.
 ghost use Rattle.std.specs.Prelude.{◌≡◌, [], Bool, true, false};
 ghost use Rattle.meta_base.specs.Language.Text.{Text};
 ghost use Rattle.meta_ast.specs.Optimized.{optimized_expression_of};
@@ -9,7 +9,7 @@ ghost use Rattle.meta_restorer.specs.Calls.{names_in, number_changes};
 use meta_ast::optimized::OptimizedExpr;
 use meta_fixpoint::is_set;
 
-/// Whether the rule of a name is flagged.
+/// Reports whether the flag of the rule of a name is set.
 pub(crate) fn is_flagged(flags: &[bool], rule: Option<usize>) -> bool
     ensures { result ≡ number_changes (is_set_at flags.now) rule }
 {
@@ -19,7 +19,8 @@ pub(crate) fn is_flagged(flags: &[bool], rule: Option<usize>) -> bool
     }
 }
 
-/// Whether an expression has no operand, or is a wrapper: so no name is met in it, and it stays as it is.
+/// Reports whether an expression has no operand, or is a wrapper, so that no name occurs in it, and it
+/// stays as it is.
 pub(crate) fn is_settled(expr: &OptimizedExpr) -> bool
     ensures names { result ≡ true → names_in (optimized_expression_of expr.now) ≡ [] }
     ensures quiet { result ≡ true → (p : Text → Bool)

@@ -1,40 +1,39 @@
-//! Which rules change the stack: the least flags that follow from one another, from what is noted of their
-//! bodies.
+//! The rules that change the stack, as a least fixpoint over the shares of their bodies.
 ghost use Rattle.std.specs.Prelude.{IfOk};
-ghost use Rattle.meta_restorer.specs.Noted.{AreClosed, AreSound, AreWithin};
+ghost use Rattle.meta_restorer.specs.Summaries.{AreClosed, AreSound, AreWithin};
 
-use crate::noted::{Noted, Share, is_shown};
-use meta_fixpoint::{Inference, Listening, Told, least_flags, who_listens};
+use crate::summaries::{Summaries, Summary, is_shown};
+use meta_fixpoint::{DependencyGraph, DependencyVisitor, Inference, find_listeners, least_flags};
 use std::alloc::{AllocError, Global};
 
-impl Listening for Noted {
+impl DependencyGraph for Summaries {
     fn count(&self) -> usize {
         self.shares.len()
     }
 
-    fn tell<T: Told>(&self, caller: usize, told: &mut T) {
+    fn visit_dependencies<V: DependencyVisitor>(&self, caller: usize, visitor: &mut V) {
         let Some(share) = self.shares.get(caller) else {
             return;
         };
         for rule in self.numbers.get(share.start..share.end).unwrap_or(&[]) {
             if let Some(rule) = rule {
-                told.listens_to(*rule);
+                visitor.visit(*rule);
             }
         }
     }
 }
 
-/// What is noted of bodies, each share of which stands in the list.
+/// Shares of bodies, all of which are in the list.
 #[derive(Drop)]
 struct Bodies<'a> {
-    noted: &'a Noted,
+    noted: &'a Summaries,
     ghost within: { AreWithin noted.now },
 }
 
 impl<'a> Inference for Bodies<'a> {
-    ghost use Rattle.meta_restorer.specs.Noted.{shows};
+    ghost use Rattle.meta_restorer.specs.Summaries.{shows};
 
-    type Item = Share;
+    type Item = Summary;
 
     ghost items = { λ bodies. bodies.noted.now.shares.items };
 
@@ -49,12 +48,12 @@ impl<'a> Inference for Bodies<'a> {
     }
 }
 
-/// Which rules change the stack.
-pub(crate) fn flagged(alloc: Global, noted: &Noted) -> Result<Vec<bool>, AllocError>
+/// Finds the rules that change the stack.
+pub(crate) fn find_changing_rules(alloc: Global, noted: &Summaries) -> Result<Vec<bool>, AllocError>
     requires { AreWithin noted.now }
     ensures sound { IfOk result (λ flags. AreSound noted.now flags.items) }
     ensures closed { IfOk result (λ flags. AreClosed noted.now flags.items) }
 {
-    let callers = who_listens(alloc, noted)?;
+    let callers = find_listeners(alloc, noted)?;
     least_flags(alloc, &Bodies { noted }, &callers)
 }

@@ -4,8 +4,9 @@ ghost use Rattle.meta_base.specs.Language.LooseMeaning.{Restored};
 ghost use Rattle.meta_base.specs.Rewritings.Wrapping.{EachRestored};
 ghost use Rattle.meta_restorer.specs.Agreeing.{AgreesLoosely, WrappersSuffice};
 
-/// What the restorer makes has wrappers where a failure could lose an entry of the stack, if `WHITESPACE` and
-/// `COMMENT` reach no `POP` and no `POP_ALL`; so it does not matter what a failed `POP` or `POP_ALL` leaves.
+/// Restored rules have wrappers where a failure could lose an entry of the stack, if `WHITESPACE` and
+/// `COMMENT` reach no `POP` and no `POP_ALL`; so it does not matter what a failed `POP` or `POP_ALL`
+/// leaves.
 pub fn restored_rules_agree()
     ensures safe { (g h : Grammar) → EachRestored g h → WrappersSuffice h → Restored h }
     ensures agree { (g h : Grammar) → EachRestored g h → WrappersSuffice h → AgreesLoosely h }

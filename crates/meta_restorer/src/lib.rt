@@ -1,15 +1,16 @@
-//! The restorer: wrappers round what may fail and changes the stack, where something is tried next.
+//! The restorer, which wraps expressions that may fail and change the stack, where an alternative is
+//! tried next.
 #![tactic(auto)]
 
-mod around;
 mod bodies;
 mod calls;
 mod changes;
 mod flags;
+mod frames;
 pub mod laws;
 mod names;
-mod noted;
 mod restored;
 mod restorer;
+mod summaries;
 
 pub use restorer::{child_modifies_state, restore_on_err, restore_rules};

@@ -11,13 +11,13 @@ use crate::bodies::Body;
 use std::alloc::{AllocError, Global};
 use std::collections::HashMap;
 
-/// For each name the number of the last rule of that name.
+/// The map from names to the numbers of their last rules.
 #[derive(Drop)]
 pub struct Names {
     pub numbers: HashMap<String, usize>,
 }
 
-/// The names of rules.
+/// Makes the map of the names of rules.
 pub(crate) fn names_of<'a>(alloc: Global, bodies: &[Body<'a>]) -> Result<Names, AllocError>
     ensures { IfOk result (λ names. KnowsNames names (grammar_with (map said_by bodies.now))) }
 {
@@ -29,14 +29,14 @@ pub(crate) fn names_of<'a>(alloc: Global, bodies: &[Body<'a>]) -> Result<Names, 
     Ok(Names { numbers })
 }
 
-/// The number of the rule that a name means, if it means one.
+/// Returns the number of the rule that a name means, if it means one.
 pub(crate) fn number_of_name(names: &Names, name: &String) -> Option<usize>
     ensures { result ≡ number_of names.now (text_of name.now) }
 {
     names.numbers.get(name.as_str()).copied()
 }
 
-/// Whether a name is a literal's text.
+/// Reports whether a name is a literal's text.
 fn is_literal(name: &String, literal: &str) -> bool
     requires { IsAscii literal.now }
     ensures { result ≡ bytes_eq (text_of name.now) literal.now }
@@ -44,7 +44,7 @@ fn is_literal(name: &String, literal: &str) -> bool
     name.as_str() == literal
 }
 
-/// Whether a name is that of a builtin that counts as changing the stack.
+/// Reports whether a name is that of a builtin that counts as changing the stack.
 pub(crate) fn is_changer_name(name: &String) -> bool
     ensures { result ≡ is_changer (text_of name.now) }
 {

@@ -1,26 +1,27 @@
-//! An expression with wrappers round what changes the stack.
+//! The restoration of one expression: wrappers round operands that change the stack.
 ghost use Rattle.std.specs.Prelude.{◌≡◌, ◌+◌, IfOk, OnOk, length};
-ghost use Rattle.meta_restorer.specs.Around.{flagged, flagged_by};
+ghost use Rattle.meta_restorer.specs.Frames.{flagged, flagged_by};
 ghost use Rattle.meta_restorer.specs.Calls.{names_in};
-ghost use Rattle.meta_restorer.specs.Changing.{IsTold, IsNoPair, restored_by, wrapped_by};
-ghost use Rattle.meta_restorer.specs.Telling.{IsNotedFrom, told};
+ghost use Rattle.meta_restorer.specs.Changing.{IsRightAbout, IsNoPair, restored_by, wrapped_by};
+ghost use Rattle.meta_restorer.specs.KnownChanges.{HasNumbersFrom, changes_stack};
 ghost use Rattle.meta_ast.specs.Optimized.{optimized_expression_of};
 
-use crate::around::{Restored, closed, nothing, opened, wrap};
 use crate::calls::is_settled;
 use crate::changes::{Changes, is_next_changing};
+use crate::frames::{RestoredExpr, close_frame, nothing, open_expr, wrap};
 use meta_ast::deep::Deep;
 use meta_ast::optimized::OptimizedExpr;
 use meta_ast::rebuilt::Step;
 use std::alloc::{AllocError, Global};
 use std::mem;
 
-/// So many levels are taken by calls; what lies deeper is restored by a loop with a list.
+/// The number of levels that are restored recursively; deeper ones are restored iteratively.
 pub(crate) const LEVELS: usize = 64;
 
-/// Restores an expression where it stands, where the rules of its names are noted from a place on: no node is
-/// made anew but for wrappers. So many levels are taken by calls. Whether it then changes the stack. Both
-/// sides of a `~` or a `|` are asked what they are before one is restored, so that memory gives both at once.
+/// Restores an expression in place, where the rules of its names are listed from the index `place` on; no
+/// node is rebuilt but for wrappers. At most `levels` levels recurse. Answers whether the expression then
+/// changes the stack. Both sides of a `~` or a `|` are tested before one is restored, so that memory
+/// gives both at once.
 #[cycle(restored)]
 pub(crate) fn restore(
     alloc: Global,
@@ -29,13 +30,13 @@ pub(crate) fn restore(
     levels: usize,
     expr: &mut OptimizedExpr,
 ) -> Result<bool, AllocError>
-    requires noted { IsNotedFrom changes.now (optimized_expression_of expr.old) place.old }
+    requires noted { HasNumbersFrom changes.now (optimized_expression_of expr.old) place.old }
     ensures place { OnOk result
         (place.new ≡ place.old + length (names_in (optimized_expression_of expr.old))) }
     ensures told { IfOk result
-        (λ yes. IsTold (told changes.now) yes (optimized_expression_of expr.new)) }
+        (λ yes. IsRightAbout (changes_stack changes.now) yes (optimized_expression_of expr.new)) }
     ensures made { OnOk result (optimized_expression_of expr.new
-        ≡ restored_by (told changes.now) (optimized_expression_of expr.old)) }
+        ≡ restored_by (changes_stack changes.now) (optimized_expression_of expr.old)) }
 {
     if levels == 0 {
         return restore_deep(alloc, changes, place, expr);
@@ -74,70 +75,70 @@ fn restore_wrapped(
     levels: usize,
     expr: &mut Box<OptimizedExpr>,
 ) -> Result<(), AllocError>
-    requires noted { IsNotedFrom changes.now (optimized_expression_of expr.old.value) place.old }
+    requires noted { HasNumbersFrom changes.now (optimized_expression_of expr.old.value) place.old }
     ensures place { OnOk result
         (place.new ≡ place.old + length (names_in (optimized_expression_of expr.old.value))) }
-    ensures made { OnOk result (optimized_expression_of expr.new.value ≡ wrapped_by (told changes.now)
-        (restored_by (told changes.now) (optimized_expression_of expr.old.value))) }
+    ensures made { OnOk result (optimized_expression_of expr.new.value
+        ≡ wrapped_by (changes_stack changes.now)
+        (restored_by (changes_stack changes.now) (optimized_expression_of expr.old.value))) }
 {
     let is_changing = restore(alloc, changes, place, levels, expr)?;
     wrap(alloc, expr, is_changing)
 }
 
-// The same, where it lies deeper.
+// Restores a deeper expression.
 fn restore_deep(
     alloc: Global,
     changes: &Changes,
     place: &mut usize,
     expr: &mut OptimizedExpr,
 ) -> Result<bool, AllocError>
-    requires noted { IsNotedFrom changes.now (optimized_expression_of expr.old) place.old }
+    requires noted { HasNumbersFrom changes.now (optimized_expression_of expr.old) place.old }
     ensures place { OnOk result
         (place.new ≡ place.old + length (names_in (optimized_expression_of expr.old))) }
     ensures told { IfOk result
-        (λ yes. IsTold (told changes.now) yes (optimized_expression_of expr.new)) }
+        (λ yes. IsRightAbout (changes_stack changes.now) yes (optimized_expression_of expr.new)) }
     ensures made { OnOk result (optimized_expression_of expr.new
-        ≡ restored_by (told changes.now) (optimized_expression_of expr.old)) }
+        ≡ restored_by (changes_stack changes.now) (optimized_expression_of expr.old)) }
 {
     let whole = mem::replace(expr, nothing());
-    let Restored {
+    let RestoredExpr {
         expr: whole,
         changes: is_changing,
-    } = restored(alloc, changes, place, whole)?;
+    } = restore_iteratively(alloc, changes, place, whole)?;
     *expr = whole.into_inner();
     Ok(is_changing)
 }
 
-// An expression, restored by a loop: what stands around the operand at hand lies in a list.
-fn restored(
+// Restores an expression iteratively, with a list of frames.
+fn restore_iteratively(
     alloc: Global,
     changes: &Changes,
     place: &mut usize,
     expr: OptimizedExpr,
-) -> Result<Restored, AllocError>
-    requires noted { IsNotedFrom changes.now (optimized_expression_of expr) place.old }
+) -> Result<RestoredExpr, AllocError>
+    requires noted { HasNumbersFrom changes.now (optimized_expression_of expr) place.old }
     ensures place { OnOk result (place.new ≡ place.old + length (names_in (optimized_expression_of expr))) }
-    ensures made { IfOk result (λ whole. flagged whole ≡ flagged_by (told changes.now) expr) }
+    ensures made { IfOk result (λ whole. flagged whole ≡ flagged_by (changes_stack changes.now) expr) }
 {
     let mut outside = Vec::new(alloc);
-    let mut step = opened(changes, place, expr);
+    let mut step = open_expr(changes, place, expr);
     'steps: loop {
         match step {
             Step::Inside(around, operand) => {
                 let operand = Deep { value: operand };
                 outside.push(around)?;
-                step = opened(changes, place, operand.into_inner());
+                step = open_expr(changes, place, operand.into_inner());
             }
             Step::Made(whole) => match outside.pop() {
-                Some(around) => step = closed(alloc, around, whole)?,
+                Some(around) => step = close_frame(alloc, around, whole)?,
                 None => return Ok(whole),
             },
         }
     }
 }
 
-// Restores an expression that is no `~` and no `|` where it stands. So many levels below it are taken by
-// calls.
+// Restores an expression in place that is no `~` and no `|`. At most `levels` levels below it recurse.
 #[cycle(restored)]
 fn restore_one(
     alloc: Global,
@@ -147,13 +148,13 @@ fn restore_one(
     expr: &mut OptimizedExpr,
 ) -> Result<bool, AllocError>
     requires single { IsNoPair (optimized_expression_of expr.old) }
-    requires noted { IsNotedFrom changes.now (optimized_expression_of expr.old) place.old }
+    requires noted { HasNumbersFrom changes.now (optimized_expression_of expr.old) place.old }
     ensures place { OnOk result
         (place.new ≡ place.old + length (names_in (optimized_expression_of expr.old))) }
     ensures told { IfOk result
-        (λ yes. IsTold (told changes.now) yes (optimized_expression_of expr.new)) }
+        (λ yes. IsRightAbout (changes_stack changes.now) yes (optimized_expression_of expr.new)) }
     ensures made { OnOk result (optimized_expression_of expr.new
-        ≡ restored_by (told changes.now) (optimized_expression_of expr.old)) }
+        ≡ restored_by (changes_stack changes.now) (optimized_expression_of expr.old)) }
 {
     match expr {
         OptimizedExpr::Ident(name) => Ok(is_next_changing(changes, place, name)),

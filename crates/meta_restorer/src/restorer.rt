@@ -1,4 +1,4 @@
-//! Wrappers round what may fail and changes the stack.
+//! The public calls of the restorer.
 ghost use Rattle.std.specs.Prelude.{◌≡◌, IfErr, IfOk, OnOk, false, map};
 ghost use Rattle.std.specs.Bool.{Decides};
 ghost use Rattle.meta_base.specs.Rewritings.Erased.{erased};
@@ -9,23 +9,23 @@ ghost use Rattle.meta_ast.specs.Optimized.{optimized_expression_of, optimized_ru
 ghost use Rattle.meta_restorer.specs.Bodies.{HoldsOptimizedBodies, named_body};
 ghost use Rattle.meta_restorer.specs.Changing.{HasNoWrappers, KeepsWrappers, changes_by};
 ghost use Rattle.meta_base.specs.Pieces.Faults.{IsMemory};
-ghost use Rattle.meta_restorer.specs.Noted.{AreNotedOf, IsNotedAs};
+ghost use Rattle.meta_restorer.specs.Summaries.{AreSummariesOf, IsSummaryOf};
 ghost use Rattle.meta_restorer.specs.Restoring.{AreQuiet, AreSameErased, HaveNoWrappers, IsRestored, restored_rule_by, restored_rules_by};
-ghost use Rattle.meta_restorer.specs.Telling.{Tells, told};
+ghost use Rattle.meta_restorer.specs.KnownChanges.{KnowsChanges, changes_stack};
 
 use crate::bodies::{bodies_of_map, bodies_of_rules};
 use crate::changes::{Changes, changes_of};
-use crate::noted::{Share, changes_itself, is_shown, note};
 use crate::restored::{LEVELS, restore};
+use crate::summaries::{Summary, changes_itself, is_shown, summarize};
 use meta_ast::deep::Deep;
 use meta_ast::optimized::{OptimizedExpr, OptimizedRule};
 use meta_base::runtime::Fault;
 use std::alloc::{AllocError, Global};
 use std::collections::HashMap;
 
-/// Whether an expression changes the stack: a `PUSH`, `PUSH_LITERAL`, `POP`, `POP_ALL` or `DROP` is met in
-/// it, not below a wrapper, or in the body of a rule that is named there. `rules` holds the body of each rule
-/// at its name. The only fault is a want of memory.
+/// Reports whether an expression changes the stack: a `PUSH`, `PUSH_LITERAL`, `POP`, `POP_ALL` or `DROP`
+/// occurs in it, not below a wrapper, or in the body of a rule that is named there. `rules` holds the
+/// body of each rule at its name. The only fault is an allocation failure.
 pub fn child_modifies_state(
     alloc: Global,
     expr: &OptimizedExpr,
@@ -39,10 +39,10 @@ pub fn child_modifies_state(
     Ok(is_changed(alloc, &changes, expr)?)
 }
 
-/// The rule with wrappers: from the inside out, each operand of `?`, `*` and `+` and both sides of each `|`
-/// are wrapped where they change the stack as they then stand. `rules` holds the body of each rule at its
-/// name, as it was before any was restored. Name and type stay, and so does each wrapper that stands there,
-/// with all that is below it. The only fault is a want of memory.
+/// Returns the rule with wrappers: from the inside out, each operand of `?`, `*` and `+` and both sides
+/// of each `|` are wrapped where they change the stack as they then are. `rules` holds the body of each
+/// rule at its name, as it was before any was restored. Name and type stay, and so does each wrapper that
+/// is there already, with all that is below it. The only fault is an allocation failure.
 pub fn restore_on_err(
     alloc: Global,
     rule: OptimizedRule,
@@ -63,11 +63,12 @@ pub fn restore_on_err(
 {
     let rule = Deep { value: rule };
     let changes = changes_in_map(alloc, rules)?;
-    Ok(noted_rule(alloc, changes, rule)?)
+    Ok(restore_summarized(alloc, changes, rule)?)
 }
 
-/// All rules with wrappers, as `restore_on_err` puts them: which rules change the stack is found out once,
-/// over the rules as they are handed in. Names, types and order stay. The only fault is a want of memory.
+/// Returns all rules with wrappers, as `restore_on_err` puts them. The rules that change the stack are
+/// found once, among the rules as they are handed in. Names, types and order stay. The only fault is an
+/// allocation failure.
 pub fn restore_rules(alloc: Global, rules: Vec<OptimizedRule>) -> Result<Vec<OptimizedRule>, Fault>
     ensures restores { IfOk result (λ answer. HaveNoWrappers (optimized_rules_of rules.items)
         → EachRestored (optimized_rules_of rules.items) (optimized_rules_of answer.items)) }
@@ -85,8 +86,8 @@ pub fn restore_rules(alloc: Global, rules: Vec<OptimizedRule>) -> Result<Vec<Opt
     Ok(rules.into_inner())
 }
 
-// Whether a `PUSH`, `PUSH_LITERAL`, `POP`, `POP_ALL` or `DROP` is met in any rule; where none is, no rule
-// changes the stack.
+// Reports whether a `PUSH`, `PUSH_LITERAL`, `POP`, `POP_ALL` or `DROP` occurs in any rule; where none
+// does, no rule changes the stack.
 fn is_any_changing(alloc: Global, rules: &[OptimizedRule]) -> Result<bool, AllocError>
     ensures { IfOk result (λ yes. yes ≡ false → AreQuiet rules.now) }
 {
@@ -98,51 +99,51 @@ fn is_any_changing(alloc: Global, rules: &[OptimizedRule]) -> Result<bool, Alloc
     Ok(false)
 }
 
-// Which of the rules in a map change the stack.
+// Finds the rules in a map that change the stack.
 fn changes_in_map(
     alloc: Global,
     rules: &HashMap<String, OptimizedExpr>,
 ) -> Result<Changes, AllocError>
     ensures { IfOk result
-        (λ changes. (g : Grammar) → HoldsOptimizedBodies rules.now g → Tells changes g) }
+        (λ changes. (g : Grammar) → HoldsOptimizedBodies rules.now g → KnowsChanges changes g) }
 {
     let bodies = bodies_of_map(alloc, rules)?;
     changes_of(alloc, &bodies)
 }
 
-// Which rules change the stack.
+// Finds the rules that change the stack.
 fn changes_in_rules(alloc: Global, rules: &[OptimizedRule]) -> Result<Changes, AllocError>
-    ensures tells { IfOk result (λ changes. Tells changes (optimized_rules_of rules.now)) }
+    ensures tells { IfOk result (λ changes. KnowsChanges changes (optimized_rules_of rules.now)) }
     ensures noted { IfOk result (λ changes.
-        AreNotedOf changes.names (map named_body rules.now) changes.noted) }
+        AreSummariesOf changes.names (map named_body rules.now) changes.noted) }
 {
     let bodies = bodies_of_rules(alloc, rules)?;
     changes_of(alloc, &bodies)
 }
 
-// Whether an expression changes the stack.
+// Reports whether an expression changes the stack.
 fn is_changed(alloc: Global, changes: &Changes, expr: &OptimizedExpr) -> Result<bool, AllocError>
     ensures { IfOk result
-        (λ yes. yes ≡ changes_by (told changes.now) (optimized_expression_of expr.now)) }
+        (λ yes. yes ≡ changes_by (changes_stack changes.now) (optimized_expression_of expr.now)) }
 {
     let mut numbers = Vec::new(alloc);
-    let share = note(alloc, &changes.names, expr, &mut numbers)?;
+    let share = summarize(alloc, &changes.names, expr, &mut numbers)?;
     Ok(is_shown(&numbers, share, &changes.flags))
 }
 
-// Puts wrappers into a rule, where what is met in its body is noted. Where that changes nothing, it stays.
+// Puts wrappers into a rule, given the share of its body. Where the body changes nothing, the rule stays.
 fn restore_rule(
     alloc: Global,
     changes: &Changes,
-    share: Share,
+    share: Summary,
     rule: &mut OptimizedRule,
 ) -> Result<(), AllocError>
-    requires { IsNotedAs changes.now.names (optimized_expression_of rule.old.expr)
+    requires { IsSummaryOf changes.now.names (optimized_expression_of rule.old.expr)
         changes.now.noted.numbers.items share }
     ensures name { OnOk result (rule.new.name ≡ rule.old.name) }
     ensures ty { OnOk result (rule.new.ty ≡ rule.old.ty) }
     ensures whole { OnOk result (optimized_rule_of rule.new
-        ≡ restored_rule_by (told changes.now) (optimized_rule_of rule.old)) }
+        ≡ restored_rule_by (changes_stack changes.now) (optimized_rule_of rule.old)) }
 {
     if !is_shown(&changes.noted.numbers, share, &changes.flags) {
         return Ok(());
@@ -152,8 +153,8 @@ fn restore_rule(
     Ok(())
 }
 
-// A rule with wrappers, what is met in whose body is noted first.
-fn noted_rule(
+// Summarizes the body of a rule, and puts wrappers into the rule.
+fn restore_summarized(
     alloc: Global,
     changes: Changes,
     rule: Deep<OptimizedRule>,
@@ -161,11 +162,11 @@ fn noted_rule(
     ensures name { IfOk result (λ r. r.name ≡ rule.value.name) }
     ensures ty { IfOk result (λ r. r.ty ≡ rule.value.ty) }
     ensures whole { IfOk result
-        (λ r. optimized_rule_of r ≡ restored_rule_by (told changes) (optimized_rule_of rule.value)) }
+        (λ r. optimized_rule_of r ≡ restored_rule_by (changes_stack changes) (optimized_rule_of rule.value)) }
 {
     let mut changes = changes;
     let mut rule = rule;
-    let share = note(
+    let share = summarize(
         alloc,
         &changes.names,
         &rule.value.expr,
@@ -175,15 +176,15 @@ fn noted_rule(
     Ok(rule.into_inner())
 }
 
-// Puts wrappers into rules, where what is met in each body is noted.
+// Puts wrappers into rules, whose shares are known.
 fn restore_all(
     alloc: Global,
     changes: &Changes,
     rules: &mut [OptimizedRule],
 ) -> Result<(), AllocError>
-    requires { AreNotedOf changes.now.names (map named_body rules.old) changes.now.noted }
+    requires { AreSummariesOf changes.now.names (map named_body rules.old) changes.now.noted }
     ensures { OnOk result (optimized_rules_of rules.new
-        ≡ restored_rules_by (told changes.now) (optimized_rules_of rules.old)) }
+        ≡ restored_rules_by (changes_stack changes.now) (optimized_rules_of rules.old)) }
 {
     for (place, rule) in rules.iter_mut().enumerate() {
         restore_rule(alloc, changes, changes.noted.shares[place], rule)?;

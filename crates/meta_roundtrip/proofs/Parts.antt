@@ -9,7 +9,7 @@ use Rattle.meta_base.specs.Language.Expression as bare
 use Rattle.meta_base.specs.Language.Expression.{Expression, Ident, Rep, Seq, Choice}
 use Rattle.meta_base.specs.Language.State.{State, NonAtomicMode, Trees, None', Tree, Success, joined}
 use Rattle.meta_base.specs.Language.Meaning.{Task, Run, Turns, Skipping}
-use Rattle.meta_base.specs.Language.Places.{Stands}
+use Rattle.meta_base.specs.Language.Places.{IsStateIn}
 use Rattle.meta_base.specs.declared.grammar.Rule.TheVariants as is
 use Rattle.meta_base.proofs.Steps.{joined_assoc, joined_nil}
 use Rattle.meta_base.proofs.TreesAreNested.{fits}
@@ -115,7 +115,7 @@ ending_says {x = Two s f x y} i h = record { same = h.same }
 module _ (text : List ℕ) where
   -- the text is left from the position on
   abbrev pub IsLeftAt : ℕ → Text → Type 0
-  IsLeftAt p t = Stands (chars text) (at p t)
+  IsLeftAt p t = IsStateIn (chars text) (at p t)
 
   -- trees without a flaw before others without one
   pub record IsFlawless (us : Trees) : Type 0 where
@@ -133,7 +133,7 @@ module _ (text : List ℕ) where
   pub flawless_tree : {r : Text} {i j : ℕ} {inner us : Trees} → ((vs : Trees) → own_flaw text r i j inner (joined us vs) ≡ None) → IsFlawless inner → IsFlawless us → IsFlawless (Tree r i j inner us)
   flawless_tree {r} {i} {j} {inner} {us} h k l = record { keeps = λ vs m. rw (h vs, no_flaw k) (l.keeps vs m) }
 
-  pub still_left : {k : Task} {s : State} {q : ℕ} {K : Text} {us : Trees} → Gives k s (Success (at q K) us) → Stands (chars text) s → IsLeftAt q K
+  pub still_left : {k : Task} {s : State} {q : ℕ} {K : Text} {us : Trees} → Gives k s (Success (at q K) us) → IsStateIn (chars text) s → IsLeftAt q K
   still_left d h = (fits (chars text) (d (λ n c. false)) h).0
 
   -- postfix operators make b of a, up to K

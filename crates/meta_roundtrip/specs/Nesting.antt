@@ -7,12 +7,12 @@ abbrev pub sequence_of : Expression → Expression → Expression
 sequence_of (Seq a b) c = Seq a (sequence_of b c)
 sequence_of a c = Seq a c
 
--- the same for a choice
+-- one choice after another, where the first is nested to the right already
 abbrev pub choice_of : Expression → Expression → Expression
 choice_of (Choice a b) c = Choice a (choice_of b c)
 choice_of a c = Choice a c
 
--- no sequence stands on the left of a sequence any more, and no choice on the left of a choice
+-- no sequence is on the left of a sequence any more, and no choice on the left of a choice
 abbrev pub nested_right : Expression → Expression
 nested_right (Seq a b) = sequence_of (nested_right a) (nested_right b)
 nested_right (Choice a b) = choice_of (nested_right a) (nested_right b)
@@ -30,7 +30,7 @@ nested_right (NodeTag e t) = NodeTag (nested_right e) t
 nested_right (RestoreOnErr e) = RestoreOnErr (nested_right e)
 nested_right e = e
 
--- so the body of a rule, and those of all rules
+-- the body of a rule nested so, and those of all rules
 abbrev pub nested_rule : Rule → Rule
 nested_rule r = record { name = r.name; type_of = r.type_of; body = nested_right r.body }
 

@@ -1,4 +1,4 @@
--- How some expressions are printed.
+-- Printed forms of some expressions.
 use Rattle.std.specs.Prelude.{◌≡◌, pos, negsuc, [], ◌∷◌, ◌++◌, Some, None, codes}
 use Rattle.meta_base.specs.Language.Expression.{Str, Insens, Range, Ident, PeekSlice, PosPred, NegPred, Seq, Choice, Opt, Rep, RepMinMax, Skip, Push, RestoreOnErr, PushLiteral, NodeTag}
 use Rattle.meta_ast.specs.Printing.{printed}

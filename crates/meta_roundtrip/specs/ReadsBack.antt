@@ -1,4 +1,4 @@
--- What is printed is read back.
+-- Round trip of printing and reading.
 use Rattle.std.specs.Prelude.{◌≡◌, ℕ, ℤ, ◌<◌, ◌≤◌, ◌^◌, List, [], ◌∷◌, ◌++◌, Option, Some, None, Bool, true, false, ◌||◌, ◌&&◌, not, nat_eq, codes, length, ◌↔◌, All}
 use Rattle.std.specs.Str.{IsUtf8, chars}
 use Rattle.meta_base.specs.Language.Text.{Text, IsText}
@@ -35,7 +35,7 @@ abbrev pub is_tag : Text → Bool
 is_tag [] = false
 is_tag (c ∷ t) = is_name_start c && are_name_characters t
 
--- a name: the same, where it does not begin with PUSH
+-- a name: a tag that does not begin with PUSH
 abbrev pub is_name : Text → Bool
 is_name t = not (begins nat_eq (codes "PUSH") t) && is_tag t
 
@@ -44,8 +44,9 @@ abbrev pub FitsI32 : Option ℤ → Type 0
 FitsI32 None = Unit {0}
 FitsI32 (Some i) = fits_i32 i ≡ true
 
--- what the text of a grammar can say: strings of scalar values, bounds of one character, names, tags, numbers
--- within their types, and no count of at most 0; forward searches and wrappers are the optimizer's alone
+-- an expression that the text of a grammar can say: strings of scalar values, bounds of one character,
+-- names, tags, numbers within their types, and no count of at most 0; forward searches and wrappers are
+-- the optimizer's alone
 abbrev pub IsWritable : Expression → Type 0
 IsWritable (Str t) = IsText t
 IsWritable (Insens t) = IsText t
@@ -77,11 +78,11 @@ pub record TakesAll (rule : meta.Rule) (classes : Classes) (t : Text) : Type 0 w
       (record { position = 0; rest = t; stack = [] }) (Success end trees)
   pub all : end.rest ≡ []
 
--- names are what the rule `identifier` takes as a whole
+-- names are the texts that the rule `identifier` takes as a whole
 abbrev pub NamesAreIdentifiers : Type 0
 NamesAreIdentifiers = (n : Text) (classes : Classes) → (is_name n ≡ true) ↔ TakesAll identifier classes n
 
--- tags are what the rule `tag_id` takes behind `#`, to the end of the text
+-- tags are the texts that the rule `tag_id` takes after `#`, to the end of the text
 abbrev pub TagsAreTagIds : Type 0
 TagsAreTagIds = (t : Text) (classes : Classes)
     → (is_tag t ≡ true) ↔ TakesAll tag_id classes (codes "#" ++ t)

@@ -5,11 +5,11 @@ ghost use Rattle.meta_roundtrip.specs.ReadsBack.{GrammarsReadBack, GrammarTextsE
 ghost use Rattle.meta_roundtrip.specs.ReadsBack.{PredicateBeforeQuestionMark, ReadsAsOne};
 ghost use Rattle.meta_roundtrip.specs.ReadsBack.{ReadsBack, TagsAreTagIds, TextsExist, is_name, is_tag};
 
-/// What is printed as a rule's body is read as the same expression, once sequences and choices are
-/// nested to the right in both.
+/// An expression that is printed as a rule's body is read as the same expression, once sequences and
+/// choices are nested to the right in both.
 ///
-/// The expression is one that the text of a grammar can say: its names are identifiers, its tags what
-/// the rule `tag_id` takes behind `#`, its strings (those of literal pushes too) texts, the bounds of
+/// The expression is one that the text of a grammar can say: its names are identifiers, its tags those
+/// that the rule `tag_id` takes after `#`, its strings (those of literal pushes too) texts, the bounds of
 /// its ranges single characters, its numbers within their types, no count is at most 0, and it has no
 /// forward search and no wrapper.
 pub fn reads_back()
@@ -23,7 +23,7 @@ pub fn grammars_read_back()
     ensures { GrammarsReadBack }
 {}
 
-/// There are such texts, for rules and for grammars: all characters of what is printed are scalar
+/// There are such texts, for rules and for grammars: all characters of printed expressions are scalar
 /// values.
 pub fn texts_exist()
     ensures rule { TextsExist }
@@ -35,8 +35,8 @@ pub fn names_are_identifiers()
     ensures { NamesAreIdentifiers }
 {}
 
-/// Tags are what the rule `tag_id` takes behind `#`, to the end of the text. Unlike a name, a tag may
-/// begin with `PUSH`.
+/// Tags are the texts that the rule `tag_id` takes after `#`, to the end of the text. Unlike a name, a
+/// tag may begin with `PUSH`.
 pub fn tags_are_tag_ids()
     ensures takes { TagsAreTagIds }
     ensures may_begin_with_push { (is_tag (codes "PUSHED") ≡ true) × (is_name (codes "PUSHED") ≡ false) }
@@ -53,7 +53,7 @@ pub fn predicate_before_question_mark()
     ensures { PredicateBeforeQuestionMark }
 {}
 
-/// How some expressions are printed.
+/// Some expressions are printed as these rows show.
 pub fn printed_rows()
     ensures { PrintedRows }
 {}

@@ -1,4 +1,4 @@
-//! What is printed of an expression is read back.
+//! Round trip of expressions: a printed expression is read back.
 #![tactic(auto)]
 
 pub mod laws;

@@ -5,7 +5,7 @@ use Rattle.meta_base.specs.Language.Expression.{Expression, Rule, Grammar}
 use Rattle.meta_spanned.specs.Spanned as spanned
 use Rattle.meta_spanned.specs.Spanned.{Spanned, Leaf, One, Two, Unary, Binary, SpannedRule}
 
--- what stands round an operand, round an expression
+-- the expression of an operator over an operand
 abbrev pub round : Unary → Expression → Expression
 round spanned.PosPred e = bare.PosPred e
 round spanned.NegPred e = bare.NegPred e
@@ -19,7 +19,7 @@ round (spanned.RepMinMax m n) e = bare.RepMinMax e m n
 round spanned.Push e = bare.Push e
 round (spanned.Tag t) e = bare.NodeTag e t
 
--- what stands between two operands, between two expressions
+-- the expression of an operator between two operands
 abbrev pub between : Binary → Expression → Expression → Expression
 between spanned.Seq a b = bare.Seq a b
 between spanned.Choice a b = bare.Choice a b

@@ -1,5 +1,5 @@
--- Whether two pieces, nodes or rules are equal, as a test: of one form, with equal parts.
--- Each test answers `true` exactly where the two are equal, and so is an equivalence.
+-- Whether two pieces, nodes or rules are equal, as a test: of one variant, with equal parts. A test answers
+-- `true` exactly where the two are equal, and so is an equivalence.
 use Rattle.std.specs.Prelude.{◌≡◌, Bool, true, false, ◌&&◌, nat_eq, refl}
 use Rattle.std.specs.Bool.{Decides}
 use Rattle.std.specs.Cmp.{IsEquivalence, unsigned_Decides}
@@ -10,7 +10,7 @@ use Rattle.meta_base.specs.Language.Expression.{RuleType}
 use Rattle.meta_base.specs.Rewritings.Equality.{text_eq, text_eq-Decides, expression_eq, expression_eq-Decides, rule_type_eq, rule_type_eq-Decides, deciding_equiv}
 use Rattle.meta_spanned.specs.Spanned.{Span, Unary, PosPred, NegPred, Opt, Rep, RepOnce, RepExact, RepMin, RepMax, RepMinMax, Push, Tag, Binary, Seq, Choice, Spanned, Leaf, One, Two, SpannedRule}
 
--- the same text, start and end
+-- equal text, start and end
 abbrev pub span_eq : Span → Span → Bool
 span_eq s t = text_eq s.text t.text && nat_eq s.start t.start && nat_eq s.end t.end
 

@@ -1,4 +1,4 @@
--- What nodes and rules of code say: expressions with their pieces of the text, which forget memory.
+-- Views of nodes and rules of code: expressions with their pieces of the text, without memory.
 use Rattle.std.specs.Prelude.{◌≡◌, List, [], map}
 use Rattle.meta_base.specs.Language.Expression as bare
 use Rattle.meta_ast.specs.Ast.{text_of, rule_type_of}
@@ -11,7 +11,7 @@ use Rattle.meta_spanned.specs.declared.node.ParserExpr.TheVariants as is
 use Rattle.meta_spanned.specs.declared.node.ParserNode.{ParserNode}
 use Rattle.meta_spanned.specs.declared.node.ParserRule.{ParserRule}
 
--- an expression of code that stands at a place; the `p` and `q` are where its boxes lie
+-- the view of an expression of code with a piece; `p` and `q` are the addresses of its boxes
 abbrev pub view_at : Span → code.ParserExpr → Spanned
 view_at t (is.Str s) = Leaf t (bare.Str (text_of s))
 view_at t (is.Insens s) = Leaf t (bare.Insens (text_of s))
@@ -37,11 +37,11 @@ view_at t (is.NodeTag' p e s u) = One t (spanned.Tag (text_of u)) (view_at (piec
 abbrev pub view : ParserNode → Spanned
 view n = view_at (piece_of n.span) n.expr
 
--- an expression of code without a place of its own, as one at the start of no text
+-- an expression of code without a piece of its own, as one at the start of no text
 abbrev pub unplaced : code.ParserExpr → Spanned
 unplaced e = view_at (record { text = []; start = 0; end = 0 }) e
 
--- two expressions of code that say the same, wherever they stand
+-- two expressions of code have the same view, at any piece
 abbrev pub IsSameExpression : code.ParserExpr → code.ParserExpr → Type 0
 IsSameExpression a b = (place : Span) → view_at place a ≡ view_at place b
 

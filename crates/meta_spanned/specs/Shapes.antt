@@ -1,4 +1,4 @@
--- What stands round and between the operands of a node.
+-- Operators over and between the operands of a node.
 use Rattle.std.specs.Prelude.{⊤}
 use Rattle.meta_ast.specs.Ast.{text_of}
 use Rattle.meta_ast.specs.declared.ast.shaped.Sign.{Sign}

@@ -1,10 +1,10 @@
--- Expressions with the piece of the text that each of their nodes stands for.
+-- Expressions with the piece of the text of each of their nodes.
 use Rattle.std.specs.Prelude.{ℕ, List}
 use Rattle.meta_base.specs.Language.Text.{Text}
 use Rattle.meta_base.specs.Language.Expression.{Expression, RuleType}
 pub use Rattle.meta_base.specs.Pieces.Saying.{Span}
 
--- what stands round one operand
+-- an operator over one operand
 pub data Unary : Type 0 where
   PosPred : Unary
   NegPred : Unary
@@ -18,7 +18,7 @@ pub data Unary : Type 0 where
   Push : Unary
   Tag : Text → Unary
 
--- what stands between two operands
+-- an operator between two operands
 pub data Binary : Type 0 where
   Seq : Binary
   Choice : Binary
@@ -29,7 +29,7 @@ pub data Spanned : Type 0 where
   One : Span → Unary → Spanned → Spanned
   Two : Span → Binary → Spanned → Spanned → Spanned
 
--- where the node stands
+-- the piece of the node
 abbrev pub span_of : Spanned → Span
 span_of (Leaf s e) = s
 span_of (One s f x) = s
@@ -41,21 +41,21 @@ start_of x = (span_of x).start
 abbrev pub end_of : Spanned → ℕ
 end_of x = (span_of x).end
 
--- the same node, standing elsewhere
+-- the node with another piece
 abbrev pub placed : Span → Spanned → Spanned
 placed t (Leaf s e) = Leaf t e
 placed t (One s f x) = One t f x
 placed t (Two s f x y) = Two t f x y
 
--- the same node, with another start
+-- the node with another start
 abbrev pub starting : ℕ → Spanned → Spanned
 starting i x = placed (record (span_of x) { start = i }) x
 
--- the same node, with another end
+-- the node with another end
 abbrev pub ending : ℕ → Spanned → Spanned
 ending j x = placed (record (span_of x) { end = j }) x
 
--- a rule: its name, where the name stands, its type and its body
+-- a rule: its name, the piece of the name, its type and its body
 pub record SpannedRule : Type 0 where
   pub name : Text
   pub span : Span

@@ -24,7 +24,7 @@ module _ {F T : Type 0} (step : F → ParserNode → Option T → F → Type 0) 
     pub reads : view node ≡ x
     pub called : step f node r g
 
-  -- calls from `f` on, one at each node in turn, left `last`, and `answers` are what they found, in order
+  -- calls from `f` on, one at each node in turn, left `last`, and `answers` are their answers, in order
   abbrev pub Answered : F → List Spanned → F → List T → Type 0
   Answered f [] last answers = (last ≡ f) × (answers ≡ [])
   Answered f (x ∷ xs) last answers =

@@ -3,9 +3,9 @@ ghost use Rattle.std.specs.Prelude.{◌≡◌, IfOk};
 ghost use Rattle.meta_spanned.specs.Nodes.{rule_view, view, IsSameExpression};
 
 use crate::node::{ParserExpr, ParserNode, ParserRule};
-use crate::shaped::{enclosed, joined, seen};
+use crate::shaped::{enclose_expr, expr_shape, join_exprs};
 use meta_ast::deep::Deep;
-use meta_ast::shape::{Shape, copied, copied_box};
+use meta_ast::shape::{Shape, copy_box, copy_tree};
 use std::alloc::AllocError;
 
 impl<'i> Clone for ParserRule<'i> {
@@ -25,7 +25,7 @@ impl<'i> Clone for ParserNode<'i> {
     ghost is_clone = { λ node copy. view copy ≡ view node };
 
     fn clone(&self) -> Result<ParserNode<'i>, AllocError> {
-        copied(self)
+        copy_tree(self)
     }
 }
 
@@ -37,19 +37,19 @@ impl<'i> Clone for ParserExpr<'i> {
     }
 }
 
-/// The same expression again. The only fault is a want of memory.
+/// Copies an expression. The only error is allocation failure.
 fn copy_expr<'i>(expr: &ParserExpr<'i>) -> Result<ParserExpr<'i>, AllocError>
     ensures { IfOk result (λ copy. IsSameExpression copy expr.now) }
 {
-    match seen(expr)? {
+    match expr_shape(expr)? {
         Shape::Leaf(copy) => Ok(copy),
-        Shape::One(sign, operand) => Ok(enclosed(sign, copied_box(operand)?)),
+        Shape::One(sign, operand) => Ok(enclose_expr(sign, copy_box(operand)?)),
         Shape::Two(joint, left, right) => {
             let left = Deep {
-                value: copied_box(left)?,
+                value: copy_box(left)?,
             };
-            let right = copied_box(right)?;
-            Ok(joined(joint, left.into_inner(), right))
+            let right = copy_box(right)?;
+            Ok(join_exprs(joint, left.into_inner(), right))
         }
     }
 }

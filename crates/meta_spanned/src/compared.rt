@@ -1,4 +1,4 @@
-//! Equality of nodes, expressions and rules: by structure and place, and exactly that.
+//! Equality of nodes, expressions and rules: by structure and span, and exactly that.
 ghost use Rattle.std.specs.Prelude.{◌≡◌, ◌↔◌, ◌<◌, IsTrue};
 ghost use Rattle.std.specs.Cmp.{on_equiv, partial_equiv_from_equiv};
 ghost use Rattle.meta_ast.specs.Sameness.{heaviness_left, is_same};
@@ -8,7 +8,7 @@ ghost use Rattle.meta_spanned.specs.NodeEquality.{rule_eq, rule_eq_equiv, span_e
 ghost use Rattle.meta_spanned.specs.Nodes.{piece_of, rule_view, unplaced, view, IsSameExpression};
 
 use crate::node::{ParserExpr, ParserNode, ParserRule};
-use meta_ast::sameness::{Both, Compared, Left, are_same, equal};
+use meta_ast::sameness::{Both, Comparison, TreeEq, are_same, equal};
 use meta_ast::texts::same_text;
 use meta_base::runtime::Span;
 
@@ -58,7 +58,7 @@ impl<'i> PartialEq for ParserExpr<'i> {
         ensures computed { result ≡ spanned_eq (unplaced self.now) (unplaced other.now) }
         ensures exact { IsTrue result ↔ IsSameExpression self.now other.now }
     {
-        are_same(&compared(self, other))
+        are_same(&compare_exprs(self, other))
     }
 }
 
@@ -73,19 +73,22 @@ fn same_span(a: &Span<'_>, b: &Span<'_>) -> bool
     a == b
 }
 
-impl<'i> Compared for ParserNode<'i> {
+impl<'i> TreeEq for ParserNode<'i> {
     ghost is_equal = { λ a b. spanned_eq (view a) (view b) };
 
-    fn compared<'a>(&'a self, other: &'a ParserNode<'i>) -> Left<'a, ParserNode<'i>> {
+    fn compare_roots<'a>(&'a self, other: &'a ParserNode<'i>) -> Comparison<'a, ParserNode<'i>> {
         if !same_span(&self.span, &other.span) {
-            return Left::Nothing(false);
+            return Comparison::Nothing(false);
         }
-        compared(&self.expr, &other.expr)
+        compare_exprs(&self.expr, &other.expr)
     }
 }
 
-/// What is left to be compared of two expressions, once all but their operands is.
-fn compared<'n, 'i>(a: &'n ParserExpr<'i>, b: &'n ParserExpr<'i>) -> Left<'n, ParserNode<'i>>
+/// Compares two expressions except their operands, and returns the comparisons that remain.
+fn compare_exprs<'n, 'i>(
+    a: &'n ParserExpr<'i>,
+    b: &'n ParserExpr<'i>,
+) -> Comparison<'n, ParserNode<'i>>
     ensures same { is_same (λ x y. spanned_eq (view x) (view y)) result
         ≡ spanned_eq (unplaced a.entry.now) (unplaced b.entry.now) }
     ensures work { heaviness_left (λ node. weight (without_spans (view node))) result
@@ -96,31 +99,34 @@ fn compared<'n, 'i>(a: &'n ParserExpr<'i>, b: &'n ParserExpr<'i>) -> Left<'n, Pa
         (E::Str(s), E::Str(t))
         | (E::Insens(s), E::Insens(t))
         | (E::Ident(s), E::Ident(t))
-        | (E::PushLiteral(s), E::PushLiteral(t)) => Left::Nothing(same_text(s, t)),
-        (E::Range(s, u), E::Range(t, v)) => Left::Nothing(same_text(s, t) && same_text(u, v)),
-        (E::PeekSlice(i, j), E::PeekSlice(k, l)) => Left::Nothing(i == k && j == l),
+        | (E::PushLiteral(s), E::PushLiteral(t)) => Comparison::Nothing(same_text(s, t)),
+        (E::Range(s, u), E::Range(t, v)) => Comparison::Nothing(same_text(s, t) && same_text(u, v)),
+        (E::PeekSlice(i, j), E::PeekSlice(k, l)) => Comparison::Nothing(i == k && j == l),
         (E::PosPred(first), E::PosPred(second))
         | (E::NegPred(first), E::NegPred(second))
         | (E::Opt(first), E::Opt(second))
         | (E::Rep(first), E::Rep(second))
         | (E::RepOnce(first), E::RepOnce(second))
-        | (E::Push(first), E::Push(second)) => Left::One(Both { first, second }, true),
+        | (E::Push(first), E::Push(second)) => Comparison::One(Both { first, second }, true),
         (E::NodeTag(first, s), E::NodeTag(second, t)) => {
-            Left::One(Both { first, second }, same_text(s, t))
+            Comparison::One(Both { first, second }, same_text(s, t))
         }
         (E::Seq(first, x), E::Seq(second, y)) | (E::Choice(first, x), E::Choice(second, y)) => {
             let right = Both {
                 first: x,
                 second: y,
             };
-            Left::Two(Both { first, second }, right)
+            Comparison::Two(Both { first, second }, right)
         }
         (E::RepExact(first, m), E::RepExact(second, n))
         | (E::RepMin(first, m), E::RepMin(second, n))
-        | (E::RepMax(first, m), E::RepMax(second, n)) => Left::One(Both { first, second }, m == n),
+        | (E::RepMax(first, m), E::RepMax(second, n)) => Comparison::One(
+            Both { first, second },
+            m == n,
+        ),
         (E::RepMinMax(first, k, m), E::RepMinMax(second, l, n)) => {
-            Left::One(Both { first, second }, k == l && m == n)
+            Comparison::One(Both { first, second }, k == l && m == n)
         }
-        _ => Left::Nothing(false),
+        _ => Comparison::Nothing(false),
     }
 }

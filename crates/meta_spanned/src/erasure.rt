@@ -10,16 +10,17 @@ ghost use Rattle.meta_spanned.specs.Shapes.{IsLeaf};
 ghost use Rattle.meta_spanned.specs.Spanned.{Span as Place};
 
 use crate::node::{ParserExpr, ParserNode, ParserRule};
-use crate::shaped::opened;
+use crate::shaped::open_expr;
 use meta_ast::ast::{Expr, Rule, Sign};
 use meta_ast::deep::Deep;
-use meta_ast::rebuilt::{Rebuild, Step, rebuilt};
+use meta_ast::rebuilt::{Rebuild, Step, rebuild_tree};
 use meta_ast::shape::{Joint, Shape, Shaped};
 use std::alloc::{AllocError, Global};
 
-/// The same rules, in order, without the spans of their names and nodes. The only fault is a want of memory.
+/// Returns the rules in order, without the spans of their names and nodes. The only error is allocation
+/// failure.
 ///
-/// Texts are handed on and not copied. What is wide or deep takes no more of the machine's stack.
+/// Texts are moved and not copied. Neither width nor depth takes stack space.
 pub fn erase_spans(alloc: Global, rules: Vec<ParserRule<'_>>) -> Result<Vec<Rule>, AllocError>
     ensures { IfOk result
         (λ erased. rules_of erased.items ≡ rules_without_spans (rule_views rules.entry.items)) }
@@ -37,26 +38,26 @@ pub fn erase_spans(alloc: Global, rules: Vec<ParserRule<'_>>) -> Result<Vec<Rule
     Ok(erased.into_inner())
 }
 
-/// The same rule without its spans.
+/// Returns a rule without its spans.
 fn erased_rule(alloc: Global, rule: ParserRule<'_>) -> Result<Rule, AllocError>
     ensures { IfOk result (λ erased. rule_of_code erased ≡ rule_without_spans (rule_view rule.entry)) }
 {
     let ParserRule { name, ty, node, .. } = rule;
-    let expr = rebuilt::<Around<'_>>(alloc, node)?;
+    let expr = rebuild_tree::<ErasureContext<'_>>(alloc, node)?;
     Ok(Rule { name, ty, expr })
 }
 
-/// What stands around an operand while its spans are left out.
+/// The context of an operand while its spans are erased.
 #[derive(Drop)]
-enum Around<'i> {
+enum ErasureContext<'i> {
     Sign(Sign),
     /// The operand is the left one, and this the right one.
     First(Joint, Deep<ParserNode<'i>>),
-    /// The operand is the right one, and this what the left one is without spans.
+    /// The operand is the right one, and this the left one without spans.
     Second(Joint, Deep<Box<Expr>>),
 }
 
-impl<'i> Rebuild for Around<'i> {
+impl<'i> Rebuild for ErasureContext<'i> {
     type Source = ParserNode<'i>;
 
     type Target = Expr;
@@ -77,16 +78,18 @@ impl<'i> Rebuild for Around<'i> {
 
     ghost waits = { λ around. waits_of around };
 
-    fn open(node: ParserNode<'i>) -> Result<Step<ParserNode<'i>, Around<'i>, Expr>, AllocError> {
-        match opened(node.expr) {
+    fn open(
+        node: ParserNode<'i>,
+    ) -> Result<Step<ParserNode<'i>, ErasureContext<'i>, Expr>, AllocError> {
+        match open_expr(node.expr) {
             Shape::Leaf(leaf) => Ok(Step::Made(erased_leaf(leaf))),
             Shape::One(sign, operand) => {
                 let operand = Box::into_inner(operand);
-                Ok(Step::Inside(Around::Sign(sign), operand))
+                Ok(Step::Inside(ErasureContext::Sign(sign), operand))
             }
             Shape::Two(joint, left, right) => {
                 let value = Box::into_inner(right);
-                let around = Around::First(joint, Deep { value });
+                let around = ErasureContext::First(joint, Deep { value });
                 Ok(Step::Inside(around, Box::into_inner(left)))
             }
         }
@@ -96,15 +99,15 @@ impl<'i> Rebuild for Around<'i> {
         self,
         alloc: Global,
         operand: Expr,
-    ) -> Result<Step<ParserNode<'i>, Around<'i>, Expr>, AllocError> {
-        let operand = Deep { value: operand }.boxed(alloc)?;
+    ) -> Result<Step<ParserNode<'i>, ErasureContext<'i>, Expr>, AllocError> {
+        let operand = Deep { value: operand }.into_box(alloc)?;
         match self {
-            Around::Sign(sign) => Ok(Step::Made(Expr::enclose(sign, operand.into_inner()))),
-            Around::First(joint, right) => {
-                let around = Around::Second(joint, operand);
+            ErasureContext::Sign(sign) => Ok(Step::Made(Expr::enclose(sign, operand.into_inner()))),
+            ErasureContext::First(joint, right) => {
+                let around = ErasureContext::Second(joint, operand);
                 Ok(Step::Inside(around, right.into_inner()))
             }
-            Around::Second(joint, left) => {
+            ErasureContext::Second(joint, left) => {
                 let whole = Expr::join(joint, left.into_inner(), operand.into_inner());
                 Ok(Step::Made(whole))
             }
@@ -112,7 +115,7 @@ impl<'i> Rebuild for Around<'i> {
     }
 }
 
-/// An expression without operands.
+/// Converts an expression without operands.
 fn erased_leaf(leaf: ParserExpr<'_>) -> Expr
     requires { IsLeaf (unplaced leaf) }
     ensures { (place : Place) → expression_of result ≡ without_spans (view_at place leaf.entry) }

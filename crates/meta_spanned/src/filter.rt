@@ -9,10 +9,10 @@ use meta_base::runtime::Fault;
 use std::alloc::{AllocError, Global};
 
 impl<'i> ParserNode<'i> {
-    /// The answers of `f` at this node and at all nodes below it, where it has one.
+    /// Collects the answers of `f` at this node and at all nodes below it, where it has one.
     ///
-    /// A node comes before those inside it, and a left one before the right. `f` is called once at each, with
-    /// a copy of the node. The only fault is a want of memory.
+    /// `f` is called once at each node in preorder, left before right, with a copy of the node. The only
+    /// error is allocation failure.
     pub fn filter_map_top_down<T, F>(self, alloc: Global, f: F) -> Result<Vec<T>, Fault>
     where
         T: Drop,
@@ -32,9 +32,9 @@ impl<'i> ParserNode<'i> {
 
 /// Appends the answers of `f` at `node` and at all nodes below it, where it has one, to `answers`.
 ///
-/// A node comes before those inside it, and a left one before the right. `f` is called once at each, with a
-/// copy of the node, and may be called again afterwards. The only fault is a want of memory, and then
-/// `answers` is as it was, and `f` is as the calls at the first nodes left it.
+/// `f` is called once at each node in preorder, left before right, with a copy of the node, and may be
+/// called again afterwards. The only error is allocation failure; then `answers` is unchanged, and `f` is
+/// as the calls at the first nodes left it.
 pub fn filter_internal<'i, T, F>(
     alloc: Global,
     node: ParserNode<'i>,
@@ -58,7 +58,7 @@ where
     Ok(answers.append(&mut found)?)
 }
 
-/// Appends the answers of `f` at a node and at all below it. The only fault is a want of memory, and then
+/// Appends the answers of `f` at a node and at all below it. The only error is allocation failure; then
 /// some of them are appended, and `f` is as the calls at the first nodes left it.
 fn walk<'i, T: Drop, F: FnMut(ParserNode<'i>) -> Option<T>>(
     alloc: Global,
@@ -83,8 +83,8 @@ fn walk<'i, T: Drop, F: FnMut(ParserNode<'i>) -> Option<T>>(
     Ok(())
 }
 
-/// Puts the operands of a node on a stack, the left one on top: so a loop over the stack meets each node
-/// before what stands in it. The only fault is a want of memory.
+/// Pushes the operands of a node on a stack, the left one on top: so a loop over the stack visits nodes in
+/// preorder. The only error is allocation failure.
 #[tactic(auto, using(crate::proofs::Walks::waiting_push))]
 pub fn push_operands<'n, 'i>(
     node: &'n ParserNode<'i>,

@@ -1,4 +1,4 @@
-//! Rules and expressions in which each node has its span, and what is done with them as values.
+//! Rules and expressions with a span at each node, as values: clones, equality, release, walks and erasure.
 #![tactic(auto)]
 
 mod cloned;

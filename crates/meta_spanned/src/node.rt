@@ -1,4 +1,4 @@
-//! What is read: rules, and expressions with the pieces of the text that they stand for.
+//! Syntax trees: rules, and expressions with their pieces of the text.
 use meta_ast::ast::RuleType;
 use meta_base::runtime::Span;
 
@@ -7,7 +7,7 @@ use meta_base::runtime::Span;
 pub struct ParserRule<'i> {
     /// The name that calls it.
     pub name: String,
-    /// Where that name stands.
+    /// The span of that name.
     pub span: Span<'i>,
     /// How its body is run, and whether it gives a token.
     pub ty: RuleType,
@@ -15,7 +15,7 @@ pub struct ParserRule<'i> {
     pub node: ParserNode<'i>,
 }
 
-/// An expression, and where it stands.
+/// An expression, and its span.
 #[cycle(node)]
 #[derive(Debug, Drop)]
 pub struct ParserNode<'i> {
@@ -38,11 +38,11 @@ pub enum ParserExpr<'i> {
     Range(String, String),
     /// A call of the rule or the builtin of that name.
     Ident(String),
-    /// The texts from one place of the stack up to another, or up to its end: `PEEK[0..-1]`.
+    /// The texts from one index of the stack up to another, or up to its end: `PEEK[0..-1]`.
     PeekSlice(i32, Option<i32>),
-    /// Succeeds in place where the node succeeds: `&e`.
+    /// Succeeds where the node succeeds, and takes nothing: `&e`.
     PosPred(Box<ParserNode<'i>>),
-    /// Succeeds in place where the node fails: `!e`.
+    /// Succeeds where the node fails, and takes nothing: `!e`.
     NegPred(Box<ParserNode<'i>>),
     /// One node after another: `a ~ b`.
     Seq(Box<ParserNode<'i>>, Box<ParserNode<'i>>),
@@ -52,7 +52,7 @@ pub enum ParserExpr<'i> {
     Opt(Box<ParserNode<'i>>),
     /// The node as often as it succeeds: `e*`.
     Rep(Box<ParserNode<'i>>),
-    /// The same, at least once: `e+`.
+    /// The node as often as it succeeds, and at least once: `e+`.
     RepOnce(Box<ParserNode<'i>>),
     /// So many times: `e{2}`.
     RepExact(Box<ParserNode<'i>>, u32),
@@ -62,11 +62,11 @@ pub enum ParserExpr<'i> {
     RepMax(Box<ParserNode<'i>>, u32),
     /// From the first number of times to the second: `e{2, 3}`.
     RepMinMax(Box<ParserNode<'i>>, u32, u32),
-    /// The node, whose text then lies on the stack: `PUSH(e)`.
+    /// The node; its text is then pushed onto the stack: `PUSH(e)`.
     Push(Box<ParserNode<'i>>),
-    /// Pushes the text onto the stack, and takes nothing: `PUSH_LITERAL("a")`. It stands where its string
-    /// stands.
+    /// Pushes the text onto the stack, and takes nothing: `PUSH_LITERAL("a")`. Its span is that of its
+    /// string.
     PushLiteral(String),
-    /// The node under a tag, without the `#`; it means what the node means: `#tag = e`.
+    /// The node under a tag, without the `#`; the tag does not change its meaning: `#tag = e`.
     NodeTag(Box<ParserNode<'i>>, String),
 }

@@ -1,21 +1,21 @@
-//! Letting go of rules and nodes by a loop.
+//! Iterative drop of rules and nodes.
 use crate::node::{ParserExpr, ParserNode, ParserRule};
-use crate::shaped::opened;
+use crate::shaped::open_expr;
 use meta_ast::deep::Release;
-use meta_ast::shape::{Shape, let_go};
+use meta_ast::shape::{Shape, release_tree};
 
-/// Lets rules go, the body of each as [`ParserNode::release`] does.
+/// Drops rules, the body of each as [`ParserNode::release`] does.
 pub fn release(rules: Vec<ParserRule<'_>>) {
     rules.release();
 }
 
 impl<'i> ParserNode<'i> {
-    /// Lets the node go by a loop, without memory.
+    /// Drops the node iteratively, without allocating.
     ///
-    /// A node that goes out of scope is let go by a call a level, so a chain of very many parts takes very
-    /// much of the machine's stack; this takes the same for each.
+    /// A node that goes out of scope is dropped recursively, so a chain of very many parts takes very much
+    /// stack space; this takes a constant amount.
     pub fn release(self) {
-        let_go(self);
+        release_tree(self);
     }
 }
 
@@ -27,22 +27,22 @@ impl<'i> Release for ParserRule<'i> {
 
 impl<'i> Release for ParserNode<'i> {
     fn release(self) {
-        let_go(self);
+        release_tree(self);
     }
 }
 
 impl<'i> Release for ParserExpr<'i> {
     fn release(self) {
-        match opened(self) {
+        match open_expr(self) {
             Shape::Leaf(leaf) => drop(leaf),
             Shape::One(sign, operand) => {
                 drop(sign);
-                let_go(Box::into_inner(operand));
+                release_tree(Box::into_inner(operand));
             }
             Shape::Two(joint, left, right) => {
                 drop(joint);
-                let_go(Box::into_inner(left));
-                let_go(Box::into_inner(right));
+                release_tree(Box::into_inner(left));
+                release_tree(Box::into_inner(right));
             }
         }
     }

@@ -1,4 +1,4 @@
-//! Nodes taken apart and put together again.
+//! Destructures and rebuilds nodes.
 ghost use Rattle.std.specs.Prelude.{◌≡◌, ◌+◌, ◌*◌, ◌≤◌, ◌<◌, IfOk};
 ghost use Rattle.meta_ast.specs.Shapes.{heaviness_of, meaning_of, LeafIs};
 ghost use Rattle.meta_ast.specs.Weight.{weight};
@@ -13,24 +13,24 @@ use meta_ast::shape::{Joint, Shape, Shaped};
 use meta_base::runtime::Span;
 use std::alloc::AllocError;
 
-/// What stands round the operand of a node, and where the node stands.
+/// The operator over the operand of a node, and the span of the node.
 #[derive(Drop)]
-pub struct Around<'i> {
+pub struct NodeSign<'i> {
     pub sign: Sign,
     pub span: Span<'i>,
 }
 
-/// What stands between the operands of a node, and where the node stands.
+/// The operator between the operands of a node, and the span of the node.
 #[derive(Drop)]
-pub struct Between<'i> {
+pub struct NodeJoint<'i> {
     pub joint: Joint,
     pub span: Span<'i>,
 }
 
 impl<'i> Shaped for ParserNode<'i> {
-    type Sign = Around<'i>;
+    type Sign = NodeSign<'i>;
 
-    type Joint = Between<'i>;
+    type Joint = NodeJoint<'i>;
 
     ghost Meaning = { Spanned };
 
@@ -45,50 +45,50 @@ impl<'i> Shaped for ParserNode<'i> {
 
     ghost heaviness = { λ node. weight (without_spans (view node)) };
 
-    fn open(self) -> Shape<ParserNode<'i>, Around<'i>, Between<'i>, Box<ParserNode<'i>>> {
+    fn open(self) -> Shape<ParserNode<'i>, NodeSign<'i>, NodeJoint<'i>, Box<ParserNode<'i>>> {
         let ParserNode { expr, span } = self;
-        match opened(expr) {
+        match open_expr(expr) {
             Shape::Leaf(expr) => Shape::Leaf(ParserNode { expr, span }),
-            Shape::One(sign, operand) => Shape::One(Around { sign, span }, operand),
-            Shape::Two(joint, left, right) => Shape::Two(Between { joint, span }, left, right),
+            Shape::One(sign, operand) => Shape::One(NodeSign { sign, span }, operand),
+            Shape::Two(joint, left, right) => Shape::Two(NodeJoint { joint, span }, left, right),
         }
     }
 
     fn shape<'a>(
         &'a self,
     ) -> Result<
-        Shape<ParserNode<'i>, Around<'i>, Between<'i>, &'a Box<ParserNode<'i>>>,
+        Shape<ParserNode<'i>, NodeSign<'i>, NodeJoint<'i>, &'a Box<ParserNode<'i>>>,
         AllocError,
     > {
         let span = self.span;
-        match seen(&self.expr)? {
+        match expr_shape(&self.expr)? {
             Shape::Leaf(expr) => Ok(Shape::Leaf(ParserNode { expr, span })),
-            Shape::One(sign, operand) => Ok(Shape::One(Around { sign, span }, operand)),
+            Shape::One(sign, operand) => Ok(Shape::One(NodeSign { sign, span }, operand)),
             Shape::Two(joint, left, right) => {
-                Ok(Shape::Two(Between { joint, span }, left, right))
+                Ok(Shape::Two(NodeJoint { joint, span }, left, right))
             }
         }
     }
 
-    fn enclose(around: Around<'i>, operand: Box<ParserNode<'i>>) -> ParserNode<'i>
+    fn enclose(around: NodeSign<'i>, operand: Box<ParserNode<'i>>) -> ParserNode<'i>
         ensures { view result
             ≡ One (piece_of around.entry.span) (unary_of around.entry.sign) (view operand.entry.value) }
     {
-        let Around { sign, span } = around;
-        let expr = enclosed(sign, operand);
+        let NodeSign { sign, span } = around;
+        let expr = enclose_expr(sign, operand);
         ParserNode { expr, span }
     }
 
     fn join(
-        between: Between<'i>,
+        between: NodeJoint<'i>,
         left: Box<ParserNode<'i>>,
         right: Box<ParserNode<'i>>,
     ) -> ParserNode<'i>
         ensures { view result ≡ Two (piece_of between.entry.span) (binary_of between.entry.joint)
             (view left.entry.value) (view right.entry.value) }
     {
-        let Between { joint, span } = between;
-        let expr = joined(joint, left, right);
+        let NodeJoint { joint, span } = between;
+        let expr = join_exprs(joint, left, right);
         ParserNode { expr, span }
     }
 
@@ -108,8 +108,8 @@ impl<'i> Shaped for ParserNode<'i> {
     }
 }
 
-/// An expression taken apart. What has no operands is left whole.
-pub(crate) fn opened<'i>(
+/// Destructures an expression. An expression without operands is kept whole.
+pub(crate) fn open_expr<'i>(
     expr: ParserExpr<'i>,
 ) -> Shape<ParserExpr<'i>, Sign, Joint, Box<ParserNode<'i>>>
     ensures meaning { (place : Place) → meaning_of (view_at place) (λ operand. view operand.value)
@@ -139,9 +139,9 @@ pub(crate) fn opened<'i>(
     Shape::One(sign, operand)
 }
 
-/// The shape of an expression: its operands as they stand there, and copies of all else. The only fault is a
-/// want of memory.
-pub(crate) fn seen<'n, 'i>(
+/// Returns the shape of an expression, with its operands borrowed and copies of all else. The only error is
+/// allocation failure.
+pub(crate) fn expr_shape<'n, 'i>(
     expr: &'n ParserExpr<'i>,
 ) -> Result<Shape<ParserExpr<'i>, Sign, Joint, &'n Box<ParserNode<'i>>>, AllocError>
     ensures meaning { IfOk result (λ shape. (place : Place)
@@ -177,8 +177,8 @@ pub(crate) fn seen<'n, 'i>(
     Ok(Shape::One(sign, operand))
 }
 
-/// An operand in its sign.
-pub(crate) fn enclosed<'i>(sign: Sign, operand: Box<ParserNode<'i>>) -> ParserExpr<'i>
+/// Rebuilds an expression from an operator and its operand.
+pub(crate) fn enclose_expr<'i>(sign: Sign, operand: Box<ParserNode<'i>>) -> ParserExpr<'i>
     ensures { (place : Place)
         → view_at place result ≡ One place (unary_of sign) (view operand.entry.value) }
 {
@@ -198,8 +198,8 @@ pub(crate) fn enclosed<'i>(sign: Sign, operand: Box<ParserNode<'i>>) -> ParserEx
     }
 }
 
-/// Two operands side by side.
-pub(crate) fn joined<'i>(
+/// Rebuilds an expression from an operator and its two operands.
+pub(crate) fn join_exprs<'i>(
     joint: Joint,
     left: Box<ParserNode<'i>>,
     right: Box<ParserNode<'i>>,

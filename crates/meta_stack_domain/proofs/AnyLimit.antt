@@ -7,7 +7,7 @@ use Rattle.meta_spanned.specs.Spanned.{Span, Spanned, Leaf, One, Two}
 use Rattle.meta_stack_domain.specs.Stack.{In, AbstractStack, entry, made_intact, failed, is_among, are_among}
 use Rattle.meta_stack_domain.specs.Reading.{Reading, anything, from, ahead_reading, not_ahead_reading, seq_reading, choice_reading, opt_reading, pushed_reading, tried, Copy, Required, Optional, Endless, is_single, Walk, turns, onward, walk, walked, at_least_copies, from_to_copies, reading, rule_reading, name_reading, lands, loops_within, loops}
 use Rattle.meta_stack_domain.specs.Reports.{skips_in, reading_in}
-use Rattle.meta_stack_domain.specs.Reported.{copies_of, is_choice, turn_starts, starts, SomeLoop, Inside, Behind, ReportedIn, ReportedFrom}
+use Rattle.meta_stack_domain.specs.Reported.{copies_of, is_choice, turn_starts, starts, SomeLoop, Inside, AfterFirst, ReportedIn, ReportedFrom}
 use Rattle.meta_stack_domain.specs.Turns.{HasFewMarks, most_stacks}
 use Rattle.meta_stack_domain.specs.Walks.{stepped, ended, next_after}
 use Rattle.meta_stack_domain.proofs.FewMarks.{FewWhere, FewBoth, LeadsToFew, keeps_few, failed_few, tried_few, onward_few, expression_few, name_few, reading_few}
@@ -175,7 +175,7 @@ module _ (m n : ℕ) (most_m : most_stacks < m) (most_n : most_stacks < n) where
       us,
       vs,
       reports_same x S T us k f g r,
-      reports_same y (Behind m turns read nullable S u x) (Behind n turns other nullable T u x) vs
+      reports_same y (AfterFirst m turns read nullable S u x) (AfterFirst n turns other nullable T u x) vs
           (λ b s. behind_few (is_choice u) (read x s.0) s.0 b (few x s.0 (k s.0 s.1)) s.2)
           (λ b s. (s.0, f s.0 s.1, ap (λ z. next_after (is_choice u) z s.0) (sym (same x s.0 (k s.0 s.1))) ∙ s.2))
           (λ b s. (s.0, g s.0 s.1, ap (λ z. next_after (is_choice u) z s.0) (same x s.0 (k s.0 (g s.0 s.1))) ∙ s.2)) q,

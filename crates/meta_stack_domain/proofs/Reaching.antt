@@ -9,7 +9,7 @@ use Rattle.meta_base.proofs.OneOutcome.{same, same_state, from}
 use Rattle.meta_base.proofs.RuleModes.{runs_in_rule_mode}
 use Rattle.meta_stack_domain.specs.Stack.{AbstractStack}
 use Rattle.meta_stack_domain.specs.Reading.{Copy, Required, Optional, Endless, from_to_copies, at_least_copies}
-use Rattle.meta_stack_domain.specs.Reports.{Repetition, repetition, Route, StandsAt, to_itself, to_seq_first, to_seq_second, to_choice_first, to_choice_second, to_opt, to_push, to_tag, to_pos_pred, to_neg_pred, to_turn, TurnAt, now, after_required, after_optional, after_turn, ReachesRoute, reach, reach_seq_first, reach_seq_second, reach_choice_first, reach_choice_second, reach_opt, reach_push, reach_tag, reach_pos_pred, reach_neg_pred, reach_turn, IsCertain, NeverEnds}
+use Rattle.meta_stack_domain.specs.Reports.{Repetition, repetition, Route, IsPartAt, to_itself, to_seq_first, to_seq_second, to_choice_first, to_choice_second, to_opt, to_push, to_tag, to_pos_pred, to_neg_pred, to_turn, TurnAt, now, after_required, after_optional, after_turn, ReachesRoute, reach, reach_seq_first, reach_seq_second, reach_choice_first, reach_choice_second, reach_opt, reach_push, reach_tag, reach_pos_pred, reach_neg_pred, reach_turn, IsCertain, NeverEnds}
 
 -- what a copy, or the turns at the end, are as an expression
 abbrev copy : Expression → Copy → Expression
@@ -130,7 +130,7 @@ module _ (g : Grammar) (classes : Classes) (m : Mode) where
   turn_never {e} (after_turn {cs = cs} d k r) n = head_never (map (copy e) cs) (rep_never (after_turn d k r) n)
 
   -- where what stands at a route has no outcome, what reaches it has none
-  pub reached_never : {e p : Expression} {r : Route} {s t : State} → StandsAt e r p → ReachesRoute g classes m e r s t → Never p t → Never e s
+  pub reached_never : {e p : Expression} {r : Route} {s t : State} → IsPartAt e r p → ReachesRoute g classes m e r s t → Never p t → Never e s
   reached_never to_itself reach n o d = n o d
   reached_never (to_seq_first l) (reach_seq_first x) n o d = first_never (reached_never l x n) o d
   reached_never (to_seq_second l) (reach_seq_second c k x) n o d = second_never c k (reached_never l x n) o d
@@ -145,7 +145,7 @@ module _ (g : Grammar) (classes : Classes) (m : Mode) where
   reached_never (to_neg_pred l) (reach_neg_pred x) n o (neg_pred d) = reached_never l x n _ d
   reached_never {e} {p} {s = s} {t = t} (to_turn {q = q} {r = r} y z l) (reach_turn {q = v} {t = u} w x k) n o d =
       let f : q ≡ v = same_some (sym y ∙ w) in
-      let l' : StandsAt v.body r p = subst (λ (q : Repetition). StandsAt q.body r p) f l in
+      let l' : IsPartAt v.body r p = subst (λ (q : Repetition). IsPartAt q.body r p) f l in
       turn_never x (reached_never l' k n) o (as_copies e v w s o d)
 
 -- no start that reaches the route of what is certain has an outcome

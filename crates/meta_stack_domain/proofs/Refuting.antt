@@ -9,9 +9,9 @@ use Rattle.meta_base.proofs.Basics.{same_some}
 use Rattle.meta_stack_domain.specs.Refuted.{peeked, peeked_twice, top, top_of_none, alone}
 use Rattle.meta_stack_domain.specs.Stack.{AbstractStack}
 use Rattle.meta_stack_domain.specs.Reading.{Required}
-use Rattle.meta_stack_domain.specs.Reports.{Repetition, repetition, Repeats, any_times, once_or_more, at_least, Route, Here, Turn, HasTurn, StandsAt, to_itself, to_seq_first, to_seq_second, to_choice_first, to_choice_second, to_opt, to_push, to_pos_pred, to_neg_pred, to_turn, now, after_required, ReachesRoute, reach, reach_turn, IsCertain, NeverEnds, to_tag}
+use Rattle.meta_stack_domain.specs.Reports.{Repetition, repetition, Repeats, any_times, once_or_more, at_least, Route, Here, Turn, HasTurn, IsPartAt, to_itself, to_seq_first, to_seq_second, to_choice_first, to_choice_second, to_opt, to_push, to_pos_pred, to_neg_pred, to_turn, now, after_required, ReachesRoute, reach, reach_turn, IsCertain, NeverEnds, to_tag}
 
-name_alone : {e p : Expression} {r : Route} (n : Text) → StandsAt e r p → e ≡ Ident n → p ≡ Ident n
+name_alone : {e p : Expression} {r : Route} (n : Text) → IsPartAt e r p → e ≡ Ident n → p ≡ Ident n
 name_alone n to_itself h = h
 name_alone n (to_seq_first l) h = cc
 name_alone n (to_seq_second l) h = cc
@@ -24,7 +24,7 @@ name_alone n (to_pos_pred l) h = cc
 name_alone n (to_neg_pred l) h = cc
 name_alone n (to_turn {q = q} x t l) h = let f : None ≡ Some q = sym (ap repetition h) ∙ x in cc
 
-itself_here : {e p : Expression} {r : Route} (n : Text) → StandsAt e r p → e ≡ Rep (Ident n) → p ≡ Rep (Ident n) → r ≡ Here
+itself_here : {e p : Expression} {r : Route} (n : Text) → IsPartAt e r p → e ≡ Rep (Ident n) → p ≡ Rep (Ident n) → r ≡ Here
 itself_here n to_itself h k = refl
 itself_here n (to_seq_first l) h k = cc
 itself_here n (to_seq_second l) h k = cc
@@ -39,7 +39,7 @@ itself_here n (to_turn {q = q} x t l) h k =
     let f : q.body ≡ Ident n = ap (λ (q : Repetition). q.body) (same_some (sym x ∙ ap repetition h)) in
     let g = name_alone n l f in cc
 
-in_a_turn : {e p : Expression} {r : Route} (n : Text) → StandsAt e r p → e ≡ RepExact (Rep (Ident n)) 2 → p ≡ Rep (Ident n)
+in_a_turn : {e p : Expression} {r : Route} (n : Text) → IsPartAt e r p → e ≡ RepExact (Rep (Ident n)) 2 → p ≡ Rep (Ident n)
     → (r ≡ Turn 0 Here) ⊎ (r ≡ Turn 1 Here)
 in_a_turn n to_itself h k = cc
 in_a_turn n (to_seq_first l) h k = cc
@@ -81,7 +81,7 @@ may_end r a c =
     let reached = turn_reached r (in_a_turn (codes "PEEK_ALL") c.leads refl refl) in
     c.no_outcome no_class AtomicMode stuck (Success stuck None') tt (c.described no_class AtomicMode stuck stuck tt reached) ends_there
 
-pub ends_on_route : (r : Route) → StandsAt peeked_twice r peeked → NeverEnds (alone peeked_twice) peeked_twice r → ⊥
+pub ends_on_route : (r : Route) → IsPartAt peeked_twice r peeked → NeverEnds (alone peeked_twice) peeked_twice r → ⊥
 ends_on_route r l n =
     let reached = turn_reached r (in_a_turn (codes "PEEK_ALL") l refl refl) in
     n.starts no_class AtomicMode stuck stuck (Success stuck None') tt reached (rep_exact (seq ends_there atomic ends_there))

@@ -8,7 +8,7 @@ use Rattle.meta_spanned.specs.Erasure.{without_spans}
 use Rattle.meta_spanned.specs.Spanned.{span_of, Span, Spanned, Leaf, One, Two, Unary, PosPred, NegPred, Opt, Rep, RepOnce, RepExact, RepMin, RepMax, RepMinMax, Push, Tag, Binary, Seq, Choice}
 use Rattle.meta_stack_domain.specs.Stack.{AbstractStack, In, entry, is_among}
 use Rattle.meta_stack_domain.specs.Reading.{Reading, loops, tried, Copy, Required, Optional, Endless}
-use Rattle.meta_stack_domain.specs.Reports.{Route, Here, First, Second, Inner, Turn, StandsAt, to_itself, to_seq_first, to_seq_second, to_choice_first, to_choice_second, to_opt, to_push, to_tag, to_pos_pred, to_neg_pred, to_turn, HasTurn, repetition, Repeats, any_times, once_or_more, at_least, next, turn_start, Visits, visit, visit_seq_first, visit_seq_second, visit_choice_first, visit_choice_second, visit_opt, visit_push, visit_tag, visit_pos_pred, visit_neg_pred, visit_turn, IsReport, SkippingAltersStack, reading_in}
+use Rattle.meta_stack_domain.specs.Reports.{Route, Here, First, Second, Inner, Turn, IsPartAt, to_itself, to_seq_first, to_seq_second, to_choice_first, to_choice_second, to_opt, to_push, to_tag, to_pos_pred, to_neg_pred, to_turn, HasTurn, repetition, Repeats, any_times, once_or_more, at_least, next, turn_start, Visits, visit, visit_seq_first, visit_seq_second, visit_choice_first, visit_choice_second, visit_opt, visit_push, visit_tag, visit_pos_pred, visit_neg_pred, visit_turn, IsReport, SkippingAltersStack, reading_in}
 use Rattle.meta_stack_domain.specs.Reported.{turn_starts, starts, copies_of, is_endless, is_choice, SomeLoop, Own, ReportedIn, ReportedFrom, node_at, KnowsNullable, IsCertainAt}
 use Rattle.meta_stack_domain.specs.Walks.{next_after}
 use Rattle.meta_stack_domain.proofs.Certain.{certain}
@@ -91,7 +91,7 @@ module _ (limit turns : ℕ) (step : Expression → AbstractStack → Reading) (
     here : AbstractStack
     at : node_at x route ≡ Some node
     place : span_of node ≡ t
-    leads : StandsAt (without_spans x) route (without_spans node)
+    leads : IsPartAt (without_spans x) route (without_spans node)
     visits : Visits step (without_spans x) route a here
     repeats : Repeats (without_spans node) (without_spans body)
     takes : nullable body ≡ false
@@ -149,7 +149,7 @@ module _ (limit turns : ℕ) (step : Expression → AbstractStack → Reading) (
       go None h = cc
       go (Some z) h = cc
 
-  inner : (s : Span) (f : Unary) (x : Spanned) (t : Span) (a b : AbstractStack) → a ≡ b → ((r : Route) (p : Expression) → StandsAt (without_spans x) r p → StandsAt (without_spans (One s f x)) (Inner r) p)
+  inner : (s : Span) (f : Unary) (x : Spanned) (t : Span) (a b : AbstractStack) → a ≡ b → ((r : Route) (p : Expression) → IsPartAt (without_spans x) r p → IsPartAt (without_spans (One s f x)) (Inner r) p)
       → ((r : Route) (c : AbstractStack) → Visits step (without_spans x) r a c → Visits step (without_spans (One s f x)) (Inner r) a c) → Found x t b → Found (One s f x) t a
   inner s f x t a b e l v d = record {
     route = Inner d.route;

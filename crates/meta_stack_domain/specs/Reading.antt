@@ -1,30 +1,30 @@
--- What an expression may do to a stack of which something is known.
+-- Abstract interpretation: the reading of an expression from an abstract stack.
 use Rattle.std.specs.Prelude.{ℕ, zero, suc, ◌-◌, min, List, [], ◌∷◌, ◌++◌, replicate, Option, Some, None, is_some, Bool, true, false, not, ◌&&◌, ◌||◌, if◌then◌else◌, ℤ, pos}
 use Rattle.meta_base.specs.Language.Text.{Text}
 use Rattle.meta_base.specs.Language.Expression.{Expression, Str, Insens, Range, Ident, PeekSlice, PosPred, NegPred, Seq, Choice, Opt, Rep, RepOnce, RepExact, RepMin, RepMax, RepMinMax, Skip, Push, RestoreOnErr, Rule, Grammar, rule_of, PushLiteral, NodeTag}
 use Rattle.meta_base.specs.Language.Builtins.{Builtin, Peek, Pop, Drop, PeekAll, PopAll, builtin_of}
 use Rattle.meta_stack_domain.specs.Stack.{Base, Empty, Blank, Any, AbstractStack, unknown, made_intact, all_blank, push_mark, pop_one, pop_all, join_any, failed, is_among, are_among}
 
--- the stack after a success and after a failure, where they are possible, and whether a success certainly
--- takes no character
+-- an abstract outcome: the stack after a success and after a failure, where they are possible, and whether
+-- a success certainly takes no character
 pub record Reading : Type 0 where
   pub ok : Option AbstractStack
   pub err : Option AbstractStack
   pub still : Bool
 
--- where the expression is not reached
+-- the reading of an expression that is not reached
 abbrev pub impossible : Reading
 impossible = record { ok = None; err = None; still = true }
 
--- it takes nothing and cannot fail
+-- the reading of an expression that takes nothing and cannot fail
 abbrev pub surely : AbstractStack → Reading
 surely a = record { ok = Some a; err = None; still = true }
 
--- it may take something or fail, and leaves the stack
+-- the reading of an expression that may take something or fail, and leaves the stack
 abbrev pub maybe : AbstractStack → Reading
 maybe a = record { ok = Some a; err = Some a; still = false }
 
--- nothing is known of what it does
+-- the reading of which nothing is known
 abbrev pub anything : Reading
 anything = maybe unknown
 
@@ -49,7 +49,7 @@ pop_all_reading a =
     then surely (pop_all a)
     else record { ok = Some (pop_all a); err = Some unknown; still = false }
 
--- `PEEK` and `POP`, from marks and a base, to what is left
+-- `PEEK` and `POP`, from marks and a base, with the stack after a success
 abbrev pub top_reading : List Bool → Base → AbstractStack → Reading
 top_reading (true ∷ ms) b a = surely a
 top_reading (false ∷ ms) b a = maybe a
@@ -111,7 +111,7 @@ seq_reading skips a r q = record {
   still = r.still && (q.still && not skips);
 }
 
--- where it succeeds, it takes nothing
+-- the expression takes nothing if it succeeds
 abbrev pub stays : Reading → Bool
 stays r = not (is_some r.ok) || r.still
 
@@ -119,7 +119,7 @@ stays r = not (is_some r.ok) || r.still
 abbrev pub choice_reading : AbstractStack → Reading → Reading → Reading
 choice_reading a r q = record { ok = join_any r.ok q.ok; err = failed q.err a; still = stays r && stays q }
 
--- where one goes on, whether it succeeds or fails
+-- the stack after an attempt, whether it succeeds or fails
 abbrev pub tried : AbstractStack → Reading → Option AbstractStack
 tried a r = join_any r.ok (failed r.err a)
 
@@ -141,7 +141,7 @@ from_to_copies m n = replicate (min m n) Required ++ replicate (n - m) Optional
 abbrev pub at_least_copies : ℕ → List Copy
 at_least_copies n = replicate n Required ++ Endless ∷ []
 
--- it is not turns
+-- the copy is no endless one
 abbrev pub is_one : Copy → Bool
 is_one Required = true
 is_one Optional = true
@@ -246,9 +246,8 @@ module _ (limit : ℕ) (skips : Bool) (recursive : Text → Bool) (g : Grammar) 
   name_reading (suc k) n a =
       rule_reading n (rule_of g n) (λ e b. reading limit skips (name_reading k) e b) a
 
--- what the loop search does after a turn. There is no loop where the turn may fail, cannot succeed or may
--- take something; there is one where the stack is intact and has the marks of a start since the base last
--- changed
+-- a turn of the loop search. There is no loop if the turn may fail, cannot succeed or may take something;
+-- there is one if the stack is intact and has the marks of a start since the base last changed
 abbrev pub lands : Option AbstractStack → Option AbstractStack → Bool → List (List Bool)
     → (List (List Bool) → AbstractStack → Bool) → Bool
 lands (Some b) None true starts f =

@@ -1,4 +1,4 @@
--- Which rules reach themselves.
+-- Recursive rules, which reach themselves by calls.
 use Rattle.std.specs.Prelude.{◌≡◌, Some, Bool, true}
 use Rattle.meta_base.specs.Language.Text.{Text}
 use Rattle.meta_base.specs.Language.Expression.{Ident, Part, Rule, Grammar, rule_of}

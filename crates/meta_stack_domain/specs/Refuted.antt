@@ -1,8 +1,8 @@
--- What no report is certain of.
+-- Repetitions that are not definite.
 use Rattle.std.specs.Prelude.{[], ◌∷◌, codes}
 use Rattle.meta_base.specs.Language.Expression.{Expression, Ident, Seq, Rep, RepExact, Grammar, Normal}
 
--- a = { (PEEK_ALL*){2} }: each turn ends where the stack has a text that doesn't stand there
+-- a = { (PEEK_ALL*){2} }, where all turns end if the stack has a text that does not follow in the input
 abbrev pub peeked : Expression
 peeked = Rep (Ident (codes "PEEK_ALL"))
 

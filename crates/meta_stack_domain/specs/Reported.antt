@@ -1,4 +1,4 @@
--- Which repetitions are reported in a body: the direct reading, node by node.
+-- The reports in a body, by the direct reading, node by node.
 use Rattle.std.specs.Prelude.{◌≡◌, ℕ, zero, suc, List, [], ◌∷◌, ◌++◌, replicate, length, Option, Some, None, Bool, true, false, if◌then◌else◌, ◌⊎◌}
 use Rattle.meta_base.specs.Language.Text.{Text}
 use Rattle.meta_base.specs.Language.Expression.{Grammar}
@@ -11,7 +11,7 @@ use Rattle.meta_stack_domain.specs.Reading.{loops, tried, Copy, Required, Option
 use Rattle.meta_stack_domain.specs.Reports.{Route, Here, First, Second, Inner, Turn, reading_to_depth, IsReport, IsCertain, NeverEnds}
 use Rattle.meta_stack_domain.specs.Walks.{next_after}
 
--- what is inside is visited as the copies of a repetition are; once where it is none
+-- the operand is visited as the copies of a repetition are; once if the operator is no repetition
 abbrev pub copies_of : Unary → List Copy
 copies_of PosPred = Required ∷ []
 copies_of NegPred = Required ∷ []
@@ -25,7 +25,7 @@ copies_of (RepMin n) = at_least_copies n
 copies_of (RepMax n) = replicate n Optional
 copies_of (RepMinMax m n) = from_to_copies m n
 
--- it goes on without a greatest number
+-- the operator is a repetition without a greatest number
 abbrev pub is_endless : Unary → Bool
 is_endless Rep = true
 is_endless RepOnce = true
@@ -53,27 +53,27 @@ module _ (limit : ℕ) (step : AbstractStack → says.Reading) where
   starts (Optional ∷ cs) (Some a) = a ∷ starts cs (tried a (step a))
   starts (Endless ∷ cs) (Some a) = turn_starts step limit [] (Some a)
 
--- `S a`: a node is visited from a; `read x`: what a node does
+-- `S a`: a node is visited from a; `read x`: the reading of a node
 module _ (limit turns : ℕ) (read : Spanned → AbstractStack → says.Reading) (nullable : Spanned → Bool) where
   -- the loop search finds a loop from one of the stacks
   abbrev pub SomeLoop : (AbstractStack → Type 0) → Spanned → Type 0
   SomeLoop S x = (a : AbstractStack) × S a × (loops turns (read x) a ≡ true)
 
-  -- the node itself is reported, or not, before what is inside
+  -- the node itself is reported, or not, before its operand
   abbrev pub Own : (AbstractStack → Type 0) → Span → Unary → Spanned → List Span → List Span → Type 0
   Own S t f x inside ts =
       ((is_endless f ≡ true) × (nullable x ≡ false) × SomeLoop S x × (ts ≡ t ∷ inside))
       ⊎ ((is_endless f ≡ true → nullable x ≡ false → SomeLoop S x → ⊥) × (ts ≡ inside))
 
-  -- the stacks from which what is inside is visited, and those from which the second of two parts is
+  -- the stacks from which an operand is visited, and those from which the second of two is
   abbrev pub Inside : (AbstractStack → Type 0) → Unary → Spanned → AbstractStack → Type 0
   Inside S f x b = (a : AbstractStack) × S a × In b (starts limit (read x) (copies_of f) (Some a))
 
-  abbrev pub Behind : (AbstractStack → Type 0) → Binary → Spanned → AbstractStack → Type 0
-  Behind S f x b = (a : AbstractStack) × S a × (next_after (is_choice f) (read x a) a ≡ Some b)
+  abbrev pub AfterFirst : (AbstractStack → Type 0) → Binary → Spanned → AbstractStack → Type 0
+  AfterFirst S f x b = (a : AbstractStack) × S a × (next_after (is_choice f) (read x a) a ≡ Some b)
 
-  -- the reports in a node that is visited from these stacks: each repetition once, an outer one before those
-  -- inside it
+  -- the reports in a node that is visited from these stacks, one for a repetition, an outer one before
+  -- those inside
   abbrev pub ReportedIn : (AbstractStack → Type 0) → Spanned → List Span → Type 0
   ReportedIn S (Leaf t e) ts = ts ≡ []
   ReportedIn S (One t f x) ts = (inside : List Span)
@@ -81,7 +81,7 @@ module _ (limit turns : ℕ) (read : Spanned → AbstractStack → says.Reading)
       × Own S t f x inside ts
   ReportedIn S (Two t f x y) ts = (first : List Span) × (second : List Span)
       × ReportedIn S x first
-      × ReportedIn (Behind S f x) y second
+      × ReportedIn (AfterFirst S f x) y second
       × (ts ≡ first ++ second)
 
 -- the node at a route
@@ -97,20 +97,20 @@ node_at _ _ = None
 abbrev pub KnowsNullable : Grammar → (Spanned → Bool) → Type 0
 KnowsNullable g nullable = (x : Spanned) → nullable x ≡ false → IsNullable g (without_spans x) → ⊥
 
--- the reports in the body x of a rule, where calls are followed so deep
+-- the reports in the body x of a rule, with calls followed to a depth
 abbrev pub ReportedToDepth :
     ℕ → ℕ → ℕ → (Text → Bool) → Grammar → (Spanned → Bool) → Spanned → List Span → Type 0
 ReportedToDepth depth limit turns recursive g nullable x ts =
     ReportedIn limit turns (λ y. reading_to_depth depth limit recursive g (without_spans y)) nullable
     (λ a. a ≡ entry) x ts
 
--- the same, where calls are followed as deep as there are rules
+-- the reports in the body x of a rule, with calls followed as deep as there are rules
 abbrev pub ReportedFrom : ℕ → ℕ → (Text → Bool) → Grammar → (Spanned → Bool) → Spanned → List Span → Type 0
 ReportedFrom limit turns recursive g nullable x ts =
     ReportedToDepth (length g) limit turns recursive g nullable x ts
 
--- at this place of a rule's body stands a repetition that is reported on a route, and that certainly has no
--- outcome where it is reached on that route; so what reaches it there has none
+-- the span t of a rule's body is that of a repetition that is reported on a route, and that certainly has
+-- no outcome where it is reached on that route; so a start that reaches it there has none
 pub record IsCertainAt (limit turns : ℕ) (recursive : Text → Bool) (g : Grammar) (x : Spanned) (t : Span)
     : Type 0 where
   pub route : Route

@@ -1,4 +1,4 @@
--- Where the reading goes, where matching goes, what is reported, and which reports are certain.
+-- Routes of the reading and of matching, reports, and definite reports.
 use Rattle.std.specs.Prelude.{◌≡◌, ℕ, zero, suc, List, [], ◌∷◌, replicate, length, Option, Some, None, is_some, Bool, true, ◌||◌, ⊤, ◌⊎◌}
 use Rattle.meta_base.specs.Language.Text.{Text}
 use Rattle.meta_base.specs.Language.Expression.{Expression, Ident, PosPred, NegPred, Seq, Choice, Opt, Rep, RepOnce, RepExact, RepMin, RepMax, RepMinMax, Push, RestoreOnErr, Rule, Grammar, rule_of, whitespace, comment, PushLiteral, NodeTag}
@@ -13,7 +13,7 @@ use Rattle.meta_stack_domain.specs.Reading.{Reading, reading, name_reading, trie
 abbrev pub skips_in : Grammar → Bool
 skips_in g = is_some (rule_of g whitespace) || is_some (rule_of g comment)
 
--- it takes entries off the stack
+-- the builtin takes entries off the stack
 abbrev pub TakesEntries : Builtin → Type 0
 TakesEntries (One set) = ⊥
 TakesEntries (Property n) = ⊥
@@ -48,11 +48,11 @@ module _ (g : Grammar) where
     in_tag : {e : Expression} {t : Text} → AltersStack e → AltersStack (NodeTag e t)
     in_restore : {e : Expression} → AltersStack e → AltersStack (RestoreOnErr e)
 
-  -- what is skipped changes the stack
+  -- the implicit whitespace changes the stack
   abbrev pub SkippingAltersStack : Type 0
   SkippingAltersStack = AltersStack (Ident whitespace) ⊎ AltersStack (Ident comment)
 
--- repetitions: what is repeated, and the copies that stand for it
+-- a repetition as the copies of its body
 pub record Repetition : Type 0 where
   pub body : Expression
   pub copies : List Copy
@@ -66,13 +66,13 @@ repetition (RepMax e n) = Some (record { body = e; copies = replicate n Optional
 repetition (RepMinMax e m n) = Some (record { body = e; copies = from_to_copies m n })
 repetition _ = None
 
--- what an endless repetition repeats
+-- the body of an endless repetition
 pub data Repeats : Expression → Expression → Type 0 where
   any_times : {e : Expression} → Repeats (Rep e) e
   once_or_more : {e : Expression} → Repeats (RepOnce e) e
   at_least : {e : Expression} {n : ℕ} → Repeats (RepMin e n) e
 
--- a place in a body, with the number of a turn, from 0 on, for each repetition around it
+-- a position in a body, with the number of a turn, from 0 on, for each repetition around it
 pub data Route : Type 0 where
   Here : Route
   First : Route → Route
@@ -90,19 +90,19 @@ HasTurn (Optional ∷ cs) (suc i) = HasTurn cs i
 HasTurn (Endless ∷ cs) i = ⊤
 
 -- the part at a route, on which each turn is one that its repetition has
-pub data StandsAt : Expression → Route → Expression → Type 0 where
-  to_itself : {e : Expression} → StandsAt e Here e
-  to_seq_first : {a b p : Expression} {r : Route} → StandsAt a r p → StandsAt (Seq a b) (First r) p
-  to_seq_second : {a b p : Expression} {r : Route} → StandsAt b r p → StandsAt (Seq a b) (Second r) p
-  to_choice_first : {a b p : Expression} {r : Route} → StandsAt a r p → StandsAt (Choice a b) (First r) p
-  to_choice_second : {a b p : Expression} {r : Route} → StandsAt b r p → StandsAt (Choice a b) (Second r) p
-  to_opt : {e p : Expression} {r : Route} → StandsAt e r p → StandsAt (Opt e) (Inner r) p
-  to_push : {e p : Expression} {r : Route} → StandsAt e r p → StandsAt (Push e) (Inner r) p
-  to_tag : {e p : Expression} {t : Text} {r : Route} → StandsAt e r p → StandsAt (NodeTag e t) (Inner r) p
-  to_pos_pred : {e p : Expression} {r : Route} → StandsAt e r p → StandsAt (PosPred e) (Inner r) p
-  to_neg_pred : {e p : Expression} {r : Route} → StandsAt e r p → StandsAt (NegPred e) (Inner r) p
+pub data IsPartAt : Expression → Route → Expression → Type 0 where
+  to_itself : {e : Expression} → IsPartAt e Here e
+  to_seq_first : {a b p : Expression} {r : Route} → IsPartAt a r p → IsPartAt (Seq a b) (First r) p
+  to_seq_second : {a b p : Expression} {r : Route} → IsPartAt b r p → IsPartAt (Seq a b) (Second r) p
+  to_choice_first : {a b p : Expression} {r : Route} → IsPartAt a r p → IsPartAt (Choice a b) (First r) p
+  to_choice_second : {a b p : Expression} {r : Route} → IsPartAt b r p → IsPartAt (Choice a b) (Second r) p
+  to_opt : {e p : Expression} {r : Route} → IsPartAt e r p → IsPartAt (Opt e) (Inner r) p
+  to_push : {e p : Expression} {r : Route} → IsPartAt e r p → IsPartAt (Push e) (Inner r) p
+  to_tag : {e p : Expression} {t : Text} {r : Route} → IsPartAt e r p → IsPartAt (NodeTag e t) (Inner r) p
+  to_pos_pred : {e p : Expression} {r : Route} → IsPartAt e r p → IsPartAt (PosPred e) (Inner r) p
+  to_neg_pred : {e p : Expression} {r : Route} → IsPartAt e r p → IsPartAt (NegPred e) (Inner r) p
   to_turn : {e p : Expression} {q : Repetition} {i : ℕ} {r : Route} → repetition e ≡ Some q
-      → HasTurn q.copies i → StandsAt q.body r p → StandsAt e (Turn i r) p
+      → HasTurn q.copies i → IsPartAt q.body r p → IsPartAt e (Turn i r) p
 
 -- where the reading goes on from a stack that may be impossible
 abbrev pub next : Option AbstractStack → (AbstractStack → Option AbstractStack) → Option AbstractStack
@@ -184,10 +184,10 @@ module _ (g : Grammar) (classes : Classes) (m : Mode) where
         → repetition e ≡ Some q → TurnAt q.body q.copies i s t → ReachesRoute q.body r t u
         → ReachesRoute e (Turn i r) s u
 
--- the repetition p at a route in the rule's body e is certain: it has no outcome wherever a start of the rule
--- reaches it on this route
+-- the repetition p at a route in the rule's body e is definite, without an outcome wherever a start of the
+-- rule reaches it on this route
 pub record IsCertain (g : Grammar) (e p : Expression) (r : Route) (a : AbstractStack) : Type 0 where
-  pub leads : StandsAt e r p
+  pub leads : IsPartAt e r p
   -- p repeats it, and has no greatest number
   pub body : Expression
   pub repeats : Repeats p body
@@ -207,12 +207,12 @@ pub record NeverEnds (g : Grammar) (e : Expression) (r : Route) : Type 0 where
       → rule_of g n ≡ Some x → x.body ≡ e
       → ReachesRoute g classes (body_mode x m) e r s t → Matches g classes (Ident n) m s o → ⊥
 
--- how the rules of a grammar are read, where calls are followed so deep
+-- the reading of an expression by the rules of a grammar, with calls followed to a depth
 abbrev pub reading_to_depth : ℕ → ℕ → (Text → Bool) → Grammar → Expression → AbstractStack → Reading
 reading_to_depth depth limit recursive g e a =
     reading limit (skips_in g) (name_reading limit (skips_in g) recursive g depth) e a
 
--- the same, where calls are followed as deep as there are rules
+-- the reading with calls followed as deep as there are rules
 abbrev pub reading_in : ℕ → (Text → Bool) → Grammar → Expression → AbstractStack → Reading
 reading_in limit recursive g e a = reading_to_depth (length g) limit recursive g e a
 
@@ -224,6 +224,6 @@ pub record IsReport (limit turns : ℕ) (recursive : Text → Bool) (g : Grammar
   pub not_null : IsNullable g body → ⊥
   pub not_sure : CannotFail g body → ⊥
   pub calm : SkippingAltersStack g → ⊥
-  pub leads : StandsAt e r p
+  pub leads : IsPartAt e r p
   pub visits : Visits (reading_in limit recursive g) e r entry a
   pub loops_there : loops turns (reading_in limit recursive g body) a ≡ true

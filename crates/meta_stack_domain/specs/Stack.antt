@@ -1,8 +1,8 @@
--- What is known of a stack: an abstract stack describes stacks of entries.
+-- The abstract domain: an abstract stack describes stacks of entries.
 use Rattle.std.specs.Prelude.{◌≡◌, List, [], ◌∷◌, length, Option, Some, None, Bool, true, false, ◌&&◌, ◌||◌, if◌then◌else◌, nat_eq, nat_le, ⊤, ◌⊎◌}
 use Rattle.meta_base.specs.Language.Text.{Text}
 
--- it stands in the list
+-- x is an element of the list
 abbrev pub In : {A : Type 0} → A → List A → Type 0
 In x [] = ⊥
 In x (y ∷ ys) = (x ≡ y) ⊎ In x ys
@@ -13,8 +13,8 @@ pub data Base : Type 0 where
   Blank : Base
   Any : Base
 
--- a base, and above it marks, the top entry's first: true where the entry is the empty text, false where that
--- isn't known. `intact`: what lies below the marks was not touched
+-- a base, and marks for the entries above it, the top entry's first: true if the entry is the empty text,
+-- false if that isn't known. `intact`: the entries below the marks were not touched
 pub record AbstractStack : Type 0 where
   pub base : Base
   pub marks : List Bool
@@ -25,33 +25,33 @@ abbrev pub AreBlank : List Text → Type 0
 AreBlank [] = ⊤
 AreBlank (t ∷ ts) = (t ≡ []) × AreBlank ts
 
--- what a base says of the entries below the marks
+-- a base describes the entries below the marks
 abbrev pub Below : Base → List Text → Type 0
 Below Empty [] = ⊤
 Below Empty (t ∷ ts) = ⊥
 Below Blank ts = AreBlank ts
 Below Any ts = ⊤
 
--- what a mark says of its entry
+-- a mark describes its entry
 abbrev pub Marked : Bool → Text → Type 0
 Marked true t = t ≡ []
 Marked false t = ⊤
 
--- what marks and a base say of the entries, from the top one on
+-- marks and a base describe the entries, from the top one on
 abbrev pub Above : List Bool → Base → List Text → Type 0
 Above [] b ts = Below b ts
 Above (m ∷ ms) b [] = ⊥
 Above (m ∷ ms) b (t ∷ ts) = Marked m t × Above ms b ts
 
--- the stack is one of those that are described
+-- a describes the stack ts
 abbrev pub Describes : AbstractStack → List Text → Type 0
 Describes a ts = Above a.marks a.base ts
 
--- nothing is known
+-- the greatest element, which describes all stacks
 abbrev pub unknown : AbstractStack
 unknown = record { base = Any; marks = []; intact = false }
 
--- where each rule's body begins
+-- the stack at the start of a rule's body
 abbrev pub entry : AbstractStack
 entry = record { base = Any; marks = []; intact = true }
 
@@ -59,7 +59,7 @@ entry = record { base = Any; marks = []; intact = true }
 abbrev pub some_blank : AbstractStack
 some_blank = record { base = Blank; marks = []; intact = false }
 
--- the same, as where one begins to watch what is below
+-- the stack at the point from which changes below the marks are watched
 abbrev pub made_intact : AbstractStack → AbstractStack
 made_intact a = record { base = a.base; marks = a.marks; intact = true }
 
@@ -114,12 +114,12 @@ common Empty Any = Any
 common Blank Any = Any
 common Any b = Any
 
--- an entry is known to be empty where both say so
+-- an entry is known to be empty if both marks are set
 abbrev pub both_marks : List Bool → List Bool → List Bool
 both_marks (m ∷ ms) (n ∷ ns) = (m && n) ∷ both_marks ms ns
 both_marks _ _ = []
 
--- what describes the stacks of either
+-- the join of two abstract stacks, which describes all that either describes
 abbrev pub join : AbstractStack → AbstractStack → AbstractStack
 join a b =
     if nat_eq (length a.marks) (length b.marks)
@@ -130,7 +130,7 @@ join a b =
     }
     else (if all_blank a && all_blank b then some_blank else unknown)
 
--- the same, where one of them or both may be impossible
+-- the join of two that may be impossible
 abbrev pub join_any : Option AbstractStack → Option AbstractStack → Option AbstractStack
 join_any None q = q
 join_any (Some a) None = Some a

@@ -12,19 +12,19 @@ HasFewMarks a = length a.marks ≤ 8
 abbrev pub most_stacks : ℕ
 most_stacks = 3 * 511 * 2
 
--- none of them stands twice in the list
+-- the elements of the list are distinct
 abbrev pub AreDistinct : List AbstractStack → Type 0
 AreDistinct [] = ⊤
 AreDistinct (a ∷ bs) = (In a bs → ⊥) × AreDistinct bs
 
--- from stacks with eight marks at most it leads to such stacks
+-- a step from stacks with eight marks at most leads to such stacks
 pub record KeepsFewMarks (step : AbstractStack → Reading) : Type 0 where
   pub ok : (a b : AbstractStack) → HasFewMarks a → (step a).ok ≡ Some b → HasFewMarks b
   pub err : (a b : AbstractStack) → HasFewMarks a → (step a).err ≡ Some b → HasFewMarks b
 
 module _ (step : AbstractStack → Reading) where
-  -- turns from one ok to the next, until a start comes again or there is no ok: behind those that started
-  -- from the stacks `seen`, turns start from a list of stacks, and the walk comes to another
+  -- turns from one ok to the next, until a start comes again or there is no ok; after those from the stacks
+  -- `seen`, turns start from a list of stacks, and the walk comes to another
   pub data TurnsEnd : List AbstractStack → Option AbstractStack → Walk → List AbstractStack → Walk
       → Type 0 where
     no_ok : {seen : List AbstractStack} {w : Walk} → TurnsEnd seen None w [] w

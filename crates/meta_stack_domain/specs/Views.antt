@@ -1,4 +1,4 @@
--- What the code's values say.
+-- Views of the code's values.
 use Rattle.std.specs.Prelude.{Option}
 use Rattle.std.specs.Option.{option_map}
 use Rattle.meta_stack_domain.specs.Marks.{marks_of}

@@ -1,10 +1,10 @@
-//! What is known of the stack, and what an expression may do to it: the reading by which the stack pass finds
-//! repetitions that never end.
+//! The abstract domain of the stack pass: abstract stacks, and readings, the abstract outcomes of
+//! expressions.
 #![tactic(auto)]
 
 pub mod laws;
 mod reading;
 mod stack;
 
-pub use crate::reading::{Reading, Walk, failed, joined_any};
+pub use crate::reading::{Reading, Walk, after_failure, join_any};
 pub use crate::stack::{Base, Stack};

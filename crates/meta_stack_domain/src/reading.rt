@@ -1,4 +1,4 @@
-//! What an expression does from an abstract stack.
+//! Readings: abstract outcomes of expressions from an abstract stack, and their transfer functions.
 ghost use Rattle.std.specs.Prelude.{◌≡◌, true};
 ghost use Rattle.meta_stack_domain.specs.Reading as says;
 ghost use Rattle.meta_stack_domain.specs.Stack as is;
@@ -7,8 +7,8 @@ ghost use Rattle.meta_stack_domain.specs.Views.{stack_of, possible, reading_of, 
 
 use crate::stack::{Base, Stack};
 
-/// The stack after a success and after a failure, where they are possible, and whether a success
-/// takes nothing.
+/// An abstract outcome: the stack after a success and after a failure, where they are possible, and whether
+/// a success takes nothing.
 #[derive(Clone, Copy)]
 pub struct Reading {
     pub ok: Option<Stack>,
@@ -16,7 +16,8 @@ pub struct Reading {
     pub still: bool,
 }
 
-/// How far the copies of a repetition have been followed.
+/// The progress along the copies of a repetition: the stack, if it is possible, whether a required copy may
+/// have failed, and whether nothing was taken.
 #[derive(Clone, Copy)]
 pub struct Walk {
     pub here: Option<Stack>,
@@ -24,24 +25,24 @@ pub struct Walk {
     pub still: bool,
 }
 
-/// Either stack.
-pub fn joined_any(first: Option<Stack>, second: Option<Stack>) -> Option<Stack>
+/// Returns the join of two stacks that may be impossible.
+pub fn join_any(first: Option<Stack>, second: Option<Stack>) -> Option<Stack>
     ensures { possible result ≡ is.join_any (possible first) (possible second) }
 {
     match (first, second) {
         (None, second) => second,
         (Some(first), None) => Some(first),
-        (Some(first), Some(second)) => Some(first.joined(second)),
+        (Some(first), Some(second)) => Some(first.join(second)),
     }
 }
 
-/// Where a failure goes on.
-pub fn failed(err: Option<Stack>, stack: Stack) -> Option<Stack>
+/// Returns the stack from which matching goes on after a failure: the join of those after it and before.
+pub fn after_failure(err: Option<Stack>, stack: Stack) -> Option<Stack>
     ensures { possible result ≡ is.failed (possible err) (stack_of stack) }
 {
     match err {
         None => None,
-        Some(err) => Some(err.joined(stack)),
+        Some(err) => Some(err.join(stack)),
     }
 }
 
@@ -104,7 +105,7 @@ impl Reading {
     pub fn pop_all(stack: Stack) -> Reading
         ensures { reading_of result ≡ says.pop_all_reading (stack_of stack) }
     {
-        let after = stack.emptied();
+        let after = stack.without_entries();
         if stack.is_blank() {
             Reading::surely(after)
         } else {
@@ -116,7 +117,7 @@ impl Reading {
         }
     }
 
-    /// `PEEK` and `POP`, by what is left.
+    /// Returns the reading of `PEEK` or `POP`, with the stack `left` after a success.
     pub fn top(stack: Stack, left: Stack) -> Reading
         ensures { let a = stack_of stack in
             reading_of result ≡ says.top_reading a.marks a.base (stack_of left) }
@@ -134,12 +135,12 @@ impl Reading {
         }
     }
 
-    /// `DROP`.
-    pub fn dropped(stack: Stack) -> Reading
+    /// Returns the reading of `DROP`.
+    pub fn drop_top(stack: Stack) -> Reading
         ensures { let a = stack_of stack in reading_of result ≡ says.drop_reading a.marks a.base a }
     {
         if stack.count > 0 {
-            Reading::surely(stack.popped())
+            Reading::surely(stack.without_top())
         } else if stack.base.is_empty() {
             Reading {
                 ok: None,
@@ -148,20 +149,20 @@ impl Reading {
             }
         } else {
             Reading {
-                ok: Some(stack.popped()),
+                ok: Some(stack.without_top()),
                 err: Some(stack),
                 still: true,
             }
         }
     }
 
-    pub fn pushed(self) -> Reading
+    pub fn push_match(self) -> Reading
         ensures { reading_of result ≡ says.pushed_reading (reading_of self) }
     {
         Reading {
             ok: match self.ok {
                 None => None,
-                Some(after) => Some(after.pushed(self.still)),
+                Some(after) => Some(after.with_mark(self.still)),
             },
             err: self.err,
             still: self.still,
@@ -188,7 +189,7 @@ impl Reading {
         }
     }
 
-    /// One after the other.
+    /// Returns the reading of a sequence.
     pub fn then(self, second: Reading, stack: Stack, skips: bool) -> Reading
         ensures { reading_of result
             ≡ says.seq_reading skips (stack_of stack) (reading_of self) (reading_of second) }
@@ -204,20 +205,20 @@ impl Reading {
         }
     }
 
-    /// The stack from which a second part is read: after a failure for a choice, else after a
+    /// Returns the stack from which a second operand is read: after a failure for a choice, else after a
     /// success.
     pub fn next_after(self, choice: bool, stack: Stack) -> Option<Stack>
         ensures { possible result ≡ walks.next_after choice (reading_of self) (stack_of stack) }
     {
         if choice {
-            failed(self.err, stack)
+            after_failure(self.err, stack)
         } else {
             self.ok
         }
     }
 
-    /// The stack after it, where it cannot fail and takes nothing.
-    pub fn settled(self) -> Option<Stack>
+    /// Returns the stack after an expression that cannot fail and takes nothing.
+    pub fn sure_stack(self) -> Option<Stack>
         ensures { possible result ≡ walks.settled (reading_of self) }
     {
         if self.err.is_some() || !self.still {
@@ -227,37 +228,37 @@ impl Reading {
         }
     }
 
-    /// It takes nothing where it succeeds.
+    /// Whether the expression takes nothing if it succeeds.
     pub fn stays(self) -> bool
         ensures { result ≡ says.stays (reading_of self) }
     {
         self.ok.is_none() || self.still
     }
 
-    /// One, or the other where it fails.
+    /// Returns the reading of a choice.
     pub fn or(self, second: Reading, stack: Stack) -> Reading
         ensures { reading_of result
             ≡ says.choice_reading (stack_of stack) (reading_of self) (reading_of second) }
     {
         Reading {
-            ok: joined_any(self.ok, second.ok),
-            err: failed(second.err, stack),
+            ok: join_any(self.ok, second.ok),
+            err: after_failure(second.err, stack),
             still: self.stays() && second.stays(),
         }
     }
 
-    /// Where it goes on, whether it succeeds or fails.
-    pub fn tried(self, stack: Stack) -> Option<Stack>
+    /// Returns the stack after an attempt, whether it succeeds or fails.
+    pub fn after_attempt(self, stack: Stack) -> Option<Stack>
         ensures { possible result ≡ says.tried (stack_of stack) (reading_of self) }
     {
-        joined_any(self.ok, failed(self.err, stack))
+        join_any(self.ok, after_failure(self.err, stack))
     }
 
     pub fn optional(self, stack: Stack) -> Reading
         ensures { reading_of result ≡ says.opt_reading (stack_of stack) (reading_of self) }
     {
         Reading {
-            ok: self.tried(stack),
+            ok: self.after_attempt(stack),
             err: None,
             still: self.stays(),
         }
@@ -275,7 +276,7 @@ fn is_same_option(first: Option<Stack>, second: Option<Stack>) -> bool
 }
 
 impl Walk {
-    /// Whether it is the same walk.
+    /// Whether two walks are equal.
     pub fn is_same(self, other: Walk) -> bool
         ensures { result ≡ true → walk_of self ≡ walk_of other }
     {
@@ -284,8 +285,8 @@ impl Walk {
             && self.still == other.still
     }
 
-    /// Past one copy, which is required or may fail.
-    pub fn stepped(self, reading: Reading, stack: Stack, required: bool) -> Walk
+    /// Returns the walk after one more copy, which is required or may fail.
+    pub fn after_copy(self, reading: Reading, stack: Stack, required: bool) -> Walk
         ensures { walk_of result
             ≡ walks.stepped required (stack_of stack) (reading_of reading) (walk_of self) }
     {
@@ -298,25 +299,25 @@ impl Walk {
             }
         } else {
             Walk {
-                here: reading.tried(stack),
+                here: reading.after_attempt(stack),
                 failing: self.failing,
                 still,
             }
         }
     }
 
-    /// Past one turn.
-    pub fn turned(self, reading: Reading, stack: Stack) -> Walk
+    /// Returns the walk after one more turn.
+    pub fn after_turn(self, reading: Reading, stack: Stack) -> Walk
         ensures { walk_of result ≡ walks.turned (stack_of stack) (reading_of reading) (walk_of self) }
     {
         Walk {
-            here: joined_any(self.here, failed(reading.err, stack)),
+            here: join_any(self.here, after_failure(reading.err, stack)),
             failing: self.failing,
             still: self.still && reading.stays(),
         }
     }
 
-    /// The reading of the whole repetition.
+    /// Returns the reading of the whole repetition. `alone`: nothing can be skipped inside it.
     pub fn reading(self, stack: Stack, alone: bool) -> Reading
         ensures { reading_of result ≡ walks.ended (stack_of stack) alone (walk_of self) }
     {

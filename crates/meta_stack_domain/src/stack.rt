@@ -1,8 +1,8 @@
-//! What is known of a stack.
+//! Abstract stacks, the elements of the abstract domain.
 ghost use Rattle.std.specs.Prelude.{◌≡◌, ◌≤◌, ◌<◌};
 ghost use Rattle.meta_stack_domain.specs.Marks.{room};
 
-use crate::stack::marks::{are_blank, both, pushed, same};
+use crate::stack::marks::{are_blank, both, push_mark, same};
 
 mod marks;
 
@@ -14,11 +14,11 @@ pub enum Base {
     Any,
 }
 
-/// A base, and up to eight marks above it, each of which says whether the entry is the empty text.
+/// A base, and up to eight marks for the entries above it, each set if the entry is the empty text.
 #[derive(Clone, Copy)]
 pub struct Stack {
     pub base: Base,
-    /// How many marks there are.
+    /// The number of marks.
     pub count: u8,
     /// The marks as a binary number, the top one last.
     pub marks: u16,
@@ -31,7 +31,7 @@ impl Base {
     ghost use Rattle.meta_stack_domain.specs.Stack.{common, is_any, is_empty, base_eq};
     ghost use Rattle.meta_stack_domain.specs.Views.{base_of};
 
-    fn joined(self, other: Base) -> Base
+    fn join(self, other: Base) -> Base
         ensures { base_of result ≡ common (base_of self) (base_of other) }
     {
         match self {
@@ -80,7 +80,7 @@ impl Stack {
     ghost use Rattle.meta_stack_domain.specs.Stack as is;
     ghost use Rattle.meta_stack_domain.specs.Views.{stack_of};
 
-    /// Nothing is known.
+    /// Returns the greatest element, which describes all stacks.
     pub fn unknown() -> Stack
         ensures { stack_of result ≡ is.unknown }
     {
@@ -92,7 +92,7 @@ impl Stack {
         }
     }
 
-    /// Where each rule's body begins.
+    /// Returns the stack at the start of a rule's body.
     pub fn entry() -> Stack
         ensures { stack_of result ≡ is.entry }
     {
@@ -104,7 +104,7 @@ impl Stack {
         }
     }
 
-    /// Empty texts alone, possibly none.
+    /// Returns the stack of empty texts alone, possibly none.
     fn blank() -> Stack
         ensures { stack_of result ≡ is.some_blank }
     {
@@ -134,8 +134,8 @@ impl Stack {
         are_blank(self.count, self.marks, !self.base.is_any())
     }
 
-    /// With one more mark; of eight at most.
-    pub fn pushed(self, blank: bool) -> Stack
+    /// Adds a mark; the result is unknown if there would be more than eight.
+    pub fn with_mark(self, blank: bool) -> Stack
         ensures { stack_of result ≡ is.push_mark blank (stack_of self) }
     {
         if self.count >= 8 {
@@ -144,13 +144,13 @@ impl Stack {
         Stack {
             base: self.base,
             count: self.count + 1,
-            marks: pushed(self.count, self.marks, blank),
+            marks: push_mark(self.count, self.marks, blank),
             intact: self.intact,
         }
     }
 
-    /// Without the top entry.
-    pub fn popped(self) -> Stack
+    /// Removes the top entry.
+    pub fn without_top(self) -> Stack
         ensures { stack_of result ≡ is.pop_one (stack_of self) }
     {
         if self.count > 0 {
@@ -168,8 +168,8 @@ impl Stack {
         }
     }
 
-    /// Without any entry.
-    pub fn emptied(self) -> Stack
+    /// Removes all entries.
+    pub fn without_entries(self) -> Stack
         ensures { stack_of result ≡ is.pop_all (stack_of self) }
     {
         Stack {
@@ -180,13 +180,13 @@ impl Stack {
         }
     }
 
-    /// What both describe.
-    pub fn joined(self, other: Stack) -> Stack
+    /// Returns the join, which describes all that either stack describes.
+    pub fn join(self, other: Stack) -> Stack
         ensures { stack_of result ≡ is.join (stack_of self) (stack_of other) }
     {
         if self.count == other.count {
             return Stack {
-                base: self.base.joined(other.base),
+                base: self.base.join(other.base),
                 count: self.count,
                 marks: both(self.count, self.marks, other.marks),
                 intact: self.intact && other.intact,

@@ -12,14 +12,14 @@ use Rattle.meta_stack_loops.specs.Names.{kind_in}
 use Rattle.meta_stack_loops.specs.Kinds.{AreTabled}
 use Rattle.meta_stack_loops.specs.declared.facts.Question.{Question}
 use Rattle.meta_stack_loops.specs.declared.facts.Question.TheVariants as asks
-use Rattle.meta_stack_loops.specs.declared.table.Node.{Node}
+use Rattle.meta_stack_loops.specs.declared.table.PassNode.{PassNode}
 use Rattle.meta_stack_loops.proofs.LeadingLemmas.{back_told, set_place}
 use Rattle.meta_stack_loops.proofs.Reached.{back, leads_back}
 
-abbrev pub answered : (q : Question) (ns : List Node) (roots : List ℕ) → least.AreFound (answer q roots) ns
+abbrev pub answered : (q : Question) (ns : List PassNode) (roots : List ℕ) → least.AreFound (answer q roots) ns
 answered q ns roots = least.found (answer q roots) ns
 
-module _ (rules : List ParserRule) (ns : List Node) (roots : List ℕ) (tabled : AreTabled rules (kind_in (grammar_of rules)) ns roots) where
+module _ (rules : List ParserRule) (ns : List PassNode) (roots : List ℕ) (tabled : AreTabled rules (kind_in (grammar_of rules)) ns roots) where
   abbrev back_at : ℕ → Bool
   back_at r = at_place (is_set_at (answered (asks.LeadsTo r) ns roots).flags) (slice_get roots r)
 

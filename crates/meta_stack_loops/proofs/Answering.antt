@@ -20,13 +20,13 @@ use Rattle.meta_analysis.specs.Names.{grammar_of, rule_said}
 use Rattle.meta_stack_loops.specs.Names.{kind_in, name_kind, builtin_kind}
 use Rattle.meta_analysis.specs.Nodes.{IsSimple, all_nodes}
 use Rattle.meta_stack_loops.specs.Kinds.{AreTabled, leaf_kind, text_kind, slice_kind, wrap_kind, both_kind}
-use Rattle.meta_stack_loops.specs.declared.table.Kind.TheVariants as is
-use Rattle.meta_stack_loops.specs.declared.table.Node.{Node}
+use Rattle.meta_stack_loops.specs.declared.table.NodeKind.TheVariants as is
+use Rattle.meta_stack_loops.specs.declared.table.PassNode.{PassNode}
 use Rattle.meta_stack_loops.specs.declared.facts.Question.TheVariants as asks
 use Rattle.meta_stack_loops.proofs.Builtins.{builtin_does, kind_by}
 use Rattle.meta_analysis.proofs.Resolved.{Named, absent, named, resolved, same_item}
 
-module _ (rules : List ParserRule) (ns : List Node) (roots : List ℕ) (tabled : AreTabled rules (kind_in (grammar_of rules)) ns roots) (flags : List Bool) where
+module _ (rules : List ParserRule) (ns : List PassNode) (roots : List ℕ) (tabled : AreTabled rules (kind_in (grammar_of rules)) ns roots) (flags : List Bool) where
   abbrev G : Grammar
   G = grammar_of rules
 

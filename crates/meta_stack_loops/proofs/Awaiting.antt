@@ -10,20 +10,20 @@ use Rattle.meta_stack_domain.specs.Reading.{from}
 use Rattle.meta_stack_domain.specs.Views.{reading_of, stack_of, possible}
 use Rattle.meta_stack_domain.specs.Walks.{next_after}
 use Rattle.meta_stack_loops.specs.Memory.{Meaning, IsRight, ReadsNode}
-use Rattle.meta_stack_loops.specs.Table.{IsMeaning, Inside, Called, Lies, level, nodes_of, node_reading, rank_at}
+use Rattle.meta_stack_loops.specs.Table.{IsMeaning, Inside, Called, HasOrderedOperands, level, nodes_of, node_reading, rank_at}
 use Rattle.meta_stack_loops.specs.Repeating.{most_readings}
-use Rattle.meta_stack_loops.specs.Waiting.{both_reading, whole_of, filled, Fills, IsTraced, Lead, at_hand, effort, effort_of, effort_next, effort_awaited, effort_waiting, IsLow, IsNextLow, IsAwaitedLow, AreLow, ReadsOn, IsPut}
+use Rattle.meta_stack_loops.specs.Waiting.{both_reading, whole_of, filled, Fills, IsTraced, Lead, next_reading, effort, effort_of, effort_next, effort_awaited, effort_waiting, IsLow, IsNextLow, IsAwaitedLow, AreLow, ReadsOn, IsPut}
 use Rattle.meta_stack_domain.specs.declared.reading.Reading.{Reading}
 use Rattle.meta_stack_domain.specs.declared.stack.Stack.{Stack}
 use Rattle.meta_stack_loops.specs.declared.memory.Memory.{Memory}
-use Rattle.meta_stack_loops.specs.declared.table.Kind.{Kind}
+use Rattle.meta_stack_loops.specs.declared.table.NodeKind.{NodeKind}
 use Rattle.meta_stack_loops.specs.declared.table.Table.{Table}
 use Rattle.meta_stack_loops.specs.declared.waiting.Awaited.{Awaited}
 use Rattle.meta_stack_loops.specs.declared.waiting.Awaited.TheVariants as awaits
 use Rattle.meta_stack_loops.specs.declared.waiting.How.{How}
 use Rattle.meta_stack_loops.specs.declared.waiting.How.TheVariants as how
-use Rattle.meta_stack_loops.specs.declared.waiting.Next.{Next}
-use Rattle.meta_stack_loops.specs.declared.waiting.Next.TheVariants as next
+use Rattle.meta_stack_loops.specs.declared.waiting.ReadTask.{ReadTask}
+use Rattle.meta_stack_loops.specs.declared.waiting.ReadTask.TheVariants as next
 use Rattle.meta_stack_loops.specs.declared.waiting.Waiting.{Waiting}
 use Rattle.meta_stack_loops.proofs.RankLemmas.{last_or_before}
 use Rattle.meta_stack_loops.proofs.Work.{where_ok}
@@ -118,21 +118,21 @@ done_at_once t old new node s ws r f = record {
 }
 
 -- a leaf tells its reading at once
-pub leaf_done : (t : Table) (m : Memory) (node : ℕ) (s : Stack) (ws : List Waiting) (k l : Kind) → ((meaning : Meaning) → IsMeaning t meaning → (a : AbstractStack) → meaning node a ≡ node_reading t meaning k a) → k ≡ l
+pub leaf_done : (t : Table) (m : Memory) (node : ℕ) (s : Stack) (ws : List Waiting) (k l : NodeKind) → ((meaning : Meaning) → IsMeaning t meaning → (a : AbstractStack) → meaning node a ≡ node_reading t meaning k a) → k ≡ l
     → (r : Reading) → ((meaning : Meaning) → reading_of r ≡ node_reading t meaning l (stack_of s)) → ReadsOn t m m (next.Read node s) ws ws (next.Done r)
 leaf_done t m node s ws k l means is r e = done_at_once t m m node s ws r (λ meaning h i. (i, e meaning ∙ sym (means meaning h (stack_of s) ∙ ap (λ k. node_reading t meaning k (stack_of s)) is)))
 
 -- a node waits for an operand
-pub put_on : (t : Table) (m : Memory) (node : ℕ) (s : Stack) (k l : Kind) → ((meaning : Meaning) → IsMeaning t meaning → (a : AbstractStack) → meaning node a ≡ node_reading t meaning k a) → k ≡ l
-    → (a : Awaited) (operand : ℕ) (ws vs : List Waiting) (q : Next) → ((meaning : Meaning) → filled t meaning a (stack_of s) (meaning operand (stack_of s)) ≡ node_reading t meaning l (stack_of s))
+pub put_on : (t : Table) (m : Memory) (node : ℕ) (s : Stack) (k l : NodeKind) → ((meaning : Meaning) → IsMeaning t meaning → (a : AbstractStack) → meaning node a ≡ node_reading t meaning k a) → k ≡ l
+    → (a : Awaited) (operand : ℕ) (ws vs : List Waiting) (q : ReadTask) → ((meaning : Meaning) → filled t meaning a (stack_of s) (meaning operand (stack_of s)) ≡ node_reading t meaning l (stack_of s))
     → ((meaning : Meaning) → IsTraced t meaning a (meaning operand (stack_of s))) → effort_awaited t a + effort_of t operand < effort_of t node → operand < length (nodes_of t) → level t operand < level t node → ((b : ℕ) → level t node ≤ b → IsAwaitedLow t b a)
     → IsPut ws vs node s a operand q → ReadsOn t m m (next.Read node s) ws vs q
 put_on t m node s k l means is a operand ws vs q fits none less within below low put =
     let w : Waiting = record { node = node; stack = s; awaited = a } in
-    let at : (meaning : Meaning) → meaning operand (stack_of s) ≡ at_hand meaning q = λ meaning. sym (ap (at_hand meaning) put.next) in record {
+    let at : (meaning : Meaning) → meaning operand (stack_of s) ≡ next_reading meaning q = λ meaning. sym (ap (next_reading meaning) put.next) in record {
       right = λ meaning h i whole lead. (
         i,
-        subst (λ z. Lead t meaning z whole (at_hand meaning q)) (sym put.items) (subst (Lead t meaning (ws ++ w ∷ []) whole) (at meaning)
+        subst (λ z. Lead t meaning z whole (next_reading meaning q)) (sym put.items) (subst (Lead t meaning (ws ++ w ∷ []) whole) (at meaning)
             (lead_push t meaning ws w whole (meaning operand (stack_of s)) lead (record {
               made = fits meaning ∙ sym (means meaning h (stack_of s) ∙ ap (λ k. node_reading t meaning k (stack_of s)) is);
               traced = none meaning;
@@ -145,23 +145,23 @@ put_on t m node s k l means is a operand ws vs q fits none less within below low
       );
     }
 
-pub wait_last : (t : Table) (m : Memory) (node : ℕ) (s : Stack) (k l : Kind) → ((meaning : Meaning) → IsMeaning t meaning → (a : AbstractStack) → meaning node a ≡ node_reading t meaning k a) → k ≡ l
-    → (h : How) (operand : ℕ) (ws vs : List Waiting) (q : Next) → ((meaning : Meaning) → filled t meaning (awaits.Last h) (stack_of s) (meaning operand (stack_of s)) ≡ node_reading t meaning l (stack_of s))
+pub wait_last : (t : Table) (m : Memory) (node : ℕ) (s : Stack) (k l : NodeKind) → ((meaning : Meaning) → IsMeaning t meaning → (a : AbstractStack) → meaning node a ≡ node_reading t meaning k a) → k ≡ l
+    → (h : How) (operand : ℕ) (ws vs : List Waiting) (q : ReadTask) → ((meaning : Meaning) → filled t meaning (awaits.Last h) (stack_of s) (meaning operand (stack_of s)) ≡ node_reading t meaning l (stack_of s))
     → operand < length (nodes_of t) → level t operand < level t node → IsPut ws vs node s (awaits.Last h) operand q → ReadsOn t m m (next.Read node s) ws vs q
 wait_last t m node s k l means is h operand ws vs q fits within below put =
     put_on t m node s k l means is (awaits.Last h) operand ws vs q fits (λ meaning. tt) (let e = more_effort t node operand below in omega arith) within below (λ b p. tt) put
 
 -- a node waits for its only operand, which stands inside it
-pub wait_inside : (t : Table) (m : Memory) (node : ℕ) (s : Stack) (k l : Kind) → ((meaning : Meaning) → IsMeaning t meaning → (a : AbstractStack) → meaning node a ≡ node_reading t meaning k a) → k ≡ l
-    → Lies t node k → (h : How) (operand : ℕ) → (Lies t node l → Inside t node operand)
+pub wait_inside : (t : Table) (m : Memory) (node : ℕ) (s : Stack) (k l : NodeKind) → ((meaning : Meaning) → IsMeaning t meaning → (a : AbstractStack) → meaning node a ≡ node_reading t meaning k a) → k ≡ l
+    → HasOrderedOperands t node k → (h : How) (operand : ℕ) → (HasOrderedOperands t node l → Inside t node operand)
     → ((meaning : Meaning) → filled t meaning (awaits.Last h) (stack_of s) (meaning operand (stack_of s)) ≡ node_reading t meaning l (stack_of s))
-    → (ws vs : List Waiting) (q : Result Next AllocError) → IfOk q (IsPut ws vs node s (awaits.Last h) operand) → IfOk q (ReadsOn t m m (next.Read node s) ws vs)
+    → (ws vs : List Waiting) (q : Result ReadTask AllocError) → IfOk q (IsPut ws vs node s (awaits.Last h) operand) → IfOk q (ReadsOn t m m (next.Read node s) ws vs)
 wait_inside t m node s k l means is lies h operand inside fits ws vs q =
-    let below : Inside t node operand = inside (subst (Lies t node) is lies) in
+    let below : Inside t node operand = inside (subst (HasOrderedOperands t node) is lies) in
     where_ok q (λ n put. wait_last t m node s k l means is h operand ws vs n fits below.within (level_inside t node operand below) put)
 
-pub wait_first : (t : Table) (m : Memory) (node : ℕ) (s : Stack) (k l : Kind) → ((meaning : Meaning) → IsMeaning t meaning → (a : AbstractStack) → meaning node a ≡ node_reading t meaning k a) → k ≡ l
-    → (first second : ℕ) (choice : Bool) (ws vs : List Waiting) (q : Next)
+pub wait_first : (t : Table) (m : Memory) (node : ℕ) (s : Stack) (k l : NodeKind) → ((meaning : Meaning) → IsMeaning t meaning → (a : AbstractStack) → meaning node a ≡ node_reading t meaning k a) → k ≡ l
+    → (first second : ℕ) (choice : Bool) (ws vs : List Waiting) (q : ReadTask)
     → ((meaning : Meaning) → filled t meaning (awaits.First second choice) (stack_of s) (meaning first (stack_of s)) ≡ node_reading t meaning l (stack_of s))
     → Inside t node first × Inside t node second → IsPut ws vs node s (awaits.First second choice) first q → ReadsOn t m m (next.Read node s) ws vs q
 wait_first t m node s k l means is first second choice ws vs q fits inside put =
@@ -172,9 +172,9 @@ wait_first t m node s k l means is first second choice ws vs q fits inside put =
     put_on t m node s k l means is (awaits.First second choice) first ws vs q fits (λ meaning. tt) (omega arith) inside.0.within b (λ d p. record { within = inside.1.within; low = (omega arith) }) put
 
 -- the first of two operands is read
-pub first_done : (t : Table) (m : Memory) (ws vs : List Waiting) (w : Waiting) (r : Reading) (second : ℕ) (choice : Bool) (q : Next) → w.awaited ≡ awaits.First second choice
+pub first_done : (t : Table) (m : Memory) (ws vs : List Waiting) (w : Waiting) (r : Reading) (second : ℕ) (choice : Bool) (q : ReadTask) → w.awaited ≡ awaits.First second choice
     → vs ≡ ws ++ record { node = w.node; stack = w.stack; awaited = awaits.Last (how.Both r choice) } ∷ []
-    → ((meaning : Meaning) → at_hand meaning q ≡ from (next_after choice (reading_of r) (stack_of w.stack)) (meaning second)) → effort_next t q ≤ effort_of t second → ((l : ℕ) → IsLow t l second → IsNextLow t l q)
+    → ((meaning : Meaning) → next_reading meaning q ≡ from (next_after choice (reading_of r) (stack_of w.stack)) (meaning second)) → effort_next t q ≤ effort_of t second → ((l : ℕ) → IsLow t l second → IsNextLow t l q)
     → ReadsOn t m m (next.Done r) (ws ++ w ∷ []) vs q
 first_done t m ws vs w r second choice q is items at less low =
     let v : Waiting = record { node = w.node; stack = w.stack; awaited = awaits.Last (how.Both r choice) } in
@@ -182,7 +182,7 @@ first_done t m ws vs w r second choice q is items at less low =
       right = λ meaning h i whole lead.
           let z = lead_pop t meaning ws w whole (reading_of r) lead in (
             i,
-            subst (λ y. Lead t meaning y whole (at_hand meaning q)) (sym items) (lead_push t meaning ws v whole (at_hand meaning q) z.0 (record {
+            subst (λ y. Lead t meaning y whole (next_reading meaning q)) (sym items) (lead_push t meaning ws v whole (next_reading meaning q) z.0 (record {
               made = ap (both_reading choice t.skips a (reading_of r)) (at meaning) ∙ (ap (λ x. filled t meaning x a (reading_of r)) (sym is) ∙ z.1.made);
               traced = tt;
             })),
@@ -218,8 +218,8 @@ last_done t old new ws w r q h is made keep = record {
 }
 
 -- a node is read so far
-pub record ReadSoFar (t : Table) (old now : Memory) (node : ℕ) (s : Stack) (p : Next) (ws : List Waiting) : Type 0 where
-  pub right : (meaning : Meaning) → IsMeaning t meaning → IsRight meaning old → IsRight meaning now × Lead t meaning ws (meaning node (stack_of s)) (at_hand meaning p)
+pub record ReadSoFar (t : Table) (old now : Memory) (node : ℕ) (s : Stack) (p : ReadTask) (ws : List Waiting) : Type 0 where
+  pub right : (meaning : Meaning) → IsMeaning t meaning → IsRight meaning old → IsRight meaning now × Lead t meaning ws (meaning node (stack_of s)) (next_reading meaning p)
   pub next_low : IsNextLow t (level t node) p
   pub low : AreLow t (level t node) ws
 
@@ -230,17 +230,17 @@ read_begun t m node s ws e within = record {
   low = subst (AreLow t (level t node)) (sym e) tt;
 }
 
-pub read_on : (t : Table) (old now new : Memory) (node : ℕ) (s : Stack) (p q : Next) (ws vs : List Waiting) → ReadSoFar t old now node s p ws → ReadsOn t now new p ws vs q → ReadSoFar t old new node s q vs
+pub read_on : (t : Table) (old now new : Memory) (node : ℕ) (s : Stack) (p q : ReadTask) (ws vs : List Waiting) → ReadSoFar t old now node s p ws → ReadsOn t now new p ws vs q → ReadSoFar t old new node s q vs
 read_on t old now new node s p q ws vs so on = record {
   right = λ meaning h i. let z = so.right meaning h i in on.right meaning h z.0 (meaning node (stack_of s)) z.1;
   next_low = (on.low (level t node) so.next_low so.low).0;
   low = (on.low (level t node) so.next_low so.low).1;
 }
 
-pub read_done : (t : Table) (old now : Memory) (node : ℕ) (s : Stack) (p : Next) (ws : List Waiting) (r : Reading) → ReadSoFar t old now node s p ws → p ≡ next.Done r → ws ≡ [] → ReadsNode t old now node (stack_of s) r
+pub read_done : (t : Table) (old now : Memory) (node : ℕ) (s : Stack) (p : ReadTask) (ws : List Waiting) (r : Reading) → ReadSoFar t old now node s p ws → p ≡ next.Done r → ws ≡ [] → ReadsNode t old now node (stack_of s) r
 read_done t old now node s p ws r so is none = record {
   value = λ meaning h i.
       let l = (so.right meaning h i).1 in
-      subst (λ q. at_hand meaning q ≡ meaning node (stack_of s)) is (subst (λ z. Lead t meaning z (meaning node (stack_of s)) (at_hand meaning p)) none l);
+      subst (λ q. next_reading meaning q ≡ meaning node (stack_of s)) is (subst (λ z. Lead t meaning z (meaning node (stack_of s)) (next_reading meaning p)) none l);
   kept = λ meaning h i. (so.right meaning h i).0;
 }

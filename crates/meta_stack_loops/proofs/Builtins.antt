@@ -4,11 +4,11 @@ use Rattle.std.proofs.lemmas.Slice.Eq.{bytes_eq-Decides}
 use Rattle.meta_base.specs.Language.Text.{Text}
 use Rattle.meta_base.specs.Language.Builtins.{Builtin, One, Property, Newline, Soi, Eoi, Peek, Pop, Drop, PeekAll, PopAll, builtin_of, builtins, looked_up, Named, is_one_of, property_names}
 use Rattle.meta_stack_loops.specs.Names.{builtin_kind}
-use Rattle.meta_stack_loops.specs.declared.table.Kind.{Kind}
-use Rattle.meta_stack_loops.specs.declared.table.Kind.TheVariants as is
+use Rattle.meta_stack_loops.specs.declared.table.NodeKind.{NodeKind}
+use Rattle.meta_stack_loops.specs.declared.table.NodeKind.TheVariants as is
 
 -- what a builtin does
-abbrev pub kind_by : Option Builtin → Kind
+abbrev pub kind_by : Option Builtin → NodeKind
 kind_by (Some Peek) = is.Peek
 kind_by (Some Pop) = is.Pop
 kind_by (Some Drop) = is.Drop
@@ -26,7 +26,7 @@ rest true n = refl
 rest false n = refl
 
 -- the kind that is found first in a list of builtins
-abbrev kind_in_list : List Named → Text → Kind
+abbrev kind_in_list : List Named → Text → NodeKind
 kind_in_list [] n = is.Leaf
 kind_in_list (b ∷ bs) n = if bytes_eq b.name n then kind_by (Some b.builtin) else kind_in_list bs n
 
@@ -62,20 +62,20 @@ leaf_list (b ∷ bs) n h = go (bytes_eq b.name n) (leaf_list bs n h.1)
     go true k = h.0
     go false k = k
 
-abbrev five : Bool → Bool → Bool → Bool → Bool → Kind → Kind
+abbrev five : Bool → Bool → Bool → Bool → Bool → NodeKind → NodeKind
 five a b c d e k = if a then is.Peek else (if b then is.Pop else (if c then is.Drop else (if d then is.PeekAll else (if e then is.PopAll else k))))
 
-abbrev unless : Bool → Kind → Kind
+abbrev unless : Bool → NodeKind → NodeKind
 unless b k = if b then is.Leaf else k
 
-passed : (b : Bool) (k : Kind) → (b ≡ true → k ≡ is.Leaf) → unless b k ≡ k
+passed : (b : Bool) (k : NodeKind) → (b ≡ true → k ≡ is.Leaf) → unless b k ≡ k
 passed true k h = sym (h refl)
 passed false k h = refl
 
 leaf_named : (a n : Text) → builtin_kind a ≡ is.Leaf → bytes_eq a n ≡ true → builtin_kind n ≡ is.Leaf
 leaf_named a n h e = subst (λ t. builtin_kind t ≡ is.Leaf) (same_literal a n e) h
 
-tests : (n : Text) (k : Kind) → k ≡ is.Leaf
+tests : (n : Text) (k : NodeKind) → k ≡ is.Leaf
     → five (bytes_eq (codes "PEEK") n) (bytes_eq (codes "POP") n) (bytes_eq (codes "DROP") n) (bytes_eq (codes "PEEK_ALL") n) (bytes_eq (codes "POP_ALL") n) k ≡ builtin_kind n
 tests n k h =
     ap (λ z. five z (bytes_eq (codes "POP") n) (bytes_eq (codes "DROP") n) (bytes_eq (codes "PEEK_ALL") n) (bytes_eq (codes "POP_ALL") n) k) (turned (codes "PEEK") n)

@@ -5,9 +5,9 @@ use Rattle.meta_stack_loops.specs.Answers.{at_place, changing_kind, still_kind, 
 use Rattle.meta_stack_loops.specs.Table.{called_by, parts_of}
 use Rattle.meta_stack_loops.specs.declared.facts.Question.{Question}
 use Rattle.meta_stack_loops.specs.declared.facts.Question.TheVariants as asks
-use Rattle.meta_stack_loops.specs.declared.table.Kind.{Kind}
-use Rattle.meta_stack_loops.specs.declared.table.Kind.TheVariants as is
-use Rattle.meta_stack_loops.specs.declared.table.Node.{Node}
+use Rattle.meta_stack_loops.specs.declared.table.NodeKind.{NodeKind}
+use Rattle.meta_stack_loops.specs.declared.table.NodeKind.TheVariants as is
+use Rattle.meta_stack_loops.specs.declared.table.PassNode.{PassNode}
 use Rattle.meta_stack_loops.specs.declared.table.Parts.{Parts}
 use Rattle.meta_stack_loops.specs.declared.table.Parts.TheVariants as parts
 
@@ -27,7 +27,7 @@ place_more p r f None h = h
 place_more p r f (Some j) h = f j h
 
 module _ (roots : List ℕ) (p r : ℕ → Bool) (f : (j : ℕ) → p j ≡ true → r j ≡ true) where
-  changing_more : (k : Kind) → changing_kind roots p k ≡ true → changing_kind roots r k ≡ true
+  changing_more : (k : NodeKind) → changing_kind roots p k ≡ true → changing_kind roots r k ≡ true
   changing_more (is.Call n) h = place_more p r f (slice_get roots n) h
   changing_more (is.Tag j) h = f j h
   changing_more (is.Opt j) h = f j h
@@ -36,7 +36,7 @@ module _ (roots : List ℕ) (p r : ℕ → Bool) (f : (j : ℕ) → p j ≡ true
   changing_more (is.Choice j k) h = or_more (p j) (p k) (r j) (r k) (f j) (f k) h
   changing_more _ h = h
 
-  still_more : (k : Kind) → still_kind roots p k ≡ true → still_kind roots r k ≡ true
+  still_more : (k : NodeKind) → still_kind roots p k ≡ true → still_kind roots r k ≡ true
   still_more (is.Call n) h = place_more p r f (slice_get roots n) h
   still_more (is.Push j) h = f j h
   still_more (is.Tag j) h = f j h
@@ -54,11 +54,11 @@ module _ (roots : List ℕ) (p r : ℕ → Bool) (f : (j : ℕ) → p j ≡ true
   leading_more s None ps h = part_more ps h
   leading_more s (Some q) ps h = or_more (nat_eq q s) (at_place p (slice_get roots q)) (nat_eq q s) (at_place r (slice_get roots q)) (λ e. e) (place_more p r f (slice_get roots q)) h
 
-  answer_more : (q : Question) (n : Node) → answer q roots p n ≡ true → answer q roots r n ≡ true
+  answer_more : (q : Question) (n : PassNode) → answer q roots p n ≡ true → answer q roots r n ≡ true
   answer_more asks.AltersStack n h = changing_more n.kind h
   answer_more asks.MayBeStill n h = still_more n.kind h
   answer_more (asks.LeadsTo s) n h = leading_more s (called_by n.kind) (parts_of n.kind) h
 
 -- flags that are right and closed are answers
-pub sound_answers : (q : Question) (ns : List Node) (roots : List ℕ) (flags : List Bool) → AreSound q ns roots flags → AreClosed q ns roots flags → AreAnswers q ns roots flags
+pub sound_answers : (q : Question) (ns : List PassNode) (roots : List ℕ) (flags : List Bool) → AreSound q ns roots flags → AreClosed q ns roots flags → AreAnswers q ns roots flags
 sound_answers q ns roots flags sound closed = settled (answer q roots) ns flags (λ p r f n h. answer_more roots p r f q n h) sound closed

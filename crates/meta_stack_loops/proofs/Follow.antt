@@ -9,7 +9,7 @@ use Rattle.meta_stack_loops.proofs.Counts.{times_more, times_left}
 use Rattle.std.proofs.lemmas.Option.{slice_get_within, slice_get_cases}
 use Rattle.std.proofs.lemmas.List.{length_push, map_push, reverse-append}
 use Rattle.meta_stack_loops.specs.Memory.{Meaning, IsRight}
-use Rattle.meta_stack_loops.specs.Following.{times, copy_step, seen_stacks, IsForeseen, IsRun, IsTrace, Comes}
+use Rattle.meta_stack_loops.specs.Following.{times, copy_step, seen_stacks, IsForeseen, IsRun, IsTrace, IsWalkAt}
 use Rattle.meta_stack_domain.specs.Reported.{turn_starts}
 use Rattle.meta_stack_domain.specs.Views.{stack_of, walk_of, possible}
 use Rattle.meta_stack_domain.specs.declared.stack.Stack.{Stack}
@@ -58,7 +58,7 @@ module _ (f : says.Walk → says.Walk) (w : says.Walk) where
   pub each_more : (items : List Walk) (v : Walk) (done : ℕ) → length items ≡ done → Each items → walk_of v ≡ times done f w → Each (items ++ v ∷ [])
   each_more items v done l h e j u g = elim (got_last items v j u g) [ inl i ↦ h j u i | inr p ↦ ap walk_of p.1 ∙ (e ∙ ap (λ n. times n f w) (sym l ∙ sym p.0)) ]
 
-  comes_at : (items : List Walk) (i : ℕ) → i < length items → Each items → Comes items (times i f w) i
+  comes_at : (items : List Walk) (i : ℕ) → i < length items → Each items → IsWalkAt items (times i f w) i
   comes_at items i h each = elim ((slice_get_cases items i).1) [ inl x ↦ record { walk = x.0; at = x.2; same = each i x.0 x.2 } | inr x ↦ absurd (let y = x.0 in omega arith) ]
 
   pub traced_all : (items : List Walk) (n : ℕ) → length items ≡ n → Each items → IsTrace f n w items
@@ -73,14 +73,14 @@ module _ (f : says.Walk → says.Walk) (w : says.Walk) where
     all = all;
   }
     where
-      far : (k : ℕ) → i ≤ k → (j : ℕ) × Comes items (times k f w) j
+      far : (k : ℕ) → i ≤ k → (j : ℕ) × IsWalkAt items (times k f w) j
       far k x =
           let place : ℕ = j + (k - i) % (i - j) in
           let small : (k - i) % (i - j) < i - j = omega arith in
           let found = comes_at items place (omega arith) each in
           (place, record { walk = found.walk; at = found.at; same = found.same ∙ place_back i j k h x e })
 
-      all : (k : ℕ) → k < n → (j : ℕ) × Comes items (times k f w) j
+      all : (k : ℕ) → k < n → (j : ℕ) × IsWalkAt items (times k f w) j
       all k x = elim (less_or_not k i) [ inl y ↦ (k, comes_at items k (omega arith) each) | inr y ↦ far k y ]
 
 -- one walk more
@@ -97,7 +97,7 @@ foreseen_now items w left e = record {
 }
 
 -- a walk that stood before leads on as it did there
-pub foreseen_back : (items : List Walk) (w v : Walk) (left place : ℕ) → Comes items (walk_of w) place → slice_get items (place + left % (length items - place)) ≡ Some v → IsForeseen items (walk_of w) left v
+pub foreseen_back : (items : List Walk) (w v : Walk) (left place : ℕ) → IsWalkAt items (walk_of w) place → slice_get items (place + left % (length items - place)) ≡ Some v → IsForeseen items (walk_of w) left v
 foreseen_back items w v left place found got =
     let i : ℕ = length items in
     let small : place < i = slice_get_within items place found.walk found.at in

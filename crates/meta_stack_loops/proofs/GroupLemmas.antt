@@ -6,7 +6,7 @@ use Rattle.meta_fixpoint.specs.Least.{is_set_at}
 use Rattle.meta_stack_loops.specs.Leading.{IsOperandOf, LeadsToCall, to_call, by_body, by_operand, LeadsFrom, LeadsBack, Owns, AreOwned, AreLinks, AreLed, IsOnward, owner_in, leader_in, turned}
 use Rattle.meta_stack_loops.specs.Table.{called_by, parts_of}
 use Rattle.meta_stack_loops.specs.declared.calls.Link.{Link}
-use Rattle.meta_stack_loops.specs.declared.table.Node.{Node}
+use Rattle.meta_stack_loops.specs.declared.table.PassNode.{PassNode}
 use Rattle.meta_stack_loops.specs.declared.table.Parts.{Parts}
 use Rattle.meta_fixpoint.proofs.LeastLemmas.{set_or_one}
 use Rattle.meta_stack_loops.proofs.LeadingLemmas.{call_kind}
@@ -18,7 +18,7 @@ owner_set (o ∷ os) zero r (suc j) s h = inr h
 owner_set (o ∷ os) (suc i) r zero s h = inr h
 owner_set (o ∷ os) (suc i) r (suc j) s h = elim (owner_set os i r j s h) [ inl e ↦ inl (ap suc e.0, e.1) | inr e ↦ inr e ]
 
-module _ (ns : List Node) (roots : List ℕ) where
+module _ (ns : List PassNode) (roots : List ℕ) where
   -- what a body leads to, a node that calls it leads to
   through : {i q r : ℕ} → LeadsToCall ns roots i q → LeadsFrom ns roots q r → LeadsToCall ns roots i r
   through (to_call at k) (j, root, l) = by_body at k root l
@@ -48,13 +48,13 @@ module _ (ns : List Node) (roots : List ℕ) where
   pub root_owned : (r j : ℕ) → slice_get roots r ≡ Some j → Owns ns roots r j
   root_owned r j root s l = (j, root, l)
 
-  part_owned : (r i j : ℕ) (n : Node) → slice_get ns i ≡ Some n → IsOperandOf j (parts_of n.kind) → Owns ns roots r i → Owns ns roots r j
+  part_owned : (r i j : ℕ) (n : PassNode) → slice_get ns i ≡ Some n → IsOperandOf j (parts_of n.kind) → Owns ns roots r i → Owns ns roots r j
   part_owned r i j n at o own s l = own s (by_operand at o l)
 
-  pub parts_owned : (owners : List (Option ℕ)) (i r : ℕ) (n : Node) (ps : Parts) → AreOwned ns roots owners → owner_in owners i ≡ Some r → slice_get ns i ≡ Some n → parts_of n.kind ≡ ps → (j : ℕ) → IsOperandOf j ps → Owns ns roots r j
+  pub parts_owned : (owners : List (Option ℕ)) (i r : ℕ) (n : PassNode) (ps : Parts) → AreOwned ns roots owners → owner_in owners i ≡ Some r → slice_get ns i ≡ Some n → parts_of n.kind ≡ ps → (j : ℕ) → IsOperandOf j ps → Owns ns roots r j
   parts_owned owners i r n ps all o at e j h = part_owned r i j n at (subst (IsOperandOf j) (sym e) h) (all i r o)
 
-  pub owned_link : (owners : List (Option ℕ)) (i r s : ℕ) (n : Node) → AreOwned ns roots owners → slice_get ns i ≡ Some n → owner_in owners i ≡ Some r → called_by n.kind ≡ Some s → LeadsFrom ns roots r s
+  pub owned_link : (owners : List (Option ℕ)) (i r s : ℕ) (n : PassNode) → AreOwned ns roots owners → slice_get ns i ≡ Some n → owner_in owners i ≡ Some r → called_by n.kind ≡ Some s → LeadsFrom ns roots r s
   owned_link owners i r s n all at o c = all i r o s (to_call at (call_kind n.kind s c))
 
   pub one_link : (links : List Link) (l : Link) → AreLinks ns roots links → LeadsFrom ns roots l.source l.target → AreLinks ns roots (links ++ l ∷ [])
@@ -98,11 +98,11 @@ module _ (ns : List Node) (roots : List ℕ) where
   back_by_leader leaders reached returning r down up h (inr e) = trans r (leader_in leaders r) r (up r e) (down r h)
 
 -- of so many rules those whose flag is set reach themselves
-pub record AreBack (ns : List Node) (roots : List ℕ) (count : ℕ) (flags : List Bool) : Type 0 where
+pub record AreBack (ns : List PassNode) (roots : List ℕ) (count : ℕ) (flags : List Bool) : Type 0 where
   pub told : length flags ≡ count
   pub right : (r : ℕ) → slice_get flags r ≡ Some true → LeadsBack ns roots r
 
-pub none_back : (ns : List Node) (roots : List ℕ) (flags : List Bool) → flags ≡ [] → AreBack ns roots 0 flags
+pub none_back : (ns : List PassNode) (roots : List ℕ) (flags : List Bool) → flags ≡ [] → AreBack ns roots 0 flags
 none_back ns roots flags e = record {
   told = ap length e;
   right = λ r h. (let f : slice_get [] r ≡ Some true = ap (λ bs. slice_get bs r) (sym e) ∙ h in cc);
@@ -114,7 +114,7 @@ last_flag [] b (suc r) h = cc
 last_flag (c ∷ cs) b zero h = inr h
 last_flag (c ∷ cs) b (suc r) h = elim (last_flag cs b r h) [ inl e ↦ inl (ap suc e.0, e.1) | inr e ↦ inr e ]
 
-pub one_back : (ns : List Node) (roots : List ℕ) (count : ℕ) (flags more : List Bool) (b : Bool) → AreBack ns roots count flags → (b ≡ true → LeadsBack ns roots count)
+pub one_back : (ns : List PassNode) (roots : List ℕ) (count : ℕ) (flags more : List Bool) (b : Bool) → AreBack ns roots count flags → (b ≡ true → LeadsBack ns roots count)
     → more ≡ flags ++ b ∷ [] → AreBack ns roots (count + 1) more
 one_back ns roots count flags more b all one e = record {
   told = ap length e ∙ (length_push flags b ∙ ap (λ n. n + 1) all.told);

@@ -18,11 +18,11 @@ use Rattle.meta_analysis.specs.Roots.{IsTabled}
 use Rattle.meta_analysis.specs.declared.table.Node as plain_node
 use Rattle.meta_analysis.specs.declared.table.Table as plain_table
 use Rattle.meta_stack_loops.specs.Kinds.{AreTabled, IsNode, Fits, leaf_kind, kind_of_code, node_kind}
-use Rattle.meta_stack_loops.specs.declared.table.Node.{Node}
-use Rattle.meta_stack_loops.specs.declared.table.Kind.{Kind}
+use Rattle.meta_stack_loops.specs.declared.table.PassNode.{PassNode}
+use Rattle.meta_stack_loops.specs.declared.table.NodeKind.{NodeKind}
 
 -- an expression of code that is one without operands does what that does
-pub leaf_done : (kind_of : Text → Kind) (x : ParserExpr) (d : Expression) (t at : Span) → view_at t x ≡ Leaf at d → kind_of_code kind_of x ≡ leaf_kind kind_of d
+pub leaf_done : (kind_of : Text → NodeKind) (x : ParserExpr) (d : Expression) (t at : Span) → view_at t x ≡ Leaf at d → kind_of_code kind_of x ≡ leaf_kind kind_of d
 leaf_done kind_of (code.Str s) d t at h = let e : bare.Str (text_of s) ≡ d = cc in ap (leaf_kind kind_of) e
 leaf_done kind_of (code.Insens s) d t at h = let e : bare.Insens (text_of s) ≡ d = cc in ap (leaf_kind kind_of) e
 leaf_done kind_of (code.Ident s) d t at h = let e : bare.Ident (text_of s) ≡ d = cc in ap (leaf_kind kind_of) e
@@ -44,26 +44,26 @@ leaf_done kind_of (code.PushLiteral s) d t at h = let e : bare.PushLiteral (text
 leaf_done kind_of (code.NodeTag' p e s u) d t at h = cc
 
 -- a node of the table, with what it does
-abbrev pub node_of : (Text → Kind) → plain_node.Node → Node
+abbrev pub node_of : (Text → NodeKind) → plain_node.Node → PassNode
 node_of kind_of n = record {
   kind = node_kind kind_of n.expr.now n.shape;
   rule = n.rule;
   span = n.span;
 }
 
-fits_node : (kind_of : Text → Kind) (all : List Spanned) (i : ℕ) (n : plain_node.Node) (x : Spanned) → view_at (piece_of n.span.now) n.expr.now ≡ x → shapes.IsShape all i n.shape x → Fits kind_of all i (node_kind kind_of n.expr.now n.shape) x
+fits_node : (kind_of : Text → NodeKind) (all : List Spanned) (i : ℕ) (n : plain_node.Node) (x : Spanned) → view_at (piece_of n.span.now) n.expr.now ≡ x → shapes.IsShape all i n.shape x → Fits kind_of all i (node_kind kind_of n.expr.now n.shape) x
 fits_node kind_of all i n (Leaf s e) said (simple, shape) = (simple, ap (node_kind kind_of n.expr.now) shape ∙ leaf_done kind_of n.expr.now e (piece_of n.span.now) s said)
 fits_node kind_of all i n (One s f x) said (j, next, at, shape) = (j, omega arith, at, ap (node_kind kind_of n.expr.now) shape)
 fits_node kind_of all i n (Two s f x y) said (j, l, between, next, at, at_2, shape) = (j, l, omega arith, omega arith, at, at_2, ap (node_kind kind_of n.expr.now) shape)
 
-is_node : (kind_of : Text → Kind) (all : List Spanned) (i : ℕ) (n : plain_node.Node) (x : Spanned) → shapes.IsNode all i n x → IsNode kind_of all i (node_of kind_of n) x
+is_node : (kind_of : Text → NodeKind) (all : List Spanned) (i : ℕ) (n : plain_node.Node) (x : Spanned) → shapes.IsNode all i n x → IsNode kind_of all i (node_of kind_of n) x
 is_node kind_of all i n x h = record {
   fits = fits_node kind_of all i n x h.said h.shape;
   place = sym (span_at (piece_of n.span.now) n.expr.now) ∙ ap span_of h.said;
 }
 
 -- the table of rules, with what its nodes do
-pub with_kinds : (rules : List ParserRule) (kind_of : Text → Kind) (t : plain_table.Table) (ns : List Node) → IsTabled rules t → ns ≡ map (node_of kind_of) t.nodes.items → AreTabled rules kind_of ns t.roots.items
+pub with_kinds : (rules : List ParserRule) (kind_of : Text → NodeKind) (t : plain_table.Table) (ns : List PassNode) → IsTabled rules t → ns ≡ map (node_of kind_of) t.nodes.items → AreTabled rules kind_of ns t.roots.items
 with_kinds rules kind_of t ns h e = record {
   nodes = record {
     alike = ap (λ z. length z) e ∙ (length-map t.nodes.items (node_of kind_of) ∙ h.numbered.nodes.alike);

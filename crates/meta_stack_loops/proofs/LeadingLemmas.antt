@@ -10,13 +10,13 @@ use Rattle.meta_stack_loops.specs.Leading.{IsOperandOf, LeadsToCall, to_call, by
 use Rattle.meta_stack_loops.specs.Kinds.{wrap_kind, both_kind}
 use Rattle.meta_stack_loops.specs.Table.{called_by, parts_of}
 use Rattle.meta_stack_loops.specs.declared.facts.Question.TheVariants as asks
-use Rattle.meta_stack_loops.specs.declared.table.Kind.{Kind}
-use Rattle.meta_stack_loops.specs.declared.table.Kind.TheVariants as is
-use Rattle.meta_stack_loops.specs.declared.table.Node.{Node}
+use Rattle.meta_stack_loops.specs.declared.table.NodeKind.{NodeKind}
+use Rattle.meta_stack_loops.specs.declared.table.NodeKind.TheVariants as is
+use Rattle.meta_stack_loops.specs.declared.table.PassNode.{PassNode}
 use Rattle.meta_stack_loops.specs.declared.table.Parts.{Parts}
 use Rattle.meta_stack_loops.specs.declared.table.Parts.TheVariants as parts
 
-pub call_kind : (k : Kind) (r : ℕ) → called_by k ≡ Some r → k ≡ is.Call r
+pub call_kind : (k : NodeKind) (r : ℕ) → called_by k ≡ Some r → k ≡ is.Call r
 call_kind (is.Call s) r h = cc
 call_kind is.Still r h = cc
 call_kind is.Leaf r h = cc
@@ -36,7 +36,7 @@ call_kind (is.Choice j k) r h = cc
 call_kind (is.Repeat j required optional endless) r h = cc
 
 -- a node with operands calls nothing itself
-pub no_call : (k : Kind) (j : ℕ) → IsOperandOf j (parts_of k) → called_by k ≡ None
+pub no_call : (k : NodeKind) (j : ℕ) → IsOperandOf j (parts_of k) → called_by k ≡ None
 no_call (is.Call s) j h = absurd h
 no_call is.Still j h = refl
 no_call is.Leaf j h = refl
@@ -88,8 +88,8 @@ pub both_operands : (j k : ℕ) (f : Binary) → IsOperandOf j (parts_of (both_k
 both_operands j k Seq = (inl refl, inr refl)
 both_operands j k Choice = (inl refl, inr refl)
 
-module _ (ns : List Node) (roots : List ℕ) (r : ℕ) where
-  lead_on : (p : ℕ → Bool) (i : ℕ) (n : Node) → slice_get ns i ≡ Some n → ((j : ℕ) → p j ≡ true → LeadsToCall ns roots j r) → (o : Option ℕ) → called_by n.kind ≡ o
+module _ (ns : List PassNode) (roots : List ℕ) (r : ℕ) where
+  lead_on : (p : ℕ → Bool) (i : ℕ) (n : PassNode) → slice_get ns i ≡ Some n → ((j : ℕ) → p j ≡ true → LeadsToCall ns roots j r) → (o : Option ℕ) → called_by n.kind ≡ o
       → leading roots p r o (parts_of n.kind) ≡ true → LeadsToCall ns roots i r
   lead_on p i n at g None e h = let (j, o, f) = set_part p (parts_of n.kind) h in by_operand at o (g j f)
   lead_on p i n at g (Some s) e h = elim (or_cases (nat_eq s r) (at_place p (slice_get roots s)) h) [
@@ -102,7 +102,7 @@ module _ (ns : List Node) (roots : List ℕ) (r : ℕ) where
   holds_leads (follows {i = i} {a = n} p at f g) = lead_on p i n at (λ j h. holds_leads (g j h)) (called_by n.kind) refl f
 
   module _ (flags : List Bool) (closed : AreClosed (asks.LeadsTo r) ns roots flags) where
-    by_calling : (n : Node) (o : Option ℕ) → called_by n.kind ≡ o → leading roots (is_set_at flags) r o (parts_of n.kind) ≡ true → answer (asks.LeadsTo r) roots (is_set_at flags) n ≡ true
+    by_calling : (n : PassNode) (o : Option ℕ) → called_by n.kind ≡ o → leading roots (is_set_at flags) r o (parts_of n.kind) ≡ true → answer (asks.LeadsTo r) roots (is_set_at flags) n ≡ true
     by_calling n o e h = ap (λ q. leading roots (is_set_at flags) r q (parts_of n.kind)) e ∙ h
 
     -- all that lead there are told, where the flags are closed
@@ -115,7 +115,7 @@ module _ (ns : List Node) (roots : List ℕ) (r : ℕ) where
         closed i n at (by_calling n None (no_call n.kind j o) (part_set (is_set_at flags) (parts_of n.kind) j o (leads_set l e)))
 
 -- the flag of a body tells whether its rule reaches itself
-pub back_told : (ns : List Node) (roots : List ℕ) (r : ℕ) (flags : List Bool) → AreSound (asks.LeadsTo r) ns roots flags → AreClosed (asks.LeadsTo r) ns roots flags
+pub back_told : (ns : List PassNode) (roots : List ℕ) (r : ℕ) (flags : List Bool) → AreSound (asks.LeadsTo r) ns roots flags → AreClosed (asks.LeadsTo r) ns roots flags
     → (at_place (is_set_at flags) (slice_get roots r) ≡ true) ↔ LeadsBack ns roots r
 back_told ns roots r flags sound closed = (
   (λ h. let (j, root, f) = set_place (is_set_at flags) (slice_get roots r) h in (j, root, holds_leads ns roots r (sound.right j f))),

@@ -20,12 +20,12 @@ use Rattle.meta_analysis.specs.Names.{grammar_of, rule_said}
 use Rattle.meta_stack_loops.specs.Names.{kind_in, name_kind}
 use Rattle.meta_analysis.specs.Nodes.{IsSimple, all_nodes}
 use Rattle.meta_stack_loops.specs.Kinds.{AreTabled, IsNode, leaf_kind, text_kind, slice_kind, wrap_kind, both_kind}
-use Rattle.meta_stack_loops.specs.declared.table.Node.{Node}
+use Rattle.meta_stack_loops.specs.declared.table.PassNode.{PassNode}
 use Rattle.meta_stack_loops.specs.declared.facts.Question.TheVariants as asks
 use Rattle.meta_stack_loops.proofs.Builtins.{builtin_does, kind_by}
 use Rattle.meta_analysis.proofs.Resolved.{Named, absent, named, resolved, same_item}
 
-module _ (rules : List ParserRule) (ns : List Node) (roots : List ℕ) (tabled : AreTabled rules (kind_in (grammar_of rules)) ns roots) where
+module _ (rules : List ParserRule) (ns : List PassNode) (roots : List ℕ) (tabled : AreTabled rules (kind_in (grammar_of rules)) ns roots) where
   abbrev G : Grammar
   G = grammar_of rules
 
@@ -100,7 +100,7 @@ module _ (rules : List ParserRule) (ns : List Node) (roots : List ℕ) (tabled :
   binary_changes p Seq d e i j k l h = elim (or_cases (p i) (p j) h) [ inl a ↦ in_left (k a) | inr b ↦ in_right (l b) ]
   binary_changes p Choice d e i j k l h = elim (or_cases (p i) (p j) h) [ inl a ↦ in_first (k a) | inr b ↦ in_second (l b) ]
 
-  node_changes : (p : ℕ → Bool) → Right p → (i : ℕ) (n : Node) (x : Spanned) → IsNode (kind_in G) all i n x → changing_kind roots p n.kind ≡ true → AltersStack G (without_spans x)
+  node_changes : (p : ℕ → Bool) → Right p → (i : ℕ) (n : PassNode) (x : Spanned) → IsNode (kind_in G) all i n x → changing_kind roots p n.kind ≡ true → AltersStack G (without_spans x)
   node_changes p k i n (Leaf s e) fit h = leaf_changes p k e fit.fits.0 (sym (ap (changing_kind roots p) fit.fits.1) ∙ h)
   node_changes p k i n (spanned.One s f x) fit h = unary_changes p f (without_spans x) fit.fits.0 (λ w. k fit.fits.0 w x fit.fits.2) (sym (ap (changing_kind roots p) fit.fits.3) ∙ h)
   node_changes p k i n (spanned.Two s f x y) fit h =

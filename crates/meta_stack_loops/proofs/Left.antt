@@ -8,7 +8,7 @@ use Rattle.meta_stack_domain.specs.Reported.{ReportedIn}
 use Rattle.meta_stack_loops.specs.Table.{HasParts, Inside, copies, level, nodes_of}
 use Rattle.meta_stack_loops.specs.Memory.{Meaning}
 use Rattle.meta_stack_loops.specs.Following.{seen_stacks}
-use Rattle.meta_stack_loops.specs.Visiting.{Collects, IsAfter, IsStartOf, IsReportedWhereItLoops, FindsIn, StandsFor, LeftStand, ReportedLeft, AreLeftLow, VisitsNodes, VisitsOn, effort_left}
+use Rattle.meta_stack_loops.specs.Visiting.{Collects, IsAfter, IsStartOf, IsReportedWhereItLoops, FindsIn, Represents, PendingRepresent, ReportedLeft, AreLeftLow, VisitsNodes, VisitsOn, effort_left}
 use Rattle.meta_stack_loops.specs.Waiting.{IsLow, effort_of}
 use Rattle.meta_stack_loops.specs.declared.table.Parts.TheVariants as parts
 use Rattle.meta_stack_loops.specs.declared.table.Table.{Table}
@@ -20,7 +20,7 @@ use Rattle.meta_stack_loops.proofs.Reporting.{none_reports, both_reports, inside
 
 module _ (t : Table) (meaning : Meaning) (read : Spanned → AbstractStack → says.Reading) (nullable : Spanned → Bool) where
   abbrev Stand : List Pending → List Spanned → Type 0
-  Stand vs xs = LeftStand t meaning read nullable vs xs
+  Stand vs xs = PendingRepresent t meaning read nullable vs xs
 
   abbrev Told : List Pending → List Spanned → List Span → Type 0
   Told vs xs us = ReportedLeft t meaning read nullable vs xs us
@@ -28,13 +28,13 @@ module _ (t : Table) (meaning : Meaning) (read : Spanned → AbstractStack → s
   abbrev Own : Pending → Spanned → List Span → Type 0
   Own v x ts = ReportedIn t.limit t.turns read nullable (λ a. In a (seen_stacks v.stacks.items)) x ts
 
-  stand_push : (vs : List Pending) (xs : List Spanned) (v : Pending) (x : Spanned) → Stand vs xs → StandsFor t meaning read nullable v.node x → Stand (vs ++ v ∷ []) (xs ++ x ∷ [])
+  stand_push : (vs : List Pending) (xs : List Spanned) (v : Pending) (x : Spanned) → Stand vs xs → Represents t meaning read nullable v.node x → Stand (vs ++ v ∷ []) (xs ++ x ∷ [])
   stand_push [] [] v x h s = (s, tt)
   stand_push [] (y ∷ ys) v x h s = absurd h
   stand_push (w ∷ vs) [] v x h s = absurd h
   stand_push (w ∷ vs) (y ∷ ys) v x h s = (h.0, stand_push vs ys v x h.1 s)
 
-  stand_pop : (vs : List Pending) (xs : List Spanned) (v : Pending) → Stand (vs ++ v ∷ []) xs → (ys : List Spanned) × (x : Spanned) × (xs ≡ ys ++ x ∷ []) × Stand vs ys × StandsFor t meaning read nullable v.node x
+  stand_pop : (vs : List Pending) (xs : List Spanned) (v : Pending) → Stand (vs ++ v ∷ []) xs → (ys : List Spanned) × (x : Spanned) × (xs ≡ ys ++ x ∷ []) × Stand vs ys × Represents t meaning read nullable v.node x
   stand_pop [] [] v h = absurd h
   stand_pop [] (x ∷ []) v h = ([], x, refl, tt, h.0)
   stand_pop [] (x ∷ y ∷ xs) v h = absurd h.1
@@ -103,7 +103,7 @@ visits_both t a b ws vs v w u choice found has n same inside items = record {
         let (y, z, sy, sz, all) = both_reports t v.node v.stacks.items meaning read nullable a b u.node w.node choice w.stacks.items has n h i x sx in
         let sw = stand_push t meaning read nullable ws ys w z s sz in (
           (ys ++ z ∷ []) ++ y ∷ [],
-          subst (λ l. LeftStand t meaning read nullable l ((ys ++ z ∷ []) ++ y ∷ [])) (sym items) (stand_push t meaning read nullable (ws ++ w ∷ []) (ys ++ z ∷ []) u y sw sy),
+          subst (λ l. PendingRepresent t meaning read nullable l ((ys ++ z ∷ []) ++ y ∷ [])) (sym items) (stand_push t meaning read nullable (ws ++ w ∷ []) (ys ++ z ∷ []) u y sw sy),
           λ us r.
               let (u1, rest, r1, l1, e1) = told_pop t meaning read nullable (ws ++ w ∷ []) (ys ++ z ∷ []) u y us sw (subst (λ l. ReportedLeft t meaning read nullable l ((ys ++ z ∷ []) ++ y ∷ []) us) items r) in
               let (u2, more, r2, l2, e2) = told_pop t meaning read nullable ws ys w z rest s l1 in
@@ -137,7 +137,7 @@ visits_inside t a b c ws vs v w required optional endless before after has l n i
         let (ys, x, e, s, sx) = stand_pop t meaning read nullable ws xs v st in
         let (y, sy, all) = inside_reports t v.node v.stacks.items meaning read nullable a b c w.node required optional endless w.stacks.items before after has l n h i x sx in (
           ys ++ y ∷ [],
-          subst (λ l. LeftStand t meaning read nullable l (ys ++ y ∷ [])) (sym items) (stand_push t meaning read nullable ws ys w y s sy),
+          subst (λ l. PendingRepresent t meaning read nullable l (ys ++ y ∷ [])) (sym items) (stand_push t meaning read nullable ws ys w y s sy),
           λ us r.
               let (u1, rest, r1, l1, e1) = told_pop t meaning read nullable ws ys w y us s (subst (λ l. ReportedLeft t meaning read nullable l (ys ++ y ∷ []) us) items r) in
               let (ts, own, q) = all u1 r1 in (
@@ -183,11 +183,11 @@ visited_all t old new v before after ws none p = record {
   kept = p.visits.kept;
   value = λ meaning h i read nullable x st.
       let (ys, s, f) = p.visits.value meaning h i read nullable (x ∷ []) (st, tt) in
-      go meaning read nullable x ys (subst (λ l. LeftStand t meaning read nullable l ys) none s)
+      go meaning read nullable x ys (subst (λ l. PendingRepresent t meaning read nullable l ys) none s)
       (λ us r. f us (subst (λ l. ReportedLeft t meaning read nullable l ys us) (sym none) r));
 }
   where
-    go : (meaning : Meaning) (read : Spanned → AbstractStack → says.Reading) (nullable : Spanned → Bool) (x : Spanned) (ys : List Spanned) → LeftStand t meaning read nullable [] ys
+    go : (meaning : Meaning) (read : Spanned → AbstractStack → says.Reading) (nullable : Spanned → Bool) (x : Spanned) (ys : List Spanned) → PendingRepresent t meaning read nullable [] ys
         → ((us : List Span) → ReportedLeft t meaning read nullable [] ys us → (ts : List Span) × ReportedLeft t meaning read nullable (v ∷ []) (x ∷ []) ts × (map piece_of before ++ ts ≡ map piece_of after ++ us))
         → (ts : List Span) × ReportedIn t.limit t.turns read nullable (λ a. In a (seen_stacks v.stacks.items)) x ts × (map piece_of after ≡ map piece_of before ++ ts)
     go meaning read nullable x [] s f =

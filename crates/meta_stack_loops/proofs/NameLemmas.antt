@@ -1,7 +1,7 @@
 -- Texts that are empty, and others.
 use Rattle.std.proofs.Common.{◌≡◌, ℕ, List, [], ◌∷◌, true, false, refl}
 use Rattle.meta_stack_loops.specs.Kinds.{is_empty_text, text_kind}
-use Rattle.meta_stack_loops.specs.declared.table.Kind.TheVariants as is
+use Rattle.meta_stack_loops.specs.declared.table.NodeKind.TheVariants as is
 
 pub still_text : (t : List ℕ) → is_empty_text t ≡ true → is.Still ≡ text_kind t
 still_text [] e = refl

@@ -1,11 +1,11 @@
 -- The operands of a node.
 use Rattle.std.proofs.Common.{ℕ}
-use Rattle.meta_stack_loops.specs.Table.{Lies, PartsLie, parts_of}
-use Rattle.meta_stack_loops.specs.declared.table.Kind.{Kind}
-use Rattle.meta_stack_loops.specs.declared.table.Kind.TheVariants as is
+use Rattle.meta_stack_loops.specs.Table.{HasOrderedOperands, AreOrderedParts, parts_of}
+use Rattle.meta_stack_loops.specs.declared.table.NodeKind.{NodeKind}
+use Rattle.meta_stack_loops.specs.declared.table.NodeKind.TheVariants as is
 use Rattle.meta_stack_loops.specs.declared.table.Table.{Table}
 
-pub parts_lie : (t : Table) (i : ℕ) (k : Kind) → Lies t i k → PartsLie t i (parts_of k)
+pub parts_lie : (t : Table) (i : ℕ) (k : NodeKind) → HasOrderedOperands t i k → AreOrderedParts t i (parts_of k)
 parts_lie t i (is.PosPred j) h = h
 parts_lie t i (is.NegPred j) h = h
 parts_lie t i (is.Opt j) h = h

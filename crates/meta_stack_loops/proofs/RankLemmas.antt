@@ -5,10 +5,10 @@ use Rattle.meta_fixpoint.specs.Least.{is_set_at}
 use Rattle.meta_fixpoint.proofs.FlagLists.{set_before, set_last}
 use Rattle.meta_stack_loops.specs.Leading.{IsOperandOf, LeadsToCall, to_call, by_body, by_operand, LeadsBack, rank_in, PartsFall, BodyFalls, CallFalls, AreRanked, AreCalls, AreRaised, bit}
 use Rattle.meta_stack_loops.specs.Table.{called_by, parts_of}
-use Rattle.meta_stack_loops.specs.declared.table.Node.{Node}
+use Rattle.meta_stack_loops.specs.declared.table.PassNode.{PassNode}
 use Rattle.meta_stack_loops.specs.declared.table.Parts.{Parts}
 use Rattle.meta_stack_loops.specs.declared.table.Parts.TheVariants as parts
-use Rattle.meta_stack_loops.specs.declared.table.Kind.TheVariants as is
+use Rattle.meta_stack_loops.specs.declared.table.NodeKind.TheVariants as is
 use Rattle.meta_stack_loops.proofs.LeadingLemmas.{call_kind}
 
 pub operand_falls : (ranks : List ℕ) (i : ℕ) (ps : Parts) → PartsFall ranks i ps → (j : ℕ) → IsOperandOf j ps → rank_in ranks j ≤ rank_in ranks i
@@ -21,8 +21,8 @@ off_or_on : (b : Bool) → (b ≡ true) ⊎ (b ≡ false)
 off_or_on true = inl refl
 off_or_on false = inr refl
 
-module _ (ns : List Node) (roots : List ℕ) (recursive : List Bool) (ranks : List ℕ) (ranked : AreRanked ns roots recursive ranks) where
-  pub body_falls : (i : ℕ) (n : Node) (r j : ℕ) → slice_get ns i ≡ Some n → n.kind ≡ is.Call r → slice_get roots r ≡ Some j → BodyFalls roots recursive ranks i r j
+module _ (ns : List PassNode) (roots : List ℕ) (recursive : List Bool) (ranks : List ℕ) (ranked : AreRanked ns roots recursive ranks) where
+  pub body_falls : (i : ℕ) (n : PassNode) (r j : ℕ) → slice_get ns i ≡ Some n → n.kind ≡ is.Call r → slice_get roots r ≡ Some j → BodyFalls roots recursive ranks i r j
   body_falls i n r j at k root = subst (CallFalls roots recursive ranks i) (ap called_by k) (ranked i n at).call j root
 
   -- where calls of a rule are followed, its body has a lower rank than what leads to it
@@ -55,11 +55,11 @@ less_or_not zero (suc n) = inl (omega arith)
 less_or_not (suc m) (suc n) = elim (less_or_not m n) [ inl a ↦ inl (omega arith) | inr b ↦ inr (omega arith) ]
 
 -- whatever rule one node leads to, the other one leads to
-abbrev Below : List Node → List ℕ → ℕ → ℕ → Type 0
+abbrev Below : List PassNode → List ℕ → ℕ → ℕ → Type 0
 Below ns roots j i = (s : ℕ) → LeadsToCall ns roots j s → LeadsToCall ns roots i s
 
 -- some rules have been sought
-pub record AreSought (ns : List Node) (roots : List ℕ) (count : ℕ) (recursive : List Bool) (ranks : List ℕ) : Type 0 where
+pub record AreSought (ns : List PassNode) (roots : List ℕ) (count : ℕ) (recursive : List Bool) (ranks : List ℕ) : Type 0 where
   pub told : length recursive ≡ count
   pub right : (r : ℕ) → r < count → (is_set_at recursive r ≡ true) ↔ LeadsBack ns roots r
   pub alike : length ranks ≡ length ns
@@ -72,7 +72,7 @@ rank_zero zero i = refl
 rank_zero (suc n) zero = refl
 rank_zero (suc n) (suc i) = rank_zero n i
 
-pub none_sought : (ns : List Node) (roots : List ℕ) (recursive : List Bool) (ranks : List ℕ) → recursive ≡ [] → ranks ≡ replicate (length ns) 0 → length ranks ≡ length ns → AreSought ns roots 0 recursive ranks
+pub none_sought : (ns : List PassNode) (roots : List ℕ) (recursive : List Bool) (ranks : List ℕ) → recursive ≡ [] → ranks ≡ replicate (length ns) 0 → length ranks ≡ length ns → AreSought ns roots 0 recursive ranks
 none_sought ns roots recursive ranks e f l = record {
   told = ap length e;
   right = λ r h. absurd (omega arith);
@@ -103,7 +103,7 @@ last_or_before zero (suc n) h = inl (omega arith)
 last_or_before (suc r) (suc n) h = elim (last_or_before r n (omega arith)) [ inl a ↦ inl (omega arith) | inr b ↦ inr (ap suc b) ]
 
 -- one rule more was sought
-pub one_sought : (ns : List Node) (roots : List ℕ) (count : ℕ) (recursive more : List Bool) (ranks raised : List ℕ) (flags : List Bool) (b : Bool) → AreSought ns roots count recursive ranks
+pub one_sought : (ns : List PassNode) (roots : List ℕ) (count : ℕ) (recursive more : List Bool) (ranks raised : List ℕ) (flags : List Bool) (b : Bool) → AreSought ns roots count recursive ranks
     → more ≡ recursive ++ b ∷ [] → length more ≡ count + 1 → (b ≡ true) ↔ LeadsBack ns roots count → AreRaised ranks flags raised → length flags ≡ length ns
     → ((i : ℕ) → is_set_at flags i ≡ true → LeadsToCall ns roots i count) → ((i : ℕ) → LeadsToCall ns roots i count → is_set_at flags i ≡ true) → AreSought ns roots (count + 1) more raised
 one_sought ns roots count recursive more ranks raised flags b s e len exact up l sound complete = record {
@@ -129,7 +129,7 @@ one_sought ns roots count recursive more ranks raised flags b s e len exact up l
     more_bits i j h = bit_more (is_set_at flags j) (is_set_at flags i) (λ g. complete i (h count (sound j g)))
 
 -- all rules have been sought
-pub all_sought : (ns : List Node) (roots : List ℕ) (recursive : List Bool) (ranks : List ℕ) → AreSought ns roots (length roots) recursive ranks → AreCalls ns roots recursive ranks
+pub all_sought : (ns : List PassNode) (roots : List ℕ) (recursive : List Bool) (ranks : List ℕ) → AreSought ns roots (length roots) recursive ranks → AreCalls ns roots recursive ranks
 all_sought ns roots recursive ranks s = record {
   exact = λ r. (
     (λ h. elim (less_or_not r (length roots)) [ inl w ↦ (s.right r w).0 h | inr w ↦ absurd (none_past r w h) ]),
@@ -150,7 +150,7 @@ all_sought ns roots recursive ranks s = record {
     operands i (parts.Inside j required optional endless) f = f j refl
     operands i (parts.Both j k choice) f = (f j (inl refl), f k (inr refl))
 
-    call : (i : ℕ) (n : Node) → slice_get ns i ≡ Some n → (o : Option ℕ) → called_by n.kind ≡ o → CallFalls roots recursive ranks i o
+    call : (i : ℕ) (n : PassNode) → slice_get ns i ≡ Some n → (o : Option ℕ) → called_by n.kind ≡ o → CallFalls roots recursive ranks i o
     call i n at None e = tt
     call i n at (Some r) e = λ j root.
         let inner : Below ns roots j i = λ q l. by_body at (call_kind n.kind r e) root l in record {

@@ -23,8 +23,8 @@ use Rattle.meta_analysis.specs.Nodes.{IsSimple, all_nodes}
 use Rattle.meta_stack_loops.specs.Kinds.{AreTabled, Fits, leaf_kind, text_kind, slice_kind, wrap_kind, both_kind}
 use Rattle.meta_stack_loops.specs.Table.{called_by, nodes_of, parts_of}
 use Rattle.meta_stack_loops.specs.Told.{is_flagged}
-use Rattle.meta_stack_loops.specs.declared.table.Kind.TheVariants as is
-use Rattle.meta_stack_loops.specs.declared.table.Node.{Node}
+use Rattle.meta_stack_loops.specs.declared.table.NodeKind.TheVariants as is
+use Rattle.meta_stack_loops.specs.declared.table.PassNode.{PassNode}
 use Rattle.meta_stack_loops.specs.declared.table.Table.{Table}
 use Rattle.meta_stack_loops.proofs.Builtins.{builtin_does, kind_by}
 use Rattle.meta_stack_loops.proofs.LeadingLemmas.{both_operands, set_place, wrap_operand}
@@ -146,7 +146,7 @@ up_second Seq d e c p = of_seq_right p
 up_second Choice d e c p = of_choice_right p
 
 -- 4. the table of rules
-module _ (rules : List ParserRule) (ns : List Node) (roots : List ℕ) (tabled : AreTabled rules (kind_in (grammar_of rules)) ns roots) where
+module _ (rules : List ParserRule) (ns : List PassNode) (roots : List ℕ) (tabled : AreTabled rules (kind_in (grammar_of rules)) ns roots) where
   abbrev G : Grammar
   G = grammar_of rules
 
@@ -161,7 +161,7 @@ module _ (rules : List ParserRule) (ns : List Node) (roots : List ℕ) (tabled :
   abbrev Found : Expression → ℕ → Type 0
   Found e s = (c : Text) × Part e (Ident c) × Ends c s
 
-  fits_at : (i : ℕ) (n : Node) (x : Spanned) → slice_get ns i ≡ Some n → slice_get all i ≡ Some x → Fits (kind_in G) all i n.kind x
+  fits_at : (i : ℕ) (n : PassNode) (x : Spanned) → slice_get ns i ≡ Some n → slice_get all i ≡ Some x → Fits (kind_in G) all i n.kind x
   fits_at i n x at here =
       let (m, is, fit) = tabled.nodes.fit i x here in
       subst (λ z. Fits (kind_in G) all i z.kind x) (same_item (slice_get ns i) m n is at) fit.fits
@@ -176,7 +176,7 @@ module _ (rules : List ParserRule) (ns : List Node) (roots : List ℕ) (tabled :
   leaf_call _ r s h = absurd s
 
   -- a node that calls a rule is a name
-  node_call : (i r : ℕ) (n : Node) (x : Spanned) → slice_get ns i ≡ Some n → n.kind ≡ is.Call r → slice_get all i ≡ Some x → (c : Text) × (without_spans x ≡ Ident c) × (last_place G c ≡ Some r)
+  node_call : (i r : ℕ) (n : PassNode) (x : Spanned) → slice_get ns i ≡ Some n → n.kind ≡ is.Call r → slice_get all i ≡ Some x → (c : Text) × (without_spans x ≡ Ident c) × (last_place G c ≡ Some r)
   node_call i r n (Leaf s e) at k here = let f = fits_at i n (Leaf s e) at here in leaf_call e r f.0 (ap called_by (sym f.1 ∙ k))
   node_call i r n (spanned.One s g x) at k here =
       let f = fits_at i n (spanned.One s g x) at here in absurd (not_called _ r (wrap_called g f.0) (ap called_by (sym f.3 ∙ k)))
@@ -219,7 +219,7 @@ module _ (rules : List ParserRule) (ns : List Node) (roots : List ℕ) (tabled :
 
   -- what leads on from the name that is called in an expression leads on from its node
   reach : (x : Spanned) (i : ℕ) → slice_get all i ≡ Some x → (c : Text) → Part (without_spans x) (Ident c) → (s : ℕ)
-      → ((k : ℕ) (n : Node) → slice_get ns k ≡ Some n → n.kind ≡ name_kind c (last_place G c) → LeadsToCall ns roots k s) → LeadsToCall ns roots i s
+      → ((k : ℕ) (n : PassNode) → slice_get ns k ≡ Some n → n.kind ≡ name_kind c (last_place G c) → LeadsToCall ns roots k s) → LeadsToCall ns roots i s
   reach (Leaf t e) i here c p s f =
       let (n, at, fit) = tabled.nodes.fit i (Leaf t e) here in
       f i n at (fit.fits.1 ∙ ap (leaf_kind (kind_in G)) (simple_part e c fit.fits.0 p))
@@ -252,7 +252,7 @@ module _ (rules : List ParserRule) (ns : List Node) (roots : List ℕ) (tabled :
   LeadsFrom r s = (j : ℕ) × (slice_get roots r ≡ Some j) × LeadsToCall ns roots j s
 
   from_body : (n c : Text) (q : Rule) (r s : ℕ) → rule_of G n ≡ Some q → last_place G n ≡ Some r → Part q.body (Ident c)
-      → ((k : ℕ) (m : Node) → slice_get ns k ≡ Some m → m.kind ≡ name_kind c (last_place G c) → LeadsToCall ns roots k s) → LeadsFrom r s
+      → ((k : ℕ) (m : PassNode) → slice_get ns k ≡ Some m → m.kind ≡ name_kind c (last_place G c) → LeadsToCall ns roots k s) → LeadsFrom r s
   from_body n c q r s e l p f = go (subst (Named rules n) l (resolved rules n))
     where
       go : Named rules n (Some r) → LeadsFrom r s

@@ -12,26 +12,26 @@ use Rattle.meta_stack_loops.specs.Memory.{Meaning}
 use Rattle.meta_stack_loops.specs.Following.{IsForeseen, IsRun, copy_step, seen_stacks, times}
 use Rattle.meta_stack_loops.specs.Repeating.{CopiesLead, HasTrace, TurnsLead, copied_reading, copies_left, most_readings, turned_reading}
 use Rattle.meta_stack_loops.specs.Table.{IsMeaning, Inside, copies, node_reading}
-use Rattle.meta_stack_loops.specs.Waiting.{AreLow, AwaitsCopy, EndsWith, Fills, GoesOn, IsAwaitedLow, IsLow, IsNextLow, Lead, ReadsOn, Resumes, at_hand, effort_awaited, effort_next, effort_of, effort_times, effort_waiting}
+use Rattle.meta_stack_loops.specs.Waiting.{AreLow, AwaitsCopy, EndsWith, Fills, GoesOn, IsAwaitedLow, IsLow, IsNextLow, Lead, ReadsOn, Resumes, next_reading, effort_awaited, effort_next, effort_of, effort_times, effort_waiting}
 use Rattle.meta_stack_domain.specs.declared.reading.Reading.{Reading}
 use Rattle.meta_stack_domain.specs.declared.reading.Walk.{Walk}
 use Rattle.meta_stack_domain.specs.declared.stack.Stack.{Stack}
 use Rattle.meta_stack_loops.specs.declared.copies.Copies.{Copies}
 use Rattle.meta_stack_loops.specs.declared.copies.Turns.{Turns}
 use Rattle.meta_stack_loops.specs.declared.memory.Memory.{Memory}
-use Rattle.meta_stack_loops.specs.declared.table.Kind.{Kind}
+use Rattle.meta_stack_loops.specs.declared.table.NodeKind.{NodeKind}
 use Rattle.meta_stack_loops.specs.declared.table.Table.{Table}
 use Rattle.meta_stack_loops.specs.declared.waiting.Awaited.{Awaited}
 use Rattle.meta_stack_loops.specs.declared.waiting.Awaited.TheVariants as awaits
-use Rattle.meta_stack_loops.specs.declared.waiting.Next.{Next}
-use Rattle.meta_stack_loops.specs.declared.waiting.Next.TheVariants as next
+use Rattle.meta_stack_loops.specs.declared.waiting.ReadTask.{ReadTask}
+use Rattle.meta_stack_loops.specs.declared.waiting.ReadTask.TheVariants as next
 use Rattle.meta_stack_loops.specs.declared.waiting.Waiting.{Waiting}
 use Rattle.meta_stack_loops.proofs.Awaiting.{all_effort, effort_push, lead_pop, lead_push, level_inside, low_pop, low_push}
 use Rattle.meta_stack_loops.proofs.Counts.{walk_both, walk_times}
 use Rattle.meta_stack_loops.proofs.Follow.{over_value, run_more, seen_more, step_value, turns_again, turns_none, turns_on}
 
 -- what is known more tells what is known less
-pub goes_on_by : (t : Table) (old new : Memory) (node : ℕ) (s : Stack) (P Q : Meaning → Type 0) (body m n : ℕ) (ws vs : List Waiting) (q : Next) → ((meaning : Meaning) → P meaning → Q meaning) → m ≤ n
+pub goes_on_by : (t : Table) (old new : Memory) (node : ℕ) (s : Stack) (P Q : Meaning → Type 0) (body m n : ℕ) (ws vs : List Waiting) (q : ReadTask) → ((meaning : Meaning) → P meaning → Q meaning) → m ≤ n
     → GoesOn t old new node s Q body m ws vs q → GoesOn t old new node s P body n ws vs q
 goes_on_by t old new node s P Q body m n ws vs q f l g = record {
   right = λ meaning h i k whole lead. g.right meaning h i (f meaning k) whole lead;
@@ -40,7 +40,7 @@ goes_on_by t old new node s P Q body m n ws vs q f l g = record {
 }
 
 -- a repetition goes on with fewer copies
-pub copies_go_on : (t : Table) (old new : Memory) (node : ℕ) (s : Stack) (P : Meaning → Type 0) (c d : Copies) (ws vs : List Waiting) (q : Next) → ((meaning : Meaning) → P meaning → CopiesLead t meaning d (stack_of s) (meaning node (stack_of s)))
+pub copies_go_on : (t : Table) (old new : Memory) (node : ℕ) (s : Stack) (P : Meaning → Type 0) (c d : Copies) (ws vs : List Waiting) (q : ReadTask) → ((meaning : Meaning) → P meaning → CopiesLead t meaning d (stack_of s) (meaning node (stack_of s)))
     → (d.body ≡ c.body) × (copies_left t d ≤ copies_left t c) → GoesOn t old new node s (λ meaning. CopiesLead t meaning d (stack_of s) (meaning node (stack_of s))) d.body (copies_left t d) ws vs q
     → GoesOn t old new node s P c.body (copies_left t c) ws vs q
 copies_go_on t old new node s P c d ws vs q f l g =
@@ -48,18 +48,18 @@ copies_go_on t old new node s P c d ws vs q f l g =
     goes_on_by t old new node s P Q c.body (copies_left t d) (copies_left t c) ws vs q f l.1 (subst (λ b. GoesOn t old new node s Q b (copies_left t d) ws vs q) l.0 g)
 
 -- the reading of a repetition is there
-pub goes_on_ended : (t : Table) (old new : Memory) (node : ℕ) (s : Stack) (P : Meaning → Type 0) (body n : ℕ) (ws : List Waiting) (q : Next) (alone : Bool) (w : says.Walk)
+pub goes_on_ended : (t : Table) (old new : Memory) (node : ℕ) (s : Stack) (P : Meaning → Type 0) (body n : ℕ) (ws : List Waiting) (q : ReadTask) (alone : Bool) (w : says.Walk)
     → ((meaning : Meaning) → P meaning → ended (stack_of s) alone w ≡ meaning node (stack_of s)) → EndsWith old new node s alone w q → GoesOn t old new node s P body n ws ws q
 goes_on_ended t old new node s P body n ws q alone w f d = record {
   right = λ meaning h i k whole lead.
       let e : reading_of d.reading ≡ meaning node (stack_of s) = d.value ∙ f meaning k in
-      (d.kept meaning i e, subst (λ p. Lead t meaning ws whole (at_hand meaning p)) (sym d.next) (subst (Lead t meaning ws whole) (sym e) lead));
+      (d.kept meaning i e, subst (λ p. Lead t meaning ws whole (next_reading meaning p)) (sym d.next) (subst (Lead t meaning ws whole) (sym e) lead));
   less = let e = ap (effort_next t) d.next in omega arith;
   low = λ l b a. (subst (IsNextLow t l) (sym d.next) tt, a);
 }
 
 -- what is repeated is read once more
-goes_on_again : (t : Table) (m : Memory) (node : ℕ) (s : Stack) (P : Meaning → Type 0) (body n k : ℕ) (a : Awaited) (from : Stack) (ws vs : List Waiting) (q : Next)
+goes_on_again : (t : Table) (m : Memory) (node : ℕ) (s : Stack) (P : Meaning → Type 0) (body n k : ℕ) (a : Awaited) (from : Stack) (ws vs : List Waiting) (q : ReadTask)
     → ((meaning : Meaning) → P meaning → Fills t meaning a (stack_of s) (meaning body (stack_of from)) (meaning node (stack_of s)))
     → effort_awaited t a ≡ 1 + effort_times t body k → n ≡ suc k → ((l : ℕ) → IsLow t l body → IsAwaitedLow t l a)
     → (let w : Waiting = record { node = node; stack = s; awaited = a } in vs ≡ ws ++ w ∷ []) → q ≡ next.Read body from → GoesOn t m m node s P body n ws vs q
@@ -67,8 +67,8 @@ goes_on_again t m node s P body n k a from ws vs q fills effort more low items i
     let w : Waiting = record { node = node; stack = s; awaited = a } in record {
       right = λ meaning h i p whole lead. (
         i,
-        subst (λ z. Lead t meaning z whole (at_hand meaning q)) (sym items)
-            (subst (λ p. Lead t meaning (ws ++ w ∷ []) whole (at_hand meaning p)) (sym is) (lead_push t meaning ws w whole (meaning body (stack_of from)) lead (fills meaning p))),
+        subst (λ z. Lead t meaning z whole (next_reading meaning q)) (sym items)
+            (subst (λ p. Lead t meaning (ws ++ w ∷ []) whole (next_reading meaning p)) (sym is) (lead_push t meaning ws w whole (meaning body (stack_of from)) lead (fills meaning p))),
       );
       less =
           let e = ap (effort_next t) is in
@@ -122,7 +122,7 @@ copies_begin t meaning c a whole none made = record {
 }
 
 -- a repetition waits for a copy
-module _ (t : Table) (m : Memory) (node : ℕ) (s : Stack) (c d : Copies) (required : Bool) (from : Stack) (ws vs : List Waiting) (q : Next) where
+module _ (t : Table) (m : Memory) (node : ℕ) (s : Stack) (c d : Copies) (required : Bool) (from : Stack) (ws vs : List Waiting) (q : ReadTask) where
   copy_waits : ((meaning : Meaning) (e : Copies) → e ≡ record d { trace = e.trace } → e.trace.items ≡ d.trace.items ++ d.walk ∷ [] → CopiesLead t meaning c (stack_of s) (meaning node (stack_of s))
       → Fills t meaning (awaits.Copy (record d { trace = e.trace }) required from) (stack_of s) (meaning d.body (stack_of from)) (meaning node (stack_of s)))
       → copies_left t c ≡ suc (copies_left t d) → AwaitsCopy ws vs node s d required from q
@@ -133,7 +133,7 @@ module _ (t : Table) (m : Memory) (node : ℕ) (s : Stack) (c d : Copies) (requi
       (λ meaning k. subst (λ x. Fills t meaning (awaits.Copy x required from) (stack_of s) (meaning d.body (stack_of from)) (meaning node (stack_of s))) (sym put.same) (fills meaning e put.same put.trace k))
       (ap (λ x. 1 + effort_times t x.body (copies_left t x)) put.same) more (λ l b. subst (λ x. IsLow t l x.body) (sym put.same) b) put.items put.next
 
-module _ (t : Table) (m : Memory) (node : ℕ) (s : Stack) (c : Copies) (from : Stack) (ws vs : List Waiting) (q : Next) where
+module _ (t : Table) (m : Memory) (node : ℕ) (s : Stack) (c : Copies) (from : Stack) (ws vs : List Waiting) (q : ReadTask) where
   abbrev fewer_required : Copies
   fewer_required = record c { required = c.required - 1 }
 
@@ -212,7 +212,7 @@ turns_come_again t meaning u a b q whole some here again k =
     sym (ap (ended a u.alone) (ap (λ p. turns t.limit (meaning u.body) u.left (reverse (seen_stacks u.seen.items)) p (walk_of u.walk)) here ∙ turns_again t.limit (meaning u.body) u.left (reverse (seen_stacks u.seen.items)) b (walk_of u.walk) some again)) ∙ k
 
 -- a repetition waits for a turn
-pub turn_waits : (t : Table) (m : Memory) (node : ℕ) (s : Stack) (u v : Turns) (from : Stack) (p : Option AbstractStack) (ws vs : List Waiting) (q : Next) → p ≡ Some (stack_of from) → 0 < u.left
+pub turn_waits : (t : Table) (m : Memory) (node : ℕ) (s : Stack) (u v : Turns) (from : Stack) (p : Option AbstractStack) (ws vs : List Waiting) (q : ReadTask) → p ≡ Some (stack_of from) → 0 < u.left
     → is_among (reverse (seen_stacks u.seen.items)) (stack_of from) ≡ false → v ≡ record u { left = u.left - 1; seen = v.seen } → v.seen.items ≡ u.seen.items ++ from ∷ []
     → (let w : Waiting = record { node = node; stack = s; awaited = awaits.Turn v from } in vs ≡ ws ++ w ∷ []) → q ≡ next.Read u.body from
     → GoesOn t m m node s (λ meaning. TurnsLead t meaning u (stack_of s) p (meaning node (stack_of s))) u.body u.left ws vs q
@@ -294,7 +294,7 @@ fewer_left t c d e false v behind past =
     (ap (λ (k : Copies). k.body) past ∙ ap (λ (k : Copies). k.body) behind, omega arith)
 
 -- the reading is there that a repetition waited for
-pub resumed : (t : Table) (old new : Memory) (ws vs : List Waiting) (w : Waiting) (r : Reading) (a : Awaited) (body n : ℕ) (q : Next) → w.awaited ≡ a → effort_awaited t a ≡ 1 + effort_times t body n
+pub resumed : (t : Table) (old new : Memory) (ws vs : List Waiting) (w : Waiting) (r : Reading) (a : Awaited) (body n : ℕ) (q : ReadTask) → w.awaited ≡ a → effort_awaited t a ≡ 1 + effort_times t body n
     → ((l : ℕ) → IsAwaitedLow t l a → IsLow t l body) → Resumes t old new w.node w.stack a r body n ws vs q → ReadsOn t old new (next.Done r) (ws ++ w ∷ []) vs q
 resumed t old new ws vs w r a body n q is effort low g = record {
   right = λ meaning h i whole lead.
@@ -305,8 +305,8 @@ resumed t old new ws vs w r a body n q is effort low g = record {
 }
 
 -- a repetition begins
-pub repeat_begun : (t : Table) (old new : Memory) (node : ℕ) (s : Stack) (k l : Kind) → ((meaning : Meaning) → IsMeaning t meaning → (a : AbstractStack) → meaning node a ≡ node_reading t meaning k a) → k ≡ l
-    → (body : ℕ) (c : Copies) (ws vs : List Waiting) (q : Next) → Inside t node body → c.body ≡ body → c.trace.items ≡ [] → copies_left t c ≤ most_readings t
+pub repeat_begun : (t : Table) (old new : Memory) (node : ℕ) (s : Stack) (k l : NodeKind) → ((meaning : Meaning) → IsMeaning t meaning → (a : AbstractStack) → meaning node a ≡ node_reading t meaning k a) → k ≡ l
+    → (body : ℕ) (c : Copies) (ws vs : List Waiting) (q : ReadTask) → Inside t node body → c.body ≡ body → c.trace.items ≡ [] → copies_left t c ≤ most_readings t
     → ((meaning : Meaning) → copied_reading t meaning c (stack_of s) (walk_of c.walk) ≡ node_reading t meaning l (stack_of s))
     → GoesOn t old new node s (λ meaning. CopiesLead t meaning c (stack_of s) (meaning node (stack_of s))) c.body (copies_left t c) ws vs q → ReadsOn t old new (next.Read node s) ws vs q
 repeat_begun t old new node s k l means is body c ws vs q inside same none few all g =

@@ -12,9 +12,9 @@ use Rattle.meta_stack_domain.specs.Reported.{starts, copies_of, is_endless, is_c
 use Rattle.meta_stack_loops.specs.Table.{IsMeaning, HasParts, copies, nodes_of, parts_of}
 use Rattle.meta_stack_loops.specs.Memory.{Meaning, IsRight}
 use Rattle.meta_stack_loops.specs.Following.{seen_stacks}
-use Rattle.meta_stack_loops.specs.Visiting.{Collects, IsAfter, IsStartOf, IsReportedWhereItLoops, SomeLoops, StandsFor}
+use Rattle.meta_stack_loops.specs.Visiting.{Collects, IsAfter, IsStartOf, IsReportedWhereItLoops, SomeLoops, Represents}
 use Rattle.meta_stack_domain.specs.declared.stack.Stack.{Stack}
-use Rattle.meta_stack_loops.specs.declared.table.Node.{Node}
+use Rattle.meta_stack_loops.specs.declared.table.PassNode.{PassNode}
 use Rattle.meta_stack_loops.specs.declared.table.Parts.{Parts}
 use Rattle.meta_stack_loops.specs.declared.table.Parts.TheVariants as parts
 use Rattle.meta_stack_loops.specs.declared.table.Table.{Table}
@@ -36,21 +36,21 @@ module _ (limit turns : ℕ) (read : Spanned → AbstractStack → says.Reading)
   told_otherwise (Two t k x y) S T ts f g (us, vs, r, q, e) =
       (us, vs, told_otherwise x S T us f g r, told_otherwise y _ _ vs (λ b s. (s.0, f s.0 s.1, s.2)) (λ b s. (s.0, g s.0 s.1, s.2)) q, e)
 
-same_parts : (t : Table) (i : ℕ) (ps : Parts) (n : Node) → HasParts t i ps → slice_get (nodes_of t) i ≡ Some n → parts_of n.kind ≡ ps
+same_parts : (t : Table) (i : ℕ) (ps : Parts) (n : PassNode) → HasParts t i ps → slice_get (nodes_of t) i ≡ Some n → parts_of n.kind ≡ ps
 same_parts t i ps n h g = let e : Some h.node ≡ Some n = sym h.at ∙ g in let f : h.node ≡ n = cc in ap (λ n. parts_of n.kind) (sym f) ∙ h.parts
 
 module _ (t : Table) (node : ℕ) (ss : List Stack) (meaning : Meaning) (read : Spanned → AbstractStack → says.Reading) (nullable : Spanned → Bool) where
   abbrev Reports : List Stack → Spanned → List Span → Type 0
   Reports stacks x ts = ReportedIn t.limit t.turns read nullable (λ a. In a (seen_stacks stacks)) x ts
 
-  pub none_reports : HasParts t node parts.Nothing → (x : Spanned) → StandsFor t meaning read nullable node x → Reports ss x []
+  pub none_reports : HasParts t node parts.Nothing → (x : Spanned) → Represents t meaning read nullable node x → Reports ss x []
   none_reports has (Leaf s e) st = refl
   none_reports has (One s f x) st = let e : parts.Inside st.1 st.2 st.3 (is_endless f) ≡ parts.Nothing = sym st.5 ∙ same_parts t node parts.Nothing st.0 has st.4 in cc
   none_reports has (Two s f x y) st = let e : parts.Both st.1 st.2 (is_choice f) ≡ parts.Nothing = sym st.4 ∙ same_parts t node parts.Nothing st.0 has st.3 in cc
 
   pub both_reports : (a b : Memory) (first second : ℕ) (choice : Bool) (next : List Stack) → HasParts t node (parts.Both first second choice)
-      → Collects t a b (λ meaning. IsAfter (meaning first) choice) ss next → IsMeaning t meaning → IsRight meaning a → (x : Spanned) → StandsFor t meaning read nullable node x
-      → (y : Spanned) × (z : Spanned) × StandsFor t meaning read nullable first y × StandsFor t meaning read nullable second z
+      → Collects t a b (λ meaning. IsAfter (meaning first) choice) ss next → IsMeaning t meaning → IsRight meaning a → (x : Spanned) → Represents t meaning read nullable node x
+      → (y : Spanned) × (z : Spanned) × Represents t meaning read nullable first y × Represents t meaning read nullable second z
       × ((us vs : List Span) → Reports ss y us → Reports next z vs → Reports ss x (us ++ vs))
   both_reports a b first second choice next has n h i (Leaf s e) (m, g, p) = let q : parts.Nothing ≡ parts.Both first second choice = sym p ∙ same_parts t node (parts.Both first second choice) m has g in cc
   both_reports a b first second choice next has n h i (One s f x) st =
@@ -64,8 +64,8 @@ module _ (t : Table) (node : ℕ) (ss : List Stack) (meaning : Meaning) (read : 
       ap (λ c. next_after c (meaning first a) a) (sym ec) ∙ ap (λ z. next_after (is_choice f) (z a) a) (ap meaning (sym ej) ∙ does.reads) in (
         x,
         y,
-        subst (λ j. StandsFor t meaning read nullable j x) ej sx,
-        subst (λ k. StandsFor t meaning read nullable k y) ek sy,
+        subst (λ j. Represents t meaning read nullable j x) ej sx,
+        subst (λ k. Represents t meaning read nullable k y) ek sy,
         λ us vs u v. (
           us,
           vs,
@@ -80,8 +80,8 @@ module _ (t : Table) (node : ℕ) (ss : List Stack) (meaning : Meaning) (read : 
   pub inside_reports : (a b c : Memory) (body required optional : ℕ) (endless : Bool) (next : List Stack) (before after : List code_span.Span)
       → HasParts t node (parts.Inside body required optional endless) → IsReportedWhereItLoops t a b node body endless ss before after
       → Collects t b c (λ meaning. IsStartOf t.limit (meaning body) (copies required optional endless)) ss next → IsMeaning t meaning → IsRight meaning a
-      → (x : Spanned) → StandsFor t meaning read nullable node x
-      → (y : Spanned) × StandsFor t meaning read nullable body y
+      → (x : Spanned) → Represents t meaning read nullable node x
+      → (y : Spanned) × Represents t meaning read nullable body y
       × ((us : List Span) → Reports next y us → (ts : List Span) × Reports ss x ts × (map piece_of before ++ ts ≡ map piece_of after ++ us))
   inside_reports a b c body required optional endless next before after has l n h i (Leaf s e) (m, g, p) =
       let q : parts.Nothing ≡ parts.Inside body required optional endless = sym p ∙ same_parts t node (parts.Inside body required optional endless) m has g in cc
@@ -108,7 +108,7 @@ module _ (t : Table) (node : ℕ) (ss : List Stack) (meaning : Meaning) (read : 
       let loop_there : SomeLoops t meaning body ss → SomeLoop t.limit t.turns read nullable (λ a. In a (seen_stacks ss)) x = λ w. (w.0, w.1, ap (λ z. loops t.turns z w.0) (sym step) ∙ w.2) in
       let loop_here : SomeLoop t.limit t.turns read nullable (λ a. In a (seen_stacks ss)) x → SomeLoops t meaning body ss = λ w. (w.0, w.1, ap (λ z. loops t.turns z w.0) step ∙ w.2) in (
         x,
-        subst (λ j. StandsFor t meaning read nullable j x) ej sx,
+        subst (λ j. Represents t meaning read nullable j x) ej sx,
         λ us v. elim own [
           | inl w ↦ (
             s ∷ us,

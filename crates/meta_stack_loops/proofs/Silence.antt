@@ -25,10 +25,10 @@ use Rattle.meta_analysis.specs.Names.{grammar_of, rule_said}
 use Rattle.meta_stack_loops.specs.Names.{kind_in, name_kind}
 use Rattle.meta_analysis.specs.Nodes.{IsSimple, all_nodes}
 use Rattle.meta_stack_loops.specs.Kinds.{AreTabled, Fits, is_empty_text, leaf_kind, text_kind, slice_kind, wrap_kind, both_kind}
-use Rattle.meta_stack_loops.specs.Reportable.{AreBehind, AreReportable, AreSilent, may_be_still, may_loop, slice_may_be_still, TellLoops}
+use Rattle.meta_stack_loops.specs.Reportable.{AreInPostorder, AreReportable, AreSilent, may_be_still, may_loop, slice_may_be_still, AreLoopFlags}
 use Rattle.meta_stack_loops.specs.Table.{parts_of}
 use Rattle.meta_stack_loops.specs.declared.facts.Question.TheVariants as asks
-use Rattle.meta_stack_loops.specs.declared.table.Node.{Node}
+use Rattle.meta_stack_loops.specs.declared.table.PassNode.{PassNode}
 use Rattle.meta_stack_loops.specs.declared.table.Parts.{Parts}
 use Rattle.meta_stack_loops.specs.declared.table.Parts.TheVariants as parts
 use Rattle.meta_stack_loops.proofs.Builtins.{builtin_does, kind_by}
@@ -45,8 +45,8 @@ not_both false b h e f = cc
 abbrev rest_told : List Bool → List Bool → Parts → Bool
 rest_told still flags ps = may_loop (is_set_at still) ps || some_part (is_set_at flags) ps
 
-abbrev pub AreToldTo : List Node → List Bool → List Bool → ℕ → Type 0
-AreToldTo ns still flags k = (i : ℕ) (n : Node) → i < k → slice_get ns i ≡ Some n → is_set_at flags i ≡ rest_told still flags (parts_of n.kind)
+abbrev pub AreToldTo : List PassNode → List Bool → List Bool → ℕ → Type 0
+AreToldTo ns still flags k = (i : ℕ) (n : PassNode) → i < k → slice_get ns i ≡ Some n → is_set_at flags i ≡ rest_told still flags (parts_of n.kind)
 
 set_last : (flags : List Bool) (b : Bool) (j : ℕ) → j ≡ length flags → is_set_at (flags ++ b ∷ []) j ≡ b
 set_last [] b zero h = refl
@@ -59,7 +59,7 @@ same_parts p q parts.Nothing f = refl
 same_parts p q (parts.Inside j required optional endless) f = f j refl
 same_parts p q (parts.Both j k choice) f = ap₂ (λ y z. y || z) (f j (inl refl)) (f k (inr refl))
 
-pub told_more : (ns : List Node) (still flags : List Bool) (k : ℕ) (n : Node) (b : Bool) → AreBehind ns → length flags ≡ k → slice_get ns k ≡ Some n → b ≡ rest_told still flags (parts_of n.kind)
+pub told_more : (ns : List PassNode) (still flags : List Bool) (k : ℕ) (n : PassNode) (b : Bool) → AreInPostorder ns → length flags ≡ k → slice_get ns k ≡ Some n → b ≡ rest_told still flags (parts_of n.kind)
     → AreToldTo ns still flags k → AreToldTo ns still (flags ++ b ∷ []) (k + 1)
 told_more ns still flags k n b before l at e h i m less is = elim (cases_lt i k) [
   | inl w ↦ set_before flags b i (omega arith) ∙ (h i m w is ∙ as_before i m is (omega arith))
@@ -69,23 +69,23 @@ told_more ns still flags k n b before l at e h i m less is = elim (cases_lt i k)
       set_last flags b i (omega arith) ∙ (e ∙ (ap (λ z. rest_told still flags (parts_of z.kind)) (sym same) ∙ as_before i m is (omega arith)))
 ]
   where
-    as_before : (i : ℕ) (m : Node) → slice_get ns i ≡ Some m → i ≤ length flags → rest_told still flags (parts_of m.kind) ≡ rest_told still (flags ++ b ∷ []) (parts_of m.kind)
+    as_before : (i : ℕ) (m : PassNode) → slice_get ns i ≡ Some m → i ≤ length flags → rest_told still flags (parts_of m.kind) ≡ rest_told still (flags ++ b ∷ []) (parts_of m.kind)
     as_before i m is w = ap (λ z. may_loop (is_set_at still) (parts_of m.kind) || z)
         (same_parts (is_set_at flags) (is_set_at (flags ++ b ∷ [])) (parts_of m.kind) (λ j o. let less = before i m is j o in sym (set_before flags b j (omega arith))))
 
-module _ (rules : List ParserRule) (ns : List Node) (roots : List ℕ) (tabled : AreTabled rules (kind_in (grammar_of rules)) ns roots) where
+module _ (rules : List ParserRule) (ns : List PassNode) (roots : List ℕ) (tabled : AreTabled rules (kind_in (grammar_of rules)) ns roots) where
   abbrev G : Grammar
   G = grammar_of rules
 
   abbrev all : List Spanned
   all = all_nodes rules
 
-  fits_at : (i : ℕ) (n : Node) (x : Spanned) → slice_get ns i ≡ Some n → slice_get all i ≡ Some x → Fits (kind_in G) all i n.kind x
+  fits_at : (i : ℕ) (n : PassNode) (x : Spanned) → slice_get ns i ≡ Some n → slice_get all i ≡ Some x → Fits (kind_in G) all i n.kind x
   fits_at i n x at here =
       let (m, is, fit) = tabled.nodes.fit i x here in
       subst (λ z. Fits (kind_in G) all i z.kind x) (same_item (slice_get ns i) m n is at) fit.fits
 
-  below : (i : ℕ) (n : Node) (x : Spanned) → slice_get ns i ≡ Some n → slice_get all i ≡ Some x → (j : ℕ) → IsOperandOf j (parts_of n.kind) → j < i
+  below : (i : ℕ) (n : PassNode) (x : Spanned) → slice_get ns i ≡ Some n → slice_get all i ≡ Some x → (j : ℕ) → IsOperandOf j (parts_of n.kind) → j < i
   below i n (Leaf s e) at here j o =
       let f = fits_at i n (Leaf s e) at here in
       absurd (subst (IsOperandOf j) (ap parts_of f.1 ∙ leaf_parts G e f.0) o)
@@ -100,7 +100,7 @@ module _ (rules : List ParserRule) (ns : List Node) (roots : List ℕ) (tabled :
       ]
 
   -- operands stand before what they are operands of
-  pub behind : AreBehind ns
+  pub behind : AreInPostorder ns
   behind i n at j o = let (x, here) = got_alike ns all i n at tabled.nodes.alike in below i n x at here j o
 
   module _ (still : List Bool) (right : AreAnswers asks.MayBeStill ns roots still) where
@@ -191,7 +191,7 @@ module _ (rules : List ParserRule) (ns : List Node) (roots : List ℕ) (tabled :
         go o l (absent f) = ap (λ q. still_kind roots P (name_kind n q)) l ∙ (ap (still_kind roots P) (builtin_does n) ∙ by_still (builtin_of n) a h)
         go o l (named rule at f) = let z = sym e ∙ f in cc
 
-    module _ (flags : List Bool) (told : TellLoops ns still flags) (limit turns : ℕ) (recursive : Text → Bool) (nullable : Spanned → Bool) where
+    module _ (flags : List Bool) (told : AreLoopFlags ns still flags) (limit turns : ℕ) (recursive : Text → Bool) (nullable : Spanned → Bool) where
       abbrev read : Spanned → AbstractStack → says.Reading
       read y = reading_in limit recursive G (without_spans y)
 

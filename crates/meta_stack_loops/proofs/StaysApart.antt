@@ -10,10 +10,10 @@ use Rattle.meta_stack_domain.proofs.Turning.{is_in}
 use Rattle.meta_stack_domain.proofs.Bases.{common_same}
 use Rattle.meta_stack_loops.specs.Apart.{moved, AreMovable, AreApart, apart_kind, apart_call}
 use Rattle.meta_stack_loops.specs.Memory.{Meaning}
-use Rattle.meta_stack_loops.specs.Table.{IsMeaning, IsOrdered, Inside, Lies, LeadsTo, call_reading, copies, followed_at, level, node_reading, nodes_of}
-use Rattle.meta_stack_loops.specs.declared.table.Kind.{Kind}
-use Rattle.meta_stack_loops.specs.declared.table.Kind.TheVariants as is
-use Rattle.meta_stack_loops.specs.declared.table.Node.{Node}
+use Rattle.meta_stack_loops.specs.Table.{IsMeaning, IsOrdered, Inside, HasOrderedOperands, LeadsTo, call_reading, copies, followed_at, level, node_reading, nodes_of}
+use Rattle.meta_stack_loops.specs.declared.table.NodeKind.{NodeKind}
+use Rattle.meta_stack_loops.specs.declared.table.NodeKind.TheVariants as is
+use Rattle.meta_stack_loops.specs.declared.table.PassNode.{PassNode}
 use Rattle.meta_stack_loops.specs.declared.table.Table.{Table}
 use Rattle.meta_stack_loops.proofs.Awaiting.{level_inside, level_called}
 use Rattle.meta_stack_loops.proofs.Follow.{turns_again, turns_none, turns_on}
@@ -207,7 +207,7 @@ module _ (t : Table) (meaning : Meaning) (set : ℕ → Bool) where
   shaped_call i None b h e = cc
   shaped_call i (Some j) b h e = b j (level_called t i j h) h.within e
 
-  shaped_kind : (i : ℕ) (k : Kind) → Below i → Lies t i k → apart_kind t set k ≡ true → IsShaped (node_reading t meaning k)
+  shaped_kind : (i : ℕ) (k : NodeKind) → Below i → HasOrderedOperands t i k → apart_kind t set k ≡ true → IsShaped (node_reading t meaning k)
   shaped_kind i is.Still b h e = record { shape = record { ok = true; err = false; still = true }; is = λ a. refl }
   shaped_kind i is.Leaf b h e = record { shape = record { ok = true; err = true; still = false }; is = λ a. refl }
   shaped_kind i is.Peek b h e = cc
@@ -234,7 +234,7 @@ module _ (t : Table) (meaning : Meaning) (set : ℕ → Bool) where
       shaped_walked t.limit some (meaning j) (inside i j b h both.1) t.skips (copies required optional endless)
 
 -- a node that is there
-node_there : (ns : List Node) (i : ℕ) → i < length ns → (n : Node) × (slice_get ns i ≡ Some n)
+node_there : (ns : List PassNode) (i : ℕ) → i < length ns → (n : PassNode) × (slice_get ns i ≡ Some n)
 node_there [] i h = absurd (omega arith)
 node_there (n ∷ ns) zero h = (n, refl)
 node_there (n ∷ ns) (suc i) h = node_there ns i (omega arith)

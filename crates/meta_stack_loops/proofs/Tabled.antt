@@ -13,7 +13,7 @@ use Rattle.meta_stack_loops.specs.Names.{kind_in}
 use Rattle.meta_stack_loops.specs.Kinds.{AreTabled}
 use Rattle.meta_stack_loops.specs.Table.{nodes_of}
 use Rattle.meta_stack_loops.specs.declared.facts.Question.TheVariants as asks
-use Rattle.meta_stack_loops.specs.declared.table.Node.{Node}
+use Rattle.meta_stack_loops.specs.declared.table.PassNode.{PassNode}
 use Rattle.meta_stack_loops.specs.declared.table.Table.{Table}
 use Rattle.meta_stack_loops.proofs.Answering as answering
 use Rattle.meta_stack_loops.proofs.FlagLemmas.{sound_answers}
@@ -54,7 +54,7 @@ one_on true b h = inl refl
 one_on false true h = inr refl
 one_on false false h = cc
 
-module _ (rules : List ParserRule) (ns : List Node) (roots : List ℕ) (tabled : AreTabled rules (kind_in (grammar_of rules)) ns roots) (flags : List Bool)
+module _ (rules : List ParserRule) (ns : List PassNode) (roots : List ℕ) (tabled : AreTabled rules (kind_in (grammar_of rules)) ns roots) (flags : List Bool)
     (sound : AreSound asks.AltersStack ns roots flags) (closed : AreClosed asks.AltersStack ns roots flags) where
   abbrev off : Bool
   off = not (name_flag (grammar_of rules) roots flags whitespace) && not (name_flag (grammar_of rules) roots flags comment)

@@ -6,7 +6,7 @@ use Rattle.std.specs.List.Sorted.{IsSortedBy}
 use Rattle.std.proofs.lemmas.List.{take_more, map-append}
 use Rattle.std.proofs.lemmas.List.Sorted.{IsPermutation-map}
 use Rattle.std.proofs.lemmas.Option.{slice_get_within, get_or_from_slice_get, slice_get-map}
-use Rattle.meta_base.specs.Pieces.Saying.{Complaint, Tell}
+use Rattle.meta_base.specs.Pieces.Saying.{Complaint, AreErrorsFor}
 use Rattle.meta_base.specs.declared.grammar.Rule.{Rule}
 use Rattle.meta_base.specs.declared.runtime.errors.Error.{Error}
 use Rattle.meta_base.specs.declared.runtime.places.Span as code_span
@@ -14,7 +14,7 @@ use Rattle.meta_spanned.specs.Nodes.{piece_of}
 use Rattle.meta_spanned.specs.Spanned.{Span}
 use Rattle.meta_stack_loops.specs.Certain.{complaint_at, is_before, IsSorted}
 
-told_more : (fs : List Complaint) (es : List (Error Rule)) → Tell fs es → (f : Complaint) (e : Error Rule) → Tell (f ∷ []) (e ∷ []) → Tell (fs ++ f ∷ []) (es ++ e ∷ [])
+told_more : (fs : List Complaint) (es : List (Error Rule)) → AreErrorsFor fs es → (f : Complaint) (e : Error Rule) → AreErrorsFor (f ∷ []) (e ∷ []) → AreErrorsFor (fs ++ f ∷ []) (es ++ e ∷ [])
 told_more [] [] h f e t = t
 told_more [] (y ∷ es) h f e t = absurd h
 told_more (x ∷ fs) [] h f e t = absurd h
@@ -24,13 +24,13 @@ abbrev pub complaints : List code_span.Span → List Complaint
 complaints ss = map complaint_at (map piece_of ss)
 
 -- one place more is told
-pub told_step : (ss : List code_span.Span) (i : ℕ) (s : code_span.Span) (old new : List (Error Rule)) (e : Error Rule) → slice_get ss i ≡ Some s → new ≡ old ++ e ∷ [] → Tell (complaint_at (piece_of s) ∷ []) (e ∷ [])
-    → Tell (complaints (take i ss)) old → Tell (complaints (take (i + 1) ss)) new
+pub told_step : (ss : List code_span.Span) (i : ℕ) (s : code_span.Span) (old new : List (Error Rule)) (e : Error Rule) → slice_get ss i ≡ Some s → new ≡ old ++ e ∷ [] → AreErrorsFor (complaint_at (piece_of s) ∷ []) (e ∷ [])
+    → AreErrorsFor (complaints (take i ss)) old → AreErrorsFor (complaints (take (i + 1) ss)) new
 told_step ss i s old new e at is_new t h =
     let taken : complaints (take (i + 1) ss) ≡ complaints (take i ss) ++ complaint_at (piece_of s) ∷ []
     = ap complaints (take_more ss i s (slice_get_within ss i s at) ∙ ap (λ y. take i ss ++ y ∷ []) (get_or_from_slice_get ss i s s at))
     ∙ (ap (map complaint_at) (map-append piece_of (take i ss) (s ∷ [])) ∙ map-append complaint_at (map piece_of (take i ss)) (piece_of s ∷ [])) in
-    subst (λ z. Tell z new) (sym taken) (subst (λ z. Tell (complaints (take i ss) ++ complaint_at (piece_of s) ∷ []) z) (sym is_new)
+    subst (λ z. AreErrorsFor z new) (sym taken) (subst (λ z. AreErrorsFor (complaints (take i ss) ++ complaint_at (piece_of s) ∷ []) z) (sym is_new)
     (told_more (complaints (take i ss)) old h (complaint_at (piece_of s)) e t))
 
 got_from : (ss : List code_span.Span) (i : ℕ) (x : Span) → slice_get (map piece_of ss) i ≡ Some x → (s : code_span.Span) × (slice_get ss i ≡ Some s) × (piece_of s ≡ x)

@@ -25,12 +25,12 @@ use Rattle.meta_analysis.specs.Names.{grammar_of, rule_said}
 use Rattle.meta_stack_loops.specs.Names.{kind_in, name_kind}
 use Rattle.meta_analysis.specs.Nodes.{IsSimple, all_nodes}
 use Rattle.meta_stack_loops.specs.Kinds.{AreTabled, IsNode, is_empty_text, Fits, leaf_kind, text_kind, slice_kind, wrap_kind, both_kind}
-use Rattle.meta_stack_loops.specs.Table.{IsMeaning, IsOrdered, Lies, LeadsTo, Called, Inside, node_reading, call_reading, followed_at, nodes_of, parts_of, copies, rank_at}
+use Rattle.meta_stack_loops.specs.Table.{IsMeaning, IsOrdered, HasOrderedOperands, LeadsTo, Called, Inside, node_reading, call_reading, followed_at, nodes_of, parts_of, copies, rank_at}
 use Rattle.meta_stack_loops.specs.Told.{is_flagged}
-use Rattle.meta_stack_loops.specs.Visiting.{StandsFor, DoesTheSame}
-use Rattle.meta_stack_loops.specs.declared.table.Kind.{Kind}
-use Rattle.meta_stack_loops.specs.declared.table.Kind.TheVariants as is
-use Rattle.meta_stack_loops.specs.declared.table.Node.{Node}
+use Rattle.meta_stack_loops.specs.Visiting.{Represents, DoesTheSame}
+use Rattle.meta_stack_loops.specs.declared.table.NodeKind.{NodeKind}
+use Rattle.meta_stack_loops.specs.declared.table.NodeKind.TheVariants as is
+use Rattle.meta_stack_loops.specs.declared.table.PassNode.{PassNode}
 use Rattle.meta_stack_loops.specs.declared.table.Parts.TheVariants as parts
 use Rattle.meta_stack_loops.specs.declared.table.Table.{Table}
 use Rattle.meta_stack_loops.proofs.Builtins.{builtin_does, kind_by}
@@ -203,7 +203,7 @@ literal_reads : (t : Text) (a : AbstractStack) → says.surely (push_mark (is_em
 literal_reads [] a = refl
 literal_reads (c ∷ t) a = refl
 
-lies_wrap : (t : Table) (i j : ℕ) (f : Unary) → Lies t i (wrap_kind (sign_of f) j) → Inside t i j
+lies_wrap : (t : Table) (i j : ℕ) (f : Unary) → HasOrderedOperands t i (wrap_kind (sign_of f) j) → Inside t i j
 lies_wrap t i j PosPred h = h
 lies_wrap t i j NegPred h = h
 lies_wrap t i j Opt h = h
@@ -216,7 +216,7 @@ lies_wrap t i j (RepMin n) h = h
 lies_wrap t i j (RepMax n) h = h
 lies_wrap t i j (RepMinMax m n) h = h
 
-lies_both : (t : Table) (i j k : ℕ) (f : Binary) → Lies t i (both_kind (joint_of f) j k) → Inside t i j × Inside t i k
+lies_both : (t : Table) (i j k : ℕ) (f : Binary) → HasOrderedOperands t i (both_kind (joint_of f) j k) → Inside t i j × Inside t i k
 lies_both t i j k Seq h = h
 lies_both t i j k Choice h = h
 
@@ -235,14 +235,14 @@ module _ (rules : List ParserRule) (t : Table) (tabled : AreTabled rules (kind_i
   flagged n = is_flagged G t.recursive.items n
 
   -- the node of a number
-  pub at_node : (i : ℕ) (n : Node) → slice_get (nodes_of t) i ≡ Some n → (x : Spanned) × (slice_get all i ≡ Some x) × IsNode (kind_in G) all i n x
+  pub at_node : (i : ℕ) (n : PassNode) → slice_get (nodes_of t) i ≡ Some n → (x : Spanned) × (slice_get all i ≡ Some x) × IsNode (kind_in G) all i n x
   at_node i n e =
       let (x, here) = got_alike (nodes_of t) all i n e tabled.nodes.alike in
       let (q, at, fit) = tabled.nodes.fit i x here in
       (x, here, subst (λ m. IsNode (kind_in G) all i m x) (same_item (slice_get (nodes_of t) i) q n at e) fit)
 
-  lies_at : (i : ℕ) (n : Node) (k : Kind) → slice_get (nodes_of t) i ≡ Some n → n.kind ≡ k → Lies t i k
-  lies_at i n k e h = subst (Lies t i) h (ordered i n e)
+  lies_at : (i : ℕ) (n : PassNode) (k : NodeKind) → slice_get (nodes_of t) i ≡ Some n → n.kind ≡ k → HasOrderedOperands t i k
+  lies_at i n k e h = subst (HasOrderedOperands t i) h (ordered i n e)
 
   -- calls that are followed lead to lower ranks
   falls : (x : Spanned) (i : ℕ) → slice_get all i ≡ Some x → (c : Text) → Part (without_spans x) (Ident c) → (r j : ℕ) → last_place G c ≡ Some r → followed_at t r ≡ Some j → Called t i j
@@ -349,7 +349,7 @@ module _ (rules : List ParserRule) (t : Table) (tabled : AreTabled rules (kind_i
   as_many = tabled.roots.alike ∙ sym (length-map (rule_views rules) _ ∙ length-map rules _)
 
   -- a name is read as the node that it leads to
-  name_means : (n : Text) (i : ℕ) → Lies t i (kind_in G n) → (a : AbstractStack) → node_reading t meaning (kind_in G n) a ≡ At deep n a
+  name_means : (n : Text) (i : ℕ) → HasOrderedOperands t i (kind_in G n) → (a : AbstractStack) → node_reading t meaning (kind_in G n) a ≡ At deep n a
   name_means n i h a = go (reads_of n)
     where
       go : ReadsNode n → node_reading t meaning (kind_in G n) a ≡ At deep n a
@@ -359,7 +359,7 @@ module _ (rules : List ParserRule) (t : Table) (tabled : AreTabled rules (kind_i
       go (as_any {q = q} {r = r} e l o f) =
           ap (λ q. node_reading t meaning (name_kind n q) a) l ∙ (ap (λ q. call_reading meaning q a) o ∙ sym (any_at deep n q e f a))
       go (as_body {r = r} {j = j} rule e l o f here) =
-          let leads : LeadsTo t i (followed_at t r) = subst (λ q. Lies t i (name_kind n q)) l h in
+          let leads : LeadsTo t i (followed_at t r) = subst (λ q. HasOrderedOperands t i (name_kind n q)) l h in
           let low : Called t i j = subst (LeadsTo t i) o leads in
           let few : rank_at t j < deep = (let b = low.few in let c = as_many in omega arith) in
           ap (λ q. node_reading t meaning (name_kind n q) a) l
@@ -368,7 +368,7 @@ module _ (rules : List ParserRule) (t : Table) (tabled : AreTabled rules (kind_i
           ∙ (sym (body_at (suc deep) n (rule_said rule) e f a)
           ∙ ap (λ z. z a) (settled deep n rule j e f here few (suc deep) deep (omega arith) few))))
 
-  leaf_means : (e : Expression) (s : Span) (i : ℕ) → IsSimple e → Lies t i (leaf_kind (kind_in G) e) → (a : AbstractStack) → node_reading t meaning (leaf_kind (kind_in G) e) a ≡ read (Leaf s e) a
+  leaf_means : (e : Expression) (s : Span) (i : ℕ) → IsSimple e → HasOrderedOperands t i (leaf_kind (kind_in G) e) → (a : AbstractStack) → node_reading t meaning (leaf_kind (kind_in G) e) a ≡ read (Leaf s e) a
   leaf_means (bare.Str u) s i w h a = text_reads t meaning u a
   leaf_means (bare.Insens u) s i w h a = text_reads t meaning u a
   leaf_means (bare.Ident n) s i w h a = name_means n i h a
@@ -394,8 +394,8 @@ module _ (rules : List ParserRule) (t : Table) (tabled : AreTabled rules (kind_i
   binary_means Seq s x y j k e h a = ap₂ (λ z w. says.seq_reading t.skips a (z a) (from (z a).ok w)) e h
   binary_means Choice s x y j k e h a = ap₂ (λ z w. says.choice_reading a (z a) (from (failed (z a).err a) w)) e h
 
-  kind_means : (x : Spanned) (i : ℕ) (k : Kind) → Fits (kind_in G) all i k x → Lies t i k → (a : AbstractStack) → node_reading t meaning k a ≡ read x a
-  kind_means (Leaf s e) i k f h a = ap (λ k. node_reading t meaning k a) f.1 ∙ leaf_means e s i f.0 (subst (Lies t i) f.1 h) a
+  kind_means : (x : Spanned) (i : ℕ) (k : NodeKind) → Fits (kind_in G) all i k x → HasOrderedOperands t i k → (a : AbstractStack) → node_reading t meaning k a ≡ read x a
+  kind_means (Leaf s e) i k f h a = ap (λ k. node_reading t meaning k a) f.1 ∙ leaf_means e s i f.0 (subst (HasOrderedOperands t i) f.1 h) a
   kind_means (spanned.One s f x) i k w h a = ap (λ k. node_reading t meaning k a) w.3 ∙ unary_means f s x w.0 (meaning_is w.0 x w.2) a
   kind_means (spanned.Two s f x y) i k w h a = ap (λ k. node_reading t meaning k a) w.6 ∙ binary_means f s x y w.0 w.1 (meaning_is w.0 x w.4) (meaning_is w.1 y w.5) a
 
@@ -409,7 +409,7 @@ module _ (rules : List ParserRule) (t : Table) (tabled : AreTabled rules (kind_i
     does : (i : ℕ) (x : Spanned) → slice_get all i ≡ Some x → DoesTheSame t meaning read nullable i x
     does i x here = record { reads = meaning_is i x here; null = null_at i x here }
 
-    pub stands : (x : Spanned) (i : ℕ) → slice_get all i ≡ Some x → StandsFor t meaning read nullable i x
+    pub stands : (x : Spanned) (i : ℕ) → slice_get all i ≡ Some x → Represents t meaning read nullable i x
     stands (Leaf s e) i here =
         let (n, at, fit) = tabled.nodes.fit i (Leaf s e) here in
         (n, at, ap parts_of fit.fits.1 ∙ leaf_parts G e fit.fits.0)

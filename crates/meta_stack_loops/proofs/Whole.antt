@@ -32,9 +32,9 @@ use Rattle.meta_stack_loops.specs.Kinds.{AreTabled}
 use Rattle.meta_stack_loops.specs.Reportable.{AreReportable, AreSilent, FindsMore}
 use Rattle.meta_stack_loops.specs.Table.{IsMeaning}
 use Rattle.meta_stack_loops.specs.Told.{is_flagged}
-use Rattle.meta_stack_loops.specs.Visiting.{AllReported, FindsAll, FindsIn, RootsStand, StandsFor}
+use Rattle.meta_stack_loops.specs.Visiting.{AllReported, FindsAll, FindsIn, RootsRepresent, Represents}
 use Rattle.meta_stack_loops.specs.declared.memory.Memory.{Memory}
-use Rattle.meta_stack_loops.specs.declared.table.Node.{Node}
+use Rattle.meta_stack_loops.specs.declared.table.PassNode.{PassNode}
 use Rattle.meta_stack_loops.specs.declared.table.Table.{Table}
 use Rattle.meta_stack_loops.proofs.Answered.{recursive, recursive_reaches}
 use Rattle.meta_stack_loops.proofs.Nullable.{decided, is_null, knows_nullable, null_at, settled_null}
@@ -57,8 +57,8 @@ reported_more : (R : Spanned → List Span → Type 0) (ys : List Spanned) (x : 
 reported_more R [] x us ts h r = (ts, [], r, refl, ap (λ z. z ++ ts) h ∙ sym (append-nil ts))
 reported_more R (y ∷ ys) x us ts (vs, ws, q, h, e) r = (vs, ws ++ ts, q, reported_more R ys x ws ts h r, ap (λ z. z ++ ts) e ∙ append_assoc vs ws ts)
 
-roots_split : (t : Table) (meaning : Meaning) (read : Spanned → AbstractStack → says.Reading) (nullable : Spanned → Bool) (is : List ℕ) (i : ℕ) (xs : List Spanned) → RootsStand t meaning read nullable (is ++ i ∷ []) xs
-    → (ys : List Spanned) × (x : Spanned) × (xs ≡ ys ++ x ∷ []) × RootsStand t meaning read nullable is ys × StandsFor t meaning read nullable i x
+roots_split : (t : Table) (meaning : Meaning) (read : Spanned → AbstractStack → says.Reading) (nullable : Spanned → Bool) (is : List ℕ) (i : ℕ) (xs : List Spanned) → RootsRepresent t meaning read nullable (is ++ i ∷ []) xs
+    → (ys : List Spanned) × (x : Spanned) × (xs ≡ ys ++ x ∷ []) × RootsRepresent t meaning read nullable is ys × Represents t meaning read nullable i x
 roots_split t meaning read nullable [] i [] h = absurd h
 roots_split t meaning read nullable [] i (x ∷ []) h = ([], x, refl, tt, h.0)
 roots_split t meaning read nullable [] i (x ∷ y ∷ xs) h = absurd h.1
@@ -70,7 +70,7 @@ roots_split t meaning read nullable (j ∷ is) i (x ∷ xs) h =
 pub all_none : (t : Table) → FindsAll t [] []
 all_none t = record { value = λ meaning h read nullable xs st. go meaning read nullable xs st }
   where
-    go : (meaning : Meaning) (read : Spanned → AbstractStack → says.Reading) (nullable : Spanned → Bool) (xs : List Spanned) → RootsStand t meaning read nullable [] xs
+    go : (meaning : Meaning) (read : Spanned → AbstractStack → says.Reading) (nullable : Spanned → Bool) (xs : List Spanned) → RootsRepresent t meaning read nullable [] xs
         → AllReported (ReportedIn t.limit t.turns read nullable (λ a. a ≡ entry)) xs []
     go meaning read nullable [] st = refl
     go meaning read nullable (x ∷ xs) st = absurd st
@@ -111,12 +111,12 @@ chosen p (i ∷ is) [] = []
 chosen p (i ∷ is) (x ∷ xs) = pick (p i) x (chosen p is xs)
 
 chosen_stand : (t : Table) (meaning : Meaning) (read : Spanned → AbstractStack → says.Reading) (nullable : Spanned → Bool) (p : ℕ → Bool) (is : List ℕ) (xs : List Spanned)
-    → RootsStand t meaning read nullable is xs → RootsStand t meaning read nullable (filter p is) (chosen p is xs)
+    → RootsRepresent t meaning read nullable is xs → RootsRepresent t meaning read nullable (filter p is) (chosen p is xs)
 chosen_stand t meaning read nullable p [] xs h = tt
 chosen_stand t meaning read nullable p (i ∷ is) [] h = absurd h
 chosen_stand t meaning read nullable p (i ∷ is) (x ∷ xs) h = go (p i) refl (chosen_stand t meaning read nullable p is xs h.1)
   where
-    go : (b : Bool) → p i ≡ b → RootsStand t meaning read nullable (filter p is) (chosen p is xs) → RootsStand t meaning read nullable (filter p (i ∷ is)) (chosen p (i ∷ is) (x ∷ xs))
+    go : (b : Bool) → p i ≡ b → RootsRepresent t meaning read nullable (filter p is) (chosen p is xs) → RootsRepresent t meaning read nullable (filter p (i ∷ is)) (chosen p (i ∷ is) (x ∷ xs))
     go true e r = rw e (h.0, r)
     go false e r = rw e r
 
@@ -170,7 +170,7 @@ abbrev bodies : List ParserRule → List Spanned
 bodies rules = map (λ r. view r.node) rules
 
 roots_stand : (t : Table) (meaning : Meaning) (read : Spanned → AbstractStack → says.Reading) (nullable : Spanned → Bool) (is : List ℕ) (xs : List Spanned) → length is ≡ length xs
-    → ((r i : ℕ) (x : Spanned) → slice_get is r ≡ Some i → slice_get xs r ≡ Some x → StandsFor t meaning read nullable i x) → RootsStand t meaning read nullable is xs
+    → ((r i : ℕ) (x : Spanned) → slice_get is r ≡ Some i → slice_get xs r ≡ Some x → Represents t meaning read nullable i x) → RootsRepresent t meaning read nullable is xs
 roots_stand t meaning read nullable [] [] l f = tt
 roots_stand t meaning read nullable (i ∷ is) (x ∷ xs) l f = (f 0 i x refl refl, roots_stand t meaning read nullable is xs (omega arith) (λ r j y a b. f (suc r) j y a b))
 roots_stand t meaning read nullable [] (x ∷ xs) l f = absurd (omega arith)
@@ -204,10 +204,10 @@ module _ (rules : List ParserRule) (t : Table) (h : IsTableOf rules t) (flags : 
   abbrev read : Spanned → AbstractStack → says.Reading
   read = tied.read rules t h.tabled h.ordered
 
-  stand : RootsStand t meaning read nullable t.roots.items (bodies rules)
+  stand : RootsRepresent t meaning read nullable t.roots.items (bodies rules)
   stand = roots_stand t meaning read nullable t.roots.items (bodies rules) (h.tabled.roots.alike ∙ sym (length-map rules (λ (q : ParserRule). view q.node)))
       (λ r i x a b. let (rule, at, e) = body_at rules r x b in
-      subst (λ z. StandsFor t meaning read nullable i z) e
+      subst (λ z. Represents t meaning read nullable i z) e
       (tied.stands rules t h.tabled h.ordered nullable (λ j y g. null_at rules t.roots.items h.tabled.roots t.nullable.items h.nullable y j g) (view rule.node) i (h.tabled.roots.lie r i rule at a)))
 
   abbrev Reports : Spanned → List Span → Type 0
@@ -248,7 +248,7 @@ module _ (rules : List ParserRule) (t : Table) (h : IsTableOf rules t) (flags : 
   }
 
 -- where nothing may be reported in any body, nothing is
-module _ (rules : List ParserRule) (ns : List Node) (roots : List ℕ) (tabled : AreTabled rules (kind_in (grammar_of rules)) ns roots) (flags : List Bool) (may : AreReportable ns roots flags)
+module _ (rules : List ParserRule) (ns : List PassNode) (roots : List ℕ) (tabled : AreTabled rules (kind_in (grammar_of rules)) ns roots) (flags : List Bool) (may : AreReportable ns roots flags)
     (off : (r i : ℕ) → slice_get roots r ≡ Some i → is_set_at flags i ≡ false) where
   abbrev takes_nothing : Spanned → Bool
   takes_nothing x = may_stay (is_null rules) (without_spans x)

@@ -1,16 +1,16 @@
--- What stays apart from the stack: it does the same from every stack, and leaves it.
+-- Nodes independent of the stack, which do the same from every stack and leave it.
 use Rattle.std.specs.Prelude.{◌≡◌, ℕ, List, Option, Some, None, Bool, true, false, ◌&&◌, nat_le, slice_get}
 use Rattle.meta_fixpoint.specs.Least.{is_set_at}
 use Rattle.meta_stack_domain.specs.Stack.{AbstractStack}
 use Rattle.meta_stack_domain.specs.Reading as says
 use Rattle.meta_stack_domain.specs.Reading.{only_if}
 use Rattle.meta_stack_loops.specs.Table.{followed_at, nodes_of}
-use Rattle.meta_stack_loops.specs.declared.table.Kind.{Kind}
-use Rattle.meta_stack_loops.specs.declared.table.Kind.TheVariants as is
-use Rattle.meta_stack_loops.specs.declared.table.Node.{Node}
+use Rattle.meta_stack_loops.specs.declared.table.NodeKind.{NodeKind}
+use Rattle.meta_stack_loops.specs.declared.table.NodeKind.TheVariants as is
+use Rattle.meta_stack_loops.specs.declared.table.PassNode.{PassNode}
 use Rattle.meta_stack_loops.specs.declared.table.Table.{Table}
 
--- the reading that it has from another stack
+-- the reading r of a node independent of the stack, from another stack
 abbrev pub moved : AbstractStack → says.Reading → says.Reading
 moved a r = record { ok = only_if r.ok a; err = only_if r.err a; still = r.still }
 
@@ -25,7 +25,7 @@ apart_call set None = false
 apart_call set (Some j) = set j
 
 -- a node by those in it and the bodies that it calls: neither may look at the stack or change it
-abbrev pub apart_kind : Table → (ℕ → Bool) → Kind → Bool
+abbrev pub apart_kind : Table → (ℕ → Bool) → NodeKind → Bool
 apart_kind t set is.Still = true
 apart_kind t set is.Leaf = true
 apart_kind t set is.Peek = false
@@ -44,7 +44,7 @@ apart_kind t set (is.Seq j k) = set j && set k
 apart_kind t set (is.Choice j k) = set j && set k
 apart_kind t set (is.Repeat j required optional endless) = nat_le 2 t.limit && set j
 
--- flags by which that is so of each node that has one
+-- every flagged node is so
 abbrev pub AreApart : Table → List Bool → Type 0
-AreApart t flags = (i : ℕ) (n : Node) → slice_get (nodes_of t) i ≡ Some n → is_set_at flags i ≡ true
+AreApart t flags = (i : ℕ) (n : PassNode) → slice_get (nodes_of t) i ≡ Some n → is_set_at flags i ≡ true
     → apart_kind t (is_set_at flags) n.kind ≡ true

@@ -1,7 +1,7 @@
--- What is promised of the reports.
+-- The promises about the reports.
 use Rattle.std.specs.Prelude.{◌≡◌, ◌↔◌, ℕ, suc, ◌+◌, ◌<◌, List, [], Some, Bool, true, false, slice_get, map, codes, IsPermutation}
 use Rattle.std.specs.Ordering.{is_lt, ordering_then, nat_cmp}
-use Rattle.meta_base.specs.Pieces.Saying.{Complaint, Tell}
+use Rattle.meta_base.specs.Pieces.Saying.{Complaint, AreErrorsFor}
 use Rattle.meta_base.specs.declared.grammar.Rule.{Rule}
 use Rattle.meta_base.specs.declared.runtime.errors.Error.{Error}
 use Rattle.meta_base.specs.Language.Text.{Text}
@@ -24,14 +24,14 @@ use Rattle.meta_stack_loops.specs.Table.{AreInside, IsOrdered, nodes_of}
 use Rattle.meta_stack_loops.specs.Visiting.{AllReported}
 use Rattle.meta_stack_loops.specs.declared.table.Table.{Table}
 
--- each of these places is that of a repetition in some rule's own body that is reported, and that certainly
--- has no outcome where it is reached on the reported route
+-- every span is that of a repetition in some rule's own body that is reported, and that certainly has no
+-- outcome where it is reached on the reported route
 abbrev pub AreCertain : ℕ → ℕ → (Text → Bool) → List SpannedRule → List Span → Type 0
 AreCertain limit turns recursive rules spans = (s : Span) → In s spans
     → (r : ℕ) × (rule : SpannedRule) × (slice_get rules r ≡ Some rule)
     × IsCertainAt limit turns recursive (rules_without_spans rules) rule.body s
 
--- one place stands before another: it starts before it, or where it does and ends before it
+-- one span precedes another if it starts earlier, or if both start at one position and it ends earlier
 abbrev pub is_before : Span → Span → Bool
 is_before s u = is_lt (ordering_then (nat_cmp s.start u.start) (nat_cmp s.end u.end))
 
@@ -39,21 +39,21 @@ abbrev pub IsRising : List Span → Type 0
 IsRising spans = (i : ℕ) (s u : Span) → slice_get spans i ≡ Some s → slice_get spans (i + 1) ≡ Some u
     → is_before u s ≡ false
 
--- what is said of a repetition
+-- the message and span that report a repetition
 abbrev pub complaint_at : Span → Complaint
 complaint_at s = record {
   message = codes "expression inside repetition is non-progressing and will repeat infinitely";
   span = s;
 }
 
--- the same places in their order
+-- `sorted` has the spans of `found`, ordered by position
 pub record IsSorted (found sorted : List Span) : Type 0 where
   pub same : IsPermutation found sorted
   pub rising : IsRising sorted
 
--- what the direct reading reports in the bodies of rules, one body after another; calls of rules that reach
--- themselves are not followed, and turns are, up to any limit beyond the number of stacks; each report is
--- certain
+-- the direct reading reports these spans in the bodies of rules, one body after another; calls of rules
+-- that reach themselves are not followed, and turns are, up to any limit beyond the number of stacks; all
+-- reports are definite
 pub record AreRead (rules : List SpannedRule) (spans : List Span) : Type 0 where
   pub recursive : Text → Bool
   pub reaches_itself : (n : Text) → (recursive n ≡ true) ↔ ReachesByCalls (rules_without_spans rules) n n
@@ -66,24 +66,25 @@ pub record AreRead (rules : List SpannedRule) (spans : List Span) : Type 0 where
       (map (λ r. r.body) rules) spans
   pub certain : (limit : ℕ) → most_stacks < limit → AreCertain limit turns recursive rules spans
 
--- these are the reports: none where what is skipped changes the stack, else what the direct reading reports
+-- these are the reports: none where the implicit whitespace changes the stack, else those of the direct
+-- reading
 pub record AreFound (rules : List SpannedRule) (spans : List Span) : Type 0 where
   pub silent : SkippingAltersStack (rules_without_spans rules) → spans ≡ []
   pub plain : (SkippingAltersStack (rules_without_spans rules) → ⊥) → AreRead rules spans
 
--- these are the reports in the order of their places
+-- these are the reports, ordered by position
 pub record AreReports (rules : List SpannedRule) (spans : List Span) : Type 0 where
   pub reports : List Span
   pub plain : AreFound rules reports
   pub sorted : IsSorted reports spans
 
--- the errors tell of the reports, in the order of their places
-pub record TellReports (rules : List SpannedRule) (errors : List (Error Rule)) : Type 0 where
+-- the errors are those of the reports, ordered by position
+pub record AreErrorsOfReports (rules : List SpannedRule) (errors : List (Error Rule)) : Type 0 where
   pub spans : List Span
   pub found : AreReports rules spans
-  pub told : Tell (map complaint_at spans) errors
+  pub told : AreErrorsFor (map complaint_at spans) errors
 
--- the table of rules in which what is skipped leaves the stack alone
+-- the table of rules whose implicit whitespace leaves the stack alone
 pub record IsTableOf (rules : List ParserRule) (t : Table) : Type 0 where
   pub tabled : AreTabled rules (kind_in (grammar_of rules)) (nodes_of t) t.roots.items
   pub ordered : IsOrdered t

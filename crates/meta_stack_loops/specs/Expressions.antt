@@ -1,4 +1,4 @@
--- What flags of rules say of expressions.
+-- Attributes of expressions, by the flags of rules.
 use Rattle.std.specs.Prelude.{ℕ, List, Option, Some, None, Bool, true, false, ◌&&◌, ◌||◌, slice_get, nat_eq}
 use Rattle.meta_base.specs.Language.Text.{Text}
 use Rattle.meta_base.specs.Language.Expression.{Expression, Str, Insens, Range, Ident, PeekSlice, PosPred, NegPred, Seq, Choice, Opt, Rep, RepOnce, RepExact, RepMin, RepMax, RepMinMax, Skip, Push, RestoreOnErr, Grammar, PushLiteral, NodeTag, last_place}
@@ -7,7 +7,7 @@ use Rattle.meta_stack_loops.specs.Answers.{at_place}
 use Rattle.meta_analysis.specs.Names.{is_end}
 use Rattle.meta_stack_loops.specs.Kinds.{is_empty_text}
 
--- the flag of the body of the rule at a place
+-- the flag of the body of the rule with an index
 abbrev pub body_flag : List ℕ → List Bool → Option ℕ → Bool
 body_flag roots flags None = false
 body_flag roots flags (Some r) = at_place (is_set_at flags) (slice_get roots r)
@@ -16,7 +16,7 @@ body_flag roots flags (Some r) = at_place (is_set_at flags) (slice_get roots r)
 abbrev pub name_flag : Grammar → List ℕ → List Bool → Text → Bool
 name_flag g roots flags n = body_flag roots flags (last_place g n)
 
--- it may take nothing, where `named` says so of the rules
+-- e may take nothing, by the flags `named` of the rules
 abbrev pub may_stay : (Text → Bool) → Expression → Bool
 may_stay named (Str t) = is_empty_text t
 may_stay named (Insens t) = is_empty_text t
@@ -40,7 +40,7 @@ may_stay named (PushLiteral t) = true
 may_stay named (NodeTag e t) = may_stay named e
 may_stay named (RestoreOnErr e) = may_stay named e
 
--- it changes the stack outside predicates, where `named` says so of names
+-- e changes the stack outside predicates, by the flags `named` of names
 abbrev pub may_change : (Text → Bool) → Expression → Bool
 may_change named (Str t) = false
 may_change named (Insens t) = false

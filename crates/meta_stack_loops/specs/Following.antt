@@ -1,4 +1,4 @@
--- How copies and turns are followed.
+-- Copies and turns followed by the code.
 use Rattle.std.specs.Prelude.{◌≡◌, ℕ, zero, suc, ◌+◌, ◌<◌, List, [], Some, Bool, slice_get, map, length}
 use Rattle.meta_stack_domain.specs.Stack.{AbstractStack}
 use Rattle.meta_stack_domain.specs.Reading as says
@@ -12,7 +12,7 @@ use Rattle.meta_stack_domain.specs.declared.reading.Walk.{Walk}
 use Rattle.meta_stack_loops.specs.declared.table.Table.{Table}
 use Rattle.meta_stack_loops.specs.declared.memory.Memory.{Memory}
 
--- an action done n times
+-- f applied n times
 abbrev pub times : {A : Type 0} → ℕ → (A → A) → A → A
 times zero f a = a
 times (suc n) f a = times n f (f a)
@@ -20,8 +20,8 @@ times (suc n) f a = times n f (f a)
 abbrev pub seen_stacks : List Stack → List AbstractStack
 seen_stacks ss = map stack_of ss
 
--- the walk at a place of a list is this one
-pub record Comes (ws : List Walk) (w : says.Walk) (j : ℕ) : Type 0 where
+-- the walk with index j in a list is this one
+pub record IsWalkAt (ws : List Walk) (w : says.Walk) (j : ℕ) : Type 0 where
   pub walk : Walk
   pub at : slice_get ws j ≡ Some walk
   pub same : walk_of walk ≡ w
@@ -30,18 +30,18 @@ pub record Comes (ws : List Walk) (w : says.Walk) (j : ℕ) : Type 0 where
 abbrev pub copy_step : Table → Meaning → ℕ → Bool → says.Walk → says.Walk
 copy_step t meaning body required w = onward t.limit (meaning body) (copy_of required) w.here w
 
--- these are the walks from which a copy starts, each of them at its first place
+-- these are the walks from which the copies start, every walk at the index of its first copy
 pub record IsTrace (f : says.Walk → says.Walk) (n : ℕ) (w : says.Walk) (items : List Walk) : Type 0 where
   pub each : (j : ℕ) (v : Walk) → slice_get items j ≡ Some v → (walk_of v ≡ times j f w) × (j < n)
-  pub all : (i : ℕ) → i < n → (j : ℕ) × Comes items (times i f w) j
+  pub all : (i : ℕ) → i < n → (j : ℕ) × IsWalkAt items (times i f w) j
 
--- each walk of a list is what an action makes of the one before it, and this is what it makes of the last one
+-- the list has the walks start, f start, f (f start), .. one by one, and w is the next of them
 pub record IsRun (f : says.Walk → says.Walk) (start : says.Walk) (items : List Walk) (w : says.Walk)
     : Type 0 where
   pub each : (j : ℕ) (v : Walk) → slice_get items j ≡ Some v → walk_of v ≡ times j f start
   pub here : w ≡ times (length items) f start
 
--- where so many more copies lead to behind a run
+-- the walk v is reached from w after `left` more copies, whatever run led to w
 pub record IsForeseen (items : List Walk) (w : says.Walk) (left : ℕ) (v : Walk) : Type 0 where
   pub value : (f : says.Walk → says.Walk) (start : says.Walk) → IsRun f start items w
       → walk_of v ≡ times left f w

@@ -3,8 +3,8 @@ use Rattle.std.specs.Prelude.{◌≡◌, ◌↔◌, ◌⊎◌, ℕ, ◌+◌, ◌
 use Rattle.meta_fixpoint.specs.Least.{is_set_at}
 use Rattle.meta_stack_loops.specs.Table.{called_by, parts_of}
 use Rattle.meta_stack_loops.specs.declared.calls.Link.{Link}
-use Rattle.meta_stack_loops.specs.declared.table.Kind.TheVariants as is
-use Rattle.meta_stack_loops.specs.declared.table.Node.{Node}
+use Rattle.meta_stack_loops.specs.declared.table.NodeKind.TheVariants as is
+use Rattle.meta_stack_loops.specs.declared.table.PassNode.{PassNode}
 use Rattle.meta_stack_loops.specs.declared.table.Parts.{Parts}
 use Rattle.meta_stack_loops.specs.declared.table.Parts.TheVariants as parts
 
@@ -13,13 +13,13 @@ IsOperandOf j parts.Nothing = ⊥
 IsOperandOf j (parts.Inside k required optional endless) = j ≡ k
 IsOperandOf j (parts.Both k l choice) = (j ≡ k) ⊎ (j ≡ l)
 
-module _ (ns : List Node) (roots : List ℕ) where
+module _ (ns : List PassNode) (roots : List ℕ) where
   -- a rule is called in a node, or in a body that is called there
   pub data LeadsToCall : ℕ → ℕ → Type 0 where
-    to_call : {i r : ℕ} {n : Node} → slice_get ns i ≡ Some n → n.kind ≡ is.Call r → LeadsToCall i r
-    by_body : {i j r s : ℕ} {n : Node} → slice_get ns i ≡ Some n → n.kind ≡ is.Call r
+    to_call : {i r : ℕ} {n : PassNode} → slice_get ns i ≡ Some n → n.kind ≡ is.Call r → LeadsToCall i r
+    by_body : {i j r s : ℕ} {n : PassNode} → slice_get ns i ≡ Some n → n.kind ≡ is.Call r
         → slice_get roots r ≡ Some j → LeadsToCall j s → LeadsToCall i s
-    by_operand : {i j s : ℕ} {n : Node} → slice_get ns i ≡ Some n → IsOperandOf j (parts_of n.kind)
+    by_operand : {i j s : ℕ} {n : PassNode} → slice_get ns i ≡ Some n → IsOperandOf j (parts_of n.kind)
         → LeadsToCall j s → LeadsToCall i s
 
   -- the body of one rule leads to a call of another
@@ -53,17 +53,19 @@ module _ (roots : List ℕ) (recursive : List Bool) (ranks : List ℕ) where
   CallFalls i None = ⊤
   CallFalls i (Some r) = (j : ℕ) → slice_get roots r ≡ Some j → BodyFalls i r j
 
-  pub record IsRanked (i : ℕ) (n : Node) : Type 0 where
+  pub record IsRanked (i : ℕ) (n : PassNode) : Type 0 where
     pub few : rank_in ranks i ≤ length roots
     pub operands : PartsFall ranks i (parts_of n.kind)
     pub call : CallFalls i (called_by n.kind)
 
-abbrev pub AreRanked : List Node → List ℕ → List Bool → List ℕ → Type 0
+abbrev pub AreRanked : List PassNode → List ℕ → List Bool → List ℕ → Type 0
 AreRanked ns roots recursive ranks =
-    (i : ℕ) (n : Node) → slice_get ns i ≡ Some n → IsRanked roots recursive ranks i n
+    (i : ℕ) (n : PassNode) → slice_get ns i ≡ Some n → IsRanked roots recursive ranks i n
 
--- these flags tell which rules reach themselves, and calls of the others lead to lower ranks
-pub record AreCalls (ns : List Node) (roots : List ℕ) (recursive : List Bool) (ranks : List ℕ) : Type 0 where
+-- the flags are set for exactly the rules that reach themselves, and calls of the others lead to lower
+-- ranks
+pub record AreCalls (ns : List PassNode) (roots : List ℕ) (recursive : List Bool) (ranks : List ℕ)
+    : Type 0 where
   pub exact : (r : ℕ) → (is_set_at recursive r ≡ true) ↔ LeadsBack ns roots r
   pub ranked : AreRanked ns roots recursive ranks
 
@@ -76,15 +78,15 @@ pub record AreRaised (ranks : List ℕ) (flags : List Bool) (raised : List ℕ) 
   pub alike : length raised ≡ length flags
   pub each : (i : ℕ) → rank_in raised i ≡ rank_in ranks i + bit (is_set_at flags i)
 
--- the rule that is noted for a node
+-- the rule that is recorded for a node
 abbrev pub owner_in : List (Option ℕ) → ℕ → Option ℕ
 owner_in owners i = unwrap_or (slice_get owners i) None
 
--- the rule that is noted for a rule
+-- the leader that is recorded for a rule
 abbrev pub leader_in : List ℕ → ℕ → ℕ
 leader_in leaders r = unwrap_or (slice_get leaders r) 0
 
-module _ (ns : List Node) (roots : List ℕ) where
+module _ (ns : List PassNode) (roots : List ℕ) where
   abbrev pub AreOwned : List (Option ℕ) → Type 0
   AreOwned owners = (i r : ℕ) → owner_in owners i ≡ Some r → Owns ns roots r i
 

@@ -1,4 +1,4 @@
--- What is remembered, and what is answered from it.
+-- Memoized readings, and answers that they give.
 use Rattle.std.specs.Prelude.{◌≡◌, ℕ, Some, Bool, true, false, nat_eq}
 use Rattle.std.specs.HashMap.{get}
 use Rattle.meta_stack_domain.specs.Stack.{AbstractStack}
@@ -14,17 +14,17 @@ use Rattle.meta_stack_domain.specs.declared.reading.Walk.{Walk}
 use Rattle.meta_stack_loops.specs.declared.table.Table.{Table}
 use Rattle.meta_stack_loops.specs.declared.memory.Memory.{Memory}
 
--- what each node, by number, does from each stack
+-- the reading of every node, by index, from every stack
 abbrev pub Meaning : Type 0
 Meaning = ℕ → AbstractStack → says.Reading
 
--- what is remembered is so, and so is what stays apart from the stack
+-- the memoized readings are those of `meaning`, and the nodes flagged as independent of the stack are so
 pub record IsRight (meaning : Meaning) (m : Memory) : Type 0 where
   pub known : (k : ℕ) (r : Reading) → get nat_eq m.known k ≡ Some r → (node : ℕ) (s : Stack)
       → key_of node s ≡ k → reading_of r ≡ meaning node (stack_of s)
   pub movable : AreMovable meaning m.apart.items
 
--- the answer is this, and what is remembered stays right
+-- the answer is this, and the memoized readings stay right
 pub record AnswersRightly {A B : Type 0} (view : A → B) (wanted : Meaning → B) (t : Table) (old new : Memory)
     (x : A) : Type 0 where
   pub value : (meaning : Meaning) → IsMeaning t meaning → IsRight meaning old → view x ≡ wanted meaning

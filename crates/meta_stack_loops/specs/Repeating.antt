@@ -12,7 +12,8 @@ use Rattle.meta_stack_loops.specs.declared.table.Table.{Table}
 use Rattle.meta_stack_loops.specs.declared.copies.Copies.{Copies}
 use Rattle.meta_stack_loops.specs.declared.copies.Turns.{Turns}
 
--- the reading of a repetition from a stack, once its copies are followed to a walk: what is left comes behind
+-- the reading of a repetition from a stack, once its copies are followed to a walk; the copies that are
+-- left follow
 abbrev pub copied_reading : Table → Meaning → Copies → AbstractStack → says.Walk → says.Reading
 copied_reading t meaning c a w =
     ended a c.alone (walk t.limit (meaning c.body) (copies c.required c.optional c.endless) w)
@@ -31,7 +32,7 @@ copies_left t c = c.required + (c.optional + (if c.endless then t.limit else 0))
 abbrev pub most_readings : Table → ℕ
 most_readings t = 2 * 2 ^ 32 + t.limit
 
--- copies of a kind lead to a walk, and the trace has them one by one; those that may fail come last
+-- copies of a kind lead to a walk, and the trace has them one by one; optional copies come last
 pub record HasTrace (t : Table) (meaning : Meaning) (c : Copies) (required : Bool) (w : says.Walk)
     : Type 0 where
   pub start : says.Walk

@@ -18,7 +18,7 @@ use Rattle.meta_stack_loops.specs.Kinds.{is_empty_text}
 use Rattle.meta_stack_loops.specs.Table.{IsMeaning, parts_of}
 use Rattle.meta_stack_loops.specs.Visiting.{FindsAll}
 use Rattle.meta_stack_loops.specs.declared.facts.Question.TheVariants as asks
-use Rattle.meta_stack_loops.specs.declared.table.Node.{Node}
+use Rattle.meta_stack_loops.specs.declared.table.PassNode.{PassNode}
 use Rattle.meta_stack_loops.specs.declared.table.Parts.{Parts}
 use Rattle.meta_stack_loops.specs.declared.table.Parts.TheVariants as parts
 use Rattle.meta_stack_loops.specs.declared.table.Table.{Table}
@@ -31,7 +31,7 @@ slice_may_be_still (pos zero) None = true
 slice_may_be_still (pos zero) (Some (pos zero)) = true
 slice_may_be_still _ _ = false
 
--- it may be read as taking nothing, from some stack, where `named` says so of names
+-- e may be read as taking nothing, from some stack, by the flags `named` of names
 abbrev pub may_be_still : (Text → Bool) → Expression → Bool
 may_be_still named (Str t) = is_empty_text t
 may_be_still named (Insens t) = is_empty_text t
@@ -61,22 +61,22 @@ may_loop p (parts.Inside j required optional endless) = endless && p j
 may_loop p parts.Nothing = false
 may_loop p (parts.Both j k choice) = false
 
--- the operands of each node stand before it
-abbrev pub AreBehind : List Node → Type 0
-AreBehind ns = (i : ℕ) (n : Node) → slice_get ns i ≡ Some n
+-- the operands of every node precede it
+abbrev pub AreInPostorder : List PassNode → Type 0
+AreInPostorder ns = (i : ℕ) (n : PassNode) → slice_get ns i ≡ Some n
     → (j : ℕ) → IsOperandOf j (parts_of n.kind) → j < i
 
--- each flag tells whether the node is such a repetition, or has one inside
-abbrev pub TellLoops : List Node → List Bool → List Bool → Type 0
-TellLoops ns still flags = (i : ℕ) (n : Node) → slice_get ns i ≡ Some n
+-- the flag of a node is set iff the node is such a repetition, or has one inside
+abbrev pub AreLoopFlags : List PassNode → List Bool → List Bool → Type 0
+AreLoopFlags ns still flags = (i : ℕ) (n : PassNode) → slice_get ns i ≡ Some n
     → is_set_at flags i
     ≡ (may_loop (is_set_at still) (parts_of n.kind) || some_part (is_set_at flags) (parts_of n.kind))
 
 -- the flags of nodes in which something may be reported
-pub record AreReportable (ns : List Node) (roots : List ℕ) (flags : List Bool) : Type 0 where
+pub record AreReportable (ns : List PassNode) (roots : List ℕ) (flags : List Bool) : Type 0 where
   pub still : List Bool
   pub answers : AreAnswers asks.MayBeStill ns roots still
-  pub told : TellLoops ns still flags
+  pub told : AreLoopFlags ns still flags
 
 -- nothing is reported in a rule's body, whichever calls are followed, and however far
 abbrev pub IsSilent : Grammar → Spanned → Type 0

@@ -1,4 +1,4 @@
--- What the loop search remembers.
+-- The starts that the loop search remembers.
 use Rattle.std.specs.Prelude.{Bool, List, map}
 use Rattle.meta_stack_domain.specs.Views.{stack_of}
 use Rattle.meta_stack_domain.specs.declared.stack.Stack.{Stack}

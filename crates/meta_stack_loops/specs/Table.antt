@@ -3,14 +3,14 @@ use Rattle.std.specs.Prelude.{◌≡◌, ℕ, suc, ◌+◌, ◌*◌, ◌<◌, �
 use Rattle.meta_fixpoint.specs.Least.{is_set_at}
 use Rattle.meta_stack_domain.specs.Stack.{AbstractStack, pop_one, push_mark, failed}
 use Rattle.meta_stack_domain.specs.Reading.{Reading, surely, maybe, anything, from, peek_all_reading, pop_all_reading, top_reading, drop_reading, pushed_reading, ahead_reading, not_ahead_reading, seq_reading, choice_reading, opt_reading, Copy, Required, Optional, Endless, walked}
-use Rattle.meta_stack_loops.specs.declared.table.Kind.{Kind}
-use Rattle.meta_stack_loops.specs.declared.table.Kind.TheVariants as is
+use Rattle.meta_stack_loops.specs.declared.table.NodeKind.{NodeKind}
+use Rattle.meta_stack_loops.specs.declared.table.NodeKind.TheVariants as is
 use Rattle.meta_stack_loops.specs.declared.table.Parts.{Parts}
 use Rattle.meta_stack_loops.specs.declared.table.Parts.TheVariants as parts
-use Rattle.meta_stack_loops.specs.declared.table.Node.{Node}
+use Rattle.meta_stack_loops.specs.declared.table.PassNode.{PassNode}
 use Rattle.meta_stack_loops.specs.declared.table.Table.{Table}
 
-abbrev pub nodes_of : Table → List Node
+abbrev pub nodes_of : Table → List PassNode
 nodes_of t = t.nodes.items
 
 -- the number of a rule's body, where calls of the rule are followed
@@ -28,7 +28,7 @@ copies required optional endless = replicate required Required ++ (replicate opt
     (if endless then Endless ∷ [] else []))
 
 -- the reading of a node, by those of the others
-abbrev pub node_reading : Table → (ℕ → AbstractStack → Reading) → Kind → AbstractStack → Reading
+abbrev pub node_reading : Table → (ℕ → AbstractStack → Reading) → NodeKind → AbstractStack → Reading
 node_reading t f is.Still a = surely a
 node_reading t f is.Leaf a = maybe a
 node_reading t f is.Peek a = top_reading a.marks a.base a
@@ -49,7 +49,7 @@ node_reading t f (is.Repeat j required optional endless) a = walked t.limit (f j
     (copies required optional endless)
 
 -- the operands of a node, as they are visited
-abbrev pub parts_of : Kind → Parts
+abbrev pub parts_of : NodeKind → Parts
 parts_of (is.PosPred j) = parts.Inside j 1 0 false
 parts_of (is.NegPred j) = parts.Inside j 1 0 false
 parts_of (is.Opt j) = parts.Inside j 1 0 false
@@ -70,11 +70,11 @@ parts_of (is.Call r) = parts.Nothing
 
 -- readings of the nodes that fit together
 abbrev pub IsMeaning : Table → (ℕ → AbstractStack → Reading) → Type 0
-IsMeaning t f = (i : ℕ) (n : Node) → slice_get (nodes_of t) i ≡ Some n → (a : AbstractStack) → f i a
+IsMeaning t f = (i : ℕ) (n : PassNode) → slice_get (nodes_of t) i ≡ Some n → (a : AbstractStack) → f i a
     ≡ node_reading t f n.kind a
 
 -- the rule that a node calls
-abbrev pub called_by : Kind → Option ℕ
+abbrev pub called_by : NodeKind → Option ℕ
 called_by (is.Call r) = Some r
 called_by is.Still = None
 called_by is.Leaf = None
@@ -96,7 +96,7 @@ called_by (is.Repeat j required optional endless) = None
 abbrev pub rank_at : Table → ℕ → ℕ
 rank_at t i = unwrap_or (slice_get t.ranks.items i) 0
 
--- one node stands inside another
+-- one node is inside another
 pub record Inside (t : Table) (i j : ℕ) : Type 0 where
   pub below : j < i
   pub within : j < length (nodes_of t)
@@ -112,21 +112,21 @@ abbrev pub LeadsTo : Table → ℕ → Option ℕ → Type 0
 LeadsTo t i None = ⊤
 LeadsTo t i (Some j) = Called t i j
 
--- the operands of a node stand where they should
-abbrev pub Lies : Table → ℕ → Kind → Type 0
-Lies t i (is.Call r) = LeadsTo t i (followed_at t r)
-Lies t i (is.PosPred j) = Inside t i j
-Lies t i (is.NegPred j) = Inside t i j
-Lies t i (is.Opt j) = Inside t i j
-Lies t i (is.Push j) = Inside t i j
-Lies t i (is.Tag j) = Inside t i j
-Lies t i (is.Seq j k) = Inside t i j × Inside t i k
-Lies t i (is.Choice j k) = Inside t i j × Inside t i k
-Lies t i (is.Repeat j required optional endless) = Inside t i j
-Lies t i _ = ⊤
+-- the operands of a node precede it, and have no higher ranks
+abbrev pub HasOrderedOperands : Table → ℕ → NodeKind → Type 0
+HasOrderedOperands t i (is.Call r) = LeadsTo t i (followed_at t r)
+HasOrderedOperands t i (is.PosPred j) = Inside t i j
+HasOrderedOperands t i (is.NegPred j) = Inside t i j
+HasOrderedOperands t i (is.Opt j) = Inside t i j
+HasOrderedOperands t i (is.Push j) = Inside t i j
+HasOrderedOperands t i (is.Tag j) = Inside t i j
+HasOrderedOperands t i (is.Seq j k) = Inside t i j × Inside t i k
+HasOrderedOperands t i (is.Choice j k) = Inside t i j × Inside t i k
+HasOrderedOperands t i (is.Repeat j required optional endless) = Inside t i j
+HasOrderedOperands t i _ = ⊤
 
 abbrev pub IsOrdered : Table → Type 0
-IsOrdered t = (i : ℕ) (n : Node) → slice_get (nodes_of t) i ≡ Some n → Lies t i n.kind
+IsOrdered t = (i : ℕ) (n : PassNode) → slice_get (nodes_of t) i ≡ Some n → HasOrderedOperands t i n.kind
 
 -- the bodies of the rules are nodes
 abbrev pub AreInside : Table → Type 0
@@ -137,13 +137,13 @@ abbrev pub level : Table → ℕ → ℕ
 level t i = rank_at t i * suc (length (nodes_of t)) + i
 
 -- and so do these
-abbrev pub PartsLie : Table → ℕ → Parts → Type 0
-PartsLie t i (parts.Inside j required optional endless) = Inside t i j
-PartsLie t i (parts.Both j k choice) = Inside t i j × Inside t i k
-PartsLie t i parts.Nothing = ⊤
+abbrev pub AreOrderedParts : Table → ℕ → Parts → Type 0
+AreOrderedParts t i (parts.Inside j required optional endless) = Inside t i j
+AreOrderedParts t i (parts.Both j k choice) = Inside t i j × Inside t i k
+AreOrderedParts t i parts.Nothing = ⊤
 
 -- these are the parts of a node
 pub record HasParts (t : Table) (i : ℕ) (ps : Parts) : Type 0 where
-  pub node : Node
+  pub node : PassNode
   pub at : slice_get (nodes_of t) i ≡ Some node
   pub parts : parts_of node.kind ≡ ps

@@ -15,7 +15,7 @@ use Rattle.meta_stack_domain.specs.Reported.{starts, copies_of, is_endless, is_c
 use Rattle.meta_stack_domain.specs.Views.{possible}
 use Rattle.meta_stack_domain.specs.declared.stack.Stack.{Stack}
 use Rattle.meta_stack_domain.specs.declared.reading.Walk.{Walk}
-use Rattle.meta_stack_loops.specs.declared.table.Node.{Node}
+use Rattle.meta_stack_loops.specs.declared.table.PassNode.{PassNode}
 use Rattle.meta_stack_loops.specs.declared.table.Parts.TheVariants as parts
 use Rattle.meta_stack_loops.specs.declared.table.Table.{Table}
 use Rattle.meta_stack_loops.specs.declared.memory.Memory.{Memory}
@@ -28,7 +28,7 @@ pub record AddsStack (old new : List Stack) (a : AbstractStack) : Type 0 where
   pub added : In a (seen_stacks new)
   pub others : (b : AbstractStack) → In b (seen_stacks new) → In b (seen_stacks old) ⊎ (b ≡ a)
 
--- those of walks are added
+-- the stacks of walks are added
 pub record AddsAll (old new : List Stack) (trace : List Walk) : Type 0 where
   pub kept : (b : AbstractStack) → In b (seen_stacks old) → In b (seen_stacks new)
   pub added : (j : ℕ) (w : Walk) (b : AbstractStack) → slice_get trace j ≡ Some w → possible w.here
@@ -43,7 +43,7 @@ pub record AddsEach (old new more : List Stack) : Type 0 where
   pub others : (b : AbstractStack) → In b (seen_stacks new) → In b (seen_stacks old)
       ⊎ In b (seen_stacks more)
 
--- those stacks are added of which something holds
+-- the stacks that satisfy P are added
 pub record AddsWhere (t : Table) (old new : Memory) (P : Meaning → AbstractStack → Type 0)
     (before after : List Stack) : Type 0 where
   pub kept : (meaning : Meaning) → IsMeaning t meaning → IsRight meaning old → IsRight meaning new
@@ -85,7 +85,7 @@ SomeLoops t meaning body ss = (a : AbstractStack) × In a (seen_stacks ss)
 pub record IsReportedWhereItLoops (t : Table) (old new : Memory) (node body : ℕ) (endless : Bool)
     (ss : List Stack) (before after : List code_span.Span) : Type 0 where
   pub kept : (meaning : Meaning) → IsMeaning t meaning → IsRight meaning old → IsRight meaning new
-  pub value : (meaning : Meaning) → IsMeaning t meaning → IsRight meaning old → (n : Node)
+  pub value : (meaning : Meaning) → IsMeaning t meaning → IsRight meaning old → (n : PassNode)
       → slice_get (nodes_of t) node ≡ Some n
       → ((endless ≡ true) × (is_set_at t.nullable.items body ≡ false) × SomeLoops t meaning body ss
       × (after ≡ before ++ n.span.now ∷ []))
@@ -99,25 +99,27 @@ module _ (t : Table) (meaning : Meaning) (read : Spanned → AbstractStack → s
     pub reads : meaning j ≡ read x
     pub null : is_set_at t.nullable.items j ≡ nullable x
 
-  -- a node of the table stands for a node of an expression, with all that is inside
-  abbrev pub StandsFor : ℕ → Spanned → Type 0
-  StandsFor i (Leaf s e) = (n : Node) × (slice_get (nodes_of t) i ≡ Some n) × (parts_of n.kind
+  -- a node of the table represents a node of an expression, with all nodes inside
+  abbrev pub Represents : ℕ → Spanned → Type 0
+  Represents i (Leaf s e) = (n : PassNode) × (slice_get (nodes_of t) i ≡ Some n) × (parts_of n.kind
       ≡ parts.Nothing)
-  StandsFor i (One s f x) = (n : Node) × (j : ℕ) × (r : ℕ) × (o : ℕ) × (slice_get (nodes_of t) i ≡ Some n)
+  Represents i (One s f x) = (n : PassNode) × (j : ℕ) × (r : ℕ) × (o : ℕ)
+      × (slice_get (nodes_of t) i ≡ Some n)
       × (parts_of n.kind ≡ parts.Inside j r o (is_endless f))
-      × (copies r o (is_endless f) ≡ copies_of f) × (piece_of n.span.now ≡ s) × DoesTheSame j x × StandsFor j x
-  StandsFor i (Two s f x y) = (n : Node) × (j : ℕ) × (k : ℕ) × (slice_get (nodes_of t) i ≡ Some n)
+      × (copies r o (is_endless f) ≡ copies_of f) × (piece_of n.span.now ≡ s)
+      × DoesTheSame j x × Represents j x
+  Represents i (Two s f x y) = (n : PassNode) × (j : ℕ) × (k : ℕ) × (slice_get (nodes_of t) i ≡ Some n)
       × (parts_of n.kind ≡ parts.Both j k (is_choice f))
-      × DoesTheSame j x × StandsFor j x × StandsFor k y
+      × DoesTheSame j x × Represents j x × Represents k y
 
-  -- nodes of the table stand for these nodes of expressions
-  abbrev pub RootsStand : List ℕ → List Spanned → Type 0
-  RootsStand [] [] = ⊤
-  RootsStand (i ∷ is) (x ∷ xs) = StandsFor i x × RootsStand is xs
-  RootsStand [] (x ∷ xs) = ⊥
-  RootsStand (i ∷ is) [] = ⊥
+  -- nodes of the table represent these nodes of expressions
+  abbrev pub RootsRepresent : List ℕ → List Spanned → Type 0
+  RootsRepresent [] [] = ⊤
+  RootsRepresent (i ∷ is) (x ∷ xs) = Represents i x × RootsRepresent is xs
+  RootsRepresent [] (x ∷ xs) = ⊥
+  RootsRepresent (i ∷ is) [] = ⊥
 
--- what is remembered stays right
+-- the memoized readings stay right
 abbrev pub Keeps : Table → Memory → Memory → Type 0
 Keeps t old new = (meaning : Meaning) → IsMeaning t meaning → IsRight meaning old → IsRight meaning new
 
@@ -127,7 +129,7 @@ pub record FindsIn (t : Table) (old new : Memory) (node : ℕ) (ss : List Stack)
   pub kept : (meaning : Meaning) → IsMeaning t meaning → IsRight meaning old → IsRight meaning new
   pub value : (meaning : Meaning) → IsMeaning t meaning → IsRight meaning old
       → (read : Spanned → AbstractStack → says.Reading) (nullable : Spanned → Bool) (x : Spanned)
-      → StandsFor t meaning read nullable node x
+      → Represents t meaning read nullable node x
       → (ts : List Span) × ReportedIn t.limit t.turns read nullable (λ a. In a (seen_stacks ss)) x ts
       × (map piece_of after ≡ map piece_of before ++ ts)
 
@@ -141,17 +143,17 @@ AllReported R (x ∷ xs) us =
 pub record FindsAll (t : Table) (is : List ℕ) (found : List code_span.Span) : Type 0 where
   pub value : (meaning : Meaning) → IsMeaning t meaning
       → (read : Spanned → AbstractStack → says.Reading) (nullable : Spanned → Bool) (xs : List Spanned)
-      → RootsStand t meaning read nullable is xs
+      → RootsRepresent t meaning read nullable is xs
       → AllReported (ReportedIn t.limit t.turns read nullable (λ a. a ≡ entry)) xs (map piece_of found)
 
 module _ (t : Table) (meaning : Meaning) (read : Spanned → AbstractStack → says.Reading)
     (nullable : Spanned → Bool) where
-  -- nodes that are still to be visited, the next one last, stand for these nodes of expressions
-  abbrev pub LeftStand : List Pending → List Spanned → Type 0
-  LeftStand [] [] = ⊤
-  LeftStand (v ∷ vs) (x ∷ xs) = StandsFor t meaning read nullable v.node x × LeftStand vs xs
-  LeftStand [] (x ∷ xs) = ⊥
-  LeftStand (v ∷ vs) [] = ⊥
+  -- nodes that are still to be visited, the next one last, represent these nodes of expressions
+  abbrev pub PendingRepresent : List Pending → List Spanned → Type 0
+  PendingRepresent [] [] = ⊤
+  PendingRepresent (v ∷ vs) (x ∷ xs) = Represents t meaning read nullable v.node x × PendingRepresent vs xs
+  PendingRepresent [] (x ∷ xs) = ⊥
+  PendingRepresent (v ∷ vs) [] = ⊥
 
   -- these are the reports in them, those in the next one first
   abbrev pub ReportedLeft : List Pending → List Spanned → List Span → Type 0
@@ -177,8 +179,8 @@ pub record VisitsNodes (t : Table) (old new : Memory) (ws : List Pending) (befor
   pub kept : (meaning : Meaning) → IsMeaning t meaning → IsRight meaning old → IsRight meaning new
   pub value : (meaning : Meaning) → IsMeaning t meaning → IsRight meaning old
       → (read : Spanned → AbstractStack → says.Reading) (nullable : Spanned → Bool) (xs : List Spanned)
-      → LeftStand t meaning read nullable ws xs
-      → (ys : List Spanned) × LeftStand t meaning read nullable vs ys
+      → PendingRepresent t meaning read nullable ws xs
+      → (ys : List Spanned) × PendingRepresent t meaning read nullable vs ys
       × ((us : List Span) → ReportedLeft t meaning read nullable vs ys us
       → (ts : List Span) × ReportedLeft t meaning read nullable ws xs ts
       × (map piece_of before ++ ts ≡ map piece_of after ++ us))

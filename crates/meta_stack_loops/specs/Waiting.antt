@@ -17,8 +17,8 @@ use Rattle.meta_stack_loops.specs.declared.waiting.Awaited.{Awaited}
 use Rattle.meta_stack_loops.specs.declared.waiting.Awaited.TheVariants as awaits
 use Rattle.meta_stack_loops.specs.declared.waiting.How.{How}
 use Rattle.meta_stack_loops.specs.declared.waiting.How.TheVariants as how
-use Rattle.meta_stack_loops.specs.declared.waiting.Next.{Next}
-use Rattle.meta_stack_loops.specs.declared.waiting.Next.TheVariants as next
+use Rattle.meta_stack_loops.specs.declared.waiting.ReadTask.{ReadTask}
+use Rattle.meta_stack_loops.specs.declared.waiting.ReadTask.TheVariants as next
 use Rattle.meta_stack_loops.specs.declared.waiting.Waiting.{Waiting}
 
 -- of a choice or a sequence, from the readings of both parts
@@ -59,18 +59,18 @@ pub record Fills (t : Table) (meaning : Meaning) (awaited : Awaited) (a : Abstra
   pub made : filled t meaning awaited a r ≡ whole
   pub traced : IsTraced t meaning awaited r
 
--- the reading at hand is what the innermost node waits for, which is the last one, and each node is what the
--- one before it waits for; the first one has this reading
+-- the current reading is what the innermost node waits for, the last one, and every other node waits for
+-- the reading of the next one; the first one has this reading
 abbrev pub Lead : Table → Meaning → List Waiting → says.Reading → says.Reading → Type 0
 Lead t meaning [] whole r = r ≡ whole
 Lead t meaning (w ∷ ws) whole r =
     (inner : says.Reading) × (meaning w.node (stack_of w.stack) ≡ whole)
     × Fills t meaning w.awaited (stack_of w.stack) inner whole × Lead t meaning ws inner r
 
--- the reading that is at hand, or will be
-abbrev pub at_hand : Meaning → Next → says.Reading
-at_hand meaning (next.Read node s) = meaning node (stack_of s)
-at_hand meaning (next.Done r) = reading_of r
+-- the reading that the next task gives
+abbrev pub next_reading : Meaning → ReadTask → says.Reading
+next_reading meaning (next.Read node s) = meaning node (stack_of s)
+next_reading meaning (next.Done r) = reading_of r
 
 -- how much there is to do for a node of a level: more than for two of lower levels, or for so many readings
 -- of one of them
@@ -85,7 +85,7 @@ effort_of t node = effort (most_readings t) (level t node)
 abbrev pub effort_times : Table → ℕ → ℕ → ℕ
 effort_times t node n = n * (effort_of t node + 1)
 
-abbrev pub effort_next : Table → Next → ℕ
+abbrev pub effort_next : Table → ReadTask → ℕ
 effort_next t (next.Read node s) = effort_of t node
 effort_next t (next.Done r) = 0
 
@@ -104,7 +104,7 @@ pub record IsLow (t : Table) (l node : ℕ) : Type 0 where
   pub within : node < length (nodes_of t)
   pub low : level t node ≤ l
 
-abbrev pub IsNextLow : Table → ℕ → Next → Type 0
+abbrev pub IsNextLow : Table → ℕ → ReadTask → Type 0
 IsNextLow t l (next.Read node s) = IsLow t l node
 IsNextLow t l (next.Done r) = ⊤
 
@@ -118,40 +118,41 @@ abbrev pub AreLow : Table → ℕ → List Waiting → Type 0
 AreLow t l [] = ⊤
 AreLow t l (w ∷ ws) = IsAwaitedLow t l w.awaited × AreLow t l ws
 
--- one thing was done: what is at hand leads to the same reading of the whole, and less is left to do
-pub record ReadsOn (t : Table) (old new : Memory) (p : Next) (ws vs : List Waiting) (q : Next) : Type 0 where
+-- a step was done; the current task leads to the same reading of the whole, and less is left to do
+pub record ReadsOn (t : Table) (old new : Memory) (p : ReadTask) (ws vs : List Waiting) (q : ReadTask)
+    : Type 0 where
   pub right : (meaning : Meaning) → IsMeaning t meaning → IsRight meaning old → (whole : says.Reading)
-      → Lead t meaning ws whole (at_hand meaning p)
-      → IsRight meaning new × Lead t meaning vs whole (at_hand meaning q)
+      → Lead t meaning ws whole (next_reading meaning p)
+      → IsRight meaning new × Lead t meaning vs whole (next_reading meaning q)
   pub less : effort_next t q + effort_waiting t vs < effort_next t p + effort_waiting t ws
   pub low : (l : ℕ) → IsNextLow t l p → AreLow t l ws → IsNextLow t l q × AreLow t l vs
 
 -- a node waits for an operand, which is read next
-pub record IsPut (ws vs : List Waiting) (node : ℕ) (s : Stack) (a : Awaited) (operand : ℕ) (q : Next)
+pub record IsPut (ws vs : List Waiting) (node : ℕ) (s : Stack) (a : Awaited) (operand : ℕ) (q : ReadTask)
     : Type 0 where
   pub items : vs ≡ ws ++ record { node = node; stack = s; awaited = a } ∷ []
   pub next : q ≡ next.Read operand s
 
--- a repetition goes on, of which this is known: what is at hand leads to its reading, and no more is left to
--- do than so many readings of what is repeated ask for
+-- a repetition goes on, of which this is known; the current task leads to its reading, and at most so many
+-- readings of its body are left to do
 pub record GoesOn (t : Table) (old new : Memory) (node : ℕ) (s : Stack) (Known : Meaning → Type 0)
-    (body readings : ℕ) (ws vs : List Waiting) (q : Next) : Type 0 where
+    (body readings : ℕ) (ws vs : List Waiting) (q : ReadTask) : Type 0 where
   pub right : (meaning : Meaning) → IsMeaning t meaning → IsRight meaning old → Known meaning
       → (whole : says.Reading) → Lead t meaning ws whole (meaning node (stack_of s))
-      → IsRight meaning new × Lead t meaning vs whole (at_hand meaning q)
+      → IsRight meaning new × Lead t meaning vs whole (next_reading meaning q)
   pub less : effort_next t q + effort_waiting t vs ≤ effort_times t body readings + effort_waiting t ws
   pub low : (l : ℕ) → IsLow t l body → AreLow t l ws → IsNextLow t l q × AreLow t l vs
 
--- it goes on with the reading that it waited for
+-- a repetition goes on with the reading that it waited for
 abbrev pub Resumes : Table → Memory → Memory → ℕ → Stack → Awaited → Reading → ℕ → ℕ → List Waiting
-    → List Waiting → Next → Type 0
+    → List Waiting → ReadTask → Type 0
 Resumes t old new node s awaited r body readings ws vs q = GoesOn t old new node s
     (λ meaning. Fills t meaning awaited (stack_of s) (reading_of r) (meaning node (stack_of s)))
     body readings ws vs q
 
--- a repetition waits for a copy; c: what is left behind it
+-- a repetition waits for a copy; c has the copies that are left
 pub record AwaitsCopy (ws vs : List Waiting) (node : ℕ) (s : Stack) (c : Copies) (required : Bool)
-    (from : Stack) (q : Next) : Type 0 where
+    (from : Stack) (q : ReadTask) : Type 0 where
   pub copies : Copies
   pub items : vs ≡ ws ++ record { node = node; stack = s; awaited = awaits.Copy copies required from } ∷ []
   pub same : copies ≡ record c { trace = copies.trace }
@@ -159,7 +160,7 @@ pub record AwaitsCopy (ws vs : List Waiting) (node : ℕ) (s : Stack) (c : Copie
   pub next : q ≡ next.Read c.body from
 
 -- the reading of a repetition is there, and was remembered
-pub record EndsWith (old new : Memory) (node : ℕ) (s : Stack) (alone : Bool) (w : says.Walk) (q : Next)
+pub record EndsWith (old new : Memory) (node : ℕ) (s : Stack) (alone : Bool) (w : says.Walk) (q : ReadTask)
     : Type 0 where
   pub reading : Reading
   pub next : q ≡ next.Done reading

@@ -1,5 +1,5 @@
-//! Nodes that stay apart from the stack: they do the same from every stack, and leave it. So they are read
-//! from one stack alone.
+//! Nodes independent of the stack (greatest fixpoint, by a worklist). They do the same from every stack,
+//! and leave it, so they are interpreted from one stack alone.
 ghost use Rattle.std.specs.Prelude.{◌≡◌, ◌<◌, ℕ, IfOk, length, true};
 ghost use Rattle.meta_fixpoint.specs.Least.{is_set_at};
 ghost use Rattle.meta_stack_loops.specs.Apart as spec;
@@ -7,8 +7,8 @@ ghost use Rattle.meta_stack_loops.specs.Apart.{AreApart, apart_kind};
 ghost use Rattle.meta_stack_loops.specs.Table.{nodes_of};
 
 use crate::facts::Nodes;
-use crate::table::{Kind, Table};
-use meta_fixpoint::{is_set, who_listens};
+use crate::table::{NodeKind, Table};
+use meta_fixpoint::{find_listeners, is_set};
 use std::alloc::{AllocError, Global};
 
 /// Whether the body that a call leads to has a flag.
@@ -21,32 +21,32 @@ fn is_call_set(flags: &[bool], body: Option<usize>) -> bool
     }
 }
 
-/// Whether a node stays apart from the stack where those in it and the body that it calls do.
-fn is_apart<'n, 'i>(table: &Table<'n, 'i>, flags: &[bool], kind: Kind) -> bool
+/// Whether a node is independent of the stack, if its operands and the body that it calls are.
+fn is_apart<'n, 'i>(table: &Table<'n, 'i>, flags: &[bool], kind: NodeKind) -> bool
     ensures { result ≡ apart_kind table.now (is_set_at flags.now) kind }
 {
     match kind {
-        Kind::Still => true,
-        Kind::Leaf => true,
-        Kind::Peek => false,
-        Kind::Pop => false,
-        Kind::Drop => false,
-        Kind::PeekAll => false,
-        Kind::PopAll => false,
-        Kind::Push(_) => false,
-        Kind::PushLiteral(_) => false,
-        Kind::Tag(body) => is_set(flags, body),
-        Kind::Call(rule) => is_call_set(flags, table.followed(rule)),
-        Kind::PosPred(body) => is_set(flags, body),
-        Kind::NegPred(body) => is_set(flags, body),
-        Kind::Opt(body) => is_set(flags, body),
-        Kind::Seq(first, second) => is_set(flags, first) && is_set(flags, second),
-        Kind::Choice(first, second) => is_set(flags, first) && is_set(flags, second),
-        Kind::Repeat(body, _, _, _) => 2 <= table.limit && is_set(flags, body),
+        NodeKind::Still => true,
+        NodeKind::Leaf => true,
+        NodeKind::Peek => false,
+        NodeKind::Pop => false,
+        NodeKind::Drop => false,
+        NodeKind::PeekAll => false,
+        NodeKind::PopAll => false,
+        NodeKind::Push(_) => false,
+        NodeKind::PushLiteral(_) => false,
+        NodeKind::Tag(body) => is_set(flags, body),
+        NodeKind::Call(rule) => is_call_set(flags, table.followed_body(rule)),
+        NodeKind::PosPred(body) => is_set(flags, body),
+        NodeKind::NegPred(body) => is_set(flags, body),
+        NodeKind::Opt(body) => is_set(flags, body),
+        NodeKind::Seq(first, second) => is_set(flags, first) && is_set(flags, second),
+        NodeKind::Choice(first, second) => is_set(flags, first) && is_set(flags, second),
+        NodeKind::Repeat(body, _, _, _) => 2 <= table.limit && is_set(flags, body),
     }
 }
 
-/// Whether that is so of each node with a flag, and each flag is that of a node.
+/// Whether every flagged node is so, and every flag is that of a node.
 fn all_apart<'n, 'i>(table: &Table<'n, 'i>, flags: &[bool]) -> bool
     ensures apart { result ≡ true → AreApart table.now flags.now }
     ensures within { result ≡ true → (i : ℕ) → is_set_at flags.now i ≡ true
@@ -63,8 +63,8 @@ fn all_apart<'n, 'i>(table: &Table<'n, 'i>, flags: &[bool]) -> bool
     true
 }
 
-/// Takes the flags of those that listen to a node, which then wait to be told on.
-fn tell(
+/// Clears the flags of a node's listeners, and adds each listener that had one to the worklist.
+fn clear_flags(
     listeners: &[usize],
     flags: &mut [bool],
     waiting: &mut Vec<usize>,
@@ -80,30 +80,30 @@ fn tell(
     Ok(())
 }
 
-/// All nodes but those that look at the stack or change it, and those that lead to them.
-fn found_apart<'n, 'i>(alloc: Global, table: &Table<'n, 'i>) -> Result<Vec<bool>, AllocError> {
+/// Returns flags of all nodes but those that read or change the stack, and those that lead to them.
+fn search_apart<'n, 'i>(alloc: Global, table: &Table<'n, 'i>) -> Result<Vec<bool>, AllocError> {
     let nodes = Nodes {
         roots: table.roots.as_slice(),
         nodes: table.nodes.as_slice(),
     };
-    let listeners = who_listens(alloc, &nodes)?;
+    let listeners = find_listeners(alloc, &nodes)?;
     let mut flags = vec![in alloc; true; table.nodes.len()]?;
     let mut waiting = Vec::new(alloc);
     for place in 0..table.nodes.len() {
         if !is_apart(table, flags.as_slice(), table.node_at(place).kind) {
-            tell(&[place], flags.as_mut_slice(), &mut waiting)?;
+            clear_flags(&[place], flags.as_mut_slice(), &mut waiting)?;
         }
     }
     for _node in 0..table.nodes.len() {
         if let Some(place) = waiting.pop() {
-            tell(listeners.of(place), flags.as_mut_slice(), &mut waiting)?;
+            clear_flags(listeners.of(place), flags.as_mut_slice(), &mut waiting)?;
         }
     }
     Ok(flags)
 }
 
-/// Flags of nodes that stay apart from the stack. They are found by a search that is looked over node by
-/// node; only what is looked over counts.
+/// Returns flags of the nodes that are independent of the stack, or no flags if the check of the fixpoint
+/// node by node fails. Only checked flags count.
 pub(crate) fn apart_of<'n, 'i>(
     alloc: Global,
     table: &Table<'n, 'i>,
@@ -112,7 +112,7 @@ pub(crate) fn apart_of<'n, 'i>(
     ensures within { IfOk result (λ flags. (i : ℕ) → is_set_at flags.items i ≡ true
         → i < length (nodes_of table.now)) }
 {
-    let flags = found_apart(alloc, table)?;
+    let flags = search_apart(alloc, table)?;
     if all_apart(table, flags.as_slice()) {
         return Ok(flags);
     }

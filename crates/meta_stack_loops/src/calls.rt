@@ -1,53 +1,55 @@
-//! A guess how rules hang together by calls: what is promised of them is found out behind it.
+//! Strongly connected components of the call graph (Kosaraju). Untrusted: `groups` and `recursion` check
+//! the result.
 ghost use Rattle.std.specs.Prelude.{◌≡◌};
 ghost use Rattle.meta_stack_loops.specs.Leading as spec;
 
 use std::alloc::{AllocError, Global};
 
-/// Of one rule to another: its body leads to a call of that one.
+/// An edge of the call graph: the body of `source` leads to a call of `target`.
 #[derive(Clone, Copy)]
 pub struct Link {
     pub source: usize,
     pub target: usize,
 }
 
-/// For each rule the links that begin there, as a list: the first one, and behind each link the next.
+/// The links of each rule as linked lists: the first link of a rule, and the next one after each link.
 #[derive(Drop)]
 struct LinkLists {
-    /// Whether links are taken as they are, and not from their targets to their sources.
+    /// Whether links are followed from source to target, and not backwards.
     down: bool,
     heads: Vec<Option<usize>>,
     nexts: Vec<Option<usize>>,
 }
 
-/// What a search along links has found.
+/// The state and result of a depth-first search along links.
 #[derive(Drop)]
 struct Search {
-    /// For each rule in which place of the order that rule stands from which it was found first, none before.
+    /// For each rule the index, in the order of roots, of the root from which it was found; `None` before
+    /// that.
     origins: Vec<Option<usize>>,
     /// The links by which rules were found, in that order.
     steps: Vec<usize>,
-    /// The rules by which a search is at hand, each found from the one before.
+    /// The path of the search: rules that are not finished, each found from the one before.
     waiting: Vec<usize>,
-    /// The rules from which nothing more is found, in that order.
+    /// The finished rules, in postorder.
     finished: Vec<usize>,
 }
 
-/// How rules hang together.
+/// Strongly connected components of the call graph.
 #[derive(Drop)]
 pub struct Groups {
-    /// For each rule one that stands for all that reach it, and are reached by it.
+    /// The representative of each rule's component.
     pub leaders: Vec<usize>,
-    /// For each rule a number: where it calls a rule of another group, that one's is lower.
+    /// A number for each rule: calls of rules in other components lead to lower numbers.
     pub ranks: Vec<Option<usize>>,
-    /// Links, by their places, that lead from the leaders to the others, each behind what leads to it.
+    /// Indices of links that lead from the leaders to the other rules, in the order of the search.
     pub down: Vec<usize>,
-    /// Links that lead from the others to the leaders, each behind what leads on.
+    /// Indices of links that lead from the other rules to the leaders, in the order of the search.
     pub up: Vec<usize>,
 }
 
-/// The link, or the same from its target to its source.
-pub(crate) fn turned(link: Link, down: bool) -> Link
+/// Returns the link, or the reverse link.
+pub(crate) fn orient(link: Link, down: bool) -> Link
     ensures { result ≡ spec.turned down link }
 {
     if down {
@@ -71,7 +73,7 @@ fn put(lists: &mut LinkLists, place: usize, link: Link) -> Result<(), AllocError
     Ok(())
 }
 
-/// The links of each rule.
+/// Builds the lists of links of all rules.
 fn lists_of(
     alloc: Global,
     links: &[Link],
@@ -84,12 +86,12 @@ fn lists_of(
         nexts: Vec::with_capacity(alloc, links.len())?,
     };
     for (place, link) in links.iter().enumerate() {
-        put(&mut lists, place, turned(*link, down))?;
+        put(&mut lists, place, orient(*link, down))?;
     }
     Ok(lists)
 }
 
-/// The next link of a rule, which is taken off its list.
+/// Takes the next link of a rule off its list.
 fn next_link(lists: &mut LinkLists, rule: usize) -> Option<usize> {
     let head = lists.heads.get_mut(rule)?;
     let link = (*head)?;
@@ -100,7 +102,8 @@ fn next_link(lists: &mut LinkLists, rule: usize) -> Option<usize> {
     Some(link)
 }
 
-/// Notes from where a rule was found, and goes on from there, if it was not found before.
+/// Records the root from which a rule is found, and pushes the rule on the path, unless it was found
+/// before.
 fn find(search: &mut Search, rule: usize, origin: usize) -> Result<bool, AllocError> {
     let Some(known) = search.origins.get_mut(rule) else {
         return Ok(false);
@@ -113,7 +116,7 @@ fn find(search: &mut Search, rule: usize, origin: usize) -> Result<bool, AllocEr
     Ok(true)
 }
 
-/// One step of a search: along the next link of the rule at hand, or back, if there is none.
+/// Follows the next link of the rule on top of the path, or finishes the rule if it has none left.
 fn step(
     links: &[Link],
     lists: &mut LinkLists,
@@ -127,14 +130,14 @@ fn step(
         return Ok(());
     };
     if let Some(link) = links.get(place) {
-        if find(search, turned(*link, lists.down).target, origin)? {
+        if find(search, orient(*link, lists.down).target, origin)? {
             search.steps.push(place)?;
         }
     }
     Ok(())
 }
 
-/// All that is found from a rule, and was not found before.
+/// Searches depth-first from a root.
 fn search_from(
     links: &[Link],
     lists: &mut LinkLists,
@@ -153,8 +156,8 @@ fn search_from(
     Ok(())
 }
 
-/// All rules, found along links from one after another, the last of these first.
-fn searched(
+/// Searches all rules depth-first, the last root of `order` first.
+fn search_all(
     alloc: Global,
     links: &[Link],
     down: bool,
@@ -175,7 +178,7 @@ fn searched(
     Ok(search)
 }
 
-/// So many numbers, from zero on.
+/// Returns the numbers below `count`.
 pub(crate) fn numbers(alloc: Global, count: usize) -> Result<Vec<usize>, AllocError> {
     let mut found = Vec::with_capacity(alloc, count)?;
     for number in 0..count {
@@ -184,7 +187,7 @@ pub(crate) fn numbers(alloc: Global, count: usize) -> Result<Vec<usize>, AllocEr
     Ok(found)
 }
 
-/// For each rule its leader: from which rule it was found.
+/// Returns each rule's leader, the root from which it was found.
 fn leaders_of(
     alloc: Global,
     order: &[usize],
@@ -201,13 +204,14 @@ fn leaders_of(
     Ok(leaders)
 }
 
-/// How so many rules hang together by these links. All rules are searched in depth; then against the links,
-/// those first from which most was found: what is found together then is a group.
+/// Returns the components of the call graph with `count` rules. The first search follows the links, and
+/// gives a postorder; the second one follows them backwards from its last rule on, and finds one component
+/// per root.
 pub(crate) fn groups_of(alloc: Global, links: &[Link], count: usize) -> Result<Groups, AllocError> {
     let rules = numbers(alloc, count)?;
-    let first = searched(alloc, links, true, count, rules.as_slice())?;
+    let first = search_all(alloc, links, true, count, rules.as_slice())?;
     let order = first.finished.as_slice();
-    let second = searched(alloc, links, false, count, order)?;
+    let second = search_all(alloc, links, false, count, order)?;
     let leaders = leaders_of(alloc, order, second.origins.as_slice())?;
     Ok(Groups {
         leaders,

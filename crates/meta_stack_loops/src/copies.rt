@@ -1,36 +1,36 @@
-//! Repetitions that wait for the reading of what they repeat: copies and turns are followed one at a time.
+//! Repetitions that wait for a reading of their body; copies and turns are followed one at a time.
 ghost use Rattle.std.specs.Prelude.{◌≡◌, ◌≤◌, ◌<◌, [], IfOk, IfSome, IfNone, not, ◌||◌};
 ghost use Rattle.meta_stack_domain.specs.Stack as is;
 ghost use Rattle.meta_stack_domain.specs.Reading as says;
 ghost use Rattle.meta_stack_domain.specs.Views.{stack_of, walk_of, possible};
 ghost use Rattle.meta_stack_loops.specs.Table.{copies};
 ghost use Rattle.meta_stack_loops.specs.Memory.{Meaning};
-ghost use Rattle.meta_stack_loops.specs.Following.{Comes, IsForeseen, seen_stacks};
+ghost use Rattle.meta_stack_loops.specs.Following.{IsWalkAt, IsForeseen, seen_stacks};
 ghost use Rattle.meta_stack_loops.specs.Repeating.{CopiesLead, TurnsLead, copied_reading, copies_left, most_readings};
 ghost use Rattle.meta_stack_loops.specs.Waiting.{AwaitsCopy, EndsWith, GoesOn, Resumes};
 
 use crate::memory::Memory;
 use crate::table::Table;
-use crate::waiting::{Awaited, Next, Waiting};
+use crate::waiting::{Awaited, ReadTask, Waiting};
 use meta_stack_domain::{Reading, Stack, Walk};
 use std::alloc::{AllocError, Global};
 
-/// How often something is repeated.
+/// The number of copies of a repetition.
 #[derive(Clone, Copy)]
-pub struct Counts {
-    /// How many copies are required.
+pub struct CopyCounts {
+    /// The number of required copies.
     pub required: u32,
-    /// How many more there may be, each of which may fail.
+    /// The number of further copies, which may fail.
     pub optional: u32,
     /// Whether turns without end follow.
     pub endless: bool,
 }
 
-/// What is repeated, and how often.
+/// The body of a repetition, and its counts.
 #[derive(Clone, Copy)]
 pub struct Repeated {
     pub body: usize,
-    pub counts: Counts,
+    pub counts: CopyCounts,
 }
 
 /// A node whose reading is begun, and the stack from which it is read.
@@ -44,17 +44,17 @@ pub struct Begun {
 #[derive(Drop)]
 pub struct Copies {
     pub body: usize,
-    /// How many required copies are left.
+    /// The number of required copies that are left.
     pub required: u32,
-    /// How many copies are left that may fail.
+    /// The number of optional copies that are left.
     pub optional: u32,
     /// Whether turns without end follow.
     pub endless: bool,
     /// Whether nothing can be skipped between the copies.
     pub alone: bool,
-    /// How far the copies have been followed.
+    /// The walk along the copies so far.
     pub walk: Walk,
-    /// The walks from which those of the last kind started, each once.
+    /// The walks from which those of the last kind started, without duplicates.
     pub trace: Vec<Walk>,
 }
 
@@ -63,14 +63,14 @@ pub struct Copies {
 pub struct Turns {
     pub body: usize,
     pub alone: bool,
-    /// How many more turns are followed at most.
+    /// The greatest number of turns that are left.
     pub left: usize,
     pub walk: Walk,
     /// The stacks from which turns started.
     pub seen: Vec<Stack>,
 }
 
-/// A copy that was read: what is left behind it, whether it is required, and the stack from which it was
+/// A copy that was read: the copies that are left, whether it is required, and the stack from which it was
 /// read.
 #[derive(Drop)]
 pub struct LastCopy {
@@ -79,7 +79,7 @@ pub struct LastCopy {
     pub from: Stack,
 }
 
-/// A turn that was read: what is left behind it, and the stack from which it was read.
+/// A turn that was read: the turns that are left, and the stack from which it was read.
 #[derive(Drop)]
 pub struct LastTurn {
     pub turns: Turns,
@@ -98,9 +98,9 @@ pub fn is_among(stacks: &[Stack], stack: Stack) -> bool
     false
 }
 
-/// A place at which the same walk stands.
+/// Returns an index at which a walk is in the trace.
 fn place_of(trace: &[Walk], walk: Walk) -> Option<usize>
-    ensures { IfSome result (Comes trace.now (walk_of walk)) }
+    ensures { IfSome result (IsWalkAt trace.now (walk_of walk)) }
 {
     for (place, earlier) in trace.iter().enumerate() {
         if earlier.is_same(walk) {
@@ -110,7 +110,7 @@ fn place_of(trace: &[Walk], walk: Walk) -> Option<usize>
     None
 }
 
-/// Where so many copies more lead to, if none is left or the walk stood in the trace before.
+/// Returns the walk after `left` more copies, if none is left or the walk is in the trace already.
 pub fn foreseen(trace: &[Walk], walk: Walk, left: usize) -> Option<Walk>
     ensures known { IfSome result (IsForeseen trace.now (walk_of walk) left) }
     ensures unknown { IfNone result (0 < left) }
@@ -123,7 +123,7 @@ pub fn foreseen(trace: &[Walk], walk: Walk, left: usize) -> Option<Walk>
 }
 
 /// Whether nothing can be skipped between the copies.
-fn stands_alone(skips: bool, counts: Counts) -> bool
+fn stands_alone(skips: bool, counts: CopyCounts) -> bool
     ensures { result
         ≡ (not skips || says.is_single (copies counts.required counts.optional counts.endless)) }
 {
@@ -156,23 +156,23 @@ pub fn all_copies(alloc: Global, table: &Table, stack: Stack, repeated: Repeated
     }
 }
 
-/// The reading of a repetition is there, and is remembered.
-fn end(memory: &mut Memory, begun: Begun, alone: bool, walk: Walk) -> Result<Next, AllocError>
+/// Memoizes the reading of a repetition, and returns it as the next task.
+fn end(memory: &mut Memory, begun: Begun, alone: bool, walk: Walk) -> Result<ReadTask, AllocError>
     ensures { IfOk result (EndsWith memory.old memory.new begun.node begun.stack alone (walk_of walk)) }
 {
     let reading = walk.reading(begun.stack, alone);
     memory.remember(begun.node, begun.stack, reading)?;
-    Ok(Next::Done(reading))
+    Ok(ReadTask::Done(reading))
 }
 
-/// A repetition waits for a copy, which is read from a stack; `copies`: what is left behind that copy.
+/// Waits for a copy, which is read from a stack next; `copies` has the copies that are left.
 fn wait_for_copy(
     waiting: &mut Vec<Waiting>,
     begun: Begun,
     mut copies: Copies,
     required: bool,
     from: Stack,
-) -> Result<Next, AllocError>
+) -> Result<ReadTask, AllocError>
     ensures { IfOk result
         (AwaitsCopy waiting.old.items waiting.new.items begun.node begun.stack copies required from) }
 {
@@ -185,17 +185,17 @@ fn wait_for_copy(
         stack,
         awaited: Awaited::Copy(copies, required, from),
     })?;
-    Ok(Next::Read(body, from))
+    Ok(ReadTask::Read(body, from))
 }
 
-/// The next copy of a repetition is read, or the reading of the repetition is there.
+/// Starts the next copy of a repetition, or ends the repetition if no copy is left.
 pub fn next_copy(
     table: &Table,
     memory: &mut Memory,
     waiting: &mut Vec<Waiting>,
     begun: Begun,
     mut copies: Copies,
-) -> Result<Next, AllocError>
+) -> Result<ReadTask, AllocError>
     ensures { IfOk result (GoesOn table.now memory.old memory.new begun.node begun.stack
         (λ meaning. CopiesLead table.now meaning copies (stack_of begun.stack)
         (meaning begun.node (stack_of begun.stack)))
@@ -231,15 +231,15 @@ pub fn next_copy(
     next_turn(table, memory, waiting, begun, turns, Some(from))
 }
 
-/// A repetition goes on behind a copy that was read from a stack.
-pub fn copied(
+/// Continues a repetition after a copy that was read from a stack.
+pub fn resume_copies(
     table: &Table,
     memory: &mut Memory,
     waiting: &mut Vec<Waiting>,
     begun: Begun,
     copy: LastCopy,
     reading: Reading,
-) -> Result<Next, AllocError>
+) -> Result<ReadTask, AllocError>
     ensures { IfOk result (Resumes table.now memory.old memory.new begun.node begun.stack
         (Awaited.Copy copy.copies copy.required copy.from) reading copy.copies.body
         (copies_left table.now copy.copies) waiting.old.items waiting.new.items) }
@@ -249,7 +249,7 @@ pub fn copied(
         required,
         from,
     } = copy;
-    copies.walk = copies.walk.stepped(reading, from, required);
+    copies.walk = copies.walk.after_copy(reading, from, required);
     let left = if required {
         copies.required
     } else {
@@ -268,8 +268,7 @@ pub fn copied(
     next_copy(table, memory, waiting, begun, copies)
 }
 
-/// The next turn of a repetition is read, or the reading of the repetition is there; `next`: where the turn
-/// starts.
+/// Starts the next turn of a repetition at `next`, or ends the repetition if no further turn matters.
 fn next_turn(
     table: &Table,
     memory: &mut Memory,
@@ -277,7 +276,7 @@ fn next_turn(
     begun: Begun,
     mut turns: Turns,
     next: Option<Stack>,
-) -> Result<Next, AllocError>
+) -> Result<ReadTask, AllocError>
     ensures { IfOk result (GoesOn table.now memory.old memory.new begun.node begun.stack
         (λ meaning. TurnsLead table.now meaning turns (stack_of begun.stack) (possible next)
         (meaning begun.node (stack_of begun.stack)))
@@ -307,23 +306,23 @@ fn next_turn(
         stack,
         awaited: Awaited::Turn(turns, from),
     })?;
-    Ok(Next::Read(body, from))
+    Ok(ReadTask::Read(body, from))
 }
 
-/// A repetition goes on behind a turn that was read from a stack.
-pub fn turned(
+/// Continues a repetition after a turn that was read from a stack.
+pub fn resume_turns(
     table: &Table,
     memory: &mut Memory,
     waiting: &mut Vec<Waiting>,
     begun: Begun,
     turn: LastTurn,
     reading: Reading,
-) -> Result<Next, AllocError>
+) -> Result<ReadTask, AllocError>
     ensures { IfOk result (Resumes table.now memory.old memory.new begun.node begun.stack
         (Awaited.Turn turn.turns turn.from) reading turn.turns.body turn.turns.left
         waiting.old.items waiting.new.items) }
 {
     let LastTurn { mut turns, from } = turn;
-    turns.walk = turns.walk.turned(reading, from);
+    turns.walk = turns.walk.after_turn(reading, from);
     next_turn(table, memory, waiting, begun, turns, reading.ok)
 }

@@ -1,15 +1,18 @@
-//! Which nodes change the stack, which may be read as taking nothing, and which lead to calls of a rule.
+//! Attributes of nodes by least fixpoints: which nodes change the stack, which may be read as taking
+//! nothing, and which lead to calls of a rule.
 ghost use Rattle.std.specs.Prelude.{◌≡◌, IfOk, slice_get};
 ghost use Rattle.meta_fixpoint.specs.Least.{is_set_at};
 ghost use Rattle.meta_stack_loops.specs.Answers as spec;
 ghost use Rattle.meta_stack_loops.specs.Answers.{AreSound, AreClosed};
 ghost use Rattle.meta_stack_loops.specs.Table.{called_by, parts_of};
 
-use crate::table::{Kind, Node, Parts};
-use meta_fixpoint::{Inference, Listening, Told, is_set, least_flags, who_listens};
+use crate::table::{NodeKind, Parts, PassNode};
+use meta_fixpoint::{
+    DependencyGraph, DependencyVisitor, Inference, find_listeners, is_set, least_flags,
+};
 use std::alloc::{AllocError, Global};
 
-/// What is asked of each node.
+/// An attribute of nodes.
 #[derive(Clone, Copy)]
 pub enum Question {
     /// Whether it changes the stack, outside predicates.
@@ -31,35 +34,42 @@ pub(crate) fn is_root_set(roots: &[usize], flags: &[bool], rule: usize) -> bool
 }
 
 /// Whether a node changes the stack by the flags of its operands.
-fn changes_stack(roots: &[usize], flags: &[bool], kind: Kind) -> bool
+fn changes_stack(roots: &[usize], flags: &[bool], kind: NodeKind) -> bool
     ensures { result ≡ spec.changing_kind roots.now (is_set_at flags.now) kind }
 {
     match kind {
-        Kind::Push(_) | Kind::PushLiteral(_) | Kind::Pop | Kind::Drop | Kind::PopAll => true,
-        Kind::Call(rule) => is_root_set(roots, flags, rule),
-        Kind::Tag(body) | Kind::Opt(body) | Kind::Repeat(body, _, _, _) => is_set(flags, body),
-        Kind::Seq(first, second) | Kind::Choice(first, second) => {
+        NodeKind::Push(_)
+        | NodeKind::PushLiteral(_)
+        | NodeKind::Pop
+        | NodeKind::Drop
+        | NodeKind::PopAll => true,
+        NodeKind::Call(rule) => is_root_set(roots, flags, rule),
+        NodeKind::Tag(body) | NodeKind::Opt(body) | NodeKind::Repeat(body, _, _, _) => is_set(
+            flags, body,
+        ),
+        NodeKind::Seq(first, second) | NodeKind::Choice(first, second) => {
             is_set(flags, first) || is_set(flags, second)
         }
-        Kind::Still | Kind::Leaf | Kind::Peek | Kind::PeekAll => false,
-        Kind::PosPred(_) | Kind::NegPred(_) => false,
+        NodeKind::Still | NodeKind::Leaf | NodeKind::Peek | NodeKind::PeekAll => false,
+        NodeKind::PosPred(_) | NodeKind::NegPred(_) => false,
     }
 }
 
 /// Whether a node may be read as taking nothing, from some stack, by the flags of its operands.
-fn may_be_still(roots: &[usize], flags: &[bool], kind: Kind) -> bool
+fn may_be_still(roots: &[usize], flags: &[bool], kind: NodeKind) -> bool
     ensures { result ≡ spec.still_kind roots.now (is_set_at flags.now) kind }
 {
     match kind {
-        Kind::Leaf => false,
-        Kind::Call(rule) => is_root_set(roots, flags, rule),
-        Kind::Push(body) | Kind::Tag(body) => is_set(flags, body),
-        Kind::Repeat(body, required, _, _) => required == 0 || is_set(flags, body),
-        Kind::Seq(first, second) => is_set(flags, first) && is_set(flags, second),
-        Kind::Choice(first, second) => is_set(flags, first) || is_set(flags, second),
-        Kind::Still | Kind::PosPred(_) | Kind::NegPred(_) | Kind::Opt(_) => true,
-        Kind::Peek | Kind::Pop | Kind::Drop | Kind::PeekAll | Kind::PopAll => true,
-        Kind::PushLiteral(_) => true,
+        NodeKind::Leaf => false,
+        NodeKind::Call(rule) => is_root_set(roots, flags, rule),
+        NodeKind::Push(body) | NodeKind::Tag(body) => is_set(flags, body),
+        NodeKind::Repeat(body, required, _, _) => required == 0 || is_set(flags, body),
+        NodeKind::Seq(first, second) => is_set(flags, first) && is_set(flags, second),
+        NodeKind::Choice(first, second) => is_set(flags, first) || is_set(flags, second),
+        NodeKind::Still | NodeKind::PosPred(_) | NodeKind::NegPred(_) | NodeKind::Opt(_) => true,
+        NodeKind::Peek | NodeKind::Pop | NodeKind::Drop | NodeKind::PeekAll | NodeKind::PopAll =>
+            true,
+        NodeKind::PushLiteral(_) => true,
     }
 }
 
@@ -76,17 +86,22 @@ pub(crate) fn is_part_set(flags: &[bool], parts: Parts) -> bool
 
 /// Whether a node calls a rule, or leads to a call of it by the flags of its operands and of the body that it
 /// calls.
-fn leads_to(roots: &[usize], flags: &[bool], rule: usize, kind: Kind) -> bool
+fn leads_to(roots: &[usize], flags: &[bool], rule: usize, kind: NodeKind) -> bool
     ensures { result ≡ spec.leading roots.now (is_set_at flags.now) rule (called_by kind) (parts_of kind) }
 {
-    match kind.called() {
+    match kind.called_rule() {
         Some(callee) => callee == rule || is_root_set(roots, flags, callee),
         None => is_part_set(flags, kind.parts()),
     }
 }
 
-/// The answer for a node, by those for its operands.
-fn answer<'n, 'i>(question: Question, roots: &[usize], flags: &[bool], node: Node<'n, 'i>) -> bool
+/// Returns the answer for a node, by those for its operands.
+fn answer<'n, 'i>(
+    question: Question,
+    roots: &[usize],
+    flags: &[bool],
+    node: PassNode<'n, 'i>,
+) -> bool
     ensures { result ≡ spec.answer question roots.now (is_set_at flags.now) node.entry }
 {
     match question {
@@ -96,7 +111,7 @@ fn answer<'n, 'i>(question: Question, roots: &[usize], flags: &[bool], node: Nod
     }
 }
 
-/// The first node of a rule, and its body.
+/// Returns the indices of a rule's first node and of its body.
 pub(crate) fn nodes_of_rule(roots: &[usize], rule: usize) -> (usize, usize) {
     let first = match rule.checked_sub(1) {
         None => 0,
@@ -115,30 +130,30 @@ pub(crate) fn nodes_of_rule(roots: &[usize], rule: usize) -> (usize, usize) {
 #[derive(Drop)]
 pub(crate) struct Nodes<'a, 'n, 'i> {
     pub roots: &'a [usize],
-    pub nodes: &'a [Node<'n, 'i>],
+    pub nodes: &'a [PassNode<'n, 'i>],
 }
 
-impl<'a, 'n, 'i> Listening for Nodes<'a, 'n, 'i> {
+impl<'a, 'n, 'i> DependencyGraph for Nodes<'a, 'n, 'i> {
     fn count(&self) -> usize {
         self.nodes.len()
     }
 
-    fn tell<T: Told>(&self, place: usize, told: &mut T) {
+    fn visit_dependencies<V: DependencyVisitor>(&self, place: usize, visitor: &mut V) {
         let Some(node) = self.nodes.get(place) else {
             return;
         };
-        if let Some(rule) = node.kind.called() {
+        if let Some(rule) = node.kind.called_rule() {
             if let Some(root) = self.roots.get(rule) {
-                told.listens_to(*root);
+                visitor.visit(*root);
             }
             return;
         }
         match node.kind.parts() {
             Parts::Nothing => {}
-            Parts::Inside(body, _, _, _) => told.listens_to(body),
+            Parts::Inside(body, _, _, _) => visitor.visit(body),
             Parts::Both(first, second, _) => {
-                told.listens_to(first);
-                told.listens_to(second);
+                visitor.visit(first);
+                visitor.visit(second);
             }
         }
     }
@@ -149,11 +164,11 @@ impl<'a, 'n, 'i> Listening for Nodes<'a, 'n, 'i> {
 struct Asked<'a, 'n, 'i> {
     question: Question,
     roots: &'a [usize],
-    nodes: &'a [Node<'n, 'i>],
+    nodes: &'a [PassNode<'n, 'i>],
 }
 
 impl<'a, 'n, 'i> Inference for Asked<'a, 'n, 'i> {
-    type Item = Node<'n, 'i>;
+    type Item = PassNode<'n, 'i>;
 
     ghost items = { λ asked. asked.nodes.now };
 
@@ -168,17 +183,17 @@ impl<'a, 'n, 'i> Inference for Asked<'a, 'n, 'i> {
     }
 }
 
-/// The answers for all nodes: the least flags that follow from one another.
+/// Returns the answers for all nodes, a least fixpoint.
 pub(crate) fn answers<'n, 'i>(
     alloc: Global,
     question: Question,
     roots: &[usize],
-    nodes: &[Node<'n, 'i>],
+    nodes: &[PassNode<'n, 'i>],
 ) -> Result<Vec<bool>, AllocError>
     ensures sound { IfOk result (λ flags. AreSound question nodes.now roots.now flags.items) }
     ensures closed { IfOk result (λ flags. AreClosed question nodes.now roots.now flags.items) }
 {
-    let listeners = who_listens(alloc, &Nodes { roots, nodes })?;
+    let listeners = find_listeners(alloc, &Nodes { roots, nodes })?;
     let asked = Asked {
         question,
         roots,

@@ -1,13 +1,14 @@
-//! Which rules certainly reach themselves: those that are reached from a leader from which they are reached.
+//! Rules that certainly reach themselves: their leader reaches them, and they reach their leader (a check
+//! of the components).
 ghost use Rattle.std.specs.Prelude.{◌≡◌, ℕ, IfOk, Some, false, true, slice_get};
 ghost use Rattle.meta_stack_loops.specs.Leading.{AreLed, AreLinks, IsOnward, LeadsBack, leader_in};
 
-use crate::calls::{Groups, Link, turned};
-use crate::table::Node;
+use crate::calls::{Groups, Link, orient};
+use crate::table::PassNode;
 use meta_fixpoint::is_set;
 use std::alloc::{AllocError, Global};
 
-/// The leader of a rule.
+/// Returns the leader of a rule.
 fn leader_of(leaders: &[usize], rule: usize) -> usize
     ensures { result ≡ leader_in leaders.now rule }
 {
@@ -25,7 +26,7 @@ fn leads_on(leaders: &[usize], flags: &[bool], first: usize, second: usize) -> b
     leader_of(leaders, first) == leader && (first == leader || is_set(flags, first))
 }
 
-/// Links in some order and the leaders of the rules, and whether the links are followed down from the leaders
+/// Links in some order, the leaders of the rules, and whether the links are followed down from the leaders
 /// or up to them.
 #[derive(Clone, Copy)]
 struct Ways<'l> {
@@ -34,11 +35,11 @@ struct Ways<'l> {
     down: bool,
 }
 
-/// Sets the flag of the rule at the end of a link, if the one at its beginning is the leader of both or has
-/// its flag set. Where flags tell which rules lead up to their leaders, the link is taken from its target.
+/// Sets the flag of the rule at the end of a link, if the rule at its beginning is the leader of both or
+/// has its flag set. Where flags mean rules that lead up to their leaders, the link is reversed.
 fn go_on<'n, 'i>(
     roots: &[usize],
-    nodes: &[Node<'n, 'i>],
+    nodes: &[PassNode<'n, 'i>],
     ways: Ways<'_>,
     flags: &mut Vec<bool>,
     place: usize,
@@ -55,17 +56,18 @@ fn go_on<'n, 'i>(
     if place >= links.len() {
         return;
     }
-    let link = turned(links[place], down);
+    let link = orient(links[place], down);
     if link.target < flags.len() && leads_on(leaders, flags.as_slice(), link.source, link.target) {
         flags[link.target] = true;
     }
 }
 
-/// Which rules are reached from their leaders, or else from which rules these are, by links in this order.
+/// Returns flags of the rules that their leaders reach, or else that reach their leaders, by links in this
+/// order.
 fn led_by<'n, 'i>(
     alloc: Global,
     roots: &[usize],
-    nodes: &[Node<'n, 'i>],
+    nodes: &[PassNode<'n, 'i>],
     ways: Ways<'_>,
     steps: &[usize],
 ) -> Result<Vec<bool>, AllocError>
@@ -80,11 +82,11 @@ fn led_by<'n, 'i>(
     Ok(flags)
 }
 
-/// Which rules are reached from their leaders, these themselves too.
+/// Returns flags of the rules that their leaders reach, the leaders included.
 fn reached_by<'n, 'i>(
     alloc: Global,
     roots: &[usize],
-    nodes: &[Node<'n, 'i>],
+    nodes: &[PassNode<'n, 'i>],
     links: &[Link],
     leaders: &[usize],
     steps: &[usize],
@@ -108,7 +110,7 @@ fn reached_by<'n, 'i>(
 #[tactic(auto, using(crate::proofs::GroupLemmas::back_by_leader))]
 fn is_recursive<'n, 'i>(
     roots: &[usize],
-    nodes: &[Node<'n, 'i>],
+    nodes: &[PassNode<'n, 'i>],
     leaders: &[usize],
     reached: &[bool],
     returning: &[bool],
@@ -121,11 +123,11 @@ fn is_recursive<'n, 'i>(
     is_set(reached, rule) && (leader_of(leaders, rule) == rule || is_set(returning, rule))
 }
 
-/// For each rule whether it certainly reaches itself.
+/// Returns for each rule whether it certainly reaches itself.
 pub(crate) fn recursive_by<'n, 'i>(
     alloc: Global,
     roots: &[usize],
-    nodes: &[Node<'n, 'i>],
+    nodes: &[PassNode<'n, 'i>],
     links: &[Link],
     groups: &Groups,
 ) -> Result<Vec<bool>, AllocError>

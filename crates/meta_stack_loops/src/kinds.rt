@@ -1,4 +1,4 @@
-//! What the nodes of all rules do.
+//! Kinds of the nodes of all rules.
 ghost use Rattle.std.specs.Prelude.{◌≡◌, IfOk};
 ghost use Rattle.meta_ast.specs.Ast.{text_of};
 ghost use Rattle.meta_analysis.specs.NameMaps.{KnowsRules};
@@ -8,13 +8,13 @@ ghost use Rattle.meta_stack_loops.specs.Kinds.{AreTabled, both_kind, is_empty_te
 ghost use Rattle.meta_stack_loops.specs.Names.{kind_in};
 
 use crate::names::kind_of_name;
-use crate::table::{Kind, Node};
-use meta_analysis::{Joint, Names, Shape, Sign, Table};
+use crate::table::{NodeKind, PassNode};
+use meta_analysis::{Joint, Names, Shape, Table, UnaryOperator};
 use meta_spanned::{ParserExpr, ParserRule};
 use std::alloc::{AllocError, Global};
 
-/// What an expression without operands does.
-fn kind_of_leaf<'i>(rules: &[ParserRule<'i>], names: &Names, expr: &ParserExpr<'i>) -> Kind
+/// Returns the kind of an expression without operands.
+fn kind_of_leaf<'i>(rules: &[ParserRule<'i>], names: &Names, expr: &ParserExpr<'i>) -> NodeKind
     requires { KnowsRules rules.now names.now }
     ensures { result ≡ kind_of_code (kind_in (grammar_of rules.now)) expr.now }
 {
@@ -23,43 +23,47 @@ fn kind_of_leaf<'i>(rules: &[ParserRule<'i>], names: &Names, expr: &ParserExpr<'
         ParserExpr::Insens(text) => kind_of_text(text),
         ParserExpr::Ident(name) => kind_of_name(rules, names, name),
         ParserExpr::PeekSlice(start, end) => kind_of_slice(*start, *end),
-        ParserExpr::PushLiteral(text) => Kind::PushLiteral(is_empty_text(text)),
-        ParserExpr::Range(_, _) => Kind::Leaf,
-        ParserExpr::PosPred(_) => Kind::Leaf,
-        ParserExpr::NegPred(_) => Kind::Leaf,
-        ParserExpr::Opt(_) => Kind::Leaf,
-        ParserExpr::Push(_) => Kind::Leaf,
-        ParserExpr::NodeTag(_, _) => Kind::Leaf,
-        ParserExpr::Seq(_, _) => Kind::Leaf,
-        ParserExpr::Choice(_, _) => Kind::Leaf,
-        ParserExpr::Rep(_) => Kind::Leaf,
-        ParserExpr::RepOnce(_) => Kind::Leaf,
-        ParserExpr::RepExact(_, _) => Kind::Leaf,
-        ParserExpr::RepMin(_, _) => Kind::Leaf,
-        ParserExpr::RepMax(_, _) => Kind::Leaf,
-        ParserExpr::RepMinMax(_, _, _) => Kind::Leaf,
+        ParserExpr::PushLiteral(text) => NodeKind::PushLiteral(is_empty_text(text)),
+        ParserExpr::Range(_, _) => NodeKind::Leaf,
+        ParserExpr::PosPred(_) => NodeKind::Leaf,
+        ParserExpr::NegPred(_) => NodeKind::Leaf,
+        ParserExpr::Opt(_) => NodeKind::Leaf,
+        ParserExpr::Push(_) => NodeKind::Leaf,
+        ParserExpr::NodeTag(_, _) => NodeKind::Leaf,
+        ParserExpr::Seq(_, _) => NodeKind::Leaf,
+        ParserExpr::Choice(_, _) => NodeKind::Leaf,
+        ParserExpr::Rep(_) => NodeKind::Leaf,
+        ParserExpr::RepOnce(_) => NodeKind::Leaf,
+        ParserExpr::RepExact(_, _) => NodeKind::Leaf,
+        ParserExpr::RepMin(_, _) => NodeKind::Leaf,
+        ParserExpr::RepMax(_, _) => NodeKind::Leaf,
+        ParserExpr::RepMinMax(_, _, _) => NodeKind::Leaf,
     }
 }
 
-fn kind_of_text(text: &String) -> Kind
+fn kind_of_text(text: &String) -> NodeKind
     ensures { result ≡ text_kind (text_of text.now) }
 {
     if text.is_empty() {
-        Kind::Still
+        NodeKind::Still
     } else {
-        Kind::Leaf
+        NodeKind::Leaf
     }
 }
 
-fn kind_of_slice(start: i32, end: Option<i32>) -> Kind
+fn kind_of_slice(start: i32, end: Option<i32>) -> NodeKind
     ensures { result ≡ slice_kind start end }
 {
     if start != 0 {
-        return Kind::Leaf;
+        return NodeKind::Leaf;
     }
     match end {
-        None => Kind::PeekAll,
-        Some(end) => if end == 0 { Kind::Still } else { Kind::Leaf },
+        None => NodeKind::PeekAll,
+        Some(end) => if end == 0 {
+            NodeKind::Still
+        } else {
+            NodeKind::Leaf
+        },
     }
 }
 
@@ -69,42 +73,42 @@ fn is_empty_text(text: &String) -> bool
     text.is_empty()
 }
 
-fn kind_of_wrap(sign: Sign, body: usize) -> Kind
+fn kind_of_wrap(sign: UnaryOperator, body: usize) -> NodeKind
     ensures { result ≡ wrap_kind sign body }
 {
     match sign {
-        Sign::PosPred => Kind::PosPred(body),
-        Sign::NegPred => Kind::NegPred(body),
-        Sign::Opt => Kind::Opt(body),
-        Sign::Push => Kind::Push(body),
-        Sign::NodeTag => Kind::Tag(body),
-        Sign::Rep => Kind::Repeat(body, 0, 0, true),
-        Sign::RepOnce => Kind::Repeat(body, 1, 0, true),
-        Sign::RepExact(count) => Kind::Repeat(body, count, 0, false),
-        Sign::RepMin(count) => Kind::Repeat(body, count, 0, true),
-        Sign::RepMax(count) => Kind::Repeat(body, 0, count, false),
-        Sign::RepMinMax(low, high) => {
-            Kind::Repeat(body, low.min(high), high.saturating_sub(low), false)
+        UnaryOperator::PosPred => NodeKind::PosPred(body),
+        UnaryOperator::NegPred => NodeKind::NegPred(body),
+        UnaryOperator::Opt => NodeKind::Opt(body),
+        UnaryOperator::Push => NodeKind::Push(body),
+        UnaryOperator::NodeTag => NodeKind::Tag(body),
+        UnaryOperator::Rep => NodeKind::Repeat(body, 0, 0, true),
+        UnaryOperator::RepOnce => NodeKind::Repeat(body, 1, 0, true),
+        UnaryOperator::RepExact(count) => NodeKind::Repeat(body, count, 0, false),
+        UnaryOperator::RepMin(count) => NodeKind::Repeat(body, count, 0, true),
+        UnaryOperator::RepMax(count) => NodeKind::Repeat(body, 0, count, false),
+        UnaryOperator::RepMinMax(low, high) => {
+            NodeKind::Repeat(body, low.min(high), high.saturating_sub(low), false)
         }
     }
 }
 
-fn kind_of_both(joint: Joint, first: usize, second: usize) -> Kind
+fn kind_of_both(joint: Joint, first: usize, second: usize) -> NodeKind
     ensures { result ≡ both_kind joint first second }
 {
     match joint {
-        Joint::Sequence => Kind::Seq(first, second),
-        Joint::Choice => Kind::Choice(first, second),
+        Joint::Sequence => NodeKind::Seq(first, second),
+        Joint::Choice => NodeKind::Choice(first, second),
     }
 }
 
-/// What an expression of this shape does.
+/// Returns the kind of an expression of this shape.
 fn kind_of_node<'i>(
     rules: &[ParserRule<'i>],
     names: &Names,
     expr: &ParserExpr<'i>,
     shape: Shape,
-) -> Kind
+) -> NodeKind
     requires { KnowsRules rules.now names.now }
     ensures { result ≡ node_kind (kind_in (grammar_of rules.now)) expr.now shape }
 {
@@ -115,13 +119,13 @@ fn kind_of_node<'i>(
     }
 }
 
-/// The nodes of the table of rules, with what they do.
+/// Returns the nodes of the table of rules, with their kinds.
 pub(crate) fn nodes_with_kinds<'n, 'i>(
     alloc: Global,
     rules: &[ParserRule<'i>],
     names: &Names,
     table: &Table<'n, 'i>,
-) -> Result<Vec<Node<'n, 'i>>, AllocError>
+) -> Result<Vec<PassNode<'n, 'i>>, AllocError>
     requires known { KnowsRules rules.now names.now }
     requires tabled { IsTabled rules.now table.now }
     ensures { IfOk result (λ nodes. AreTabled rules.now (kind_in (grammar_of rules.now))
@@ -130,7 +134,7 @@ pub(crate) fn nodes_with_kinds<'n, 'i>(
     let mut nodes = Vec::with_capacity(alloc, table.nodes.len())?;
     for place in 0..table.nodes.len() {
         let node = table.nodes[place];
-        nodes.push(Node {
+        nodes.push(PassNode {
             kind: kind_of_node(rules, names, node.expr, node.shape),
             rule: node.rule,
             span: node.span,

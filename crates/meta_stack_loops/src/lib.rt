@@ -1,4 +1,4 @@
-//! The stack pass: which repetitions certainly never end, by what is known of the stack.
+//! The stack pass, an abstract interpretation: which repetitions certainly never end because of the stack.
 #![tactic(auto)]
 
 mod apart;

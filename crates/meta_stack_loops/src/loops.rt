@@ -1,4 +1,5 @@
-//! The loop search: turns that cannot fail and take nothing, until one starts as an earlier one.
+//! The loop search: from a stack, turns that cannot fail and take nothing, until one starts as an earlier
+//! one.
 ghost use Rattle.std.specs.Prelude.{◌≡◌, ◌<◌, IfOk, IfSome, OnOk};
 ghost use Rattle.meta_stack_domain.specs.Stack as is;
 ghost use Rattle.meta_stack_domain.specs.Reading as says;
@@ -44,7 +45,7 @@ pub fn loops(
     starts.push(start)?;
     for done in 0..turns {
         let reading = read(alloc, table, memory, body, start)?;
-        let Some(after) = reading.settled() else {
+        let Some(after) = reading.sure_stack() else {
             return Ok(false);
         };
         if !after.intact {

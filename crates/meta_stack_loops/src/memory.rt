@@ -1,4 +1,4 @@
-//! Readings that were made, by node and stack; of nodes that stay apart from the stack, by node alone.
+//! Memoized readings, by node and stack, or by node alone if the node is independent of the stack.
 ghost use Rattle.std.specs.Prelude.{◌≡◌, ◌<◌, IfSome, OnOk};
 ghost use Rattle.meta_stack_loops.specs.Apart.{AreMovable, moved};
 ghost use Rattle.meta_stack_loops.specs.Keys as spec;
@@ -10,12 +10,11 @@ use meta_stack_domain::{Base, Reading, Stack};
 use std::alloc::{AllocError, Global};
 use std::collections::HashMap;
 
-/// The readings of nodes that were made.
+/// The memoized readings of nodes.
 #[derive(Drop)]
 pub struct Memory {
     pub known: HashMap<u64, Reading>,
-    /// Which nodes do the same from every stack, and leave it. Their readings are kept as they are from a
-    /// stack of which nothing is known.
+    /// Which nodes are independent of the stack. Their readings are kept as from an unknown stack.
     pub apart: Vec<bool>,
 }
 
@@ -30,7 +29,7 @@ fn base_number(base: Base) -> u64
     }
 }
 
-/// A number of its own for each node and stack; `None` for nodes past any that memory holds.
+/// Returns a key unique to a node and a stack; `None` if the index of the node is 2^40 or more.
 fn key_of(node: usize, stack: Stack) -> Option<u64>
     ensures { IfSome result (λ key. key ≡ spec.key_of node stack) }
 {
@@ -42,7 +41,7 @@ fn key_of(node: usize, stack: Stack) -> Option<u64>
     Some((node as u64) * 32768 + (base_number(stack.base) * 8192 + marks))
 }
 
-/// The stack, where another one is possible.
+/// Returns the stack, if `condition` is a possible stack.
 fn only_if(condition: Option<Stack>, stack: Stack) -> Option<Stack>
     ensures { possible result ≡ says.only_if (possible condition) (stack_of stack) }
 {
@@ -52,8 +51,8 @@ fn only_if(condition: Option<Stack>, stack: Stack) -> Option<Stack>
     }
 }
 
-/// The reading from a stack, of what stays apart from it, by the reading from another one.
-fn moved(reading: Reading, stack: Stack) -> Reading
+/// Converts a reading of a node independent of the stack to that from another stack.
+fn rebase(reading: Reading, stack: Stack) -> Reading
     ensures { reading_of result ≡ moved (stack_of stack) (reading_of reading) }
 {
     Reading {
@@ -66,7 +65,7 @@ fn moved(reading: Reading, stack: Stack) -> Reading
 impl Memory {
     ghost use Rattle.meta_stack_loops.specs.Memory.{IsRight, Meaning};
 
-    /// Nothing is remembered. `apart`: which nodes stay apart from the stack.
+    /// Returns an empty memory. `apart`: which nodes are independent of the stack.
     pub fn new(alloc: Global, apart: Vec<bool>) -> Memory
         ensures { (meaning : Meaning) → AreMovable meaning apart.items → IsRight meaning result }
     {
@@ -76,21 +75,21 @@ impl Memory {
         }
     }
 
-    /// The reading of a node from a stack, if it is remembered.
-    pub fn recalled(&self, node: usize, stack: Stack) -> Option<Reading>
+    /// Returns the reading of a node from a stack, if it is memoized.
+    pub fn recall(&self, node: usize, stack: Stack) -> Option<Reading>
         ensures { IfSome result (λ reading. (meaning : Meaning) → IsRight meaning self.now
             → reading_of reading ≡ meaning node (stack_of stack)) }
     {
         if !is_set(self.apart.as_slice(), node) {
-            return self.found(node, stack);
+            return self.look_up(node, stack);
         }
-        match self.found(node, Stack::unknown()) {
+        match self.look_up(node, Stack::unknown()) {
             None => None,
-            Some(reading) => Some(moved(reading, stack)),
+            Some(reading) => Some(rebase(reading, stack)),
         }
     }
 
-    /// Remembers the reading of a node from a stack.
+    /// Memoizes the reading of a node from a stack.
     pub fn remember(
         &mut self,
         node: usize,
@@ -104,12 +103,12 @@ impl Memory {
             return self.keep(node, stack, reading);
         }
         let unknown = Stack::unknown();
-        let kept = moved(reading, unknown);
+        let kept = rebase(reading, unknown);
         self.keep(node, unknown, kept)
     }
 
-    /// The reading that was kept of a node from a stack, if one was.
-    fn found(&self, node: usize, stack: Stack) -> Option<Reading>
+    /// Looks up the memoized reading of a node from a stack.
+    fn look_up(&self, node: usize, stack: Stack) -> Option<Reading>
         ensures { IfSome result (λ reading. (meaning : Meaning) → IsRight meaning self.now
             → reading_of reading ≡ meaning node (stack_of stack)) }
     {

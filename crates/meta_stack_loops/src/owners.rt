@@ -1,12 +1,12 @@
-//! In which rule's body each node stands, and which rules call which by that.
+//! The call graph: the rule whose body has each node, and the calls between rules.
 ghost use Rattle.std.specs.Prelude.{◌≡◌, IfOk, OnOk, Some};
 ghost use Rattle.meta_stack_loops.specs.Leading.{AreLinks, AreOwned, LeadsFrom, Owns, owner_in};
 
 use crate::calls::Link;
-use crate::table::{Kind, Node, Parts};
+use crate::table::{NodeKind, Parts, PassNode};
 use std::alloc::{AllocError, Global};
 
-/// The rule in whose body a node is known to stand.
+/// Returns the rule whose body is known to have a node.
 fn owner_of(owners: &[Option<usize>], node: usize) -> Option<usize>
     ensures { result ≡ owner_in owners.now node }
 {
@@ -16,10 +16,10 @@ fn owner_of(owners: &[Option<usize>], node: usize) -> Option<usize>
     }
 }
 
-/// Notes in which rule's body a node stands.
+/// Records the rule whose body has a node.
 fn own<'n, 'i>(
     roots: &[usize],
-    nodes: &[Node<'n, 'i>],
+    nodes: &[PassNode<'n, 'i>],
     owners: &mut Vec<Option<usize>>,
     node: usize,
     rule: usize,
@@ -33,10 +33,10 @@ fn own<'n, 'i>(
     }
 }
 
-/// Notes it of the operands of a node.
+/// Records a node's rule for its operands.
 fn own_parts<'n, 'i>(
     roots: &[usize],
-    nodes: &[Node<'n, 'i>],
+    nodes: &[PassNode<'n, 'i>],
     owners: &mut Vec<Option<usize>>,
     place: usize,
 )
@@ -59,9 +59,9 @@ fn own_parts<'n, 'i>(
     }
 }
 
-/// Notes it of all bodies.
+/// Records every rule for the root of its body.
 #[tactic(auto, using(crate::proofs::GroupLemmas::root_owned))]
-fn own_roots<'n, 'i>(roots: &[usize], nodes: &[Node<'n, 'i>], owners: &mut Vec<Option<usize>>)
+fn own_roots<'n, 'i>(roots: &[usize], nodes: &[PassNode<'n, 'i>], owners: &mut Vec<Option<usize>>)
     requires { AreOwned nodes.now roots.now owners.old.items }
     ensures { AreOwned nodes.now roots.now owners.new.items }
 {
@@ -70,8 +70,8 @@ fn own_roots<'n, 'i>(roots: &[usize], nodes: &[Node<'n, 'i>], owners: &mut Vec<O
     }
 }
 
-/// Notes it of all that stands in nodes, the last of these first.
-fn own_all<'n, 'i>(roots: &[usize], nodes: &[Node<'n, 'i>], owners: &mut Vec<Option<usize>>)
+/// Records the rules of all operands, from the last node to the first.
+fn own_all<'n, 'i>(roots: &[usize], nodes: &[PassNode<'n, 'i>], owners: &mut Vec<Option<usize>>)
     requires { AreOwned nodes.now roots.now owners.old.items }
     ensures { AreOwned nodes.now roots.now owners.new.items }
 {
@@ -81,11 +81,11 @@ fn own_all<'n, 'i>(roots: &[usize], nodes: &[Node<'n, 'i>], owners: &mut Vec<Opt
     }
 }
 
-/// In which rule's body each node stands.
+/// Returns the rule whose body has each node.
 fn owners_of<'n, 'i>(
     alloc: Global,
     roots: &[usize],
-    nodes: &[Node<'n, 'i>],
+    nodes: &[PassNode<'n, 'i>],
 ) -> Result<Vec<Option<usize>>, AllocError>
     ensures { IfOk result (λ owners. AreOwned nodes.now roots.now owners.items) }
 {
@@ -95,10 +95,10 @@ fn owners_of<'n, 'i>(
     Ok(owners)
 }
 
-/// Adds the link that a node is: from the rule in whose body it stands to the one that it calls.
+/// Appends the link of a call: from the rule whose body has the node to the rule that it calls.
 fn add_link<'n, 'i>(
     roots: &[usize],
-    nodes: &[Node<'n, 'i>],
+    nodes: &[PassNode<'n, 'i>],
     owners: &[Option<usize>],
     place: usize,
     links: &mut Vec<Link>,
@@ -110,7 +110,7 @@ fn add_link<'n, 'i>(
     if place >= nodes.len() {
         return Ok(());
     }
-    let Some(target) = nodes[place].kind.called() else {
+    let Some(target) = nodes[place].kind.called_rule() else {
         return Ok(());
     };
     let Some(source) = owner_of(owners, place) else {
@@ -120,11 +120,11 @@ fn add_link<'n, 'i>(
     Ok(())
 }
 
-/// The calls in all bodies.
+/// Returns the calls in all bodies.
 pub(crate) fn links_of<'n, 'i>(
     alloc: Global,
     roots: &[usize],
-    nodes: &[Node<'n, 'i>],
+    nodes: &[PassNode<'n, 'i>],
 ) -> Result<Vec<Link>, AllocError>
     ensures { IfOk result (λ links. AreLinks nodes.now roots.now links.items) }
 {

@@ -1,4 +1,4 @@
-//! Readings of nodes, each made once.
+//! Abstract interpretation of nodes, memoized and iterative.
 ghost use Rattle.std.specs.Prelude.{◌≡◌, ◌<◌, [], IfOk};
 ghost use Rattle.meta_stack_loops.specs.Table.{IsOrdered};
 ghost use Rattle.meta_stack_loops.specs.Memory.{ReadsNode, Steps};
@@ -6,15 +6,15 @@ ghost use Rattle.meta_stack_loops.specs.Following.{Follows, Turned};
 ghost use Rattle.meta_stack_loops.specs.Waiting.{ReadsOn};
 ghost use Rattle.meta_stack_domain.specs.Views.{stack_of, walk_of};
 
-use crate::copies::{Begun, Counts, Repeated, all_copies, foreseen, is_among, next_copy};
+use crate::copies::{Begun, CopyCounts, Repeated, all_copies, foreseen, is_among, next_copy};
 use crate::memory::Memory;
-use crate::table::{Kind, Table};
-use crate::waiting::{Awaited, How, Next, Waiting, go_on, wait};
+use crate::table::{NodeKind, Table};
+use crate::waiting::{Awaited, How, ReadTask, Waiting, go_on, wait};
 use meta_stack_domain::{Reading, Stack, Walk};
 use std::alloc::{AllocError, Global};
 
-/// The reading of a node from a stack. What waits for the reading of an operand, or of what it repeats, lies
-/// on a list, so that no depth of an expression or of calls takes the machine's stack.
+/// Returns the reading of a node from a stack. Nodes that wait for the reading of an operand or of a
+/// repetition's body are on a list, so stack use does not depend on the depth of expressions or calls.
 pub fn read(
     alloc: Global,
     table: &Table,
@@ -27,13 +27,13 @@ pub fn read(
     ensures { IfOk result (ReadsNode table.now memory.old memory.new node (stack_of stack)) }
 {
     let mut waiting = Vec::new(alloc);
-    let mut next = Next::Read(node, stack);
+    let mut next = ReadTask::Read(node, stack);
     'steps: loop {
         match next {
-            Next::Read(node, stack) => {
+            ReadTask::Read(node, stack) => {
                 next = begin(alloc, table, memory, node, stack, &mut waiting)?;
             }
-            Next::Done(reading) => match waiting.pop() {
+            ReadTask::Done(reading) => match waiting.pop() {
                 Some(last) => next = go_on(table, memory, &mut waiting, last, reading)?,
                 None => return Ok(reading),
             },
@@ -41,7 +41,7 @@ pub fn read(
     }
 }
 
-/// What is done to read a node: it waits for the reading of an operand, or its reading is there.
+/// Begins to read a node: waits for the reading of an operand, or returns a reading at once.
 fn begin(
     alloc: Global,
     table: &Table,
@@ -49,41 +49,41 @@ fn begin(
     node: usize,
     stack: Stack,
     waiting: &mut Vec<Waiting>,
-) -> Result<Next, AllocError>
+) -> Result<ReadTask, AllocError>
     requires inside { node < table.now.nodes.len }
     requires ordered { IsOrdered table.now }
-    ensures { IfOk result (ReadsOn table.now memory.old memory.new (Next.Read node stack)
+    ensures { IfOk result (ReadsOn table.now memory.old memory.new (ReadTask.Read node stack)
         waiting.old.items waiting.new.items) }
 {
-    if let Some(reading) = memory.recalled(node, stack) {
-        return Ok(Next::Done(reading));
+    if let Some(reading) = memory.recall(node, stack) {
+        return Ok(ReadTask::Done(reading));
     }
     match table.kind_at(node) {
-        Kind::Still => Ok(Next::Done(Reading::surely(stack))),
-        Kind::Leaf => Ok(Next::Done(Reading::maybe(stack))),
-        Kind::Peek => Ok(Next::Done(Reading::top(stack, stack))),
-        Kind::Pop => Ok(Next::Done(Reading::top(stack, stack.popped()))),
-        Kind::Drop => Ok(Next::Done(Reading::dropped(stack))),
-        Kind::PeekAll => Ok(Next::Done(Reading::peek_all(stack))),
-        Kind::PopAll => Ok(Next::Done(Reading::pop_all(stack))),
-        Kind::PushLiteral(blank) => Ok(Next::Done(Reading::surely(stack.pushed(blank)))),
-        Kind::Call(rule) => match table.followed(rule) {
-            None => Ok(Next::Done(Reading::anything())),
+        NodeKind::Still => Ok(ReadTask::Done(Reading::surely(stack))),
+        NodeKind::Leaf => Ok(ReadTask::Done(Reading::maybe(stack))),
+        NodeKind::Peek => Ok(ReadTask::Done(Reading::top(stack, stack))),
+        NodeKind::Pop => Ok(ReadTask::Done(Reading::top(stack, stack.without_top()))),
+        NodeKind::Drop => Ok(ReadTask::Done(Reading::drop_top(stack))),
+        NodeKind::PeekAll => Ok(ReadTask::Done(Reading::peek_all(stack))),
+        NodeKind::PopAll => Ok(ReadTask::Done(Reading::pop_all(stack))),
+        NodeKind::PushLiteral(blank) => Ok(ReadTask::Done(Reading::surely(stack.with_mark(blank)))),
+        NodeKind::Call(rule) => match table.followed_body(rule) {
+            None => Ok(ReadTask::Done(Reading::anything())),
             Some(body) => wait(waiting, node, stack, Awaited::Last(How::Same), body),
         },
-        Kind::PosPred(body) => wait(waiting, node, stack, Awaited::Last(How::Ahead), body),
-        Kind::NegPred(body) => wait(waiting, node, stack, Awaited::Last(How::NotAhead), body),
-        Kind::Opt(body) => wait(waiting, node, stack, Awaited::Last(How::Optional), body),
-        Kind::Push(body) => wait(waiting, node, stack, Awaited::Last(How::Pushed), body),
-        Kind::Tag(body) => wait(waiting, node, stack, Awaited::Last(How::Same), body),
-        Kind::Seq(first, second) => {
+        NodeKind::PosPred(body) => wait(waiting, node, stack, Awaited::Last(How::Ahead), body),
+        NodeKind::NegPred(body) => wait(waiting, node, stack, Awaited::Last(How::NotAhead), body),
+        NodeKind::Opt(body) => wait(waiting, node, stack, Awaited::Last(How::Optional), body),
+        NodeKind::Push(body) => wait(waiting, node, stack, Awaited::Last(How::Pushed), body),
+        NodeKind::Tag(body) => wait(waiting, node, stack, Awaited::Last(How::Same), body),
+        NodeKind::Seq(first, second) => {
             wait(waiting, node, stack, Awaited::First(second, false), first)
         }
-        Kind::Choice(first, second) => {
+        NodeKind::Choice(first, second) => {
             wait(waiting, node, stack, Awaited::First(second, true), first)
         }
-        Kind::Repeat(body, required, optional, endless) => {
-            let counts = Counts {
+        NodeKind::Repeat(body, required, optional, endless) => {
+            let counts = CopyCounts {
                 required,
                 optional,
                 endless,
@@ -94,7 +94,7 @@ fn begin(
     }
 }
 
-/// One copy more.
+/// Follows one more copy.
 fn step(
     alloc: Global,
     table: &Table,
@@ -111,10 +111,10 @@ fn step(
         return Ok(walk);
     };
     let reading = read(alloc, table, memory, body, stack)?;
-    Ok(walk.stepped(reading, stack, required))
+    Ok(walk.after_copy(reading, stack, required))
 }
 
-/// So many copies of one kind.
+/// A number of copies of one kind.
 #[derive(Clone, Copy)]
 pub struct Series {
     pub body: usize,
@@ -122,8 +122,8 @@ pub struct Series {
     pub count: u32,
 }
 
-/// So many copies, followed until they come back to a walk that was seen. `trace` has the walks
-/// from which one of them starts, each once.
+/// Follows copies until they come back to a walk that was seen; `trace` gets the walks from which one of
+/// them starts, without duplicates.
 pub fn follow(
     alloc: Global,
     table: &Table,
@@ -151,8 +151,8 @@ pub fn follow(
     Ok(walk)
 }
 
-/// Turns without end, followed until one starts as an earlier one. `seen` has the stacks from which
-/// they start.
+/// Follows turns without end until one starts as an earlier one; `seen` gets the stacks from which they
+/// start.
 pub fn turn(
     alloc: Global,
     table: &Table,
@@ -184,7 +184,7 @@ pub fn turn(
         }
         seen.push(stack)?;
         let reading = read(alloc, table, memory, body, stack)?;
-        walk = walk.turned(reading, stack);
+        walk = walk.after_turn(reading, stack);
         next = reading.ok;
     }
     Ok(Walk {

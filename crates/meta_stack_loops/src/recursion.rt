@@ -1,4 +1,4 @@
-//! Which rules reach themselves, and ranks by which the calls of the others come to an end.
+//! Recursive rules, and ranks by which the calls of the others come to an end.
 ghost use Rattle.std.specs.Prelude.{◌≡◌, ◌↔◌, ◌<◌, ◌≤◌, ℕ, IfOk, Some, true, length, slice_get};
 ghost use Rattle.meta_stack_loops.specs.Leading.{AreCalls, AreRaised, AreRanked, CallFalls, IsRanked, LeadsBack, PartsFall, bit, rank_in};
 ghost use Rattle.meta_stack_loops.specs.Table.{called_by, parts_of};
@@ -7,11 +7,11 @@ use crate::calls::groups_of;
 use crate::facts::{Question, answers, is_root_set};
 use crate::groups::recursive_by;
 use crate::owners::links_of;
-use crate::table::{Node, Parts};
+use crate::table::{Parts, PassNode};
 use meta_fixpoint::is_set;
 use std::alloc::{AllocError, Global};
 
-/// What is known of calls.
+/// Recursive rules and the ranks of nodes.
 #[derive(Drop)]
 pub struct Calls {
     /// For each rule whether it reaches itself.
@@ -21,7 +21,7 @@ pub struct Calls {
     pub ranks: Vec<usize>,
 }
 
-/// The rank of a node.
+/// Returns the rank of a node.
 fn rank_of(ranks: &[usize], node: usize) -> usize
     ensures { result ≡ rank_in ranks.now node }
 {
@@ -67,25 +67,25 @@ fn call_falls(
     below < own || (below == own && is_set(recursive, rule))
 }
 
-/// Whether a node has its place in the order of ranks.
+/// Whether a node fits into the order of ranks.
 fn is_ranked<'n, 'i>(
     roots: &[usize],
     recursive: &[bool],
     ranks: &[usize],
     place: usize,
-    node: Node<'n, 'i>,
+    node: PassNode<'n, 'i>,
 ) -> bool
     ensures { result ≡ true → IsRanked roots.now recursive.now ranks.now place node.entry }
 {
     rank_of(ranks, place) <= roots.len()
         && parts_fall(ranks, place, node.kind.parts())
-        && call_falls(roots, recursive, ranks, place, node.kind.called())
+        && call_falls(roots, recursive, ranks, place, node.kind.called_rule())
 }
 
-/// Whether all nodes have.
+/// Whether all nodes do.
 fn are_ranked<'n, 'i>(
     roots: &[usize],
-    nodes: &[Node<'n, 'i>],
+    nodes: &[PassNode<'n, 'i>],
     recursive: &[bool],
     ranks: &[usize],
 ) -> bool
@@ -106,8 +106,8 @@ fn bit(flag: bool) -> usize
     if flag { 1 } else { 0 }
 }
 
-/// The same numbers, one more at each flag that is set.
-fn raised(
+/// Returns the ranks, each raised by one where its flag is set.
+fn raise_ranks(
     alloc: Global,
     ranks: &[usize],
     flags: &[bool],
@@ -127,12 +127,12 @@ fn raised(
     Ok(found)
 }
 
-/// The calls of all rules, each rule sought from everywhere: the rank of a node is how many rules it leads
-/// to.
-fn sought<'n, 'i>(
+/// Returns the calls of all rules, by a search for each rule from every node: the rank of a node is the
+/// number of rules that it leads to.
+fn search_calls<'n, 'i>(
     alloc: Global,
     roots: &[usize],
-    nodes: &[Node<'n, 'i>],
+    nodes: &[PassNode<'n, 'i>],
 ) -> Result<Calls, AllocError>
     ensures { IfOk result (λ calls. AreCalls nodes.now roots.now calls.recursive.items calls.ranks.items) }
 {
@@ -141,15 +141,15 @@ fn sought<'n, 'i>(
     for rule in 0..roots.len() {
         let flags = answers(alloc, Question::LeadsTo(rule), roots, nodes)?;
         recursive.push(is_root_set(roots, flags.as_slice(), rule))?;
-        ranks = raised(alloc, ranks.as_slice(), flags.as_slice(), rule)?;
+        ranks = raise_ranks(alloc, ranks.as_slice(), flags.as_slice(), rule)?;
     }
     Ok(Calls { recursive, ranks })
 }
 
-/// For each node the rank of its rule.
-fn of_nodes<'n, 'i>(
+/// Returns for each node the rank of its rule.
+fn ranks_of_nodes<'n, 'i>(
     alloc: Global,
-    nodes: &[Node<'n, 'i>],
+    nodes: &[PassNode<'n, 'i>],
     ranks: &[Option<usize>],
 ) -> Result<Vec<usize>, AllocError> {
     let mut found = Vec::with_capacity(alloc, nodes.len())?;
@@ -163,22 +163,22 @@ fn of_nodes<'n, 'i>(
     Ok(found)
 }
 
-/// Which rules reach themselves, and the ranks of nodes. Those that certainly do are looked for by a guess;
-/// that no other does is seen by the ranks. Were that not seen, each rule would be sought by itself, which
-/// takes far longer.
+/// Returns which rules reach themselves, and the ranks of nodes. Components of the call graph give the
+/// rules that certainly do; the ranks certify that no other does. If the certificate is refused, each rule
+/// is searched for by itself, which takes far longer.
 pub(crate) fn calls_of<'n, 'i>(
     alloc: Global,
     roots: &[usize],
-    nodes: &[Node<'n, 'i>],
+    nodes: &[PassNode<'n, 'i>],
 ) -> Result<Calls, AllocError>
     ensures { IfOk result (λ calls. AreCalls nodes.now roots.now calls.recursive.items calls.ranks.items) }
 {
     let links = links_of(alloc, roots, nodes)?;
     let groups = groups_of(alloc, links.as_slice(), roots.len())?;
     let recursive = recursive_by(alloc, roots, nodes, links.as_slice(), &groups)?;
-    let ranks = of_nodes(alloc, nodes, groups.ranks.as_slice())?;
+    let ranks = ranks_of_nodes(alloc, nodes, groups.ranks.as_slice())?;
     if are_ranked(roots, nodes, recursive.as_slice(), ranks.as_slice()) {
         return Ok(Calls { recursive, ranks });
     }
-    sought(alloc, roots, nodes)
+    search_calls(alloc, roots, nodes)
 }

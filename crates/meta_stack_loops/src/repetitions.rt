@@ -1,15 +1,15 @@
-//! The whole pass.
+//! The stack pass, the entry points.
 ghost use Rattle.std.specs.Prelude.{◌≡◌, ◌<◌, ◌&&◌, not, IfOk, IfErr, IfSome, OnOk, MatchOption, alloc_error, map, is_some, [], ◌∷◌};
 ghost use Rattle.std.specs.List.{filter};
 ghost use Rattle.std.specs.Str.{IsAscii};
 ghost use Rattle.meta_base.specs.Language.Expression.{whitespace, comment, last_place};
-ghost use Rattle.meta_base.specs.Pieces.Saying.{Tell};
+ghost use Rattle.meta_base.specs.Pieces.Saying.{AreErrorsFor};
 ghost use Rattle.meta_fixpoint.specs.Least.{is_set_at};
 ghost use Rattle.meta_spanned.specs.Nodes.{rule_views, piece_of};
 ghost use Rattle.meta_analysis.specs.Facts.{AreFacts, AreNullable};
-ghost use Rattle.meta_analysis.specs.Groundwork.{IsGroundwork};
+ghost use Rattle.meta_analysis.specs.Analysis.{IsAnalysis};
 ghost use Rattle.meta_stack_domain.specs.Reports.{skips_in};
-ghost use Rattle.meta_stack_loops.specs.Certain.{AreFound, AreReports, IsSorted, TellReports, complaint_at};
+ghost use Rattle.meta_stack_loops.specs.Certain.{AreFound, AreReports, IsSorted, AreErrorsOfReports, complaint_at};
 ghost use Rattle.meta_stack_loops.specs.Expressions.{body_flag, name_flag};
 ghost use Rattle.meta_analysis.specs.NameMaps.{KnowsRules};
 ghost use Rattle.meta_analysis.specs.Names.{grammar_of};
@@ -28,7 +28,7 @@ use crate::recursion::{Calls, calls_of};
 use crate::reportable::{is_some_root_set, reportable_nodes};
 use crate::table::Table;
 use crate::visits::{Pending, visit};
-use meta_analysis::{Facts, Groundwork, Names, facts_of, names_of, tabulated};
+use meta_analysis::{Analysis, Facts, Names, facts_of, names_of, tabulate};
 use meta_base::grammar::Rule;
 use meta_base::runtime::{Error, ErrorVariant, Fault, Span, Survey};
 use meta_fixpoint::is_set;
@@ -36,13 +36,14 @@ use meta_spanned::ParserRule;
 use meta_stack_domain::Stack;
 use std::alloc::{AllocError, Global};
 
-/// How many abstract stacks there are.
+/// The number of abstract stacks.
 const ABSTRACT_STACKS: usize = 3066;
 
-/// How many turns of a repetition are followed at most: of so many, one starts from a stack that was seen.
+/// The greatest number of turns of a repetition that are followed; among so many, one starts from a stack
+/// that was seen.
 const MOST_TURNS: usize = ABSTRACT_STACKS + 1;
 
-/// How many turns the loop search follows.
+/// The number of turns that the loop search follows.
 const SEARCHED_TURNS: usize = 64;
 
 /// Whether the flag of the body of the rule of that name is set.
@@ -80,7 +81,7 @@ fn is_skipping<'i>(rules: &[ParserRule<'i>], names: &Names) -> bool
     is_defined(rules, names, "WHITESPACE") || is_defined(rules, names, "COMMENT")
 }
 
-/// Whether what is skipped leaves the stack alone, by the flags of nodes that change it.
+/// Whether the implicit whitespace leaves the stack alone, by the flags of nodes that change it.
 fn leaves_stack<'i>(
     rules: &[ParserRule<'i>],
     names: &Names,
@@ -95,7 +96,7 @@ fn leaves_stack<'i>(
         && !is_body_set(rules, names, roots, flags, "COMMENT")
 }
 
-/// Which nodes may take nothing, by the facts that are lent, or found out where none are.
+/// Returns which nodes may take nothing, copied from the facts that are lent, or computed if none are.
 fn nullable_flags<'i>(
     alloc: Global,
     rules: &[ParserRule<'i>],
@@ -109,7 +110,7 @@ fn nullable_flags<'i>(
     ensures { IfOk result (λ flags. AreNullable rules.now flags.items) }
 {
     match lent {
-        Some(facts) => facts.copied_nullable(alloc),
+        Some(facts) => facts.copy_nullable(alloc),
         None => {
             let Facts { nullable, .. } = facts_of(alloc, rules, names, table)?;
             Ok(nullable)
@@ -117,7 +118,7 @@ fn nullable_flags<'i>(
     }
 }
 
-/// What is visited.
+/// The table to visit, and the nodes worth a visit.
 #[derive(Drop)]
 pub struct ToVisit<'n, 'i> {
     /// The table of rules.
@@ -126,8 +127,8 @@ pub struct ToVisit<'n, 'i> {
     pub reportable: Vec<bool>,
 }
 
-/// What is visited; none where nothing is reported, which is mostly seen before it is asked which calls are
-/// followed.
+/// Returns the table to visit, or `None` if nothing is reported, which is mostly seen before the call graph
+/// is searched.
 fn to_visit_in<'n, 'i>(
     alloc: Global,
     rules: &[ParserRule<'i>],
@@ -142,7 +143,7 @@ fn to_visit_in<'n, 'i>(
         (λ visited. IsToVisit rules.now visited)) }
 {
     let nodes = nodes_with_kinds(alloc, rules, names, table)?;
-    let roots = table.copied_roots(alloc)?;
+    let roots = table.copy_roots(alloc)?;
     let reportable = reportable_nodes(alloc, roots.as_slice(), nodes.as_slice())?;
     if !is_some_root_set(roots.as_slice(), reportable.as_slice()) {
         return Ok(None);
@@ -171,14 +172,14 @@ fn to_visit_in<'n, 'i>(
     Ok(Some(ToVisit { table, reportable }))
 }
 
-/// The rules by their ranks, the lowest first.
+/// Returns the rules by their ranks, the lowest first.
 fn by_rank<'n, 'i>(alloc: Global, table: &Table<'n, 'i>) -> Result<Vec<usize>, AllocError> {
     let mut order = numbers(alloc, table.roots.len())?;
     order.sort_by_key(|rule| table.rank_of_rule(*rule))?;
     Ok(order)
 }
 
-/// Reads the body of a rule from where each rule begins, where the rule is noted.
+/// Reads the body of a rule from the abstract stack at the start of a rule, if the rule is flagged.
 fn read_body<'n, 'i>(
     alloc: Global,
     table: &Table<'n, 'i>,
@@ -203,15 +204,15 @@ fn read_body<'n, 'i>(
     }
 }
 
-/// Notes a rule.
+/// Flags a rule.
 fn want(wanted: &mut Vec<bool>, rule: usize) {
     if rule < wanted.len() {
         wanted[rule] = true;
     }
 }
 
-/// Notes a rule in whose body something may be reported; and where a rule is noted, the rules that it calls,
-/// where these calls are followed.
+/// Flags a rule in whose body something may be reported; if a rule is flagged, flags the rules that it
+/// calls, where these calls are followed.
 fn want_with_calls<'n, 'i>(
     table: &Table<'n, 'i>,
     reportable: &[bool],
@@ -231,21 +232,21 @@ fn want_with_calls<'n, 'i>(
     want_call(table, wanted, root);
 }
 
-/// Notes the rule that a node calls, where the call is followed.
+/// Flags the rule that a node calls, if the call is followed.
 fn want_call<'n, 'i>(table: &Table<'n, 'i>, wanted: &mut Vec<bool>, place: usize) {
     let Some(node) = table.nodes.get(place) else {
         return;
     };
-    let Some(rule) = node.kind.called() else {
+    let Some(rule) = node.kind.called_rule() else {
         return;
     };
-    if table.followed(rule).is_some() {
+    if table.followed_body(rule).is_some() {
         want(wanted, rule);
     }
 }
 
-/// The rules in whose bodies something may be reported, and those that they lead to by calls that are
-/// followed; `order`: all rules, those of lower ranks first.
+/// Returns flags of the rules in whose bodies something may be reported, and of those that they lead to by
+/// calls that are followed; `order` has all rules, those of lower ranks first.
 fn wanted_of<'n, 'i>(
     alloc: Global,
     table: &Table<'n, 'i>,
@@ -264,8 +265,8 @@ fn wanted_of<'n, 'i>(
     Ok(wanted)
 }
 
-/// Reads the bodies that are visited, and those that they lead to, those of lower ranks first: so that no
-/// reading goes deep along calls.
+/// Reads the bodies that are visited, and those that they lead to, in topological order of the calls (lower
+/// ranks first), so that no reading goes deep along calls.
 fn read_wanted<'n, 'i>(
     alloc: Global,
     table: &Table<'n, 'i>,
@@ -309,8 +310,8 @@ fn visit_body<'n, 'i>(
     Ok(())
 }
 
-/// The repetitions that are reported in each rule's body, one body after another; bodies in which nothing can
-/// be reported are left out.
+/// Returns the repetitions that are reported in the rules' bodies, one body after another; bodies in which
+/// nothing can be reported are left out.
 fn visit_all<'n, 'i>(
     alloc: Global,
     table: &Table<'n, 'i>,
@@ -338,7 +339,7 @@ fn visit_all<'n, 'i>(
     Ok(found)
 }
 
-/// The places of all reports, one body after another.
+/// Returns the spans of all reports, one body after another.
 fn all_reports<'i>(
     alloc: Global,
     rules: &[ParserRule<'i>],
@@ -357,7 +358,7 @@ fn all_reports<'i>(
     }
 }
 
-/// Puts places in order.
+/// Sorts spans by start, then end.
 fn sort_spans<'i>(found: &mut Vec<Span<'i>>) -> Result<(), AllocError>
     ensures { OnOk result (IsSorted (map piece_of found.old.items) (map piece_of found.new.items)) }
 {
@@ -365,8 +366,8 @@ fn sort_spans<'i>(found: &mut Vec<Span<'i>>) -> Result<(), AllocError>
     Ok(())
 }
 
-/// The places of the repetitions that `validate_stack_repetition` tells of, by start, then end. The only
-/// fault is a want of memory.
+/// Returns the spans of the repetitions that `validate_stack_repetition` reports, by start, then end. The
+/// only error is an allocation failure.
 pub fn sorted_reports<'i>(
     alloc: Global,
     rules: &[ParserRule<'i>],
@@ -374,22 +375,23 @@ pub fn sorted_reports<'i>(
     ensures exact { IfOk result (λ found. AreReports (rule_views rules.now) (map piece_of found.items)) }
 {
     let names = names_of(alloc, rules)?;
-    let table = tabulated(alloc, rules)?;
+    let table = tabulate(alloc, rules)?;
     let mut found = all_reports(alloc, rules, &names, &table, None)?;
     sort_spans(&mut found)?;
     Ok(found)
 }
 
-/// The same places, by the groundwork that was laid for the rules. The only fault is a want of memory.
+/// Returns the spans of `sorted_reports`, by an analysis of the rules that is lent. The only error is an
+/// allocation failure.
 pub fn sorted_reports_in<'i>(
     alloc: Global,
     rules: &[ParserRule<'i>],
-    groundwork: &Groundwork<'_, 'i>,
+    groundwork: &Analysis<'_, 'i>,
 ) -> Result<Vec<Span<'i>>, AllocError>
-    requires { IsGroundwork rules.now groundwork.now }
+    requires { IsAnalysis rules.now groundwork.now }
     ensures exact { IfOk result (λ found. AreReports (rule_views rules.now) (map piece_of found.items)) }
 {
-    let Groundwork {
+    let Analysis {
         names,
         table,
         facts,
@@ -399,13 +401,14 @@ pub fn sorted_reports_in<'i>(
     Ok(found)
 }
 
-/// The error that tells of a repetition, made by the survey where the repetition is in its text.
+/// Returns the error that reports a repetition, with the line and column that the survey finds.
 fn error_at<'i>(
     alloc: Global,
     survey: &mut Survey<'_>,
     span: Span<'i>,
 ) -> Result<Error<Rule>, Fault>
-    ensures tells { IfOk result (λ error. Tell (complaint_at (piece_of span.entry) ∷ []) (error ∷ [])) }
+    ensures tells { IfOk result (λ error.
+        AreErrorsFor (complaint_at (piece_of span.entry) ∷ []) (error ∷ [])) }
     ensures memory { IfErr result (λ fault. fault ≡ Fault.Memory alloc_error) }
 {
     let text = "expression inside repetition is non-progressing and will repeat infinitely";
@@ -415,7 +418,7 @@ fn error_at<'i>(
     Ok(error)
 }
 
-/// The text of the first of these, which is that of all of them where they are found in one text.
+/// Returns the input of the first span, which is that of all spans if they are of one text.
 fn first_text<'i>(found: &[Span<'i>]) -> &'i str {
     match found.first() {
         Some(span) => span.get_input(),
@@ -423,9 +426,10 @@ fn first_text<'i>(found: &[Span<'i>]) -> &'i str {
     }
 }
 
-/// The errors that tell of repetitions, in their order.
+/// Returns the errors that report repetitions, in their order.
 fn errors_at<'i>(alloc: Global, found: &[Span<'i>]) -> Result<Vec<Error<Rule>>, Fault>
-    ensures told { IfOk result (λ errors. Tell (map complaint_at (map piece_of found.now)) errors.items) }
+    ensures told { IfOk result (λ errors.
+        AreErrorsFor (map complaint_at (map piece_of found.now)) errors.items) }
     ensures memory { IfErr result (λ fault. fault ≡ Fault.Memory alloc_error) }
 {
     let mut errors = Vec::new(alloc);
@@ -437,14 +441,14 @@ fn errors_at<'i>(alloc: Global, found: &[Span<'i>]) -> Result<Vec<Error<Rule>>, 
     Ok(errors)
 }
 
-/// The repetitions `e*`, `e+` and `e{n,}` that certainly never end by what is known of the stack, as
-/// `a = { POP_ALL ~ PEEK_ALL* }`, in the order of their places (by start, then end). Each error stands where
-/// the repetition does. The only fault is a want of memory.
+/// Reports the repetitions `e*`, `e+` and `e{n,}` that certainly never end because of the stack, as in `a =
+/// { POP_ALL ~ PEEK_ALL* }`, by start, then end. The span of an error is that of the repetition. The only
+/// fault is an allocation failure.
 pub fn validate_stack_repetition<'i>(
     alloc: Global,
     rules: &Vec<ParserRule<'i>>,
 ) -> Result<Vec<Error<Rule>>, Fault>
-    ensures exact { IfOk result (λ errors. TellReports (rule_views rules.now.items) errors.items) }
+    ensures exact { IfOk result (λ errors. AreErrorsOfReports (rule_views rules.now.items) errors.items) }
     ensures memory { IfErr result (λ fault. fault ≡ Fault.Memory alloc_error) }
 {
     let found = sorted_reports(alloc, rules.as_slice())?;

@@ -1,17 +1,17 @@
-//! In which nodes something may be reported: what is repeated without end takes something from every stack
-//! nearly everywhere, and there no stack needs to be looked at.
+//! Nodes in which something may be reported. Nearly every endless repetition takes something from every
+//! stack, and there no stack needs to be looked at.
 ghost use Rattle.std.specs.Prelude.{◌≡◌, ℕ, IfOk, Some, false, ◌||◌, slice_get};
 ghost use Rattle.meta_fixpoint.specs.Least.{is_set_at};
 ghost use Rattle.meta_stack_loops.specs.Answers.{some_part};
 ghost use Rattle.meta_stack_loops.specs.Reportable as spec;
-ghost use Rattle.meta_stack_loops.specs.Reportable.{AreBehind, AreReportable, TellLoops};
+ghost use Rattle.meta_stack_loops.specs.Reportable.{AreInPostorder, AreReportable, AreLoopFlags};
 
 use crate::facts::{Question, answers, is_part_set, is_root_set};
-use crate::table::{Node, Parts};
+use crate::table::{Parts, PassNode};
 use meta_fixpoint::is_set;
 use std::alloc::{AllocError, Global};
 
-/// Whether a node repeats without end what may be read as taking nothing.
+/// Whether a node repeats without end a body that may be read as taking nothing.
 fn may_loop(still: &[bool], parts: Parts) -> bool
     ensures { result ≡ spec.may_loop (is_set_at still.now) parts }
 {
@@ -29,14 +29,14 @@ fn has_loop(still: &[bool], flags: &[bool], parts: Parts) -> bool
     may_loop(still, parts) || is_part_set(flags, parts)
 }
 
-/// Which nodes are such repetitions, or have one inside.
+/// Returns which nodes are such repetitions, or have one inside.
 fn with_loops<'n, 'i>(
     alloc: Global,
-    nodes: &[Node<'n, 'i>],
+    nodes: &[PassNode<'n, 'i>],
     still: &[bool],
 ) -> Result<Vec<bool>, AllocError>
-    requires { AreBehind nodes.now }
-    ensures { IfOk result (λ flags. TellLoops nodes.now still.now flags.items) }
+    requires { AreInPostorder nodes.now }
+    ensures { IfOk result (λ flags. AreLoopFlags nodes.now still.now flags.items) }
 {
     let mut flags = Vec::with_capacity(alloc, nodes.len())?;
     for place in 0..nodes.len() {
@@ -47,13 +47,13 @@ fn with_loops<'n, 'i>(
     Ok(flags)
 }
 
-/// In which nodes something may be reported.
+/// Returns in which nodes something may be reported.
 pub(crate) fn reportable_nodes<'n, 'i>(
     alloc: Global,
     roots: &[usize],
-    nodes: &[Node<'n, 'i>],
+    nodes: &[PassNode<'n, 'i>],
 ) -> Result<Vec<bool>, AllocError>
-    requires { AreBehind nodes.now }
+    requires { AreInPostorder nodes.now }
     ensures { IfOk result (λ flags. AreReportable nodes.now roots.now flags.items) }
 {
     let still = answers(alloc, Question::MayBeStill, roots, nodes)?;

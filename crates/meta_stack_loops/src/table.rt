@@ -1,4 +1,4 @@
-//! The nodes of all rules, by number.
+//! The node table of the stack pass: all rules' nodes by index, with their kinds.
 ghost use Rattle.std.specs.Prelude.{◌≡◌, ◌<◌, ℕ, slice_get};
 ghost use Rattle.meta_fixpoint.specs.Least.{is_set_at};
 ghost use Rattle.meta_stack_domain.specs.Stack as is;
@@ -7,32 +7,32 @@ ghost use Rattle.meta_stack_domain.specs.Reading as says;
 use meta_base::runtime::Span;
 use meta_fixpoint::is_set;
 
-/// What a node does, its operands by their numbers.
+/// The kind of a node: its operation, with the indices of its operands.
 #[derive(Clone, Copy)]
-pub enum Kind {
-    /// It takes nothing, and cannot fail.
+pub enum NodeKind {
+    /// Takes nothing, and cannot fail.
     Still,
-    /// It may take something, or fail, and leaves the stack.
+    /// May take something, or fail, and leaves the stack.
     Leaf,
     Peek,
     Pop,
     Drop,
     PeekAll,
     PopAll,
-    /// It pushes a text, which is empty or not.
+    /// Pushes a text, empty (`true`) or not.
     PushLiteral(bool),
-    /// A call, by the number of the rule.
+    /// A call, with the index of the rule.
     Call(usize),
     PosPred(usize),
     NegPred(usize),
     Opt(usize),
     Push(usize),
-    /// What is tagged, which does the same.
+    /// A tagged expression, which does the same without its tag.
     Tag(usize),
     Seq(usize, usize),
     Choice(usize, usize),
-    /// What is repeated, how often it has to succeed, how often more it may be tried, and whether
-    /// it then goes on without end.
+    /// A repetition: its body, the number of required and of optional copies, and whether turns without end
+    /// follow.
     Repeat(usize, u32, u32, bool),
 }
 
@@ -46,78 +46,78 @@ pub enum Parts {
     Both(usize, usize, bool),
 }
 
-impl Kind {
+impl NodeKind {
     ghost use Rattle.meta_stack_loops.specs.Table.{called_by, parts_of};
 
-    /// The rule that is called.
-    pub(crate) fn called(self) -> Option<usize>
+    /// Returns the index of the rule that is called.
+    pub(crate) fn called_rule(self) -> Option<usize>
         ensures { result ≡ called_by self }
     {
         match self {
-            Kind::Call(rule) => Some(rule),
-            Kind::PosPred(_) => None,
-            Kind::NegPred(_) => None,
-            Kind::Opt(_) => None,
-            Kind::Push(_) => None,
-            Kind::Tag(_) => None,
-            Kind::Repeat(_, _, _, _) => None,
-            Kind::Seq(_, _) => None,
-            Kind::Choice(_, _) => None,
-            Kind::Still => None,
-            Kind::Leaf => None,
-            Kind::Peek => None,
-            Kind::Pop => None,
-            Kind::Drop => None,
-            Kind::PeekAll => None,
-            Kind::PopAll => None,
-            Kind::PushLiteral(_) => None,
+            NodeKind::Call(rule) => Some(rule),
+            NodeKind::PosPred(_) => None,
+            NodeKind::NegPred(_) => None,
+            NodeKind::Opt(_) => None,
+            NodeKind::Push(_) => None,
+            NodeKind::Tag(_) => None,
+            NodeKind::Repeat(_, _, _, _) => None,
+            NodeKind::Seq(_, _) => None,
+            NodeKind::Choice(_, _) => None,
+            NodeKind::Still => None,
+            NodeKind::Leaf => None,
+            NodeKind::Peek => None,
+            NodeKind::Pop => None,
+            NodeKind::Drop => None,
+            NodeKind::PeekAll => None,
+            NodeKind::PopAll => None,
+            NodeKind::PushLiteral(_) => None,
         }
     }
 
-    /// The operands, as they are visited.
+    /// Returns the operands, as they are visited.
     pub(crate) fn parts(self) -> Parts
         ensures { result ≡ parts_of self }
     {
         match self {
-            Kind::PosPred(body) => Parts::Inside(body, 1, 0, false),
-            Kind::NegPred(body) => Parts::Inside(body, 1, 0, false),
-            Kind::Opt(body) => Parts::Inside(body, 1, 0, false),
-            Kind::Push(body) => Parts::Inside(body, 1, 0, false),
-            Kind::Tag(body) => Parts::Inside(body, 1, 0, false),
-            Kind::Repeat(body, required, optional, endless) => {
+            NodeKind::PosPred(body) => Parts::Inside(body, 1, 0, false),
+            NodeKind::NegPred(body) => Parts::Inside(body, 1, 0, false),
+            NodeKind::Opt(body) => Parts::Inside(body, 1, 0, false),
+            NodeKind::Push(body) => Parts::Inside(body, 1, 0, false),
+            NodeKind::Tag(body) => Parts::Inside(body, 1, 0, false),
+            NodeKind::Repeat(body, required, optional, endless) => {
                 Parts::Inside(body, required, optional, endless)
             }
-            Kind::Seq(first, second) => Parts::Both(first, second, false),
-            Kind::Choice(first, second) => Parts::Both(first, second, true),
-            Kind::Still => Parts::Nothing,
-            Kind::Leaf => Parts::Nothing,
-            Kind::Peek => Parts::Nothing,
-            Kind::Pop => Parts::Nothing,
-            Kind::Drop => Parts::Nothing,
-            Kind::PeekAll => Parts::Nothing,
-            Kind::PopAll => Parts::Nothing,
-            Kind::PushLiteral(_) => Parts::Nothing,
-            Kind::Call(_) => Parts::Nothing,
+            NodeKind::Seq(first, second) => Parts::Both(first, second, false),
+            NodeKind::Choice(first, second) => Parts::Both(first, second, true),
+            NodeKind::Still => Parts::Nothing,
+            NodeKind::Leaf => Parts::Nothing,
+            NodeKind::Peek => Parts::Nothing,
+            NodeKind::Pop => Parts::Nothing,
+            NodeKind::Drop => Parts::Nothing,
+            NodeKind::PeekAll => Parts::Nothing,
+            NodeKind::PopAll => Parts::Nothing,
+            NodeKind::PushLiteral(_) => Parts::Nothing,
+            NodeKind::Call(_) => Parts::Nothing,
         }
     }
 }
 
-/// A node.
+/// A node of a rule's body.
 #[derive(Clone, Copy)]
-pub struct Node<'n, 'i> {
-    pub kind: Kind,
-    /// The number of the rule that it stands in.
+pub struct PassNode<'n, 'i> {
+    pub kind: NodeKind,
+    /// The index of its rule.
     pub rule: usize,
     pub span: &'n Span<'i>,
 }
 
-/// The nodes of all rules, each behind those inside it.
+/// The nodes of all rules, in postorder, and results of the analysis.
 #[derive(Drop)]
 pub struct Table<'n, 'i> {
-    pub nodes: Vec<Node<'n, 'i>>,
-    /// The number of each rule's body.
+    pub nodes: Vec<PassNode<'n, 'i>>,
+    /// The index of the root of each rule's body.
     pub roots: Vec<usize>,
-    /// Which rules reach themselves: calls of them are not followed.
+    /// Which rules reach themselves; calls of them are not followed.
     pub recursive: Vec<bool>,
     /// For each node a number: not below those of its operands, and above that of a body that it calls, where
     /// the call is followed.
@@ -126,16 +126,16 @@ pub struct Table<'n, 'i> {
     pub nullable: Vec<bool>,
     /// Whether something is skipped between the parts of a sequence.
     pub skips: bool,
-    /// How many turns of a repetition are followed at most.
+    /// The greatest number of turns of a repetition that are followed.
     pub limit: usize,
-    /// How many turns the loop search follows.
+    /// The number of turns that the loop search follows.
     pub turns: usize,
 }
 
 impl<'n, 'i> Table<'n, 'i> {
-    ghost use Rattle.meta_stack_loops.specs.Table.{IsMeaning, IsOrdered, Lies, HasParts, PartsLie, node_reading, nodes_of, followed_at, rank_at};
+    ghost use Rattle.meta_stack_loops.specs.Table.{IsMeaning, IsOrdered, HasOrderedOperands, HasParts, AreOrderedParts, node_reading, nodes_of, followed_at, rank_at};
 
-    /// The rank of a node.
+    /// Returns the rank of a node.
     pub(crate) fn rank_of(&self, node: usize) -> usize
         ensures { result ≡ rank_at self.now node }
     {
@@ -145,34 +145,34 @@ impl<'n, 'i> Table<'n, 'i> {
         }
     }
 
-    /// What the node of a number does.
-    pub fn kind_at(&self, node: usize) -> Kind
+    /// Returns the kind of the node with an index.
+    pub fn kind_at(&self, node: usize) -> NodeKind
         requires inside { node < self.now.nodes.len }
         ensures means { (meaning : ℕ → is.AbstractStack → says.Reading) → IsMeaning self.now meaning
             → (a : is.AbstractStack) → meaning node a ≡ node_reading self.now meaning result a }
-        ensures ordered { IsOrdered self.now → Lies self.now node result }
+        ensures ordered { IsOrdered self.now → HasOrderedOperands self.now node result }
     {
         self.nodes[node].kind
     }
 
-    /// The node of a number.
-    pub fn node_at(&self, node: usize) -> Node<'n, 'i>
+    /// Returns the node with an index.
+    pub fn node_at(&self, node: usize) -> PassNode<'n, 'i>
         requires inside { node < self.now.nodes.len }
         ensures { slice_get (nodes_of self.now) node ≡ Some result }
     {
         self.nodes[node]
     }
 
-    /// The operands of the node of a number.
+    /// Returns the operands of the node with an index.
     pub fn parts_at(&self, node: usize) -> Parts
         requires inside { node < self.now.nodes.len }
         ensures parts { HasParts self.now node result }
-        ensures ordered { IsOrdered self.now → PartsLie self.now node result }
+        ensures ordered { IsOrdered self.now → AreOrderedParts self.now node result }
     {
         self.node_at(node).kind.parts()
     }
 
-    /// The rank of a rule's body.
+    /// Returns the rank of a rule's body.
     pub(crate) fn rank_of_rule(&self, rule: usize) -> usize {
         match self.roots.get(rule) {
             Some(body) => self.rank_of(*body),
@@ -180,8 +180,8 @@ impl<'n, 'i> Table<'n, 'i> {
         }
     }
 
-    /// The number of a rule's body, where calls of the rule are followed.
-    pub fn followed(&self, rule: usize) -> Option<usize>
+    /// Returns the index of a rule's body, or `None` if calls of the rule are not followed.
+    pub fn followed_body(&self, rule: usize) -> Option<usize>
         ensures { result ≡ followed_at self.now rule }
     {
         if is_set(self.recursive.as_slice(), rule) {

@@ -1,10 +1,10 @@
-//! The stacks from which the nodes of a rule's body are visited, and what is reported.
+//! The visit of a rule's body: the stacks from which its nodes are visited, and the reports.
 ghost use Rattle.std.specs.Prelude.{◌≡◌, ◌<◌, [], ◌∷◌, ◌++◌, IfOk, OnOk};
 ghost use Rattle.meta_stack_loops.specs.Table.{IsOrdered, copies};
 ghost use Rattle.meta_stack_loops.specs.Visiting.{AddsStack, AddsAll, AddsEach, AddsWhere, Collects, IsAfter, IsReportedWhereItLoops, IsStartOf, FindsLoop, FindsIn, VisitsOn};
 ghost use Rattle.meta_stack_domain.specs.Views.{stack_of};
 
-use crate::copies::{Counts, Repeated, is_among};
+use crate::copies::{CopyCounts, Repeated, is_among};
 use crate::loops::loops;
 use crate::memory::Memory;
 use crate::reader::{Series, follow, read, turn};
@@ -24,7 +24,7 @@ fn add(stacks: &mut Vec<Stack>, stack: Stack) -> Result<(), AllocError>
     Ok(())
 }
 
-/// The stacks from which walks of a trace start.
+/// Adds the stacks from which walks of a trace start.
 fn add_all(stacks: &mut Vec<Stack>, trace: &[Walk]) -> Result<(), AllocError>
     ensures { OnOk result (AddsAll stacks.old.items stacks.new.items trace.now) }
 {
@@ -46,7 +46,7 @@ fn add_each(stacks: &mut Vec<Stack>, more: &[Stack]) -> Result<(), AllocError>
     Ok(())
 }
 
-/// The first of two parts, and whether they are a choice.
+/// The first of two operands, and whether they are a choice.
 #[derive(Clone, Copy)]
 struct First {
     node: usize,
@@ -76,8 +76,8 @@ fn add_after(
     Ok(())
 }
 
-/// The stacks after the first of two parts.
-fn after(
+/// Returns the stacks after the first of two operands.
+fn stacks_after(
     alloc: Global,
     table: &Table,
     memory: &mut Memory,
@@ -142,7 +142,7 @@ fn add_starts(
     add_each(found, &seen)
 }
 
-/// The stacks from which the copies of a repetition start.
+/// Returns the stacks from which the copies of a repetition start.
 fn starts(
     alloc: Global,
     table: &Table,
@@ -221,8 +221,8 @@ fn report<'n, 'i>(
     Ok(())
 }
 
-/// Visits a node: what is reported there is appended, and its operands are still to be visited, the first one
-/// next.
+/// Visits a node. Appends the report there; adds its operands to the nodes still to be visited, so that the
+/// first one is next.
 fn visit_one<'n, 'i>(
     alloc: Global,
     table: &Table<'n, 'i>,
@@ -243,7 +243,7 @@ fn visit_one<'n, 'i>(
                 node: first,
                 choice,
             };
-            let behind = after(alloc, table, memory, part, &next.stacks)?;
+            let behind = stacks_after(alloc, table, memory, part, &next.stacks)?;
             left.push(Pending {
                 node: second,
                 stacks: behind,
@@ -255,7 +255,7 @@ fn visit_one<'n, 'i>(
             Ok(())
         }
         Parts::Inside(body, required, optional, endless) => {
-            let counts = Counts {
+            let counts = CopyCounts {
                 required,
                 optional,
                 endless,

@@ -1,9 +1,9 @@
-//! Nodes that wait for the reading of an operand, and what they make of it.
+//! Continuation frames of the interpreter: nodes that wait for the reading of an operand.
 ghost use Rattle.std.specs.Prelude.{◌≡◌, [], ◌∷◌, ◌++◌, IfOk};
 ghost use Rattle.meta_stack_loops.specs.Waiting.{ReadsOn, IsPut, whole_of};
 ghost use Rattle.meta_stack_domain.specs.Views.{reading_of, stack_of};
 
-use crate::copies::{Begun, Copies, LastCopy, LastTurn, Turns, copied, turned};
+use crate::copies::{Begun, Copies, LastCopy, LastTurn, Turns, resume_copies, resume_turns};
 use crate::memory::Memory;
 use crate::table::Table;
 use meta_stack_domain::{Reading, Stack};
@@ -17,21 +17,20 @@ pub enum How {
     NotAhead,
     Optional,
     Pushed,
-    /// By the reading of the first operand, which was read before; whether it is a choice.
+    /// By the reading of the first operand, made earlier; `true` for a choice.
     Both(Reading, bool),
 }
 
 /// Which operand is waited for.
 #[derive(Drop)]
 pub enum Awaited {
-    /// The first of two: the second one, and whether it is a choice.
+    /// The first of two operands: the second one, and `true` for a choice.
     First(usize, bool),
     Last(How),
-    /// What is repeated, once more: what is left behind that copy, whether it is required, and the stack from
-    /// which it is read.
-    Copy(Copies, bool, Stack),
-    /// What is repeated, for one of the turns without end: what is left behind it, and the stack from which
+    /// A copy of a repetition: the copies that are left, whether it is required, and the stack from which
     /// it is read.
+    Copy(Copies, bool, Stack),
+    /// A turn of a repetition: the turns that are left, and the stack from which it is read.
     Turn(Turns, Stack),
 }
 
@@ -43,17 +42,17 @@ pub struct Waiting {
     pub awaited: Awaited,
 }
 
-/// What is done next.
+/// The next task of the interpreter.
 #[derive(Clone, Copy)]
-pub enum Next {
-    /// A node is read from a stack.
+pub enum ReadTask {
+    /// Read a node from a stack.
     Read(usize, Stack),
-    /// The reading of what was to be read is there.
+    /// Continue with the reading of the last task.
     Done(Reading),
 }
 
 impl How {
-    /// The reading of the node.
+    /// Returns the reading of the node.
     fn whole(self, reading: Reading, stack: Stack, skips: bool) -> Reading
         ensures { reading_of result ≡ whole_of self skips (stack_of stack) (reading_of reading) }
     {
@@ -62,21 +61,21 @@ impl How {
             How::Ahead => reading.ahead(stack),
             How::NotAhead => reading.not_ahead(stack),
             How::Optional => reading.optional(stack),
-            How::Pushed => reading.pushed(),
+            How::Pushed => reading.push_match(),
             How::Both(before, true) => before.or(reading, stack),
             How::Both(before, false) => before.then(reading, stack, skips),
         }
     }
 }
 
-/// A node waits for an operand, which is read next.
+/// Waits for an operand, which is read next.
 pub fn wait(
     waiting: &mut Vec<Waiting>,
     node: usize,
     stack: Stack,
     awaited: Awaited,
     operand: usize,
-) -> Result<Next, AllocError>
+) -> Result<ReadTask, AllocError>
     ensures { IfOk result (IsPut waiting.old.items waiting.new.items node stack awaited operand) }
 {
     waiting.push(Waiting {
@@ -84,19 +83,19 @@ pub fn wait(
         stack,
         awaited,
     })?;
-    Ok(Next::Read(operand, stack))
+    Ok(ReadTask::Read(operand, stack))
 }
 
-/// What is done once the operand is read that the last of the nodes was waiting for. The reading of a node is
-/// remembered.
+/// Continues the node `last` with the reading of the operand that it waited for. A complete reading of a
+/// node is memoized.
 pub fn go_on(
     table: &Table,
     memory: &mut Memory,
     waiting: &mut Vec<Waiting>,
     last: Waiting,
     reading: Reading,
-) -> Result<Next, AllocError>
-    ensures { IfOk result (ReadsOn table.now memory.old memory.new (Next.Done reading)
+) -> Result<ReadTask, AllocError>
+    ensures { IfOk result (ReadsOn table.now memory.old memory.new (ReadTask.Done reading)
         (waiting.old.items ++ last ∷ []) waiting.new.items) }
 {
     let Waiting {
@@ -112,14 +111,14 @@ pub fn go_on(
                 awaited: Awaited::Last(How::Both(reading, choice)),
             })?;
             match reading.next_after(choice, stack) {
-                Some(after) => Ok(Next::Read(second, after)),
-                None => Ok(Next::Done(Reading::impossible())),
+                Some(after) => Ok(ReadTask::Read(second, after)),
+                None => Ok(ReadTask::Done(Reading::impossible())),
             }
         }
         Awaited::Last(how) => {
             let whole = how.whole(reading, stack, table.skips);
             memory.remember(node, stack, whole)?;
-            Ok(Next::Done(whole))
+            Ok(ReadTask::Done(whole))
         }
         Awaited::Copy(copies, required, from) => {
             let copy = LastCopy {
@@ -127,11 +126,11 @@ pub fn go_on(
                 required,
                 from,
             };
-            copied(table, memory, waiting, Begun { node, stack }, copy, reading)
+            resume_copies(table, memory, waiting, Begun { node, stack }, copy, reading)
         }
         Awaited::Turn(turns, from) => {
             let turn = LastTurn { turns, from };
-            turned(table, memory, waiting, Begun { node, stack }, turn, reading)
+            resume_turns(table, memory, waiting, Begun { node, stack }, turn, reading)
         }
     }
 }

@@ -17,8 +17,8 @@ use Rattle.meta_base.proofs.ExpectedOnce.{one_list}
 use Rattle.meta_base.proofs.FailurePlaces.{one_place}
 use Rattle.meta_base.proofs.OneOutcome.{same}
 use Rattle.meta_base.proofs.Comparisons.{one_rule}
-use Rattle.meta_syntax.specs.ExpectedRules.{AreExpected, AreToldAt, ExpectsNothing, is_named, rules_named}
-use Rattle.meta_syntax.specs.Expecting.{FailsOrFindsNoting, Noted, Sought}
+use Rattle.meta_syntax.specs.ExpectedRules.{AreExpected, AreRecordedAt, ExpectsNothing, is_named, rules_named}
+use Rattle.meta_syntax.specs.Expecting.{FailsOrFindsRecording, DoesRecording, Sought}
 use Rattle.meta_syntax.specs.MetaGrammar.{meta_grammar}
 use Rattle.meta_syntax.specs.Parses.{FailsAt, Recognizes, start_of}
 use Rattle.meta_syntax.specs.Runs.{at}
@@ -43,11 +43,11 @@ module _ (rule : Rule) (text : List ℕ) where
   task = Run NonAtomicMode (Ident (name_of rule))
 
   -- what was found at the start is what every start finds
-  told_from : (classes : Classes) (o : Outcome) (p q : Sought) → p.names ≡ [] → Noted meta_grammar classes task (at text text) o p q → (s : State) → at text text ≡ s → (r : Outcome) (d : Does meta_grammar classes task s r) → q.names ≡ expected_at p.place d
+  told_from : (classes : Classes) (o : Outcome) (p q : Sought) → p.names ≡ [] → DoesRecording meta_grammar classes task (at text text) o p q → (s : State) → at text text ≡ s → (r : Outcome) (d : Does meta_grammar classes task s r) → q.names ≡ expected_at p.place d
   told_from classes o p q e x s h = subst (λ s. (r : Outcome) (d : Does meta_grammar classes task s r) → q.names ≡ expected_at p.place d) h
       (λ r d. ap (λ z. z.names) x.noted ∙ (ap (λ l. l ++ expected_at p.place x.found) e ∙ one_list meta_grammar classes p.place x.found d))
 
-  pub told_at : (p q : Sought) (answer : Option (Bor (List ℕ))) → FailsOrFindsNoting task text text p q answer → p.names ≡ [] → (rules : List Rule) → rules ≡ rules_named q.names → AreToldAt rule text p.place rules
+  pub told_at : (p q : Sought) (answer : Option (Bor (List ℕ))) → FailsOrFindsRecording task text text p q answer → p.names ≡ [] → (rules : List Rule) → rules ≡ rules_named q.names → AreRecordedAt rule text p.place rules
   told_at p q None x e rules h classes o d = h ∙ ap rules_named (told_from classes _ p q e (x.ran classes) (start_of text) (at_start text) o d)
   told_at p q (Some after) x e rules h classes o d = h ∙ ap rules_named (told_from classes _ p q e (x.ran classes) (start_of text) (at_start text) o d)
 
@@ -61,13 +61,13 @@ module _ (rule : Rule) (text : List ℕ) where
   pub no_failure : (t : State) (us : Trees) → ((classes : Classes) → Does meta_grammar classes task (at text text) (Success t us)) → (rules : List Rule) → AreExpected rule text rules
   no_failure t us f rules classes d = let e = one_end classes (Success t us) (f classes) Failure d in cc
 
-  pub expected_where_it_fails : (place : ℕ) (rules : List Rule) → FailsAt rule text place → AreToldAt rule text place rules → AreExpected rule text rules
+  pub expected_where_it_fails : (place : ℕ) (rules : List Rule) → FailsAt rule text place → AreRecordedAt rule text place rules → AreExpected rule text rules
   expected_where_it_fails place rules f h classes d =
       let x = f classes in
       let e : place ≡ furthest d = x.1 ∙ one_place meta_grammar classes x.0 d in
       h classes Failure d ∙ ap (λ n. rules_named (expected_at n d)) e
 
-  pub in_order_told : (place : ℕ) (p q : Sought) (answer : Option (Bor (List ℕ))) (result : Result (Vec Rule Global) AllocError) → FailsOrFindsNoting task text text p q answer → p.names ≡ [] → p.place ≡ place → IfOk result (λ rules. rules.items ≡ rules_named q.names) → IfOk result (λ rules. AreToldAt rule text place rules.items)
+  pub in_order_told : (place : ℕ) (p q : Sought) (answer : Option (Bor (List ℕ))) (result : Result (Vec Rule Global) AllocError) → FailsOrFindsRecording task text text p q answer → p.names ≡ [] → p.place ≡ place → IfOk result (λ rules. rules.items ≡ rules_named q.names) → IfOk result (λ rules. AreRecordedAt rule text place rules.items)
   in_order_told place p q answer (Ok rules) x e k h = rw (← k) (told_at p q answer x e rules.items h)
   in_order_told place p q answer (Err f) x e k h = tt
 
@@ -75,6 +75,6 @@ module _ (rule : Rule) (text : List ℕ) where
   nothing_if_ok (Ok rules) f = nothing_where_it_fails f rules.items
   nothing_if_ok (Err e) f = tt
 
-  pub expected_if_ok : (place : ℕ) (result : Result (Vec Rule Global) AllocError) → FailsAt rule text place → IfOk result (λ rules. AreToldAt rule text place rules.items) → IfOk result (λ rules. AreExpected rule text rules.items)
+  pub expected_if_ok : (place : ℕ) (result : Result (Vec Rule Global) AllocError) → FailsAt rule text place → IfOk result (λ rules. AreRecordedAt rule text place rules.items) → IfOk result (λ rules. AreExpected rule text rules.items)
   expected_if_ok place (Ok rules) f h = expected_where_it_fails place rules.items f h
   expected_if_ok place (Err e) f h = tt

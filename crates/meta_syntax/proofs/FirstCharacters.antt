@@ -15,7 +15,7 @@ use Rattle.meta_syntax.specs.declared.modes.Mode as mode
 use Rattle.meta_syntax.specs.declared.modes.Mode.TheVariants as in_mode
 use Rattle.meta_base.specs.Language.Builtins.{is_lower, is_upper}
 use Rattle.meta_base.proofs.Basics.{first_of_both, second_of_both}
-use Rattle.meta_syntax.specs.Firsts.{begins_name, firsts, is_among, is_among_any, is_noted_at_once, may_begin}
+use Rattle.meta_syntax.specs.Firsts.{begins_name, firsts, is_among, is_among_any, is_recorded_at_once, may_begin}
 use Rattle.meta_syntax.specs.MetaGrammar.{meta_grammar, rule_at, type_of_rule, body_of}
 use Rattle.meta_syntax.specs.Rows.{is_defined}
 use Rattle.meta_syntax.specs.Runs.{at, mode_of}
@@ -116,7 +116,7 @@ module _ (classes : Classes) (xs : List ℕ) (c : ℕ) (elsewhere : is_among xs 
 -- each list of first characters is right, and so is what is noted
 abbrev is_right : Option (List ℕ) → Rule → mode.Mode → Bool
 is_right None r m = true
-is_right (Some xs) r m = begins_within 3 xs (name_of r) && same_bool (notes_within 3 (mode_of m) (name_of r)) (is_noted_at_once r m)
+is_right (Some xs) r m = begins_within 3 xs (name_of r) && same_bool (notes_within 3 (mode_of m) (name_of r)) (is_recorded_at_once r m)
 
 right_in_non_atomic : (r : Rule) → is_right (firsts r) r in_mode.NonAtomic ≡ true
 unfolding rule_named whitespace comment
@@ -169,13 +169,13 @@ name_or_listed is.EOI c h = inr h
 name_or_listed _ c h = inr h
 
 -- a call fails where the next character cannot begin what its rule matches
-pub fails_at_once : (r : Rule) (m : mode.Mode) (c : ℕ) (classes : Classes) (s : State) (u : Text) (p q : ℕ) → may_begin r c ≡ false → s.rest ≡ c ∷ u → q ≡ max p (if is_noted_at_once r m then s.position else 0) → Ran meta_grammar classes (Run (mode_of m) (Ident (name_of r))) s Failure p q
+pub fails_at_once : (r : Rule) (m : mode.Mode) (c : ℕ) (classes : Classes) (s : State) (u : Text) (p q : ℕ) → may_begin r c ≡ false → s.rest ≡ c ∷ u → q ≡ max p (if is_recorded_at_once r m then s.position else 0) → Ran meta_grammar classes (Run (mode_of m) (Ident (name_of r))) s Failure p q
 fails_at_once r m c classes s u p q h e k = either (name_or_listed r c h)
   where
     go : (o : Option (List ℕ)) → is_among_any o c ≡ false → is_right o r m ≡ true → Ran meta_grammar classes (Run (mode_of m) (Ident (name_of r))) s Failure p q
     go None a b = cc
     go (Some xs) a b =
-        let same = same_true (notes_within 3 (mode_of m) (name_of r)) (is_noted_at_once r m) (second_of_both _ _ b) in
+        let same = same_true (notes_within 3 (mode_of m) (name_of r)) (is_recorded_at_once r m) (second_of_both _ _ b) in
         call_fails classes xs c a 3 (name_of r) (first_of_both _ _ b) (mode_of m) s u p q e (rw same k)
 
     either : ((r ≡ is.identifier) × (begins_name c ≡ false)) ⊎ (is_among_any (firsts r) c ≡ false) → Ran meta_grammar classes (Run (mode_of m) (Ident (name_of r))) s Failure p q

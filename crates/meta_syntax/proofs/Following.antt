@@ -21,7 +21,7 @@ use Rattle.meta_syntax.specs.Entries.{Entry as NamedEntry}
 use Rattle.meta_syntax.specs.Entries.{AddsEntries, entry_of, named_entries, open_start}
 use Rattle.meta_syntax.specs.Forms.{AreParts, IsGood, IsRunnable, IsRunnableTurn, IsSpelled, all_take, calls_cost, choice_among, cost, expression_of, followed, good, kind_of, null, nullable, rank_of}
 use Rattle.meta_syntax.specs.MetaGrammar.{rule_at}
-use Rattle.meta_syntax.specs.Nesting.{Follows, GoesOnBehind, HasTurned, IsAnswered, IsAsked, IsPartWay, IsTried, IsWaiting, Question, Serves, effort, steps, work_aside}
+use Rattle.meta_syntax.specs.Nesting.{Follows, GoesOnAfter, HasTurned, IsAnswered, IsAsked, IsPartWay, IsTried, IsWaiting, Question, Serves, effort, steps, work_aside}
 use Rattle.meta_syntax.specs.Rows.{IsRow}
 use Rattle.meta_syntax.specs.Runs.{Fails, Finds, GoesOn, IsLeft, mode_of}
 use Rattle.meta_syntax.proofs.Waiting.{asked_on, one_step}
@@ -205,7 +205,7 @@ pub parts_less : (left part : Form) (others : Bor Form) (text next after : List 
 parts_less left part others text next after w h k = part_less left part others next after w h k.shorter k.consumed
 
 -- what is behind a part
-goes_behind : {text : List ℕ} {m : mode.Mode} {saved : ℕ} {es fs gs : List Entry} {p z y : ℕ} {rest next : List ℕ} {s : Question} (left part : Form) (others : Option (Bor Form)) (after : Bor (List ℕ)) (q : Question) → IsPartWay text left m saved es p rest s → Finds (Skipping (mode_of m)) text rest es fs p z next → GoesOn text rest true next → AreParts left part others → Serves text s q → Finds (Run (mode_of m) (expression_of part)) text next fs gs z y after.now → GoesOn text next (null part) after.now → GoesOnBehind text left others m saved next q gs y after
+goes_behind : {text : List ℕ} {m : mode.Mode} {saved : ℕ} {es fs gs : List Entry} {p z y : ℕ} {rest next : List ℕ} {s : Question} (left part : Form) (others : Option (Bor Form)) (after : Bor (List ℕ)) (q : Question) → IsPartWay text left m saved es p rest s → Finds (Skipping (mode_of m)) text rest es fs p z next → GoesOn text rest true next → AreParts left part others → Serves text s q → Finds (Run (mode_of m) (expression_of part)) text next fs gs z y after.now → GoesOn text next (null part) after.now → GoesOnAfter text left others m saved next q gs y after
 goes_behind left part None after q w sk g h serves x k = serves _ _ (Some after) (part_ends left part w sk g after h x k)
 goes_behind {s = s} left part (Some others) after q w sk g h serves x k =
     (s, part_further left part w sk g others after.now h x k, serves, parts_less left part others _ _ after.now w.good h k)

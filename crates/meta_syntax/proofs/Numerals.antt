@@ -13,7 +13,7 @@ use Rattle.std.specs.Str.Parse.{AllDigits, IsNumeral, without_leading_sign, with
 use Rattle.meta_base.specs.Language.Text.{Text}
 use Rattle.meta_base.specs.Language.State.{State}
 use Rattle.meta_base.specs.Language.Builtins.{is_between}
-use Rattle.meta_base.specs.Language.Places.{Stands}
+use Rattle.meta_base.specs.Language.Places.{IsStateIn}
 use Rattle.meta_base.specs.Language.Expression.{Str, Range}
 use Rattle.meta_base.specs.declared.grammar.Rule.TheVariants as is
 use Rattle.meta_base.proofs.InBytes.{sizes}
@@ -138,7 +138,7 @@ middle a b c text i j e h k =
     let d : j - i ≡ length b = omega arith in
     rw (d, e, h, drop-append_seam a (b ++ c), take-append_seam b c) refl
 
-module _ (text : List ℕ) (utf8 : IsUtf8 text) (s u : State) (stands : Stands (chars text) s) where
+module _ (text : List ℕ) (utf8 : IsUtf8 text) (s u : State) (stands : IsStateIn (chars text) s) where
   slice_taken : (w : Text) → IsAscii w → Took s u w → slice_range text s.position u.position ≡ w
   slice_taken w ascii took =
       let front = stands.front in

@@ -13,7 +13,7 @@ use Rattle.meta_syntax.specs.declared.entries.Entry.{Entry}
 use Rattle.meta_syntax.specs.Entries.{IsWhole, entries_of, named_entries}
 use Rattle.meta_syntax.specs.MetaGrammar.{meta_grammar}
 use Rattle.meta_base.specs.Pieces.NamedTrees.{named}
-use Rattle.meta_base.specs.Language.Places.{Stands}
+use Rattle.meta_base.specs.Language.Places.{IsStateIn}
 use Rattle.meta_base.specs.Pieces.TokenTrees.{TokenTrees, AreNested}
 use Rattle.meta_base.specs.declared.runtime.faults.Fault.{Fault}
 use Rattle.meta_base.specs.declared.runtime.faults.Fault.TheVariants as fault_is
@@ -21,7 +21,7 @@ use Rattle.meta_base.proofs.FailuresStand.{stands_at}
 use Rattle.meta_base.proofs.InBytes.{ends_within, nested_bytes, on_bytes}
 use Rattle.meta_base.proofs.PairLemmas.{AreNested-wider}
 use Rattle.meta_base.proofs.TreesAreNested.{fits}
-use Rattle.meta_syntax.specs.Parses.{FailsAt, IsSyntaxErrorOrMemory, ParseRefuses, Spells, TokensGive, start_of}
+use Rattle.meta_syntax.specs.Parses.{FailsAt, IsSyntaxErrorOrMemory, ParseRefuses, Spells, AreTokensOf, start_of}
 use Rattle.meta_syntax.specs.Runs.{Fails, FailsOrFinds, Finds, at}
 use Rattle.meta_syntax.proofs.EntryLists.{entries-whole}
 
@@ -31,7 +31,7 @@ at_start text =
     let f : ℕ → State = λ p. record { position = p; rest = chars text; stack = [] } in
     ap f z
 
-pub spelled : (rule : Rule) (text : List ℕ) (es fs : List Entry) (p q : ℕ) (after : List ℕ) → Finds (Run NonAtomicMode (Ident (name_of rule))) text text es fs p q after → named_entries es ≡ [] → TokensGive rule text fs
+pub spelled : (rule : Rule) (text : List ℕ) (es fs : List Entry) (p q : ℕ) (after : List ℕ) → Finds (Run NonAtomicMode (Ident (name_of rule))) text text es fs p q after → named_entries es ≡ [] → AreTokensOf rule text fs
 spelled rule text es fs p q after x e =
     let a = x.added in
     let b = rw e at a in
@@ -60,14 +60,14 @@ refused rule text es fs p q x z classes =
     let n : q ≡ max p (furthest r.found) = r.noted in
     placed classes _ (at text text) (start_of text) q (at_start text) r.found (omega (arith, n, z))
 
-pub tokens_whole : (rule : Rule) (text : List ℕ) (es : List Entry) → TokensGive rule text es → IsWhole 0 (named_entries es)
+pub tokens_whole : (rule : Rule) (text : List ℕ) (es : List Entry) → AreTokensOf rule text es → IsWhole 0 (named_entries es)
 tokens_whole rule text es t = subst (λ l. IsWhole 0 l) (sym t.2) (entries-whole 0 t.0)
 
 -- the places of what a text spells, and of a failure
 no_classes : Classes
 no_classes n c = false
 
-stands_first : (text : List ℕ) → Stands (chars text) (start_of text)
+stands_first : (text : List ℕ) → IsStateIn (chars text) (start_of text)
 stands_first text = record { front = []; split = refl; size = refl }
 
 pub nested_in_text : (rule : Rule) (text : List ℕ) (trees : TokenTrees Rule) → IsUtf8 text → Spells rule text (named trees) → AreNested text trees 0 (length text)

@@ -17,7 +17,7 @@ use Rattle.meta_syntax.specs.declared.expecting.Wait.TheVariants as wait
 use Rattle.meta_syntax.specs.declared.nesting.Step.TheVariants as step
 use Rattle.meta_syntax.specs.declared.table.Form.{Form}
 use Rattle.meta_syntax.specs.declared.table.Kind.{Kind}
-use Rattle.meta_syntax.specs.Expecting.{FailsNoting, FindsNoting, IsReadyAgain, IsTruly, Sought, sought_of}
+use Rattle.meta_syntax.specs.Expecting.{FailsRecording, FindsRecording, IsReadyAgain, HasTrueMemory, Sought, sought_of}
 use Rattle.meta_syntax.specs.Forms.{AreParts, IsRunnable, IsRunnableTurn, all_take, choice_among, cost, expression_of, followed, good, null, nullable}
 use Rattle.meta_syntax.specs.MetaGrammar.{rule_at}
 use Rattle.meta_syntax.specs.Nesting.{effort, steps}
@@ -58,14 +58,14 @@ pub work_on : (fs gs : List Frame) (f : Frame) → gs ≡ fs ++ f ∷ [] → wor
 work_on fs gs f e = ap work_aside e ∙ work_aside-snoc fs f
 
 -- an answer is at hand
-pub answer_next : (text : List ℕ) (fs : List Frame) (r : Expecting) (o : Option (Bor (List ℕ))) (k top : Question) (n work : ℕ) → IsTruly text r → IsAnswered text k (sought_of r) o → IsAsked text fs k top → work_aside fs + steps n ≤ work → IsNext text fs r (step.Answer o) top work
+pub answer_next : (text : List ℕ) (fs : List Frame) (r : Expecting) (o : Option (Bor (List ℕ))) (k top : Question) (n work : ℕ) → HasTrueMemory text r → IsAnswered text k (sought_of r) o → IsAsked text fs k top → work_aside fs + steps n ≤ work → IsNext text fs r (step.Answer o) top work
 answer_next text fs r o k top n work s a w h = record {
   on_the_way = record { truly = s; answered = (w.0, w.1 _ _ a, w.2) };
   less = let z = some_steps n in omega (arith, z, h);
 }
 
 -- one for what waits itself
-pub answered_next : (text : List ℕ) (fs : List Frame) (r : Expecting) (o : Option (Bor (List ℕ))) (q top : Question) (n work : ℕ) → IsTruly text r → IsAnswered text q (sought_of r) o → IsWaiting text fs q top → work_aside fs + n ≤ work → 0 < n → IsNext text fs r (step.Answer o) top work
+pub answered_next : (text : List ℕ) (fs : List Frame) (r : Expecting) (o : Option (Bor (List ℕ))) (q top : Question) (n work : ℕ) → HasTrueMemory text r → IsAnswered text q (sought_of r) o → IsWaiting text fs q top → work_aside fs + n ≤ work → 0 < n → IsNext text fs r (step.Answer o) top work
 answered_next text fs r o q top n work s a w h z = record {
   on_the_way = record { truly = s; answered = (q, a, w) };
   less = omega (arith, z, h);
@@ -109,7 +109,7 @@ module _ (text : List ℕ) (rule : Rule) (kind : Kind) (m inner : mode.Mode) (sa
   }
 
 -- the second alternative is run
-module _ {text rest : List ℕ} {a b : Expression} {m : Mode} {p now later : Sought} (one two : Bool) (x : FailsNoting (Run m a) text rest p now) where
+module _ {text rest : List ℕ} {a b : Expression} {m : Mode} {p now later : Sought} (one two : Bool) (x : FailsRecording (Run m a) text rest p now) where
   second_answers : (o : Option (Bor (List ℕ))) → IsAnswered text (record { task = Run m b; rest = rest; empty = two; sought = now }) later o → IsAnswered text (record { task = Run m (Choice a b); rest = rest; empty = one || two; sought = p }) later o
   second_answers None w = record { means = gives_right m a b text rest p now later None x w.means; goes_on = tt }
   second_answers (Some after) w = record {
@@ -165,7 +165,7 @@ first_turn_follows text body m saved rest p q l turn h = record {
 }
 
 -- a further turn begins, behind the skipping
-pub turn_follows : (text : List ℕ) (body : Bor Form) (m : mode.Mode) (saved : ℕ) (rest next : Bor (List ℕ)) (p z : Sought) (s q : Question) → HasTurned text body.now m p rest.now s → FindsNoting (Skipping (mode_of m)) text rest.now p z next.now → GoesOn text rest.now true next.now → Serves text s q → Follows text (wait.Repetition body) (record { mode = m; saved = saved; rest = rest }) (record { task = Run (mode_of m) (expression_of body.now); rest = next.now; empty = null body.now; sought = z }) q
+pub turn_follows : (text : List ℕ) (body : Bor Form) (m : mode.Mode) (saved : ℕ) (rest next : Bor (List ℕ)) (p z : Sought) (s q : Question) → HasTurned text body.now m p rest.now s → FindsRecording (Skipping (mode_of m)) text rest.now p z next.now → GoesOn text rest.now true next.now → Serves text s q → Follows text (wait.Repetition body) (record { mode = m; saved = saved; rest = rest }) (record { task = Run (mode_of m) (expression_of body.now); rest = next.now; empty = null body.now; sought = z }) q
 turn_follows text body m saved rest next p z s q t sk g h = record {
   here = t.here;
   found = λ now after x.
@@ -194,7 +194,7 @@ turn_follows text body m saved rest next p z s q t sk g h = record {
 }
 
 -- a repetition behind a first turn
-module _ {text : List ℕ} {m : Mode} {rest from next : List ℕ} {p now later z : Sought} (body : Form) (x : FindsNoting (Run m (expression_of body)) text rest p now from) (sk : FindsNoting (Skipping m) text from now later next) where
+module _ {text : List ℕ} {m : Mode} {rest from next : List ℕ} {p now later z : Sought} (body : Form) (x : FindsRecording (Run m (expression_of body)) text rest p now from) (sk : FindsRecording (Skipping m) text from now later next) where
   once_answers : (o : Option (Bor (List ℕ))) → length from < length rest → length next ≤ length from → IsAnswered text (record { task = Run m (Rep (expression_of body)); rest = next; empty = true; sought = later }) z o → IsAnswered text (record { task = Run m (RepOnce (expression_of body)); rest = rest; empty = null body; sought = p }) z o
   once_answers None l g w = absurd (let r = (w.means.ran (λ n c. false)).found in elim r [ ])
   once_answers (Some after) l g w = record {
@@ -218,7 +218,7 @@ once_follows text body m saved rest p q l turn h = record {
 }
 
 -- the first part of a sequence was found
-parts_begin : (text : List ℕ) (first others : Form) (m : mode.Mode) (rest after : List ℕ) (p now : Sought) → IsRunnable others → cost others < 1000 → FindsNoting (Run (mode_of m) (expression_of first)) text rest p now after → GoesOn text rest (null first) after → IsPartWay text others m now after (record { task = Run (mode_of m) (followed (Some (expression_of first)) others); rest = rest; empty = null first && null others; sought = p })
+parts_begin : (text : List ℕ) (first others : Form) (m : mode.Mode) (rest after : List ℕ) (p now : Sought) → IsRunnable others → cost others < 1000 → FindsRecording (Run (mode_of m) (expression_of first)) text rest p now after → GoesOn text rest (null first) after → IsPartWay text others m now after (record { task = Run (mode_of m) (followed (Some (expression_of first)) others); rest = rest; empty = null first && null others; sought = p })
 parts_begin text first others m rest after p now runnable below x g = record {
   good = runnable.good;
   spelled = runnable.spelled;
@@ -258,16 +258,16 @@ sequence_follows text first others m saved rest p q l runnable below h = record 
   failed = λ now x. h now None (record { means = failed_followed (expression_of first.now) others.now x.means; goes_on = tt });
 }
 
-module _ {text : List ℕ} {m : mode.Mode} {p z now : Sought} {rest next : List ℕ} {s : Question} (left part : Form) (w : IsPartWay text left m p rest s) (sk : FindsNoting (Skipping (mode_of m)) text rest p z next) (g : GoesOn text rest true next) where
-  part_fails : (others : Option (Bor Form)) → AreParts left part others → FailsNoting (Run (mode_of m) (expression_of part)) text next z now → IsAnswered text s now None
+module _ {text : List ℕ} {m : mode.Mode} {p z now : Sought} {rest next : List ℕ} {s : Question} (left part : Form) (w : IsPartWay text left m p rest s) (sk : FindsRecording (Skipping (mode_of m)) text rest p z next) (g : GoesOn text rest true next) where
+  part_fails : (others : Option (Bor Form)) → AreParts left part others → FailsRecording (Run (mode_of m) (expression_of part)) text next z now → IsAnswered text s now None
   part_fails others h x = record {
-    means = subst (λ t. FailsNoting t text s.rest s.sought now) (sym w.task) (failed_part w.found sk part others h x);
+    means = subst (λ t. FailsRecording t text s.rest s.sought now) (sym w.task) (failed_part w.found sk part others h x);
     goes_on = tt;
   }
 
-  part_ends : (after : Bor (List ℕ)) → AreParts left part None → FindsNoting (Run (mode_of m) (expression_of part)) text next z now after.now → GoesOn text next (null part) after.now → IsAnswered text s now (Some after)
+  part_ends : (after : Bor (List ℕ)) → AreParts left part None → FindsRecording (Run (mode_of m) (expression_of part)) text next z now after.now → GoesOn text next (null part) after.now → IsAnswered text s now (Some after)
   part_ends after h x k = record {
-    means = subst (λ t. FindsNoting t text s.rest s.sought now after.now) (sym w.task) (last_part w.found sk part h.0 h.1 x);
+    means = subst (λ t. FindsRecording t text s.rest s.sought now after.now) (sym w.task) (last_part w.found sk part h.0 h.1 x);
     goes_on = record {
       left = k.left;
       shorter = omega (arith, k.shorter, g.shorter, w.shorter);
@@ -280,7 +280,7 @@ module _ {text : List ℕ} {m : mode.Mode} {p z now : Sought} {rest next : List 
       consumed (inr a) (inl b) = inl (omega (arith, b, g.shorter, w.shorter))
       consumed (inr a) (inr b) = inr (a (ap null (sym h.0) ∙ b))
 
-  part_further : (others : Bor Form) (after : List ℕ) → AreParts left part (Some others) → FindsNoting (Run (mode_of m) (expression_of part)) text next z now after → GoesOn text next (null part) after → IsPartWay text others.now m now after s
+  part_further : (others : Bor Form) (after : List ℕ) → AreParts left part (Some others) → FindsRecording (Run (mode_of m) (expression_of part)) text next z now after → GoesOn text next (null part) after → IsPartWay text others.now m now after s
   part_further others after h x k =
       let good_parts = sym h.good ∙ w.good in
       let good_others = second_of_both (good part) _ good_parts in
@@ -302,12 +302,12 @@ module _ {text : List ℕ} {m : mode.Mode} {p z now : Sought} {rest next : List 
       begun (inr a) (inr b) = inr (λ n. a (let i : null left ≡ null others.now = rw b at h.null in i ∙ n))
 
 -- the last part of a sequence answers for all of it
-pub last_serves : (text : List ℕ) (left part : Form) (m : mode.Mode) (rest next : List ℕ) (p z : Sought) (s : Question) → IsPartWay text left m p rest s → AreParts left part None → FindsNoting (Skipping (mode_of m)) text rest p z next → GoesOn text rest true next → Serves text (record { task = Run (mode_of m) (expression_of part); rest = next; empty = null part; sought = z }) s
+pub last_serves : (text : List ℕ) (left part : Form) (m : mode.Mode) (rest next : List ℕ) (p z : Sought) (s : Question) → IsPartWay text left m p rest s → AreParts left part None → FindsRecording (Skipping (mode_of m)) text rest p z next → GoesOn text rest true next → Serves text (record { task = Run (mode_of m) (expression_of part); rest = next; empty = null part; sought = z }) s
 last_serves text left part m rest next p z s w h sk g now None x = part_fails left part w sk g None h x.means
 last_serves text left part m rest next p z s w h sk g now (Some after) x = part_ends left part w sk g after h x.means x.goes_on
 
 -- a further part of a sequence, with others behind it
-pub part_follows : (text : List ℕ) (left : Form) (part others : Bor Form) (m : mode.Mode) (saved : ℕ) (rest : List ℕ) (next : Bor (List ℕ)) (p z : Sought) (s q : Question) → IsPartWay text left m p rest s → AreParts left part.now (Some others) → FindsNoting (Skipping (mode_of m)) text rest p z next.now → GoesOn text rest true next.now → Serves text s q → Follows text (wait.Sequence part others) (record { mode = m; saved = saved; rest = next }) (record { task = Run (mode_of m) (expression_of part.now); rest = next.now; empty = null part.now; sought = z }) q
+pub part_follows : (text : List ℕ) (left : Form) (part others : Bor Form) (m : mode.Mode) (saved : ℕ) (rest : List ℕ) (next : Bor (List ℕ)) (p z : Sought) (s q : Question) → IsPartWay text left m p rest s → AreParts left part.now (Some others) → FindsRecording (Skipping (mode_of m)) text rest p z next.now → GoesOn text rest true next.now → Serves text s q → Follows text (wait.Sequence part others) (record { mode = m; saved = saved; rest = next }) (record { task = Run (mode_of m) (expression_of part.now); rest = next.now; empty = null part.now; sought = z }) q
 part_follows text left part others m saved rest next p z s q w h sk g serves = record {
   here = g.left;
   found = λ now after x.
@@ -355,7 +355,7 @@ next_trying text rules first others m now rest q e t =
 
 -- none is left
 pub none_tried : (text : List ℕ) (rules : List Rule) (m : mode.Mode) (now : Sought) (rest : List ℕ) (q : Question) → length rules ≡ 0 → IsTried text rules m now rest q → IsAnswered text q now None
-none_tried text [] m now rest q e t = record { means = subst (λ r. FailsNoting q.task text r q.sought now) (sym t.here) (subst (λ k. FailsNoting k text rest q.sought now) (sym t.task) t.failed); goes_on = tt }
+none_tried text [] m now rest q e t = record { means = subst (λ r. FailsRecording q.task text r q.sought now) (sym t.here) (subst (λ k. FailsRecording k text rest q.sought now) (sym t.task) t.failed); goes_on = tt }
 none_tried text (r ∷ rules) m now rest q e t = absurd (omega (arith, e))
 
 takes_first : (first : Rule) (others : List Rule) → all_take (first ∷ others) ≡ true → nullable first ≡ false
@@ -372,7 +372,7 @@ rule_follows text first others m saved rest p s q l t h = record {
       let less = took (nullable first) (takes_first first others.now t.takes) x.goes_on.consumed in
       let e = ap length t.here in
       h now (Some after) (record {
-        means = subst (λ r. FindsNoting s.task text r s.sought now after.now) (sym t.here) (subst (λ k. FindsNoting k text rest.now s.sought now after.now) (sym t.task) (first_among t.upto others.now (t.answers now (Some after) x.means)));
+        means = subst (λ r. FindsRecording s.task text r s.sought now after.now) (sym t.here) (subst (λ k. FindsRecording k text rest.now s.sought now after.now) (sym t.task) (first_among t.upto others.now (t.answers now (Some after) x.means)));
         goes_on = record { left = x.goes_on.left; shorter = omega (arith, e, less); consumed = inl (omega (arith, e, less)) };
       });
   failed = λ now x. (

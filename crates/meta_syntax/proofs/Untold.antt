@@ -16,7 +16,7 @@ use Rattle.meta_base.specs.declared.grammar.Rule.{Rule}
 use Rattle.meta_base.specs.declared.grammar.Rule.TheVariants as is
 use Rattle.meta_base.proofs.Moving.{each_copy, each_of_both, in_all}
 use Rattle.meta_base.proofs.Basics.{first_of_both, second_of_both}
-use Rattle.meta_syntax.specs.Expecting.{Sought, telling, is_settled, Noted}
+use Rattle.meta_syntax.specs.Expecting.{Sought, with_failure, is_unrecorded, DoesRecording}
 use Rattle.meta_syntax.specs.MetaGrammar.{meta_grammar, rule_at, type_of_rule, body_of}
 use Rattle.meta_syntax.specs.Rows.{is_defined}
 use Rattle.meta_syntax.proofs.Lookup.{defined_rule}
@@ -190,11 +190,11 @@ module _ (classes : Classes) (place : ℕ) (b : Bool) where
   nothing_told between h = refl
 
 -- the skipping tells nothing
-pub skipping_noted : {classes : Classes} {m : Mode} {s : State} {o : Outcome} {p : Sought} → Does meta_grammar classes (Skipping m) s o → Noted meta_grammar classes (Skipping m) s o p p
+pub skipping_noted : {classes : Classes} {m : Mode} {s : State} {o : Outcome} {p : Sought} → Does meta_grammar classes (Skipping m) s o → DoesRecording meta_grammar classes (Skipping m) s o p p
 skipping_noted {classes} {p = p} d = record { found = d; noted = rw (nothing_told classes p.place false d tt) (unsaid p) }
 
 -- what the body of a settled rule does tells nothing
-settled_body : (r : Rule) → is_settled r ≡ true → (m : Mode) → (b : Bool) × IsUntold b (Run (body_mode (rule_at r) m) (body_of r))
+settled_body : (r : Rule) → is_unrecorded r ≡ true → (m : Mode) → (b : Bool) × IsUntold b (Run (body_mode (rule_at r) m) (body_of r))
 unfolding rule_named
 settled_body is.tag_id h m = (true, (refl, refl))
 settled_body is.number h m = (true, (refl, refl))
@@ -224,10 +224,10 @@ told_without_token counts n place q m s (Success t us) = refl
 same_rule : {q r : spec.Rule} → Some q ≡ Some r → q ≡ r
 same_rule h = cc
 
-called_body : (rule : Rule) → is_settled rule ≡ true → (q : spec.Rule) (m : Mode) → q ≡ rule_at rule → (b : Bool) × IsUntold b (Run (body_mode q m) q.body)
+called_body : (rule : Rule) → is_unrecorded rule ≡ true → (q : spec.Rule) (m : Mode) → q ≡ rule_at rule → (b : Bool) × IsUntold b (Run (body_mode q m) q.body)
 called_body rule settled q m e = rw e (settled_body rule settled m)
 
-module _ {classes : Classes} (rule : Rule) (settled : is_settled rule ≡ true) (defined : is_defined rule ≡ true) where
+module _ {classes : Classes} (rule : Rule) (settled : is_unrecorded rule ≡ true) (defined : is_defined rule ≡ true) where
   told_called : (place : ℕ) (m : Mode) (n : Text) {s : State} {o : Outcome} → n ≡ name_of rule → (d : Does meta_grammar classes (Run m (Ident n)) s o) → expected_at place d ≡ told (seen_from m && gives_token (type_of_rule rule) m) n place s o []
   told_called place m n {s = s} e (call {o = o} {r = r} h d) =
       let k : rule_of meta_grammar n ≡ Some (rule_at rule) = rw e (defined_rule rule defined) in
@@ -239,10 +239,10 @@ module _ {classes : Classes} (rule : Rule) (settled : is_settled rule ≡ true) 
       let k : rule_of meta_grammar n ≡ Some (rule_at rule) = rw e (defined_rule rule defined) in
       cc
 
-  pub settled_found : {m : Mode} {s t : State} {us : Trees} {p : Sought} → Does meta_grammar classes (Run m (Ident (name_of rule))) s (Success t us) → Noted meta_grammar classes (Run m (Ident (name_of rule))) s (Success t us) p p
+  pub settled_found : {m : Mode} {s t : State} {us : Trees} {p : Sought} → Does meta_grammar classes (Run m (Ident (name_of rule))) s (Success t us) → DoesRecording meta_grammar classes (Run m (Ident (name_of rule))) s (Success t us) p p
   settled_found {m} {p = p} d = record { found = d; noted = rw (told_called p.place m (name_of rule) refl d) (unsaid p) }
 
-  pub settled_failed : {m : Mode} {s : State} {p z : Sought} (kind : RuleType) (counts : Bool) (saved : ℕ) → kind ≡ type_of_rule rule → Does meta_grammar classes (Run m (Ident (name_of rule))) s Failure → counts ≡ (seen_from m && gives_token kind m) → saved ≡ length p.names → z ≡ telling counts (name_of rule) saved s.position p → Noted meta_grammar classes (Run m (Ident (name_of rule))) s Failure p z
+  pub settled_failed : {m : Mode} {s : State} {p z : Sought} (kind : RuleType) (counts : Bool) (saved : ℕ) → kind ≡ type_of_rule rule → Does meta_grammar classes (Run m (Ident (name_of rule))) s Failure → counts ≡ (seen_from m && gives_token kind m) → saved ≡ length p.names → z ≡ with_failure counts (name_of rule) saved s.position p → DoesRecording meta_grammar classes (Run m (Ident (name_of rule))) s Failure p z
   settled_failed {m} {s} {p} {z} kind counts saved e d h k n =
       let c : counts ≡ (seen_from m && gives_token (type_of_rule rule) m) = rw e at h in
       record {

@@ -9,7 +9,7 @@ use Rattle.meta_base.specs.Language.State.{Classes, State, Mode, NonAtomicMode, 
 use Rattle.meta_base.specs.Language.Matching.{begins, starts_in, range_set, end_outcome, other_outcome}
 use Rattle.meta_base.specs.Language.Meaning.{Does, Task, Run, Turns, Skipping, str, insens, range, slice, skip, call, other, pos_pred, neg_pred, push, restore, seq, seq_first, seq_second, left, right, opt, opt_none, rep, rep_none, turn, turn_none, rep_once, rep_exact, rep_min, rep_max, rep_min_max, skips, atomic, compound_atomic, between, ahead, not_ahead, pushed, with_token, gives_token, seen_from, mode_in, body_mode, skipped, push_literal, tag}
 use Rattle.meta_base.specs.Pieces.MetaRules.{name_of}
-use Rattle.meta_base.specs.Language.Places.{Stands}
+use Rattle.meta_base.specs.Language.Places.{IsStateIn}
 use Rattle.meta_base.specs.declared.grammar.Rule.{Rule}
 use Rattle.meta_base.specs.declared.grammar.Rule.TheVariants as is
 use Rattle.meta_base.proofs.TreesAreNested.{fits}
@@ -147,7 +147,7 @@ module _ (text : List ℕ) (utf8 : IsUtf8 text) (classes : Classes) where
   abbrev RunsBody : Rule → Mode → State → Outcome → Type 0
   RunsBody r m s o = Does meta_grammar classes (Run (body_mode (rule_at r) m) (body_of r)) s o
 
-  stretches : (r : Rule) (m : Mode) (s t : State) (us : Trees) → RunsBody r m s (Success t us) → Stands (chars text) s → Stretches text r s.position t.position
+  stretches : (r : Rule) (m : Mode) (s t : State) (us : Trees) → RunsBody r m s (Success t us) → IsStateIn (chars text) s → Stretches text r s.position t.position
   stretches is.number m s t us d h = is_number text utf8 s t h (number_taken (IsNumeral 10) s t (takes classes (IsNumeral 10) (number_taken (IsNumeral 10)) d refl))
   stretches is.integer m s t us d h = is_integer text utf8 s t h (integer_taken s t (takes classes (IsNumeral 10) (number_taken (IsNumeral 10)) d refl))
   stretches _ m s t us d h = tt
@@ -157,7 +157,7 @@ module _ (text : List ℕ) (utf8 : IsUtf8 text) (classes : Classes) where
   inside r m s t us true e h d f = is_none (quiet classes d (dark_mode r m e, dark_is_quiet r e))
   inside r m s t us false e h d f = f (light_mode r m e h)
 
-  holds : (r : Rule) (m : Mode) (s t : State) (us : Trees) → is_defined r ≡ true → seen_from m ≡ true → Stands (chars text) s → RunsBody r m s (Success t us)
+  holds : (r : Rule) (m : Mode) (s t : State) (us : Trees) → is_defined r ≡ true → seen_from m ≡ true → IsStateIn (chars text) s → RunsBody r m s (Success t us)
       → (seen_from (body_mode (rule_at r) m) ≡ true → Yields text (body_of r) us)
       → Holds text r (if gives_token (type_of_rule r) m then Tree (name_of r) s.position t.position us None' else us)
   holds r m s t us k h w d f =
@@ -165,7 +165,7 @@ module _ (text : List ℕ) (utf8 : IsUtf8 text) (classes : Classes) where
 
   -- a call of a rule
   abbrev Calls : Text → spec.Rule → Type 0
-  Calls n q = (m : Mode) (s : State) (o : Outcome) → seen_from m ≡ true → Stands (chars text) s → Does meta_grammar classes (Run (body_mode q m) q.body) s o
+  Calls n q = (m : Mode) (s : State) (o : Outcome) → seen_from m ≡ true → IsStateIn (chars text) s → Does meta_grammar classes (Run (body_mode q m) q.body) s o
       → (seen_from (body_mode q m) ≡ true → IfSuccess (Yields text q.body) o) → IfSuccess (Yields text (Ident n)) (with_token q m s o)
 
   calls_at : (r : Rule) → is_defined r ≡ true → Calls (name_of r) (rule_at r)
@@ -198,14 +198,14 @@ module _ (text : List ℕ) (utf8 : IsUtf8 text) (classes : Classes) where
   Yielded (Turns m e) us = Many (Yields text e) us
   Yielded (Skipping m) us = IsNone us
 
-  stands_after : {k : Task} {s t : State} {us : Trees} → Does meta_grammar classes k s (Success t us) → Stands (chars text) s → Stands (chars text) t
+  stands_after : {k : Task} {s t : State} {us : Trees} → Does meta_grammar classes k s (Success t us) → IsStateIn (chars text) s → IsStateIn (chars text) t
   stands_after d h = (fits (chars text) d h).0
 
   blanks : (us : Trees) → Yields text skipped us → IsNone us
   unfolding whitespace comment rule_named
   blanks us (both a b) = none_both (all_none a) (all_blank b)
 
-  pub yields : {k : Task} {s : State} {o : Outcome} → Does meta_grammar classes k s o → IsSeen k → Stands (chars text) s → IfSuccess (Yielded k) o
+  pub yields : {k : Task} {s : State} {o : Outcome} → Does meta_grammar classes k s o → IsSeen k → IsStateIn (chars text) s → IfSuccess (Yielded k) o
   yields (str {t = t} {s = s}) h w = none_if (begins nat_eq t s.rest) _
   yields (insens {t = t} {s = s}) h w = anything _
   yields (range {a = a} {b = b} {s = s}) h w = none_if (starts_in (range_set a b) s.rest) _

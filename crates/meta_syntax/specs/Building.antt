@@ -8,7 +8,7 @@ use Rattle.meta_base.specs.declared.grammar.Rule.{Rule}
 use Rattle.meta_base.specs.declared.runtime.trees.TokenTree.{TokenTree}
 use Rattle.meta_syntax.specs.declared.trees.Pending as waits
 
--- an end that waits for its start: its place, and the trees behind it
+-- an end whose start is not read yet: its position, and the trees after it
 pub record Pending : Type 0 where
   pub end_ : ℕ
   pub others : state.Trees
@@ -29,13 +29,13 @@ abbrev pub with_start : Text → ℕ → state.Trees → List Pending → Making
 with_start r i us [] = record { trees = us; waiting = [] }
 with_start r i us (p ∷ ps) = record { trees = state.Tree r i p.end_ us p.others; waiting = ps }
 
--- what one more entry makes, before those that were met
+-- the result of one more entry, right before those that were read
 abbrev pub with_one_more : Entry → Making → Making
 with_one_more (Starts r i m) k = with_start r i k.trees k.waiting
 with_one_more (Ends j n) k =
     record { trees = state.None'; waiting = record { end_ = j; others = k.trees } ∷ k.waiting }
 
--- what all entries make
+-- the result of all entries
 abbrev pub making_from : List Entry → Making
 making_from [] = record { trees = state.None'; waiting = [] }
 making_from (e ∷ es) = with_one_more e (making_from es)

@@ -1,4 +1,4 @@
--- Comments in Atomic: what they go on to, and where they end.
+-- Comments in Atomic: how they go on, and where they end.
 use Rattle.std.specs.Prelude.{◌≡◌, ℕ, ◌+◌, ◌-◌, ◌<◌, ◌≤◌, List, Option, Some, None, codes, drop, length, slice_index_or, IsUtf8}
 use Rattle.meta_base.specs.Language.Expression.{Str}
 use Rattle.meta_base.specs.Language.State.{Classes, State, AtomicMode, None', Outcome, Success, Failure}
@@ -10,7 +10,8 @@ use Rattle.meta_syntax.specs.Runs.{at}
 use Rattle.meta_syntax.specs.Sets.{spelled_by}
 use Rattle.meta_syntax.specs.declared.sets.Set.TheVariants.{Comment}
 
--- from a state within a comment turns are taken, and then it is closed or left open; nothing is noted
+-- from a state within a comment turns are taken, and then the comment is closed or left open; no failure is
+-- recorded
 pub record GoesOnTo (classes : Classes) (s : State) (o : Outcome) (furthest : ℕ) : Type 0 where
   pub last : State
   pub turns : Ran meta_grammar classes (Turns AtomicMode (spelled_by Comment)) s
@@ -24,7 +25,7 @@ pub record HasNoComment (text rest : List ℕ) : Type 0 where
   pub no_end : (classes : Classes) (furthest : ℕ) → Ran meta_grammar classes
       (Run AtomicMode (Str (codes "*/"))) (at text rest) Failure furthest furthest
 
--- what is left of a text where so many bytes are left
+-- the last so many bytes of a text
 abbrev pub left_of : List ℕ → ℕ → List ℕ
 left_of text n = drop (length text - n) text
 
@@ -44,7 +45,7 @@ abbrev pub AreEnds : List ℕ → List (Option ℕ) → Type 0
 AreEnds text ends = (n : ℕ) → n < length ends → n ≤ length text → IsUtf8 (left_of text n)
     → IsEnd text n (slice_index_or ends n None)
 
--- it has them for the whole of a text
+-- the list has the ends for the whole of a text
 abbrev pub AreAllEnds : List ℕ → List (Option ℕ) → Type 0
 AreAllEnds text ends = record {
   right : AreEnds text ends;

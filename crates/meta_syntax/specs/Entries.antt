@@ -6,7 +6,7 @@ use Rattle.meta_base.specs.Pieces.MetaRules.{name_of}
 use Rattle.meta_syntax.specs.declared.entries.Entry as code
 use Rattle.meta_syntax.specs.declared.entries.Entry.TheVariants as is
 
--- a tree starts, or ends, at a place; its other entry is the one of a number
+-- a tree starts, or ends, at a position; its other entry is the one of a number
 pub data Entry : Type 0 where
   Starts : (rule : Text) (place partner : ℕ) → Entry
   Ends : (place partner : ℕ) → Entry
@@ -36,8 +36,8 @@ entries_of n (Tree r i j inner others) =
 abbrev pub AddsEntries : List code.Entry → List code.Entry → Trees → Type 0
 AddsEntries old new us = named_entries new ≡ named_entries old ++ entries_of (length (named_entries old)) us
 
--- whole pairs from the number n on: the partner of each start is an end further on, its partner is that
--- start, and what stands between them is whole again
+-- whole pairs from the number n on: the partner of a start is a later end, its partner is that start, and
+-- the entries between them are whole again
 pub data IsWhole : ℕ → List Entry → Type 0 where
   nothing : {n : ℕ} → IsWhole n []
   pair : {n : ℕ} {r : Text} {i : ℕ} (j : ℕ) {inner others : List Entry}
@@ -52,8 +52,8 @@ open_start gives r i = if gives then Starts r i 0 ∷ [] else []
 abbrev pub token : Bool → Text → ℕ → ℕ → Trees → Trees
 token gives r i j us = if gives then Tree r i j us None' else us
 
--- whatever trees were written behind an open start of the number `first`, they stand now in one tree, if
--- there is to be one
+-- the trees that were written after an open start of the number `first` are now in one tree, if there is to
+-- be one
 abbrev pub Closes : Bool → Text → ℕ → ℕ → ℕ → List code.Entry → List code.Entry → Type 0
 Closes gives r i j first old new =
     (before : List Entry) (us : Trees) → length before ≡ first

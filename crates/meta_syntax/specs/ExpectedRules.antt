@@ -1,4 +1,4 @@
--- What is expected where a text is none of a rule.
+-- The rules that are expected where a text does not match a rule.
 use Rattle.std.specs.Prelude.{◌≡◌, ℕ, List, [], ◌∷◌, Bool, false, ◌||◌, filter, bytes_eq}
 use Rattle.meta_base.specs.Language.Expected.{expected, expected_at}
 use Rattle.meta_base.specs.Language.State.{Trees, State, Outcome, Success, Failure, Classes}
@@ -17,17 +17,17 @@ is_named (n ∷ ns) r = bytes_eq n (name_of r) || is_named ns r
 abbrev pub rules_named : List Text → List Rule
 rules_named names = filter (is_named names) (is.EOI ∷ meta_rules)
 
--- nothing is expected where the text begins with what the rule matches
+-- nothing is expected if the text begins with a match of the rule
 abbrev pub ExpectsNothing : Rule → List ℕ → List Rule → Type 0
 ExpectsNothing rule text rules = (classes : Classes) (t : State) (us : Trees)
     → Recognizes rule text classes (Success t us) → rules ≡ []
 
--- the rules are those that are expected at the furthest place, where the rule fails
+-- the rules are those that are expected at the furthest position, where the rule fails
 abbrev pub AreExpected : Rule → List ℕ → List Rule → Type 0
 AreExpected rule text rules = (classes : Classes)
     → (d : Recognizes rule text classes Failure) → rules ≡ rules_named (expected d)
 
--- the rules are those that are expected at a place, where the rule fails or matches
-abbrev pub AreToldAt : Rule → List ℕ → ℕ → List Rule → Type 0
-AreToldAt rule text place rules = (classes : Classes) (o : Outcome)
+-- the rules are those that are expected at a position, where the rule fails or matches
+abbrev pub AreRecordedAt : Rule → List ℕ → ℕ → List Rule → Type 0
+AreRecordedAt rule text place rules = (classes : Classes) (o : Outcome)
     → (d : Recognizes rule text classes o) → rules ≡ rules_named (expected_at place d)

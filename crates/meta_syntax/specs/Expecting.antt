@@ -1,4 +1,4 @@
--- What the second reading answers: what it finds, and what it makes of the names that are expected.
+-- The answer of the second run: its outcome, and the names that it adds to those that are expected.
 use Rattle.std.specs.Prelude.{◌≡◌, ℕ, List, [], ◌∷◌, ◌++◌, Bool, true, false, Option, Some, None, map, take, nat_eq, ◌&&◌, if◌then◌else◌}
 use Rattle.std.specs.Borrow.{Bor}
 use Rattle.meta_base.specs.Language.Expression.{Grammar}
@@ -17,86 +17,86 @@ use Rattle.meta_syntax.specs.Runs.{IsLeft, at}
 abbrev pub names_of : List Rule → List Text
 names_of rules = map name_of rules
 
--- the place for which names are sought, and the names so far
+-- the position for which names are sought, and the names so far
 pub record Sought : Type 0 where
   pub place : ℕ
   pub names : List Text
 
 abbrev pub sought_of : Expecting → Sought
-sought_of e = record { place = e.place; names = names_of e.told.items }
+sought_of e = record { place = e.place; names = names_of e.recorded.items }
 
 -- with more names
 abbrev pub with_names : Sought → List Text → Sought
 with_names s ns = record { place = s.place; names = s.names ++ ns }
 
--- with the name of a call that failed, where it counts and began at the place, instead of all names but the
+-- with the name of a call that failed, if it counts and began at the position, instead of all names but the
 -- first ones
-abbrev pub telling : Bool → Text → ℕ → ℕ → Sought → Sought
-telling counts n saved position s =
+abbrev pub with_failure : Bool → Text → ℕ → ℕ → Sought → Sought
+with_failure counts n saved position s =
     if counts && nat_eq position s.place
     then record { place = s.place; names = take saved s.names ++ n ∷ [] }
     else s
 
--- the task k from s was found to have the outcome o, and what is expected in it was added
-pub record Noted (g : Grammar) (classes : Classes) (k : Task) (s : State) (o : Outcome)
+-- the task k has the outcome o from s, and the names that are expected in it are added
+pub record DoesRecording (g : Grammar) (classes : Classes) (k : Task) (s : State) (o : Outcome)
     (old new : Sought) : Type 0 where
   pub found : Does g classes k s o
   pub noted : new ≡ with_names old (expected_at old.place found)
 
 -- the task was found to fail, whatever the classes are
-pub record FailsNoting (k : Task) (text rest : List ℕ) (old new : Sought) : Type 0 where
-  pub ran : (classes : Classes) → Noted meta_grammar classes k (at text rest) Failure old new
+pub record FailsRecording (k : Task) (text rest : List ℕ) (old new : Sought) : Type 0 where
+  pub ran : (classes : Classes) → DoesRecording meta_grammar classes k (at text rest) Failure old new
 
 -- the task was found to succeed and to leave these bytes, whatever the classes are
-pub record FindsNoting (k : Task) (text rest : List ℕ) (old new : Sought)
+pub record FindsRecording (k : Task) (text rest : List ℕ) (old new : Sought)
     (after : List ℕ) : Type 0 where
   pub trees : Trees
   pub ran : (classes : Classes)
-      → Noted meta_grammar classes k (at text rest) (Success (at text after) trees) old new
+      → DoesRecording meta_grammar classes k (at text rest) (Success (at text after) trees) old new
 
-abbrev pub FailsOrFindsNoting : Task → List ℕ → List ℕ → Sought → Sought
+abbrev pub FailsOrFindsRecording : Task → List ℕ → List ℕ → Sought → Sought
     → Option (Bor (List ℕ)) → Type 0
-FailsOrFindsNoting k text rest old new None = FailsNoting k text rest old new
-FailsOrFindsNoting k text rest old new (Some after) = FindsNoting k text rest old new after.now
+FailsOrFindsRecording k text rest old new None = FailsRecording k text rest old new
+FailsOrFindsRecording k text rest old new (Some after) = FindsRecording k text rest old new after.now
 
--- what a run answers, and what it makes of the names
-abbrev pub Tells : Task → List ℕ → List ℕ → Expecting → Expecting → Option (Bor (List ℕ)) → Type 0
-Tells k text rest old new o = FailsOrFindsNoting k text rest (sought_of old) (sought_of new) o
+-- the outcome of a run, and the names that it adds
+abbrev pub RunsRecording : Task → List ℕ → List ℕ → Expecting → Expecting → Option (Bor (List ℕ)) → Type 0
+RunsRecording k text rest old new o = FailsOrFindsRecording k text rest (sought_of old) (sought_of new) o
 
--- the same of a run that cannot fail
-abbrev pub TellsTo : Task → List ℕ → List ℕ → Expecting → Expecting → List ℕ → Type 0
-TellsTo k text rest old new after = FindsNoting k text rest (sought_of old) (sought_of new) after
+-- the outcome of a run that cannot fail, and the names that it adds
+abbrev pub RunsToRecording : Task → List ℕ → List ℕ → Expecting → Expecting → List ℕ → Type 0
+RunsToRecording k text rest old new after = FindsRecording k text rest (sought_of old) (sought_of new) after
 
--- what the recognizer remembers is so
-abbrev pub IsTruly : List ℕ → Expecting → Type 0
-IsTruly text e = RemembersTruly text e.recognizer
+-- the recognizer's memory is true of the text
+abbrev pub HasTrueMemory : List ℕ → Expecting → Type 0
+HasTrueMemory text e = RemembersTruly text e.recognizer
 
 -- a run may begin
 abbrev pub IsReadyAgain : List ℕ → List ℕ → Expecting → Type 0
 IsReadyAgain text rest e = record {
   left : IsLeft text rest;
-  truly : IsTruly text e;
+  truly : HasTrueMemory text e;
 }
 
--- the rules within whose calls nothing is told: their bodies run in Atomic, or are silent throughout
-abbrev pub is_settled : Rule → Bool
-is_settled is.tag_id = true
-is_settled is.number = true
-is_settled is.integer = true
-is_settled is.identifier = true
-is_settled is.alpha = true
-is_settled is.alpha_num = true
-is_settled is.inner_str = true
-is_settled is.inner_chr = true
-is_settled is.escape = true
-is_settled is.code = true
-is_settled is.unicode = true
-is_settled is.hex_digit = true
-is_settled is.newline = true
-is_settled is.WHITESPACE = true
-is_settled is.line_comment = true
-is_settled is.block_comment = true
-is_settled is.COMMENT = true
-is_settled is.space = true
-is_settled is.inner_doc = true
-is_settled _ = false
+-- rules within whose calls nothing is recorded: their bodies run in Atomic, or are silent throughout
+abbrev pub is_unrecorded : Rule → Bool
+is_unrecorded is.tag_id = true
+is_unrecorded is.number = true
+is_unrecorded is.integer = true
+is_unrecorded is.identifier = true
+is_unrecorded is.alpha = true
+is_unrecorded is.alpha_num = true
+is_unrecorded is.inner_str = true
+is_unrecorded is.inner_chr = true
+is_unrecorded is.escape = true
+is_unrecorded is.code = true
+is_unrecorded is.unicode = true
+is_unrecorded is.hex_digit = true
+is_unrecorded is.newline = true
+is_unrecorded is.WHITESPACE = true
+is_unrecorded is.line_comment = true
+is_unrecorded is.block_comment = true
+is_unrecorded is.COMMENT = true
+is_unrecorded is.space = true
+is_unrecorded is.inner_doc = true
+is_unrecorded _ = false

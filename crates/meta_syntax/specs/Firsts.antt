@@ -10,7 +10,7 @@ use Rattle.meta_syntax.specs.declared.modes.Mode as mode
 use Rattle.meta_syntax.specs.MetaGrammar.{double_quote, backslash, line_feed}
 use Rattle.meta_syntax.specs.Runs.{mode_of}
 
--- the characters with which what a rule matches begins, for the rules that are most often called in vain
+-- the first set of a rule, for the rules that fail most often
 abbrev pub firsts : Rule → Option (List ℕ)
 firsts is.WHITESPACE = Some (32 ∷ 9 ∷ 10 ∷ 13 ∷ [])
 firsts is.newline = Some (10 ∷ 13 ∷ [])
@@ -57,23 +57,23 @@ is_among_any (Some xs) c = is_among xs c
 abbrev pub begins_name : ℕ → Bool
 begins_name c = nat_eq 95 c || (is_lower c || is_upper c)
 
--- whether what a rule matches may begin with a character, as far as its first characters are listed
+-- whether a match of a rule may begin with a character, as far as first sets are listed
 abbrev pub may_begin : Rule → ℕ → Bool
 may_begin is.identifier c = begins_name c
 may_begin r c = is_among_any (firsts r) c
 
--- whether a call that fails by the first character is noted there: not the blanks and comments, which are
--- silent, nor what Atomic does not see; but the quotes of a literal are seen from its own mode
-abbrev pub is_noted_at_once : Rule → mode.Mode → Bool
-is_noted_at_once is.WHITESPACE m = false
-is_noted_at_once is.newline m = false
-is_noted_at_once is.COMMENT m = false
-is_noted_at_once is.line_comment m = false
-is_noted_at_once is.block_comment m = false
-is_noted_at_once is.string m = true
-is_noted_at_once is.range m = true
-is_noted_at_once is.character m = true
-is_noted_at_once _ m = seen_from (mode_of m)
+-- whether a call that the first set refuses is recorded as a failure: not blanks and comments, which are
+-- silent, nor calls that Atomic hides; the quotes of a literal are seen from its own mode
+abbrev pub is_recorded_at_once : Rule → mode.Mode → Bool
+is_recorded_at_once is.WHITESPACE m = false
+is_recorded_at_once is.newline m = false
+is_recorded_at_once is.COMMENT m = false
+is_recorded_at_once is.line_comment m = false
+is_recorded_at_once is.block_comment m = false
+is_recorded_at_once is.string m = true
+is_recorded_at_once is.range m = true
+is_recorded_at_once is.character m = true
+is_recorded_at_once _ m = seen_from (mode_of m)
 
 -- whether a silent rule matches a character and nothing more, for the rules of single characters
 abbrev pub takes_one : Rule → ℕ → Bool
@@ -84,8 +84,8 @@ takes_one is.alpha c = is_lower c || is_upper c
 takes_one is.alpha_num c = (is_lower c || is_upper c) || is_between 48 57 c
 takes_one _ c = false
 
--- what a look at the next character tells of a call is so
-abbrev pub Foretells : Rule → ℕ → Lookahead → Type 0
-Foretells r c ahead.Fails = may_begin r c ≡ false
-Foretells r c ahead.TakesOne = takes_one r c ≡ true
-Foretells r c ahead.MustRun = (may_begin r c ≡ true) × (takes_one r c ≡ false)
+-- the answer of a lookahead is true of the call
+abbrev pub IsLookahead : Rule → ℕ → Lookahead → Type 0
+IsLookahead r c ahead.Fails = may_begin r c ≡ false
+IsLookahead r c ahead.TakesOne = takes_one r c ≡ true
+IsLookahead r c ahead.MustRun = (may_begin r c ≡ true) × (takes_one r c ≡ false)

@@ -1,4 +1,4 @@
--- What the table's forms stand for, and how far a run of one may go before it takes input.
+-- The expressions of the table's forms, and bounds on a run of one before it takes input.
 use Rattle.std.specs.Prelude.{◌≡◌, ℕ, ◌+◌, ◌<◌, max, List, [], ◌∷◌, Bool, true, false, not, ◌&&◌, ◌||◌, Option, Some, None, if◌then◌else◌, nat_eq, nat_lt, length, codes, ⊤}
 use Rattle.std.specs.Str.{chars_after, continuation_len, lead_bits}
 use Rattle.std.specs.Borrow.{Bor}
@@ -34,12 +34,12 @@ abbrev pub choice_among : Expression → List Rule → Expression
 choice_among e [] = e
 choice_among e (r ∷ rs) = choice_among (spec.Choice e (spec.Ident (name_of r))) rs
 
--- an expression with what stands before it in its sequence
+-- an expression, with its prefix in its sequence
 abbrev pub behind : Option Expression → Expression → Expression
 behind None e = e
 behind (Some d) e = spec.Seq d e
 
--- the expression of a form, with what stands before it in its sequence: its parts follow one by one
+-- the expression of a form, with its prefix in its sequence: its parts follow one by one
 abbrev pub followed : Option Expression → Form → Expression
 followed d (form.Str t) = behind d (spec.Str (decoded t.now))
 followed d (form.Range a b) = behind d (spec.Range (a ∷ []) (b ∷ []))
@@ -76,7 +76,7 @@ abbrev pub all_take : List Rule → Bool
 all_take [] = true
 all_take (r ∷ rs) = not (nullable r) && all_take rs
 
--- the same of a form
+-- whether a form may succeed without taking anything
 abbrev pub null : Form → Bool
 null (form.Str t) = nat_eq (length t.now) 0
 null (form.Range a b) = false
@@ -231,14 +231,14 @@ IsRunnableTurn f = record {
   below : cost f < 999;
 }
 
--- it is the turn that a set belongs to
+-- the form is the turn that a set belongs to
 abbrev pub IsTurnOf : Set → Form → Type 0
 IsTurnOf s f = record {
   turn : IsRunnableTurn f;
   of_set : expression_of f ≡ spelled_by s;
 }
 
--- a form that spells out what a rule matches
+-- a form that is the body of a rule, spelled out
 abbrev pub SpellsOut : Rule → Form → Type 0
 SpellsOut r f = record {
   runnable : IsRunnable f;
@@ -250,7 +250,7 @@ abbrev pub count_of_parts : Form → ℕ
 count_of_parts (form.Seq' p a q b) = count_of_parts b + 1
 count_of_parts _ = 1
 
--- the first part of what is behind a part of a sequence, and what is behind that; or it is the last part
+-- a sequence's first part and the rest of it; or its last part, and no rest
 abbrev pub AreParts : Form → Form → Option (Bor Form) → Type 0
 AreParts f part None =
     (part ≡ f) × ((d : Expression) → followed (Some d) f ≡ spec.Seq d (expression_of f))

@@ -77,7 +77,7 @@ type_of_rule line_doc = CompoundAtomic
 type_of_rule inner_doc = Atomic
 type_of_rule _ = Normal
 
--- what each rule matches; EOI is no rule of the grammar, and matches what its name does
+-- the body of each rule; EOI is no rule of the grammar, and its body is a call of that name
 abbrev pub body_of : Rule → Expression
 body_of EOI = rule EOI
 body_of grammar_rules = start ~ Rep (rule grammar_doc) ~ Rep (rule grammar_rule) ~ rule EOI

@@ -1,4 +1,4 @@
--- What waits for an answer, and what the answer makes of it.
+-- Continuation frames, and the meaning of an answer to each of them.
 use Rattle.std.specs.Prelude.{◌≡◌, ℕ, zero, suc, ◌+◌, ◌-◌, ◌*◌, ◌<◌, ◌≤◌, ◌&&◌, List, [], ◌∷◌, Bool, true, Option, Some, None, length, take, ◌⊎◌}
 use Rattle.std.specs.Borrow.{Bor}
 use Rattle.meta_base.specs.Language.Expression.{Expression}
@@ -22,8 +22,8 @@ use Rattle.meta_syntax.specs.MetaGrammar.{meta_grammar}
 use Rattle.meta_syntax.specs.Remembering.{FailsWithin, IsReady, RemembersTruly}
 use Rattle.meta_syntax.specs.Runs.{Fails, FailsOrFinds, Finds, GoesOnIfFound, IsLeft, at, furthest_with, mode_of}
 
--- what a run is asked: a task, the text that is left, whether it may take nothing of it, and the entries and
--- the furthest failure so far
+-- the question that a run answers: a task, the remaining text, whether it may take nothing of it, and the
+-- entries and the furthest failure so far
 pub record Question : Type 0 where
   pub task : Task
   pub rest : List ℕ
@@ -31,7 +31,7 @@ pub record Question : Type 0 where
   pub entries : List Entry
   pub furthest : ℕ
 
--- what a run of a task is asked from here on
+-- the question of a task from here on
 abbrev pub question_of : Task → List ℕ → Bool → Recognizer → Question
 question_of k rest empty r =
     record { task = k; rest = rest; empty = empty; entries = r.entries.items; furthest = r.furthest }
@@ -42,12 +42,12 @@ pub record IsAnswered (text : List ℕ) (q : Question) (es : List Entry) (p : �
   pub means : FailsOrFinds q.task text q.rest q.entries es q.furthest p o
   pub goes_on : GoesOnIfFound text q.rest q.empty o
 
--- whatever answers the one question answers the other
+-- an answer to the one question answers the other
 abbrev pub Serves : List ℕ → Question → Question → Type 0
 Serves text k q = (es : List Entry) (p : ℕ) (o : Option (Bor (List ℕ)))
     → IsAnswered text k es p o → IsAnswered text q es p o
 
--- what was found of a sequence, and the form that is still to be run behind it
+-- the part of a sequence that matched, and the form that is still to be run after it
 pub record FoundBefore (m : Mode) (whole : Expression) (text from : List ℕ) (es : List Entry) (p : ℕ)
     (left : Form) (rest : List ℕ) (fs : List Entry) (q : ℕ) : Type 0 where
   pub done : Expression
@@ -77,7 +77,7 @@ pub record IsTried (text : List ℕ) (others : List Rule) (m : mode.Mode) (es : 
   pub task : q.task ≡ Run (mode_of m) (choice_among before others)
   pub failed : Fails (Run (mode_of m) before) text q.rest q.entries es q.furthest p
 
--- there were turns up to here: whatever further turns do, the repetition does, with these trees before it
+-- there were turns up to here: further turns are turns of the repetition, with these trees before theirs
 pub record HasTurned (text : List ℕ) (body : Form) (m : mode.Mode) (es : List Entry) (p : ℕ)
     (rest : List ℕ) (q : Question) : Type 0 where
   pub turn : IsRunnableTurn body
@@ -94,16 +94,15 @@ pub record HasTurned (text : List ℕ) (body : Form) (m : mode.Mode) (es : List 
 abbrev pub effort : List ℕ → ℕ → ℕ
 effort rest n = length rest * 1000 + n
 
--- what is behind a part of a sequence: nothing, so that the answer is that of the whole; or further parts
-abbrev pub GoesOnBehind : List ℕ → Form → Option (Bor Form) → mode.Mode → ℕ → List ℕ → Question
+-- the rest of a sequence after a part: none, so that the answer is that of the whole; or further parts
+abbrev pub GoesOnAfter : List ℕ → Form → Option (Bor Form) → mode.Mode → ℕ → List ℕ → Question
     → List Entry → ℕ → Bor (List ℕ) → Type 0
-GoesOnBehind text part None m saved rest q es p after = IsAnswered text q es p (Some after)
-GoesOnBehind text part (Some others) m saved rest q es p after =
+GoesOnAfter text part None m saved rest q es p after = IsAnswered text q es p (Some after)
+GoesOnAfter text part (Some others) m saved rest q es p after =
     (s : Question) × IsPartWay text others.now m saved es p after.now s × Serves text s q
     × (effort after.now (cost others.now) < effort rest (cost part))
 
--- what an answer to the question `k` makes of what waits for it: an answer to the question `q`, or what is
--- left to be done for one
+-- an answer to the question `k` and a frame give an answer to the question `q`, or a further task of it
 abbrev pub Follows : List ℕ → Wait → mode.Mode → ℕ → Bor (List ℕ) → Question → Question → Type 0
 Follows text (wait.Call rule kind) m saved rest k q = record {
   here : IsLeft text rest.now;
@@ -121,7 +120,7 @@ Follows text (wait.Call rule kind) m saved rest k q = record {
 }
 Follows text (wait.Sequence part others) m saved rest k q = record {
   found : (es : List Entry) (p : ℕ) (after : Bor (List ℕ)) → IsAnswered text k es p (Some after)
-      → GoesOnBehind text part.now others m saved rest.now q es p after;
+      → GoesOnAfter text part.now others m saved rest.now q es p after;
   failed : (es fs : List Entry) (p : ℕ) → IsAnswered text k es p None
       → named_entries fs ≡ take saved (named_entries es) → IsAnswered text q fs p None;
 }
@@ -160,7 +159,7 @@ IsWaiting text (f ∷ fs) k top = (q : Question) × FrameFollows text f q top ×
 abbrev pub IsAsked : List ℕ → List Frame → Question → Question → Type 0
 IsAsked text fs k top = (q : Question) × Serves text k q × IsWaiting text fs q top
 
--- what is done next leads to an answer to the question `top`
+-- the next step leads to an answer to the question `top`
 abbrev pub IsOnTheWay : List ℕ → List Frame → Recognizer → Step → Question → Type 0
 IsOnTheWay text fs r (step.Begin form m rest) top = record {
   runnable : IsRunnable form.now;
@@ -178,7 +177,7 @@ unfoldable pub steps : ℕ → ℕ
 steps zero = 1
 steps (suc n) = 4 * steps n
 
--- the same of what waits
+-- a bound on the steps of a frame
 abbrev pub work_of_wait : Wait → List ℕ → ℕ
 work_of_wait (wait.Call rule kind) rest = 1
 work_of_wait (wait.Sequence part others) rest = steps (effort rest (cost part.now))

@@ -1,4 +1,4 @@
--- What a text spells for a rule.
+-- The trees that a text spells for a rule.
 use Rattle.std.specs.Prelude.{◌≡◌, List, [], ◌∷◌, ℕ, chars, ⊤}
 use Rattle.meta_base.specs.Language.Expression.{Ident}
 use Rattle.meta_base.specs.Language.State.{NonAtomicMode, State, Trees, Outcome, Success, Failure, Classes}
@@ -36,8 +36,8 @@ abbrev pub Spells : Rule → List ℕ → Trees → Type 0
 Spells rule text us = (classes : Classes) → (t : State) × Recognizes rule text classes (Success t us)
 
 -- these are the entries of trees that the text spells
-abbrev pub TokensGive : Rule → List ℕ → List Entry → Type 0
-TokensGive rule text es = (us : Trees) × Spells rule text us × (named_entries es ≡ entries_of 0 us)
+abbrev pub AreTokensOf : Rule → List ℕ → List Entry → Type 0
+AreTokensOf rule text es = (us : Trees) × Spells rule text us × (named_entries es ≡ entries_of 0 us)
 
 -- the pairs are all those that their text spells for the rule
 abbrev pub AreSpelled : Rule → Pairs Rule → Type 0
@@ -47,12 +47,12 @@ AreSpelled rule pairs = Spells rule (pairs_text pairs) (named (pairs_trees pairs
 abbrev pub AreOfAGrammar : Pairs Rule → Type 0
 AreOfAGrammar pairs = AreSpelled rule_is.grammar_rules pairs
 
--- the rule fails, whatever the classes are, and this is the place of the failure
+-- the rule fails, for all classes, and this is the position of the failure
 abbrev pub FailsAt : Rule → List ℕ → ℕ → Type 0
 FailsAt rule text place =
     (classes : Classes) → (d : Recognizes rule text classes Failure) × (place ≡ furthest d)
 
--- the errors are one syntax error, at a place of a text
+-- the errors are one syntax error, at a position of a text
 pub record IsSyntaxError (text : List ℕ) (place : ℕ) (errors : List (Error Rule)) : Type 0 where
   pub error : Error Rule
   pub one : errors ≡ error ∷ []
@@ -65,7 +65,7 @@ abbrev pub IsSyntaxErrorOrMemory : List ℕ → ℕ → Fault → Type 0
 IsSyntaxErrorOrMemory text place (fault_is.Memory e) = ⊤
 IsSyntaxErrorOrMemory text place (fault_is.Grammar errors) = IsSyntaxError text place errors.items
 
--- one syntax error at the place where the rule fails, unless memory is wanting
+-- one syntax error at the position where the rule fails, unless memory is refused
 pub record IsRefused (rule : Rule) (text : List ℕ) (errors : List (Error Rule)) : Type 0 where
   pub place : ℕ
   pub fails : FailsAt rule text place

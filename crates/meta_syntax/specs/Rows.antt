@@ -1,4 +1,4 @@
--- What is known of a rule's row.
+-- Properties of a rule's row.
 use Rattle.std.specs.Prelude.{◌≡◌, ◌≤◌, ℕ, [], ◌∷◌, Bool, true, false}
 use Rattle.meta_base.specs.Language.Expression.{Normal, Str}
 use Rattle.meta_base.specs.declared.grammar.Rule.{Rule}
@@ -21,7 +21,7 @@ IsSign rule c = record {
   body : body_of rule ≡ Str (c ∷ []);
 }
 
--- type and body are those of the meta-grammar, and what the recognizer needs to end
+-- type and body are those of the meta-grammar, and the recognizer's bounds hold
 abbrev pub IsRow : Kind → Form → Rule → Type 0
 IsRow kind form rule = record {
   defined : is_defined rule ≡ true;

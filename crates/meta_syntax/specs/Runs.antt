@@ -1,4 +1,4 @@
--- What a run of the recognizer answers.
+-- The answer of a run of the recognizer.
 use Rattle.std.specs.Prelude.{◌≡◌, ℕ, ◌+◌, ◌-◌, ◌*◌, ◌<◌, ◌≤◌, max, List, [], Bool, true, false, Option, Some, None, drop, length, chars, ◌⊎◌, if◌then◌else◌, ⊤}
 use Rattle.std.specs.Borrow.{Bor}
 use Rattle.meta_base.specs.Language.State.{Mode, NonAtomicMode, AtomicMode, CompoundAtomicMode, State, Trees, None', Outcome, Success, Failure, Classes}
@@ -19,7 +19,7 @@ mode_of in_mode.NonAtomic = NonAtomicMode
 mode_of in_mode.Atomic = AtomicMode
 mode_of in_mode.CompoundAtomic = CompoundAtomicMode
 
--- these bytes are what is left of a text from some place on
+-- these bytes are the end of a text from some position on
 abbrev pub IsLeft : List ℕ → List ℕ → Type 0
 IsLeft text rest = rest ≡ drop (length text - length rest) text
 
@@ -27,7 +27,7 @@ IsLeft text rest = rest ≡ drop (length text - length rest) text
 abbrev pub at : List ℕ → List ℕ → State
 at text rest = record { position = length text - length rest; rest = chars rest; stack = [] }
 
--- what a form without tokens does: it leaves these bytes, or fails
+-- the outcome of a form without tokens: success with these bytes left, or failure
 abbrev pub leaving : List ℕ → Option (Bor (List ℕ)) → Outcome
 leaving text None = Failure
 leaving text (Some after) = Success (at text after.now) None'
@@ -40,12 +40,12 @@ GoesOn text rest empty after = record {
   consumed : (length after < length rest) ⊎ (empty ≡ true);
 }
 
--- so does what was found
+-- a match, if there is one, leaves an end of the text, and takes input unless it may be empty
 abbrev pub GoesOnIfFound : List ℕ → List ℕ → Bool → Option (Bor (List ℕ)) → Type 0
 GoesOnIfFound text rest empty None = ⊤
 GoesOnIfFound text rest empty (Some after) = GoesOn text rest empty after.now
 
--- the task was found to fail, whatever the classes are; the entries are what they were
+-- the task fails, for all classes; the entries are unchanged
 pub record Fails (k : Task) (text rest : List ℕ) (old new : List Entry) (p q : ℕ) : Type 0 where
   pub kept : named_entries new ≡ named_entries old
   pub ran : (classes : Classes) → Ran meta_grammar classes k (at text rest) Failure p q
@@ -65,12 +65,12 @@ abbrev pub FailsOrFinds : Task → List ℕ → List ℕ → List Entry → List
 FailsOrFinds k text rest old new p q None = Fails k text rest old new p q
 FailsOrFinds k text rest old new p q (Some after) = Finds k text rest old new p q after.now
 
--- what a run answers, and what it makes of the entries and of the furthest failure
+-- the answer of a run, and its effect on the entries and the furthest failure
 abbrev pub Runs : Task → List ℕ → List ℕ → Recognizer → Recognizer → Option (Bor (List ℕ)) → Type 0
 Runs k text rest old new o =
     FailsOrFinds k text rest old.entries.items new.entries.items old.furthest new.furthest o
 
--- the same of a run that cannot fail
+-- the answer of a run that cannot fail, and its effect
 abbrev pub RunsTo : Task → List ℕ → List ℕ → Recognizer → Recognizer → List ℕ → Type 0
 RunsTo k text rest old new after =
     Finds k text rest old.entries.items new.entries.items old.furthest new.furthest after

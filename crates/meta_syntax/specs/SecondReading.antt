@@ -1,4 +1,4 @@
--- What waits for an answer in the second reading, and what the answer makes of it.
+-- Continuation frames of the second run, and the meaning of an answer to each of them.
 use Rattle.std.specs.Prelude.{◌≡◌, ℕ, ◌+◌, ◌-◌, ◌<◌, ◌≤◌, ◌&&◌, max, List, [], ◌∷◌, Bool, true, Option, Some, None, length, take, if◌then◌else◌, ◌⊎◌}
 use Rattle.std.specs.Borrow.{Bor}
 use Rattle.meta_base.specs.Language.Expression.{Expression, Ident, Rep}
@@ -16,39 +16,39 @@ use Rattle.meta_syntax.specs.declared.expecting.Wait.{Wait}
 use Rattle.meta_syntax.specs.declared.expecting.Wait.TheVariants as wait
 use Rattle.meta_syntax.specs.declared.nesting.Step.{Step}
 use Rattle.meta_syntax.specs.declared.nesting.Step.TheVariants as step
-use Rattle.meta_syntax.specs.Expecting.{FailsNoting, FailsOrFindsNoting, FindsNoting, IsReadyAgain, IsTruly, Noted, Sought, sought_of, telling}
+use Rattle.meta_syntax.specs.Expecting.{FailsRecording, FailsOrFindsRecording, FindsRecording, IsReadyAgain, HasTrueMemory, DoesRecording, Sought, sought_of, with_failure}
 use Rattle.meta_syntax.specs.Forms.{IsGood, IsRunnable, IsRunnableTurn, IsSpelled, all_take, calls_cost, choice_among, cost, expression_of, followed, kind_of, null}
 use Rattle.meta_syntax.specs.MetaGrammar.{meta_grammar}
 use Rattle.meta_syntax.specs.Nesting.{effort, steps}
 use Rattle.meta_syntax.specs.Runs.{GoesOn, GoesOnIfFound, IsLeft, at, mode_of}
 
--- what a reading is asked: a task, the text that is left, whether it may take nothing of it, and what is
--- sought
+-- the question that a run answers: a task, the remaining text, whether it may take nothing of it, and the
+-- names so far
 pub record Question : Type 0 where
   pub task : Task
   pub rest : List ℕ
   pub empty : Bool
   pub sought : Sought
 
--- what a reading of a task is asked from here on
+-- the question of a task from here on
 abbrev pub question_of : Task → List ℕ → Bool → Expecting → Question
 question_of k rest empty e = record { task = k; rest = rest; empty = empty; sought = sought_of e }
 
--- this is an answer to the question, and what is sought is now this
+-- this is an answer to the question, and these are then the names
 pub record IsAnswered (text : List ℕ) (q : Question) (now : Sought) (o : Option (Bor (List ℕ))) : Type 0 where
-  pub means : FailsOrFindsNoting q.task text q.rest q.sought now o
+  pub means : FailsOrFindsRecording q.task text q.rest q.sought now o
   pub goes_on : GoesOnIfFound text q.rest q.empty o
 
--- whatever answers the one question answers the other
+-- an answer to the one question answers the other
 abbrev pub Serves : List ℕ → Question → Question → Type 0
 Serves text k q = (now : Sought) (o : Option (Bor (List ℕ)))
     → IsAnswered text k now o → IsAnswered text q now o
 
--- what was found of a sequence, and the form that is still to be run behind it
+-- the part of a sequence that matched, and the form that is still to be run after it
 pub record FoundSoFar (m : Mode) (whole : Expression) (text from : List ℕ) (p : Sought) (left : Form)
     (rest : List ℕ) (q : Sought) : Type 0 where
   pub done : Expression
-  pub found : FindsNoting (Run m done) text from p q rest
+  pub found : FindsRecording (Run m done) text from p q rest
   pub goes_on : followed (Some done) left ≡ whole
 
 -- a sequence was found up to here, these parts are left, and the question is about the whole of it
@@ -64,8 +64,8 @@ pub record IsPartWay (text : List ℕ) (left : Form) (m : mode.Mode) (now : Soug
   pub shorter : length rest ≤ length q.rest
   pub begun : (length rest < length q.rest) ⊎ (null left ≡ true → q.empty ≡ true)
 
--- a rule is called: its answer is that of the alternatives up to it, others are behind it, and the question
--- is about the whole choice
+-- a rule is called: its answer is that of the alternatives up to it, others follow, and the question is
+-- about the whole choice
 pub record IsTrying (text : List ℕ) (first : Rule) (others : List Rule) (m : mode.Mode) (now : Sought)
     (rest : List ℕ) (q : Question) : Type 0 where
   pub takes : all_take (first ∷ others) ≡ true
@@ -73,8 +73,8 @@ pub record IsTrying (text : List ℕ) (first : Rule) (others : List Rule) (m : m
   pub upto : Expression
   pub task : q.task ≡ Run (mode_of m) (choice_among upto others)
   pub answers : (later : Sought) (o : Option (Bor (List ℕ)))
-      → FailsOrFindsNoting (Run (mode_of m) (Ident (name_of first))) text rest now later o
-      → FailsOrFindsNoting (Run (mode_of m) upto) text rest q.sought later o
+      → FailsOrFindsRecording (Run (mode_of m) (Ident (name_of first))) text rest now later o
+      → FailsOrFindsRecording (Run (mode_of m) upto) text rest q.sought later o
 
 -- some alternatives have failed, these rules are left, and the question is about the whole choice
 pub record IsTried (text : List ℕ) (others : List Rule) (m : mode.Mode) (now : Sought) (rest : List ℕ)
@@ -83,9 +83,9 @@ pub record IsTried (text : List ℕ) (others : List Rule) (m : mode.Mode) (now :
   pub here : q.rest ≡ rest
   pub before : Expression
   pub task : q.task ≡ Run (mode_of m) (choice_among before others)
-  pub failed : FailsNoting (Run (mode_of m) before) text rest q.sought now
+  pub failed : FailsRecording (Run (mode_of m) before) text rest q.sought now
 
--- there were turns up to here: whatever further turns do, the repetition does, with these trees before it
+-- there were turns up to here: further turns are turns of the repetition, with these trees before theirs
 pub record HasTurned (text : List ℕ) (body : Form) (m : mode.Mode) (now : Sought) (rest : List ℕ)
     (q : Question) : Type 0 where
   pub turn : IsRunnableTurn body
@@ -94,17 +94,17 @@ pub record HasTurned (text : List ℕ) (body : Form) (m : mode.Mode) (now : Soug
   pub empty : q.empty ≡ true
   pub trees : Trees
   pub goes_on : (classes : Classes) (t : State) (us : Trees) (z : Sought)
-      → Noted meta_grammar classes (Turns (mode_of m) (expression_of body)) (at text rest)
+      → DoesRecording meta_grammar classes (Turns (mode_of m) (expression_of body)) (at text rest)
       (Success t us) now z
-      → Noted meta_grammar classes q.task (at text q.rest) (Success t (joined trees us)) q.sought z
+      → DoesRecording meta_grammar classes q.task (at text q.rest) (Success t (joined trees us)) q.sought z
 
--- there was a first turn up to here: a repetition behind the skipping answers the question
+-- there was a first turn up to here: a repetition after the skipping answers the question
 pub record HasBegun (text : List ℕ) (body : Form) (m : mode.Mode) (now : Sought) (rest : List ℕ)
     (q : Question) : Type 0 where
   pub turn : IsRunnableTurn body
   pub here : IsLeft text rest
   pub goes_on : (later : Sought) (next : List ℕ)
-      → FindsNoting (Skipping (mode_of m)) text rest now later next → GoesOn text rest true next
+      → FindsRecording (Skipping (mode_of m)) text rest now later next → GoesOn text rest true next
       → Serves text (record {
         task = Run (mode_of m) (Rep (expression_of body));
         rest = next;
@@ -112,11 +112,11 @@ pub record HasBegun (text : List ℕ) (body : Form) (m : mode.Mode) (now : Sough
         sought = later;
       }) q
 
--- a bound on the cost of a part and of what is behind it
+-- a bound on the cost of a part and of the rest of its sequence
 abbrev pub parts_cost : Form → Form → ℕ
 parts_cost part others = 1 + max (cost part) (if null part then cost others else 0)
 
--- what waits makes of what is found: an answer to the question `q`, or what is left to be done for one
+-- a success and a frame give an answer to the question `q`, or a further task of it
 abbrev pub GoesOnFound : List ℕ → Wait → Start → Question → Sought → Bor (List ℕ) → Type 0
 GoesOnFound text (wait.Call rule kind) s q now after = IsAnswered text q now (Some after)
 GoesOnFound text (wait.Sequence part others) s q now after =
@@ -134,11 +134,11 @@ GoesOnFound text wait.Negation s q now after =
     (names : List Text) → names ≡ take s.saved now.names
     → IsAnswered text q (record { place = now.place; names = names }) None
 
--- the same of a failure
+-- a failure and a frame give an answer to the question `q`, or a further task of it
 abbrev pub GoesOnFailed : List ℕ → Wait → Start → Question → Sought → Type 0
 GoesOnFailed text (wait.Call rule kind) s q now =
     (later : Sought)
-    → later ≡ telling (seen_from (mode_of s.mode) && gives_token (kind_of kind) (mode_of s.mode))
+    → later ≡ with_failure (seen_from (mode_of s.mode) && gives_token (kind_of kind) (mode_of s.mode))
     (name_of rule) s.saved (length text - length s.rest.now) now
     → IsAnswered text q later None
 GoesOnFailed text (wait.Sequence part others) s q now = IsAnswered text q now None
@@ -159,7 +159,7 @@ GoesOnFailed text wait.Negation s q now =
     (names : List Text) → names ≡ take s.saved now.names
     → IsAnswered text q (record { place = now.place; names = names }) (Some s.rest)
 
--- what an answer to the question `k` makes of what waits for it
+-- an answer to the question `k` and a frame give an answer to the question `q`, or a further task
 abbrev pub Follows : List ℕ → Wait → Start → Question → Question → Type 0
 Follows text w s k q = record {
   here : IsLeft text s.rest.now;
@@ -180,7 +180,7 @@ IsWaiting text (f ∷ fs) k top = (q : Question) × FrameFollows text f q top ×
 abbrev pub IsAsked : List ℕ → List Frame → Question → Question → Type 0
 IsAsked text fs k top = (q : Question) × Serves text k q × IsWaiting text fs q top
 
--- what is done next leads to an answer to the question `top`
+-- the next step leads to an answer to the question `top`
 abbrev pub IsOnTheWay : List ℕ → List Frame → Expecting → Step → Question → Type 0
 IsOnTheWay text fs e (step.Begin form m rest) top = record {
   runnable : IsRunnable form.now;
@@ -189,11 +189,11 @@ IsOnTheWay text fs e (step.Begin form m rest) top = record {
       (question_of (Run (mode_of m) (expression_of form.now)) rest.now (null form.now) e) top;
 }
 IsOnTheWay text fs e (step.Answer o) top = record {
-  truly : IsTruly text e;
+  truly : HasTrueMemory text e;
   answered : (q : Question) × IsAnswered text q (sought_of e) o × IsWaiting text fs q top;
 }
 
--- a bound on the steps that are taken for what waits
+-- a bound on the steps of a frame
 abbrev pub work_of_wait : Wait → List ℕ → ℕ
 work_of_wait (wait.Call rule kind) rest = 1
 work_of_wait (wait.Sequence part others) rest = steps (effort rest (parts_cost part.now others.now))

@@ -21,22 +21,22 @@ spelled_by set.Comment = rule block_comment or NegPred (Str (codes "*/")) ~ any
 abbrev pub is_of_name : ℕ → Bool
 is_of_name c = nat_eq 95 c || ((is_lower c || is_upper c) || is_between 48 57 c)
 
--- whether the body takes a character and nothing more, whatever is behind it
+-- whether the body takes a character and nothing more, before any text
 abbrev pub is_in : Set → ℕ → Bool
 is_in set.Name c = is_of_name c
 is_in set.Quoted c = not (nat_eq 34 c || nat_eq 92 c)
 is_in set.Line c = not (nat_eq 10 c || nat_eq 13 c)
 is_in set.Comment c = not (nat_eq 47 c || nat_eq 42 c)
 
--- whether the body fails before a character, whatever is behind it
+-- whether the body fails at a character, before any text
 abbrev pub is_out : Set → ℕ → Bool
 is_out set.Name c = not (is_of_name c)
 is_out set.Quoted c = nat_eq 34 c || nat_eq 92 c
 is_out set.Line c = nat_eq 10 c
 is_out set.Comment c = false
 
--- from one state to a later one there are turns of a repetition that give no trees: what the turns do from
--- the later one, they do from the earlier one
+-- from one state to a later one there are turns of a repetition that give no trees: further turns from the
+-- later one are turns from the earlier one
 abbrev pub IsBefore : Mode → Expression → State → State → Type 0
 IsBefore m e s t = (classes : Classes) (o : Outcome) (p q : ℕ)
     → Ran meta_grammar classes (Turns m e) t o p q → Ran meta_grammar classes (Turns m e) s o p q

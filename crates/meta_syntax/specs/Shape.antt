@@ -1,4 +1,4 @@
--- The trees that a grammar's text spells: which trees stand where, and that numbers are written in digits.
+-- The shape of the trees of a grammar's text: where they occur, and that numbers are written in digits.
 use Rattle.std.specs.Prelude.{◌≡◌, ℕ, List, codes}
 use Rattle.std.specs.List.{slice_range}
 use Rattle.std.specs.Str.Parse.{IsNumeral, without_leading_sign, without_leading_plus}
@@ -9,7 +9,7 @@ use Rattle.meta_base.specs.Language.State.{Trees, None', Tree}
 abbrev pub Lone : Text → ℕ → ℕ → Trees → Trees
 Lone r lone_at lone_to us = Tree r lone_at lone_to None' us
 
--- a rule's body, behind its modifier
+-- a rule's body, after its modifier
 abbrev pub Braced : ℕ → ℕ → ℕ → ℕ → ℕ → ℕ → Trees → Trees
 Braced open_at open_to body_at body_to close_at close_to body =
     Lone (codes "opening_brace") open_at open_to
@@ -33,18 +33,18 @@ pub data IsModifier : Text → Type 0 where
   compound_atomic : IsModifier (codes "compound_atomic_modifier")
   non_atomic : IsModifier (codes "non_atomic_modifier")
 
--- between two places there are digits
+-- between two positions there are digits
 pub record IsNumber (text : List ℕ) (number_at number_to : ℕ) : Type 0 where
   pub digits : IsNumeral 10 (slice_range text number_at number_to)
   pub unsigned : without_leading_plus (slice_range text number_at number_to)
       ≡ slice_range text number_at number_to
 
--- between two places there are digits, or a sign and digits
+-- between two positions there are digits, or a sign and digits
 abbrev pub IsInteger : List ℕ → ℕ → ℕ → Type 0
 IsInteger text number_at number_to =
     IsNumeral 10 (without_leading_sign (slice_range text number_at number_to))
 
--- a literal's trees: a quote, what is quoted, a quote
+-- a literal's trees: a quote, the text, a quote
 pub data IsQuoted : Trees → Type 0 where
   in_quotes : {open_at open_to inner_at inner_to close_at close_to : ℕ}
       → IsQuoted (Lone (codes "quote") open_at open_to
@@ -54,7 +54,7 @@ pub data IsQuoted : Trees → Type 0 where
       (Lone (codes "inner_chr") inner_at inner_to (Lone (codes "single_quote") close_at close_to None')))
 
 module _ (text : List ℕ) where
-  -- an operator that counts, and what it holds
+  -- an operator that counts, with the trees in it
   pub data IsCounted : Text → Trees → Type 0 where
     exact : {open_at open_to number_at number_to close_at close_to : ℕ} → IsNumber text number_at number_to
         → IsCounted (codes "repeat_exact")
@@ -79,20 +79,20 @@ module _ (text : List ℕ) where
         (Lone (codes "number") least_at least_to (Lone (codes "comma") comma_at comma_to
         (Lone (codes "number") most_at most_to (Lone (codes "closing_brace") close_at close_to None')))))
 
-  -- a postfix operator, and what it holds
+  -- a postfix operator, with the trees in it
   pub data IsPostfix : Text → Trees → Type 0 where
     opt : IsPostfix (codes "optional_operator") None'
     rep : IsPostfix (codes "repeat_operator") None'
     rep_once : IsPostfix (codes "repeat_once_operator") None'
     counted : {r : Text} {us : Trees} → IsCounted r us → IsPostfix r us
 
-  -- postfix operators, one behind another
+  -- postfix operators, one after another
   pub data ArePostfixes : Trees → Type 0 where
     done : ArePostfixes None'
     more : {r : Text} {postfix_at postfix_to : ℕ} {inner us : Trees} → IsPostfix r inner → ArePostfixes us
         → ArePostfixes (Tree r postfix_at postfix_to inner us)
 
-  -- where a number of a slice may stand: it does, or the dots or the closing bracket follow at once
+  -- an optional number of a slice: the number, or the dots or the closing bracket at once
   pub data MayBeNumber : Trees → Type 0 where
     a_number : {number_at number_to : ℕ} {us : Trees} → IsInteger text number_at number_to
         → MayBeNumber (Lone (codes "integer") number_at number_to us)
@@ -100,14 +100,14 @@ module _ (text : List ℕ) where
         → MayBeNumber (Lone (codes "range_operator") dots_at dots_to us)
     the_end : {close_at close_to : ℕ} → MayBeNumber (Lone (codes "closing_brack") close_at close_to None')
 
-  -- the trees of a slice behind its dots
+  -- the trees of a slice after its dots
   pub data IsSliceEnd : Trees → Type 0 where
     open_end : {close_at close_to : ℕ} → IsSliceEnd (Lone (codes "closing_brack") close_at close_to None')
     up_to : {number_at number_to close_at close_to : ℕ} → IsInteger text number_at number_to
         → IsSliceEnd (Lone (codes "integer") number_at number_to
         (Lone (codes "closing_brack") close_at close_to None'))
 
-  -- the trees of a slice behind its opening bracket
+  -- the trees of a slice after its opening bracket
   pub data IsSliceStart : Trees → Type 0 where
     open_start : {dots_at dots_to : ℕ} {us : Trees} → IsSliceEnd us
         → IsSliceStart (Lone (codes "range_operator") dots_at dots_to us)
@@ -120,7 +120,7 @@ module _ (text : List ℕ) where
     in_brackets : {open_at open_to : ℕ} {us : Trees} → IsSliceStart us
         → IsSlice (Lone (codes "opening_brack") open_at open_to us)
 
-  -- a tree that holds no expression, and what it holds
+  -- a terminal that contains no expression, with the trees in it
   pub data IsTerminal : Text → Trees → Type 0 where
     identifier : IsTerminal (codes "identifier") None'
     string : {us : Trees} → IsQuoted us → IsTerminal (codes "string") us
@@ -144,7 +144,7 @@ module _ (text : List ℕ) where
           → IsExpression (Lone (codes "choice_operator") bar_at bar_to us)
       unbarred : {us : Trees} → AreTerms us → IsExpression us
 
-    -- a term, and more behind it
+    -- a term, and more after it
     pub data AreTerms : Trees → Type 0 where
       terms : {term_at term_to : ℕ} {inner us : Trees} → IsTerm inner → IsMore us
           → AreTerms (Tree (codes "term") term_at term_to inner us)
@@ -170,7 +170,7 @@ module _ (text : List ℕ) where
       bare : {r : Text} {node_at node_to : ℕ} {inner us : Trees} → IsNode r inner → ArePostfixes us
           → IsTerm (Tree r node_at node_to inner us)
 
-    -- a node's rule, and what it holds
+    -- a node's rule, with the trees in it
     pub data IsNode : Text → Trees → Type 0 where
       terminal : {r : Text} {us : Trees} → IsTerminal r us → IsNode r us
       pushed : {open_at open_to body_at body_to close_at close_to : ℕ} {inner : Trees} → IsExpression inner

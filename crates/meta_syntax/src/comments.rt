@@ -9,8 +9,9 @@ use crate::leaves::{any, literal};
 use crate::sets::{Set, past};
 use std::alloc::AllocError;
 
-/// What is left behind a comment whose text goes on here, where it and all that begin within it are closed.
-pub fn closed<'i>(from: &'i str) -> Option<&'i str>
+/// Returns the text after a comment that goes on at `from`, if the comment and all that begin within it are
+/// closed.
+pub fn skip_closed_comment<'i>(from: &'i str) -> Option<&'i str>
     ensures goes_on { (text : List ℕ) → IsLeft text from.entry.now
         → GoesOnIfFound text from.entry.now false result }
     ensures closed { (text : List ℕ) (classes : Classes) (furthest : ℕ) → IsLeft text from.entry.now
@@ -39,7 +40,7 @@ pub fn closed<'i>(from: &'i str) -> Option<&'i str>
     }
 }
 
-/// Where a comment ends whose text goes on where so many bytes are left.
+/// Returns the end of a comment that goes on where `left` bytes are left.
 fn known_end(ends: &[Option<usize>], left: usize) -> Option<usize>
     requires { left < length ends.now }
     ensures { result ≡ slice_index_or ends.now left None }
@@ -47,7 +48,7 @@ fn known_end(ends: &[Option<usize>], left: usize) -> Option<usize>
     ends[left]
 }
 
-/// Where a comment ends whose text goes on with a character in which no comment begins that is closed.
+/// Returns the end of a comment that goes on with a character at which no closed comment begins.
 fn end_outside(text: &str, rest: &str, ends: &[Option<usize>]) -> Option<usize>
     requires left { IsLeft text.now rest.now }
     requires outside { HasNoComment text.now rest.now }
@@ -61,8 +62,8 @@ fn end_outside(text: &str, rest: &str, ends: &[Option<usize>]) -> Option<usize>
     }
 }
 
-/// Where a comment ends whose text goes on at `rest`, by the ends of those that go on further on: how many
-/// bytes are left behind it, or `None` where it is left open.
+/// Returns where a comment that goes on at `rest` ends, from the ends of those that go on later: the count
+/// of bytes left after it, or `None` if it is left open.
 fn end_from(text: &str, rest: &str, ends: &[Option<usize>]) -> Option<usize>
     requires left { IsLeft text.now rest.now }
     requires known { AreEnds text.now ends.now }
@@ -81,7 +82,7 @@ fn end_from(text: &str, rest: &str, ends: &[Option<usize>]) -> Option<usize>
     }
 }
 
-/// The same where so many bytes are left; of a place within a character nothing is said.
+/// Returns the end of a comment that goes on where `left` bytes are left; `None` within a character.
 fn end_at(text: &str, left: usize, ends: &[Option<usize>]) -> Option<usize>
     requires inside { left ≤ length text.now }
     requires known { AreEnds text.now ends.now }
@@ -96,7 +97,8 @@ fn end_at(text: &str, left: usize, ends: &[Option<usize>]) -> Option<usize>
     }
 }
 
-/// Where comments end, for each place within the text: at the count of bytes that are left there.
+/// Computes where comments end, for each position within the text, indexed by the count of bytes left
+/// there.
 pub fn ends_of(text: &str, ends: &mut Vec<Option<usize>>) -> Result<(), AllocError>
     requires none { ends.old.items ≡ [] }
     ensures { OnOk result (AreAllEnds text.now ends.new.items) }
@@ -108,8 +110,8 @@ pub fn ends_of(text: &str, ends: &mut Vec<Option<usize>>) -> Result<(), AllocErr
     Ok(())
 }
 
-/// What is left behind a comment whose text goes on here.
-pub fn behind<'i>(text: &str, ends: &[Option<usize>], inside: &'i str) -> Option<&'i str>
+/// Returns the text after a comment that goes on at `inside`.
+pub fn skip_comment<'i>(text: &str, ends: &[Option<usize>], inside: &'i str) -> Option<&'i str>
     requires left { IsLeft text.now inside.now }
     requires known { AreAllEnds text.now ends.now }
     ensures goes_on { GoesOnIfFound text.now inside.entry.now false result }

@@ -22,7 +22,7 @@ pub enum Entry {
     },
 }
 
-/// How many entries there are.
+/// Counts the entries.
 pub(crate) fn count_of_entries(entries: &Vec<Entry>) -> usize
     ensures { result ≡ length (named_entries entries.now.items) }
 {

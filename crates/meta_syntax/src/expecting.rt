@@ -1,12 +1,12 @@
-//! What is expected at a place: a second reading of a text, for which the place is known. It walks the table
-//! plainly, with a list of what waits for an answer, so that no text takes the machine's stack; and it leaves
-//! to the recognizer what tells no name: the skipping, and rules within which no call is told.
+//! The rules that are expected at a position: a second run over the text, once the position is known. Its
+//! continuation frames are on an explicit stack, so no text takes stack space. The recognizer runs the
+//! parts that record nothing: the skipping, and rules within which no call is recorded.
 ghost use Rattle.std.specs.Prelude.{◌≡◌, ◌+◌, ◌<◌, ◌≤◌, ◌∷◌, ◌++◌, ◌&&◌, ℕ, List, filter, IfOk, OnOk, Some, [], length, true, codes};
 ghost use Rattle.meta_base.specs.Language.Expression.{Ident};
 ghost use Rattle.meta_base.specs.Language.Meaning.{Run, Skipping};
 ghost use Rattle.meta_base.specs.Pieces.MetaRules.{name_of};
-ghost use Rattle.meta_syntax.specs.Expecting.{IsReadyAgain, IsTruly, Tells, TellsTo, is_settled, names_of, sought_of, telling};
-ghost use Rattle.meta_syntax.specs.ExpectedRules.{AreToldAt, is_named, rules_named};
+ghost use Rattle.meta_syntax.specs.Expecting.{IsReadyAgain, HasTrueMemory, RunsRecording, RunsToRecording, is_unrecorded, names_of, sought_of, with_failure};
+ghost use Rattle.meta_syntax.specs.ExpectedRules.{AreRecordedAt, is_named, rules_named};
 ghost use Rattle.meta_syntax.specs.Forms.{IsRunnable, calls_cost, cost, expression_of, kind_of, null, nullable, rank_of};
 ghost use Rattle.meta_syntax.specs.MetaGrammar.{type_of_rule};
 ghost use Rattle.meta_syntax.specs.Nesting.{effort, steps};
@@ -23,12 +23,12 @@ use crate::table::{Form, Kind, parts_of, row_of};
 use meta_base::grammar::Rule;
 use std::alloc::{AllocError, Global};
 
-/// What is to be done once the answer is there.
+/// The use of an answer.
 #[derive(Clone, Copy)]
 pub enum Wait {
     /// A call of a rule of a kind ends.
     Call(Rule, Kind),
-    /// A sequence goes on: of this part the answer is awaited, and these parts are behind it.
+    /// A sequence goes on: the answer of this part is awaited, and these parts follow it.
     Sequence(&'static Form, &'static Form),
     /// This is tried where the first alternative fails.
     Choice(&'static Form),
@@ -38,45 +38,46 @@ pub enum Wait {
     Option,
     /// There may be one more turn of this.
     Repetition(&'static Form),
-    /// There may be turns of this behind the first one.
+    /// There may be turns of this after the first one.
     OnceOrMore(&'static Form),
-    /// Nothing is matched where it fails, and what was told in it is forgotten.
+    /// Matches nothing where the body fails, and forgets the rules that were recorded in it.
     Negation,
 }
 
-/// What it was like where a part was begun.
+/// The state where a part was begun.
 #[derive(Clone, Copy)]
 pub struct Start<'i> {
     pub mode: Mode,
-    /// How many rules were told.
+    /// The number of rules that were recorded.
     pub saved: usize,
-    /// What was left of the text; of a repetition, behind its last turn.
+    /// The remaining text; of a repetition, after its last turn.
     pub rest: &'i str,
 }
 
-/// What waits for the answer of what it has begun.
+/// A continuation frame: the use of an answer, and the state where its part was begun.
 #[derive(Clone, Copy)]
 pub struct Frame<'i> {
     pub wait: Wait,
     pub start: Start<'i>,
 }
 
-/// A second reading, and what it was told so far.
+/// A second run, and the rules that it has recorded.
 #[derive(Drop)]
 pub struct Expecting {
-    /// The memory for what waits.
+    /// The allocator of the frames.
     alloc: Global,
-    /// What matches the parts that tell nothing.
+    /// Matches the parts that record nothing.
     recognizer: Recognizer,
-    /// The place, in bytes.
+    /// The position, in bytes.
     place: usize,
     /// The rules whose calls failed there, in the order of their calls.
-    told: Vec<Rule>,
+    recorded: Vec<Rule>,
 }
 
-/// Whether no call within a call of this rule is told: what runs in Atomic, and what is silent throughout.
-fn is_settled(rule: Rule) -> bool
-    ensures { result ≡ is_settled rule }
+/// Whether no call within a call of this rule is recorded: its body runs in Atomic, or is silent
+/// throughout.
+fn is_unrecorded(rule: Rule) -> bool
+    ensures { result ≡ is_unrecorded rule }
 {
     matches!(
         rule,
@@ -109,8 +110,8 @@ fn is_among(rules: &[Rule], rule: Rule) -> bool
     rules.contains(&rule)
 }
 
-/// Adds a rule, where it is among those that were told.
-fn add_if_told(rules: &mut Vec<Rule>, told: &[Rule], rule: Rule) -> Result<(), AllocError>
+/// Adds a rule, if it was recorded.
+fn add_if_recorded(rules: &mut Vec<Rule>, told: &[Rule], rule: Rule) -> Result<(), AllocError>
     ensures { OnOk result
         (rules.new.items ≡ rules.old.items ++ filter (is_named (names_of told.now)) (rule ∷ [])) }
 {
@@ -120,34 +121,34 @@ fn add_if_told(rules: &mut Vec<Rule>, told: &[Rule], rule: Rule) -> Result<(), A
     Ok(())
 }
 
-/// Those rules of the table that are among some, in the order of the table, each once.
+/// Returns the recorded rules, in the order of the table, each once.
 fn in_order(alloc: Global, told: &[Rule]) -> Result<Vec<Rule>, AllocError>
     ensures { IfOk result (λ rules. rules.items ≡ rules_named (names_of told.now)) }
 {
     let mut rules = Vec::new(alloc);
-    add_if_told(&mut rules, told, Rule::EOI)?;
+    add_if_recorded(&mut rules, told, Rule::EOI)?;
     for rule in Rule::all_rules() {
-        add_if_told(&mut rules, told, *rule)?;
+        add_if_recorded(&mut rules, told, *rule)?;
     }
     Ok(rules)
 }
 
-/// The rules that are expected at a place of a text, in the order of the table, each once.
+/// Returns the rules that are expected at a byte position of a text, in the order of the table, each once.
 pub fn expected_rules(
     alloc: Global,
     rule: Rule,
     text: &str,
     place: usize,
 ) -> Result<Vec<Rule>, AllocError>
-    ensures { IfOk result (λ rules. AreToldAt rule text.now place rules.items) }
+    ensures { IfOk result (λ rules. AreRecordedAt rule text.now place rules.items) }
 {
     let mut expecting = Expecting::new(alloc, place);
     let _answer = expecting.call(text, rule, Mode::NonAtomic, text)?;
-    let told = expecting.into_told();
+    let told = expecting.into_recorded();
     in_order(alloc, &told)
 }
 
-/// Begins a part, and what waits for its answer goes on the list.
+/// Begins a part, and pushes a frame for its answer.
 fn begin_part<'i>(
     frames: &mut Vec<Frame<'i>>,
     wait: Wait,
@@ -170,61 +171,63 @@ fn begin_part<'i>(
 }
 
 impl Expecting {
-    /// A reading for a place, in bytes.
+    /// Starts a run for a position, in bytes.
     pub fn new(alloc: Global, place: usize) -> Expecting
-        ensures told { names_of result.told.items ≡ [] }
+        ensures told { names_of result.recorded.items ≡ [] }
         ensures place { result.place ≡ place }
-        ensures truly { (text : List ℕ) → IsTruly text result }
+        ensures truly { (text : List ℕ) → HasTrueMemory text result }
     {
         Expecting {
             alloc,
             recognizer: Recognizer::new(alloc),
             place,
-            told: Vec::new(alloc),
+            recorded: Vec::new(alloc),
         }
     }
 
-    /// The rules whose calls failed at the place, in the order of their calls.
-    pub fn into_told(self) -> Vec<Rule>
-        ensures { result ≡ self.told }
+    /// Returns the rules whose calls failed at the position, in the order of their calls.
+    pub fn into_recorded(self) -> Vec<Rule>
+        ensures { result ≡ self.recorded }
     {
         let Expecting {
             alloc: _,
             recognizer: _,
             place: _,
-            told,
+            recorded,
         } = self;
-        told
+        recorded
     }
 
-    /// How many rules were told.
+    /// Returns the number of recorded rules.
     fn count(&self) -> usize
-        ensures { result ≡ length (names_of self.now.told.items) }
+        ensures { result ≡ length (names_of self.now.recorded.items) }
     {
-        self.told.len()
+        self.recorded.len()
     }
 
-    /// Tells a call that failed, where it counts and began at the place, instead of what was told within it.
-    fn tell(
+    /// Records a failed call instead of the rules recorded within it, if it counts and began at the
+    /// position.
+    fn record_failure(
         &mut self,
         counts: bool,
         rule: Rule,
         saved: usize,
         position: usize,
     ) -> Result<(), AllocError>
-        ensures truly { (text : List ℕ) → IsTruly text self.old → OnOk result (IsTruly text self.new) }
+        ensures truly { (text : List ℕ) → HasTrueMemory text self.old
+            → OnOk result (HasTrueMemory text self.new) }
         ensures told { OnOk result
-            (sought_of self.new ≡ telling counts (name_of rule) saved position (sought_of self.old)) }
+            (sought_of self.new ≡ with_failure counts (name_of rule) saved position (sought_of self.old)) }
     {
         if counts && position == self.place {
-            self.told.truncate(saved);
-            self.told.push(rule)?;
+            self.recorded.truncate(saved);
+            self.recorded.push(rule)?;
         }
         Ok(())
     }
 
-    /// A call within which nothing is told.
-    fn settled<'i>(
+    /// Calls a rule within which nothing is recorded.
+    fn call_unrecorded<'i>(
         &mut self,
         text: &str,
         rule: Rule,
@@ -232,23 +235,25 @@ impl Expecting {
         mode: Mode,
         rest: &'i str,
     ) -> Result<Option<&'i str>, AllocError>
-        requires settled { is_settled rule ≡ true }
+        requires settled { is_unrecorded rule ≡ true }
         requires defined { is_defined rule ≡ true }
         requires kind { kind_of kind ≡ type_of_rule rule }
         requires ready { IsReadyAgain text.now rest.now self.old }
         ensures goes_on { IfOk result (GoesOnIfFound text.now rest.entry.now (nullable rule)) }
-        ensures truly { OnOk result (IsTruly text.now self.new) }
+        ensures truly { OnOk result (HasTrueMemory text.now self.new) }
         ensures means { IfOk result
-            (Tells (Run (mode_of mode) (Ident (name_of rule)))
+            (RunsRecording (Run (mode_of mode) (Ident (name_of rule)))
             text.now rest.entry.now self.old self.new) }
     {
-        let answer = self.recognizer.by_list(self.alloc, text, rule, mode, rest)?;
+        let answer = self
+            .recognizer
+            .call_iteratively(self.alloc, text, rule, mode, rest)?;
         cut(&mut self.recognizer.entries, 0);
         match answer {
             Some(after) => Ok(Some(after)),
             None => {
                 let saved = self.count();
-                self.tell(
+                self.record_failure(
                     call_counts(kind, mode),
                     rule,
                     saved,
@@ -259,7 +264,7 @@ impl Expecting {
         }
     }
 
-    /// The end of the text.
+    /// Matches the end of the text.
     fn end_of_input<'i>(
         &mut self,
         text: &str,
@@ -268,14 +273,14 @@ impl Expecting {
     ) -> Result<Option<&'i str>, AllocError>
         requires ready { IsReadyAgain text.now rest.now self.old }
         ensures goes_on { IfOk result (GoesOnIfFound text.now rest.entry.now true) }
-        ensures truly { OnOk result (IsTruly text.now self.new) }
+        ensures truly { OnOk result (HasTrueMemory text.now self.new) }
         ensures means { IfOk result
-            (Tells (Run (mode_of mode) (Ident (codes "EOI")))
+            (RunsRecording (Run (mode_of mode) (Ident (codes "EOI")))
             text.now rest.entry.now self.old self.new) }
     {
         if !rest.is_empty() {
             let saved = self.count();
-            self.tell(
+            self.record_failure(
                 is_seen_from(mode),
                 Rule::EOI,
                 saved,
@@ -286,21 +291,21 @@ impl Expecting {
         Ok(Some(rest))
     }
 
-    /// The implicit skipping, in which nothing is told.
+    /// Skips blanks and comments, in which nothing is recorded.
     fn skip<'i>(&mut self, text: &str, mode: Mode, from: &'i str) -> Result<&'i str, AllocError>
         requires ready { IsReadyAgain text.now from.now self.old }
         ensures goes_on { IfOk result (λ after. GoesOn text.now from.entry.now true after.now) }
-        ensures truly { OnOk result (IsTruly text.now self.new) }
+        ensures truly { OnOk result (HasTrueMemory text.now self.new) }
         ensures means { IfOk result
-            (λ after. TellsTo (Skipping (mode_of mode))
+            (λ after. RunsToRecording (Skipping (mode_of mode))
             text.now from.entry.now self.old self.new after.now) }
     {
         let after = self.recognizer.skip(text, mode, from)?;
         Ok(after)
     }
 
-    /// What a rule, or `EOI`, matches. No text takes the machine's stack for it: what waits for an answer
-    /// lies on a list.
+    /// Matches a rule, or `EOI`. Continuation frames are on an explicit stack, so no text takes stack
+    /// space.
     pub fn call<'i>(
         &mut self,
         text: &str,
@@ -310,7 +315,7 @@ impl Expecting {
     ) -> Result<Option<&'i str>, AllocError>
         requires ready { IsReadyAgain text.now rest.now self.old }
         ensures means { IfOk result
-            (Tells (Run (mode_of mode) (Ident (name_of rule)))
+            (RunsRecording (Run (mode_of mode) (Ident (name_of rule)))
             text.now rest.entry.now self.old self.new) }
     {
         let mut frames = Vec::new(self.alloc);
@@ -400,8 +405,8 @@ impl Expecting {
         let Some(row) = row_of(rule) else {
             return Ok(Step::Answer(self.end_of_input(text, mode, rest)?));
         };
-        if is_settled(rule) {
-            let answer = self.settled(text, rule, row.kind, mode, rest)?;
+        if is_unrecorded(rule) {
+            let answer = self.call_unrecorded(text, rule, row.kind, mode, rest)?;
             return Ok(Step::Answer(answer));
         }
         let saved = self.count();
@@ -435,7 +440,7 @@ impl Expecting {
         Ok(step)
     }
 
-    /// Goes on with what waits.
+    /// Resumes a frame with an answer.
     fn resume<'i>(
         &mut self,
         text: &str,
@@ -443,7 +448,7 @@ impl Expecting {
         frame: Frame<'i>,
         answer: Option<&'i str>,
     ) -> Result<Step<'i>, AllocError>
-        requires truly { IsTruly text.now self.old }
+        requires truly { HasTrueMemory text.now self.old }
         requires follows { (k : Question) × (q : Question) × FrameFollows text.now frame k q
             × IsAnswered text.now k (sought_of self.old) answer }
         ensures next { (k q top : Question) (work : ℕ) → FrameFollows text.now frame.entry k q
@@ -453,13 +458,13 @@ impl Expecting {
             → IfOk result (λ step. IsNext text.now frames.new.items self.new step top work) }
     {
         match answer {
-            Some(after) => self.found(text, frames, frame, after),
-            None => self.failed(text, frames, frame),
+            Some(after) => self.resume_found(text, frames, frame, after),
+            None => self.resume_failed(text, frames, frame),
         }
     }
 
-    /// Goes on where what was begun is found.
-    fn found<'i>(
+    /// Resumes a frame whose part succeeded.
+    fn resume_found<'i>(
         &mut self,
         text: &str,
         frames: &mut Vec<Frame<'i>>,
@@ -484,14 +489,14 @@ impl Expecting {
             Wait::Repetition(body) => self.turn(text, frames, body, frame.start.mode, after),
             Wait::OnceOrMore(body) => self.more(text, frames, body, frame.start.mode, after),
             Wait::Negation => {
-                self.told.truncate(frame.start.saved);
+                self.recorded.truncate(frame.start.saved);
                 Ok(Step::Answer(None))
             }
         }
     }
 
-    /// Goes on where what was begun fails.
-    fn failed<'i>(
+    /// Resumes a frame whose part failed.
+    fn resume_failed<'i>(
         &mut self,
         text: &str,
         frames: &mut Vec<Frame<'i>>,
@@ -508,7 +513,7 @@ impl Expecting {
         match frame.wait {
             Wait::Call(rule, kind) => {
                 let position = text.len() - start.rest.len();
-                self.tell(call_counts(kind, start.mode), rule, start.saved, position)?;
+                self.record_failure(call_counts(kind, start.mode), rule, start.saved, position)?;
                 Ok(Step::Answer(None))
             }
             Wait::Sequence(_, _) => Ok(Step::Answer(None)),
@@ -521,13 +526,13 @@ impl Expecting {
             Wait::Option => Ok(Step::Answer(Some(start.rest))),
             Wait::Repetition(_) => Ok(Step::Answer(Some(start.rest))),
             Wait::Negation => {
-                self.told.truncate(start.saved);
+                self.recorded.truncate(start.saved);
                 Ok(Step::Answer(Some(start.rest)))
             }
         }
     }
 
-    /// Begins the next part of a sequence, behind the skipping.
+    /// Begins the next part of a sequence, after the skipping.
     fn next_part<'i>(
         &mut self,
         text: &str,
@@ -559,7 +564,7 @@ impl Expecting {
         )
     }
 
-    /// Begins one more turn of a repetition, behind the skipping.
+    /// Begins one more turn of a repetition, after the skipping.
     fn turn<'i>(
         &mut self,
         text: &str,
@@ -584,7 +589,7 @@ impl Expecting {
         Ok(Step::Begin(body, mode, next))
     }
 
-    /// Begins as many turns as there are behind the first one, and behind the skipping.
+    /// Begins the turns that follow the first one and the skipping.
     fn more<'i>(
         &mut self,
         text: &str,

@@ -1,27 +1,27 @@
-//! With which characters the rules begin. What looks at a character is built into the call that asks.
+//! First sets of the rules. Lookahead is inlined into its callers.
 ghost use Rattle.std.specs.Prelude.{◌≡◌, ℕ, List, true};
 ghost use Rattle.meta_base.specs.Language.State.{Classes, None', NonAtomicMode, Success};
 ghost use Rattle.meta_base.specs.Language.Meaning.{Skipping};
 ghost use Rattle.meta_base.specs.Language.Ran.{Ran};
-ghost use Rattle.meta_syntax.specs.Firsts.{Foretells, is_noted_at_once, may_begin, takes_one};
+ghost use Rattle.meta_syntax.specs.Firsts.{IsLookahead, is_recorded_at_once, may_begin, takes_one};
 ghost use Rattle.meta_syntax.specs.MetaGrammar.{meta_grammar};
 ghost use Rattle.meta_syntax.specs.Runs.{at};
 
 use crate::modes::{Mode, is_seen_from};
 use meta_base::grammar::Rule;
 
-/// What the next character tells of a call.
+/// The answer of a lookahead at one character.
 #[derive(Clone, Copy, PartialEq, Eq)]
 pub enum Lookahead {
-    /// It fails.
+    /// The call fails.
     Fails,
-    /// It takes that character, and nothing more.
+    /// The call takes that character, and nothing more.
     TakesOne,
-    /// It has to be run.
+    /// The call has to be run.
     MustRun,
 }
 
-/// Whether what a rule matches may begin with a character: `false` only where it cannot.
+/// Whether a match of a rule may begin with a character: `false` only where it cannot.
 #[inline(always)]
 fn may_begin(rule: Rule, first: char) -> bool
     ensures { result ≡ may_begin rule first }
@@ -56,11 +56,11 @@ fn may_begin(rule: Rule, first: char) -> bool
     }
 }
 
-/// Whether a call that fails by the first character is noted as a failure there: the call itself,
-/// or one that it makes.
+/// Whether a call that its first character refuses is recorded as a failure there: the call itself, or one
+/// within it.
 #[inline(always)]
-pub fn is_noted_at_once(rule: Rule, mode: Mode) -> bool
-    ensures { result ≡ is_noted_at_once rule mode }
+pub fn is_recorded_at_once(rule: Rule, mode: Mode) -> bool
+    ensures { result ≡ is_recorded_at_once rule mode }
 {
     match rule {
         Rule::WHITESPACE
@@ -88,11 +88,11 @@ fn takes_one(rule: Rule, first: char) -> bool
     }
 }
 
-/// What the next character tells of a call of a rule. It is built into each place that asks: most
-/// calls fail, and of a rule that is known there only the comparisons are left.
+/// Looks at the next character before a call of a rule. Inlined into its callers: most calls fail, and of a
+/// rule that is known there only the comparisons remain.
 #[inline(always)]
 pub fn look(rule: Rule, first: char) -> Lookahead
-    ensures { Foretells rule first result }
+    ensures { IsLookahead rule first result }
 {
     if !may_begin(rule, first) {
         Lookahead::Fails
@@ -103,8 +103,8 @@ pub fn look(rule: Rule, first: char) -> Lookahead
     }
 }
 
-/// Whether the next character shows that there is nothing to skip: it begins neither white space
-/// nor a comment.
+/// Whether the next character shows that there is nothing to skip, since neither white space nor a comment
+/// begins with it.
 pub fn is_left_alone(rest: &str) -> bool
     ensures { result ≡ true → (whole : List ℕ) (classes : Classes) (furthest : ℕ)
         → Ran meta_grammar classes (Skipping NonAtomicMode) (at whole rest.now)

@@ -1,10 +1,10 @@
-//! The rules of the meta-grammar, and what a text spells for one of them.
+//! The rules of the meta-grammar, and the trees that a text spells for one of them.
 ghost use Rattle.std.specs.Prelude.{◌≡◌, alloc_error, IfErr, IfOk, MatchResult};
 ghost use Rattle.std.specs.Str.{IsCharBoundary};
 ghost use Rattle.meta_base.specs.Pieces.Pairs.{pairs_text};
 ghost use Rattle.meta_syntax.specs.Entries.{IsWhole, named_entries};
 ghost use Rattle.meta_syntax.specs.ExpectedRules.{AreExpected, ExpectsNothing};
-ghost use Rattle.meta_syntax.specs.Parses.{AreSpelled, IsSyntaxError, IsSyntaxErrorOrMemory, ParseRefuses, TokensGive};
+ghost use Rattle.meta_syntax.specs.Parses.{AreSpelled, IsSyntaxError, IsSyntaxErrorOrMemory, ParseRefuses, AreTokensOf};
 
 pub use crate::entries::Entry;
 use crate::expecting::expected_rules;
@@ -20,16 +20,16 @@ use std::alloc::{AllocError, Global};
 pub struct PestParser;
 
 impl PestParser {
-    /// The pairs that the text spells for a rule, from its start on, or one error at the place of
-    /// the failure.
+    /// Returns the pairs that the text spells for a rule, from its start on, or one error at the position
+    /// of the failure.
     ///
-    /// The rule is matched by the meaning of expressions over the meta-grammar at position 0, in
-    /// NonAtomic, with the empty stack. It may stop before the end, but where the rule asks for `EOI`.
+    /// The rule is matched by the meaning of expressions over the meta-grammar at position 0, in NonAtomic,
+    /// with the empty stack. A match may stop before the end, except where the rule asks for `EOI`.
     /// `Rule::EOI` gives one pair from 0 to 0 on the empty text, and fails at 0 elsewhere.
     ///
-    /// The error is a `ParsingError` at the greatest position, in bytes, at which a rule that gives
-    /// a token, or `EOI`, was called and failed, in a mode other than Atomic and in any branch; at 0
-    /// where there is none. Any other fault is a want of memory.
+    /// The error is a `ParsingError` at the greatest position, in bytes, at which a rule that gives a
+    /// token, or `EOI`, was called and failed, in a mode other than Atomic and in any branch; at 0 where
+    /// there is none. Any other fault is an allocation failure.
     pub fn parse(alloc: Global, rule: Rule, text: &str) -> Result<Pairs<'_, Rule>, Fault>
         ensures text { IfOk result (λ pairs. pairs_text pairs ≡ text.entry.now) }
         ensures spelled { MatchResult result (AreSpelled rule) (ParseRefuses rule text.entry.now) }
@@ -39,12 +39,12 @@ impl PestParser {
         Ok(Pairs::new(text, trees))
     }
 
-    /// The trees that the text spells for a rule as one flat list: an entry where each tree starts
-    /// and one where it ends, in order, each with the number of the other. All places are in bytes.
-    /// It is refused as by `parse`.
+    /// Returns the trees that the text spells for a rule as one flat list: an entry where a tree starts and
+    /// one where it ends, in order, with the index of the other. Positions are in bytes. The errors are
+    /// those of `parse`.
     pub fn tokens(alloc: Global, rule: Rule, text: &str) -> Result<Vec<Entry>, Fault>
         ensures trees { MatchResult result
-            (λ v. TokensGive rule text.now v.items) (ParseRefuses rule text.now) }
+            (λ v. AreTokensOf rule text.now v.items) (ParseRefuses rule text.now) }
         ensures whole { IfOk result (λ v. IsWhole 0 (named_entries v.items)) }
     {
         let mut recognizer = Recognizer::new(alloc);
@@ -54,16 +54,16 @@ impl PestParser {
         Ok(recognizer.into_entries())
     }
 
-    /// What would have let the text get further: the rules that are expected at the place of the error that
-    /// `parse` tells of, `EOI` among them, in the order of the meta-grammar (`EOI` before all), each once.
+    /// Returns the expected set at the position of the error of `parse`, `EOI` included, in the order of the
+    /// meta-grammar (`EOI` first), without repetitions.
     ///
-    /// A rule is expected there if a call of it that began at that place failed, gives a token, was made in a
-    /// mode other than Atomic and not below a `!`, and is within no other such call. The list is empty where
-    /// `parse` gives pairs, and where all that failed at that place stood below a `!`.
+    /// A rule is expected there if a call of it that began at that position failed, gives a token, was made
+    /// in a mode other than Atomic and not below a `!`, and is within no other such call. The list is empty
+    /// where `parse` gives pairs, and where all failures at that position were below a `!`.
     ///
-    /// It reads a text that fails twice, and one that doesn't once: ask it where `parse` refused the text.
-    /// The only error is a want of memory.
-    pub fn expected(alloc: Global, rule: Rule, text: &str) -> Result<Vec<Rule>, AllocError>
+    /// A text that fails is read twice, and another one once: call this where `parse` refused the text. The
+    /// only error is allocation failure.
+    pub fn expected_set(alloc: Global, rule: Rule, text: &str) -> Result<Vec<Rule>, AllocError>
         ensures nothing { IfOk result (λ rules. ExpectsNothing rule text.now rules.items) }
         ensures expected { IfOk result (λ rules. AreExpected rule text.now rules.items) }
     {
@@ -75,8 +75,8 @@ impl PestParser {
     }
 }
 
-/// The fault of a text with one syntax error, at a place in bytes that stands on a character; or the
-/// want of memory for it.
+/// Returns the fault of a text with one syntax error, at a byte position on a character boundary; or the
+/// allocation failure of it.
 fn syntax_error(alloc: Global, text: &str, place: usize) -> Fault
     requires { IsCharBoundary text.now place }
     ensures { IsSyntaxErrorOrMemory text.now place result }
@@ -87,7 +87,7 @@ fn syntax_error(alloc: Global, text: &str, place: usize) -> Fault
     }
 }
 
-/// A list of one syntax error at a place.
+/// Returns a list of one syntax error at a byte position.
 fn syntax_errors(alloc: Global, text: &str, place: usize) -> Result<Vec<Error<Rule>>, Fault>
     requires { IsCharBoundary text.now place }
     ensures one { IfOk result (λ errors. IsSyntaxError text.now place errors.items) }

@@ -14,18 +14,17 @@ ghost use Rattle.meta_syntax.specs.Shape.{AreGrammarTrees};
 
 use meta_base::laws::{one_outcome, terminates};
 
-/// The meta-grammar is well-formed: no body of a repetition succeeds without taking anything, nor
-/// do white space and comments, and no rule left-calls itself. It is plain: it calls only its own
-/// rules and builtins, reads no stack, and its white space and comments reach no `!` rule. No count
-/// is 0 where it should not be.
+/// The meta-grammar is well-formed: no body of a repetition succeeds without taking anything, nor do white
+/// space and comments, and no rule left-calls itself. The meta-grammar is plain: its calls are of its own
+/// rules and builtins, none reads the stack, and its white space and comments reach no `!` rule. No count
+/// is 0 where a count must not be.
 pub fn meta_grammar_is_well_formed()
     ensures well_formed { IsWellFormed meta_grammar }
     ensures plain { IsPlain meta_grammar }
     ensures counts { HasReadableCounts meta_grammar }
 {}
 
-/// Each rule of the meta-grammar, and `EOI`, has exactly one outcome from every start: a success or
-/// a failure.
+/// A rule of the meta-grammar, or `EOI`, has exactly one outcome from every start: a success or a failure.
 pub fn each_rule_has_one_outcome()
     ensures has_one { (classes : Classes) (r : Rule) (m : Mode) (s : State)
         → (o : Outcome) × Matches meta_grammar classes (Ident (name_of r)) m s o }
@@ -38,8 +37,8 @@ pub fn each_rule_has_one_outcome()
     one_outcome();
 }
 
-/// The trees of a text that is a grammar have their shape: which trees stand where, one behind
-/// another and inside one another, and digits where there are numbers.
+/// The trees of a text that is a grammar have their shape: where trees occur, in sequence and nested, and
+/// that numbers are written in digits.
 pub fn trees_of_a_grammar_have_their_shape()
     ensures { (text : List ℕ) (us : Trees) → IsUtf8 text → Spells grammar_rules text us
         → AreGrammarTrees text us }

@@ -1,5 +1,5 @@
-//! What is matched without the table: a text, a character. Each is a few comparisons, and is built into what
-//! asks for it (`inline(always)`).
+//! Leaf expressions, matched without the table: a text, a character. They take a few comparisons, and are
+//! inlined (`inline(always)`).
 ghost use Rattle.std.specs.Prelude.{◌≡◌, ℕ, [], ◌∷◌, List, length, true, false, nat_eq};
 ghost use Rattle.meta_base.specs.Language.Matching.{character_outcome, range_set, text_outcome};
 ghost use Rattle.meta_syntax.specs.Forms.{decoded};

@@ -1,4 +1,4 @@
-//! What is skipped, and which rules give tokens.
+//! Atomicity: where white space and comments are skipped, and which rules give tokens.
 ghost use Rattle.std.specs.Prelude.{◌≡◌, ◌≤◌, ◌&&◌, true};
 ghost use Rattle.meta_base.specs.Language.Meaning.{body_mode, gives_token, seen_from};
 ghost use Rattle.meta_syntax.specs.Forms.{kind_of};
@@ -8,8 +8,8 @@ ghost use Rattle.meta_syntax.specs.Runs.{is_blank, furthest_with, mode_of, skips
 use crate::table::Kind;
 use meta_base::grammar::Rule;
 
-/// How the parts of an expression are put together: with white space and comments between them, or
-/// without; and whether their rules give tokens.
+/// The atomicity in force: whether white space and comments are skipped between the parts of an expression,
+/// and whether its rules give tokens.
 #[derive(Clone, Copy)]
 pub enum Mode {
     NonAtomic,
@@ -43,7 +43,7 @@ pub fn gives_token(kind: Kind, mode: Mode) -> bool
     }
 }
 
-/// Whether a failed call counts for the place.
+/// Whether a failed call counts for the position of an error.
 #[inline(always)]
 pub fn call_counts(kind: Kind, mode: Mode) -> bool
     ensures { result ≡ (seen_from (mode_of mode) && gives_token (kind_of kind) (mode_of mode)) }
@@ -58,7 +58,7 @@ fn is_blank(rule: Rule) -> bool
     matches!(rule, Rule::WHITESPACE | Rule::COMMENT)
 }
 
-/// The mode in which the body of a rule is run.
+/// Returns the mode in which the body of a rule is run.
 #[inline(always)]
 pub fn body_mode(rule: Rule, kind: Kind, mode: Mode) -> Mode
     requires { kind_of kind ≡ type_of_rule rule }
@@ -72,7 +72,7 @@ pub fn body_mode(rule: Rule, kind: Kind, mode: Mode) -> Mode
     }
 }
 
-/// A failure, if it counts and is further than those before it.
+/// Returns the furthest failure with one more at `position`, if that counts.
 #[inline(always)]
 pub fn furthest_with(counts: bool, position: usize, furthest: usize) -> usize
     ensures value { result ≡ furthest_with counts position furthest }

@@ -1,12 +1,11 @@
-//! What nests too deep for calls in calls is recognized with a list of what waits: so no text takes the
-//! machine's stack.
+//! Recognizes texts that nest too deep for recursion, with continuation frames on an explicit stack: so no
+//! text takes stack space.
 //!
-//! A text is read by the functions of `recognize` first, which allow some hundred levels of nesting. Where it
-//! nests deeper, it is read once more, in frames: a few rules of the meta-grammar reach themselves, an
-//! expression in parentheses, and a comment where it is asked for by itself. What lies between two such calls
-//! goes over the list, frame by frame; all else is left to the functions of `recognize`, and there the table
-//! bounds the depth. Which forms go over the list is a matter of the stack alone: either way they match the
-//! same.
+//! The functions of `recognize` read a text first, and allow some hundred levels of nesting. A text that
+//! nests deeper is read once more, in frames. A few rules of the meta-grammar reach themselves: an
+//! expression in parentheses, and a comment if it is asked for by itself. The calls between two such calls
+//! use frames; the functions of `recognize` do the rest, whose depth the table bounds. Which forms use
+//! frames is a matter of stack space alone: both ways match alike.
 ghost use Rattle.std.specs.Prelude.{◌≡◌, ◌+◌, ◌<◌, ◌≤◌, ◌∷◌, ◌&&◌, ℕ, [], IfOk, IfSome, OnOk, Some, false, if◌then◌else◌, length, true};
 ghost use Rattle.meta_base.specs.Language.Expression.{Ident};
 ghost use Rattle.meta_base.specs.Language.Meaning.{Run};
@@ -26,12 +25,12 @@ use crate::table::{Form, Kind, parts_of, row_of};
 use meta_base::grammar::Rule;
 use std::alloc::{AllocError, Global};
 
-/// What is to be done once the answer is there.
+/// The use of an answer.
 #[derive(Clone, Copy)]
 pub enum Wait {
     /// A call of a rule of a kind ends.
     Call(Rule, Kind),
-    /// A sequence goes on: of this, the first part was begun, and these parts are behind it.
+    /// A sequence goes on: of this, the first part was begun, and these parts follow it.
     Sequence(&'static Form, Option<&'static Form>),
     /// This is tried where the first alternative fails.
     Choice(&'static Form),
@@ -41,33 +40,33 @@ pub enum Wait {
     Repetition(&'static Form),
 }
 
-/// What it was like where something was begun.
+/// The state where a part was begun.
 #[derive(Clone, Copy)]
 pub struct Start<'i> {
     pub mode: Mode,
     /// How many entries there were.
     pub saved: usize,
-    /// What was left of the text; of a repetition, behind its last turn.
+    /// The remaining text; of a repetition, after its last turn.
     pub rest: &'i str,
 }
 
-/// What waits for the answer of what it has begun.
+/// A continuation frame: the use of an answer, and the state where its part was begun.
 #[derive(Clone, Copy)]
 pub struct Frame<'i> {
     pub wait: Wait,
     pub start: Start<'i>,
 }
 
-/// What is to be done next.
+/// The next step of a run.
 #[derive(Clone, Copy)]
 pub enum Step<'i> {
     /// This form is to be run.
     Begin(&'static Form, Mode, &'i str),
-    /// What was begun last has this answer.
+    /// The answer of the part that was begun last.
     Answer(Option<&'i str>),
 }
 
-/// Whether what begins so may have an expression in it: signs, a tag, parentheses or `PUSH`.
+/// Whether a text that begins so may contain an expression: signs, a tag, parentheses or `PUSH`.
 #[inline(always)]
 fn may_hold_expression(rest: &str) -> bool {
     matches!(
@@ -92,7 +91,7 @@ fn may_reach_itself(rule: Rule) -> bool {
     )
 }
 
-/// Whether it may do so on what is left of a text.
+/// Whether a rule may reach itself on the remaining text.
 #[inline(always)]
 fn nests(rule: Rule, rest: &str) -> bool {
     match rule {
@@ -110,7 +109,7 @@ fn is_nesting_call(form: &Form) -> bool {
     }
 }
 
-/// Whether a part of a sequence goes over the list, on what is left of a text.
+/// Whether a part of a sequence uses frames, on the remaining text.
 #[inline(always)]
 fn may_nest(form: &Form, rest: &str) -> bool {
     match form {
@@ -125,7 +124,7 @@ fn may_nest(form: &Form, rest: &str) -> bool {
     }
 }
 
-/// The place of the first of these rules that goes over the list, if what is left may begin with it.
+/// Returns the index of the first of these rules that uses frames, if the remaining text may begin with it.
 fn nesting_among(rules: &[Rule], rest: &str) -> Option<usize>
     ensures { IfSome result (λ i. i < length rules.now) }
 {
@@ -134,9 +133,9 @@ fn nesting_among(rules: &[Rule], rest: &str) -> Option<usize>
 }
 
 impl Recognizer {
-    /// What a rule matches at the start of a text, for a recognizer that has read nothing yet. Calls in calls
-    /// do for most texts, and are the faster way; where a text nests too deep for them, it is read once more,
-    /// with a list of what waits: so no text takes the machine's stack.
+    /// Matches a rule at the start of a text, by a recognizer that has read nothing yet. Recursion is
+    /// faster and suffices for most texts; a text that nests too deep is read once more, with frames, so no
+    /// text takes stack space.
     pub fn recognize<'i>(
         &mut self,
         alloc: Global,
@@ -162,12 +161,13 @@ impl Recognizer {
             }
         }
         *self = Recognizer::new(alloc);
-        let answer = self.by_list(alloc, text, rule, mode, text)?;
+        let answer = self.call_iteratively(alloc, text, rule, mode, text)?;
         Ok(answer)
     }
 
-    /// What a rule matches, as `call` has it, with a list of what waits: no text takes the machine's stack.
-    pub fn by_list<'i>(
+    /// Matches a rule as `call` does, with continuation frames on an explicit stack: no text takes stack
+    /// space.
+    pub fn call_iteratively<'i>(
         &mut self,
         alloc: Global,
         text: &str,
@@ -272,7 +272,7 @@ impl Recognizer {
             top → work_aside frames.old.items + steps (effort rest.entry.now (rank_of rule + 3)) ≤ work
             → IfOk result (λ step. IsNext text.now frames.new.items self.new step top work) }
     {
-        if let Some(answer) = self.decided(text, rule, mode, rest) {
+        if let Some(answer) = self.decide_call(text, rule, mode, rest) {
             return Ok(Step::Answer(answer));
         }
         let Some(row) = row_of(rule) else {
@@ -406,7 +406,7 @@ impl Recognizer {
         Ok(step)
     }
 
-    /// A call of the first of some rules that matches, where what stands before them has failed.
+    /// Calls the first of some rules that matches, once the rules before them have failed.
     fn among<'i>(
         &mut self,
         text: &str,
@@ -428,7 +428,7 @@ impl Recognizer {
         Ok(None)
     }
 
-    /// Goes on with what waits.
+    /// Resumes a frame with an answer.
     #[inline(always)]
     fn resume<'i>(
         &mut self,
@@ -529,7 +529,7 @@ impl Recognizer {
         }
     }
 
-    /// Begins one more turn of a repetition, behind the skipping.
+    /// Begins one more turn of a repetition, after the skipping.
     #[inline(always)]
     fn turn<'i>(
         &mut self,

@@ -1,10 +1,9 @@
-//! The recognizer: an interpreter of the table.
+//! The recognizer: an interpreter of the table by recursive descent.
 //!
-//! Forms stand within forms, and so do the calls that run them. So that a level of them takes little of the
-//! machine's stack, each kind of form has a function that is built into no other (`inline(never)`). What only
-//! picks one of them is built into whoever asks (`inline(always)`), so that a form within a form costs one
-//! call. Rules that may reach themselves stand within one another no deeper than a limit: what would go
-//! deeper is refused, and `nesting` reads it with a list of what waits.
+//! Forms nest, and so do the calls that run them. To save stack space, the function of each kind of form is
+//! not inlined (`inline(never)`). A function that only selects one of them is inlined (`inline(always)`),
+//! so that a nested form costs one call. Calls of rules that may reach themselves nest up to a limit:
+//! deeper ones are refused, and `nesting` reads the text with continuation frames.
 ghost use Rattle.std.specs.Prelude.{◌≡◌, ◌<◌, ◌&&◌, ◌||◌, ℕ, List, IfOk, IfSome, MatchOption, OnOk, Some, [], true, false, codes};
 ghost use Rattle.meta_base.specs.Language.State.{Between};
 ghost use Rattle.meta_base.specs.Language.Expression.{Choice, Ident, NegPred, Opt, Rep, RepOnce, Seq, comment, whitespace};
@@ -20,9 +19,9 @@ ghost use Rattle.meta_syntax.specs.declared.sets.Set.{Set};
 ghost use Rattle.meta_syntax.specs.Remembering.{FailsWithin, IsReady, RemembersTruly};
 ghost use Rattle.meta_syntax.specs.Runs.{GoesOn, IsLeft, GoesOnIfFound, RunsTo, Runs, mode_of};
 
-use crate::comments::{behind, closed, ends_of};
+use crate::comments::{ends_of, skip_closed_comment, skip_comment};
 use crate::entries::{Entry, close, count_of_entries, cut, leaf, open};
-use crate::firsts::{Lookahead, is_left_alone, is_noted_at_once, look};
+use crate::firsts::{Lookahead, is_left_alone, is_recorded_at_once, look};
 use crate::leaves::{any, character, literal, sign};
 use crate::modes::{
     Mode, body_mode, call_counts, furthest_with, gives_token, is_seen_from, is_tight,
@@ -33,23 +32,23 @@ use meta_base::grammar::Rule;
 use std::alloc::{AllocError, Global};
 use std::collections::HashSet;
 
-/// How many calls of rules that may reach themselves may stand within one another: they take some megabyte of
-/// the machine's stack.
+/// The greatest nesting of calls of rules that may reach themselves: these take some megabyte of stack
+/// space.
 const LEVELS: usize = 500;
 
-/// What a run has written and noted so far.
+/// The state of a run.
 #[derive(Drop)]
 pub struct Recognizer {
     /// The tokens, in order.
     pub entries: Vec<Entry>,
-    /// The furthest place, in bytes, at which a call that counts has failed.
+    /// The furthest position, in bytes, at which a call that counts has failed.
     pub furthest: usize,
-    /// The places where a call of `block_comment` in NonAtomic has failed, each as the count of bytes that
-    /// are left there.
+    /// The positions where a call of `block_comment` in NonAtomic has failed, each as the count of bytes
+    /// left there.
     failed: HashSet<usize>,
     /// Where comments end, by the count of bytes that are left; nothing until one is left open.
     ends: Vec<Option<usize>>,
-    /// How many more calls of rules that may reach themselves may stand within those that have begun.
+    /// The number of further calls of rules that may reach themselves which may nest.
     levels: usize,
 }
 
@@ -62,8 +61,8 @@ fn begins_comment(rule: Rule, rest: &str) -> bool
     rule == Rule::block_comment && rest.starts_with("/*")
 }
 
-/// Whether a rule may reach itself, so that a text says how deep its calls stand within one another: an
-/// expression by way of its parentheses, and a comment.
+/// Whether a rule may reach itself, so that the text decides how deep its calls nest: an expression by way
+/// of its parentheses, and a comment.
 #[inline(always)]
 fn reaches_itself(rule: Rule) -> bool {
     matches!(rule, Rule::expression | Rule::block_comment)
@@ -84,7 +83,7 @@ impl Recognizer {
         }
     }
 
-    /// The tokens that were written.
+    /// Returns the tokens that were written.
     pub fn into_entries(self) -> Vec<Entry>
         ensures { result ≡ self.entries }
     {
@@ -98,16 +97,16 @@ impl Recognizer {
         entries
     }
 
-    /// Whether a run that was refused stood in so many calls that none may begin within them.
+    /// Whether a refused run was nested to the limit.
     pub fn is_too_deep(&self) -> bool {
         self.levels == 0
     }
 
-    /// What a call answers where the next character decides it, or `None` where the call has to be run.
+    /// Answers a call that the next character decides, or `None` where the call has to be run.
     ///
-    /// It is built into `call`, which asks it first.
+    /// Inlined into `call`, which asks first.
     #[inline(always)]
-    pub fn decided<'i>(
+    pub fn decide_call<'i>(
         &mut self,
         text: &str,
         rule: Rule,
@@ -126,7 +125,11 @@ impl Recognizer {
         match look(rule, first) {
             Lookahead::Fails => {
                 let place = text.len() - rest.len();
-                self.furthest = furthest_with(is_noted_at_once(rule, mode), place, self.furthest);
+                self.furthest = furthest_with(
+                    is_recorded_at_once(rule, mode),
+                    place,
+                    self.furthest,
+                );
                 Some(None)
             }
             Lookahead::TakesOne => Some(Some(characters.as_str())),
@@ -134,8 +137,7 @@ impl Recognizer {
         }
     }
 
-    /// Whether it is remembered that a call fails here. Nothing is then noted that was not noted
-    /// before.
+    /// Whether the recognizer remembers that a call fails here. Such a failure records nothing new.
     #[inline(always)]
     pub fn has_failed(&self, rule: Rule, mode: Mode, rest: &str) -> bool
         ensures { (text : List ℕ) → RemembersTruly text self.now → IsLeft text rest.now → result ≡ true
@@ -170,7 +172,7 @@ impl Recognizer {
         Ok(())
     }
 
-    /// A call of a normal rule that matches one character and no other. Most calls that write a tree are such
+    /// Calls a normal rule that matches one character and no other. Most calls that write a tree are such
     /// calls: they run no form.
     #[inline(never)]
     fn sign<'i>(
@@ -229,11 +231,10 @@ impl Recognizer {
         Ok(Some(rest))
     }
 
-    /// Runs a form on what is left of the text. The answer is what is left after it, or `None`
-    /// where it fails. The entries of its trees are then written, or none.
+    /// Runs a form on the remaining text. Returns the text after it, or `None` where it fails. Writes the
+    /// entries of its trees, or none.
     ///
-    /// It is built into each of the functions below, so that a form within a form costs one call and
-    /// not two.
+    /// Inlined into the functions below, so that a nested form costs one call and not two.
     #[inline(always)]
     #[cycle(recognize)]
     pub fn run<'i>(
@@ -276,7 +277,7 @@ impl Recognizer {
                 let after = self.characters(text, *set, body, mode, rest)?;
                 Ok(Some(after))
             }
-            Form::Quoted(body, spelled) => self.quoted(text, body, spelled, mode, rest),
+            Form::Quoted(body, spelled) => self.quotation(text, body, spelled, mode, rest),
             Form::Comment(spelled) => self.comment(text, spelled, mode, rest),
             Form::RepOnce(body) => self.once_or_more(text, body, mode, rest),
             Form::NegPred(body) => self.negation(text, body, mode, rest),
@@ -284,8 +285,8 @@ impl Recognizer {
         }
     }
 
-    /// A form that is spelled out beside another. `run` is built into its callers, which it can only
-    /// be while it does not call itself; so this is the function that it calls in its place.
+    /// Runs a form that is spelled out within another one. `run` is inlined into its callers, which needs
+    /// that it does not call itself; so it calls this function instead.
     #[inline(never)]
     #[cycle(recognize)]
     pub fn copies<'i>(
@@ -306,7 +307,7 @@ impl Recognizer {
         self.run(text, spelled, mode, rest)
     }
 
-    /// One form, or the other.
+    /// Runs one form, or the other.
     #[inline(never)]
     #[cycle(recognize)]
     fn choice<'i>(
@@ -333,7 +334,7 @@ impl Recognizer {
         }
     }
 
-    /// A call of the first of some rules that matches.
+    /// Calls the first of some rules that matches.
     #[inline(never)]
     #[cycle(recognize)]
     #[tactic(auto, using(crate::proofs::Choices::rank_at))]
@@ -365,7 +366,7 @@ impl Recognizer {
         Ok(None)
     }
 
-    /// A form, or nothing.
+    /// Runs a form, or matches nothing.
     #[inline(never)]
     #[cycle(recognize)]
     fn option<'i>(
@@ -389,7 +390,7 @@ impl Recognizer {
         }
     }
 
-    /// Nothing, where a form fails.
+    /// Matches nothing, where a form fails.
     #[inline(never)]
     #[cycle(recognize)]
     fn negation<'i>(
@@ -417,7 +418,7 @@ impl Recognizer {
         }
     }
 
-    /// One turn, the skipping, and as many more as there are.
+    /// Runs one turn, the skipping, and as many more as there are.
     #[inline(never)]
     #[cycle(recognize)]
     fn once_or_more<'i>(
@@ -443,7 +444,7 @@ impl Recognizer {
         Ok(Some(last))
     }
 
-    /// One form and those behind it, each after the skipping.
+    /// Runs a form and those that follow it, with the skipping in between.
     #[inline(never)]
     #[cycle(recognize)]
     fn sequence<'i>(
@@ -485,7 +486,7 @@ impl Recognizer {
         }
     }
 
-    /// As many turns as there are.
+    /// Runs as many turns as there are.
     #[inline(never)]
     #[cycle(recognize)]
     fn repetition<'i>(
@@ -512,7 +513,7 @@ impl Recognizer {
         }
     }
 
-    /// The turns of a repetition after its first.
+    /// Runs the turns of a repetition after its first.
     #[inline(never)]
     #[cycle(recognize)]
     fn turns<'i>(
@@ -544,7 +545,7 @@ impl Recognizer {
         }
     }
 
-    /// As many turns as there are, of which a set tells what most of them do.
+    /// Runs as many turns as there are; a set decides most of them.
     #[inline(never)]
     #[cycle(recognize)]
     fn characters<'i>(
@@ -579,11 +580,11 @@ impl Recognizer {
         }
     }
 
-    /// The text of a string: characters, and behind each escape the same again. The rule calls itself
-    /// there; here that is another turn.
+    /// Matches the text of a string: characters, and after an escape the rest of it. The rule calls itself
+    /// there; this function takes another turn.
     #[inline(never)]
     #[cycle(recognize)]
-    fn quoted<'i>(
+    fn quotation<'i>(
         &mut self,
         text: &str,
         body: &'static Form,
@@ -627,9 +628,9 @@ impl Recognizer {
         ends_of(text, &mut self.ends)
     }
 
-    /// What `block_comment` matches. The rule calls itself where a comment begins within it. Where all of
-    /// them are closed one look over them tells where; where one is left open, it is found out once for the
-    /// whole text where comments end.
+    /// Matches `block_comment`. The rule calls itself where a comment begins within it. If all of them are
+    /// closed, one scan finds the end. If one is left open, the ends of all comments of the text are
+    /// computed once.
     #[inline(never)]
     #[cycle(recognize)]
     pub fn comment<'i>(
@@ -654,16 +655,16 @@ impl Recognizer {
             return Ok(None);
         };
         if self.ends.is_empty() {
-            if let Some(after) = closed(inside) {
+            if let Some(after) = skip_closed_comment(inside) {
                 return Ok(Some(after));
             }
         }
         self.find_ends(text)?;
-        Ok(behind(text, self.ends.as_slice(), inside))
+        Ok(skip_comment(text, self.ends.as_slice(), inside))
     }
 
-    /// A call of a rule, or of `EOI`, which the next character may decide. It is built into each place that
-    /// calls: most calls are decided there, and cost no call of a function.
+    /// Calls a rule, or `EOI`. Inlined into its callers: the next character decides most calls, which then
+    /// cost no function call.
     #[inline(always)]
     #[cycle(recognize)]
     pub fn call<'i>(
@@ -680,7 +681,7 @@ impl Recognizer {
             (Runs (Run (mode_of mode) (Ident (name_of rule)))
             text.now rest.entry.now self.old self.new) }
     {
-        if let Some(answer) = self.decided(text, rule, mode, rest) {
+        if let Some(answer) = self.decide_call(text, rule, mode, rest) {
             return Ok(answer);
         }
         match sign_of(rule) {
@@ -689,14 +690,14 @@ impl Recognizer {
                 if reaches_itself(rule) {
                     self.deeper(text, rule, mode, rest)
                 } else {
-                    self.called(text, rule, mode, rest)
+                    self.run_call(text, rule, mode, rest)
                 }
             }
         }
     }
 
-    /// A call of a rule that may reach itself takes a level of those that are left, as long as it runs. Where
-    /// none is left, it is refused as if for want of memory.
+    /// Calls a rule that may reach itself, on one of the remaining levels. With no level left, it is
+    /// refused as if by an allocation failure.
     #[inline(never)]
     #[cycle(recognize)]
     fn deeper<'i>(
@@ -718,16 +719,16 @@ impl Recognizer {
             return Err(AllocError);
         }
         self.levels = levels - 1;
-        let answer = self.called(text, rule, mode, rest)?;
+        let answer = self.run_call(text, rule, mode, rest)?;
         self.levels = levels;
         Ok(answer)
     }
 
-    /// The same, where the character does not decide it. What runs the form is built into it: each form
-    /// within a form keeps as little as it can on the stack.
+    /// Runs a call that the next character does not decide. `run` is inlined into it, so that a nested form
+    /// takes little stack space.
     #[inline(never)]
     #[cycle(recognize)]
-    fn called<'i>(
+    fn run_call<'i>(
         &mut self,
         text: &str,
         rule: Rule,
@@ -767,8 +768,7 @@ impl Recognizer {
         }
     }
 
-    /// The implicit skipping. It is built into each place that skips: at most of them there is nothing to
-    /// skip.
+    /// Skips blanks and comments. Inlined into its callers: mostly there is nothing to skip.
     #[inline(always)]
     #[cycle(recognize)]
     pub fn skip<'i>(&mut self, text: &str, mode: Mode, from: &'i str) -> Result<&'i str, AllocError>
@@ -792,7 +792,7 @@ impl Recognizer {
         }
     }
 
-    /// All blanks, from here on.
+    /// Skips all blanks, from here on.
     #[inline(never)]
     #[cycle(recognize)]
     fn blanks<'i>(&mut self, text: &str, from: &'i str) -> Result<&'i str, AllocError>
@@ -812,7 +812,7 @@ impl Recognizer {
         }
     }
 
-    /// All comments from here on, each with the blanks after it.
+    /// Skips all comments from here on, each with the blanks after it.
     #[inline(never)]
     #[cycle(recognize)]
     fn comments<'i>(&mut self, text: &str, from: &'i str) -> Result<&'i str, AllocError>

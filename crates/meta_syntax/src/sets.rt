@@ -1,5 +1,5 @@
-//! Sets of characters that a repetition takes one by one, and the loop over them. It is built into what asks
-//! for it (`inline(always)`): where the set is known, the comparisons of that set are left.
+//! Sets of characters that a repetition takes one by one, and the loop over them. The loop is inlined
+//! (`inline(always)`): where the set is known, its comparisons remain.
 ghost use Rattle.std.specs.Prelude.{◌≡◌, ℕ, List, true};
 ghost use Rattle.meta_base.specs.Language.State.{Classes, Failure};
 ghost use Rattle.meta_base.specs.Language.Meaning.{Run};
@@ -11,7 +11,7 @@ ghost use Rattle.meta_syntax.specs.Sets.{IsBefore, is_in, is_out, spelled_by};
 
 use crate::modes::Mode;
 
-/// What the body of a repetition takes, told by one character.
+/// Sets of characters that the body of a repetition takes, one by one.
 #[derive(Clone, Copy)]
 pub enum Set {
     /// A name goes on with `_`, a letter or a digit of ASCII.
@@ -24,7 +24,7 @@ pub enum Set {
     Comment,
 }
 
-/// Whether the body takes a character, whatever is behind it.
+/// Whether the body takes a character, before any text.
 #[inline(always)]
 fn is_in(set: Set, c: char) -> bool
     ensures { result ≡ is_in set c }
@@ -37,7 +37,7 @@ fn is_in(set: Set, c: char) -> bool
     }
 }
 
-/// Whether the body fails before a character, whatever is behind it.
+/// Whether the body fails at a character, before any text.
 #[inline(always)]
 fn is_out(set: Set, c: char) -> bool
     ensures { result ≡ is_out set c }
@@ -50,7 +50,7 @@ fn is_out(set: Set, c: char) -> bool
     }
 }
 
-/// What is left behind the characters of a set, each of which is a turn of the repetition.
+/// Skips characters of a set, of which each is a turn of the repetition. Returns the text after them.
 #[inline(always)]
 pub fn past<'i>(set: Set, from: &'i str) -> &'i str
     ensures goes_on { (whole : List ℕ) → IsLeft whole from.entry.now

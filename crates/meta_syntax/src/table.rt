@@ -7,7 +7,7 @@ ghost use Rattle.meta_syntax.specs.Rows.{IsRow, IsSign};
 use crate::sets::Set;
 use meta_base::grammar::Rule;
 
-/// What a rule does with the mode of its caller, and whether it gives a token.
+/// A rule's effect on the mode of its caller, and whether the rule gives a token.
 #[derive(Clone, Copy)]
 pub enum Kind {
     Normal,
@@ -16,7 +16,7 @@ pub enum Kind {
     CompoundAtomic,
 }
 
-/// What a rule matches.
+/// An expression of the meta-grammar.
 pub enum Form {
     /// The text itself.
     Str(&'static str),
@@ -26,26 +26,26 @@ pub enum Form {
     Any,
     /// The start of the text.
     Start,
-    /// What another rule matches, or `EOI`.
+    /// A call of a rule, or of `EOI`.
     Call(Rule),
-    /// The first, the implicit skipping, and what is behind it. Where that is a sequence too, both are
-    /// one sequence, grouped from the left.
+    /// The first, the implicit skipping, and the rest. Where the rest is a sequence too, both are one
+    /// sequence, grouped from the left.
     Seq(&'static Form, &'static Form),
     /// A form in parentheses: a sequence in them is one of its own.
     Group(&'static Form),
     /// The first, or the second where the first fails.
     Choice(&'static Form, &'static Form),
-    /// What the first of these rules that matches matches.
+    /// The first of these rules that matches.
     FirstOf(Rule, &'static [Rule]),
-    /// It, or nothing.
+    /// The form, or nothing.
     Opt(&'static Form),
     /// As many turns as there are.
     Rep(&'static Form),
-    /// The same, where a set tells by the next character what most turns do.
+    /// As many turns as there are; a set decides most of them by the next character.
     Characters(Set, &'static Form),
-    /// What `inner_str` matches: the form of one of its characters, and all of it spelled out.
+    /// The body of `inner_str`: the form of one of its characters, and all of it spelled out.
     Quoted(&'static Form, &'static Form),
-    /// What `block_comment` matches, spelled out.
+    /// The body of `block_comment`, spelled out.
     Comment(&'static Form),
     /// As many turns as there are, and one at least.
     RepOnce(&'static Form),
@@ -55,28 +55,28 @@ pub enum Form {
     RepMinMax(&'static Form, u32, u32, &'static Form),
 }
 
-/// The first part of a sequence, and what is behind it.
+/// The first part of a sequence, and the rest.
 #[derive(Clone, Copy)]
-pub struct Parts {
+pub struct SequenceParts {
     pub first: &'static Form,
     pub others: Option<&'static Form>,
 }
 
-/// The parts of what is behind a part of a sequence: where it is no sequence, it is the last part. It is one
-/// comparison, and is built into the loop that asks.
+/// Splits the rest of a sequence into its next part and those after it; if it is no sequence, it is the
+/// last part. Inlined into the loop that calls it.
 #[inline(always)]
-pub fn parts_of(form: &'static Form) -> Parts
+pub fn parts_of(form: &'static Form) -> SequenceParts
     ensures good { IsGood form.now → IsGood result.first.now }
     ensures spelled { IsSpelled form.now → IsSpelled result.first.now }
     ensures cost { cost result.first.now ≤ cost form.now }
     ensures parts { AreParts form.now result.first.now result.others }
 {
     match form {
-        Form::Seq(first, others) => Parts {
+        Form::Seq(first, others) => SequenceParts {
             first: *first,
             others: Some(*others),
         },
-        _ => Parts {
+        _ => SequenceParts {
             first: form,
             others: None,
         },
@@ -452,7 +452,8 @@ static LINE_DOC: Form = sequence!(Form::Str("///"), optional!(call!(space)), cal
 
 static INNER_DOC: Form = characters!(Line, sequence!(not!(call!(newline)), Form::Any));
 
-/// The character that a rule matches, where it is a normal rule that matches one character and no other.
+/// Returns the character that a rule matches, if it is a normal rule that matches one character and no
+/// other.
 #[inline(always)]
 pub fn sign_of(rule: Rule) -> Option<char>
     ensures { IfSome result (IsSign rule) }
@@ -506,8 +507,7 @@ macro_rules! compound_atomic {
     };
 }
 
-/// The row of a rule: what the meta-grammar says of it. `EOI` has none, being no rule of the
-/// grammar.
+/// Returns a rule's row in the meta-grammar. `EOI` has none, being no rule of the grammar.
 #[inline(always)]
 pub fn row_of(rule: Rule) -> Option<Row>
     ensures { MatchOption result (rule ≡ EOI) (λ row. IsRow row.kind row.body.now rule) }

@@ -11,7 +11,7 @@ use meta_base::grammar::Rule;
 use meta_base::runtime::{FirstTree, TokenTree};
 use std::alloc::{AllocError, Global};
 
-/// The first of these trees, of which the last comes first, or `None` where there is no tree.
+/// Returns the first of these trees, of which the last comes first, or `None` where there is no tree.
 pub fn first_tree(trees: &[TokenTree<Rule>]) -> Option<FirstTree<'_, Rule>>
     ensures { MatchOption result (named_trees_of trees.entry.now ≡ spec.None')
         (λ first. named_trees_of trees.entry.now
@@ -21,7 +21,7 @@ pub fn first_tree(trees: &[TokenTree<Rule>]) -> Option<FirstTree<'_, Rule>>
     meta_base::runtime::first_tree(trees)
 }
 
-/// The first of these trees, of which there is one at least, and the last comes first.
+/// Returns the first of these trees, of which there is one at least, and the last comes first.
 pub fn leading_tree(trees: &[TokenTree<Rule>]) -> FirstTree<'_, Rule>
     requires { named_trees_of trees.now ≢ spec.None' }
     ensures { named_trees_of trees.entry.now
@@ -34,15 +34,14 @@ pub fn leading_tree(trees: &[TokenTree<Rule>]) -> FirstTree<'_, Rule>
     }
 }
 
-/// The end of a tree whose start is still to come, and the trees behind it. Of them the last comes
-/// first.
+/// The end of a tree whose start is not read yet, and the trees after it, the last first.
 #[derive(Drop)]
 struct Pending {
     end: usize,
     others: Vec<TokenTree<Rule>>,
 }
 
-/// How many whole pairs stand one behind another at the end of a list.
+/// Returns the number of whole pairs that follow one another at the end of a list.
 fn siblings(entries: &[Entry]) -> usize
     ensures { result ≤ length entries.now }
 {
@@ -61,8 +60,8 @@ fn siblings(entries: &[Entry]) -> usize
     count
 }
 
-/// The trees with one more entry before those that were met, `before` being those that are still to
-/// come. In a tree that the entry ends there is room for the trees inside it, and for no more.
+/// Adds one more entry before those that were read, where `before` are those still to be read. A tree that
+/// the entry ends has capacity for the trees inside it, and for no more.
 fn with_entry(
     alloc: Global,
     before: &[Entry],
@@ -91,7 +90,7 @@ fn with_entry(
     }
 }
 
-/// The trees whose entries these are. The last tree comes first.
+/// Builds the trees of these entries. The last tree comes first.
 pub fn from_entries(alloc: Global, entries: &[Entry]) -> Result<Vec<TokenTree<Rule>>, AllocError>
     ensures { (us : spec.Trees) → named_entries entries.now ≡ entries_of 0 us
         → IfOk result (λ t. named_trees_of t.items ≡ us) }

@@ -11,7 +11,7 @@ use Rattle.meta_spanned.specs.declared.node.ParserRule.{ParserRule}
 use Rattle.meta_fixpoint.specs.Least.{is_set_at}
 use Rattle.meta_analysis.specs.Names.{grammar_of, rule_said}
 use Rattle.meta_analysis.specs.NameKinds.{kind_in}
-use Rattle.meta_analysis.specs.Kinds.{Says, repeated, wrap_kind}
+use Rattle.meta_analysis.specs.Kinds.{Represents, repeated, wrap_kind}
 use Rattle.meta_analysis.specs.Facts.{AreFacts}
 use Rattle.meta_validator.specs.Taking.{RepeatedTakes, AllRepeatedTake, SkippedTake}
 use Rattle.meta_validator.specs.Findings.{is_skipped_name}
@@ -42,7 +42,7 @@ module _ (rules : List ParserRule) (facts : Facts) (right : AreFacts rules facts
   G = grammar_of rules
 
   abbrev Lies : ℕ → Expression → Type 0
-  Lies i e = Says (kind_in G) facts.table.kinds.items i e
+  Lies i e = Represents (kind_in G) facts.table.kinds.items i e
 
   part_lies : {e p : Expression} → Part e p → (i : ℕ) → Lies i e → (k : ℕ) × Lies k p
   part_lies whole i s = (i, s)

@@ -18,10 +18,10 @@ use Rattle.meta_validator.specs.Findings.{Finding, Reports, reports_none, report
 use Rattle.meta_analysis.specs.Names.{grammar_of}
 use Rattle.meta_analysis.specs.NameKinds.{kind_in}
 use Rattle.meta_analysis.specs.Nodes.{all_nodes}
-use Rattle.meta_analysis.specs.Kinds.{Fits, wrap_kind, wrap_of, Says}
+use Rattle.meta_analysis.specs.Kinds.{Fits, wrap_kind, wrap_of, Represents}
 use Rattle.meta_analysis.specs.declared.facts.Facts.{Facts}
 use Rattle.meta_analysis.specs.declared.kinds.Wrap.TheVariants as wraps
-use Rattle.meta_analysis.specs.declared.kind_table.Kind.{Kind}
+use Rattle.meta_analysis.specs.declared.kind_table.NodeKind.{NodeKind}
 use Rattle.meta_validator.proofs.Accepting.{well_formed}
 use Rattle.meta_validator.proofs.ReportingLemmas.{leaf_kinds, says_at}
 use Rattle.meta_analysis.proofs.Tying.{says}
@@ -58,7 +58,7 @@ module _ (rules : List ParserRule) (facts : Facts) (right : AreFacts rules facts
   abbrev G : Grammar
   G = grammar_of rules
 
-  not_null : (j : ℕ) (e : Expression) → Says (kind_in G) facts.table.kinds.items j e → (IsNullable G e → ⊥) → is_set_at facts.nullable.items j ≡ false
+  not_null : (j : ℕ) (e : Expression) → Represents (kind_in G) facts.table.kinds.items j e → (IsNullable G e → ⊥) → is_set_at facts.nullable.items j ≡ false
   not_null j e s f = go (is_set_at facts.nullable.items j) refl
     where
       go : (b : Bool) → is_set_at facts.nullable.items j ≡ b → b ≡ false
@@ -90,7 +90,7 @@ module _ (rules : List ParserRule) (facts : Facts) (right : AreFacts rules facts
       go true = not_null j (without_spans y) (says_at rules facts right j y e) (none_repetition G d refl s (RepMin n) y refl refl)
       go false = not_null j (without_spans y) (says_at rules facts right j y e) (none_repetition G d refl s (RepMin n) y refl refl)
 
-  kind_takes : (i : ℕ) (x : Spanned) (k : Kind) → Fits (kind_in G) (all_nodes rules) i k x → OfRepetition G x [] → RepeatedTakes facts k
+  kind_takes : (i : ℕ) (x : Spanned) (k : NodeKind) → Fits (kind_in G) (all_nodes rules) i k x → OfRepetition G x [] → RepeatedTakes facts k
   kind_takes i (Leaf s e) k fit d = subst (λ z. RepeatedTakes facts z) (sym fit.1) (leaf_kinds (λ z. RepeatedTakes facts z) tt tt tt (λ r. tt) (λ r. tt) G e)
   kind_takes i (One s f y) k fit d = subst (λ z. RepeatedTakes facts z) (sym fit.3) (wrap_takes s f y fit.0 fit.2 d)
   kind_takes i (Two s Seq x y) k fit d = subst (λ z. RepeatedTakes facts z) (sym fit.6) tt

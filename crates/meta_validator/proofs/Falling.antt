@@ -8,31 +8,31 @@ use Rattle.meta_spanned.specs.Nodes.{view}
 use Rattle.meta_spanned.specs.declared.node.ParserRule.{ParserRule}
 use Rattle.meta_analysis.specs.Names.{grammar_of, rule_said, is_end}
 use Rattle.meta_analysis.specs.NameKinds.{kind_in, name_kind}
-use Rattle.meta_analysis.specs.Kinds.{Says, counted, repeated, wrap_kind}
+use Rattle.meta_analysis.specs.Kinds.{Represents, counted, repeated, wrap_kind}
 use Rattle.meta_analysis.specs.Facts.{AreFacts}
 use Rattle.meta_validator.specs.Cycles.{rank_at, Falls, AllFall, NoneRises, FallsFrom}
 use Rattle.meta_analysis.specs.declared.facts.Facts.{Facts}
-use Rattle.meta_analysis.specs.declared.kind_table.Kind.{Kind}
+use Rattle.meta_analysis.specs.declared.kind_table.NodeKind.{NodeKind}
 use Rattle.meta_analysis.specs.declared.kinds.Wrap.TheVariants as wraps
 use Rattle.meta_analysis.proofs.Tying.{says}
 use Rattle.meta_analysis.proofs.Resolved.{Named, absent, named, resolved}
 use Rattle.meta_analysis.proofs.Answering.{same_rule, no_rule}
 
 pub data Root (rules : List ParserRule) (facts : Facts) (n : Text) : Option ℕ → ℕ → Type 0 where
-  root : {r j : ℕ} (rule : ParserRule) → rule_of (grammar_of rules) n ≡ Some (rule_said rule) → slice_get facts.table.roots.items r ≡ Some j → Says (kind_in (grammar_of rules)) facts.table.kinds.items j (rule_said rule).body → Root rules facts n (Some r) j
+  root : {r j : ℕ} (rule : ParserRule) → rule_of (grammar_of rules) n ≡ Some (rule_said rule) → slice_get facts.table.roots.items r ≡ Some j → Represents (kind_in (grammar_of rules)) facts.table.kinds.items j (rule_said rule).body → Root rules facts n (Some r) j
 
 -- `bound n` is the number below which those have to be to which the left calls of a node of the number n lead
 module _ (rules : List ParserRule) (facts : Facts) (order : List ℕ) (right : AreFacts rules facts) (bound : ℕ → ℕ) (carry : (a m b : ℕ) → a < bound m → m < b → a < b)
-    (fall : (i : ℕ) (k : Kind) → slice_get facts.table.kinds.items i ≡ Some k → Falls facts order (bound (rank_at order i)) k) where
+    (fall : (i : ℕ) (k : NodeKind) → slice_get facts.table.kinds.items i ≡ Some k → Falls facts order (bound (rank_at order i)) k) where
   abbrev G : Grammar
   G = grammar_of rules
 
   abbrev Lies : ℕ → Expression → Type 0
-  Lies i e = Says (kind_in G) facts.table.kinds.items i e
+  Lies i e = Represents (kind_in G) facts.table.kinds.items i e
 
   -- the left calls of this node lead below b
   abbrev FallsAt : ℕ → ℕ → Type 0
-  FallsAt i b = (k : Kind) → slice_get facts.table.kinds.items i ≡ Some k → Falls facts order b k
+  FallsAt i b = (k : NodeKind) → slice_get facts.table.kinds.items i ≡ Some k → Falls facts order b k
 
   -- the body of the rule of a name
   abbrev IsRoot : Text → ℕ → Type 0
@@ -118,5 +118,5 @@ no_cycle_from rules facts levels right rises n place at falls l = no_cycle_of ru
     within : (a m b : ℕ) → a < m + 1 → m < b → a < b
     within a m b h k = omega arith
 
-    from : (o : Option ℕ) → o ≡ Some place → (i : ℕ) → Root rules facts n o i → (k : Kind) → slice_get facts.table.kinds.items i ≡ Some k → Falls facts levels (rank_at levels i) k
+    from : (o : Option ℕ) → o ≡ Some place → (i : ℕ) → Root rules facts n o i → (k : NodeKind) → slice_get facts.table.kinds.items i ≡ Some k → Falls facts levels (rank_at levels i) k
     from o e i (root {r = r} rule h got lies) k here = let same : r ≡ place = cc in falls i k (subst (λ z. slice_get facts.table.roots.items z ≡ Some i) same got) here

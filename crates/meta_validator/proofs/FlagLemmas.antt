@@ -4,7 +4,7 @@ use Rattle.std.specs.List.{Contains}
 use Rattle.std.proofs.Math.ListN.{set}
 use Rattle.std.proofs.lemmas.List.Elements.{Contains-append_left}
 use Rattle.meta_fixpoint.specs.Least.{is_set_at}
-use Rattle.meta_validator.specs.Flags.{AreNoted}
+use Rattle.meta_validator.specs.Flags.{AreOnlySet}
 use Rattle.meta_validator.proofs.NoneWalks.{at_end}
 use Rattle.meta_validator.proofs.SearchLemmas.{Compared, same_place, other_place, compared}
 
@@ -22,11 +22,11 @@ set_other (a ∷ bs) (suc i) b zero d = refl
 set_other (a ∷ bs) (suc i) b (suc k) d = set_other bs i b k (λ e. d (ap suc e))
 
 -- once more is noted
-pub noted_more : (noted : List ℕ) (i : ℕ) (flags : List Bool) → AreNoted noted flags → AreNoted (noted ++ i ∷ []) flags
+pub noted_more : (noted : List ℕ) (i : ℕ) (flags : List Bool) → AreOnlySet noted flags → AreOnlySet (noted ++ i ∷ []) flags
 noted_more noted i flags f k out = f k (λ h. out (Contains-append_left noted (i ∷ []) k h))
 
 -- what is noted is set
-pub noted_set : (noted : List ℕ) (i : ℕ) (flags : List Bool) → AreNoted noted flags → AreNoted (noted ++ i ∷ []) (set flags i true)
+pub noted_set : (noted : List ℕ) (i : ℕ) (flags : List Bool) → AreOnlySet noted flags → AreOnlySet (noted ++ i ∷ []) (set flags i true)
 noted_set noted i flags f k out = go (compared k i)
   where
     go : Compared k i → is_set_at (set flags i true) k ≡ false
@@ -43,14 +43,14 @@ past [] i h = refl
 past (b ∷ bs) zero h = absurd (omega arith)
 past (b ∷ bs) (suc i) h = past bs i (omega arith)
 
-pub noted_less : (i : ℕ) (noted : List ℕ) (flags : List Bool) → AreNoted (i ∷ noted) flags → AreNoted noted (set flags i false)
+pub noted_less : (i : ℕ) (noted : List ℕ) (flags : List Bool) → AreOnlySet (i ∷ noted) flags → AreOnlySet noted (set flags i false)
 noted_less i noted flags f k out = go (compared k i)
   where
     go : Compared k i → is_set_at (set flags i false) k ≡ false
     go (same_place e) = subst (λ z. is_set_at (set flags i false) z ≡ false) (sym e) (set_off flags i)
     go (other_place d) = set_other flags i false k d ∙ f k (not_first i noted k out d)
 
-pub noted_past : (i : ℕ) (noted : List ℕ) (flags : List Bool) → length flags ≤ i → AreNoted (i ∷ noted) flags → AreNoted noted flags
+pub noted_past : (i : ℕ) (noted : List ℕ) (flags : List Bool) → length flags ≤ i → AreOnlySet (i ∷ noted) flags → AreOnlySet noted flags
 noted_past i noted flags l f k out = go (compared k i)
   where
     go : Compared k i → is_set_at flags k ≡ false
@@ -61,8 +61,8 @@ opened : (noted : List ℕ) (j : ℕ) → j < length noted → drop j noted ≡ 
 opened noted j l = drop-cons noted j 0 l ∙ ap (λ n. slice_index noted j ∷ drop n noted) (let h : suc j ≡ j + 1 = omega arith in h)
 
 -- the first of what is left is unset, or no flag
-pub left_less : (noted : List ℕ) (j : ℕ) (flags : List Bool) → j < length noted → AreNoted (drop j noted) flags → AreNoted (drop (j + 1) noted) (set flags (slice_index noted j) false)
-left_less noted j flags l f = noted_less (slice_index noted j) (drop (j + 1) noted) flags (subst (λ z. AreNoted z flags) (opened noted j l) f)
+pub left_less : (noted : List ℕ) (j : ℕ) (flags : List Bool) → j < length noted → AreOnlySet (drop j noted) flags → AreOnlySet (drop (j + 1) noted) (set flags (slice_index noted j) false)
+left_less noted j flags l f = noted_less (slice_index noted j) (drop (j + 1) noted) flags (subst (λ z. AreOnlySet z flags) (opened noted j l) f)
 
-pub left_past : (noted : List ℕ) (j : ℕ) (flags : List Bool) → j < length noted → length flags ≤ slice_index noted j → AreNoted (drop j noted) flags → AreNoted (drop (j + 1) noted) flags
-left_past noted j flags l p f = noted_past (slice_index noted j) (drop (j + 1) noted) flags p (subst (λ z. AreNoted z flags) (opened noted j l) f)
+pub left_past : (noted : List ℕ) (j : ℕ) (flags : List Bool) → j < length noted → length flags ≤ slice_index noted j → AreOnlySet (drop j noted) flags → AreOnlySet (drop (j + 1) noted) flags
+left_past noted j flags l p f = noted_past (slice_index noted j) (drop (j + 1) noted) flags p (subst (λ z. AreOnlySet z flags) (opened noted j l) f)

@@ -27,7 +27,7 @@ use Rattle.meta_analysis.specs.declared.shapes.Joint.TheVariants as joints
 use Rattle.meta_analysis.specs.declared.kinds.Wrap.TheVariants as wraps
 use Rattle.meta_validator.specs.declared.recursions.Task.{Task}
 use Rattle.meta_validator.specs.declared.recursions.Task.TheVariants.{Visit, Leave}
-use Rattle.meta_analysis.specs.declared.kind_table.Kind.{Kind}
+use Rattle.meta_analysis.specs.declared.kind_table.NodeKind.{NodeKind}
 use Rattle.meta_base.proofs.CannotFailIsNullable.{nullable_of}
 use Rattle.meta_analysis.proofs.LayoutLemmas.{some_size}
 use Rattle.meta_validator.proofs.NoneWalks.{at_end, in_rules, sort, Sort, of_name, of_no_name}
@@ -109,21 +109,21 @@ module _ (rules : List ParserRule) (facts : Facts) (right : AreFacts rules facts
       at_last = at_end (ordered path) k
 
   module _ (node : ℕ) (todo : List Task) (k : ℕ) (path : List ℕ) (state : IsSearch rules roots start entered (Visit node ∷ todo) (k ∷ path)) where
-    abbrev At : Option Kind → Type 0
+    abbrev At : Option NodeKind → Type 0
     At o = Step node todo k path (called_in o) (inside_of passing o)
 
     abbrev nodes : List Spanned
     nodes = all_nodes rules
 
-    nothing_in : (x : Spanned) → slice_get nodes node ≡ Some x → (o : Option Kind) → called_in o ≡ None → inside_of passing o ≡ [] → IsSearch rules roots start entered todo (k ∷ path) → At o
+    nothing_in : (x : Spanned) → slice_get nodes node ≡ Some x → (o : Option NodeKind) → called_in o ≡ None → inside_of passing o ≡ [] → IsSearch rules roots start entered todo (k ∷ path) → At o
     nothing_in x here o c i next = goes_in todo c (ap (λ z. ordered todo ++ z) i ∙ append-nil (ordered todo)) next
         (let a = ap (λ z. cost nodes (ordered todo ++ z)) i in let b = ap (λ z. cost nodes z) (append-nil (ordered todo)) in let d = cost_visit nodes (ordered todo) node x here in let e = some_size x in omega arith)
 
-    one_in : (x y : Spanned) (j : ℕ) → slice_get nodes node ≡ Some x → slice_get nodes j ≡ Some y → size y < size x → (o : Option Kind) → called_in o ≡ None → inside_of passing o ≡ Visit j ∷ [] → IsSearch rules roots start entered (Visit j ∷ todo) (k ∷ path) → At o
+    one_in : (x y : Spanned) (j : ℕ) → slice_get nodes node ≡ Some x → slice_get nodes j ≡ Some y → size y < size x → (o : Option NodeKind) → called_in o ≡ None → inside_of passing o ≡ Visit j ∷ [] → IsSearch rules roots start entered (Visit j ∷ todo) (k ∷ path) → At o
     one_in x y j here inner less o c i next = goes_in (Visit j ∷ todo) c (ap (λ z. ordered todo ++ z) i) next
         (let a = ap (λ z. cost nodes (ordered todo ++ z)) i in let d = cost_visit nodes (ordered todo) node x here in let b = cost_visit nodes (ordered todo) j y inner in omega arith)
 
-    two_in : (x y z : Spanned) (j l : ℕ) → slice_get nodes node ≡ Some x → slice_get nodes j ≡ Some y → slice_get nodes l ≡ Some z → size y + size z < size x → (o : Option Kind) → called_in o ≡ None → inside_of passing o ≡ Visit l ∷ Visit j ∷ []
+    two_in : (x y z : Spanned) (j l : ℕ) → slice_get nodes node ≡ Some x → slice_get nodes j ≡ Some y → slice_get nodes l ≡ Some z → size y + size z < size x → (o : Option NodeKind) → called_in o ≡ None → inside_of passing o ≡ Visit l ∷ Visit j ∷ []
         → IsSearch rules roots start entered (Visit j ∷ Visit l ∷ todo) (k ∷ path) → At o
     two_in x y z j l here first second less o c i next = goes_in (Visit j ∷ Visit l ∷ todo) c same next
         (let a = ap (λ w. cost nodes w) same in let d = cost_visit nodes (ordered todo) node x here in
@@ -156,7 +156,7 @@ module _ (rules : List ParserRule) (facts : Facts) (right : AreFacts rules facts
         go false h = one_in (Two s Seq x y) x j here first.node (omega arith) (Some (both_kind joints.Sequence j l)) refl (ap (λ b. if b then Visit l ∷ Visit j ∷ [] else Visit j ∷ []) h)
             (first_only rules roots start entered node j s x y todo k path here first (stops h) state)
 
-    at_node : (x : Spanned) (kind : Kind) → IsNodeOf rules roots k node x → Fits (kind_in G) nodes node kind x → At (Some kind)
+    at_node : (x : Spanned) (kind : NodeKind) → IsNodeOf rules roots k node x → Fits (kind_in G) nodes node kind x → At (Some kind)
     at_node (Leaf s e) kind place fit = subst (λ z. At (Some z)) (sym fit.1) (at_leaf s e place.node fit.0 (sort V e))
     at_node (One s f x) kind place fit = subst (λ z. At (Some z)) (sym fit.3)
         (let (a, b) = wrap_in passing (wrap_of f) fit.0 in

@@ -7,7 +7,7 @@ use Rattle.std.proofs.lemmas.List.Sorted.{All-permutation, ranks_by}
 use Rattle.std.proofs.lemmas.Option.{slice_get-get_or}
 use Rattle.meta_base.specs.Language.Expression.{Expression, Grammar}
 use Rattle.meta_base.specs.Pieces.PrintedError.{message_of}
-use Rattle.meta_base.specs.Pieces.Saying.{Complaint, Says, SaysAt, Tell}
+use Rattle.meta_base.specs.Pieces.Saying.{Complaint, HasMessage, IsErrorAt, AreErrorsFor}
 use Rattle.meta_base.specs.declared.grammar.Rule.{Rule}
 use Rattle.meta_base.specs.declared.runtime.errors.Error.{Error}
 use Rattle.meta_base.specs.declared.runtime.errors.ErrorVariant.{ErrorVariant}
@@ -101,11 +101,11 @@ one_told rules endless errors others a b =
     one_sorted b.complete.0 a.findings b.findings (subst (λ fs. IsSortedBySpan fs a.findings) found a.complete.2) b.complete.2
 
 -- 3. errors that tell of the same say the same
-said_message : (message : List ℕ) (variant : ErrorVariant) → Says message variant → message_of variant ≡ message
+said_message : (message : List ℕ) (variant : ErrorVariant) → HasMessage message variant → message_of variant ≡ message
 said_message message ParsingError h = absurd h
 said_message message (CustomError own) h = h
 
-pub says_alike : (c : Complaint) (error other : Error Rule) → SaysAt c.message c.span error → SaysAt c.message c.span other → IsAlike error other
+pub says_alike : (c : Complaint) (error other : Error Rule) → IsErrorAt c.message c.span error → IsErrorAt c.message c.span other → IsAlike error other
 says_alike c error other a b = record {
   message = said_message c.message error.variant a.variant ∙ sym (said_message c.message other.variant b.variant);
   location = a.location ∙ sym b.location;
@@ -113,7 +113,7 @@ says_alike c error other a b = record {
   line = a.line ∙ sym b.line;
 }
 
-pub tell_alike : (complaints : List Complaint) (errors others : List (Error Rule)) → Tell complaints errors → Tell complaints others → AreAlike errors others
+pub tell_alike : (complaints : List Complaint) (errors others : List (Error Rule)) → AreErrorsFor complaints errors → AreErrorsFor complaints others → AreAlike errors others
 tell_alike [] [] [] a b = tt
 tell_alike [] [] (f ∷ fs) a b = absurd b
 tell_alike [] (e ∷ es) others a b = absurd a
@@ -123,4 +123,4 @@ tell_alike (c ∷ cs) (e ∷ es) (f ∷ fs) a b = (says_alike c e f a.0 b.0, tel
 
 pub one_list_of_errors : (rules : List SpannedRule) (endless : List Span) (errors others : List (Error Rule)) → AreReported rules endless errors → AreReported rules endless others → AreAlike errors others
 one_list_of_errors rules endless errors others a b =
-    tell_alike b.findings errors others (subst (λ fs. Tell fs errors) (one_told rules endless errors others a b) a.told) b.told
+    tell_alike b.findings errors others (subst (λ fs. AreErrorsFor fs errors) (one_told rules endless errors others a b) a.told) b.told

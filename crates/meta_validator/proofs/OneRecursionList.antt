@@ -6,7 +6,7 @@ use Rattle.meta_base.specs.Language.Expression.{Expression, Ident, last_place}
 use Rattle.meta_base.proofs.Basics.{one_item}
 use Rattle.meta_spanned.specs.Spanned.{Span, Spanned, Leaf, One, Two, Unary, Seq, Choice, SpannedRule}
 use Rattle.meta_validator.specs.Findings.{Finding, found_at, Reports, reports_none, reports_at, OfRecursion, recursive, not_recursive, hidden}
-use Rattle.meta_validator.specs.LeftRecursion.{Closed, IsNoName, said, Means, Passes, told_trail, Walks, walks_over, walks_closing, walks_outside, walks_again, walks_into, walks_inside, walks_first, walks_second, walks_neither, walks_other}
+use Rattle.meta_validator.specs.LeftRecursion.{Closed, IsNoName, said, Means, Passes, trail_message, Walks, walks_over, walks_closing, walks_outside, walks_again, walks_into, walks_inside, walks_first, walks_second, walks_neither, walks_other}
 
 some_none : {A : Type 0} {o : Option A} {a : A} → o ≡ Some a → o ≡ None → ⊥
 some_none e f = let h = sym e ∙ f in cc
@@ -154,7 +154,7 @@ same_found : {rules : List SpannedRule} {k : ℕ} {fs gs : List Finding} → OfR
 same_found {rules} (recursive {k = k} {r = r} {closed = z} at m w) (recursive {r = q} {closed = y} here n u) =
     let rule : q ≡ r = one_item here at in
     let one : z ≡ y = one_item refl (one_walk rules k w (Some y) (subst (λ t. Walks rules k (k ∷ []) t.name t.body (Some y)) rule u)) in
-    ap (λ t. found_at t.call (told_trail rules r t) ∷ []) one ∙ ap (λ t. found_at y.call (told_trail rules t y) ∷ []) (sym rule)
+    ap (λ t. found_at t.call (trail_message rules r t) ∷ []) one ∙ ap (λ t. found_at y.call (trail_message rules t y) ∷ []) (sym rule)
 same_found {rules} (recursive {k = k} {r = r} {closed = z} at m w) (not_recursive {r = q} here n u) =
     absurd (some_none refl (one_walk rules k w None (subst (λ t. Walks rules k (k ∷ []) t.name t.body None) (one_item here at) u)))
 same_found {rules} (recursive {k = k} {r = r} at m w) (hidden {r = q} here out) = absurd (out (subst (λ t. Means rules t.name k) (one_item at here) m))

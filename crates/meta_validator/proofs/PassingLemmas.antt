@@ -18,14 +18,14 @@ use Rattle.meta_analysis.specs.RightAnswers.{AreSound, AreClosed}
 use Rattle.meta_analysis.specs.Names.{grammar_of, is_end}
 use Rattle.meta_analysis.specs.NameKinds.{kind_in, name_kind}
 use Rattle.meta_analysis.specs.Nodes.{all_nodes}
-use Rattle.meta_analysis.specs.Kinds.{Says, counted, repeated, wrap_kind, text_kind}
+use Rattle.meta_analysis.specs.Kinds.{Represents, counted, repeated, wrap_kind, text_kind}
 use Rattle.meta_validator.specs.Walk.{without}
 use Rattle.meta_validator.specs.Without.{without_kind, IsWithout}
 use Rattle.meta_analysis.specs.declared.facts.Facts.{Facts}
 use Rattle.meta_analysis.specs.declared.kinds.Wrap.{Wrap}
 use Rattle.meta_analysis.specs.declared.kinds.Wrap.TheVariants as wraps
-use Rattle.meta_analysis.specs.declared.kind_table.Kind.{Kind}
-use Rattle.meta_analysis.specs.declared.kind_table.Kind.TheVariants as is
+use Rattle.meta_analysis.specs.declared.kind_table.NodeKind.{NodeKind}
+use Rattle.meta_analysis.specs.declared.kind_table.NodeKind.TheVariants as is
 use Rattle.meta_analysis.specs.declared.kind_table.Question.TheVariants as asks
 use Rattle.meta_analysis.specs.declared.kind_table.KindTable.{KindTable}
 use Rattle.meta_analysis.proofs.Resolved.{Named, absent, named, resolved}
@@ -98,17 +98,17 @@ name_same v false (Some k) = go (nat_eq k v)
     go true = refl
     go false = refl
 
-module _ (place_of : Text → Option ℕ) (v : ℕ) (ks : List Kind) where
-  new : List Kind
+module _ (place_of : Text → Option ℕ) (v : ℕ) (ks : List NodeKind) where
+  new : List NodeKind
   new = map (without_kind v) ks
 
   abbrev other : Text → Option ℕ
   other n = place_without v (place_of n)
 
-  got : (i : ℕ) (k l : Kind) → slice_get ks i ≡ Some k → without_kind v k ≡ l → slice_get (map (without_kind v) ks) i ≡ Some l
+  got : (i : ℕ) (k l : NodeKind) → slice_get ks i ≡ Some k → without_kind v k ≡ l → slice_get (map (without_kind v) ks) i ≡ Some l
   got i k l e h = slice_get-map (without_kind v) ks i ∙ (ap (option_map (without_kind v)) e ∙ ap Some h)
 
-  pub says_without : (i : ℕ) (e : Expression) → Says (kinds_by place_of) ks i e → Says (kinds_by other) (map (without_kind v) ks) i e
+  pub says_without : (i : ℕ) (e : Expression) → Represents (kinds_by place_of) ks i e → Represents (kinds_by other) (map (without_kind v) ks) i e
   says_without i (Str t) s = got i _ _ s (text_same v t)
   says_without i (Insens t) s = got i _ _ s (text_same v t)
   says_without i (Range a b) s = got i _ _ s refl
@@ -160,8 +160,8 @@ module _ (rules : List ParserRule) (facts : Facts) (right : AreFacts rules facts
     abbrev place_now : Text → Option ℕ
     place_now n = place_without v (place_of n)
 
-    lies_without : (i : ℕ) (e : Expression) → Says (kind_in G) facts.table.kinds.items i e → Says (kinds_by place_now) t.kinds.items i e
-    lies_without i e s = subst (λ z. Says (kinds_by place_now) z i e) (sym gone_from.kinds) (says_without place_of v facts.table.kinds.items i e s)
+    lies_without : (i : ℕ) (e : Expression) → Represents (kind_in G) facts.table.kinds.items i e → Represents (kinds_by place_now) t.kinds.items i e
+    lies_without i e s = subst (λ z. Represents (kinds_by place_now) z i e) (sym gone_from.kinds) (says_without place_of v facts.table.kinds.items i e s)
 
     none_without : (n : Text) → rule_of G n ≡ None → rule_of (without r.name G) n ≡ None
     none_without n e = go (rule_of (without r.name G) n) refl
@@ -170,7 +170,7 @@ module _ (rules : List ParserRule) (facts : Facts) (right : AreFacts rules facts
         go None h = refl
         go (Some q) h = absurd (no_rule (sym e ∙ rule_within r.name G n q h))
 
-    named_without : (n : Text) (k j : ℕ) (q : Rule) → last_place G n ≡ Some k → rule_of G n ≡ Some q → slice_get facts.table.roots.items k ≡ Some j → Says (kind_in G) facts.table.kinds.items j q.body → Sense (without r.name G) (kinds_by place_now) t n (place_without v (Some k))
+    named_without : (n : Text) (k j : ℕ) (q : Rule) → last_place G n ≡ Some k → rule_of G n ≡ Some q → slice_get facts.table.roots.items k ≡ Some j → Represents (kind_in G) facts.table.kinds.items j q.body → Sense (without r.name G) (kinds_by place_now) t n (place_without v (Some k))
     named_without n k j q place e root s = go (nat_eq k v) refl
       where
         gone : k ≡ v → rule_of (without r.name G) n ≡ None
@@ -201,7 +201,7 @@ module _ (rules : List ParserRule) (facts : Facts) (right : AreFacts rules facts
     marked_without answers sound closed i x e = answered (without r.name G) place_now t sense_without asks.TakesNothing answers sound closed i (without_spans x) (lies_without i (without_spans x) (says_at rules facts right i x e))
 
   -- a rule that takes something
-  pub marked_settled : (root : ℕ) → Says (kind_in G) facts.table.kinds.items root (without_spans r.body) → is_set_at facts.nullable.items root ≡ false → (i : ℕ) (x : Spanned) → slice_get (all_nodes rules) i ≡ Some x
+  pub marked_settled : (root : ℕ) → Represents (kind_in G) facts.table.kinds.items root (without_spans r.body) → is_set_at facts.nullable.items root ≡ false → (i : ℕ) (x : Spanned) → slice_get (all_nodes rules) i ≡ Some x
       → Decides (is_set_at facts.nullable.items i) (IsNullable (without r.name G) (without_spans x))
   marked_settled root s off i x e = let d = right.nullable i (without_spans x) (says_at rules facts right i x e) in
       ((λ h. null_less G r.name takes (d.0 h)), (λ n. d.1 (null_more G r.name n)))

@@ -13,7 +13,7 @@ use Rattle.meta_spanned.specs.Nodes.{rule_view, rule_views}
 use Rattle.meta_spanned.specs.Spanned.{Span, SpannedRule}
 use Rattle.meta_spanned.specs.declared.node.ParserRule.{ParserRule}
 use Rattle.meta_validator.specs.Findings.{Finding, found_at, Reports, reports_none, reports_at, OfRecursion, recursive, not_recursive, hidden, places}
-use Rattle.meta_validator.specs.LeftRecursion.{said, Means, Walks, name_at, told_trail}
+use Rattle.meta_validator.specs.LeftRecursion.{said, Means, Walks, name_at, trail_message}
 use Rattle.meta_analysis.specs.Names.{grammar_of}
 use Rattle.meta_validator.proofs.ClosingLemmas.{closing_leads, none_comes}
 use Rattle.meta_validator.proofs.ReportingLemmas.{reports_more}
@@ -74,11 +74,11 @@ module _ (rules : List ParserRule) where
 
   -- the message of code says what is to be said
   pub told_right : (k : ℕ) (r q : SpannedRule) (trail used message : List ℕ) (call here : Span) → slice_get V k ≡ Some r → Means V r.name k → Walks V k (k ∷ []) r.name r.body (Some (record { trail = trail; call = call }))
-      → used ≡ trail → q ≡ r → here ≡ call → message ≡ told_trail V q (record { trail = used; call = here }) → OfRecursion V k (found_at here message ∷ [])
+      → used ≡ trail → q ≡ r → here ≡ call → message ≡ trail_message V q (record { trail = used; call = here }) → OfRecursion V k (found_at here message ∷ [])
   told_right k r q trail used message call here at means w as_used as_rule as_call as_told =
       let walk = subst (λ z. Walks V k (k ∷ []) r.name r.body (Some (record { trail = z; call = here }))) (sym as_used)
       (subst (λ z. Walks V k (k ∷ []) r.name r.body (Some (record { trail = trail; call = z }))) (sym as_call) w) in
-      subst (λ z. OfRecursion V k (found_at here z ∷ [])) (sym (as_told ∙ ap (λ z. told_trail V z (record { trail = used; call = here })) as_rule)) (recursive at means walk)
+      subst (λ z. OfRecursion V k (found_at here z ∷ [])) (sym (as_told ∙ ap (λ z. trail_message V z (record { trail = used; call = here })) as_rule)) (recursive at means walk)
 
   -- the names of rules
   pub name_there : (k : ℕ) (rule : ParserRule) → slice_get rules k ≡ Some rule → name_at (slice_get V k) ≡ string_bytes rule.name

@@ -21,13 +21,13 @@ use Rattle.meta_validator.specs.Findings.{Finding, found_at, is_skipped_name, la
 use Rattle.meta_analysis.specs.Names.{grammar_of, is_end}
 use Rattle.meta_analysis.specs.NameKinds.{kind_in, name_kind}
 use Rattle.meta_analysis.specs.Nodes.{all_nodes}
-use Rattle.meta_analysis.specs.Kinds.{Says, Fits, leaf_kind, wrap_kind, wrap_of}
+use Rattle.meta_analysis.specs.Kinds.{Represents, Fits, leaf_kind, wrap_kind, wrap_of}
 use Rattle.meta_validator.specs.Reporting.{AreSpans, repeated_at, repetition_at, alternative_of, alternative_at, unreachable_at, choice_at, skipped_at}
 use Rattle.meta_analysis.specs.declared.facts.Facts.{Facts}
 use Rattle.meta_analysis.specs.declared.kinds.Wrap.{Wrap}
 use Rattle.meta_analysis.specs.declared.kinds.Wrap.TheVariants as wraps
-use Rattle.meta_analysis.specs.declared.kind_table.Kind.{Kind}
-use Rattle.meta_analysis.specs.declared.kind_table.Kind.TheVariants as is
+use Rattle.meta_analysis.specs.declared.kind_table.NodeKind.{NodeKind}
+use Rattle.meta_analysis.specs.declared.kind_table.NodeKind.TheVariants as is
 use Rattle.meta_analysis.proofs.Tying.{stands_at, says}
 
 -- 1. one more is looked at
@@ -42,13 +42,13 @@ report_step R xs i x fs gs e h r =
     subst (λ z. Reports R z (fs ++ gs)) (sym (take_more xs i x w ∙ ap (λ y. take i xs ++ y ∷ []) g)) (reports_more R h x gs r)
 
 -- 2. kinds of names and of expressions without operands
-name_kinds : (P : Kind → Type 0) → P is.Taking → P is.End → ((r : ℕ) → P (is.Call r)) → ((r : ℕ) → P (is.EndCall r)) → (b : Bool) (o : Option ℕ) → P (name_kind b o)
+name_kinds : (P : NodeKind → Type 0) → P is.Taking → P is.End → ((r : ℕ) → P (is.Call r)) → ((r : ℕ) → P (is.EndCall r)) → (b : Bool) (o : Option ℕ) → P (name_kind b o)
 name_kinds P t e c d true None = e
 name_kinds P t e c d false None = t
 name_kinds P t e c d true (Some r) = d r
 name_kinds P t e c d false (Some r) = c r
 
-pub leaf_kinds : (P : Kind → Type 0) → P is.Taking → P is.Still → P is.End → ((r : ℕ) → P (is.Call r)) → ((r : ℕ) → P (is.EndCall r)) → (g : Grammar) (e : Expression) → P (leaf_kind (kind_in g) e)
+pub leaf_kinds : (P : NodeKind → Type 0) → P is.Taking → P is.Still → P is.End → ((r : ℕ) → P (is.Call r)) → ((r : ℕ) → P (is.EndCall r)) → (g : Grammar) (e : Expression) → P (leaf_kind (kind_in g) e)
 leaf_kinds P t s e c d g (bare.Str []) = s
 leaf_kinds P t s e c d g (bare.Str (a ∷ u)) = t
 leaf_kinds P t s e c d g (bare.Insens []) = s
@@ -73,7 +73,7 @@ leaf_kinds P t s e c d g (bare.PushLiteral u) = s
 leaf_kinds P t s e c d g (bare.NodeTag x u) = t
 leaf_kinds P t s e c d g (bare.RestoreOnErr x) = t
 
-wrap_kinds : (P : Kind → Type 0) → ((j : ℕ) → P (is.Ahead j)) → ((j : ℕ) → P (is.NotAhead j)) → ((j : ℕ) → P (is.Free j)) → ((j : ℕ) → P (is.Inside j)) → ((j : ℕ) → P (is.Again j)) → ((j : ℕ) → P (is.OnceAgain j)) → (w : Wrap) (j : ℕ) → P (wrap_kind w j)
+wrap_kinds : (P : NodeKind → Type 0) → ((j : ℕ) → P (is.Ahead j)) → ((j : ℕ) → P (is.NotAhead j)) → ((j : ℕ) → P (is.Free j)) → ((j : ℕ) → P (is.Inside j)) → ((j : ℕ) → P (is.Again j)) → ((j : ℕ) → P (is.OnceAgain j)) → (w : Wrap) (j : ℕ) → P (wrap_kind w j)
 wrap_kinds P a b c d e f wraps.Ahead j = a j
 wrap_kinds P a b c d e f wraps.NotAhead j = b j
 wrap_kinds P a b c d e f wraps.Free j = c j
@@ -88,14 +88,14 @@ module _ (rules : List ParserRule) (facts : Facts) (right : AreFacts rules facts
   abbrev nodes : List Spanned
   nodes = all_nodes rules
 
-  abbrev kinds : List Kind
+  abbrev kinds : List NodeKind
   kinds = facts.table.kinds.items
 
-  pub says_at : (i : ℕ) (x : Spanned) → slice_get nodes i ≡ Some x → Says (kind_in G) kinds i (without_spans x)
+  pub says_at : (i : ℕ) (x : Spanned) → slice_get nodes i ≡ Some x → Represents (kind_in G) kinds i (without_spans x)
   says_at i x e = says (kind_in G) kinds i x (stands_at (kind_in G) nodes kinds right.tabled.nodes x i e)
 
   -- 3. repetitions
-  repeated_right : (subject : List ℕ) (place : Span) (i : ℕ) (e : Expression) → Says (kind_in G) kinds i e → OfRepeated G subject place e (repeated_at facts subject place i)
+  repeated_right : (subject : List ℕ) (place : Span) (i : ℕ) (e : Expression) → Represents (kind_in G) kinds i e → OfRepeated G subject place e (repeated_at facts subject place i)
   repeated_right subject place i e s = go (is_set_at facts.certain.items i) refl (is_set_at facts.nullable.items i) refl
     where
       go : (b : Bool) → is_set_at facts.certain.items i ≡ b → (c : Bool) → is_set_at facts.nullable.items i ≡ c → OfRepeated G subject place e (if b then found_at place (subject ++ codes " cannot fail and will repeat infinitely") ∷ [] else if c then found_at place (subject ++ codes " is non-progressing and will repeat infinitely") ∷ [] else [])
@@ -103,7 +103,7 @@ module _ (rules : List ParserRule) (facts : Facts) (right : AreFacts rules facts
       go false h true k = takes_nothing (λ d. clash _ ((right.certain i e s).1 d) h) ((right.nullable i e s).0 k)
       go false h false k = goes_on (λ d. clash _ ((right.nullable i e s).1 d) k)
 
-  abbrev AsRepetition : Spanned → Kind → Type 0
+  abbrev AsRepetition : Spanned → NodeKind → Type 0
   AsRepetition x k = OfRepetition G x (repetition_at facts (span_of x) (Some k))
 
   wrap_repetition : (s : Span) (f : Unary) (x : Spanned) (j : ℕ) → slice_get nodes j ≡ Some x → AsRepetition (One s f x) (wrap_kind (wrap_of f) j)
@@ -131,7 +131,7 @@ module _ (rules : List ParserRule) (facts : Facts) (right : AreFacts rules facts
       go true = repetition refl (repeated_right (codes "expression inside repetition") s j (without_spans x) (says_at j x e))
       go false = repetition refl (repeated_right (codes "expression inside repetition") s j (without_spans x) (says_at j x e))
 
-  kind_repetition : (i : ℕ) (x : Spanned) (k : Kind) → Fits (kind_in G) nodes i k x → AsRepetition x k
+  kind_repetition : (i : ℕ) (x : Spanned) (k : NodeKind) → Fits (kind_in G) nodes i k x → AsRepetition x k
   kind_repetition i (Leaf s e) k fit = subst (λ z. AsRepetition (Leaf s e) z) (sym fit.1)
       (subst (λ z. OfRepetition G (Leaf s e) z) (sym (leaf_kinds (λ z. repetition_at facts s (Some z) ≡ []) refl refl refl (λ r. refl) (λ r. refl) G e)) (no_repetition refl))
   kind_repetition i (One s f x) k fit = subst (λ z. AsRepetition (One s f x) z) (sym fit.3) (wrap_repetition s f x fit.0 fit.2)
@@ -139,7 +139,7 @@ module _ (rules : List ParserRule) (facts : Facts) (right : AreFacts rules facts
   kind_repetition i (Two s Choice x y) k fit = subst (λ z. AsRepetition (Two s Choice x y) z) (sym fit.6) (no_repetition refl)
 
   -- 4. choices
-  kind_alternative : (j : ℕ) (x : Spanned) (k : Kind) → Fits (kind_in G) nodes j k x → slice_get nodes j ≡ Some x → slice_get nodes (alternative_of (Some k) j) ≡ Some (last_alternative x)
+  kind_alternative : (j : ℕ) (x : Spanned) (k : NodeKind) → Fits (kind_in G) nodes j k x → slice_get nodes j ≡ Some x → slice_get nodes (alternative_of (Some k) j) ≡ Some (last_alternative x)
   kind_alternative j (Leaf s e) k fit at = subst (λ z. slice_get nodes (alternative_of (Some z) j) ≡ Some (Leaf s e)) (sym fit.1)
       (subst (λ z. slice_get nodes z ≡ Some (Leaf s e)) (sym (leaf_kinds (λ z. alternative_of (Some z) j ≡ j) refl refl refl (λ r. refl) (λ r. refl) G e)) at)
   kind_alternative j (One s f x) k fit at = subst (λ z. slice_get nodes (alternative_of (Some z) j) ≡ Some (One s f x)) (sym fit.3)
@@ -175,10 +175,10 @@ module _ (rules : List ParserRule) (facts : Facts) (right : AreFacts rules facts
             (unreachable ((right.certain a (without_spans (last_alternative x)) (says_at a (last_alternative x) e)).0 h))
         go p same false h = reachable (λ d. clash _ ((right.certain a (without_spans (last_alternative x)) (says_at a (last_alternative x) e)).1 d) h)
 
-    abbrev AsChoice : Spanned → Kind → Type 0
+    abbrev AsChoice : Spanned → NodeKind → Type 0
     AsChoice x k = OfChoice G x (choice_at facts spans (Some k))
 
-    kind_choice : (i : ℕ) (x : Spanned) (k : Kind) → Fits (kind_in G) nodes i k x → AsChoice x k
+    kind_choice : (i : ℕ) (x : Spanned) (k : NodeKind) → Fits (kind_in G) nodes i k x → AsChoice x k
     kind_choice i (Leaf s e) k fit = subst (λ z. AsChoice (Leaf s e) z) (sym fit.1)
         (subst (λ z. OfChoice G (Leaf s e) z) (sym (leaf_kinds (λ z. choice_at facts spans (Some z) ≡ []) refl refl refl (λ r. refl) (λ r. refl) G e)) (no_choice refl))
     kind_choice i (One s f x) k fit = subst (λ z. AsChoice (One s f x) z) (sym fit.3)

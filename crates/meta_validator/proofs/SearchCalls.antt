@@ -15,7 +15,7 @@ use Rattle.meta_fixpoint.specs.Least.{is_set_at, unset}
 use Rattle.meta_validator.specs.LeftRecursion.{Closed, IsNoName, said, Means, Walks, walks_over, walks_closing, walks_outside, walks_again, walks_into}
 use Rattle.meta_analysis.specs.Nodes.{all_nodes, IsSimple}
 use Rattle.meta_validator.specs.Regions.{IsNodeOf}
-use Rattle.meta_validator.specs.Searching.{ordered, after, views, Calls, name_of, last_name, Comes, Goes, Owes, IsKnown, AreCovered, AreSettled, IsSought, IsSearch}
+use Rattle.meta_validator.specs.Searching.{ordered, after, views, Calls, name_of, last_name, WalkFinds, TasksFind, AwaitsCall, IsKnown, AreCovered, AreSettled, IsSearchResult, IsSearch}
 use Rattle.meta_validator.specs.Walk.{Walked, w_name}
 use Rattle.meta_validator.specs.declared.recursions.Task.{Task}
 use Rattle.meta_validator.specs.declared.recursions.Task.TheVariants.{Visit, Leave}
@@ -105,7 +105,7 @@ module _ (rules : List ParserRule) (roots : List ℕ) (start : ℕ) (entered : L
 
   -- 4. a call of the start
   pub closes : (i : ℕ) (s : Span) (n : Text) (todo : List Task) (k : ℕ) (path : List ℕ) → slice_get (all_nodes rules) i ≡ Some (Leaf s (Ident n)) → Means V n start → Search (Visit i ∷ todo) (k ∷ path)
-      → IsSought rules roots start (Some (record { trail = ordered (k ∷ path); call = s }))
+      → IsSearchResult rules roots start (Some (record { trail = ordered (k ∷ path); call = s }))
   closes i s n todo k path at means search = search.answers (Some (record { trail = ordered (k ∷ path); call = s }))
       (inl (λ y h. subst (λ z. Walks V start (ordered (k ∷ path)) (last_name rules roots start (k ∷ path)) z (Some (record { trail = ordered (k ∷ path); call = s }))) (one_item at h) (walks_closing means)))
 
@@ -155,16 +155,16 @@ module _ (rules : List ParserRule) (roots : List ℕ) (start : ℕ) (entered : L
         out : Contains (ordered (k ∷ path)) t → ⊥
         out c = clash (is_set_at entered t) (search.entered_all t c) off
 
-        comes : (o : Option Closed) → Comes rules roots start (t ∷ k ∷ path) root o → Comes rules roots start (k ∷ path) i o
+        comes : (o : Option Closed) → WalkFinds rules roots start (t ∷ k ∷ path) root o → WalkFinds rules roots start (k ∷ path) i o
         comes o c y h = subst (λ z. Walks V start (ordered (k ∷ path)) (last_name rules roots start (k ∷ path)) z o) (one_item at h)
             (walks_into means apart out here (subst (λ z. Walks V start (ordered (t ∷ k ∷ path)) z r.body o) (ap (name_of rules roots start) here) (c r.body place.node)))
 
-        goes : (o : Option Closed) → Goes rules roots start (t ∷ k ∷ path) (Visit root ∷ Leave ∷ todo) o → Goes rules roots start (k ∷ path) (Visit i ∷ todo) o
+        goes : (o : Option Closed) → TasksFind rules roots start (t ∷ k ∷ path) (Visit root ∷ Leave ∷ todo) o → TasksFind rules roots start (k ∷ path) (Visit i ∷ todo) o
         goes None g = (comes None g.0, g.1)
         goes (Some z) (inl g) = inl (comes (Some z) g)
         goes (Some z) (inr g) = inr (comes None g.0, g.1)
 
-        covered_here : (q : SpannedRule) (m : ℕ) → slice_get V k ≡ Some q → Calls rules roots start q.name q.body m → IsKnown rules roots start entered m ⊎ Owes rules roots start q.name (Visit i ∷ todo) m → IsKnown rules roots start more m ⊎ Owes rules roots start q.name todo m
+        covered_here : (q : SpannedRule) (m : ℕ) → slice_get V k ≡ Some q → Calls rules roots start q.name q.body m → IsKnown rules roots start entered m ⊎ AwaitsCall rules roots start q.name (Visit i ∷ todo) m → IsKnown rules roots start more m ⊎ AwaitsCall rules roots start q.name todo m
         covered_here q m got d (inl a) = inl (known_more m a)
         covered_here q m got d (inr (inr a)) = inr a
         covered_here q m got d (inr (inl (x, is_x, call))) =
@@ -172,7 +172,7 @@ module _ (rules : List ParserRule) (roots : List ℕ) (start : ℕ) (entered : L
             inl (subst (λ z. IsKnown rules roots start more z) (sym e) (apart, set_sets entered t small))
 
   -- 6. the end
-  pub finished : (path : List ℕ) → Search [] path → IsSought rules roots start None × ((m : ℕ) → is_set_at entered m ≡ true → (r : SpannedRule) (j : ℕ) → slice_get V m ≡ Some r → Calls rules roots start r.name r.body j → IsKnown rules roots start entered j)
+  pub finished : (path : List ℕ) → Search [] path → IsSearchResult rules roots start None × ((m : ℕ) → is_set_at entered m ≡ true → (r : SpannedRule) (j : ℕ) → slice_get V m ≡ Some r → Calls rules roots start r.name r.body j → IsKnown rules roots start entered j)
   finished path search = (search.answers None refl, λ m on r j at d. search.settled m on (λ c. nothing_in m (subst (λ z. Contains (ordered z) m) search.placed c)) r j at d)
     where
       nothing_in : (m : ℕ) → Contains [] m → ⊥
@@ -193,12 +193,12 @@ begins rules roots start root r flags l small none here means place = record {
   last_ones = λ m c. subst (λ z. Means (views rules roots start) (name_of rules roots start (slice_get (views rules roots start) z)) z) (sym (alone start m c)) (subst (λ z. Means (views rules roots start) z start) (sym (ap (name_of rules roots start) here)) means);
 }
   where
-    comes : (o : Option Closed) → Comes rules roots start (start ∷ []) root o → IsSought rules roots start o
+    comes : (o : Option Closed) → WalkFinds rules roots start (start ∷ []) root o → IsSearchResult rules roots start o
     comes o c q got = let e = one_item here got in
         subst (λ z. Walks (views rules roots start) start (start ∷ []) z.name z.body o) e
         (subst (λ z. Walks (views rules roots start) start (start ∷ []) z r.body o) (ap (name_of rules roots start) here) (c r.body place.node))
 
-    answered : (o : Option Closed) → Goes rules roots start (start ∷ []) (Visit root ∷ Leave ∷ []) o → IsSought rules roots start o
+    answered : (o : Option Closed) → TasksFind rules roots start (start ∷ []) (Visit root ∷ Leave ∷ []) o → IsSearchResult rules roots start o
     answered None g = comes None g.0
     answered (Some z) (inl g) = comes (Some z) g
     answered (Some z) (inr g) = let h = g.1 in cc

@@ -15,7 +15,7 @@ use Rattle.meta_fixpoint.specs.Least.{is_set_at}
 use Rattle.meta_validator.specs.LeftRecursion.{Closed, said, Passes, Walks, walks_inside, walks_first, walks_second, walks_neither, walks_other}
 use Rattle.meta_analysis.specs.Nodes.{all_nodes}
 use Rattle.meta_validator.specs.Regions.{IsNodeOf}
-use Rattle.meta_validator.specs.Searching.{ordered, rest, after, views, Calls, name_of, last_name, Comes, Goes, Owes, ArePlaced, IsKnown, AreCovered, IsSearch}
+use Rattle.meta_validator.specs.Searching.{ordered, rest, after, views, Calls, name_of, last_name, WalkFinds, TasksFind, AwaitsCall, ArePlaced, IsKnown, AreCovered, IsSearch}
 use Rattle.meta_validator.specs.Walk.{Walked, w_first, w_second, w_pos_pred, w_neg_pred, w_left, w_right, w_opt, w_rep, w_rep_once, w_rep_exact, w_rep_min, w_rep_max, w_rep_min_max, w_push, w_tag}
 use Rattle.meta_validator.specs.declared.recursions.Task.{Task}
 use Rattle.meta_validator.specs.declared.recursions.Task.TheVariants.{Visit, Leave}
@@ -72,19 +72,19 @@ module _ (rules : List ParserRule) (roots : List ℕ) (start : ℕ) (entered : L
       go m h out r n at d (other_place f) = s.settled m h (λ i. elim (Contains-append_cases (ordered path) (k ∷ []) m i) [ inl j ↦ out j | inr j ↦ f (alone k m j) ]) r n at d
 
   covered_more : (v : Text) (old new : List Task) (k : ℕ) (path : List ℕ) → name_of rules roots start (slice_get V k) ≡ v → after old ≡ after new
-      → ((m : ℕ) → Owes rules roots start v old m → IsKnown rules roots start entered m ⊎ Owes rules roots start v new m)
+      → ((m : ℕ) → AwaitsCall rules roots start v old m → IsKnown rules roots start entered m ⊎ AwaitsCall rules roots start v new m)
       → AreCovered rules roots start entered (k ∷ path) old → AreCovered rules roots start entered (k ∷ path) new
   covered_more v old new k path is_v same f c = (
     λ r m at d. (let e : v ≡ r.name = sym is_v ∙ ap (name_of rules roots start) at in
-        elim (c.0 r m at d) [ inl a ↦ inl a | inr a ↦ subst (λ z. IsKnown rules roots start entered m ⊎ Owes rules roots start z new m) e (f m (subst (λ z. Owes rules roots start z old m) (sym e) a)) ]),
+        elim (c.0 r m at d) [ inl a ↦ inl a | inr a ↦ subst (λ z. IsKnown rules roots start entered m ⊎ AwaitsCall rules roots start z new m) e (f m (subst (λ z. AwaitsCall rules roots start z old m) (sym e) a)) ]),
     subst (λ z. AreCovered rules roots start entered path z) same c.1,
   )
 
   -- a node is walked over, and what is inside it is to be walked over in its place
   pub stepped : (i : ℕ) (x : Spanned) (todo new : List Task) (k : ℕ) (path : List ℕ) → slice_get (all_nodes rules) i ≡ Some x → after todo ≡ after new → ArePlaced rules roots start (k ∷ path) new
-      → ((o : Option Closed) → Goes rules roots start (k ∷ path) new o → Goes rules roots start (k ∷ path) (Visit i ∷ todo) o)
-      → ((m : ℕ) → Calls rules roots start (last_name rules roots start (k ∷ path)) x m → IsKnown rules roots start entered m ⊎ Owes rules roots start (last_name rules roots start (k ∷ path)) new m)
-      → ((m : ℕ) → Owes rules roots start (last_name rules roots start (k ∷ path)) todo m → Owes rules roots start (last_name rules roots start (k ∷ path)) new m)
+      → ((o : Option Closed) → TasksFind rules roots start (k ∷ path) new o → TasksFind rules roots start (k ∷ path) (Visit i ∷ todo) o)
+      → ((m : ℕ) → Calls rules roots start (last_name rules roots start (k ∷ path)) x m → IsKnown rules roots start entered m ⊎ AwaitsCall rules roots start (last_name rules roots start (k ∷ path)) new m)
+      → ((m : ℕ) → AwaitsCall rules roots start (last_name rules roots start (k ∷ path)) todo m → AwaitsCall rules roots start (last_name rules roots start (k ∷ path)) new m)
       → Search (Visit i ∷ todo) (k ∷ path) → Search new (k ∷ path)
   stepped i x todo new k path at same placed goes called kept s = record {
     alike = s.alike;
@@ -105,10 +105,10 @@ module _ (rules : List ParserRule) (roots : List ℕ) (start : ℕ) (entered : L
       → Search (Visit i ∷ todo) (k ∷ path) → Search todo (k ∷ path)
   nothing i x todo k path at none known s = stepped i x todo todo k path at refl s.placed.1 goes (λ m d. inl (known m d)) (λ m d. d) s
     where
-      comes : Comes rules roots start (k ∷ path) i None
+      comes : WalkFinds rules roots start (k ∷ path) i None
       comes y h = subst (λ z. Walks V start (ordered (k ∷ path)) (last_name rules roots start (k ∷ path)) z None) (one_item at h) none
 
-      goes : (o : Option Closed) → Goes rules roots start (k ∷ path) todo o → Goes rules roots start (k ∷ path) (Visit i ∷ todo) o
+      goes : (o : Option Closed) → TasksFind rules roots start (k ∷ path) todo o → TasksFind rules roots start (k ∷ path) (Visit i ∷ todo) o
       goes None g = (comes, g)
       goes (Some z) g = inr (comes, g)
 
@@ -118,10 +118,10 @@ module _ (rules : List ParserRule) (roots : List ℕ) (start : ℕ) (entered : L
   inside i j s f x todo k path at place search = stepped i (One s f x) todo (Visit j ∷ todo) k path at refl ((x, place), search.placed.1) goes
       (λ m d. inr (inl (x, place.node, (d.0, in_round V (last_name rules roots start (k ∷ path)) f (without_spans x) d.0 d.1, d.2)))) (λ m d. inr d) search
     where
-      comes : (o : Option Closed) → Comes rules roots start (k ∷ path) j o → Comes rules roots start (k ∷ path) i o
+      comes : (o : Option Closed) → WalkFinds rules roots start (k ∷ path) j o → WalkFinds rules roots start (k ∷ path) i o
       comes o c y h = subst (λ z. Walks V start (ordered (k ∷ path)) (last_name rules roots start (k ∷ path)) z o) (one_item at h) (walks_inside (c x place.node))
 
-      goes : (o : Option Closed) → Goes rules roots start (k ∷ path) (Visit j ∷ todo) o → Goes rules roots start (k ∷ path) (Visit i ∷ todo) o
+      goes : (o : Option Closed) → TasksFind rules roots start (k ∷ path) (Visit j ∷ todo) o → TasksFind rules roots start (k ∷ path) (Visit i ∷ todo) o
       goes None g = (comes None g.0, g.1)
       goes (Some z) (inl g) = inl (comes (Some z) g)
       goes (Some z) (inr g) = inr (comes None g.0, g.1)
@@ -137,13 +137,13 @@ module _ (rules : List ParserRule) (roots : List ℕ) (start : ℕ) (entered : L
       left_side n (w_first w) = w
       left_side n (w_second p w) = absurd (stops p)
 
-      some : (z : Closed) → Comes rules roots start (k ∷ path) j (Some z) → Comes rules roots start (k ∷ path) i (Some z)
+      some : (z : Closed) → WalkFinds rules roots start (k ∷ path) j (Some z) → WalkFinds rules roots start (k ∷ path) i (Some z)
       some z c y' h = subst (λ w. Walks V start (ordered (k ∷ path)) (last_name rules roots start (k ∷ path)) w (Some z)) (one_item at h) (walks_first (c x place.node))
 
-      none : Comes rules roots start (k ∷ path) j None → Comes rules roots start (k ∷ path) i None
+      none : WalkFinds rules roots start (k ∷ path) j None → WalkFinds rules roots start (k ∷ path) i None
       none c y' h = subst (λ w. Walks V start (ordered (k ∷ path)) (last_name rules roots start (k ∷ path)) w None) (one_item at h) (walks_neither (c x place.node) (λ p. absurd (stops p)))
 
-      goes : (o : Option Closed) → Goes rules roots start (k ∷ path) (Visit j ∷ todo) o → Goes rules roots start (k ∷ path) (Visit i ∷ todo) o
+      goes : (o : Option Closed) → TasksFind rules roots start (k ∷ path) (Visit j ∷ todo) o → TasksFind rules roots start (k ∷ path) (Visit i ∷ todo) o
       goes None g = (none g.0, g.1)
       goes (Some z) (inl g) = inl (some z g)
       goes (Some z) (inr g) = inr (none g.0, g.1)
@@ -153,19 +153,19 @@ module _ (rules : List ParserRule) (roots : List ℕ) (start : ℕ) (entered : L
       (some_first : (z : Closed) → Walks V start (ordered (k ∷ path)) (last_name rules roots start (k ∷ path)) x (Some z) → Walks V start (ordered (k ∷ path)) (last_name rules roots start (k ∷ path)) both (Some z))
       (onward : (o : Option Closed) → Walks V start (ordered (k ∷ path)) (last_name rules roots start (k ∷ path)) x None → Walks V start (ordered (k ∷ path)) (last_name rules roots start (k ∷ path)) y o → Walks V start (ordered (k ∷ path)) (last_name rules roots start (k ∷ path)) both o)
       (sides : (n : Text) → Walked (said V) (last_name rules roots start (k ∷ path)) (without_spans both) n → Walked (said V) (last_name rules roots start (k ∷ path)) (without_spans x) n ⊎ Walked (said V) (last_name rules roots start (k ∷ path)) (without_spans y) n) where
-    both_comes : (o : Option Closed) → Comes rules roots start (k ∷ path) j None → Comes rules roots start (k ∷ path) l o → Comes rules roots start (k ∷ path) i o
+    both_comes : (o : Option Closed) → WalkFinds rules roots start (k ∷ path) j None → WalkFinds rules roots start (k ∷ path) l o → WalkFinds rules roots start (k ∷ path) i o
     both_comes o c d w h = subst (λ u. Walks V start (ordered (k ∷ path)) (last_name rules roots start (k ∷ path)) u o) (one_item at h) (onward o (c x place.node) (d y other.node))
 
-    first_comes : (z : Closed) → Comes rules roots start (k ∷ path) j (Some z) → Comes rules roots start (k ∷ path) i (Some z)
+    first_comes : (z : Closed) → WalkFinds rules roots start (k ∷ path) j (Some z) → WalkFinds rules roots start (k ∷ path) i (Some z)
     first_comes z c w h = subst (λ u. Walks V start (ordered (k ∷ path)) (last_name rules roots start (k ∷ path)) u (Some z)) (one_item at h) (some_first z (c x place.node))
 
-    both_goes : (o : Option Closed) → Goes rules roots start (k ∷ path) (Visit j ∷ Visit l ∷ todo) o → Goes rules roots start (k ∷ path) (Visit i ∷ todo) o
+    both_goes : (o : Option Closed) → TasksFind rules roots start (k ∷ path) (Visit j ∷ Visit l ∷ todo) o → TasksFind rules roots start (k ∷ path) (Visit i ∷ todo) o
     both_goes None g = (both_comes None g.0 g.1.0, g.1.1)
     both_goes (Some z) (inl g) = inl (first_comes z g)
     both_goes (Some z) (inr (c, inl d)) = inl (both_comes (Some z) c d)
     both_goes (Some z) (inr (c, inr d)) = inr (both_comes None c d.0, d.1)
 
-    both_owed : (m : ℕ) → Calls rules roots start (last_name rules roots start (k ∷ path)) both m → Owes rules roots start (last_name rules roots start (k ∷ path)) (Visit j ∷ Visit l ∷ todo) m
+    both_owed : (m : ℕ) → Calls rules roots start (last_name rules roots start (k ∷ path)) both m → AwaitsCall rules roots start (last_name rules roots start (k ∷ path)) (Visit j ∷ Visit l ∷ todo) m
     both_owed m d = elim (sides d.0 d.1) [ inl w ↦ inl (x, place.node, (d.0, w, d.2)) | inr w ↦ inr (inl (y, other.node, (d.0, w, d.2))) ]
 
     pub both_sides : Search (Visit i ∷ todo) (k ∷ path) → Search (Visit j ∷ Visit l ∷ todo) (k ∷ path)

@@ -20,14 +20,14 @@ use Rattle.meta_validator.specs.Levels.{Rests, AllRest, IsSettled, AreSettled, o
 use Rattle.meta_analysis.specs.Names.{grammar_of, is_end}
 use Rattle.meta_analysis.specs.NameKinds.{kind_in, name_kind}
 use Rattle.meta_analysis.specs.Nodes.{IsSimple, all_nodes}
-use Rattle.meta_analysis.specs.Kinds.{Says, Fits, counted, repeated, wrap_of, wrap_kind, leaf_kind}
+use Rattle.meta_analysis.specs.Kinds.{Represents, Fits, counted, repeated, wrap_of, wrap_kind, leaf_kind}
 use Rattle.meta_validator.specs.Regions.{IsNodeOf, ArePassingSoFar}
 use Rattle.meta_analysis.specs.Roots.{first_of}
 use Rattle.meta_analysis.specs.KindTable.{at_root}
 use Rattle.meta_validator.specs.Walk.{without}
 use Rattle.meta_analysis.specs.declared.facts.Facts.{Facts}
 use Rattle.meta_analysis.specs.declared.kinds.Wrap.TheVariants as wraps
-use Rattle.meta_analysis.specs.declared.kind_table.Kind.{Kind}
+use Rattle.meta_analysis.specs.declared.kind_table.NodeKind.{NodeKind}
 use Rattle.meta_analysis.proofs.Answering.{Sense, absent_from, lies_at, sense_of, end_null, no_rule, same_rule}
 use Rattle.meta_analysis.proofs.LayoutLemmas.{some_size}
 use Rattle.meta_validator.proofs.NoneWalks.{in_rules}
@@ -85,7 +85,7 @@ module _ (rules : List ParserRule) (facts : Facts) (right : AreFacts rules facts
   other = without r.name (grammar_of rules)
 
   abbrev Lies : ℕ → Expression → Type 0
-  Lies i e = Says (kind_in (grammar_of rules)) facts.table.kinds.items i e
+  Lies i e = Represents (kind_in (grammar_of rules)) facts.table.kinds.items i e
 
   -- 2. what lies below the rule does not lead back to it
   down : (a b c : ℕ) → a ≤ b → b < c → a < c
@@ -168,7 +168,7 @@ module _ (rules : List ParserRule) (facts : Facts) (right : AreFacts rules facts
 
   -- 3. the answer for a node by those for its operands
   module _ (p : ℕ → Bool) where
-    abbrev Answers : Kind → Expression → Type 0
+    abbrev Answers : NodeKind → Expression → Type 0
     Answers k e = Decides (own_answer facts v p k) (IsNullable (without r.name (grammar_of rules)) e)
 
     of_call : (n : Text) (k j : ℕ) (q : Rule) → is_end n ≡ false → last_place G n ≡ Some k → rule_of G n ≡ Some q → slice_get facts.table.roots.items k ≡ Some j → Lies j q.body → IsSettled facts levels v root (name_kind false (Some k)) → Answers (name_kind false (Some k)) (Ident n)
@@ -260,7 +260,7 @@ module _ (rules : List ParserRule) (facts : Facts) (right : AreFacts rules facts
     abbrev roots : List ℕ
     roots = facts.table.roots.items
 
-    of_node : (i : ℕ) (k : Kind) (x : Spanned) → IsNodeOf rules roots v i x → Fits (kind_in G) nodes i k x → IsSettled facts levels v root k
+    of_node : (i : ℕ) (k : NodeKind) (x : Spanned) → IsNodeOf rules roots v i x → Fits (kind_in G) nodes i k x → IsSettled facts levels v root k
         → ((j : ℕ) (y : Spanned) → IsNodeOf rules roots v j y → j < i → Decides (p j) (IsNullable other (without_spans y))) → Answers k (without_spans x)
     of_node i k (Leaf s e) place fit settled inner = subst (λ z. Answers z e) (sym fit.1) (of_leaf e fit.0 (subst (λ z. IsSettled facts levels v root z) fit.1 settled))
     of_node i k (One s f x) place fit settled inner = subst (λ z. Answers z (without_spans (One s f x))) (sym fit.3)

@@ -10,7 +10,7 @@ use Rattle.std.proofs.lemmas.Option.{slice_get_within, get_or_from_slice_get, sl
 use Rattle.meta_base.specs.declared.grammar.Rule.{Rule}
 use Rattle.meta_base.specs.declared.runtime.errors.Error.{Error}
 use Rattle.meta_validator.specs.Findings.{Finding, is_before, is_level, IsSortedBySpan}
-use Rattle.meta_base.specs.Pieces.Saying.{SaysAt, Tell}
+use Rattle.meta_base.specs.Pieces.Saying.{IsErrorAt, AreErrorsFor}
 use Rattle.meta_validator.specs.Reporting.{finding_of, findings_of}
 use Rattle.meta_validator.specs.declared.findings.Finding as code
 
@@ -53,35 +53,35 @@ sorted_findings found sorted p r s = record {
     level i x (f, at, is_x) = subst (λ z. filter (is_level z) (findings_of sorted) ≡ filter (is_level z) (findings_of found)) is_x
         (filter-map (is_level (finding_of f)) finding_of sorted ∙ (ap (λ z. findings_of z) (s f) ∙ sym (filter-map (is_level (finding_of f)) finding_of found)))
 
-told_more : (fs : List Finding) (es : List (Error Rule)) → Tell fs es → (f : Finding) (e : Error Rule)
-    → SaysAt f.message f.span e → Tell (fs ++ f ∷ []) (es ++ e ∷ [])
+told_more : (fs : List Finding) (es : List (Error Rule)) → AreErrorsFor fs es → (f : Finding) (e : Error Rule)
+    → IsErrorAt f.message f.span e → AreErrorsFor (fs ++ f ∷ []) (es ++ e ∷ [])
 told_more [] [] h f e t = (t, tt)
 told_more [] (y ∷ es) h f e t = absurd h
 told_more (x ∷ fs) [] h f e t = absurd h
 told_more (x ∷ fs) (y ∷ es) h f e t = (h.0, told_more fs es h.1 f e t)
 
 -- where nothing is found, nothing is told
-pub told_nothing : (fs : List code.Finding) → (length fs == 0) ≡ true → Tell (findings_of fs) []
+pub told_nothing : (fs : List code.Finding) → (length fs == 0) ≡ true → AreErrorsFor (findings_of fs) []
 told_nothing [] e = tt
 told_nothing (f ∷ fs) e = absurd (grind (arith, nat_tests, e))
 
 -- one finding more is told
-pub told_step : (fs : List code.Finding) (i : ℕ) (f : code.Finding) (old new : List (Error Rule)) (e : Error Rule) → slice_get fs i ≡ Some f → new ≡ old ++ e ∷ [] → SaysAt (finding_of f).message (finding_of f).span e
-    → Tell (findings_of (take i fs)) old → Tell (findings_of (take (i + 1) fs)) new
+pub told_step : (fs : List code.Finding) (i : ℕ) (f : code.Finding) (old new : List (Error Rule)) (e : Error Rule) → slice_get fs i ≡ Some f → new ≡ old ++ e ∷ [] → IsErrorAt (finding_of f).message (finding_of f).span e
+    → AreErrorsFor (findings_of (take i fs)) old → AreErrorsFor (findings_of (take (i + 1) fs)) new
 told_step fs i f old new e at is_new t h =
     let taken : findings_of (take (i + 1) fs) ≡ findings_of (take i fs) ++ finding_of f ∷ []
     = ap (λ z. findings_of z) (take_more fs i f (slice_get_within fs i f at) ∙ ap (λ y. take i fs ++ y ∷ []) (get_or_from_slice_get fs i f f at)) ∙ map-append finding_of (take i fs) (f ∷ []) in
-    subst (λ z. Tell z new) (sym taken) (subst (λ z. Tell (findings_of (take i fs) ++ finding_of f ∷ []) z) (sym is_new)
+    subst (λ z. AreErrorsFor z new) (sym taken) (subst (λ z. AreErrorsFor (findings_of (take i fs) ++ finding_of f ∷ []) z) (sym is_new)
     (told_more (findings_of (take i fs)) old h (finding_of f) e t))
 
 -- where no error is told, nothing was found
-pub told_empty : (fs : List Finding) (es : List (Error Rule)) → Tell fs es → es ≡ [] → fs ≡ []
+pub told_empty : (fs : List Finding) (es : List (Error Rule)) → AreErrorsFor fs es → es ≡ [] → fs ≡ []
 told_empty [] es h e = refl
 told_empty (f ∷ fs) [] h e = absurd h
 told_empty (f ∷ fs) (x ∷ es) h e = cc
 
 -- where nothing was found, no error is told
-pub nothing_told : (fs : List Finding) (es : List (Error Rule)) → Tell fs es → fs ≡ [] → es ≡ []
+pub nothing_told : (fs : List Finding) (es : List (Error Rule)) → AreErrorsFor fs es → fs ≡ [] → es ≡ []
 nothing_told fs [] h e = refl
 nothing_told [] (x ∷ es) h e = absurd h
 nothing_told (f ∷ fs) (x ∷ es) h e = cc

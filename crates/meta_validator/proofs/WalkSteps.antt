@@ -20,7 +20,7 @@ use Rattle.meta_validator.specs.Regions.{ArePassing}
 use Rattle.meta_validator.specs.Searching.{ordered, called_in, inside_of, cost, unentered, Calls, IsKnown, IsSearch, IsGoing, IsClosing, NeverComesBack}
 use Rattle.meta_analysis.specs.declared.facts.Facts.{Facts}
 use Rattle.meta_validator.specs.declared.recursions.Walk.{Walk}
-use Rattle.meta_analysis.specs.declared.kind_table.Kind.{Kind}
+use Rattle.meta_analysis.specs.declared.kind_table.NodeKind.{NodeKind}
 use Rattle.meta_validator.specs.declared.recursions.Task.{Task}
 use Rattle.meta_validator.specs.declared.recursions.Task.TheVariants.{Visit, Leave}
 use Rattle.meta_validator.proofs.NoneWalks.{in_rules}
@@ -178,7 +178,7 @@ module _ (rules : List ParserRule) (facts : Facts) (right : AreFacts rules facts
             omega arith,
           )
 
-  pub walk_inner : (o : Option Kind) → o ≡ slice_get facts.table.kinds.items node → called_in o ≡ None → (queued : List Task) → queued ≡ old.tasks.items ++ inside_of passing o
+  pub walk_inner : (o : Option NodeKind) → o ≡ slice_get facts.table.kinds.items node → called_in o ≡ None → (queued : List Task) → queued ≡ old.tasks.items ++ inside_of passing o
       → IsGoing rules facts.table.roots.items start old.entered.all.items queued old.trail.items
       × (cost (all_nodes rules) queued + unentered old.entered.all.items (rule_views rules) < cost (all_nodes rules) (old.tasks.items ++ Visit node ∷ []) + unentered old.entered.all.items (rule_views rules))
   walk_inner o is_kind none queued pushed =

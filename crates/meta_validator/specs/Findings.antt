@@ -1,5 +1,5 @@
--- What the validator finds in rules: repetitions that never end, alternatives that are never reached, rules
--- that are skipped although they may take nothing, left recursion, and tags on what gives no token.
+-- The findings of the validator: repetitions that never end, alternatives that are never reached, skipped
+-- rules that may take nothing, left recursion, and tags on pieces that give no token.
 use Rattle.std.specs.Prelude.{◌≡◌, ℕ, ◌+◌, Some, None, slice_get, filter, not, ◌&&◌, IsPermutation, List, [], ◌∷◌, ◌++◌, map, Bool, true, false, ◌||◌, bytes_eq, codes, length}
 use Rattle.std.specs.List.{range_with_len}
 use Rattle.std.specs.Ordering.{is_lt, ordering_then, nat_cmp}
@@ -11,10 +11,10 @@ use Rattle.meta_base.specs.Language.WellFormed.{IsNullable, CannotFail, Leads}
 use Rattle.meta_spanned.specs.Erasure.{without_spans, rules_without_spans}
 use Rattle.meta_spanned.specs.Spanned.{Span, span_of, Spanned, One, Two, Unary, Rep, RepOnce, RepMin, Choice, SpannedRule}
 use Rattle.meta_analysis.specs.Nodes.{every_node}
-use Rattle.meta_validator.specs.LeftRecursion.{Closed, Means, Walks, told_trail}
+use Rattle.meta_validator.specs.LeftRecursion.{Closed, Means, Walks, trail_message}
 use Rattle.meta_validator.specs.Tags.{of_tags}
 
--- what is wrong, and where: what is to be said of a piece
+-- a finding: a message about a piece of the text
 abbrev pub Finding : Type 0
 Finding = Complaint
 
@@ -36,7 +36,7 @@ abbrev pub is_choice : Spanned → Bool
 is_choice (Two s Choice x y) = true
 is_choice _ = false
 
--- of the left side of a choice the alternative that is looked at: its last one
+-- the last alternative of the left side of a choice, of which the validator reports
 abbrev pub last_alternative : Spanned → Spanned
 last_alternative (Two s Choice x y) = y
 last_alternative x = x
@@ -44,14 +44,14 @@ last_alternative x = x
 abbrev pub is_skipped_name : Text → Bool
 is_skipped_name n = bytes_eq n (codes "WHITESPACE") || bytes_eq n (codes "COMMENT")
 
--- what is found at each of these, one after another
+-- the findings at all of these, one after another
 pub data Reports {X : Type 0} (R : X → List Finding → Type 0) : List X → List Finding → Type 0 where
   reports_none : Reports R [] []
   reports_at : {x : X} {xs : List X} {fs gs : List Finding} → R x fs → Reports R xs gs
       → Reports R (x ∷ xs) (fs ++ gs)
 
 module _ (g : Grammar) where
-  -- what is found of an expression that is repeated without end
+  -- the findings of an expression that is repeated without end
   pub data OfRepeated (subject : List ℕ) (place : Span) (e : Expression) : List Finding → Type 0 where
     never_fails : CannotFail g e
         → OfRepeated subject place e
@@ -61,14 +61,14 @@ module _ (g : Grammar) where
         (found_at place (subject ++ codes " is non-progressing and will repeat infinitely") ∷ [])
     goes_on : (IsNullable g e → ⊥) → OfRepeated subject place e []
 
-  -- what is found of a node as a repetition
+  -- the findings of a node as a repetition
   pub data OfRepetition : Spanned → List Finding → Type 0 where
     repetition : {s : Span} {f : Unary} {x : Spanned} {fs : List Finding} → is_endless f ≡ true
         → OfRepeated (codes "expression inside repetition") s (without_spans x) fs
         → OfRepetition (One s f x) fs
     no_repetition : {x : Spanned} → is_repetition x ≡ false → OfRepetition x []
 
-  -- what is found of a node as a choice
+  -- the findings of a node as a choice
   pub data OfChoice : Spanned → List Finding → Type 0 where
     unreachable : {s : Span} {x y : Spanned} → CannotFail g (without_spans (last_alternative x))
         → OfChoice (Two s Choice x y)
@@ -78,37 +78,38 @@ module _ (g : Grammar) where
         → OfChoice (Two s Choice x y) []
     no_choice : {x : Spanned} → is_choice x ≡ false → OfChoice x []
 
-  -- what is found of a rule as one that is skipped
+  -- the findings of a rule as one that is skipped
   pub data OfSkipped : SpannedRule → List Finding → Type 0 where
     skipped : {r : SpannedRule} {fs : List Finding} → is_skipped_name r.name ≡ true
         → OfRepeated (encode_utf8_all r.name) (span_of r.body) (without_spans r.body) fs → OfSkipped r fs
     not_skipped : {r : SpannedRule} → is_skipped_name r.name ≡ false → OfSkipped r []
 
 module _ (rules : List SpannedRule) where
-  -- what is found of the rule at a place as one that calls itself before anything is taken, if it is the last
-  -- of its name: the first call of it to which the walk over its body comes
+  -- the findings of the rule at an index as left-recursive, if the rule is the last of its name: the
+  -- first call of the rule to which the walk over its body comes
   pub data OfRecursion : ℕ → List Finding → Type 0 where
     recursive : {k : ℕ} {r : SpannedRule} {closed : Closed} → slice_get rules k ≡ Some r
         → Means rules r.name k → Walks rules k (k ∷ []) r.name r.body (Some closed)
-        → OfRecursion k (found_at closed.call (told_trail rules r closed) ∷ [])
+        → OfRecursion k (found_at closed.call (trail_message rules r closed) ∷ [])
     not_recursive : {k : ℕ} {r : SpannedRule} → slice_get rules k ≡ Some r
         → Means rules r.name k → Walks rules k (k ∷ []) r.name r.body None → OfRecursion k []
     hidden : {k : ℕ} {r : SpannedRule} → slice_get rules k ≡ Some r
         → (Means rules r.name k → ⊥) → OfRecursion k []
 
--- the places of the rules, in the order of the text
+-- the indices of the rules, in the order of the text
 abbrev pub places : List SpannedRule → List ℕ
 places rules = range_with_len 0 (length rules)
 
--- the first stands before the second: it starts before it, or where it does and ends before it
+-- the first finding comes before the second: its start is before, or the starts are equal and its end is
+-- before
 abbrev pub is_before : Finding → Finding → Bool
 is_before x y = is_lt (ordering_then (nat_cmp x.span.start y.span.start) (nat_cmp x.span.end y.span.end))
 
--- they start and end alike
+-- two findings start and end alike
 abbrev pub is_level : Finding → Finding → Bool
 is_level x y = not (is_before x y) && not (is_before y x)
 
--- the same findings by their places; those at one place keep their order
+-- the findings sorted by their spans; the order of findings at one span is kept
 pub record IsSortedBySpan (found sorted : List Finding) : Type 0 where
   pub same : IsPermutation found sorted
   pub rising : (i : ℕ) (x y : Finding) → slice_get sorted i ≡ Some x → slice_get sorted (i + 1) ≡ Some y
@@ -116,13 +117,13 @@ pub record IsSortedBySpan (found sorted : List Finding) : Type 0 where
   pub stable : (i : ℕ) (x : Finding) → slice_get found i ≡ Some x
       → filter (is_level x) sorted ≡ filter (is_level x) found
 
--- what is found of a repetition that never ends for another reason than what its body may take
+-- the finding of a repetition that never ends for another reason than that its body may take nothing
 abbrev pub endless_at : Span → Finding
 endless_at place =
     found_at place (codes "expression inside repetition is non-progressing and will repeat infinitely")
 
--- what is found in rules: repetitions, then those that are known to be endless, then choices, then rules that
--- are skipped, then left recursion, of which something is found exactly where left calls have a cycle; then
+-- all findings in rules: repetitions, then those that are known to be endless, then choices, then skipped
+-- rules, then left recursion, of which there is a finding exactly where left calls have a cycle; then
 -- tags
 pub record AreFound (rules : List SpannedRule) (endless : List Span) (found : List Finding) : Type 0 where
   pub repetitions : List Finding
@@ -138,7 +139,7 @@ pub record AreFound (rules : List SpannedRule) (endless : List Span) (found : Li
   pub all : found
       ≡ repetitions ++ (map endless_at endless ++ (choices ++ (skips ++ (recursions ++ of_tags rules))))
 
--- these are all that is found in rules, by place
+-- these are all findings in rules, sorted by span
 abbrev pub AreAllFound : List SpannedRule → List Span → List Finding → Type 0
 AreAllFound rules endless sorted =
     (found : List Finding) × AreFound rules endless found × IsSortedBySpan found sorted

@@ -7,6 +7,6 @@ use Rattle.meta_fixpoint.specs.Least.{is_set_at}
 abbrev pub NoneSet : List Bool → Type 0
 NoneSet flags = (k : ℕ) → is_set_at flags k ≡ false
 
--- only these are set
-abbrev pub AreNoted : List ℕ → List Bool → Type 0
-AreNoted noted flags = (k : ℕ) → (Contains noted k → ⊥) → is_set_at flags k ≡ false
+-- no other flags than these are set
+abbrev pub AreOnlySet : List ℕ → List Bool → Type 0
+AreOnlySet noted flags = (k : ℕ) → (Contains noted k → ⊥) → is_set_at flags k ≡ false

@@ -1,4 +1,5 @@
--- Left recursion, as it is sought: from the body of a rule in the order of the text, through those called.
+-- Left recursion, as the validator searches it: depth first from the body of a rule in the order of the
+-- text, and through the rules called.
 use Rattle.std.specs.Prelude.{◌≡◌, ◌⊎◌, ℕ, List, [], ◌∷◌, ◌++◌, Option, Some, None, slice_get, codes, flat_map}
 use Rattle.std.specs.List.{Contains}
 use Rattle.std.specs.Str.{encode_utf8_all}
@@ -10,7 +11,7 @@ use Rattle.meta_spanned.specs.Erasure.{without_spans, rules_without_spans}
 use Rattle.meta_spanned.specs.Spanned.{Span, Spanned, Leaf, One, Two, Unary, Binary, Seq, Choice, SpannedRule}
 use Rattle.meta_validator.specs.Walk.{without}
 
--- a call of the first rule of a trail: the places of the rules of the trail, and where the call stands
+-- a call of the first rule of a trail: the indices of the rules of the trail, and the span of the call
 pub record Closed : Type 0 where
   pub trail : List ℕ
   pub call : Span
@@ -20,7 +21,7 @@ abbrev pub IsNoName : Expression → Type 0
 IsNoName (Ident n) = ⊥
 IsNoName _ = Unit {0}
 
--- the name of a rule, if there is one, as it is written
+-- the name of a rule, if there is one, in bytes
 abbrev pub name_at : Option SpannedRule → List ℕ
 name_at None = []
 name_at (Some r) = encode_utf8_all r.name
@@ -29,11 +30,11 @@ module _ (rules : List SpannedRule) where
   abbrev pub said : Grammar
   said = rules_without_spans rules
 
-  -- a call of this name means the rule at this place, the last of the name
+  -- a call of this name means the rule at this index, the last of the name
   abbrev pub Means : Text → ℕ → Type 0
   Means n k = last_place said n ≡ Some k
 
-  -- nothing may be taken by it, a call of v counting as one that takes something
+  -- an expression may take nothing or cannot fail, where a call of v may not, and can
   abbrev pub Passes : Text → Spanned → Type 0
   Passes v x = IsNullable (without v said) (without_spans x) ⊎ CannotFail (without v said) (without_spans x)
 
@@ -65,13 +66,13 @@ module _ (rules : List SpannedRule) where
     walks_other : {c : List ℕ} {v : Text} {s : Span} {x y : Spanned} {o : Option Closed}
         → Walks start c v x None → Walks start c v y o → Walks start c v (Two s Choice x y) o
 
-  -- the names of the rules of a trail, an arrow behind each
+  -- the names of the rules of a trail, with an arrow after every name
   abbrev pub arrows : List ℕ → List ℕ
   arrows trail = flat_map (λ k. name_at (slice_get rules k) ++ codes " -> ") trail
 
-  -- what is said of a call that closes a trail: the call as it is written, and the names of the trail up to
-  -- that of its first rule again
-  abbrev pub told_trail : SpannedRule → Closed → List ℕ
-  told_trail first closed = codes "rule " ++ (written closed.call ++ (codes " is left-recursive ("
+  -- the message of a call that closes a trail: the call as it is written, and the names of the trail up
+  -- to that of the first rule again
+  abbrev pub trail_message : SpannedRule → Closed → List ℕ
+  trail_message first closed = codes "rule " ++ (written closed.call ++ (codes " is left-recursive ("
       ++ (arrows closed.trail ++ (encode_utf8_all first.name
       ++ codes "); pest::pratt_parser might be useful in this case"))))

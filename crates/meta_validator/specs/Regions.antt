@@ -1,4 +1,4 @@
--- Which nodes are those of a rule's body.
+-- The range of nodes of a rule's body in the node table.
 use Rattle.std.specs.Prelude.{◌≡◌, ℕ, ◌+◌, ◌<◌, ◌≤◌, List, Bool, Some, length, slice_get}
 use Rattle.std.specs.Bool.{Decides}
 use Rattle.meta_base.specs.Language.WellFormed.{IsNullable}
@@ -12,14 +12,14 @@ use Rattle.meta_analysis.specs.Nodes.{size, all_nodes}
 use Rattle.meta_analysis.specs.Roots.{root_of, first_of}
 use Rattle.meta_validator.specs.Walk.{without}
 
--- the node of this number is one of the body of the rule at k, with all that is inside it
+-- the node of this number, with all that is inside it, is one of the body of the rule at k
 pub record IsNodeOf (rules : List ParserRule) (roots : List ℕ) (k i : ℕ) (x : Spanned) : Type 0 where
   pub node : slice_get (all_nodes rules) i ≡ Some x
   pub first : first_of roots k + size x ≤ i + 1
   pub last : i ≤ root_of roots k
 
--- flags for the nodes of the rule at k, if it is the last of its name: what may take nothing where a call of
--- that rule counts as one that takes something
+-- the flags of the nodes of the rule at k, if it is the last of its name, say which of them may take
+-- nothing where a call of that rule takes something
 abbrev pub ArePassingAt : List ParserRule → List ℕ → List Bool → ℕ → Type 0
 ArePassingAt rules roots flags k = (i : ℕ) (r : SpannedRule) (x : Spanned)
     → slice_get (rule_views rules) k ≡ Some r → Means (rule_views rules) r.name k → IsNodeOf rules roots k i x

@@ -1,4 +1,4 @@
--- What is reported, by the facts.
+-- Findings, computed from the facts.
 use Rattle.std.specs.Prelude.{◌≡◌, ℕ, List, [], ◌∷◌, ◌++◌, map, Option, Some, None, if◌then◌else◌, slice_get, string_bytes, codes}
 use Rattle.meta_ast.specs.Ast.{text_of}
 use Rattle.meta_spanned.specs.Nodes.{piece_of}
@@ -10,10 +10,10 @@ use Rattle.meta_validator.specs.Findings.{Finding, found_at, is_skipped_name}
 use Rattle.meta_analysis.specs.Nodes.{all_nodes}
 use Rattle.meta_analysis.specs.declared.facts.Facts.{Facts}
 use Rattle.meta_validator.specs.declared.findings.Finding as code
-use Rattle.meta_analysis.specs.declared.kind_table.Kind.{Kind}
-use Rattle.meta_analysis.specs.declared.kind_table.Kind.TheVariants as is
+use Rattle.meta_analysis.specs.declared.kind_table.NodeKind.{NodeKind}
+use Rattle.meta_analysis.specs.declared.kind_table.NodeKind.TheVariants as is
 
--- what a finding of code says
+-- the finding that one of code denotes
 abbrev pub finding_of : code.Finding → Finding
 finding_of f = found_at (piece_of f.span) (string_bytes f.message)
 
@@ -24,7 +24,7 @@ findings_of fs = map finding_of fs
 abbrev pub AreSpans : List ParserRule → List code_span.Span → Type 0
 AreSpans rules spans = map piece_of spans ≡ map span_of (all_nodes rules)
 
--- of what is repeated without end
+-- of an expression that is repeated without end
 abbrev pub repeated_at : Facts → List ℕ → Span → ℕ → List Finding
 repeated_at facts subject place j =
     if is_set_at facts.certain.items j
@@ -34,7 +34,7 @@ repeated_at facts subject place j =
     else []
 
 -- of a node as a repetition
-abbrev pub repetition_at : Facts → Span → Option Kind → List Finding
+abbrev pub repetition_at : Facts → Span → Option NodeKind → List Finding
 repetition_at facts place (Some (is.Again j)) =
     repeated_at facts (codes "expression inside repetition") place j
 repetition_at facts place (Some (is.OnceAgain j)) =
@@ -42,11 +42,11 @@ repetition_at facts place (Some (is.OnceAgain j)) =
 repetition_at facts place _ = []
 
 -- the last alternative of the node j, if it is a choice, or else j
-abbrev pub alternative_of : Option Kind → ℕ → ℕ
+abbrev pub alternative_of : Option NodeKind → ℕ → ℕ
 alternative_of (Some (is.Choice a b)) j = b
 alternative_of _ j = j
 
--- of an alternative with others behind it
+-- of an alternative with others after it
 abbrev pub alternative_at : Facts → ℕ → Option code_span.Span → List Finding
 alternative_at facts a None = []
 alternative_at facts a (Some s) =
@@ -58,7 +58,7 @@ abbrev pub unreachable_at : Facts → List code_span.Span → ℕ → List Findi
 unreachable_at facts spans a = alternative_at facts a (slice_get spans a)
 
 -- of a node as a choice
-abbrev pub choice_at : Facts → List code_span.Span → Option Kind → List Finding
+abbrev pub choice_at : Facts → List code_span.Span → Option NodeKind → List Finding
 choice_at facts spans (Some (is.Choice j k)) =
     unreachable_at facts spans (alternative_of (slice_get facts.table.kinds.items j) j)
 choice_at facts spans _ = []

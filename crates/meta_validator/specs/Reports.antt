@@ -1,4 +1,4 @@
--- What the validator reports of repetitions, skipped rules and recursion.
+-- The validator's reports of repetitions, skipped rules and recursion.
 use Rattle.std.specs.Prelude.{◌≡◌, ◌⊎◌, ℕ, Some}
 use Rattle.meta_base.specs.Language.Text.{Text}
 use Rattle.meta_base.specs.Language.Expression.{Expression, Rep, RepOnce, RepMin, Rule, Grammar, rule_of}

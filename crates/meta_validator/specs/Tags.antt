@@ -1,4 +1,4 @@
--- What is found of tags: those on what gives no token.
+-- Findings of tags on pieces that give no token.
 use Rattle.std.specs.Prelude.{ℕ, List, [], ◌∷◌, Option, Some, None, Bool, true, false, codes, flat_map}
 use Rattle.meta_base.specs.Language.Text.{Text}
 use Rattle.meta_base.specs.Language.Expression.{Expression, Ident, RuleType, Silent, Rule, Grammar, rule_of}
@@ -12,7 +12,7 @@ abbrev pub name_of : Expression → Option Text
 name_of (Ident n) = Some n
 name_of _ = None
 
--- the name that a node is, within what stands round it; but nothing is sought within another tag
+-- the name in a node, if the node is a name inside operators; inside another tag no name counts
 abbrev pub name_within : Spanned → Option Text
 name_within (Leaf s e) = name_of e
 name_within (One s (Tag t) x) = None
@@ -23,7 +23,7 @@ abbrev pub of_type : RuleType → Option (List ℕ)
 of_type Silent = Some (codes "tags on silent rules will not appear in the output")
 of_type _ = None
 
--- what is wrong with a tag on what a name means: a rule, or else a builtin
+-- the message of a tag on a name that means a rule, or else a builtin
 abbrev pub of_meant : Option Rule → Bool → Option (List ℕ)
 of_meant (Some r) builtin = of_type r.type_of
 of_meant None true = Some (codes "tags on built-in rules will not appear in the output")
@@ -38,18 +38,18 @@ module _ (g : Grammar) where
   of_name None = None
   of_name (Some n) = of_meant (rule_of g n) (is_builtin n)
 
-  -- what is wrong with a node as a tag
+  -- the message of a node as a tag
   abbrev pub message_at : Spanned → Option (List ℕ)
   message_at (One s (Tag t) x) = of_name (name_within x)
   message_at _ = None
 
-  -- what is found of a node, and in a body, in the order of the text
+  -- the findings of a node, and those in a body, in the order of the text
   abbrev pub of_tag : Spanned → List Complaint
   of_tag x = told_at (span_of x) (message_at x)
 
   abbrev pub of_tags_in : Spanned → List Complaint
   of_tags_in body = flat_map of_tag (preorder body)
 
--- what is found of all tags
+-- the findings of all tags
 abbrev pub of_tags : List SpannedRule → List Complaint
 of_tags rules = flat_map (λ r. of_tags_in (rules_without_spans rules) r.body) rules

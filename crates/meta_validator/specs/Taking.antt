@@ -1,20 +1,20 @@
--- What may take nothing is not repeated, and not skipped.
+-- Repetitions and skipped rules take something.
 use Rattle.std.specs.Prelude.{◌≡◌, ℕ, List, Some, true, false, ⊤, slice_get}
 use Rattle.meta_ast.specs.Ast.{text_of}
 use Rattle.meta_spanned.specs.declared.node.ParserRule.{ParserRule}
 use Rattle.meta_fixpoint.specs.Least.{is_set_at}
 use Rattle.meta_validator.specs.Findings.{is_skipped_name}
-use Rattle.meta_analysis.specs.declared.kind_table.Kind.{Kind}
-use Rattle.meta_analysis.specs.declared.kind_table.Kind.TheVariants as is
+use Rattle.meta_analysis.specs.declared.kind_table.NodeKind.{NodeKind}
+use Rattle.meta_analysis.specs.declared.kind_table.NodeKind.TheVariants as is
 use Rattle.meta_analysis.specs.declared.facts.Facts.{Facts}
 
-abbrev pub RepeatedTakes : Facts → Kind → Type 0
+abbrev pub RepeatedTakes : Facts → NodeKind → Type 0
 RepeatedTakes facts (is.Again j) = is_set_at facts.nullable.items j ≡ false
 RepeatedTakes facts (is.OnceAgain j) = is_set_at facts.nullable.items j ≡ false
 RepeatedTakes facts _ = ⊤
 
 abbrev pub AllRepeatedTake : Facts → Type 0
-AllRepeatedTake facts = (i : ℕ) (k : Kind) → slice_get facts.table.kinds.items i ≡ Some k
+AllRepeatedTake facts = (i : ℕ) (k : NodeKind) → slice_get facts.table.kinds.items i ≡ Some k
     → RepeatedTakes facts k
 
 abbrev pub SkippedTake : List ParserRule → Facts → Type 0

@@ -1,4 +1,4 @@
--- Left recursion, as it is sought.
+-- Left recursion as a relation between names.
 use Rattle.std.specs.Prelude.{◌≡◌, ◌⊎◌, ℕ, [], ◌∷◌, Some, bytes_eq, if◌then◌else◌}
 use Rattle.meta_base.specs.Language.Text.{Text}
 use Rattle.meta_base.specs.Language.Expression.{Expression, Ident, PosPred, NegPred, Seq, Choice, Opt, Rep, RepOnce, RepExact, RepMin, RepMax, RepMinMax, Push, RestoreOnErr, Rule, Grammar, rule_of, NodeTag}
@@ -32,7 +32,7 @@ module _ (g : Grammar) (v : Text) where
     w_tag : {e : Expression} {n t : Text} → Walked e n → Walked (NodeTag e t) n
     w_restore : {e : Expression} {n : Text} → Walked e n → Walked (RestoreOnErr e) n
 
--- the walk from n comes to k, at once or by way of others
+-- the walk from n comes to k, directly or by way of others
 pub data WalkLeads (g : Grammar) : Text → Text → Type 0 where
   w_at_once : {n k : Text} {r : Rule} → rule_of g n ≡ Some r → Walked g n r.body k → WalkLeads g n k
   w_by_way : {n j k : Text} → WalkLeads g n j → WalkLeads g j k → WalkLeads g n k

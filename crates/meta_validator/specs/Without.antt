@@ -1,12 +1,12 @@
 -- A table where calls of a rule count as neither.
 use Rattle.std.specs.Prelude.{◌≡◌, ℕ, List, Bool, map, nat_eq, if◌then◌else◌}
 use Rattle.meta_analysis.specs.RightAnswers.{AreSound, AreClosed}
-use Rattle.meta_analysis.specs.declared.kind_table.Kind.{Kind}
-use Rattle.meta_analysis.specs.declared.kind_table.Kind.TheVariants as is
+use Rattle.meta_analysis.specs.declared.kind_table.NodeKind.{NodeKind}
+use Rattle.meta_analysis.specs.declared.kind_table.NodeKind.TheVariants as is
 use Rattle.meta_analysis.specs.declared.kind_table.Question.TheVariants as asks
 use Rattle.meta_analysis.specs.declared.kind_table.KindTable.{KindTable}
 
-abbrev pub without_kind : ℕ → Kind → Kind
+abbrev pub without_kind : ℕ → NodeKind → NodeKind
 without_kind r (is.Call n) = if nat_eq n r then is.Taking else is.Call n
 without_kind r (is.EndCall n) = if nat_eq n r then is.End else is.EndCall n
 without_kind r k = k

@@ -1,7 +1,7 @@
-//! Whether some rule calls itself before anything is taken, in one pass: the nodes are ordered by a search
-//! in depth, and the order is then looked over node by node. Only what is looked over counts: where each
-//! left call leads down, none comes back. Where one does come back, levels in place of the order tell which
-//! rules none comes back to: no left call leads to a higher level, and those of such a rule lead to lower
+//! Reports whether some rule is left-recursive, by a topological order of the left calls. A depth-first
+//! search numbers the nodes, and a linear pass checks the numbers as a certificate: where every left call
+//! leads to a lower number, no cycle exists. Where a cycle exists, levels in place of the order decide
+//! which rules are on none: no left call leads to a higher level, and those of such a rule lead to lower
 //! ones.
 ghost use Rattle.std.specs.Prelude.{◌≡◌, ◌<◌, ◌≤◌, ◌+◌, ◌*◌, IfOk, OnOk, length, true};
 ghost use Rattle.meta_base.specs.Language.Text.{Text};
@@ -11,63 +11,67 @@ ghost use Rattle.meta_analysis.specs.Facts.{AreFacts};
 ghost use Rattle.meta_analysis.specs.Names.{grammar_of};
 ghost use Rattle.meta_validator.specs.Cycles.{AllFall, Falls, FallsFrom, IsBelowRoot, NoneRises, rank_at};
 
-use meta_analysis::{Facts, Kind};
+use meta_analysis::{Facts, NodeKind};
 use meta_fixpoint::is_set;
 use meta_spanned::ParserRule;
 use std::alloc::{AllocError, Global};
 
-/// What is to be done with a node.
+/// A step of the depth-first search.
 #[derive(Clone, Copy)]
-pub enum Step {
+pub enum SearchStep {
     Enter(usize),
     Leave(usize),
 }
 
-fn enter_root(facts: &Facts, steps: &mut Vec<Step>, rule: usize) -> Result<(), AllocError>
+fn enter_root(facts: &Facts, steps: &mut Vec<SearchStep>, rule: usize) -> Result<(), AllocError>
     ensures { OnOk result (steps.new.len ≤ steps.old.len + 1) }
 {
     if let Some(root) = facts.table.roots.get(rule) {
-        steps.push(Step::Enter(*root))?;
+        steps.push(SearchStep::Enter(*root))?;
     }
     Ok(())
 }
 
-/// Puts the nodes to which a node's left calls lead at once on the list of steps.
-fn enter_operands(facts: &Facts, steps: &mut Vec<Step>, kind: Kind) -> Result<(), AllocError>
+/// Pushes the nodes to which a node's left calls lead directly on the worklist.
+fn enter_operands(
+    facts: &Facts,
+    steps: &mut Vec<SearchStep>,
+    kind: NodeKind,
+) -> Result<(), AllocError>
     ensures { OnOk result (steps.new.len ≤ steps.old.len + 2) }
 {
     match kind {
-        Kind::Taking | Kind::Still | Kind::End => Ok(()),
-        Kind::Call(rule) | Kind::EndCall(rule) => enter_root(facts, steps, rule),
-        Kind::Ahead(body)
-        | Kind::NotAhead(body)
-        | Kind::Free(body)
-        | Kind::Inside(body)
-        | Kind::Again(body)
-        | Kind::OnceAgain(body) => {
-            steps.push(Step::Enter(body))?;
+        NodeKind::Taking | NodeKind::Still | NodeKind::End => Ok(()),
+        NodeKind::Call(rule) | NodeKind::EndCall(rule) => enter_root(facts, steps, rule),
+        NodeKind::Ahead(body)
+        | NodeKind::NotAhead(body)
+        | NodeKind::Free(body)
+        | NodeKind::Inside(body)
+        | NodeKind::Again(body)
+        | NodeKind::OnceAgain(body) => {
+            steps.push(SearchStep::Enter(body))?;
             Ok(())
         }
-        Kind::Seq(first, second) => {
-            steps.push(Step::Enter(first))?;
+        NodeKind::Seq(first, second) => {
+            steps.push(SearchStep::Enter(first))?;
             if is_set(facts.nullable.as_slice(), first) {
-                steps.push(Step::Enter(second))?;
+                steps.push(SearchStep::Enter(second))?;
             }
             Ok(())
         }
-        Kind::Choice(first, second) => {
-            steps.push(Step::Enter(first))?;
-            steps.push(Step::Enter(second))?;
+        NodeKind::Choice(first, second) => {
+            steps.push(SearchStep::Enter(first))?;
+            steps.push(SearchStep::Enter(second))?;
             Ok(())
         }
     }
 }
 
-/// Enters a node that was not seen.
+/// Enters a node that was not seen yet.
 fn enter(
     facts: &Facts,
     seen: &mut Vec<bool>,
-    steps: &mut Vec<Step>,
+    steps: &mut Vec<SearchStep>,
     node: usize,
 ) -> Result<(), AllocError>
     ensures fewer { OnOk result (4 * unset seen.new.items + length steps.new.items
@@ -80,18 +84,18 @@ fn enter(
         return Ok(());
     }
     seen[node] = true;
-    steps.push(Step::Leave(node))?;
+    steps.push(SearchStep::Leave(node))?;
     enter_operands(facts, steps, facts.table.kinds[node])?;
     Ok(())
 }
 
-/// A search in depth, under way.
+/// The state of a depth-first search.
 #[derive(Drop)]
 struct Search {
-    /// A number for each node that was left: one that was left later has a greater one.
+    /// The number of a node, greater for a node that was left later.
     order: Vec<usize>,
     seen: Vec<bool>,
-    steps: Vec<Step>,
+    steps: Vec<SearchStep>,
     /// The number of the node that is left next.
     clock: usize,
 }
@@ -109,18 +113,18 @@ fn leave(search: &mut Search, node: usize)
 
 /// Searches from a node.
 fn search_from(facts: &Facts, search: &mut Search, node: usize) -> Result<(), AllocError> {
-    search.steps.push(Step::Enter(node))?;
+    search.steps.push(SearchStep::Enter(node))?;
     while let Some(step) = search.steps.pop() {
         match step {
-            Step::Enter(node) => enter(facts, &mut search.seen, &mut search.steps, node)?,
-            Step::Leave(node) => leave(search, node),
+            SearchStep::Enter(node) => enter(facts, &mut search.seen, &mut search.steps, node)?,
+            SearchStep::Leave(node) => leave(search, node),
         }
     }
     Ok(())
 }
 
-/// A number for each node: a node that was left later has a greater one.
-fn ordered(alloc: Global, facts: &Facts) -> Result<Vec<usize>, AllocError> {
+/// Numbers all nodes in the order in which a depth-first search leaves them.
+fn number_nodes(alloc: Global, facts: &Facts) -> Result<Vec<usize>, AllocError> {
     let mut search = Search {
         order: vec![in alloc; 0; facts.table.kinds.len()]?,
         seen: vec![in alloc; false; facts.table.kinds.len()]?,
@@ -133,7 +137,7 @@ fn ordered(alloc: Global, facts: &Facts) -> Result<Vec<usize>, AllocError> {
     Ok(search.order)
 }
 
-/// The number of a node.
+/// Returns the number of a node.
 pub(crate) fn number_at(order: &[usize], node: usize) -> usize
     ensures { result ≡ rank_at order.now node }
 {
@@ -158,29 +162,29 @@ fn is_root_below(facts: &Facts, order: &[usize], rule: usize, bound: usize) -> b
     }
 }
 
-/// Whether the nodes to which the left calls of such a node lead at once have numbers below a bound.
-fn falls(facts: &Facts, order: &[usize], bound: usize, kind: Kind) -> bool
+/// Reports whether the left calls of such a node lead directly to nodes with numbers below a bound.
+fn falls(facts: &Facts, order: &[usize], bound: usize, kind: NodeKind) -> bool
     ensures { result ≡ true → Falls facts.now order.now bound kind }
 {
     match kind {
-        Kind::Taking | Kind::Still | Kind::End => true,
-        Kind::Call(rule) | Kind::EndCall(rule) => is_root_below(facts, order, rule, bound),
-        Kind::Ahead(body)
-        | Kind::NotAhead(body)
-        | Kind::Free(body)
-        | Kind::Inside(body)
-        | Kind::Again(body)
-        | Kind::OnceAgain(body) => is_below(order, body, bound),
-        Kind::Seq(first, second) => {
+        NodeKind::Taking | NodeKind::Still | NodeKind::End => true,
+        NodeKind::Call(rule) | NodeKind::EndCall(rule) => is_root_below(facts, order, rule, bound),
+        NodeKind::Ahead(body)
+        | NodeKind::NotAhead(body)
+        | NodeKind::Free(body)
+        | NodeKind::Inside(body)
+        | NodeKind::Again(body)
+        | NodeKind::OnceAgain(body) => is_below(order, body, bound),
+        NodeKind::Seq(first, second) => {
             is_below(order, first, bound)
                 && (!is_set(facts.nullable.as_slice(), first) || is_below(order, second, bound))
         }
-        Kind::Choice(first, second) => is_below(order, first, bound)
+        NodeKind::Choice(first, second) => is_below(order, first, bound)
             && is_below(order, second, bound),
     }
 }
 
-/// Whether every left call leads down.
+/// Reports whether every left call leads to a lower number.
 fn all_fall(facts: &Facts, order: &[usize]) -> bool
     ensures { result ≡ true → AllFall facts.now order.now }
 {
@@ -193,8 +197,8 @@ fn all_fall(facts: &Facts, order: &[usize]) -> bool
     true
 }
 
-/// Whether the nodes to which a node's left calls lead at once have no higher levels.
-fn stays(facts: &Facts, levels: &[usize], node: usize, kind: Kind) -> bool
+/// Reports whether the left calls of a node lead directly to nodes with no higher levels.
+fn stays(facts: &Facts, levels: &[usize], node: usize, kind: NodeKind) -> bool
     ensures { result ≡ true → Falls facts.now levels.now (rank_at levels.now node + 1) kind }
 {
     match number_at(levels, node).checked_add(1) {
@@ -203,7 +207,7 @@ fn stays(facts: &Facts, levels: &[usize], node: usize, kind: Kind) -> bool
     }
 }
 
-/// Whether no left call leads to a higher level.
+/// Reports whether no left call leads to a higher level.
 pub(crate) fn none_rises(facts: &Facts, levels: &[usize]) -> bool
     ensures { result ≡ true → NoneRises facts.now levels.now }
 {
@@ -215,7 +219,8 @@ pub(crate) fn none_rises(facts: &Facts, levels: &[usize]) -> bool
     true
 }
 
-/// Whether the left calls of the body of a rule lead to lower levels, so that none comes back to it.
+/// Reports whether the left calls of the body of a rule lead to lower levels, so that none returns to the
+/// rule.
 pub(crate) fn falls_from(facts: &Facts, levels: &[usize], rule: usize) -> bool
     ensures { result ≡ true → FallsFrom facts.now levels.now rule }
 {
@@ -228,7 +233,7 @@ pub(crate) fn falls_from(facts: &Facts, levels: &[usize], rule: usize) -> bool
     }
 }
 
-/// Whether no rule calls itself before anything is taken; a yes is certain.
+/// Reports whether no rule is left-recursive; yes is definite.
 pub(crate) fn has_no_cycle<'i>(
     alloc: Global,
     rules: &[ParserRule<'i>],
@@ -237,7 +242,7 @@ pub(crate) fn has_no_cycle<'i>(
     requires { AreFacts rules.now facts.now }
     ensures { IfOk result (λ yes. yes ≡ true → (n : Text) → Leads (grammar_of rules.now) n n → ⊥) }
 {
-    let order = ordered(alloc, facts)?;
+    let order = number_nodes(alloc, facts)?;
     let falls = all_fall(facts, order.as_slice());
     Ok(falls)
 }

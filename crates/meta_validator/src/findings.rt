@@ -1,5 +1,5 @@
-//! What is wrong with rules besides left recursion: repetitions that never end, alternatives that are never
-//! reached, and rules that are skipped although they may take nothing.
+//! Findings besides left recursion: repetitions that never end, alternatives that are never reached, and
+//! skipped rules that may take nothing.
 ghost use Rattle.std.specs.Prelude.{◌≡◌, ◌++◌, ◌∷◌, [], IfOk, OnOk, map, string_bytes, slice_get, List, Option};
 ghost use Rattle.meta_spanned.specs.Nodes.{piece_of, rule_views};
 ghost use Rattle.meta_analysis.specs.Facts.{AreFacts};
@@ -10,21 +10,21 @@ ghost use Rattle.meta_analysis.specs.Nodes.{all_nodes};
 ghost use Rattle.meta_analysis.specs.Roots.{IsTabled};
 ghost use Rattle.meta_validator.specs.Reporting.{findings_of, AreSpans, repeated_at, repetition_at, alternative_of, unreachable_at, choice_at, skipped_at};
 
-use meta_analysis::{Facts, Kind, Table, is_literal};
+use meta_analysis::{Facts, NodeKind, Table, is_literal};
 use meta_base::runtime::Span;
 use meta_fixpoint::is_set;
 use meta_spanned::ParserRule;
 use std::alloc::{AllocError, Global};
 
-/// What is wrong, and where.
+/// A finding in rules, with its message and its span.
 #[derive(Drop)]
 pub struct Finding<'i> {
     pub message: String,
     pub span: Span<'i>,
 }
 
-/// One text of two.
-pub(crate) fn joined(alloc: Global, first: &str, second: &str) -> Result<String, AllocError>
+/// Concatenates two texts.
+pub(crate) fn concatenate(alloc: Global, first: &str, second: &str) -> Result<String, AllocError>
     ensures { IfOk result (λ text. string_bytes text ≡ first.now ++ second.now) }
 {
     let mut text = String::from_str(alloc, first)?;
@@ -32,7 +32,7 @@ pub(crate) fn joined(alloc: Global, first: &str, second: &str) -> Result<String,
     Ok(text)
 }
 
-/// Adds a finding, whose message is that of the subject and what is said of it.
+/// Adds a finding, whose message is the subject and the text `said` after it.
 fn add<'i>(
     alloc: Global,
     subject: &str,
@@ -43,26 +43,26 @@ fn add<'i>(
     ensures { OnOk result (findings_of found.new.items
         ≡ findings_of found.old.items ++ found_at (piece_of span.entry) (subject.now ++ said.now) ∷ []) }
 {
-    let message = joined(alloc, subject, said)?;
+    let message = concatenate(alloc, subject, said)?;
     found.push(Finding { message, span })?;
     Ok(())
 }
 
-/// What the node of a number does, if there is one.
-pub(crate) fn kind_of_node(facts: &Facts, node: usize) -> Option<Kind>
+/// Returns the kind of the node of a number, if there is one.
+pub(crate) fn kind_of_node(facts: &Facts, node: usize) -> Option<NodeKind>
     ensures { result ≡ slice_get facts.now.table.kinds.items node }
 {
     facts.table.kinds.get(node).copied()
 }
 
-/// The number of a rule's body, if there is one.
+/// Returns the number of a rule's body, if there is one.
 fn root_of_rule(facts: &Facts, rule: usize) -> Option<usize>
     ensures { result ≡ slice_get facts.now.table.roots.items rule }
 {
     facts.table.roots.get(rule).copied()
 }
 
-/// Adds what is found of a body that is repeated without end.
+/// Adds the findings of a body that is repeated without end.
 fn report_repeated<'i>(
     alloc: Global,
     facts: &Facts,
@@ -94,20 +94,20 @@ fn report_repeated<'i>(
     Ok(())
 }
 
-/// Adds what is found of a node as a repetition.
+/// Adds the findings of a node as a repetition.
 fn report_repetition<'i>(
     alloc: Global,
     facts: &Facts,
     span: Span<'i>,
-    kind: Option<Kind>,
+    kind: Option<NodeKind>,
     found: &mut Vec<Finding<'i>>,
 ) -> Result<(), AllocError>
     ensures { OnOk result (findings_of found.new.items
         ≡ findings_of found.old.items ++ repetition_at facts.now (piece_of span.entry) kind) }
 {
     let body = match kind {
-        Some(Kind::Again(body)) => body,
-        Some(Kind::OnceAgain(body)) => body,
+        Some(NodeKind::Again(body)) => body,
+        Some(NodeKind::OnceAgain(body)) => body,
         _ => return Ok(()),
     };
     report_repeated(
@@ -121,7 +121,7 @@ fn report_repetition<'i>(
     Ok(())
 }
 
-/// The spans of all nodes, each behind those inside it.
+/// Collects the spans of all nodes in the order of the node table.
 pub(crate) fn spans_of<'i>(
     alloc: Global,
     table: &Table<'_, 'i>,
@@ -136,7 +136,7 @@ pub(crate) fn spans_of<'i>(
     Ok(spans)
 }
 
-/// What is found of all nodes as repetitions.
+/// Collects the findings of all nodes as repetitions.
 pub(crate) fn repetitions<'i>(
     alloc: Global,
     rules: &[ParserRule<'i>],
@@ -161,7 +161,7 @@ pub(crate) fn repetitions<'i>(
     Ok(found)
 }
 
-/// Adds what is found of an alternative with others behind it.
+/// Adds the findings of an alternative with others after it.
 fn report_alternative<'i>(
     alloc: Global,
     facts: &Facts,
@@ -187,34 +187,34 @@ fn report_alternative<'i>(
     Ok(())
 }
 
-/// The last alternative of a node that is a choice, or else the node.
+/// Returns the last alternative of a node that is a choice, or else the node.
 fn last_alternative(facts: &Facts, node: usize) -> usize
     ensures { result ≡ alternative_of (slice_get facts.now.table.kinds.items node) node }
 {
     match facts.table.kinds.get(node) {
-        Some(Kind::Choice(_, last)) => *last,
+        Some(NodeKind::Choice(_, last)) => *last,
         _ => node,
     }
 }
 
-/// Adds what is found of a node as a choice.
+/// Adds the findings of a node as a choice.
 fn report_choice<'i>(
     alloc: Global,
     facts: &Facts,
     spans: &[Span<'i>],
-    kind: Option<Kind>,
+    kind: Option<NodeKind>,
     found: &mut Vec<Finding<'i>>,
 ) -> Result<(), AllocError>
     ensures { OnOk result (findings_of found.new.items
         ≡ findings_of found.old.items ++ choice_at facts.now spans.now kind) }
 {
-    if let Some(Kind::Choice(first, _)) = kind {
+    if let Some(NodeKind::Choice(first, _)) = kind {
         report_alternative(alloc, facts, spans, last_alternative(facts, first), found)?;
     }
     Ok(())
 }
 
-/// What is found of all nodes as choices.
+/// Collects the findings of all nodes as choices.
 pub(crate) fn choices<'i>(
     alloc: Global,
     rules: &[ParserRule<'i>],
@@ -233,7 +233,7 @@ pub(crate) fn choices<'i>(
     Ok(found)
 }
 
-/// Adds what is found of a rule as one that is skipped.
+/// Adds the findings of a rule as one that is skipped.
 fn report_skipped<'i>(
     alloc: Global,
     facts: &Facts,
@@ -259,7 +259,7 @@ fn report_skipped<'i>(
     Ok(())
 }
 
-/// What is found of all rules as those that are skipped.
+/// Collects the findings of all rules as those that are skipped.
 pub(crate) fn skips<'i>(
     alloc: Global,
     rules: &[ParserRule<'i>],

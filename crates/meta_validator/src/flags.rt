@@ -1,7 +1,7 @@
-//! Flags that are set one by one, and unset together in the time that it takes to unset those that were set.
+//! A sparse set of flags: unsetting all of them takes time by how many were set.
 ghost use Rattle.std.specs.Prelude.{◌≡◌, ◌<◌, IfOk, OnOk, length, slice_set, true};
 ghost use Rattle.meta_fixpoint.specs.Least.{is_set_at};
-ghost use Rattle.meta_validator.specs.Flags.{AreNoted, NoneSet};
+ghost use Rattle.meta_validator.specs.Flags.{AreOnlySet, NoneSet};
 
 use meta_fixpoint::is_set;
 use std::alloc::{AllocError, Global};
@@ -10,13 +10,13 @@ use std::alloc::{AllocError, Global};
 #[derive(Drop)]
 pub struct Flags {
     pub all: Vec<bool>,
-    noted: Vec<usize>,
-    pub ghost known: { AreNoted noted.items all.items },
+    members: Vec<usize>,
+    pub ghost known: { AreOnlySet members.items all.items },
 }
 
 /// Unsets these flags, outside which none is set.
 fn unset(all: &mut [bool], noted: &[usize])
-    requires known { AreNoted noted.now all.old }
+    requires known { AreOnlySet noted.now all.old }
     ensures none { NoneSet all.new }
     ensures long { length all.new ≡ length all.old }
 {
@@ -28,7 +28,7 @@ fn unset(all: &mut [bool], noted: &[usize])
 }
 
 impl Flags {
-    /// So many flags, of which none is set.
+    /// Makes as many flags, none of which is set.
     pub(crate) fn new(alloc: Global, count: usize) -> Result<Flags, AllocError>
         ensures long { IfOk result (λ flags. length flags.all.items ≡ count) }
         ensures none { IfOk result (λ flags. NoneSet flags.all.items) }
@@ -36,11 +36,11 @@ impl Flags {
         let all = vec![in alloc; false; count]?;
         Ok(Flags {
             all,
-            noted: Vec::new(alloc),
+            members: Vec::new(alloc),
         })
     }
 
-    /// Whether a flag is set.
+    /// Reports whether a flag is set.
     pub(crate) fn is_set(&self, place: usize) -> bool
         ensures { result ≡ is_set_at self.now.all.items place }
     {
@@ -52,7 +52,7 @@ impl Flags {
         requires { place < self.old.all.len }
         ensures { OnOk result (self.new.all.items ≡ slice_set self.old.all.items place true) }
     {
-        self.noted.push(place)?;
+        self.members.push(place)?;
         self.all[place] = true;
         Ok(())
     }
@@ -62,7 +62,7 @@ impl Flags {
         ensures none { NoneSet self.new.all.items }
         ensures long { length self.new.all.items ≡ length self.old.all.items }
     {
-        unset(&mut self.all, &self.noted);
-        self.noted.clear();
+        unset(&mut self.all, &self.members);
+        self.members.clear();
     }
 }

@@ -1,75 +1,75 @@
-//! A level for each node: none has a lower one than those on which it depends whether the node may take
-//! nothing, or than those to which its left calls lead. Nodes that lead to one another have one level. The
-//! levels are found by a search in depth and then looked over node by node; only what is looked over counts.
+//! Levels of nodes: the strongly connected components of a relation between nodes, by Tarjan's algorithm.
+//! A node's level is at least those of the nodes to which it leads, and nodes that lead to each other
+//! share one. A linear pass checks the levels as a certificate.
 ghost use Rattle.std.specs.Prelude.{◌≡◌, ◌≤◌, ◌+◌, ◌*◌, IfOk, OnOk, length, true};
 ghost use Rattle.meta_fixpoint.specs.Least.{unset};
 ghost use Rattle.meta_validator.specs.Cycles.{NoneRises, rank_at};
 ghost use Rattle.meta_validator.specs.Levels.{AllRest, IsRootWithin, Rests};
 
-use crate::cycles::{Step, none_rises, number_at};
-use meta_analysis::{Facts, Kind, listened_to};
+use crate::cycles::{SearchStep, none_rises, number_at};
+use meta_analysis::{Facts, NodeKind, dependencies_of};
 use meta_fixpoint::is_set;
 use std::alloc::{AllocError, Global};
 
-/// The nodes on which it depends whether a node may take nothing, two at most. A call of a rule that takes
-/// something leads nowhere.
-fn rested_on(facts: &Facts, kind: Kind) -> (Option<usize>, Option<usize>) {
+/// Returns the nodes that decide whether a node may take nothing, two at most. A call of a rule that
+/// takes something leads nowhere.
+fn deciding_nodes(facts: &Facts, kind: NodeKind) -> (Option<usize>, Option<usize>) {
     match kind {
-        Kind::EndCall(_) => (None, None),
-        Kind::Call(rule) => {
+        NodeKind::EndCall(_) => (None, None),
+        NodeKind::Call(rule) => {
             if facts.table.is_root_set(facts.nullable.as_slice(), rule) {
-                listened_to(&facts.table, kind)
+                dependencies_of(&facts.table, kind)
             } else {
                 (None, None)
             }
         }
-        _ => listened_to(&facts.table, kind),
+        _ => dependencies_of(&facts.table, kind),
     }
 }
 
-/// The nodes to which the left calls of a node lead at once, two at most.
-fn called_on_the_left(facts: &Facts, kind: Kind) -> (Option<usize>, Option<usize>) {
+/// Returns the nodes to which the left calls of a node lead directly, two at most.
+fn left_called_nodes(facts: &Facts, kind: NodeKind) -> (Option<usize>, Option<usize>) {
     match kind {
-        Kind::Seq(first, _) if !is_set(facts.nullable.as_slice(), first) => (Some(first), None),
-        _ => listened_to(&facts.table, kind),
+        NodeKind::Seq(first, _) if !is_set(facts.nullable.as_slice(), first) => (Some(first), None),
+        _ => dependencies_of(&facts.table, kind),
     }
 }
 
-/// What leads from a node to others.
+/// The relation that leads from a node to others.
 #[derive(Clone, Copy)]
-pub enum Ways {
-    /// It depends on these whether the node may take nothing.
-    Rests,
-    /// Its left calls lead to these.
+pub enum Edges {
+    /// The nodes that decide whether the node may take nothing.
+    Nullability,
+    /// The nodes of the left calls.
     LeftCalls,
 }
 
-impl Ways {
-    /// The nodes to which a node leads at once, two at most.
-    fn from(self, facts: &Facts, kind: Kind) -> (Option<usize>, Option<usize>) {
+impl Edges {
+    /// Returns the nodes to which a node leads directly, two at most.
+    fn targets(self, facts: &Facts, kind: NodeKind) -> (Option<usize>, Option<usize>) {
         match self {
-            Ways::Rests => rested_on(facts, kind),
-            Ways::LeftCalls => called_on_the_left(facts, kind),
+            Edges::Nullability => deciding_nodes(facts, kind),
+            Edges::LeftCalls => left_called_nodes(facts, kind),
         }
     }
 }
 
-/// A search in depth, under way.
+/// The state of Tarjan's algorithm.
 #[derive(Drop)]
 struct Search {
-    /// A number for each node that was entered: one that was entered later has a greater one.
+    /// The number of a node, greater for a node that was entered later.
     numbers: Vec<usize>,
-    /// For each node the lowest number of a node that is still open and was reached from it.
+    /// The low link of a node: the lowest number of an open node that was reached from it.
     lowest: Vec<usize>,
-    /// A level for each node that has one, else 0.
+    /// The level of a node, 0 where it has none yet.
     levels: Vec<usize>,
     seen: Vec<bool>,
-    steps: Vec<Step>,
+    steps: Vec<SearchStep>,
     /// The nodes that were entered and have no level yet, in the order of their numbers.
     open: Vec<usize>,
-    /// The number of the node that is entered next.
+    /// The number of the last node that was entered.
     clock: usize,
-    /// The level that was given last.
+    /// The last level that was given.
     level: usize,
 }
 
@@ -79,21 +79,21 @@ fn put_number(numbers: &mut Vec<usize>, node: usize, number: usize) {
     }
 }
 
-fn enter_some(steps: &mut Vec<Step>, node: Option<usize>) -> Result<(), AllocError>
+fn enter_some(steps: &mut Vec<SearchStep>, node: Option<usize>) -> Result<(), AllocError>
     ensures { OnOk result (steps.new.len ≤ steps.old.len + 1) }
 {
     if let Some(node) = node {
-        steps.push(Step::Enter(node))?;
+        steps.push(SearchStep::Enter(node))?;
     }
     Ok(())
 }
 
-/// Enters a node that was not seen. Whether it was not.
+/// Enters a node that was not seen yet. Answers whether it entered one.
 fn enter(
     facts: &Facts,
-    ways: Ways,
+    ways: Edges,
     seen: &mut Vec<bool>,
-    steps: &mut Vec<Step>,
+    steps: &mut Vec<SearchStep>,
     node: usize,
 ) -> Result<bool, AllocError>
     ensures fewer { OnOk result (4 * unset seen.new.items + length steps.new.items
@@ -106,14 +106,14 @@ fn enter(
         return Ok(false);
     }
     seen[node] = true;
-    steps.push(Step::Leave(node))?;
-    let (first, second) = ways.from(facts, facts.table.kinds[node]);
+    steps.push(SearchStep::Leave(node))?;
+    let (first, second) = ways.targets(facts, facts.table.kinds[node]);
     enter_some(steps, second)?;
     enter_some(steps, first)?;
     Ok(true)
 }
 
-/// Gives a node that was entered its number.
+/// Numbers a node that was entered.
 fn open(search: &mut Search, node: usize) -> Result<(), AllocError>
     ensures seen { OnOk result (search.new.seen ≡ search.old.seen) }
     ensures steps { OnOk result (search.new.steps ≡ search.old.steps) }
@@ -125,7 +125,7 @@ fn open(search: &mut Search, node: usize) -> Result<(), AllocError>
     Ok(())
 }
 
-/// The lower one of a number and the lowest that was reached from a node that is open.
+/// Returns the minimum of a number and the low link of a node, if that is open.
 fn lower_of(search: &Search, low: usize, node: Option<usize>) -> usize {
     match node {
         Some(node) => {
@@ -140,7 +140,7 @@ fn lower_of(search: &Search, low: usize, node: Option<usize>) -> usize {
     }
 }
 
-/// Gives a level to a node and to all that were opened after it.
+/// Closes a component: gives a level to a node and to all that were opened after it.
 fn close(open: &mut Vec<usize>, levels: &mut Vec<usize>, level: usize, node: usize) {
     while let Some(last) = open.pop() {
         put_number(levels, last, level);
@@ -150,14 +150,14 @@ fn close(open: &mut Vec<usize>, levels: &mut Vec<usize>, level: usize, node: usi
     }
 }
 
-/// Leaves a node. It is closed where no node that was opened before was reached from it.
-fn leave(facts: &Facts, ways: Ways, search: &mut Search, node: usize)
+/// Leaves a node, and closes its component where no node that was opened before was reached from it.
+fn leave(facts: &Facts, ways: Edges, search: &mut Search, node: usize)
     ensures seen { search.new.seen ≡ search.old.seen }
     ensures steps { search.new.steps ≡ search.old.steps }
 {
     let number = number_at(search.numbers.as_slice(), node);
     let (first, second) = match facts.table.kinds.get(node) {
-        Some(kind) => ways.from(facts, *kind),
+        Some(kind) => ways.targets(facts, *kind),
         None => (None, None),
     };
     let low = lower_of(search, number, first);
@@ -172,26 +172,26 @@ fn leave(facts: &Facts, ways: Ways, search: &mut Search, node: usize)
 /// Searches from a node.
 fn search_from(
     facts: &Facts,
-    ways: Ways,
+    ways: Edges,
     search: &mut Search,
     node: usize,
 ) -> Result<(), AllocError> {
-    search.steps.push(Step::Enter(node))?;
+    search.steps.push(SearchStep::Enter(node))?;
     while let Some(step) = search.steps.pop() {
         match step {
-            Step::Enter(node) => {
+            SearchStep::Enter(node) => {
                 if enter(facts, ways, &mut search.seen, &mut search.steps, node)? {
                     open(search, node)?;
                 }
             }
-            Step::Leave(node) => leave(facts, ways, search, node),
+            SearchStep::Leave(node) => leave(facts, ways, search, node),
         }
     }
     Ok(())
 }
 
-/// A level for each node, as the search finds it.
-fn found_levels(alloc: Global, facts: &Facts, ways: Ways) -> Result<Vec<usize>, AllocError> {
+/// Computes a level for each node. Nothing is promised of them.
+fn search_levels(alloc: Global, facts: &Facts, ways: Edges) -> Result<Vec<usize>, AllocError> {
     let nodes = facts.table.kinds.len();
     let mut search = Search {
         numbers: vec![in alloc; 0; nodes]?,
@@ -224,21 +224,21 @@ fn is_root_within(facts: &Facts, levels: &[usize], rule: usize, high: usize) -> 
     }
 }
 
-/// Whether the nodes on which it depends whether a node may take nothing have no higher level.
-fn rests(facts: &Facts, levels: &[usize], node: usize, kind: Kind) -> bool
+/// Reports whether the nodes that decide whether a node may take nothing have no higher level.
+fn rests(facts: &Facts, levels: &[usize], node: usize, kind: NodeKind) -> bool
     ensures { result ≡ true → Rests facts.now levels.now node kind }
 {
     match kind {
-        Kind::Call(rule) => is_root_within(facts, levels, rule, node),
-        Kind::Inside(body) | Kind::OnceAgain(body) => is_within(levels, body, node),
-        Kind::Seq(first, second) | Kind::Choice(first, second) => {
+        NodeKind::Call(rule) => is_root_within(facts, levels, rule, node),
+        NodeKind::Inside(body) | NodeKind::OnceAgain(body) => is_within(levels, body, node),
+        NodeKind::Seq(first, second) | NodeKind::Choice(first, second) => {
             is_within(levels, first, node) && is_within(levels, second, node)
         }
         _ => true,
     }
 }
 
-/// Whether that is so of every node.
+/// Reports whether all nodes are so.
 fn all_rest(facts: &Facts, levels: &[usize]) -> bool
     ensures { result ≡ true → AllRest facts.now levels.now }
 {
@@ -250,22 +250,23 @@ fn all_rest(facts: &Facts, levels: &[usize]) -> bool
     true
 }
 
-/// A level for each node by what it depends on; no level at all where those that were found are not right.
+/// Computes levels by the nodes that decide whether a node may take nothing. Where the check fails, there
+/// are none.
 pub(crate) fn levels_of(alloc: Global, facts: &Facts) -> Result<Vec<usize>, AllocError>
     ensures { IfOk result (λ levels. AllRest facts.now levels.items) }
 {
-    let levels = found_levels(alloc, facts, Ways::Rests)?;
+    let levels = search_levels(alloc, facts, Edges::Nullability)?;
     if all_rest(facts, levels.as_slice()) {
         return Ok(levels);
     }
     Ok(Vec::new(alloc))
 }
 
-/// A level for each node by its left calls; no level at all where those that were found are not right.
+/// Computes levels by left calls. Where the check fails, there are none.
 pub(crate) fn left_levels(alloc: Global, facts: &Facts) -> Result<Vec<usize>, AllocError>
     ensures { IfOk result (λ levels. NoneRises facts.now levels.items) }
 {
-    let levels = found_levels(alloc, facts, Ways::LeftCalls)?;
+    let levels = search_levels(alloc, facts, Edges::LeftCalls)?;
     if none_rises(facts, levels.as_slice()) {
         return Ok(levels);
     }

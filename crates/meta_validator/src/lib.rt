@@ -1,5 +1,4 @@
-//! The validator of rules: what may take nothing, what cannot fail, and what is wrong with rules that were
-//! read.
+//! The validator of rules: which expressions may take nothing or cannot fail, and the errors in rules.
 #![tactic(auto)]
 
 mod cycles;

@@ -1,4 +1,4 @@
-//! What may take nothing where a call of the rule in whose body it stands counts as one that takes something.
+//! Nullability of all nodes where a call of a node's own rule takes something, as least fixpoints.
 ghost use Rattle.std.specs.Prelude.{◌≡◌, ℕ, ◌+◌, ◌<◌, ◌≤◌, Some, true, false, IfOk, OnOk, length, slice_get};
 ghost use Rattle.meta_fixpoint.specs.Least.{is_set_at};
 ghost use Rattle.meta_analysis.specs.Facts.{AreFacts};
@@ -9,23 +9,29 @@ ghost use Rattle.meta_validator.specs.Without.{AreAnswersWithout, IsWithout, wit
 
 use crate::cycles::number_at;
 use crate::levels::levels_of;
-use meta_analysis::{Facts, Kind, KindTable, Question, answers_to};
-use meta_fixpoint::{is_set, who_listens};
+use meta_analysis::{Facts, KindTable, NodeKind, Question, answers_to};
+use meta_fixpoint::{find_listeners, is_set};
 use meta_spanned::ParserRule;
 use std::alloc::{AllocError, Global};
 
-/// What a node does where calls of a rule count as neither.
-fn kind_without(kind: Kind, rule: usize) -> Kind
+/// Returns the kind of a node where calls of a rule count as neither.
+fn kind_without(kind: NodeKind, rule: usize) -> NodeKind
     ensures { result ≡ without_kind rule kind }
 {
     match kind {
-        Kind::Call(called) => { if called == rule { Kind::Taking } else { kind } }
-        Kind::EndCall(called) => { if called == rule { Kind::End } else { kind } }
+        NodeKind::Call(called) => {
+            if called == rule {
+                NodeKind::Taking
+            } else {
+                kind
+            }
+        }
+        NodeKind::EndCall(called) => { if called == rule { NodeKind::End } else { kind } }
         _ => kind,
     }
 }
 
-/// The table where calls of a rule count as neither.
+/// Makes the table where calls of a rule count as neither.
 fn table_without(alloc: Global, table: &KindTable, rule: usize) -> Result<KindTable, AllocError>
     ensures { IfOk result (λ other. IsWithout rule table.now other) }
 {
@@ -40,12 +46,12 @@ fn table_without(alloc: Global, table: &KindTable, rule: usize) -> Result<KindTa
     Ok(KindTable { kinds, roots })
 }
 
-/// Which nodes may take nothing where calls of a rule count as neither.
+/// Computes which nodes may take nothing where calls of a rule count as neither.
 fn answers_without(alloc: Global, facts: &Facts, rule: usize) -> Result<Vec<bool>, AllocError>
     ensures { IfOk result (λ answers. AreAnswersWithout rule facts.now.table answers.items) }
 {
     let table = table_without(alloc, &facts.table, rule)?;
-    let listeners = who_listens(alloc, &table)?;
+    let listeners = find_listeners(alloc, &table)?;
     let answers = answers_to(alloc, &table, &listeners, Question::TakesNothing)?;
     Ok(answers)
 }
@@ -65,13 +71,13 @@ fn add_flags(from: &[bool], last: usize, to: &mut Vec<bool>) -> Result<(), Alloc
     Ok(())
 }
 
-/// Whether a call in a rule's body is one of the rule itself, takes something, or is of a rule that lies
-/// below.
-fn is_settled(facts: &Facts, levels: &[usize], rule: usize, root: usize, kind: Kind) -> bool
+/// Reports whether a call in a rule's body is one of the rule itself, takes something, or is of a rule
+/// with a lower level.
+fn is_settled(facts: &Facts, levels: &[usize], rule: usize, root: usize, kind: NodeKind) -> bool
     ensures { result ≡ true → IsSettled facts.now levels.now rule root kind }
 {
     match kind {
-        Kind::Call(called) => {
+        NodeKind::Call(called) => {
             if called == rule {
                 return true;
             }
@@ -87,7 +93,7 @@ fn is_settled(facts: &Facts, levels: &[usize], rule: usize, root: usize, kind: K
     }
 }
 
-/// Whether that is so of all nodes of the body.
+/// Reports whether all nodes of the body are so.
 fn are_settled(facts: &Facts, levels: &[usize], rule: usize, first: usize, root: usize) -> bool
     ensures { result ≡ true → AreSettled facts.now levels.now rule first root }
 {
@@ -102,13 +108,13 @@ fn are_settled(facts: &Facts, levels: &[usize], rule: usize, first: usize, root:
     true
 }
 
-/// Whether a node of a rule's body may take nothing where calls of the rule count as neither, by the flags
-/// of its operands.
-fn own_flag(facts: &Facts, rule: usize, flags: &[bool], kind: Kind) -> bool
+/// Computes whether a node of a rule's body may take nothing where calls of the rule count as neither,
+/// from the flags of its operands.
+fn own_flag(facts: &Facts, rule: usize, flags: &[bool], kind: NodeKind) -> bool
     ensures { result ≡ own_answer facts.now rule (is_set_at flags.now) kind }
 {
     match kind {
-        Kind::Call(called) => {
+        NodeKind::Call(called) => {
             if called == rule {
                 false
             } else {
@@ -119,7 +125,7 @@ fn own_flag(facts: &Facts, rule: usize, flags: &[bool], kind: Kind) -> bool
     }
 }
 
-/// The same of the node of a number.
+/// Computes that flag for the node of a number.
 fn own_flag_at(facts: &Facts, rule: usize, flags: &[bool], node: usize) -> bool
     ensures { result ≡ own_answer_at facts.now rule (is_set_at flags.now)
         (slice_get facts.now.table.kinds.items node) }
@@ -130,7 +136,7 @@ fn own_flag_at(facts: &Facts, rule: usize, flags: &[bool], node: usize) -> bool
     }
 }
 
-/// Adds the flags of the nodes of a rule's body, each by those of its operands.
+/// Adds the flags of the nodes of a rule's body, computed from those of their operands.
 fn add_own_flags<'i>(
     rules: &[ParserRule<'i>],
     facts: &Facts,
@@ -171,7 +177,7 @@ fn add_facts<'i>(
     Ok(())
 }
 
-/// Adds the flags of the nodes of a rule's body, by those of all nodes.
+/// Adds the flags of the nodes of a rule's body, computed with those of all nodes.
 fn add_answers<'i>(
     alloc: Global,
     rules: &[ParserRule<'i>],
@@ -191,8 +197,8 @@ fn add_answers<'i>(
 }
 
 /// Adds the flags of the nodes of a rule's body. Only where the rule may take nothing do they differ from
-/// the facts; and only where it leads back to itself by other rules that may take nothing has more than its
-/// body to be looked at.
+/// the facts. All nodes are needed only where the rule leads back to itself by other rules that may take
+/// nothing.
 fn add_rule<'i>(
     alloc: Global,
     rules: &[ParserRule<'i>],
@@ -217,8 +223,7 @@ fn add_rule<'i>(
     add_answers(alloc, rules, facts, rule, root, flags)
 }
 
-/// Which nodes may take nothing where a call of the rule in whose body they stand counts as one that takes
-/// something.
+/// Computes which nodes may take nothing where a call of the rule in whose body they are takes something.
 pub(crate) fn passing<'i>(
     alloc: Global,
     rules: &[ParserRule<'i>],

@@ -1,6 +1,5 @@
-//! The search for left recursion, made from rules that left calls may come back to: a walk in the order of
-//! the text, with a list of what is still to be done in place of calls, and a flag for each rule, so that
-//! none is entered twice. One walk is begun anew from rule to rule; what it has set is unset behind it.
+//! The search for left recursion from rules on a cycle of left calls: an iterative depth-first search in
+//! the order of the text that enters no rule twice. One walk serves all rules, and is reset after each.
 ghost use Rattle.std.specs.Prelude.{◌≡◌, ℕ, false, ◌<◌, ◌+◌, ◌++◌, ◌∷◌, [], List, Option, Some, None, true, IfOk, OnOk, IfNone, IfSome, length, slice_get, slice_set, string_bytes, codes};
 ghost use Rattle.meta_base.specs.Language.Text.{Text};
 ghost use Rattle.meta_base.specs.Language.WellFormed.{Leads};
@@ -11,43 +10,43 @@ ghost use Rattle.meta_validator.specs.Cycles.{NoneRises};
 ghost use Rattle.meta_analysis.specs.Facts.{AreFacts};
 ghost use Rattle.meta_validator.specs.Findings.{OfRecursion, Reports, places};
 ghost use Rattle.meta_validator.specs.Flags.{NoneSet};
-ghost use Rattle.meta_validator.specs.LeftRecursion.{Means, arrows, name_at, told_trail};
+ghost use Rattle.meta_validator.specs.LeftRecursion.{Means, arrows, name_at, trail_message};
 ghost use Rattle.meta_analysis.specs.NameMaps.{KnowsRules};
 ghost use Rattle.meta_analysis.specs.Names.{grammar_of};
 ghost use Rattle.meta_analysis.specs.Nodes.{all_nodes};
 ghost use Rattle.meta_validator.specs.Regions.{ArePassing};
 ghost use Rattle.meta_validator.specs.Reporting.{AreSpans, finding_of, findings_of};
-ghost use Rattle.meta_validator.specs.Searching.{ordered, called_in, inside_of, cost, unentered, IsSearch, IsGoing, IsIdle, IsSought, IsClosing, NeverComesBack};
+ghost use Rattle.meta_validator.specs.Searching.{ordered, called_in, inside_of, cost, unentered, IsSearch, IsGoing, IsIdle, IsSearchResult, IsClosing, NeverComesBack};
 
 use crate::cycles::{falls_from, has_no_cycle};
 use crate::findings::{Finding, kind_of_node};
 use crate::flags::Flags;
 use crate::levels::left_levels;
 use crate::passing::passing;
-use meta_analysis::{Facts, Kind, Names, rule_of_name};
+use meta_analysis::{Facts, Names, NodeKind, rule_of_name};
 use meta_base::runtime::Span;
 use meta_fixpoint::is_set;
 use meta_spanned::ParserRule;
 use std::alloc::{AllocError, Global};
 use std::mem;
 
-/// What is to be done.
+/// A task of the walk.
 #[derive(Clone, Copy)]
 pub enum Task {
     /// Walk over a node.
     Visit(usize),
-    /// The rule at the end of the trail is left.
+    /// Leave the rule at the end of the trail.
     Leave,
 }
 
-/// What a walk has come to.
+/// The state of a walk.
 #[derive(Drop)]
 pub struct Walk {
-    /// Which rules were entered.
+    /// The rules that were entered.
     pub entered: Flags,
     /// The rules that were entered and not left, from the start on.
     pub trail: Vec<usize>,
-    /// What is to be done, what comes first at the end.
+    /// The worklist, the first task at the end.
     pub tasks: Vec<Task>,
 }
 
@@ -60,7 +59,7 @@ pub struct ClosedTrail {
     pub call: usize,
 }
 
-/// Enters a rule, whose body has that root.
+/// Enters a rule, whose body is the node `root`.
 fn enter_rule(walk: &mut Walk, rule: usize, root: usize) -> Result<(), AllocError>
     requires { rule < walk.old.entered.all.len }
     ensures entered { OnOk result (walk.new.entered.all.items
@@ -76,18 +75,18 @@ fn enter_rule(walk: &mut Walk, rule: usize, root: usize) -> Result<(), AllocErro
     Ok(())
 }
 
-/// The rule that a node calls, if it is a call.
-fn called_by(kind: Option<Kind>) -> Option<usize>
+/// Returns the rule that a node calls, if the node is a call.
+fn called_by(kind: Option<NodeKind>) -> Option<usize>
     ensures { result ≡ called_in kind }
 {
     match kind {
-        Some(Kind::Call(rule)) => Some(rule),
-        Some(Kind::EndCall(rule)) => Some(rule),
+        Some(NodeKind::Call(rule)) => Some(rule),
+        Some(NodeKind::EndCall(rule)) => Some(rule),
         _ => None,
     }
 }
 
-/// Puts a node that is to be walked over on the list.
+/// Pushes a node on the worklist.
 fn push_node(tasks: &mut Vec<Task>, node: usize) -> Result<(), AllocError>
     ensures { OnOk result (tasks.new.items ≡ tasks.old.items ++ Task.Visit node ∷ []) }
 {
@@ -95,7 +94,7 @@ fn push_node(tasks: &mut Vec<Task>, node: usize) -> Result<(), AllocError>
     Ok(())
 }
 
-/// Puts two nodes that are to be walked over on the list, the first one last.
+/// Pushes two nodes on the worklist, the first one last.
 fn push_nodes(tasks: &mut Vec<Task>, first: usize, second: usize) -> Result<(), AllocError>
     ensures { OnOk result (tasks.new.items ≡ tasks.old.items ++ Task.Visit second ∷ Task.Visit first ∷ []) }
 {
@@ -104,32 +103,33 @@ fn push_nodes(tasks: &mut Vec<Task>, first: usize, second: usize) -> Result<(), 
     Ok(())
 }
 
-/// Puts what is inside a node on the list, what comes first in the text last.
+/// Pushes the nodes inside a node on the worklist, the first in the text last.
 fn push_inside(
     tasks: &mut Vec<Task>,
     passing: &[bool],
-    kind: Option<Kind>,
+    kind: Option<NodeKind>,
 ) -> Result<(), AllocError>
     ensures { OnOk result (tasks.new.items ≡ tasks.old.items ++ inside_of passing.now kind) }
 {
     match kind {
-        Some(Kind::Ahead(body) | Kind::NotAhead(body) | Kind::Free(body)) => push_node(tasks, body),
-        Some(Kind::Inside(body) | Kind::Again(body) | Kind::OnceAgain(body)) => push_node(
+        Some(NodeKind::Ahead(body) | NodeKind::NotAhead(body) | NodeKind::Free(body)) => push_node(
             tasks, body,
         ),
-        Some(Kind::Seq(first, second)) => {
+        Some(NodeKind::Inside(body) | NodeKind::Again(body) | NodeKind::OnceAgain(body)) =>
+            push_node(tasks, body),
+        Some(NodeKind::Seq(first, second)) => {
             if is_set(passing, first) {
                 push_nodes(tasks, first, second)
             } else {
                 push_node(tasks, first)
             }
         }
-        Some(Kind::Choice(first, second)) => push_nodes(tasks, first, second),
+        Some(NodeKind::Choice(first, second)) => push_nodes(tasks, first, second),
         _ => Ok(()),
     }
 }
 
-/// Walks over a call of a rule that is not the start: it is entered, unless it was.
+/// Walks over a call of a rule that is not the start, and enters the rule, unless it was entered.
 fn walk_call(facts: &Facts, walk: &mut Walk, rule: usize) -> Result<(), AllocError>
     requires roots { rule < facts.now.table.roots.len }
     requires flags { rule < walk.old.entered.all.len }
@@ -149,7 +149,7 @@ fn walk_call(facts: &Facts, walk: &mut Walk, rule: usize) -> Result<(), AllocErr
     enter_rule(walk, rule, root)
 }
 
-/// Walks over a node: whether it is a call of the start, which closes the trail.
+/// Walks over a node. Answers whether the node is a call of the start, which closes the trail.
 fn walk_node<'i>(
     rules: &[ParserRule<'i>],
     facts: &Facts,
@@ -188,7 +188,7 @@ fn walk_node<'i>(
     Ok(false)
 }
 
-/// A walk that is to be begun, over so many rules.
+/// Makes a walk over as many rules, not begun.
 fn idle<'i>(alloc: Global, rules: &[ParserRule<'i>]) -> Result<Walk, AllocError>
     ensures { IfOk result (λ walk. IsIdle rules.now walk) }
 {
@@ -199,7 +199,7 @@ fn idle<'i>(alloc: Global, rules: &[ParserRule<'i>]) -> Result<Walk, AllocError>
     })
 }
 
-/// Begins the walk from a rule: the rule is entered.
+/// Begins the walk from a rule by entering the rule.
 fn begin<'i>(
     rules: &[ParserRule<'i>],
     facts: &Facts,
@@ -219,7 +219,7 @@ fn begin<'i>(
     Ok(())
 }
 
-/// Ends a walk: what it has come to is forgotten.
+/// Ends a walk and resets its state.
 fn end(walk: &mut Walk)
     ensures entered { NoneSet walk.new.entered.all.items }
     ensures long { length walk.new.entered.all.items ≡ length walk.old.entered.all.items }
@@ -231,8 +231,8 @@ fn end(walk: &mut Walk)
     walk.tasks.clear();
 }
 
-/// The first call of a rule to which a walk that was begun there comes, and the rules by which it came.
-fn closed_by<'i>(
+/// Runs a walk to the first call of its start, and returns that call with the rules by which it came.
+fn run_walk<'i>(
     alloc: Global,
     rules: &[ParserRule<'i>],
     facts: &Facts,
@@ -245,7 +245,7 @@ fn closed_by<'i>(
     requires going { IsGoing rules.now facts.now.table.roots.items
         start walk.old.entered.all.items walk.old.tasks.items walk.old.trail.items }
     ensures none { IfOk result (λ found. IfNone found
-        (IsSought rules.now facts.now.table.roots.items start None
+        (IsSearchResult rules.now facts.now.table.roots.items start None
         × NeverComesBack rules.now facts.now.table.roots.items start)) }
     ensures some { IfOk result (λ found. IfSome found (λ closed.
         IsClosing rules.now facts.now.table.roots.items start closed.call closed.trail.items)) }
@@ -268,9 +268,8 @@ fn closed_by<'i>(
     Ok(None)
 }
 
-/// The first call of a rule to which the walk from that rule comes, and the rules by which it came. The walk
-/// can be begun again then.
-fn sought<'i>(
+/// Returns the first call of a rule to which the walk from there comes, with the rules by which it came.
+fn find_trail<'i>(
     alloc: Global,
     rules: &[ParserRule<'i>],
     facts: &Facts,
@@ -285,19 +284,19 @@ fn sought<'i>(
         → Means (rule_views rules.now) r.name start }
     requires idle { IsIdle rules.now walk.old }
     ensures none { IfOk result (λ found. IfNone found
-        (IsSought rules.now facts.now.table.roots.items start None
+        (IsSearchResult rules.now facts.now.table.roots.items start None
         × NeverComesBack rules.now facts.now.table.roots.items start)) }
     ensures some { IfOk result (λ found. IfSome found (λ closed.
         IsClosing rules.now facts.now.table.roots.items start closed.call closed.trail.items)) }
     ensures idle { OnOk result (IsIdle rules.now walk.new) }
 {
     begin(rules, facts, start, walk)?;
-    let found = closed_by(alloc, rules, facts, passing, start, walk)?;
+    let found = run_walk(alloc, rules, facts, passing, start, walk)?;
     end(walk);
     Ok(found)
 }
 
-/// Adds the name of the rule at a place, if there is one, and an arrow.
+/// Adds the name of the rule at an index, if there is one, and an arrow.
 fn push_arrow<'i>(
     text: &mut String,
     rules: &[ParserRule<'i>],
@@ -313,7 +312,7 @@ fn push_arrow<'i>(
     Ok(())
 }
 
-/// The names of the rules of a trail, an arrow behind each.
+/// Returns the names of the rules of a trail, with an arrow after every name.
 fn arrows_of<'i>(
     alloc: Global,
     rules: &[ParserRule<'i>],
@@ -328,9 +327,9 @@ fn arrows_of<'i>(
     Ok(text)
 }
 
-/// What is said of a call that closes a trail: the call as it is written, and the names of the trail up to
-/// that of its first rule again.
-fn told<'i>(
+/// Returns the message of a call that closes a trail: the call as it is written, and the names of the
+/// trail up to that of the first rule again.
+fn recursion_message<'i>(
     alloc: Global,
     rules: &[ParserRule<'i>],
     call: Span<'i>,
@@ -338,7 +337,7 @@ fn told<'i>(
     first: &ParserRule<'i>,
 ) -> Result<String, AllocError>
     ensures { IfOk result (λ message. string_bytes message
-        ≡ told_trail (rule_views rules.now) (rule_view first.now)
+        ≡ trail_message (rule_views rules.now) (rule_view first.now)
         (record { trail = trail.now; call = piece_of call.entry })) }
 {
     let arrows = arrows_of(alloc, rules, trail)?;
@@ -351,7 +350,7 @@ fn told<'i>(
     Ok(message)
 }
 
-/// Whether the rule at a place is the last of its name.
+/// Reports whether the rule at an index is the last of its name.
 fn is_last<'i>(rules: &[ParserRule<'i>], names: &Names, place: usize) -> bool
     requires known { KnowsRules rules.now names.now }
     requires inside { place < length rules.now }
@@ -366,8 +365,7 @@ fn is_last<'i>(rules: &[ParserRule<'i>], names: &Names, place: usize) -> bool
     }
 }
 
-/// Whether the rule at a place is the last of its name, and its left calls may lead back to it: a no is
-/// certain.
+/// Reports whether a rule is the last of its name, and its left calls may return to it; no is definite.
 fn may_come_back<'i>(
     rules: &[ParserRule<'i>],
     names: &Names,
@@ -390,14 +388,14 @@ fn may_come_back<'i>(
     !falls_from(facts, levels, place)
 }
 
-/// What a search for a trail goes by: the facts of the rules, and which rules it may pass through.
+/// The input of a search for a trail: the facts of the rules, and which nodes it may pass.
 #[derive(Clone, Copy)]
 struct Guide<'f> {
     facts: &'f Facts,
     passing: &'f [bool],
 }
 
-/// What is found of the rule at a place, the last of its name, as one that calls itself.
+/// Searches the finding of the rule at an index, the last of its name, as left-recursive.
 fn recursion_at<'i>(
     alloc: Global,
     rules: &[ParserRule<'i>],
@@ -420,17 +418,23 @@ fn recursion_at<'i>(
     ensures some { IfOk result (λ found. IfSome found
         (λ finding. OfRecursion (rule_views rules.now) place (finding_of finding ∷ []))) }
 {
-    match sought(alloc, rules, guide.facts, guide.passing, place, walk)? {
+    match find_trail(alloc, rules, guide.facts, guide.passing, place, walk)? {
         None => Ok(None),
         Some(closed) => {
             let span = spans[closed.call];
-            let message = told(alloc, rules, span, closed.trail.as_slice(), &rules[place])?;
+            let message = recursion_message(
+                alloc,
+                rules,
+                span,
+                closed.trail.as_slice(),
+                &rules[place],
+            )?;
             Ok(Some(Finding { message, span }))
         }
     }
 }
 
-/// What is found of left recursion, rule by rule.
+/// Collects the findings of left recursion, rule by rule.
 fn closed_trails<'i>(
     alloc: Global,
     rules: &[ParserRule<'i>],
@@ -466,9 +470,9 @@ fn closed_trails<'i>(
     Ok(found)
 }
 
-/// What is found of left recursion: at most one for a name. Where left calls have no cycle, which one pass
-/// over the nodes makes certain, nothing is; else it is sought from each rule that is the last of its name
-/// and stands on a cycle.
+/// Collects the findings of left recursion, at most one for a name. Where left calls have no cycle, which
+/// a linear pass proves, there are none. Otherwise the search begins at every rule that is the last of
+/// its name and on a cycle.
 pub(crate) fn recursions<'i>(
     alloc: Global,
     rules: &[ParserRule<'i>],

@@ -1,25 +1,25 @@
-//! All that is found in rules, as errors.
+//! All findings in rules, as errors.
 ghost use Rattle.std.specs.Prelude.{◌≡◌, ◌++◌, [], All, IfOk, IfErr, OnOk, alloc_error, map};
-ghost use Rattle.meta_base.specs.Pieces.Saying.{SaysAt, Tell};
+ghost use Rattle.meta_base.specs.Pieces.Saying.{IsErrorAt, AreErrorsFor};
 ghost use Rattle.meta_base.specs.Language.WellFormed.{IsWellFormed};
 ghost use Rattle.meta_base.specs.Pieces.Span.{span_text};
 ghost use Rattle.meta_base.specs.Pieces.Survey.{survey_text};
 ghost use Rattle.meta_spanned.specs.Nodes.{piece_of, rule_views};
 ghost use Rattle.meta_validator.specs.Findings.{AreFound, AreAllFound, IsSortedBySpan, endless_at};
-ghost use Rattle.meta_analysis.specs.Groundwork.{IsGroundwork};
+ghost use Rattle.meta_analysis.specs.Analysis.{IsAnalysis};
 ghost use Rattle.meta_analysis.specs.Names.{grammar_of};
 ghost use Rattle.meta_validator.specs.Reporting.{finding_of, findings_of};
 
 use crate::findings::{Finding, choices, repetitions, skips, spans_of};
 use crate::recursions::recursions;
 use crate::tags::tags;
-use meta_analysis::Groundwork;
+use meta_analysis::Analysis;
 use meta_base::grammar::Rule;
 use meta_base::runtime::{Error, ErrorVariant, Fault, Span, Survey};
 use meta_spanned::ParserRule;
 use std::alloc::{AllocError, Global};
 
-/// What is found of repetitions that are known to be endless.
+/// Makes the findings of repetitions that are known to be endless.
 fn endless_findings<'i>(alloc: Global, endless: &[Span<'i>]) -> Result<Vec<Finding<'i>>, AllocError>
     ensures { IfOk result (λ found.
         findings_of found.items ≡ map endless_at (map piece_of endless.now)) }
@@ -36,15 +36,15 @@ fn endless_findings<'i>(alloc: Global, endless: &[Span<'i>]) -> Result<Vec<Findi
     Ok(found)
 }
 
-/// All that is found in rules: repetitions, then those that are known to be endless, then choices, then rules
-/// that are skipped, then left recursion, then tags.
+/// Collects all findings in rules: repetitions, then those that are known to be endless, then choices,
+/// then skipped rules, then left recursion, then tags.
 fn all_findings<'i>(
     alloc: Global,
     rules: &[ParserRule<'i>],
-    groundwork: &Groundwork<'_, 'i>,
+    groundwork: &Analysis<'_, 'i>,
     endless: &[Span<'i>],
 ) -> Result<Vec<Finding<'i>>, AllocError>
-    requires groundwork { IsGroundwork rules.now groundwork.now }
+    requires groundwork { IsAnalysis rules.now groundwork.now }
     ensures found { IfOk result (λ found.
         AreFound (rule_views rules.now) (map piece_of endless.now) (findings_of found.items)) }
     ensures accepted { IfOk result (λ found. findings_of found.items ≡ []
@@ -54,20 +54,20 @@ fn all_findings<'i>(
     let spans = spans_of(alloc, &groundwork.table)?;
     let found = repetitions(alloc, rules, facts, spans.as_slice())?;
     let known = endless_findings(alloc, endless)?;
-    let found = with_others(found, known)?;
+    let found = append_findings(found, known)?;
     let choices = choices(alloc, rules, facts, spans.as_slice())?;
-    let found = with_others(found, choices)?;
+    let found = append_findings(found, choices)?;
     let skips = skips(alloc, rules, facts)?;
-    let found = with_others(found, skips)?;
+    let found = append_findings(found, skips)?;
     let recursions = recursions(alloc, rules, &groundwork.names, facts, spans.as_slice())?;
-    let found = with_others(found, recursions)?;
+    let found = append_findings(found, recursions)?;
     let tags = tags(alloc, rules, &groundwork.names)?;
-    let found = with_others(found, tags)?;
+    let found = append_findings(found, tags)?;
     Ok(found)
 }
 
-/// Findings, and others behind them.
-fn with_others<'i>(
+/// Appends other findings.
+fn append_findings<'i>(
     found: Vec<Finding<'i>>,
     others: Vec<Finding<'i>>,
 ) -> Result<Vec<Finding<'i>>, AllocError>
@@ -80,7 +80,7 @@ fn with_others<'i>(
     Ok(all)
 }
 
-/// Puts findings in the order of their places.
+/// Sorts findings by their spans. The sort is stable.
 fn sort_by_span<'i>(found: &mut Vec<Finding<'i>>) -> Result<(), AllocError>
     ensures { OnOk result (IsSortedBySpan (findings_of found.old.items) (findings_of found.new.items)) }
 {
@@ -88,14 +88,14 @@ fn sort_by_span<'i>(found: &mut Vec<Finding<'i>>) -> Result<(), AllocError>
     Ok(())
 }
 
-/// All that is found in rules, by place.
+/// Collects all findings in rules, sorted by span.
 pub(crate) fn sorted_findings<'i>(
     alloc: Global,
     rules: &[ParserRule<'i>],
-    groundwork: &Groundwork<'_, 'i>,
+    groundwork: &Analysis<'_, 'i>,
     endless: &[Span<'i>],
 ) -> Result<Vec<Finding<'i>>, AllocError>
-    requires groundwork { IsGroundwork rules.now groundwork.now }
+    requires groundwork { IsAnalysis rules.now groundwork.now }
     ensures found { IfOk result (λ sorted.
         AreAllFound (rule_views rules.now) (map piece_of endless.now) (findings_of sorted.items)) }
     ensures accepted { IfOk result (λ sorted. findings_of sorted.items ≡ []
@@ -106,14 +106,14 @@ pub(crate) fn sorted_findings<'i>(
     Ok(found)
 }
 
-/// The error that tells of a finding, made by the survey where the finding is in its text.
+/// Makes the error that reports a finding; the survey makes it where the finding is in its text.
 fn error_of<'i>(
     alloc: Global,
     survey: &mut Survey<'_>,
     finding: &Finding<'i>,
 ) -> Result<Error<Rule>, Fault>
     ensures tells { IfOk result (λ error.
-        SaysAt (finding_of finding.now).message (finding_of finding.now).span error) }
+        IsErrorAt (finding_of finding.now).message (finding_of finding.now).span error) }
     ensures memory { IfErr result (λ fault. fault ≡ Fault.Memory alloc_error) }
 {
     let message = String::from_str(alloc, finding.message.as_str())?;
@@ -122,7 +122,7 @@ fn error_of<'i>(
     Ok(error)
 }
 
-/// The text of the first of these, which is that of all of them where they are found in one text.
+/// Returns the text of the first finding, which is that of all of them where they are in one text.
 fn first_text<'i>(found: &[Finding<'i>]) -> &'i str {
     match found.first() {
         Some(finding) => finding.span.get_input(),
@@ -130,9 +130,9 @@ fn first_text<'i>(found: &[Finding<'i>]) -> &'i str {
     }
 }
 
-/// The errors that tell of findings, in their order.
+/// Makes the errors that report findings, in their order.
 pub(crate) fn errors_of<'i>(alloc: Global, found: &[Finding<'i>]) -> Result<Vec<Error<Rule>>, Fault>
-    ensures told { IfOk result (λ errors. Tell (findings_of found.now) errors.items) }
+    ensures told { IfOk result (λ errors. AreErrorsFor (findings_of found.now) errors.items) }
     ensures memory { IfErr result (λ fault. fault ≡ Fault.Memory alloc_error) }
 {
     let mut errors = Vec::new(alloc);
@@ -144,7 +144,7 @@ pub(crate) fn errors_of<'i>(alloc: Global, found: &[Finding<'i>]) -> Result<Vec<
     Ok(errors)
 }
 
-/// The error that tells of a finding in the text that was surveyed.
+/// Makes the error that reports a finding in the surveyed text.
 fn error_in<'i>(
     alloc: Global,
     survey: &mut Survey<'_>,
@@ -152,7 +152,7 @@ fn error_in<'i>(
 ) -> Result<Error<Rule>, Fault>
     requires in_text { span_text finding.now.span ≡ survey_text survey.old }
     ensures tells { IfOk result (λ error.
-        SaysAt (finding_of finding.now).message (finding_of finding.now).span error) }
+        IsErrorAt (finding_of finding.now).message (finding_of finding.now).span error) }
     ensures survey { survey_text survey.new ≡ survey_text survey.old }
     ensures memory { IfErr result (λ fault. fault ≡ Fault.Memory alloc_error) }
 {
@@ -161,14 +161,14 @@ fn error_in<'i>(
     Error::new_in_survey(alloc, variant, survey, finding.span)
 }
 
-/// The errors of `errors_of` where all findings are in one text, which is walked over once.
+/// Makes the errors of `errors_of` where all findings are in one text, which the survey walks over once.
 pub(crate) fn errors_in<'i>(
     alloc: Global,
     text: &str,
     found: &[Finding<'i>],
 ) -> Result<Vec<Error<Rule>>, Fault>
     requires in_text { All (λ f. f.span.text ≡ text.now) (findings_of found.now) }
-    ensures told { IfOk result (λ errors. Tell (findings_of found.now) errors.items) }
+    ensures told { IfOk result (λ errors. AreErrorsFor (findings_of found.now) errors.items) }
     ensures memory { IfErr result (λ fault. fault ≡ Fault.Memory alloc_error) }
 {
     let mut errors = Vec::new(alloc);

@@ -1,4 +1,4 @@
-//! Tags on what gives no token.
+//! Tags on pieces that give no token.
 ghost use Rattle.std.specs.Prelude.{◌≡◌, ◌++◌, IfOk, OnOk, Option};
 ghost use Rattle.std.specs.Option.{option_map};
 ghost use Rattle.meta_ast.specs.Ast.{text_of};
@@ -16,7 +16,7 @@ use meta_names::is_builtin;
 use meta_spanned::{ParserExpr, ParserNode, ParserRule, push_operands};
 use std::alloc::{AllocError, Global};
 
-/// What is found of all tags: those on Silent rules, and on builtins. The order is that of the text.
+/// Collects the findings of all tags on Silent rules and on builtins, in the order of the text.
 pub(crate) fn tags<'i>(
     alloc: Global,
     rules: &[ParserRule<'i>],
@@ -32,7 +32,7 @@ pub(crate) fn tags<'i>(
     Ok(found)
 }
 
-/// Adds what is found in a body.
+/// Adds the findings in a body.
 fn add_of_body<'i>(
     alloc: Global,
     rules: &[ParserRule<'i>],
@@ -53,7 +53,7 @@ fn add_of_body<'i>(
     Ok(())
 }
 
-/// Adds what is found of a node as a tag.
+/// Adds the findings of a node as a tag.
 fn add_of_node<'i>(
     alloc: Global,
     rules: &[ParserRule<'i>],
@@ -73,7 +73,7 @@ fn add_of_node<'i>(
     Ok(())
 }
 
-/// What is wrong with a node as a tag.
+/// Returns the message of a node as a tag, if it is wrong.
 fn message_of<'i>(
     rules: &[ParserRule<'i>],
     names: &Names,
@@ -92,7 +92,7 @@ fn message_of<'i>(
     }
 }
 
-/// What is wrong with a tag on a name.
+/// Returns the message of a tag on a name, if it is wrong.
 fn message_of_name<'i>(
     rules: &[ParserRule<'i>],
     names: &Names,
@@ -117,7 +117,7 @@ fn message_of_name<'i>(
     }
 }
 
-/// The rule that a name means.
+/// Returns the rule that a name means.
 fn rule_named<'r, 'i>(
     rules: &'r [ParserRule<'i>],
     names: &Names,
@@ -133,7 +133,7 @@ fn rule_named<'r, 'i>(
     }
 }
 
-/// The name that a node is, within what stands round it; but nothing is sought within another tag.
+/// Returns the name in a node, if the node is a name inside operators; inside another tag no name counts.
 fn name_within<'n>(node: &'n ParserNode<'_>) -> Option<&'n String>
     ensures { option_map (λ name. text_of name.now) result ≡ spec.name_within (view node.entry.now) }
 {

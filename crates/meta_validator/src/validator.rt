@@ -1,10 +1,10 @@
-//! What may take nothing, and what cannot fail.
+//! The validator's public calls: nullability, failure, and the errors in rules.
 ghost use Rattle.std.specs.Prelude.{◌≡◌, ◌↔◌, [], IsTrue, IfOk, IfErr, alloc_error, map};
 ghost use Rattle.meta_base.specs.Language.WellFormed.{IsNullable, CannotFail, IsWellFormed};
 ghost use Rattle.meta_spanned.specs.Erasure.{without_spans, rules_without_spans};
 ghost use Rattle.meta_spanned.specs.Nodes.{piece_of, rule_views, unplaced};
 ghost use Rattle.meta_validator.specs.Findings.{AreAllFound};
-ghost use Rattle.meta_analysis.specs.Groundwork.{IsGroundwork};
+ghost use Rattle.meta_analysis.specs.Analysis.{IsAnalysis};
 ghost use Rattle.meta_analysis.specs.Names.{grammar_of};
 ghost use Rattle.meta_validator.specs.Placed.{AreIn, ArePiecesOf};
 ghost use Rattle.meta_validator.specs.Reported.{AreReported};
@@ -12,16 +12,16 @@ ghost use Rattle.meta_validator.specs.Reporting.{findings_of};
 
 use crate::findings::Finding;
 use crate::reported::{errors_in, errors_of, sorted_findings};
-use meta_analysis::{Groundwork, Question, answer_for, groundwork_of};
+use meta_analysis::{Analysis, Question, analyze, answer_for};
 use meta_base::grammar::Rule;
 use meta_base::runtime::{Error, Fault, Span};
 use meta_spanned::{ParserExpr, ParserRule};
 use std::alloc::Global;
 
-/// Whether an expression may succeed without taking anything, where its names mean these rules (the last of
-/// a name): empty strings, `SOI`, `EOI`, predicates, `e?`, `e*`, `e{,n}` and what is repeated from 0 times
-/// on may; a sequence where both sides may, a choice where one side may, a call where the rule's body may,
-/// and all else where its operand may. The only fault is a want of memory.
+/// Reports whether an expression may succeed without taking anything, where its names mean these rules
+/// (the last of a name): empty strings, `SOI`, `EOI`, predicates, `e?`, `e*`, `e{,n}` and repetitions
+/// from 0 times on may; a sequence where both sides may, a choice where one side may, a call where the
+/// rule's body may, and all else where its operand may. The only fault is an allocation failure.
 pub fn is_non_progressing<'i>(
     alloc: Global,
     expr: &ParserExpr<'i>,
@@ -34,10 +34,10 @@ pub fn is_non_progressing<'i>(
     Ok(answer_for(alloc, expr, rules.as_slice(), Question::TakesNothing)?)
 }
 
-/// Whether an expression cannot fail, where its names mean these rules (the last of a name): empty strings,
-/// `e?`, `e*`, `e{,n}` and what is repeated from 0 times on cannot; nor a sequence where both sides can't,
-/// a choice where one side can't, a call where the rule's body can't, and all else but `!e` where its
-/// operand can't. The only fault is a want of memory.
+/// Reports whether an expression cannot fail, where its names mean these rules (the last of a name):
+/// empty strings, `e?`, `e*`, `e{,n}` and repetitions from 0 times on cannot; nor a sequence where both
+/// sides can't, a choice where one side can't, a call where the rule's body can't, and all else but `!e`
+/// where its operand can't. The only fault is an allocation failure.
 pub fn is_non_failing<'i>(
     alloc: Global,
     expr: &ParserExpr<'i>,
@@ -50,14 +50,14 @@ pub fn is_non_failing<'i>(
     Ok(answer_for(alloc, expr, rules.as_slice(), Question::CannotFail)?)
 }
 
-/// All that is found in rules, by place. The only fault is a want of memory.
-fn found_in<'i>(
+/// Collects all findings in rules, sorted by span. The only fault is an allocation failure.
+fn findings_in<'i>(
     alloc: Global,
     rules: &[ParserRule<'i>],
-    groundwork: &Groundwork<'_, 'i>,
+    groundwork: &Analysis<'_, 'i>,
     endless: &[Span<'i>],
 ) -> Result<Vec<Finding<'i>>, Fault>
-    requires groundwork { IsGroundwork rules.now groundwork.now }
+    requires groundwork { IsAnalysis rules.now groundwork.now }
     ensures found { IfOk result (λ found.
         AreAllFound (rule_views rules.now) (map piece_of endless.now) (findings_of found.items)) }
     ensures accepted { IfOk result (λ found. findings_of found.items ≡ []
@@ -67,14 +67,14 @@ fn found_in<'i>(
     Ok(sorted_findings(alloc, rules, groundwork, endless)?)
 }
 
-/// What is wrong with rules, in the order of their places (at one place repetitions, then those of `endless`,
-/// then choices, then skipped rules, then left recursion, then tags): a repetition `e*`, `e+` or `e{n,}`
-/// whose body cannot fail or may take nothing; an alternative with others behind it that cannot fail; a rule
-/// named `WHITESPACE` or `COMMENT` that cannot fail or may take nothing; left recursion, at most one for a
-/// name: the trail of rules by which the walk over the body of its last rule comes back, at the first call of
-/// the rule to which it comes; a tag on a Silent rule, or on a builtin that is no rule's name. Each error
-/// stands where the fault does. `endless` are the places of repetitions
-/// that never end for a reason that is not looked for here. The only fault is a want of memory.
+/// Returns the errors in rules, sorted by span (at one span repetitions, then those of `endless`, then
+/// choices, then skipped rules, then left recursion, then tags): a repetition `e*`, `e+` or `e{n,}` whose
+/// body cannot fail or may take nothing; an alternative with others after it that cannot fail; a rule
+/// named `WHITESPACE` or `COMMENT` that cannot fail or may take nothing; left recursion, at most one for
+/// a name: the trail of rules by which the walk over the body of the name's last rule comes back, at the
+/// first call of the rule to which it comes; a tag on a Silent rule, or on a builtin that is no rule's
+/// name. An error has the span of its fault. `endless` are the spans of repetitions that never end for a
+/// reason that this function does not look for. The only fault is an allocation failure.
 pub fn validate_rules<'i>(
     alloc: Global,
     rules: &Vec<ParserRule<'i>>,
@@ -87,30 +87,30 @@ pub fn validate_rules<'i>(
     ensures memory { IfErr result (λ fault. fault ≡ Fault.Memory alloc_error) }
 {
     let rules = rules.as_slice();
-    let groundwork = groundwork_of(alloc, rules)?;
+    let groundwork = analyze(alloc, rules)?;
     validate_by(alloc, rules, &groundwork, endless)
 }
 
-/// What is wrong with rules, as `validate_rules` tells it, by the groundwork that was laid for them. The only
-/// fault is a want of memory.
+/// Returns the errors of `validate_rules`, given the shared analysis of the rules. The only fault is an
+/// allocation failure.
 pub fn validate_by<'i>(
     alloc: Global,
     rules: &[ParserRule<'i>],
-    groundwork: &Groundwork<'_, 'i>,
+    groundwork: &Analysis<'_, 'i>,
     endless: &[Span<'i>],
 ) -> Result<Vec<Error<Rule>>, Fault>
-    requires groundwork { IsGroundwork rules.now groundwork.now }
+    requires groundwork { IsAnalysis rules.now groundwork.now }
     ensures exact { IfOk result (λ errors.
         AreReported (rule_views rules.now) (map piece_of endless.now) errors.items) }
     ensures accepted { IfOk result (λ errors. errors.items ≡ [] → IsWellFormed (grammar_of rules.now)) }
     ensures memory { IfErr result (λ fault. fault ≡ Fault.Memory alloc_error) }
 {
-    let found = found_in(alloc, rules, groundwork, endless)?;
+    let found = findings_in(alloc, rules, groundwork, endless)?;
     errors_of(alloc, found.as_slice())
 }
 
-/// What is wrong with rules, as `validate_rules` tells it, where all their spans, and those of `endless`, are
-/// of one text: that is walked over once for the places of all errors. The only fault is a want of memory.
+/// Returns the errors of `validate_rules` where all spans of the rules, and those of `endless`, are of
+/// one text: one walk over it finds the locations of all errors. The only fault is an allocation failure.
 pub fn validate_rules_in<'i>(
     alloc: Global,
     text: &str,
@@ -126,20 +126,20 @@ pub fn validate_rules_in<'i>(
     ensures memory { IfErr result (λ fault. fault ≡ Fault.Memory alloc_error) }
 {
     let rules = rules.as_slice();
-    let groundwork = groundwork_of(alloc, rules)?;
+    let groundwork = analyze(alloc, rules)?;
     validate_by_in(alloc, text, rules, &groundwork, endless)
 }
 
-/// What is wrong with rules, as `validate_rules_in` tells it, by the groundwork that was laid for them. The
-/// only fault is a want of memory.
+/// Returns the errors of `validate_rules_in`, given the shared analysis of the rules. The only fault is
+/// an allocation failure.
 pub fn validate_by_in<'i>(
     alloc: Global,
     text: &str,
     rules: &[ParserRule<'i>],
-    groundwork: &Groundwork<'_, 'i>,
+    groundwork: &Analysis<'_, 'i>,
     endless: &[Span<'i>],
 ) -> Result<Vec<Error<Rule>>, Fault>
-    requires groundwork { IsGroundwork rules.now groundwork.now }
+    requires groundwork { IsAnalysis rules.now groundwork.now }
     requires rules_in_text { AreIn text.now (rule_views rules.now) }
     requires endless_in_text { ArePiecesOf text.now (map piece_of endless.now) }
     ensures exact { IfOk result (λ errors.
@@ -147,6 +147,6 @@ pub fn validate_by_in<'i>(
     ensures accepted { IfOk result (λ errors. errors.items ≡ [] → IsWellFormed (grammar_of rules.now)) }
     ensures memory { IfErr result (λ fault. fault ≡ Fault.Memory alloc_error) }
 {
-    let found = found_in(alloc, rules, groundwork, endless)?;
+    let found = findings_in(alloc, rules, groundwork, endless)?;
     errors_in(alloc, text, found.as_slice())
 }

@@ -1,4 +1,4 @@
--- What the program writes.
+-- The texts that the program writes.
 use Rattle.std.specs.Prelude.{ℕ, List, [], ◌∷◌, ◌++◌, Option, Result, OnOk, encode_utf8_all}
 use Rattle.std.specs.Borrow.{Bor}
 use Rattle.std.specs.Io.KnownBytes.{Appends}
@@ -10,20 +10,20 @@ use Rattle.pest_meta.specs.Reports.{report_text}
 use Rattle.pest_meta.specs.Spelling.{IsAnswer, IsRefusedWith}
 use Rattle.meta_roundtrip.specs.ReadsBack.{grammar_text}
 
--- there is an answer for the text, and what the writer holds grew by its rules, a line each
+-- there is an answer for the text, and the writer's contents grew by its rules, a line each
 pub record PrintsAnswer (text : List ℕ) (old new : Option (List ℕ)) : Type 0 where
   pub builtins : List (Bor (List ℕ))
   pub rules : List OptimizedRule
   pub answers : IsAnswer text builtins rules
   pub gained : Appends old new (encode_utf8_all (grammar_text (optimized_rules_of rules)))
 
--- unless a write was refused, what the writer holds grew by the message and a line feed
-abbrev pub TellsLine : {X E : Type 0} → List ℕ → Result X E → Option (List ℕ) → Option (List ℕ) → Type 0
-TellsLine message written old new = OnOk written (Appends old new (message ++ 10 ∷ []))
+-- unless a write was refused, the writer's contents grew by the message and a line feed
+abbrev pub WritesLine : {X E : Type 0} → List ℕ → Result X E → Option (List ℕ) → Option (List ℕ) → Type 0
+WritesLine message written old new = OnOk written (Appends old new (message ++ 10 ∷ []))
 
 -- there is a reason to refuse the text, and its report is the line
-pub record TellsRefusal {X E : Type 0} (text : List ℕ) (written : Result X E)
+pub record ReportsRefusal {X E : Type 0} (text : List ℕ) (written : Result X E)
     (old new : Option (List ℕ)) : Type 0 where
   pub errors : List (Error Rule)
   pub reason : IsRefusedWith text errors
-  pub line : TellsLine (report_text errors) written old new
+  pub line : WritesLine (report_text errors) written old new

@@ -1,9 +1,9 @@
-//! What the program does once its input is read.
+//! The program after its input is read.
 ghost use Rattle.std.specs.Prelude.{◌≡◌, ◌≢◌, ◌≤◌, ◌⊎◌, ◌↔◌, IfNone, IfOk, IfSome, IsErr, IsOk, IsUtf8, codes, encode_utf8_all, string_bytes, true};
 ghost use Rattle.std.specs.Io.KnownBytes.{Appends};
 ghost use Rattle.meta_ast.specs.Ast.{rule_type_of};
 ghost use Rattle.meta_ast.specs.Optimized.{optimized_rules_of};
-ghost use Rattle.pest_check.specs.Written.{PrintsAnswer, TellsLine, TellsRefusal};
+ghost use Rattle.pest_check.specs.Written.{PrintsAnswer, ReportsRefusal, WritesLine};
 ghost use Rattle.pest_meta.specs.Spelling.{HasAnswer};
 ghost use Rattle.meta_roundtrip.specs.ReadsBack.{grammar_text, modifier};
 
@@ -19,28 +19,28 @@ use tool_support::output::{Output, RefusedWrite};
 const PRINTED: u8 = 0;
 /// The text is no grammar, or one that is refused.
 const REFUSED: u8 = 1;
-/// Want of memory.
+/// An allocation failed.
 const OUT_OF_MEMORY: u8 = 2;
 /// There is no text.
 const UNREADABLE: u8 = 3;
 /// Standard output refused a write.
 const UNWRITABLE: u8 = 4;
 
-/// How a run ends.
+/// The end of a run.
 #[derive(Drop)]
 pub struct Exit {
     /// The status that the program ends with.
     pub status: u8,
-    /// Whether `err` took the line that it was given: an error where it refused a write.
-    pub told: Result<(), RefusedWrite>,
+    /// An error if `err` refused the line that it was given.
+    pub write_result: Result<(), RefusedWrite>,
 }
 
 /// Prints the rules of a grammar to `out`, a line each as `name = modifier{ expr }`, and answers 0.
 ///
-/// Otherwise one text with a line break behind it goes to `err`: the report of a text that is refused (1),
+/// Otherwise one text with a line break at its end goes to `err`: the report of a text that is refused (1),
 /// `out of memory` (2), `cannot read` where there is no input or it isn't UTF-8 (3), `cannot write` where
-/// `out` refuses a write (4), which leaves what it took before. All lines are made before the first of them
-/// is written. A write that `err` refuses changes no status.
+/// `out` refuses a write (4), which keeps the part that it took before. All lines are made before the first
+/// one is written. A write that `err` refuses changes no status.
 pub fn run<W: Write, E: Write>(
     alloc: Global,
     input: Option<&[u8]>,
@@ -52,46 +52,45 @@ pub fn run<W: Write, E: Write>(
     ensures decoded { IfSome input.entry (λ bytes. result.status ≡ 3 ↔ ¬ (IsUtf8 bytes.now)) }
     ensures unwritten { IfSome input.entry (λ bytes. result.status ≡ 4 → HasAnswer bytes.now) }
 
-    // What goes to `out`, and whether it refused a write.
+    // The text for `out`, and whether it refused a write.
     ensures printed { IfSome input.entry (λ bytes. result.status ≡ 0
         → PrintsAnswer bytes.now (W.contents out.old.writer) (W.contents out.new.writer)) }
     ensures unprinted { result.status ≢ 0 → result.status ≢ 4 → out.new ≡ out.old }
     ensures taken { result.status ≡ 0 → out.new.refused ≡ out.old.refused }
     ensures refused_write { result.status ≡ 4 → out.new.refused ≡ true }
 
-    // What goes to `err`, and whether it refused a write.
+    // The text for `err`, and whether it refused a write.
     ensures silent { result.status ≡ 0 → err.new ≡ err.old }
     ensures refused { IfSome input.entry (λ bytes. result.status ≡ 1
-        → TellsRefusal bytes.now result.told
+        → ReportsRefusal bytes.now result.write_result
         (E.contents err.old.writer) (E.contents err.new.writer)) }
     ensures tells_memory { result.status ≡ 2
-        → TellsLine (codes "out of memory") result.told
+        → WritesLine (codes "out of memory") result.write_result
         (E.contents err.old.writer) (E.contents err.new.writer) }
     ensures tells_unread { result.status ≡ 3
-        → TellsLine (codes "cannot read") result.told
+        → WritesLine (codes "cannot read") result.write_result
         (E.contents err.old.writer) (E.contents err.new.writer) }
     ensures tells_unwritten { result.status ≡ 4
-        → TellsLine (codes "cannot write") result.told
+        → WritesLine (codes "cannot write") result.write_result
         (E.contents err.old.writer) (E.contents err.new.writer) }
-    ensures told { IsOk result.told → err.new.refused ≡ err.old.refused }
-    ensures refused_line { IsErr result.told → err.new.refused ≡ true }
+    ensures told { IsOk result.write_result → err.new.refused ≡ err.old.refused }
+    ensures refused_line { IsErr result.write_result → err.new.refused ≡ true }
 {
     let Some(bytes) = input else {
-        return told(err, "cannot read", UNREADABLE);
+        return exit_with(err, "cannot read", UNREADABLE);
     };
     let Ok(grammar) = str::from_utf8(bytes) else {
-        return told(err, "cannot read", UNREADABLE);
+        return exit_with(err, "cannot read", UNREADABLE);
     };
     match unwrap_or_report(alloc, parse_and_optimize(alloc, grammar)) {
-        Ok((_, rules)) => answered(alloc, rules, out, err),
-        Err(Report::Memory) => told(err, "out of memory", OUT_OF_MEMORY),
-        Err(Report::Text(text)) => told(err, text.as_str(), REFUSED),
+        Ok((_, rules)) => print_rules(alloc, rules, out, err),
+        Err(Report::Memory) => exit_with(err, "out of memory", OUT_OF_MEMORY),
+        Err(Report::Text(text)) => exit_with(err, text.as_str(), REFUSED),
     }
 }
 
-/// How a run ends where the text has rules: they are printed, or a want of memory or a write that is refused
-/// is told.
-fn answered<W: Write, E: Write>(
+/// Prints rules and ends the run. An allocation failure and a refused write are reported.
+fn print_rules<W: Write, E: Write>(
     alloc: Global,
     rules: Vec<OptimizedRule>,
     out: &mut Output<W>,
@@ -105,56 +104,58 @@ fn answered<W: Write, E: Write>(
     ensures refused_write { result.status ≡ 4 → out.new.refused ≡ true }
     ensures silent { result.status ≡ 0 → err.new ≡ err.old }
     ensures tells_memory { result.status ≡ 2
-        → TellsLine (codes "out of memory") result.told
+        → WritesLine (codes "out of memory") result.write_result
         (E.contents err.old.writer) (E.contents err.new.writer) }
     ensures tells_unwritten { result.status ≡ 4
-        → TellsLine (codes "cannot write") result.told
+        → WritesLine (codes "cannot write") result.write_result
         (E.contents err.old.writer) (E.contents err.new.writer) }
-    ensures told { IsOk result.told → err.new.refused ≡ err.old.refused }
-    ensures refused_line { IsErr result.told → err.new.refused ≡ true }
+    ensures told { IsOk result.write_result → err.new.refused ≡ err.old.refused }
+    ensures refused_line { IsErr result.write_result → err.new.refused ≡ true }
 {
-    match printed(alloc, rules) {
-        Ok(text) => written(err, out.write_text(text.as_str())),
-        Err(_) => told(err, "out of memory", OUT_OF_MEMORY),
+    match rules_text(alloc, rules) {
+        Ok(text) => exit_after_write(err, out.write_text(text.as_str())),
+        Err(_) => exit_with(err, "out of memory", OUT_OF_MEMORY),
     }
 }
 
-/// How a run ends where the rules were printed or a write of them was refused, which is told.
-fn written<E: Write>(err: &mut Output<E>, outcome: Result<(), RefusedWrite>) -> Exit
+/// Ends a run after its rules were printed, and reports a write of them that was refused.
+fn exit_after_write<E: Write>(err: &mut Output<E>, outcome: Result<(), RefusedWrite>) -> Exit
     ensures known { (result.status ≡ 0) ⊎ (result.status ≡ 4) }
     ensures printed { IsOk outcome → result.status ≡ 0 }
     ensures silent { IsOk outcome → err.new ≡ err.old }
     ensures unwritten { IsErr outcome → result.status ≡ 4 }
     ensures tells { IsErr outcome
-        → TellsLine (codes "cannot write") result.told
+        → WritesLine (codes "cannot write") result.write_result
         (E.contents err.old.writer) (E.contents err.new.writer) }
-    ensures told { IsOk result.told → err.new.refused ≡ err.old.refused }
-    ensures refused_line { IsErr result.told → err.new.refused ≡ true }
+    ensures told { IsOk result.write_result → err.new.refused ≡ err.old.refused }
+    ensures refused_line { IsErr result.write_result → err.new.refused ≡ true }
 {
     match outcome {
         Ok(()) => Exit {
             status: PRINTED,
-            told: Ok(()),
+            write_result: Ok(()),
         },
-        Err(_) => told(err, "cannot write", UNWRITABLE),
+        Err(_) => exit_with(err, "cannot write", UNWRITABLE),
     }
 }
 
-/// Writes a message and a line break to `err`, whatever comes of it.
-fn told<E: Write>(err: &mut Output<E>, message: &str, status: u8) -> Exit
+/// Ends a run with this status, after writing a message and a line break to `err`.
+fn exit_with<E: Write>(err: &mut Output<E>, message: &str, status: u8) -> Exit
     ensures status { result.status ≡ status }
-    ensures tells { TellsLine message.now result.told
+    ensures tells { WritesLine message.now result.write_result
         (E.contents err.old.writer) (E.contents err.new.writer) }
-    ensures told { IsOk result.told → err.new.refused ≡ err.old.refused }
-    ensures refused_line { IsErr result.told → err.new.refused ≡ true }
+    ensures told { IsOk result.write_result → err.new.refused ≡ err.old.refused }
+    ensures refused_line { IsErr result.write_result → err.new.refused ≡ true }
 {
-    let told = err.write_line(&[message]);
-    Exit { status, told }
+    let write_result = err.write_line(&[message]);
+    Exit {
+        status,
+        write_result,
+    }
 }
 
-/// The lines of rules, which are let go by a loop: a wide rule takes no deep stack. The only fault is a want
-/// of memory.
-fn printed(alloc: Global, rules: Vec<OptimizedRule>) -> Result<String, AllocError>
+/// Returns the lines of rules, and drops the rules iteratively. The only error is an allocation failure.
+fn rules_text(alloc: Global, rules: Vec<OptimizedRule>) -> Result<String, AllocError>
     ensures { IfOk result (λ text. string_bytes text
         ≡ encode_utf8_all (grammar_text (optimized_rules_of rules.items))) }
 {
@@ -163,7 +164,7 @@ fn printed(alloc: Global, rules: Vec<OptimizedRule>) -> Result<String, AllocErro
     text
 }
 
-/// Each rule on a line of its own.
+/// Returns a text with each rule on a line of its own.
 fn lines_of(alloc: Global, rules: &[OptimizedRule]) -> Result<String, AllocError>
     ensures { IfOk result (λ text. string_bytes text
         ≡ encode_utf8_all (grammar_text (optimized_rules_of rules.now))) }
@@ -176,7 +177,7 @@ fn lines_of(alloc: Global, rules: &[OptimizedRule]) -> Result<String, AllocError
     Ok(text)
 }
 
-/// The sign of a rule's type before its brace.
+/// Returns the modifier of a rule's type before its brace.
 fn sign_of(ty: RuleType) -> &'static str
     ensures { result.now ≡ modifier (rule_type_of ty) }
 {

@@ -13,8 +13,8 @@ use std::process::ExitCode;
 use std::{env, fs};
 use tool_support::output::Output;
 
-/// The grammar's bytes: those of the file that the one argument names, or of standard input where there is
-/// none. None where they can't be read, or where a second argument stands.
+/// Reads the grammar's bytes from the file that the one argument names, or from standard input without one.
+/// Returns `None` if they can't be read, or if there is a second argument.
 fn input(rt: &HostRuntime) -> Option<Vec<u8>> {
     let mut args = env::args(rt).ok()?;
     args.next();
@@ -29,7 +29,7 @@ fn input(rt: &HostRuntime) -> Option<Vec<u8>> {
     }
 }
 
-/// Runs the program on its input, over the process's own output, and hands on the status.
+/// Runs the program on its input with the process's own output, and returns the status.
 fn check(rt: &HostRuntime, grammar: Option<&[u8]>) -> ExitCode
     ensures known { exit_status result ≤ 4 }
     ensures unread { IfNone grammar.entry (exit_status result ≡ 3) }

@@ -1,4 +1,4 @@
--- What the program does with a text.
+-- The outcome of the program for a text.
 use Rattle.std.specs.Prelude.{ℕ, List, ⊤}
 use Rattle.std.specs.String.{string_bytes}
 use Rattle.meta_base.specs.declared.grammar.Rule.TheVariants.{grammar_rules}

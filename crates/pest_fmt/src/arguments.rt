@@ -3,18 +3,18 @@ use clap::{Arg, ArgAction, ArgMatches, Command};
 use meta_format::{LineEnds, Options};
 use std::alloc::{AllocError, Global};
 
-/// Where a formatted text goes.
+/// The destination of a formatted text.
 #[derive(Clone, Copy)]
 pub enum Target {
-    /// To the place of the file, or to standard output where the text came from standard input.
+    /// The file that the text came from, or standard output for standard input.
     File,
-    /// To standard output.
+    /// Standard output.
     Output,
-    /// Only what differs goes to standard output.
+    /// Standard output, with the difference only.
     Difference,
 }
 
-/// What is done with formatted texts.
+/// The delivery of formatted texts.
 #[derive(Clone, Copy)]
 pub struct Delivery {
     pub target: Target,
@@ -22,7 +22,7 @@ pub struct Delivery {
     pub is_to_terminal: bool,
 }
 
-/// The arguments that the program takes.
+/// Returns the command line that the program accepts.
 pub fn command<'a>(alloc: Global) -> Result<Command<'a>, AllocError> {
     let check = Arg::new(alloc, "check")
         .long("check")
@@ -53,7 +53,7 @@ pub fn command<'a>(alloc: Global) -> Result<Command<'a>, AllocError> {
         .arg(files)
 }
 
-/// What a command line asks to be done with formatted texts.
+/// Returns the delivery that a command line asks for.
 pub fn delivery_of(matches: &ArgMatches<'_>, is_to_terminal: bool) -> Delivery {
     let target = if matches.get_flag("check") {
         Target::Difference
@@ -68,7 +68,7 @@ pub fn delivery_of(matches: &ArgMatches<'_>, is_to_terminal: bool) -> Delivery {
     }
 }
 
-/// How a command line asks texts to be formatted.
+/// Returns the options of the formatter that a command line asks for.
 pub fn options_of(matches: &ArgMatches<'_>) -> Options {
     let line_ends = if matches.get_flag("keep-line-ends") {
         LineEnds::OfFirstLine

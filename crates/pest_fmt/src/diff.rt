@@ -1,12 +1,13 @@
-//! What differs between two texts, as a unified diff.
+//! The difference of two texts, as a unified diff.
 use std::alloc::{AllocError, Global};
 
-/// How many lines are shown before and after a change.
+/// The number of lines shown before and after a change.
 const CONTEXT: usize = 3;
-/// How many lines at most are looked at for the end of a change, in both texts together.
+/// The greatest number of lines searched for the end of a change, in both texts together.
 const LOOKAHEAD: usize = 64;
 
-/// Lines that both texts have, and then lines that only the old one has, and lines that only the new one has.
+/// A run: lines that both texts have, then lines that only the old one has, and lines that only the new one
+/// has.
 #[derive(Clone, Copy)]
 struct Run {
     kept: usize,
@@ -14,7 +15,7 @@ struct Run {
     added: usize,
 }
 
-/// The lines of a text, without their line feeds.
+/// Returns the lines of a text, without their line feeds.
 fn lines_of<'t>(alloc: Global, text: &'t str) -> Result<Vec<&'t str>, AllocError> {
     let mut lines: Vec<&'t str> = Vec::new(alloc);
     for line in text.split('\n') {
@@ -26,7 +27,7 @@ fn lines_of<'t>(alloc: Global, text: &'t str) -> Result<Vec<&'t str>, AllocError
     Ok(lines)
 }
 
-/// Whether both lists have the same line at these places.
+/// Returns whether both lists have equal lines at these indices.
 fn has_same_line(old: &[&str], new: &[&str], i: usize, j: usize) -> bool {
     match (old.get(i), new.get(j)) {
         (Some(line), Some(other)) => *line == *other,
@@ -34,7 +35,7 @@ fn has_same_line(old: &[&str], new: &[&str], i: usize, j: usize) -> bool {
     }
 }
 
-/// How many lines the lists have in common from these places on.
+/// Counts the lines that the lists have in common from these indices on.
 fn count_kept(old: &[&str], new: &[&str], i: usize, j: usize) -> usize {
     let mut kept = 0usize;
     for _ in i..old.len() {
@@ -46,7 +47,7 @@ fn count_kept(old: &[&str], new: &[&str], i: usize, j: usize) -> usize {
     kept
 }
 
-/// How many lines of each list a change takes that begins at these places.
+/// Returns how many lines of each list a change takes that begins at these indices.
 fn size_of_change(old: &[&str], new: &[&str], i: usize, j: usize) -> (usize, usize) {
     for both in 1..LOOKAHEAD {
         if let Some(removed) = find_end(old, new, i, j, both) {
@@ -56,7 +57,7 @@ fn size_of_change(old: &[&str], new: &[&str], i: usize, j: usize) -> (usize, usi
     (1, 1)
 }
 
-/// How many of the lines of a change are old ones, where it takes so many in both lists together.
+/// Returns how many of the `both` lines of a change are old ones, if a change of that size ends there.
 fn find_end(old: &[&str], new: &[&str], i: usize, j: usize, both: usize) -> Option<usize> {
     for removed in 0..=both {
         let added = both - removed;
@@ -67,7 +68,7 @@ fn find_end(old: &[&str], new: &[&str], i: usize, j: usize, both: usize) -> Opti
     None
 }
 
-/// What is kept, removed and added, in order.
+/// Returns the runs of kept, removed and added lines, in order.
 fn runs_of(alloc: Global, old: &[&str], new: &[&str]) -> Result<Vec<Run>, AllocError> {
     let mut runs: Vec<Run> = Vec::new(alloc);
     let mut i = 0usize;
@@ -109,7 +110,7 @@ fn add_run(runs: &mut Vec<Run>, run: Run) -> Result<(), AllocError> {
     Ok(())
 }
 
-/// The unified diff of two texts of a file, or nothing where they are the same.
+/// Returns the unified diff of two texts of a file, or nothing if they are equal.
 pub fn diff(alloc: Global, name: &str, old: &str, new: &str) -> Result<String, AllocError> {
     if old == new {
         return Ok(String::new(alloc));
@@ -133,7 +134,7 @@ pub fn diff(alloc: Global, name: &str, old: &str, new: &str) -> Result<String, A
     Ok(out)
 }
 
-/// The number after that of the last run that is shown together with one.
+/// Returns the number after that of the last run that is shown together with one.
 fn find_hunk_end(runs: &[Run], first: usize) -> usize {
     for i in first.saturating_add(1)..runs.len() {
         match runs.get(i) {
@@ -144,7 +145,7 @@ fn find_hunk_end(runs: &[Run], first: usize) -> usize {
     runs.len()
 }
 
-/// One of two texts, and how far it is printed.
+/// One of two texts, and the part that is printed.
 #[derive(Drop)]
 struct Side<'t> {
     lines: &'t [&'t str],
@@ -161,14 +162,15 @@ impl<'t> Side<'t> {
         }
     }
 
-    /// How many lines are left after so many more.
+    /// Counts the lines that remain after so many more.
     fn lines_left_after(&self, count: usize) -> usize {
         self.lines
             .len()
             .saturating_sub(self.next.saturating_add(count))
     }
 
-    /// The number, from 1, of the first line of a hunk of so many lines; if there is none, of the one before.
+    /// Returns the number, from 1, of the first line of a hunk of so many lines, or of the line before an
+    /// empty hunk.
     fn first_number(&self, count: usize) -> usize {
         if count == 0 {
             self.next
@@ -177,12 +179,12 @@ impl<'t> Side<'t> {
         }
     }
 
-    /// Passes over lines.
+    /// Skips lines.
     fn skip(&mut self, count: usize) {
         self.next = self.next.saturating_add(count);
     }
 
-    /// Prints so many lines behind a mark.
+    /// Prints so many lines, each after a mark.
     fn print(&mut self, out: &mut String, mark: char, count: usize) -> Result<(), AllocError> {
         for _ in 0..count {
             if let Some(line) = self.lines.get(self.next) {
@@ -199,7 +201,7 @@ impl<'t> Side<'t> {
     }
 }
 
-/// What is printed of a diff so far.
+/// The diff printed so far.
 #[derive(Drop)]
 struct Printer<'t> {
     old: Side<'t>,
@@ -208,7 +210,7 @@ struct Printer<'t> {
 }
 
 impl Printer<'_> {
-    /// Prints the runs `first..end` as one hunk. What is kept before the first of them was not printed.
+    /// Prints the runs `first..end` as one hunk. The kept lines before the first of them were not printed.
     fn hunk(
         &mut self,
         alloc: Global,
@@ -253,15 +255,16 @@ impl Printer<'_> {
         self.new.print(&mut self.out, '+', added)
     }
 
-    /// Goes back before lines that were printed after a hunk: those before the next one are counted from the
-    /// last change on.
+    /// Goes back before lines that were printed after a hunk, since the lines before the next one are counted
+    /// from the last change on.
     fn give_back(&mut self, count: usize) {
         self.old.next = self.old.next.saturating_sub(count);
         self.new.next = self.new.next.saturating_sub(count);
     }
 }
 
-/// How many lines of each text a hunk of the runs `first..end` has, with `before` kept lines before it.
+/// Returns how many lines of each text a hunk of the runs `first..end` has, with `before` kept lines before
+/// it.
 fn size_of_hunk(runs: &[Run], first: usize, end: usize, before: usize) -> (usize, usize) {
     let mut removed = before;
     let mut added = before;

@@ -14,7 +14,7 @@ use std::env;
 use std::io::IsTerminal;
 use std::process::ExitCode;
 
-/// The status for the words of the command line.
+/// Returns the status for the words of the command line.
 fn answer(rt: &HostRuntime) -> Result<u8, clap::Error> {
     let alloc = rt.alloc();
     let Ok(words) = env::args(rt) else {

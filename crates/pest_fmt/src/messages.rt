@@ -1,9 +1,9 @@
-//! What is said on standard error.
+//! Messages on standard error.
 use meta_base::grammar::Rule;
 use meta_base::runtime::Error;
 use std::alloc::{AllocError, Global};
 
-/// A text with each control character as an escape.
+/// Returns a text with each control character as an escape.
 pub fn escape(alloc: Global, text: &str) -> Result<String, AllocError> {
     let mut escaped = String::new(alloc);
     for c in text.chars() {
@@ -12,7 +12,7 @@ pub fn escape(alloc: Global, text: &str) -> Result<String, AllocError> {
     Ok(escaped)
 }
 
-/// The same, but for tabs and the ends of lines.
+/// Returns a text with each control character as an escape, but for tabs and line feeds.
 pub fn escape_lines(alloc: Global, text: &str) -> Result<String, AllocError> {
     let mut escaped = String::new(alloc);
     for c in text.chars() {
@@ -41,28 +41,32 @@ fn push_escaped(
     }
 }
 
-/// That a file can't be read, and why.
+/// Returns the message that a file can't be read, and why.
 pub fn cannot_read(alloc: Global, name: &str, why: &str) -> Result<String, AllocError> {
     let name = escape(alloc, name)?;
     format!(in alloc; "cannot read {name}: {why}\n")
 }
 
-/// That a file can't be written, and why.
+/// Returns the message that a file can't be written, and why.
 pub fn cannot_write(alloc: Global, name: &str, why: &str) -> Result<String, AllocError> {
     let name = escape(alloc, name)?;
     format!(in alloc; "cannot write {name}: {why}\n")
 }
 
-/// That a file is left alone, since its formatted text would be another grammar.
-pub fn is_left_alone(alloc: Global, name: &str) -> Result<String, AllocError> {
+/// Returns the message that a file is left alone, since its formatted text would be another grammar.
+pub fn cannot_format(alloc: Global, name: &str) -> Result<String, AllocError> {
     let name = escape(alloc, name)?;
     format!(in alloc;
         "cannot format {name}: its formatted text would have other tokens or comments\n"
     )
 }
 
-/// That a file is left alone, since it is no grammar, and where.
-pub fn is_refused(alloc: Global, name: &str, errors: &[Error<Rule>]) -> Result<String, AllocError> {
+/// Returns the message that a file is left alone, since it is no grammar, with its errors.
+pub fn refusal_message(
+    alloc: Global,
+    name: &str,
+    errors: &[Error<Rule>],
+) -> Result<String, AllocError> {
     let name = escape(alloc, name)?;
     let mut message = format!(in alloc; "cannot format {name}: it is no grammar\n")?;
     for error in errors {

@@ -1,4 +1,4 @@
-//! What becomes of a text.
+//! The outcome of formatting a text.
 ghost use Rattle.std.specs.Prelude.{IfOk};
 ghost use Rattle.pest_fmt.specs.Outcomes.{IsFileChange};
 
@@ -7,20 +7,20 @@ use meta_base::runtime::{Error, Fault};
 use meta_format::{Formatted, Options, format};
 use std::alloc::{AllocError, Global};
 
-/// What becomes of a text.
+/// The outcome of formatting a text.
 #[derive(Drop)]
 pub enum FileChange {
-    /// It is formatted.
+    /// The text is formatted already.
     Same,
     /// Its formatted text is another one.
     Changed(String),
-    /// It is no grammar.
+    /// The text is no grammar.
     Refused(Vec<Error<Rule>>),
     /// Its formatted text would have other tokens or comments.
     LeftAlone,
 }
 
-/// What becomes of a text. The only error is a want of memory.
+/// Formats a text. The only error is an allocation failure.
 pub fn outcome_of(alloc: Global, text: &str, options: Options) -> Result<FileChange, AllocError>
     ensures { IfOk result (IsFileChange options.line_ends text.now) }
 {

@@ -3,12 +3,12 @@ use std::fs::{self, File, Files, OpenFile, OpenOptions};
 use std::io::{self, ErrorKind, Write};
 use std::os::unix::fs::OpenOptionsExt;
 
-/// How many names beside the file are tried, where others stand from runs that were killed.
+/// The number of names beside the file that are tried, where runs that were killed left files.
 const NAMES: usize = 16;
 
-/// Makes `bytes` the contents of the file of this name, which has to exist. Whoever opens it finds what it
-/// had or all of `bytes`; where this fails, it is as it was, and what was made beside it is removed. It keeps the
-/// permissions. A link is followed: the file that it leads to is replaced.
+/// Makes `bytes` the contents of the file of this name, which has to exist. Any process that opens it finds
+/// its old contents or all of `bytes`. After an error the file is unchanged, and the new file is removed. The
+/// permissions stay. A link is followed: the file that it leads to is replaced.
 pub fn replace<R: Files + Alloc>(rt: &R, name: &str, bytes: &[u8]) -> io::Result<()> {
     let target = fs::canonicalize(rt, name)?;
     let path = target.as_path().to_string_lossy();
@@ -20,7 +20,7 @@ pub fn replace<R: Files + Alloc>(rt: &R, name: &str, bytes: &[u8]) -> io::Result
             .mode(0o600)
             .open(rt, beside.as_str());
         match opened {
-            Ok(file) => return renamed(rt, file, beside.as_str(), path, bytes),
+            Ok(file) => return fill_and_rename(rt, file, beside.as_str(), path, bytes),
             Err(error) if error.kind() == ErrorKind::AlreadyExists => {}
             Err(error) => return Err(error),
         }
@@ -29,21 +29,21 @@ pub fn replace<R: Files + Alloc>(rt: &R, name: &str, bytes: &[u8]) -> io::Result
 }
 
 /// Fills the new file and gives it the name of the old one, or removes it.
-fn renamed<R: Files>(
+fn fill_and_rename<R: Files>(
     rt: &R,
     mut file: R::File,
     beside: &str,
     path: &str,
     bytes: &[u8],
 ) -> io::Result<()> {
-    let written = filled(rt, &mut file, path, bytes);
+    let written = fill(rt, &mut file, path, bytes);
     drop(file);
     let done = written.and_then(|()| fs::rename(rt, beside, path));
     if done.is_err() {
         let _ = fs::remove_file(rt, beside);
         return done;
     }
-    // The name is on the disk too once the folder is.
+    // The rename is durable only after its folder is synced.
     let (folder, _) = path.rsplit_once('/').unwrap_or(("", ""));
     match File::open(rt, if folder.is_empty() { "/" } else { folder }) {
         Ok(folder) => folder.sync_all(),
@@ -52,7 +52,7 @@ fn renamed<R: Files>(
 }
 
 /// Gives a new file the permissions of the old one and these bytes, on the disk.
-fn filled<R: Files>(rt: &R, file: &mut R::File, old: &str, bytes: &[u8]) -> io::Result<()> {
+fn fill<R: Files>(rt: &R, file: &mut R::File, old: &str, bytes: &[u8]) -> io::Result<()> {
     file.write_all(bytes)?;
     file.set_permissions(fs::metadata(rt, old)?.permissions())?;
     file.sync_all()

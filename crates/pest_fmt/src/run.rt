@@ -1,9 +1,11 @@
-//! What is done with each file.
+//! The program's work on each file.
 ghost use Rattle.std.specs.Prelude.{◌≡◌, ◌≤◌, IfOk};
 
 use crate::arguments::{Delivery, Target};
 use crate::diff::diff;
-use crate::messages::{cannot_read, cannot_write, escape, escape_lines, is_left_alone, is_refused};
+use crate::messages::{
+    cannot_format, cannot_read, cannot_write, escape, escape_lines, refusal_message,
+};
 use crate::outcomes::{FileChange, outcome_of};
 use crate::replacing::replace;
 use meta_format::Options;
@@ -15,15 +17,15 @@ use std::io::{Read, Write};
 pub const DONE: u8 = 0;
 /// Something would change, or is left alone.
 pub const FOUND: u8 = 1;
-/// Want of memory.
+/// An allocation failed.
 pub const MEMORY: u8 = 2;
 /// A file or the command line can't be read.
 pub const UNREADABLE: u8 = 3;
 /// A file or standard output can't be written.
 pub const UNWRITABLE: u8 = 4;
 
-/// Formats the files of these names, `-` being standard input, and answers the highest of their statuses.
-/// Where standard output refuses a write, it ends.
+/// Formats the files of these names, `-` being standard input, and returns the highest of their statuses.
+/// Stops where standard output refuses a write.
 pub fn format_files(
     rt: &HostRuntime,
     names: &[&str],
@@ -43,12 +45,12 @@ pub fn format_files(
     Ok(status)
 }
 
-/// Whether the formatted text takes the place of the file.
+/// Returns whether the formatted text replaces the file.
 fn is_replaced(name: &str, delivery: Delivery) -> bool {
     matches!(delivery.target, Target::File) && name != "-"
 }
 
-/// Formats the file of a name, and answers a status for it.
+/// Formats the file of a name, and returns its status.
 fn format_file(
     rt: &HostRuntime,
     name: &str,
@@ -78,7 +80,7 @@ fn format_file(
     }
 }
 
-/// Writes a message on standard error, and answers a status.
+/// Writes a message on standard error, and returns a status.
 fn report(rt: &HostRuntime, message: &str, status: u8) -> u8
     ensures { result ≡ status }
 {
@@ -86,7 +88,7 @@ fn report(rt: &HostRuntime, message: &str, status: u8) -> u8
     status
 }
 
-/// Formats the text of a file, and answers a status for it.
+/// Formats the text of a file, and returns its status.
 fn format_text(
     rt: &HostRuntime,
     name: &str,
@@ -101,17 +103,17 @@ fn format_text(
         FileChange::Same => keep(rt, name, text, delivery),
         FileChange::Changed(formatted) => deliver(rt, name, text, formatted.as_str(), delivery),
         FileChange::LeftAlone => {
-            let message = is_left_alone(alloc, name)?;
+            let message = cannot_format(alloc, name)?;
             Ok(report(rt, message.as_str(), FOUND))
         }
         FileChange::Refused(errors) => {
-            let message = is_refused(alloc, name, &errors)?;
+            let message = refusal_message(alloc, name, &errors)?;
             Ok(report(rt, message.as_str(), FOUND))
         }
     }
 }
 
-/// Does with a text that is formatted what is asked for, and answers a status.
+/// Delivers a text that is formatted already, and returns a status.
 fn keep(rt: &HostRuntime, name: &str, text: &str, delivery: Delivery) -> Result<u8, AllocError>
     ensures { IfOk result (λ status. status ≤ 4) }
 {
@@ -122,7 +124,7 @@ fn keep(rt: &HostRuntime, name: &str, text: &str, delivery: Delivery) -> Result<
     }
 }
 
-/// Does with a formatted text what is asked for, and answers a status.
+/// Delivers a formatted text, and returns a status.
 fn deliver(
     rt: &HostRuntime,
     name: &str,
@@ -152,7 +154,7 @@ fn deliver(
     }
 }
 
-/// Writes a text to standard output, and answers a status.
+/// Writes a text to standard output, and returns a status.
 fn print(rt: &HostRuntime, text: &str, delivery: Delivery) -> Result<u8, AllocError>
     ensures { IfOk result (λ status. status ≤ 4) }
 {

@@ -3,7 +3,7 @@ use Rattle.std.proofs.Common.{◌≡◌, ℕ, ◌+◌, ◌<◌, ◌≤◌, List,
 use Rattle.std.proofs.lemmas.List.{drop_all, take_all, take_more}
 use Rattle.std.proofs.lemmas.List.Elements.{All-append}
 use Rattle.meta_names.proofs.Places.{tell_both}
-use Rattle.meta_base.specs.Pieces.Saying.{Complaint, SaysAt, Span, Tell, piece_of}
+use Rattle.meta_base.specs.Pieces.Saying.{Complaint, IsErrorAt, Span, AreErrorsFor, piece_of}
 use Rattle.meta_base.specs.declared.grammar.Rule.{Rule}
 use Rattle.meta_base.specs.declared.runtime.errors.Error.{Error}
 use Rattle.meta_base.specs.declared.runtime.places.Span as code
@@ -18,14 +18,14 @@ pub none_left : (message : List ℕ) (places : List code.Span) (i : ℕ) → len
 none_left message places i h = rw (drop_all i places h) refl
 
 -- one more error
-pub told_more : (all rest others : List Complaint) (x : Complaint) (errors : List (Error Rule)) (e : Error Rule) → rest ≡ x ∷ others → SaysAt x.message x.span e
-    → ((more : List (Error Rule)) → Tell rest more → Tell all (errors ++ more))
-    → (more : List (Error Rule)) → Tell others more → Tell all ((errors ++ e ∷ []) ++ more)
+pub told_more : (all rest others : List Complaint) (x : Complaint) (errors : List (Error Rule)) (e : Error Rule) → rest ≡ x ∷ others → IsErrorAt x.message x.span e
+    → ((more : List (Error Rule)) → AreErrorsFor rest more → AreErrorsFor all (errors ++ more))
+    → (more : List (Error Rule)) → AreErrorsFor others more → AreErrorsFor all ((errors ++ e ∷ []) ++ more)
 told_more all rest others x errors e left s told more t = rw append_assoc (told (e ∷ more) (rw left (s, t)))
 
-pub tell_joined : {E : Type 0} (xs ys : List Complaint) (es fs : List (Error Rule)) (result : Result (Vec (Error Rule) Global) E) → Tell xs es → Tell ys fs
-    → IfOk result (λ all. all.items ≡ es ++ fs) → IfOk result (λ all. Tell (xs ++ ys) all.items)
-tell_joined xs ys es fs (Ok all) h k e = subst (λ gs. Tell (xs ++ ys) gs) (sym e) (tell_both xs ys es fs h k)
+pub tell_joined : {E : Type 0} (xs ys : List Complaint) (es fs : List (Error Rule)) (result : Result (Vec (Error Rule) Global) E) → AreErrorsFor xs es → AreErrorsFor ys fs
+    → IfOk result (λ all. all.items ≡ es ++ fs) → IfOk result (λ all. AreErrorsFor (xs ++ ys) all.items)
+tell_joined xs ys es fs (Ok all) h k e = subst (λ gs. AreErrorsFor (xs ++ ys) gs) (sym e) (tell_both xs ys es fs h k)
 tell_joined xs ys es fs (Err error) h k e = tt
 
 -- what holds of each of the first, and of the next

@@ -1,6 +1,6 @@
 //! What is found in the text of a grammar.
 ghost use Rattle.std.specs.Prelude.{◌≡◌, ◌++◌, IfOk, map};
-ghost use Rattle.meta_base.specs.Pieces.Saying.{SaysAt, Tell};
+ghost use Rattle.meta_base.specs.Pieces.Saying.{IsErrorAt, AreErrorsFor};
 ghost use Rattle.meta_spanned.specs.Nodes.{piece_of, rule_views};
 ghost use Rattle.pest_lint.specs.Found.{IsVerdict, reversed_of, said_at, uncalled_of, unreachable_of, warnings_of};
 
@@ -52,7 +52,7 @@ fn warnings_in(
     rules: &[ParserRule<'_>],
     all_rules: bool,
 ) -> Result<Vec<Error<Rule>>, Fault>
-    ensures { IfOk result (λ told. Tell (warnings_of all_rules (rule_views rules.now)) told.items) }
+    ensures { IfOk result (λ told. AreErrorsFor (warnings_of all_rules (rule_views rules.now)) told.items) }
 {
     let uncalled = uncalled(alloc, rules, all_rules)?;
     let unreachable = unreachable(alloc, rules)?;
@@ -67,7 +67,7 @@ fn uncalled(
     rules: &[ParserRule<'_>],
     all_rules: bool,
 ) -> Result<Vec<Error<Rule>>, Fault>
-    ensures { IfOk result (λ told. Tell (uncalled_of all_rules (rule_views rules.now)) told.items) }
+    ensures { IfOk result (λ told. AreErrorsFor (uncalled_of all_rules (rule_views rules.now)) told.items) }
 {
     if all_rules {
         return Ok(Vec::new(alloc));
@@ -78,7 +78,7 @@ fn uncalled(
 
 /// The warnings for alternatives that are never taken.
 fn unreachable(alloc: Global, rules: &[ParserRule<'_>]) -> Result<Vec<Error<Rule>>, Fault>
-    ensures { IfOk result (λ told. Tell (unreachable_of (rule_views rules.now)) told.items) }
+    ensures { IfOk result (λ told. AreErrorsFor (unreachable_of (rule_views rules.now)) told.items) }
 {
     let places = unreachable_alternatives(alloc, rules)?;
     said(
@@ -90,7 +90,7 @@ fn unreachable(alloc: Global, rules: &[ParserRule<'_>]) -> Result<Vec<Error<Rule
 
 /// The warnings for ranges that match nothing.
 fn reversed(alloc: Global, rules: &[ParserRule<'_>]) -> Result<Vec<Error<Rule>>, Fault>
-    ensures { IfOk result (λ told. Tell (reversed_of (rule_views rules.now)) told.items) }
+    ensures { IfOk result (λ told. AreErrorsFor (reversed_of (rule_views rules.now)) told.items) }
 {
     let places = reversed_ranges(alloc, rules)?;
     said(
@@ -112,7 +112,8 @@ fn joined(told: Vec<Error<Rule>>, others: Vec<Error<Rule>>) -> Result<Vec<Error<
 
 /// An error with this message at each of these places, in order.
 fn said(alloc: Global, message: &str, places: &[Span<'_>]) -> Result<Vec<Error<Rule>>, Fault>
-    ensures { IfOk result (λ told. Tell (map (said_at message.now) (map piece_of places.now)) told.items) }
+    ensures { IfOk result (λ told.
+        AreErrorsFor (map (said_at message.now) (map piece_of places.now)) told.items) }
 {
     let mut told = Vec::new(alloc);
     for place in places {
@@ -124,7 +125,7 @@ fn said(alloc: Global, message: &str, places: &[Span<'_>]) -> Result<Vec<Error<R
 
 /// An error with this message at a place.
 fn error_at(alloc: Global, message: &str, place: Span<'_>) -> Result<Error<Rule>, Fault>
-    ensures { IfOk result (SaysAt message.now (piece_of place.entry)) }
+    ensures { IfOk result (IsErrorAt message.now (piece_of place.entry)) }
 {
     let message = String::from_str(alloc, message)?;
     Error::new_from_span(alloc, ErrorVariant::CustomError { message }, place)

@@ -9,7 +9,7 @@ use Rattle.meta_base.specs.declared.runtime.errors.InputLocation.TheVariants as 
 use Rattle.meta_base.specs.declared.runtime.errors.LineColLocation.TheVariants as in_lines
 use Rattle.meta_base.proofs.FailurePlaces.{one_place}
 use Rattle.meta_reader.specs.Flaws.{Flaw}
-use Rattle.meta_reader.specs.Refusals.{cause_message, TellsOf}
+use Rattle.meta_reader.specs.Refusals.{cause_message, ReportsFlaw}
 use Rattle.meta_reader.proofs.Uniqueness.{rules_once}
 use Rattle.meta_syntax.specs.MetaGrammar.{meta_grammar}
 use Rattle.meta_syntax.specs.Parses.{FailsAt, IsSyntaxError}
@@ -17,7 +17,7 @@ use Rattle.meta_base.specs.declared.grammar.Rule.TheVariants as rule_is
 use Rattle.meta_validator.specs.Alike.{AreAlike, IsAlike}
 use Rattle.meta_validator.specs.Reported.{AreReported}
 use Rattle.meta_validator.proofs.OneFindingList.{one_list_of_errors, says_alike, tell_alike}
-use Rattle.pest_meta.specs.Findings.{TellFindings}
+use Rattle.pest_meta.specs.Findings.{AreErrorsOfFindings}
 use Rattle.pest_meta.specs.Spelling.{AreFlawed, complaints_in, HaveFindings, HasWrongRules, IsMisnamed, IsNoGrammar, IsRefusedWith}
 use Rattle.pest_meta.proofs.OneReportList.{one_list_of_reports}
 use Rattle.pest_meta.proofs.OneText.{rules_stand}
@@ -46,9 +46,9 @@ no_grammar_once : (text : List ℕ) (errors others : List (Error Rule)) → IsNo
 no_grammar_once text errors others a b =
     same_syntax text a.says.place b.says.place errors others (one_failure text a.says.place b.says.place a.says.fails b.says.fails) a.says.says b.says.says
 
-same_flaw : (f h : Flaw) (errors others : List (Error Rule)) → f ≡ h → TellsOf f errors → TellsOf h others → AreAlike errors others
+same_flaw : (f h : Flaw) (errors others : List (Error Rule)) → f ≡ h → ReportsFlaw f errors → ReportsFlaw h others → AreAlike errors others
 same_flaw f h errors others same a b =
-    let c = subst (λ z. TellsOf z errors) same a in
+    let c = subst (λ z. ReportsFlaw z errors) same a in
     alike_ones errors others c.error b.error c.one b.one (says_alike (record { message = cause_message h.cause; span = h.span }) c.error b.error c.says b.says)
 
 -- 2. of one list of trees
@@ -65,7 +65,7 @@ module _ (text : List ℕ) (trees : Trees) (errors others : List (Error Rule)) w
   findings_once : HaveFindings text trees errors → HaveFindings text trees others → AreAlike errors others
   findings_once a b =
       let read = rules_once a.give.reads b.give.reads in
-      let told = subst (λ rs. TellFindings rs errors) read a.tell in
+      let told = subst (λ rs. AreErrorsOfFindings rs errors) read a.tell in
       let endless = one_list_of_reports text b.give.read (rules_stand text b.give.reads) told.endless b.tell.endless told.reports b.tell.reports in
       one_list_of_errors b.give.read b.tell.endless errors others (subst (λ us. AreReported b.give.read us errors) endless told.tell) b.tell.tell
 

@@ -7,7 +7,7 @@ use Rattle.meta_base.specs.Language.Expression.{Grammar}
 use Rattle.meta_optimizer.specs.Passes.{IsOptimized}
 use Rattle.meta_base.specs.Language.State.{Classes, State, Trees, Success, Failure}
 use Rattle.meta_base.specs.Pieces.NamedTrees.{named}
-use Rattle.meta_base.specs.Pieces.Saying.{Tell}
+use Rattle.meta_base.specs.Pieces.Saying.{AreErrorsFor}
 use Rattle.meta_base.specs.Pieces.Pairs.{IsSamePairs, pairs_text, pairs_trees}
 use Rattle.meta_base.specs.declared.grammar.Rule.{Rule}
 use Rattle.meta_base.specs.declared.grammar.Rule.TheVariants as rule_is
@@ -20,7 +20,7 @@ use Rattle.meta_spanned.specs.Erasure.{rules_without_spans}
 use Rattle.meta_spanned.specs.Spanned.{SpannedRule}
 use Rattle.meta_reader.specs.Flaws.{Flaw, first_flaw}
 use Rattle.meta_reader.specs.Reading.{ReadsRules}
-use Rattle.meta_reader.specs.Refusals.{AreReadAs, first_flaw_of, IsReadRefusal, TellsOf}
+use Rattle.meta_reader.specs.Refusals.{AreReadAs, first_flaw_of, IsReadRefusal, ReportsFlaw}
 use Rattle.meta_reader.proofs.Uniqueness.{rules_once}
 use Rattle.meta_syntax.specs.MetaGrammar.{meta_grammar}
 use Rattle.meta_syntax.specs.Parses.{AreOfAGrammar, FailsAt, ParseRefuses}
@@ -28,10 +28,10 @@ use Rattle.meta_names.specs.GrammarNames.{AreWrittenAt, complaints_of, first_cal
 use Rattle.meta_stack_loops.specs.Certain.{AreReports}
 use Rattle.meta_validator.specs.Reported.{AreReported}
 use Rattle.meta_validator.proofs.NothingElse.{nothing_else}
-use Rattle.pest_meta.specs.Findings.{TellFindings}
+use Rattle.pest_meta.specs.Findings.{AreErrorsOfFindings}
 use Rattle.pest_meta.proofs.ReportsAgree.{reports_agree}
 use Rattle.pest_meta.specs.Promises.{OfRead}
-use Rattle.pest_meta.specs.Spelling.{AreAccepted, AreFlawed, AreRejected, Give, HasAnswer, HasRefusal, HasTrees, HaveFindings, IsAnswer, complaints_in, HasWrongRules, IsMisnamed, IsNoGrammar, IsRefusal, IsRefusedGrammar, SpellsGrammar}
+use Rattle.pest_meta.specs.Spelling.{AreAccepted, AreFlawed, AreRejected, AreReadAsRules, HasAnswer, HasRefusal, HasTrees, HaveFindings, IsAnswer, complaints_in, HasWrongRules, IsMisnamed, IsNoGrammar, IsRefusal, IsRefusedGrammar, SpellsGrammar}
 
 -- no property name stands for anything
 abbrev pub empty_classes : Classes
@@ -51,7 +51,7 @@ fails_so text place us f h = failure_is_none (same meta_grammar empty_classes (f
 some_is_none : (f : Flaw) → Some f ≡ None → ⊥
 some_is_none f h = cc
 
-pub flawed_give_none : (text : List ℕ) (trees : Trees) (errors : List (Error Rule)) (rules : Grammar) → AreFlawed text trees errors → Give text trees rules → ⊥
+pub flawed_give_none : (text : List ℕ) (trees : Trees) (errors : List (Error Rule)) (rules : Grammar) → AreFlawed text trees errors → AreReadAsRules text trees rules → ⊥
 flawed_give_none text trees errors rules f g = some_is_none f.flaw (sym f.first ∙ g.flawless)
 
 pub spells_once : (text : List ℕ) (rules others : Grammar) → SpellsGrammar text rules → SpellsGrammar text others → rules ≡ others
@@ -67,7 +67,7 @@ trees_or_fails text trees errors h n = fails_so text n.says.place trees n.says.f
 accepted_or_found : (text : List ℕ) (trees : Trees) (rules : Grammar) (errors : List (Error Rule)) → AreAccepted text trees rules → HaveFindings text trees errors → ⊥
 accepted_or_found text trees rules errors a h =
     let read = rules_once h.give.reads a.give.reads in
-    let found = subst (λ rs. TellFindings rs errors) read h.tell in
+    let found = subst (λ rs. AreErrorsOfFindings rs errors) read h.tell in
     let none = reports_agree a.give.read found.endless a.no_reports found.reports in
     h.some (nothing_else a.give.read [] errors a.nothing_found (subst (λ spans. AreReported a.give.read spans errors) none found.tell))
 
@@ -104,7 +104,7 @@ no_grammar text (fault_is.Grammar errors) h =
     inl (record { says = h; none = λ rules s. fails_so text h.place s.trees h.fails s.of_text })
 
 -- what is refused when it is read has a flaw
-pub flawed : (text : List ℕ) (us : Trees) (errors : List (Error Rule)) (o : Option Flaw) → first_flaw text us ≡ o → MatchOption o ⊥ (λ flaw. TellsOf flaw errors) → AreFlawed text us errors
+pub flawed : (text : List ℕ) (us : Trees) (errors : List (Error Rule)) (o : Option Flaw) → first_flaw text us ≡ o → MatchOption o ⊥ (λ flaw. ReportsFlaw flaw errors) → AreFlawed text us errors
 flawed text us errors None e k = absurd k
 flawed text us errors (Some flaw) e k = record { flaw = flaw; first = e; tells = k }
 
@@ -118,7 +118,7 @@ pub memory_rejects : (text : List ℕ) (us : Trees) (fault : code.Fault) → fau
 memory_rejects text us fault e = rw e tt
 
 -- what is read gives rules
-abbrev pub given : (pairs : Pairs Rule) (read : List SpannedRule) (rules : Grammar) → first_flaw_of pairs ≡ None → AreReadAs pairs read → rules ≡ rules_without_spans read → Give (pairs_text pairs) (named (pairs_trees pairs)) rules
+abbrev pub given : (pairs : Pairs Rule) (read : List SpannedRule) (rules : Grammar) → first_flaw_of pairs ≡ None → AreReadAs pairs read → rules ≡ rules_without_spans read → AreReadAsRules (pairs_text pairs) (named (pairs_trees pairs)) rules
 given pairs read rules f r s = record { flawless = f; read = read; reads = r; same = s }
 
 -- what is refused for its names
@@ -129,7 +129,7 @@ misnamed text pairs copy (fault_is.Grammar errors) t h s k =
     rw (s.0, s.1, t) refl in
     let of_text : HasTrees text (named (pairs_trees pairs)) = subst (λ v. HasTrees v (named (pairs_trees pairs))) t h in
     let some : complaints_in text (named (pairs_trees pairs)) ≢ [] = subst (λ cs. cs ≢ []) same k.0 in
-    let tell = subst (λ cs. Tell cs errors.items) same k.1 in
+    let tell = subst (λ cs. AreErrorsFor cs errors.items) same k.1 in
     inr (record { trees = named (pairs_trees pairs); of_text = of_text; why = inl (record { some = some; tell = tell }) })
 
 -- what is refused for its rules, where there is nothing to say of its names

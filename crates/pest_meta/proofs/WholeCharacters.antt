@@ -4,7 +4,7 @@ use Rattle.std.proofs.lemmas.Str.{IsUtf8-between}
 use Rattle.std.specs.Bool.{⊤}
 use Rattle.std.specs.List.{slice_range}
 use Rattle.std.specs.Str.{IsUtf8}
-use Rattle.meta_base.specs.Language.Places.{Nested, Stands}
+use Rattle.meta_base.specs.Language.Places.{Nested, IsStateIn}
 use Rattle.meta_base.specs.Language.State.{Classes, Trees, None', Tree}
 use Rattle.meta_base.proofs.InBytes.{on_bytes}
 use Rattle.meta_base.proofs.TreesAreNested.{fits}
@@ -32,7 +32,7 @@ module _ (text : List ℕ) (utf8 : IsUtf8 text) where
   no_classes : Classes
   no_classes n c = false
 
-  starts : Stands (chars text) (start_of text)
+  starts : IsStateIn (chars text) (start_of text)
   starts = record { front = []; split = refl; size = refl }
 
   pub trees_on_characters : (us : Trees) → HasTrees text us → OnCharacters text us

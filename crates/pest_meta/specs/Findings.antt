@@ -1,4 +1,4 @@
--- What is found in rules, the reports of the stack pass among it.
+-- Findings in rules, with the reports of the stack pass.
 use Rattle.std.specs.Prelude.{List}
 use Rattle.meta_base.specs.declared.grammar.Rule.{Rule}
 use Rattle.meta_base.specs.declared.runtime.errors.Error.{Error}
@@ -6,9 +6,9 @@ use Rattle.meta_spanned.specs.Spanned.{Span, SpannedRule}
 use Rattle.meta_stack_loops.specs.Certain.{AreReports}
 use Rattle.meta_validator.specs.Reported.{AreReported}
 
--- the errors tell of all that is found in the rules, by place: the repetitions that the stack pass reports
--- are among it, and there are no others that are known to be endless
-pub record TellFindings (rules : List SpannedRule) (errors : List (Error Rule)) : Type 0 where
+-- the errors are those of the rules, ordered by position; the repetitions that the stack pass reports are
+-- among them, and there are no others that are known to be endless
+pub record AreErrorsOfFindings (rules : List SpannedRule) (errors : List (Error Rule)) : Type 0 where
   pub endless : List Span
   pub reports : AreReports rules endless
   pub tell : AreReported rules endless errors

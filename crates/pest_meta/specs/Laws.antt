@@ -9,7 +9,7 @@ use Rattle.meta_base.specs.declared.grammar.Rule.{Rule}
 use Rattle.meta_base.specs.declared.runtime.errors.Error.{Error}
 use Rattle.meta_optimizer.specs.Passes.{IsOptimized}
 use Rattle.meta_validator.specs.Alike.{AreAlike}
-use Rattle.pest_meta.specs.Spelling.{AreFlawed, Give, HasAnswer, HasRefusal, HasTrees, HasWrongRules, IsAnswer, IsMisnamed, IsNoGrammar, IsRefusedWith, SpellsGrammar}
+use Rattle.pest_meta.specs.Spelling.{AreFlawed, AreReadAsRules, HasAnswer, HasRefusal, HasTrees, HasWrongRules, IsAnswer, IsMisnamed, IsNoGrammar, IsRefusedWith, SpellsGrammar}
 
 -- a text has one list of trees at most
 abbrev pub HasOneListOfTrees : Type 0
@@ -24,7 +24,7 @@ HasTreesOrFails = (text : List ℕ) (trees : Trees) (errors : List (Error Rule))
 -- trees that have a flaw give no rules
 abbrev pub FlawedGiveNothing : Type 0
 FlawedGiveNothing = (text : List ℕ) (trees : Trees) (errors : List (Error Rule)) (rules : Grammar)
-    → AreFlawed text trees errors → Give text trees rules → ⊥
+    → AreFlawed text trees errors → AreReadAsRules text trees rules → ⊥
 
 -- a text spells one list of rules at most
 abbrev pub SpellsOneGrammar : Type 0
@@ -40,12 +40,12 @@ abbrev pub NamesComeFirst : Type 0
 NamesComeFirst = (text : List ℕ) (trees : Trees) (errors others : List (Error Rule))
     → IsMisnamed text trees errors → HasWrongRules text trees others → ⊥
 
--- a text is refused with one list of errors at most, by what they say and where
+-- a text is refused with one list of errors at most, compared by message and span
 abbrev pub HasOneRefusal : Type 0
 HasOneRefusal = (text : List ℕ) (errors others : List (Error Rule)) → IsRefusedWith text errors
     → IsRefusedWith text others → AreAlike errors others
 
--- what a pass has to leave behind settles what it makes of an expression in a rule of a type
+-- the condition on a pass determines its result for an expression in a rule of a type
 abbrev pub HasOneResult : (RuleType → Expression → Expression → Type 0) → Type 0
 HasOneResult P = (y : RuleType) (a b c : Expression) → P y a b → P y a c → b ≡ c
 
@@ -60,7 +60,7 @@ HasOneListOfBuiltins = (text : List ℕ) (builtins others : List (Bor (List ℕ)
     (answer rules : List OptimizedRule) → IsAnswer text builtins answer → IsAnswer text others rules
     → map (λ t. t.now) builtins ≡ map (λ t. t.now) others
 
--- and they say the same rules
+-- two answers for a text have the same rules
 abbrev pub HasOneListOfRules : Type 0
 HasOneListOfRules = (text : List ℕ) (builtins others : List (Bor (List ℕ)))
     (answer rules : List OptimizedRule) → IsAnswer text builtins answer → IsAnswer text others rules

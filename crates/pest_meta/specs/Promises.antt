@@ -1,4 +1,4 @@
--- What is promised of the grammar that an accepted text spells, and of the rules that are answered for it.
+-- Promises about the grammar that an accepted text spells, and about the answered rules.
 use Rattle.std.specs.Prelude.{◌≡◌, ℕ, List, None, true, All, chars, map}
 use Rattle.std.specs.Borrow.{Bor}
 use Rattle.meta_base.specs.Language.Builtins.{is_one_of}
@@ -18,19 +18,19 @@ use Rattle.pest_meta.specs.Spelling.{HasTrees, SpellsGrammar}
 abbrev pub OfSpelled : List ℕ → (Grammar → Type 0) → Type 0
 OfSpelled text P = (g : Grammar) → SpellsGrammar text g → P g
 
--- this holds of the rules that the text's trees are read as, each node at its place
+-- this holds of the rules that the text's trees are read as, with the spans of nodes
 abbrev pub OfRead : List ℕ → (List SpannedRule → Type 0) → Type 0
 OfRead text P =
     (trees : Trees) (rules : List SpannedRule) → HasTrees text trees → ReadsRules text trees rules → P rules
 
--- the builtins of a grammar: each of these names is a builtin, and no rule has it; and each name that stands
--- in a body and that no rule has is among them
+-- the builtins of a grammar, which no rule has; they include every name that occurs in a body and that no
+-- rule has
 pub record AreBuiltinsOf (g : Grammar) (names : List (Bor (List ℕ))) : Type 0 where
   pub outside : All (λ name. (is_builtin name.now ≡ true) × (rule_of g (chars name.now) ≡ None)) names
   pub complete : (n : Text) → InSomeRule g (Ident n) → rule_of g n ≡ None
       → is_one_of (map (λ name. chars name.now) names) n ≡ true
 
--- it is a grammar, and well-formed
+-- g is a grammar, and well-formed
 abbrev pub IsWellFormedGrammar : Grammar → Type 0
 IsWellFormedGrammar g = IsGrammar g × IsWellFormed g
 

@@ -1,4 +1,4 @@
--- What is said of a fault.
+-- Printed faults.
 use Rattle.std.specs.Prelude.{◌≡◌, ℕ, List, [], ◌∷◌, ◌++◌, codes, string_bytes, ⊤}
 use Rattle.std.specs.List.{join_by}
 use Rattle.meta_base.specs.Pieces.PrintedError.{error_text}
@@ -17,7 +17,8 @@ empty_line = 10 ∷ 10 ∷ []
 abbrev pub report_text : List (Error Rule) → List ℕ
 report_text errors = codes "grammar error" ++ empty_line ++ join_by error_text empty_line errors
 
--- a want of memory is reported as that, and errors as their text, unless memory is wanting for it
+-- an allocation failure is reported as that, and errors as their text, unless an allocation for the text
+-- fails
 abbrev pub IsReportOf : Fault → code.Report → Type 0
 IsReportOf (fault_is.Memory e) report = report ≡ report_is.Memory
 IsReportOf (fault_is.Grammar errors) report_is.Memory = ⊤

@@ -1,8 +1,8 @@
--- What a text spells, and what is answered for it.
+-- The grammar that a text spells, and the answer for the text.
 use Rattle.std.specs.Prelude.{◌≡◌, ◌≢◌, ◌⊎◌, ℕ, List, [], Some, None, ⊤}
 use Rattle.std.specs.Borrow.{Bor}
 use Rattle.meta_base.specs.Language.Expression.{Grammar}
-use Rattle.meta_base.specs.Pieces.Saying.{Complaint, Tell}
+use Rattle.meta_base.specs.Pieces.Saying.{Complaint, AreErrorsFor}
 use Rattle.meta_base.specs.Language.State.{Trees}
 use Rattle.meta_base.specs.Language.WellFormed.{IsWellFormed}
 use Rattle.meta_base.specs.declared.grammar.Rule.{Rule}
@@ -18,19 +18,19 @@ use Rattle.meta_spanned.specs.Spanned.{SpannedRule}
 use Rattle.meta_optimizer.specs.Passes.{IsOptimized}
 use Rattle.meta_reader.specs.Flaws.{Flaw, first_flaw}
 use Rattle.meta_reader.specs.Reading.{ReadsRules}
-use Rattle.meta_reader.specs.Refusals.{TellsOf}
+use Rattle.meta_reader.specs.Refusals.{ReportsFlaw}
 use Rattle.meta_syntax.specs.Parses as parsed
 use Rattle.meta_syntax.specs.Parses.{IsRefused}
 use Rattle.meta_stack_loops.specs.Certain.{AreReports}
 use Rattle.meta_validator.specs.Reported.{AreReported}
-use Rattle.pest_meta.specs.Findings.{TellFindings}
+use Rattle.pest_meta.specs.Findings.{AreErrorsOfFindings}
 
--- the trees of a text: those that the meta-grammar gives for the whole of it
+-- the trees of a text, which the meta-grammar gives for the whole of it
 abbrev pub HasTrees : List ℕ → Trees → Type 0
 HasTrees text trees = parsed.Spells rule_is.grammar_rules text trees
 
 -- trees of a text have no flaw and are read as these rules, spans left out
-pub record Give (text : List ℕ) (trees : Trees) (rules : Grammar) : Type 0 where
+pub record AreReadAsRules (text : List ℕ) (trees : Trees) (rules : Grammar) : Type 0 where
   pub flawless : first_flaw text trees ≡ None
   pub read : List SpannedRule
   pub reads : ReadsRules text trees read
@@ -40,7 +40,7 @@ pub record Give (text : List ℕ) (trees : Trees) (rules : Grammar) : Type 0 whe
 pub record SpellsGrammar (text : List ℕ) (rules : Grammar) : Type 0 where
   pub trees : Trees
   pub of_text : HasTrees text trees
-  pub give : Give text trees rules
+  pub give : AreReadAsRules text trees rules
 
 -- the text spells no rules
 abbrev pub SpellsNone : List ℕ → Type 0
@@ -49,33 +49,33 @@ SpellsNone text = (rules : Grammar) → SpellsGrammar text rules → ⊥
 -- trees of a text give these rules, the stack pass reports nothing of them, nothing else is found in them,
 -- and they are well-formed
 pub record AreAccepted (text : List ℕ) (trees : Trees) (rules : Grammar) : Type 0 where
-  pub give : Give text trees rules
+  pub give : AreReadAsRules text trees rules
   pub no_reports : AreReports give.read []
   pub nothing_found : AreReported give.read [] []
   pub well_formed : IsWellFormed rules
 
--- trees of a text have a flaw, and one error tells of the first
+-- trees of a text have a flaw, and one error reports the first
 pub record AreFlawed (text : List ℕ) (trees : Trees) (errors : List (Error Rule)) : Type 0 where
   pub flaw : Flaw
   pub first : first_flaw text trees ≡ Some flaw
-  pub tells : TellsOf flaw errors
+  pub tells : ReportsFlaw flaw errors
 
--- trees of a text give rules in which something is found, reports of the stack pass among it, and the errors
--- tell of it
+-- trees of a text give rules in which something is found, reports of the stack pass among it, and the
+-- errors report it
 pub record HaveFindings (text : List ℕ) (trees : Trees) (errors : List (Error Rule)) : Type 0 where
   pub rules : Grammar
-  pub give : Give text trees rules
+  pub give : AreReadAsRules text trees rules
   pub some : errors ≢ []
-  pub tell : TellFindings give.read errors
+  pub tell : AreErrorsOfFindings give.read errors
 
--- why trees of a text are not accepted: memory is wanting, or they have a flaw, or something is found in
+-- why trees of a text are not accepted: an allocation failed, or they have a flaw, or something is found in
 -- their rules
 abbrev pub AreRejected : List ℕ → Trees → code.Fault → Type 0
 AreRejected text trees (fault_is.Memory e) = ⊤
 AreRejected text trees (fault_is.Grammar errors) = AreFlawed text trees errors.items
     ⊎ HaveFindings text trees errors.items
 
--- what there is to say of the names in trees of a text: keywords, names defined twice, undefined names
+-- the diagnostics about names in trees of a text: keywords, names defined twice, undefined names
 abbrev pub complaints_in : List ℕ → Trees → List Complaint
 complaints_in text trees = name_complaints (definitions text trees) (calls text trees)
 
@@ -91,17 +91,17 @@ pub record IsAnswer (text : List ℕ) (builtins : List (Bor (List ℕ)))
   pub accepted : AreAccepted text trees spelled
   pub optimized : IsOptimized spelled (optimized_rules_of answer)
 
--- the text is no grammar: one syntax error says so, at the furthest place of a failure
+-- the text is no grammar: one syntax error reports the furthest position of a failure
 pub record IsNoGrammar (text : List ℕ) (errors : List (Error Rule)) : Type 0 where
   pub says : IsRefused rule_is.grammar_rules text errors
   pub none : SpellsNone text
 
--- the errors tell of the names of a text's trees
+-- the errors are those of the names in a text's trees
 pub record IsMisnamed (text : List ℕ) (trees : Trees) (errors : List (Error Rule)) : Type 0 where
   pub some : complaints_in text trees ≢ []
-  pub tell : Tell (complaints_in text trees) errors
+  pub tell : AreErrorsFor (complaints_in text trees) errors
 
--- the names in a text's trees are in order, and the errors tell of the first flaw, or of what is found
+-- the names in a text's trees are in order, and the errors report the first flaw, or all findings
 pub record HasWrongRules (text : List ℕ) (trees : Trees) (errors : List (Error Rule)) : Type 0 where
   pub well_named : complaints_in text trees ≡ []
   pub why : AreFlawed text trees errors ⊎ HaveFindings text trees errors
@@ -112,11 +112,11 @@ pub record IsRefusedGrammar (text : List ℕ) (errors : List (Error Rule)) : Typ
   pub of_text : HasTrees text trees
   pub why : IsMisnamed text trees errors ⊎ HasWrongRules text trees errors
 
--- the text is refused with these errors: it is no grammar, or a grammar that is refused
+-- the text is refused with these errors, either as no grammar, or as a grammar that is refused
 abbrev pub IsRefusedWith : List ℕ → List (Error Rule) → Type 0
 IsRefusedWith text errors = IsNoGrammar text errors ⊎ IsRefusedGrammar text errors
 
--- why a text has no answer: memory is wanting, or it is refused with errors
+-- why a text has no answer: an allocation failed, or the text is refused with errors
 abbrev pub IsRefusal : List ℕ → code.Fault → Type 0
 IsRefusal text (fault_is.Memory e) = ⊤
 IsRefusal text (fault_is.Grammar errors) = IsRefusedWith text errors.items

@@ -9,13 +9,14 @@ ghost use Rattle.pest_meta.specs.Laws.{FlawedGiveNothing, HasOneListOfBuiltins, 
 ghost use Rattle.pest_meta.specs.Laws.{HasOneOptimization, HasOneRefusal, HasOneResult, HasTreesOrFails, IsNotBoth};
 ghost use Rattle.pest_meta.specs.Laws.{NamesComeFirst, SpellsOneGrammar};
 
-/// A text spells one list of rules at most.
+/// Proves that a text spells one list of rules at most.
 pub fn spells_one_grammar()
     ensures { SpellsOneGrammar }
 {}
 
-/// A text has one list of trees at most. If it has one, it is not refused as no grammar; and if these have a
-/// flaw, they give no rules. So where there is an answer for a text, there is no reason to refuse it.
+/// Proves that a text has one list of trees at most. If it has one, it is not refused as no grammar; and if
+/// these have a flaw, they give no rules. So where there is an answer for a text, there is no reason to
+/// refuse it.
 pub fn one_kind_of_answer()
     ensures trees { HasOneListOfTrees }
     ensures syntax { HasTreesOrFails }
@@ -23,15 +24,15 @@ pub fn one_kind_of_answer()
     ensures exclusive { IsNotBoth }
 {}
 
-/// A text is refused with one list of errors at most: two lists are as long, and error by error they have one
-/// message and one place. Errors of names come first: where they are told, no flaw is, and no finding.
+/// Proves that a text is refused with one list of errors at most: two lists are as long, and error by error
+/// they have one message and one span. Errors of names come first, without any flaw or finding.
 pub fn one_refusal()
     ensures names { NamesComeFirst }
     ensures errors { HasOneRefusal }
 {}
 
-/// What a pass has to leave behind settles what it makes of a body: each has one result at most, and so have
-/// the wrappers, put where the restorer puts them, and all of them together.
+/// Proves that the condition on a pass determines its result for a body. So do the conditions on the
+/// wrappers, put where the restorer puts them, and on all passes together.
 pub fn one_result()
     ensures rotate { HasOneResult (λ y. IsDone Rotates) }
     ensures skip { (g : Grammar) → HasOneResult (λ y. IsDone (SkipsUntil g y)) }
@@ -42,15 +43,15 @@ pub fn one_result()
     ensures optimize { HasOneOptimization }
 {}
 
-/// A text has one answer at most: two answers have the same builtins, each as it is written, and they say the
-/// same rules.
+/// Proves that a text has one answer at most: two answers have the same builtins, as written, and the same
+/// rules.
 pub fn one_answer()
     ensures builtins { HasOneListOfBuiltins }
     ensures rules { HasOneListOfRules }
 {}
 
-/// Steps, the listing of every body and the wrappers bring in no way from `WHITESPACE` or `COMMENT` to `POP`
-/// or `POP_ALL`.
+/// Proves that steps, the listing of every body and the wrappers bring in no way from `WHITESPACE` or
+/// `COMMENT` to `POP` or `POP_ALL`.
 pub fn wrappers_still_suffice()
     ensures steps { (g h : Grammar) → Chain g h → WrappersSuffice g → WrappersSuffice h }
     ensures listing { (g h : Grammar) → EachListed g h → WrappersSuffice g → WrappersSuffice h }

@@ -28,22 +28,21 @@ use runtime::Fault;
 use std::alloc::Global;
 use validator::validate_pairs;
 
-/// The builtins that a grammar uses, and its optimized rules.
+/// Parses a grammar; returns the builtins that it uses, and its optimized rules.
 ///
-/// The builtins are the names that it calls and doesn't define, each once, in the order of their first calls,
-/// each as it is written there; each is one of pest's own, or the name of a Unicode property. The rules are
-/// those that the text spells, in order, with their names and types. Their bodies are rewritten, by steps
-/// that keep what they do from every start, then listed, which may change what some of them match, and then
-/// given wrappers. They call nothing but rules and builtins. If the text's grammar is plain, each rule has exactly one outcome from every start. Where
-/// the text's `WHITESPACE` and `COMMENT` reach no `POP` and no `POP_ALL`, it does not matter for the answered
-/// rules what a failed `POP` or `POP_ALL` leaves of the stack. Of an accepted text the stack pass reports
-/// nothing.
+/// The builtins are the names that the grammar calls and doesn't define, without duplicates, in the order
+/// of their first calls, as they are written there; all are pest's own, or names of Unicode properties. The
+/// rules are those that the text spells, in order, with their names and types. Their bodies are rewritten,
+/// by steps that keep what they do from every start, then listed, which may change what some of them match,
+/// and then given wrappers. They call nothing but rules and builtins. If the text's grammar is plain, every
+/// rule has exactly one outcome from every start. If the text's `WHITESPACE` and `COMMENT` reach no `POP`
+/// and no `POP_ALL`, it does not matter for the answered rules what a failed `POP` or `POP_ALL` leaves of
+/// the stack. The stack pass reports nothing for an accepted text.
 ///
-/// Refused for want of memory; where the text is no grammar, with one syntax error; where its names are not
-/// in order, with the errors of `validator::validate_pairs`; and where its rules are not, with those of
-/// `parser::consume_rules`, reports of the stack pass among them: the first of these that has something to
-/// say. Places in errors count bytes, lines and columns from 1. An answer is given only where there is no
-/// such reason.
+/// Errors: an allocation failure; one syntax error if the text is no grammar; the errors of
+/// `validator::validate_pairs` if its names are not in order; and the errors of `parser::consume_rules`, with
+/// the reports of the stack pass, if its rules are not. The first of these applies. Positions in errors
+/// count bytes, lines and columns from 1. An answer is returned only if none of them applies.
 pub fn parse_and_optimize<'i>(
     alloc: Global,
     grammar: &'i str,

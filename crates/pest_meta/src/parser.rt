@@ -19,11 +19,11 @@ use meta_spanned::erase_spans;
 pub use meta_spanned::release;
 use std::alloc::Global;
 
-/// The rules that the pairs of a grammar's text spell, in order, without spans. `pairs` are all those of a
-/// parse of a text by `grammar_rules`.
+/// Returns the rules that the pairs of a grammar's text spell, in order, without spans. `pairs` are all
+/// those of a parse of a text by `grammar_rules`.
 ///
-/// Refused for want of memory; with the one error of the first flaw, as `consume_rules_with_spans`; or with
-/// all errors that `validate_ast` finds in the rules, reports of the stack pass among them.
+/// Errors: an allocation failure; the one error of the first flaw, as in `consume_rules_with_spans`; or all
+/// errors that `validate_ast` finds in the rules, with the reports of the stack pass.
 pub fn consume_rules(alloc: Global, pairs: Pairs<'_, Rule>) -> Result<Vec<ast::Rule>, Fault>
     requires { AreOfAGrammar pairs }
     ensures rules { IfOk result

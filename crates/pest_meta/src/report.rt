@@ -1,4 +1,4 @@
-//! What is said of a fault.
+//! Printed faults.
 ghost use Rattle.std.specs.Prelude.{◌≡◌, IfErr, IfOk, IsErrAnd, string_bytes};
 ghost use Rattle.pest_meta.specs.Reports.{IsReportOf, report_text};
 
@@ -6,17 +6,17 @@ use meta_base::grammar::Rule;
 use meta_base::runtime::{Error, Fault};
 use std::alloc::{AllocError, Global};
 
-/// What is said of a fault.
+/// A printed fault.
 #[derive(Debug, Drop)]
 pub enum Report {
-    /// Want of memory, for the answer or for the text.
+    /// An allocation failure, for the answer or for the text.
     Memory,
     /// `grammar error`, an empty line, and the printed errors with an empty line between two of them.
     Text(String),
 }
 
-/// The value of an outcome, or what is said of its fault. Where memory is wanting for that text, it is
-/// `Memory` too.
+/// Returns the value of an outcome, or its printed fault. An allocation failure while printing is `Memory`,
+/// too.
 pub fn unwrap_or_report<T>(alloc: Global, outcome: Result<T, Fault>) -> Result<T, Report>
     ensures value { IfOk outcome (λ value. result ≡ Ok value) }
     ensures report { IfErr outcome (λ fault. IsErrAnd result (IsReportOf fault)) }
@@ -24,15 +24,15 @@ pub fn unwrap_or_report<T>(alloc: Global, outcome: Result<T, Fault>) -> Result<T
     match outcome {
         Ok(value) => Ok(value),
         Err(Fault::Memory(_)) => Err(Report::Memory),
-        Err(Fault::Grammar(errors)) => match printed(alloc, &errors) {
+        Err(Fault::Grammar(errors)) => match print_errors(alloc, &errors) {
             Ok(text) => Err(Report::Text(text)),
             Err(_) => Err(Report::Memory),
         },
     }
 }
 
-/// `grammar error`, an empty line, and the printed errors with an empty line between two of them.
-fn printed(alloc: Global, errors: &[Error<Rule>]) -> Result<String, AllocError>
+/// Prints `grammar error`, an empty line, and the errors with an empty line between two of them.
+fn print_errors(alloc: Global, errors: &[Error<Rule>]) -> Result<String, AllocError>
     ensures { IfOk result (λ text. string_bytes text ≡ report_text errors.now) }
 {
     let mut text = String::from_str(alloc, "grammar error\n\n")?;

@@ -1,13 +1,13 @@
-//! What is wrong with a grammar's names and rules, as errors.
+//! Errors in a grammar's names and rules.
 ghost use Rattle.std.specs.Prelude.{◌≡◌, [], IfErr, IfOk, alloc_error};
 ghost use Rattle.meta_base.specs.Language.WellFormed.{IsWellFormed};
 ghost use Rattle.meta_spanned.specs.Erasure.{rules_without_spans};
 ghost use Rattle.meta_spanned.specs.Nodes.{rule_views};
 ghost use Rattle.meta_stack_loops.specs.Certain.{AreReports};
 ghost use Rattle.meta_validator.specs.Placed.{AreIn};
-ghost use Rattle.pest_meta.specs.Findings.{TellFindings};
+ghost use Rattle.pest_meta.specs.Findings.{AreErrorsOfFindings};
 
-use meta_analysis::groundwork_of;
+use meta_analysis::analyze;
 use meta_base::grammar::Rule;
 use meta_base::runtime::{Error, Fault};
 pub use meta_names::{
@@ -21,57 +21,57 @@ use meta_validator::validator::{validate_by, validate_by_in};
 pub use meta_validator::validator::{is_non_failing, is_non_progressing};
 use std::alloc::Global;
 
-/// What is wrong with rules, by the start of each place and then by its end, in bytes (at one place
-/// repetitions, then those that never end by what is known of the stack, then choices, then skipped rules,
-/// then left recursion, then tags):
+/// Returns the errors in rules, ordered by the start of their spans and then by the end, in bytes (at one
+/// span repetitions, then those that never end because of the stack, then choices, then skipped rules, then
+/// left recursion, then tags):
 /// - `expression inside repetition cannot fail and will repeat infinitely` or, where that is not so,
-///   `expression inside repetition is non-progressing and will repeat infinitely`, at a repetition `e*`, `e+`
-///   or `e{n,}` whose body cannot fail, or may take nothing;
-/// - the second of these messages at one that certainly never ends by what is known of the stack
+///   `expression inside repetition is non-progressing and will repeat infinitely`, at a repetition `e*`,
+///   `e+` or `e{n,}` whose body cannot fail, or may take nothing;
+/// - the second of these messages at one that certainly never ends because of the stack
 ///   (`validate_stack_repetition`);
 /// - `expression cannot fail; following choices cannot be reached`, at an alternative that cannot fail and
-///   has others behind it;
+///   has others after it;
 /// - `WHITESPACE cannot fail and will repeat infinitely` or, where that is not so,
-///   `WHITESPACE is non-progressing and will repeat infinitely`, at the body of the rule `WHITESPACE`; and
-///   the same of `COMMENT`;
+///   `WHITESPACE is non-progressing and will repeat infinitely`, at the body of the rule `WHITESPACE`; and so
+///   for `COMMENT`;
 /// - `rule a is left-recursive (a -> b -> a); pest::pratt_parser might be useful in this case`, at the call
-///   that closes the trail, at most once for a name;
+///   that closes the cycle, at most once for a name;
 /// - `tags on silent rules will not appear in the output`, at a tag on a Silent rule, and
 ///   `tags on built-in rules will not appear in the output`, at one on a builtin that is no rule's name.
 ///
-/// The only fault is a want of memory.
+/// The only fault is an allocation failure.
 pub fn validate_ast<'i>(
     alloc: Global,
     rules: &Vec<ParserRule<'i>>,
 ) -> Result<Vec<Error<Rule>>, Fault>
-    ensures exact { IfOk result (λ errors. TellFindings (rule_views rules.now.items) errors.items) }
+    ensures exact { IfOk result (λ errors. AreErrorsOfFindings (rule_views rules.now.items) errors.items) }
     ensures accepted { IfOk result (λ errors. errors.items ≡ []
         → IsWellFormed (rules_without_spans (rule_views rules.now.items))) }
     ensures silent { IfOk result (λ errors. errors.items ≡ [] → AreReports (rule_views rules.now.items) []) }
     ensures memory { IfErr result (λ fault. fault ≡ Fault.Memory alloc_error) }
 {
     let rules = rules.as_slice();
-    let groundwork = groundwork_of(alloc, rules)?;
+    let groundwork = analyze(alloc, rules)?;
     let endless = sorted_reports_in(alloc, rules, &groundwork)?;
     validate_by(alloc, rules, &groundwork, endless.as_slice())
 }
 
-/// What is wrong with rules, as `validate_ast` tells it, where all their spans are of one text: that is
-/// walked over once for the places of all errors. The only fault is a want of memory.
+/// Returns the errors of `validate_ast` for rules whose spans are all of one text, which is walked over
+/// once for the lines and columns of all errors. The only fault is an allocation failure.
 pub fn validate_ast_in<'i>(
     alloc: Global,
     text: &str,
     rules: &Vec<ParserRule<'i>>,
 ) -> Result<Vec<Error<Rule>>, Fault>
     requires in_text { AreIn text.now (rule_views rules.now.items) }
-    ensures exact { IfOk result (λ errors. TellFindings (rule_views rules.now.items) errors.items) }
+    ensures exact { IfOk result (λ errors. AreErrorsOfFindings (rule_views rules.now.items) errors.items) }
     ensures accepted { IfOk result (λ errors. errors.items ≡ []
         → IsWellFormed (rules_without_spans (rule_views rules.now.items))) }
     ensures silent { IfOk result (λ errors. errors.items ≡ [] → AreReports (rule_views rules.now.items) []) }
     ensures memory { IfErr result (λ fault. fault ≡ Fault.Memory alloc_error) }
 {
     let rules = rules.as_slice();
-    let groundwork = groundwork_of(alloc, rules)?;
+    let groundwork = analyze(alloc, rules)?;
     let endless = sorted_reports_in(alloc, rules, &groundwork)?;
     validate_by_in(alloc, text, rules, &groundwork, endless.as_slice())
 }

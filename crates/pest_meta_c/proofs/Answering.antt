@@ -19,7 +19,7 @@ use Rattle.meta_spanned.specs.declared.node.ParserRule.{ParserRule}
 use Rattle.meta_reader.specs.Refusals.{AreReadAs, first_flaw_of}
 use Rattle.meta_syntax.specs.Parses.{AreOfAGrammar}
 use Rattle.pest_meta.specs.Spelling.{AreAccepted}
-use Rattle.pest_meta_c.specs.declared.outcome.Unanswered as why
+use Rattle.pest_meta_c.specs.declared.outcome.CallError as why
 use Rattle.pest_meta_c.specs.Answers.{AreNames, AreNodes, AreRules}
 
 pub names_answered : (text json : List ℕ) (pairs : Pairs Rule) (names : List (Bor (List ℕ))) → pairs_text pairs ≡ text → AreOfAGrammar pairs → complaints_of pairs ≡ [] → AreWrittenAt (first_calls_of pairs) names
@@ -56,7 +56,7 @@ nodes_answered text json pairs rules same h flawless read written = subst (λ v.
 })
 
 -- JSON of which this holds is answered, unless memory is wanting
-pub answered_from : (P : List ℕ → Type 0) (d : Data) (json : Result (String Global) AllocError) (outcome : Result (String Global) why.Unanswered) → IfOk json (λ text. string_bytes text ≡ compact_text d) → ((bytes : List ℕ) → bytes ≡ compact_text d → P bytes)
+pub answered_from : (P : List ℕ → Type 0) (d : Data) (json : Result (String Global) AllocError) (outcome : Result (String Global) why.CallError) → IfOk json (λ text. string_bytes text ≡ compact_text d) → ((bytes : List ℕ) → bytes ≡ compact_text d → P bytes)
     → IfOk outcome (λ text. json ≡ Ok text) → IfOk outcome (λ text. P (string_bytes text))
 answered_from P d json (Ok text) h f same = f (string_bytes text) (subst (λ r. IfOk r (λ t. string_bytes t ≡ compact_text d)) same h)
 answered_from P d json (Err reason) h f same = tt

@@ -1,17 +1,17 @@
 -- What goes over is handed over, by its status.
 use Rattle.std.proofs.Common.{◌≡◌, ◌<◌, ◌≤◌, ◌⊎◌, ℕ, List, Result, Ok, Err, IfOk, IfErr, String, Global, length, string_bytes, inl, inr, refl, sym, ◌∙◌, arith}
 use Rattle.std.proofs.lemmas.Bool.{cases_lt}
-use Rattle.pest_meta_c.specs.Handing.{GoesOver, Hands, IsPut}
-use Rattle.pest_meta_c.specs.Outcomes.{Says}
-use Rattle.pest_meta_c.specs.declared.outcome.Unanswered as why
-use Rattle.pest_meta_c.specs.declared.outcome.Unanswered.TheVariants as why_is
+use Rattle.pest_meta_c.specs.Handing.{HandsOver, IsHandedOver, IsPut}
+use Rattle.pest_meta_c.specs.Outcomes.{RefusesWith}
+use Rattle.pest_meta_c.specs.declared.outcome.CallError as why
+use Rattle.pest_meta_c.specs.declared.outcome.CallError.TheVariants as why_is
 
 -- bytes that are an answer, with status 0, or a refusal, with status 1
 hands_put : (Answer Refusal : List ℕ → Type 0) (wanted : ℕ) (bytes old new : List ℕ) (needed status : ℕ) → wanted ≤ 1 → (wanted ≡ 0 → Answer bytes) → (wanted ≡ 1 → Refusal bytes) → (Answer bytes ⊎ Refusal bytes)
-    → IsPut wanted bytes old new needed status → Hands Answer Refusal old new needed status
+    → IsPut wanted bytes old new needed status → HandsOver Answer Refusal old new needed status
 hands_put Answer Refusal wanted bytes old new needed status most a r one p = go (cases_lt (length old) (length bytes))
   where
-    go : (length old < length bytes) ⊎ (length bytes ≤ length old) → Hands Answer Refusal old new needed status
+    go : (length old < length bytes) ⊎ (length bytes ≤ length old) → HandsOver Answer Refusal old new needed status
     go (inl less) = let q = p.no_room less in let four : status ≡ 4 = q.0 in record {
       known = omega arith;
       answered = λ e. absurd (omega arith);
@@ -36,8 +36,8 @@ one_or_zero : ◌≡◌ {A = ℕ} 1 0 → ⊥
 one_or_zero e = omega arith
 
 -- an outcome
-pub hands : (Answer Refusal : List ℕ → Type 0) (outcome : Result (String Global) why.Unanswered) (old new : List ℕ) (needed status : ℕ) → IfOk outcome (λ json. Answer (string_bytes json)) → IfErr outcome (Says Refusal)
-    → GoesOver outcome old new needed status → Hands Answer Refusal old new needed status
+pub hands : (Answer Refusal : List ℕ → Type 0) (outcome : Result (String Global) why.CallError) (old new : List ℕ) (needed status : ℕ) → IfOk outcome (λ json. Answer (string_bytes json)) → IfErr outcome (RefusesWith Refusal)
+    → IsHandedOver outcome old new needed status → HandsOver Answer Refusal old new needed status
 hands Answer Refusal (Ok json) old new needed status a r g =
     hands_put Answer Refusal 0 (string_bytes json) old new needed status (omega arith) (λ e. a) (λ e. absurd (zero_or_one e)) (inl a) g
 hands Answer Refusal (Err (why_is.Refused json)) old new needed status a r g =
@@ -52,7 +52,7 @@ hands Answer Refusal (Err why_is.Memory) old new needed status a r g = let two :
 }
 
 -- what is not UTF-8 goes over as nothing
-pub hands_no_text : (Answer Refusal : List ℕ → Type 0) (old : List ℕ) (needed status : ℕ) → status ≡ 3 → needed ≡ 0 → Hands Answer Refusal old old needed status
+pub hands_no_text : (Answer Refusal : List ℕ → Type 0) (old : List ℕ) (needed status : ℕ) → status ≡ 3 → needed ≡ 0 → HandsOver Answer Refusal old old needed status
 hands_no_text Answer Refusal old needed status three none = record {
   known = omega arith;
   answered = λ e. absurd (omega arith);
@@ -70,7 +70,7 @@ put_is_text wanted bytes old new needed status most p e = go (cases_lt (length o
     go (inr fit) = let same : status ≡ wanted = (p.put fit).0 in omega arith
 
 -- an outcome goes over with another status than that of what is not UTF-8
-pub is_text : (outcome : Result (String Global) why.Unanswered) (old new : List ℕ) (needed status : ℕ) → GoesOver outcome old new needed status → status ≡ 3 → ⊥
+pub is_text : (outcome : Result (String Global) why.CallError) (old new : List ℕ) (needed status : ℕ) → IsHandedOver outcome old new needed status → status ≡ 3 → ⊥
 is_text (Ok json) old new needed status g e = put_is_text 0 (string_bytes json) old new needed status (omega arith) g e
 is_text (Err (why_is.Refused json)) old new needed status g e = put_is_text 1 (string_bytes json) old new needed status (omega arith) g e
 is_text (Err why_is.Memory) old new needed status g e = let two : status ≡ 2 = g.0 in omega arith

@@ -11,29 +11,29 @@ use Rattle.meta_base.specs.declared.runtime.faults.Fault as code
 use Rattle.meta_base.specs.declared.runtime.faults.Fault.TheVariants as fault_is
 use Rattle.meta_base.specs.declared.runtime.tokens.Pairs.{Pairs}
 use Rattle.meta_json.specs.RuleNames.{IsOfNoRule}
-use Rattle.meta_json.specs.declared.refusal.Place.{Place}
-use Rattle.meta_json.specs.declared.refusal.Place.TheVariants as place_is
-use Rattle.meta_json.specs.declared.refusal.Why.{Why}
-use Rattle.meta_json.specs.declared.refusal.Why.TheVariants as json_why
+use Rattle.meta_json.specs.declared.refusal.RefusalLocation.{RefusalLocation}
+use Rattle.meta_json.specs.declared.refusal.RefusalLocation.TheVariants as place_is
+use Rattle.meta_json.specs.declared.refusal.RefusalReason.{RefusalReason}
+use Rattle.meta_json.specs.declared.refusal.RefusalReason.TheVariants as json_why
 use Rattle.meta_names.specs.GrammarNames.{IsNameRefusal, complaints_of}
 use Rattle.meta_reader.specs.Refusals.{first_flaw_of, IsReadRefusal}
 use Rattle.meta_syntax.specs.Parses.{AreOfAGrammar, ParseRefuses}
 use Rattle.pest_meta.proofs.Spelled.{fails_so, flawed}
 use Rattle.pest_meta.specs.Spelling.{AreFlawed, AreRejected, HaveFindings, IsMisnamed, IsNoGrammar, IsRefusal, IsRefusedWith}
-use Rattle.pest_meta_c.specs.Outcomes.{IsRefusalOf, IsTold, Says}
+use Rattle.pest_meta_c.specs.Outcomes.{IsFaultRefusal, IsRefusalOf, RefusesWith}
 use Rattle.meta_json.specs.Refusals.{IsRefusedText}
 use Rattle.meta_json.specs.declared.refusal.Refusal.TheVariants as refusal_is
-use Rattle.pest_meta_c.specs.Refusals.{HasNoTokens, IsNoJson, OfTrees, TellSuch}
-use Rattle.pest_meta_c.specs.declared.outcome.Unanswered as why
-use Rattle.pest_meta_c.specs.declared.outcome.Unanswered.TheVariants as why_is
+use Rattle.pest_meta_c.specs.Refusals.{HasNoTokens, IsNoJson, OfTrees, ReportsSuch}
+use Rattle.pest_meta_c.specs.declared.outcome.CallError as why
+use Rattle.pest_meta_c.specs.declared.outcome.CallError.TheVariants as why_is
 
 -- this holds of a fault's errors, if it has some
 abbrev pub OfErrors : (List (Error Rule) → Type 0) → code.Fault → Type 0
 OfErrors Such (fault_is.Memory e) = Unit {0}
 OfErrors Such (fault_is.Grammar errors) = Such errors.items
 
-pub told_such : (text : List ℕ) (Such : List (Error Rule) → Type 0) (fault : code.Fault) (told : why.Unanswered) → OfErrors Such fault → IsTold rule_is.grammar_rules text fault told → Says (TellSuch text Such) told
-told_such text Such (fault_is.Memory e) told h t = subst (Says (TellSuch text Such)) (sym t) tt
+pub told_such : (text : List ℕ) (Such : List (Error Rule) → Type 0) (fault : code.Fault) (told : why.CallError) → OfErrors Such fault → IsFaultRefusal rule_is.grammar_rules text fault told → RefusesWith (ReportsSuch text Such) told
+told_such text Such (fault_is.Memory e) told h t = subst (RefusesWith (ReportsSuch text Such)) (sym t) tt
 told_such text Such (fault_is.Grammar errors) why_is.Memory h t = tt
 told_such text Such (fault_is.Grammar errors) (why_is.Refused json) h t = record { errors = errors.items; such = h; told = t }
 
@@ -42,11 +42,11 @@ no_trees : (text : List ℕ) (fault : code.Fault) → ParseRefuses rule_is.gramm
 no_trees text (fault_is.Memory e) h = tt
 no_trees text (fault_is.Grammar errors) h = record { says = h; none = λ rules s. fails_so text h.place s.trees h.fails s.of_text }
 
-pub no_grammar : (text : List ℕ) (fault : code.Fault) (told : why.Unanswered) → ParseRefuses rule_is.grammar_rules text fault → IsTold rule_is.grammar_rules text fault told → Says (TellSuch text (IsNoGrammar text)) told
+pub no_grammar : (text : List ℕ) (fault : code.Fault) (told : why.CallError) → ParseRefuses rule_is.grammar_rules text fault → IsFaultRefusal rule_is.grammar_rules text fault told → RefusesWith (ReportsSuch text (IsNoGrammar text)) told
 no_grammar text fault told h t = told_such text (IsNoGrammar text) fault told (no_trees text fault h) t
 
 -- which is one way to be refused, whatever would be said of its trees
-pub without_trees : (text : List ℕ) (Refused : Trees → List (Error Rule) → Type 0) (told : why.Unanswered) → Says (TellSuch text (IsNoGrammar text)) told → Says (TellSuch text (OfTrees Refused text)) told
+pub without_trees : (text : List ℕ) (Refused : Trees → List (Error Rule) → Type 0) (told : why.CallError) → RefusesWith (ReportsSuch text (IsNoGrammar text)) told → RefusesWith (ReportsSuch text (OfTrees Refused text)) told
 without_trees text Refused why_is.Memory t = tt
 without_trees text Refused (why_is.Refused json) t = record { errors = t.errors; such = inl t.such; told = t.told }
 
@@ -83,18 +83,18 @@ refused text (fault_is.Memory e) h = tt
 refused text (fault_is.Grammar errors) h = h
 
 -- a text that doesn't begin with what a rule matches
-pub no_match : (text name : List ℕ) (rule : Rule) (fault : code.Fault) (told : why.Unanswered) → name_of rule ≡ name → ParseRefuses rule text fault → IsTold rule text fault told → Says (HasNoTokens text name) told
-no_match text name rule (fault_is.Memory e) told n h t = subst (Says (HasNoTokens text name)) (sym t) tt
+pub no_match : (text name : List ℕ) (rule : Rule) (fault : code.Fault) (told : why.CallError) → name_of rule ≡ name → ParseRefuses rule text fault → IsFaultRefusal rule text fault told → RefusesWith (HasNoTokens text name) told
+no_match text name rule (fault_is.Memory e) told n h t = subst (RefusesWith (HasNoTokens text name)) (sym t) tt
 no_match text name rule (fault_is.Grammar errors) why_is.Memory n h t = tt
 no_match text name rule (fault_is.Grammar errors) (why_is.Refused json) n h t =
     inr (record { rule = rule; named = n; errors = errors.items; refused = h; told = t })
 
 -- a name that no rule has
-pub unknown : (text name : List ℕ) (told : why.Unanswered) → IsOfNoRule name → IsRefusalOf place_is.Whole json_why.UnknownRule told → Says (HasNoTokens text name) told
+pub unknown : (text name : List ℕ) (told : why.CallError) → IsOfNoRule name → IsRefusalOf place_is.Whole json_why.UnknownRule told → RefusesWith (HasNoTokens text name) told
 unknown text name why_is.Memory none t = tt
 unknown text name (why_is.Refused json) none t = inl (record { none = none; written = t })
 
 -- JSON that has no rules
-pub no_json : (text : List ℕ) (place : Place) (reason : Why) (told : why.Unanswered) → IsRefusedText text (refusal_is.Text place reason) → IsRefusalOf place reason told → Says (IsNoJson text) told
+pub no_json : (text : List ℕ) (place : RefusalLocation) (reason : RefusalReason) (told : why.CallError) → IsRefusedText text (refusal_is.Text place reason) → IsRefusalOf place reason told → RefusesWith (IsNoJson text) told
 no_json text place reason why_is.Memory r t = tt
 no_json text place reason (why_is.Refused json) r t = (place, reason, r, t)

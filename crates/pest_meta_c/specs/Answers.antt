@@ -1,4 +1,4 @@
--- What each call answers, as bytes of JSON.
+-- The answers of the calls, as bytes of JSON.
 use Rattle.std.specs.Prelude.{◌≡◌, ℕ, List, [], ◌∷◌, None, length}
 use Rattle.std.specs.Borrow.{Bor}
 use Rattle.serde_json.specs.Written.{compact_text}
@@ -9,7 +9,7 @@ use Rattle.meta_ast.specs.declared.optimized.OptimizedRule.{OptimizedRule}
 use Rattle.meta_base.specs.Language.State.{Trees}
 use Rattle.meta_base.specs.Language.WellFormed.{HasReadableCounts, IsPlain}
 use Rattle.meta_base.specs.Pieces.MetaRules.{name_of}
-use Rattle.meta_base.specs.Pieces.Saying.{Tell, piece}
+use Rattle.meta_base.specs.Pieces.Saying.{AreErrorsFor, piece}
 use Rattle.meta_base.specs.declared.grammar.Rule.{Rule}
 use Rattle.meta_base.specs.declared.runtime.errors.Error.{Error}
 use Rattle.meta_json.specs.Errors.{answer_data, errors_data, names_data}
@@ -28,17 +28,17 @@ use Rattle.meta_reader.specs.Reading.{ReadsRules}
 use Rattle.meta_restorer.specs.Agreeing.{AgreesLoosely, WrappersSuffice}
 use Rattle.meta_stack_loops.specs.Certain.{AreReports}
 use Rattle.meta_syntax.specs.Entries as entries
-use Rattle.meta_syntax.specs.Parses.{TokensGive}
+use Rattle.meta_syntax.specs.Parses.{AreTokensOf}
 use Rattle.meta_syntax.specs.declared.entries.Entry.{Entry}
 use Rattle.pest_meta.specs.Promises.{AreBuiltinsOf, EndsFromEverywhere, HasOutcomesOf, IsWellFormedGrammar, OfRead, OfSpelled}
 use Rattle.pest_meta.specs.Spelling.{AreAccepted, HasRefusal, HasTrees, IsAnswer, complaints_in}
 
--- the bytes are the tokens that a text gives for the rule of that name
+-- the bytes are the tokens of a text for the rule of that name
 pub record AreTokens (text name json : List ℕ) : Type 0 where
   pub rule : Rule
   pub named : name_of rule ≡ name
   pub tokens : List Entry
-  pub given : TokensGive rule text tokens
+  pub given : AreTokensOf rule text tokens
   pub whole : entries.IsWhole 0 (entries.named_entries tokens)
   pub written : json ≡ compact_text (tokens_data tokens)
 
@@ -56,7 +56,7 @@ pub record AreNames (text json : List ℕ) : Type 0 where
 -- none
 pub record AreKeywordErrors (name json : List ℕ) : Type 0 where
   pub errors : List (Error Rule)
-  pub tell : Tell (rust_keyword_complaints (piece name 0 (length name) ∷ [])) errors
+  pub tell : AreErrorsFor (rust_keyword_complaints (piece name 0 (length name) ∷ [])) errors
   pub written : json ≡ compact_text (errors_data [] errors)
 
 -- the bytes are the rules that a grammar's text spells: nothing is wrong with them
@@ -68,7 +68,7 @@ pub record AreRules (text json : List ℕ) : Type 0 where
   pub counts : HasReadableCounts (rules_of rules)
   pub written : json ≡ compact_text (rules_data rules)
 
--- the bytes are the rules that a grammar's text spells, with the places of their names and nodes
+-- the bytes are the rules that a grammar's text spells, with the spans of their names and nodes
 pub record AreNodes (text json : List ℕ) : Type 0 where
   pub trees : Trees
   pub of_text : HasTrees text trees
@@ -86,7 +86,7 @@ pub record AreOptimized (text json : List ℕ) : Type 0 where
   pub agrees : WrappersSuffice (optimized_rules_of answer) → AgreesLoosely (optimized_rules_of answer)
   pub written : json ≡ compact_text (optimized_rules_data answer)
 
--- what is promised of the builtins and the optimized rules that are answered for a grammar's text
+-- the promises for the builtins and the optimized rules that a grammar's text is answered with
 pub record ArePromised (text : List ℕ) (builtins : List (Bor (List ℕ))) (rules : List OptimizedRule)
     : Type 0 where
   pub answer : IsAnswer text builtins rules

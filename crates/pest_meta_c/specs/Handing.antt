@@ -1,11 +1,11 @@
--- How the outcome of a call goes over to the caller: by a status, bytes in room, and a length.
+-- The result of a call for its caller: a status, bytes in a buffer, and a length.
 use Rattle.std.specs.Prelude.{◌≡◌, ◌<◌, ◌≤◌, ◌⊎◌, ◌++◌, ℕ, List, Result, Ok, Err, drop, length, string_bytes}
 use Rattle.std.specs.declared.string.String.{String}
 use Rattle.std.specs.declared.alloc.Global.{Global}
-use Rattle.pest_meta_c.specs.declared.outcome.Unanswered as why
-use Rattle.pest_meta_c.specs.declared.outcome.Unanswered.TheVariants as why_is
+use Rattle.pest_meta_c.specs.declared.outcome.CallError as why
+use Rattle.pest_meta_c.specs.declared.outcome.CallError.TheVariants as why_is
 
--- such bytes are written at the start of the room, what lies behind them stays, and their length is told
+-- such bytes are written at the start of the buffer, the bytes after them stay, and `needed` is their length
 pub record Writes (P : List ℕ → Type 0) (old new : List ℕ) (needed : ℕ) : Type 0 where
   pub bytes : List ℕ
   pub hold : P bytes
@@ -13,37 +13,38 @@ pub record Writes (P : List ℕ → Type 0) (old new : List ℕ) (needed : ℕ) 
   pub fit : needed ≤ length old
   pub written : new ≡ bytes ++ drop needed old
 
--- nothing is written, since there is less room than such bytes need, and their length is told
-pub record Wants (P : List ℕ → Type 0) (old new : List ℕ) (needed : ℕ) : Type 0 where
+-- nothing is written, since the buffer is too small for such bytes, and `needed` is their length
+pub record LacksRoom (P : List ℕ → Type 0) (old new : List ℕ) (needed : ℕ) : Type 0 where
   pub bytes : List ℕ
   pub hold : P bytes
   pub told : needed ≡ length bytes
   pub more : length old < needed
   pub unchanged : new ≡ old
 
--- nothing is written, and 0 is told
-pub record Leaves (old new : List ℕ) (needed : ℕ) : Type 0 where
+-- nothing is written, and `needed` is 0
+pub record WritesNothing (old new : List ℕ) (needed : ℕ) : Type 0 where
   pub told : needed ≡ 0
   pub unchanged : new ≡ old
 
--- a call that answers such bytes, or refuses with such, hands them over by its status: 0 where it answers, 1
--- where it refuses, 2 for a want of memory, 3 for what is not UTF-8, 4 where the room is too small
-pub record Hands (Answer Refusal : List ℕ → Type 0) (old new : List ℕ) (needed status : ℕ) : Type 0 where
+-- the result of a call that answers or refuses with such bytes, by its status: 0 for an answer, 1 for a
+-- refusal, 2 for an allocation failure, 3 for an input that is not UTF-8, 4 for a buffer that is too small
+pub record HandsOver (Answer Refusal : List ℕ → Type 0) (old new : List ℕ) (needed status : ℕ) : Type 0 where
   pub known : status ≤ 4
   pub answered : status ≡ 0 → Writes Answer old new needed
   pub refused : status ≡ 1 → Writes Refusal old new needed
-  pub memory : status ≡ 2 → Leaves old new needed
-  pub no_text : status ≡ 3 → Leaves old new needed
-  pub no_room : status ≡ 4 → Wants (λ bytes. Answer bytes ⊎ Refusal bytes) old new needed
+  pub memory : status ≡ 2 → WritesNothing old new needed
+  pub no_text : status ≡ 3 → WritesNothing old new needed
+  pub no_room : status ≡ 4 → LacksRoom (λ bytes. Answer bytes ⊎ Refusal bytes) old new needed
 
--- bytes with that status are put into the room where they fit, and else their length is told
+-- bytes with that status are put into the buffer where they fit, and `needed` is their length
 pub record IsPut (wanted : ℕ) (bytes old new : List ℕ) (needed status : ℕ) : Type 0 where
   pub told : needed ≡ length bytes
   pub put : length bytes ≤ length old → (status ≡ wanted) × (new ≡ bytes ++ drop (length bytes) old)
   pub no_room : length old < length bytes → (status ≡ 4) × (new ≡ old)
 
--- an outcome goes over: an answer with 0, a refusal with 1, a want of memory with 2
-abbrev pub GoesOver : Result (String Global) why.Unanswered → List ℕ → List ℕ → ℕ → ℕ → Type 0
-GoesOver (Ok json) old new needed status = IsPut 0 (string_bytes json) old new needed status
-GoesOver (Err (why_is.Refused json)) old new needed status = IsPut 1 (string_bytes json) old new needed status
-GoesOver (Err why_is.Memory) old new needed status = (status ≡ 2) × Leaves old new needed
+-- the result of an outcome: status 0 for an answer, 1 for a refusal, 2 for an allocation failure
+abbrev pub IsHandedOver : Result (String Global) why.CallError → List ℕ → List ℕ → ℕ → ℕ → Type 0
+IsHandedOver (Ok json) old new needed status = IsPut 0 (string_bytes json) old new needed status
+IsHandedOver (Err (why_is.Refused json)) old new needed status =
+    IsPut 1 (string_bytes json) old new needed status
+IsHandedOver (Err why_is.Memory) old new needed status = (status ≡ 2) × WritesNothing old new needed

@@ -7,7 +7,7 @@ use Rattle.meta_base.specs.Language.Expression.{Grammar}
 use Rattle.meta_base.specs.Language.Expected.{expected, expected_at}
 use Rattle.meta_base.specs.Language.FurthestFailure.{furthest}
 use Rattle.meta_base.specs.Language.State.{Classes, Failure}
-use Rattle.meta_base.specs.Language.Places.{Stands}
+use Rattle.meta_base.specs.Language.Places.{IsStateIn}
 use Rattle.meta_base.specs.Language.Text.{Text}
 use Rattle.meta_base.proofs.ExpectedOnce.{one_list}
 use Rattle.meta_base.proofs.FailuresStand.{stands_at}
@@ -17,24 +17,24 @@ use Rattle.matcher_program.specs.declared.compile.Unfit.TheVariants as no
 use Rattle.meta_matcher.specs.Answers.{AreExpectedAt, FailsAt, Has, IsStopped, start_of}
 use Rattle.meta_matcher.specs.declared.machine.Stop.{Stop}
 use Rattle.meta_matcher.specs.declared.machine.Stop.TheVariants as stop
-use Rattle.meta_matcher.specs.Told.{each_once, told_of}
+use Rattle.meta_matcher.specs.ExpectedNames.{each_once, name_texts}
 use Rattle.matcher_program.specs.Programs.{Fits}
 use Rattle.matcher_program.specs.declared.form.Property.{Property}
 use Rattle.matcher_support.specs.Sets.{is_in_property}
-use Rattle.pest_run.specs.Outcomes.{IsOutcome, TellsOf, failure_text, stopped_outcome, unfit_outcome}
+use Rattle.pest_run.specs.Outcomes.{IsFailureReport, IsOutcome, failure_text, stopped_outcome, unfit_outcome}
 use Rattle.pest_run.specs.declared.arguments.Format.{Format}
 use Rattle.pest_run.specs.declared.outcomes.Outcome.{Outcome}
 use Rattle.pest_run.specs.declared.outcomes.Outcome.TheVariants as is
 
 -- what is told of the place of the failure, and of what is expected there, is told of the failure
 pub failed : (g : Grammar) (ps : List Property) (rule text : List ℕ) (format : Format) (place : ℕ) (names : List (Bor (List ℕ))) (o : Outcome)
-    → Fits ps is_in_property → ((classes : Classes) → Fits ps classes → (d : Has g (chars rule) text classes Failure) × (place ≡ furthest d)) → AreExpectedAt g ps (chars rule) text place names → TellsOf text place (told_of names) o
+    → Fits ps is_in_property → ((classes : Classes) → Fits ps classes → (d : Has g (chars rule) text classes Failure) × (place ≡ furthest d)) → AreExpectedAt g ps (chars rule) text place names → IsFailureReport text place (name_texts names) o
     → IsOutcome g rule text format o
 failed g ps rule text format place names (is.Shown lines) fits f a t = absurd t
 failed g ps rule text format place names (is.Failed report) fits f a t =
     let fails = f is_in_property fits in
     let told = a is_in_property fits in
-    let same : told_of names ≡ each_once (expected fails.0) = told.2 ∙ ap each_once (one_list g is_in_property place told.1 fails.0 ∙ ap (λ n. expected_at n fails.0) fails.1) in
+    let same : name_texts names ≡ each_once (expected fails.0) = told.2 ∙ ap each_once (one_list g is_in_property place told.1 fails.0 ∙ ap (λ n. expected_at n fails.0) fails.1) in
     record { fails = fails.0; report_shows = t ∙ ap₂ (λ n ns. failure_text text n ns) fails.1 same }
 failed g ps rule text format place names is.NoRule fits f a t = absurd t
 failed g ps rule text format place names is.OutOfSteps fits f a t = absurd t
@@ -48,7 +48,7 @@ pub at_character : (g : Grammar) (ps : List Property) (n : Text) (text : List �
     → IsCharBoundary text place
 at_character g ps n text place utf8 fits f =
     let fails = f is_in_property fits in
-    let stands : Stands (chars text) (start_of text) = record { front = []; split = refl; size = refl } in
+    let stands : IsStateIn (chars text) (start_of text) = record { front = []; split = refl; size = refl } in
     let here : IsCharBoundary text (furthest fails.0) = on_bytes text utf8 (furthest fails.0) (stands_at (chars text) fails.0 stands) in
     subst (λ n. IsCharBoundary text n) (sym fails.1) here
 

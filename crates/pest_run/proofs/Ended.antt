@@ -14,7 +14,7 @@ use Rattle.pest_meta.specs.declared.report.Report.{Report}
 use Rattle.pest_meta.specs.declared.report.Report.TheVariants as report_is
 use Rattle.pest_run.specs.Ends.{EndsAs}
 use Rattle.pest_run.specs.Outcomes.{IsOutcome}
-use Rattle.pest_run.specs.Written.{PrintsTrees, TellsLine, TellsReason, TellsStop, empty_stack, no_match, no_rule, refused, too_many_steps, unknown_name, wide_bound}
+use Rattle.pest_run.specs.Written.{PrintsTrees, ReportsReason, ReportsStop, WritesLine, empty_stack, no_match, no_rule, refused, too_many_steps, unknown_name, wide_bound}
 use Rattle.pest_run.specs.declared.arguments.Format.{Format}
 use Rattle.pest_run.specs.declared.outcomes.Outcome.{Outcome}
 use Rattle.pest_run.specs.declared.outcomes.Outcome.TheVariants as is
@@ -44,7 +44,7 @@ prints is.Memory grammar rule text format builtins rules told status old_out new
 -- where it is 1, a reason was told
 pub tells : {X E : Type 0} (o : Outcome) (grammar rule text : List ℕ) (format : Format) (builtins : List (Bor (List ℕ))) (rules : List OptimizedRule) (told : Result X E) (status : ℕ)
     (old_out new_out old new : Option (List ℕ)) → IsAnswer grammar builtins rules → IsOutcome (optimized_rules_of rules) rule text format o
-    → EndsAs o rule status told old_out new_out old new → status ≡ 1 → TellsReason grammar rule text told old new
+    → EndsAs o rule status told old_out new_out old new → status ≡ 1 → ReportsReason grammar rule text told old new
 tells (is.Shown lines) grammar rule text format builtins rules told status old_out new_out old new a i e one = absurd (neither status 1 e.0 one (omega arith) (omega arith))
 tells (is.Failed report) grammar rule text format builtins rules told status old_out new_out old new a i e one =
     record { message = string_bytes report; reason = no_match builtins rules (string_bytes report) a i; line = e.1 }
@@ -59,7 +59,7 @@ tells is.Memory grammar rule text format builtins rules told status old_out new_
 -- where it is 5, why the matcher was stopped was told
 pub stops : {X E : Type 0} (o : Outcome) (grammar rule text : List ℕ) (format : Format) (builtins : List (Bor (List ℕ))) (rules : List OptimizedRule) (told : Result X E) (status : ℕ)
     (old_out new_out old new : Option (List ℕ)) → IsAnswer grammar builtins rules → IsOutcome (optimized_rules_of rules) rule text format o
-    → EndsAs o rule status told old_out new_out old new → status ≡ 5 → TellsStop grammar rule text told old new
+    → EndsAs o rule status told old_out new_out old new → status ≡ 5 → ReportsStop grammar rule text told old new
 stops (is.Shown lines) grammar rule text format builtins rules told status old_out new_out old new a i e five = absurd (neither status 5 e.0 five (omega arith) (omega arith))
 stops (is.Failed report) grammar rule text format builtins rules told status old_out new_out old new a i e five = absurd (apart status 1 5 e.0 five (omega arith))
 stops is.NoRule grammar rule text format builtins rules told status old_out new_out old new a i e five = absurd (apart status 1 5 e.0 five (omega arith))
@@ -72,11 +72,11 @@ stops is.Memory grammar rule text format builtins rules told status old_out new_
 -- where there is a text, the outcome was a refusal, there is a reason for it, and the text reports it
 pub refusal : {X Y E : Type 0} (grammar rule text : List ℕ) (outcome : Result X Fault) (answer : Result X Report) (message : String Global) (told : Result Y E) (old new : Option (List ℕ))
     → IfErr outcome (IsRefusal grammar) → IfOk outcome (λ v. answer ≡ Ok v) → IfErr outcome (λ fault. IsErrAnd answer (IsReportOf fault))
-    → answer ≡ Err (report_is.Text message) → TellsLine (string_bytes message) told old new → TellsReason grammar rule text told old new
+    → answer ≡ Err (report_is.Text message) → WritesLine (string_bytes message) told old new → ReportsReason grammar rule text told old new
 refusal grammar rule text (Ok v) answer message told old new r a b e line = cc
 refusal grammar rule text (Err (fault_is.Memory m)) answer message told old new r a b e line = let said = rw e at b in cc
 refusal grammar rule text (Err (fault_is.Grammar errors)) answer message told old new r a b e line =
-    let P : List ℕ → Type 0 = λ t. TellsLine t told old new in
+    let P : List ℕ → Type 0 = λ t. WritesLine t told old new in
     let said : string_bytes message ≡ report_text errors.items = rw e at b in
     record { message = report_text errors.items; reason = refused errors.items r; line = subst P said line }
 

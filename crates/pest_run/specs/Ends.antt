@@ -1,7 +1,7 @@
--- How a run ends by what comes of the rule.
+-- The status and the texts with which a run ends.
 use Rattle.std.specs.Prelude.{◌≡◌, ◌⊎◌, ℕ, List, ◌++◌, Option, Result, codes, string_bytes}
 use Rattle.std.specs.Io.KnownBytes.{Appends}
-use Rattle.pest_run.specs.Written.{TellsLine}
+use Rattle.pest_run.specs.Written.{WritesLine}
 use Rattle.pest_run.specs.declared.outcomes.Outcome.{Outcome}
 use Rattle.pest_run.specs.declared.outcomes.Outcome.TheVariants as is
 
@@ -9,22 +9,22 @@ use Rattle.pest_run.specs.declared.outcomes.Outcome.TheVariants as is
 abbrev pub IsStatus : ℕ → Type 0
 IsStatus status = (status ≡ 0) ⊎ (status ≡ 1) ⊎ (status ≡ 2) ⊎ (status ≡ 4) ⊎ (status ≡ 5)
 
--- 0 where the lines were written, 1 where the reason was told, 2 where memory was wanting, and 5 where the
--- run was stopped, of which the reason was told
+-- 0 where the lines are written, 1 where the reason is reported, 2 after an allocation failure, and 5 where
+-- the run is stopped and the reason reported
 abbrev pub EndsAs : {X E : Type 0} → Outcome → List ℕ → ℕ → Result X E
     → Option (List ℕ) → Option (List ℕ) → Option (List ℕ) → Option (List ℕ) → Type 0
 EndsAs (is.Shown lines) rule status told old_out new_out old new =
     ((status ≡ 0) ⊎ (status ≡ 4)) × (status ≡ 0 → Appends old_out new_out (string_bytes lines))
 EndsAs (is.Failed report) rule status told old_out new_out old new =
-    (status ≡ 1) × TellsLine (string_bytes report) told old new
+    (status ≡ 1) × WritesLine (string_bytes report) told old new
 EndsAs is.NoRule rule status told old_out new_out old new =
-    (status ≡ 1) × TellsLine (codes "the grammar has no rule " ++ rule) told old new
+    (status ≡ 1) × WritesLine (codes "the grammar has no rule " ++ rule) told old new
 EndsAs is.OutOfSteps rule status told old_out new_out old new =
-    (status ≡ 5) × TellsLine (codes "the text takes too many steps") told old new
+    (status ≡ 5) × WritesLine (codes "the text takes too many steps") told old new
 EndsAs is.EmptyStack rule status told old_out new_out old new =
-    (status ≡ 5) × TellsLine (codes "PEEK or POP found nothing on the stack") told old new
+    (status ≡ 5) × WritesLine (codes "PEEK or POP found nothing on the stack") told old new
 EndsAs is.UnknownName rule status told old_out new_out old new =
-    (status ≡ 5) × TellsLine (codes "the grammar calls a rule that is not known") told old new
+    (status ≡ 5) × WritesLine (codes "the grammar calls a rule that is not known") told old new
 EndsAs is.Bound rule status told old_out new_out old new =
-    (status ≡ 5) × TellsLine (codes "a range of the grammar has a bound that is no character") told old new
+    (status ≡ 5) × WritesLine (codes "a range of the grammar has a bound that is no character") told old new
 EndsAs is.Memory rule status told old_out new_out old new = status ≡ 2

@@ -1,18 +1,18 @@
--- What is said of a text on which a rule fails.
+-- The message for a text on which a rule fails.
 use Rattle.std.specs.Prelude.{ℕ, ◌==◌, Bool, List, [], ◌∷◌, ◌++◌, codes, encode_utf8_all, if◌then◌else◌, length}
 use Rattle.meta_base.specs.Language.Text.{Text}
 
--- what stands before a name that is not the first: of two in all, or of more, and the last of them or not
-abbrev pub before_name : Bool → Bool → List ℕ
-before_name of_two last = if last then (if of_two then codes " or " else codes ", or ") else codes ", "
+-- the separator before a name that is not the first: of two in all, or of more, and the last of them or not
+abbrev pub name_separator : Bool → Bool → List ℕ
+name_separator of_two last = if last then (if of_two then codes " or " else codes ", or ") else codes ", "
 
--- the names behind the first one
+-- the names after the first one
 abbrev pub other_names : Bool → List Text → List ℕ
 other_names of_two [] = []
 other_names of_two (n ∷ ns) =
-    before_name of_two (length ns == 0) ++ encode_utf8_all n ++ other_names of_two ns
+    name_separator of_two (length ns == 0) ++ encode_utf8_all n ++ other_names of_two ns
 
--- `expected a`, `expected a or b`, `expected a, b, or c`; and where nothing is expected, what is said instead
+-- `expected a`, `expected a or b`, `expected a, b, or c`; and another text where nothing is expected
 abbrev pub failure_message : List Text → List ℕ
 failure_message [] = codes "unknown parsing error"
 failure_message (n ∷ ns) = codes "expected " ++ encode_utf8_all n ++ other_names (length ns == 1) ns

@@ -1,4 +1,4 @@
--- What comes of a rule on a text.
+-- The outcome of a rule on a text.
 use Rattle.std.specs.Prelude.{◌≡◌, ◌<◌, ◌-◌, ◌^◌, ℕ, List, ◌++◌, None, codes, string_bytes, ⊤}
 use Rattle.std.specs.Str.{chars}
 use Rattle.meta_base.specs.Language.Expression.{Grammar, rule_of}
@@ -13,7 +13,7 @@ use Rattle.matcher_program.specs.declared.compile.Unfit.{Unfit}
 use Rattle.matcher_program.specs.declared.compile.Unfit.TheVariants as unfit
 use Rattle.meta_matcher.specs.Answers.{Has}
 use Rattle.meta_matcher.specs.Sizes.{most_steps}
-use Rattle.meta_matcher.specs.Told.{each_once}
+use Rattle.meta_matcher.specs.ExpectedNames.{each_once}
 use Rattle.meta_matcher.specs.declared.machine.Stop.{Stop}
 use Rattle.meta_matcher.specs.declared.machine.Stop.TheVariants as stop
 use Rattle.matcher_support.specs.Sets.{is_in_property}
@@ -38,13 +38,13 @@ pub record IsShown (g : Grammar) (rule text : List ℕ) (format : Format) (lines
   pub matches : Has g (chars rule) text is_in_property (Success end_ trees)
   pub lines_show : lines ≡ trees_text format text end_.position trees
 
--- what an error prints that stands at a place of a text, where these names are expected
+-- the text of an error at a position of a text, where these names are expected
 abbrev pub failure_text : List ℕ → ℕ → List Text → List ℕ
 failure_text text place names =
     printed_error (failure_message names) (Pos (line_column text place)) (printed_line text place)
 
--- the rule, called at the start of the text, fails, and the report shows the furthest place of a failure, and
--- the names that are expected there, each once
+-- the rule, called at the start of the text, fails, and the report shows the furthest position of a failure,
+-- and the names that are expected there, each once
 pub record HasFailed (g : Grammar) (rule text report : List ℕ) : Type 0 where
   pub fails : Has g (chars rule) text is_in_property Failure
   pub report_shows : report ≡ failure_text text (furthest fails) (each_once (expected fails))
@@ -62,25 +62,26 @@ abbrev pub TakesTooManySteps : Grammar → List ℕ → List ℕ → Type 0
 TakesTooManySteps g rule text = (o : Result) (found : Has g (chars rule) text is_in_property o)
     → 2 ^ 64 - 1 < most_steps found
 
--- what comes of a run that the matcher stopped
+-- the outcome of a run that the matcher stopped
 abbrev pub stopped_outcome : Stop → Outcome
 stopped_outcome stop.Memory = is.Memory
 stopped_outcome stop.OutOfSteps = is.OutOfSteps
 stopped_outcome stop.EmptyStack = is.EmptyStack
 
--- what comes of rules that can't be run
+-- the outcome of rules that can't be run
 abbrev pub unfit_outcome : Unfit → Outcome
 unfit_outcome unfit.Memory = is.Memory
 unfit_outcome (unfit.UnknownName name) = is.UnknownName
 unfit_outcome (unfit.Bound text) = is.Bound
 
--- what is told of a failure at a place, unless memory was wanting
-abbrev pub TellsOf : List ℕ → ℕ → List Text → Outcome → Type 0
-TellsOf text place names (is.Failed report) = string_bytes report ≡ failure_text text place names
-TellsOf text place names is.Memory = ⊤
-TellsOf text place names _ = ⊥
+-- the outcome reports a failure at a position, or an allocation failure
+abbrev pub IsFailureReport : List ℕ → ℕ → List Text → Outcome → Type 0
+IsFailureReport text place names (is.Failed report) = string_bytes report ≡ failure_text text place names
+IsFailureReport text place names is.Memory = ⊤
+IsFailureReport text place names _ = ⊥
 
--- what comes of the rule on the text; of rules that can't be run, and of want of memory, nothing is said
+-- the outcome is that of the rule on the text; rules that can't be run and allocation failures are not
+-- constrained
 abbrev pub IsOutcome : Grammar → List ℕ → List ℕ → Format → Outcome → Type 0
 IsOutcome g rule text format (is.Shown lines) = IsShown g rule text format (string_bytes lines)
 IsOutcome g rule text format (is.Failed report) = HasFailed g rule text (string_bytes report)

@@ -1,4 +1,4 @@
--- What the program writes.
+-- The texts that the program writes.
 use Rattle.std.specs.Prelude.{◌≡◌, ℕ, List, [], ◌∷◌, ◌++◌, Option, None, Result, OnOk, IsUtf8, codes}
 use Rattle.std.specs.Borrow.{Bor}
 use Rattle.std.specs.Io.KnownBytes.{Appends}
@@ -17,11 +17,11 @@ use Rattle.pest_run.specs.declared.run.Source.{Source}
 abbrev pub IsReadable : Source → Type 0
 IsReadable source = (source.why ≡ None) × IsUtf8 source.bytes.items
 
--- unless a write was refused, what the writer holds grew by the message and a line feed
-abbrev pub TellsLine : {X E : Type 0} → List ℕ → Result X E → Option (List ℕ) → Option (List ℕ) → Type 0
-TellsLine message written old new = OnOk written (Appends old new (message ++ 10 ∷ []))
+-- unless a write was refused, the writer's contents grew by the message and a line feed
+abbrev pub WritesLine : {X E : Type 0} → List ℕ → Result X E → Option (List ℕ) → Option (List ℕ) → Type 0
+WritesLine message written old new = OnOk written (Appends old new (message ++ 10 ∷ []))
 
--- there is an answer for the grammar, its rule matches the text, and what the writer holds grew by the trees
+-- there is an answer for the grammar, its rule matches the text, and the writer's contents grew by the trees
 pub record PrintsTrees (grammar rule text : List ℕ) (format : Format)
     (old new : Option (List ℕ)) : Type 0 where
   pub builtins : List (Bor (List ℕ))
@@ -31,9 +31,9 @@ pub record PrintsTrees (grammar rule text : List ℕ) (format : Format)
   pub shows : IsShown (optimized_rules_of rules) rule text format lines
   pub gained : Appends old new lines
 
--- why there are no trees, and the text that says so: the grammar is refused, and its report is the text; or
--- it has an answer, and in that no rule has the name; or the rule fails, and the place of that is shown, with
--- what was expected there
+-- the reason why there are no trees, and its text: the grammar is refused, and its report is the text; or
+-- there is an answer without a rule of that name; or the rule fails, and the text shows its furthest position
+-- and the expected set there
 pub data IsReason (grammar rule text : List ℕ) : List ℕ → Type 0 where
   refused : (errors : List (Error Rule)) → IsRefusedWith grammar errors
       → IsReason grammar rule text (report_text errors)
@@ -45,14 +45,14 @@ pub data IsReason (grammar rule text : List ℕ) : List ℕ → Type 0 where
       → IsReason grammar rule text report
 
 -- there is such a reason, and it is the line
-pub record TellsReason {X E : Type 0} (grammar rule text : List ℕ) (written : Result X E)
+pub record ReportsReason {X E : Type 0} (grammar rule text : List ℕ) (written : Result X E)
     (old new : Option (List ℕ)) : Type 0 where
   pub message : List ℕ
   pub reason : IsReason grammar rule text message
-  pub line : TellsLine message written old new
+  pub line : WritesLine message written old new
 
--- why the matcher was stopped on the text, and what says so: it takes too many steps, or it has no outcome
--- and `PEEK` or `POP` met the empty stack, or the rules can't be run, of which nothing else is said
+-- the reason why the matcher was stopped on the text, and its text: too many steps; or the rule has no
+-- outcome and `PEEK` or `POP` met the empty stack; or the rules can't be run, which has no further condition
 pub data IsStop (g : Grammar) (rule text : List ℕ) : List ℕ → Type 0 where
   too_many_steps : TakesTooManySteps g rule text → IsStop g rule text (codes "the text takes too many steps")
   empty_stack : HasNoOutcome g rule text → IsStop g rule text (codes "PEEK or POP found nothing on the stack")
@@ -60,11 +60,11 @@ pub data IsStop (g : Grammar) (rule text : List ℕ) : List ℕ → Type 0 where
   wide_bound : IsStop g rule text (codes "a range of the grammar has a bound that is no character")
 
 -- there is an answer for the grammar, the matcher was stopped on the text, and the reason is the line
-pub record TellsStop {X E : Type 0} (grammar rule text : List ℕ) (written : Result X E)
+pub record ReportsStop {X E : Type 0} (grammar rule text : List ℕ) (written : Result X E)
     (old new : Option (List ℕ)) : Type 0 where
   pub builtins : List (Bor (List ℕ))
   pub rules : List OptimizedRule
   pub answers : IsAnswer grammar builtins rules
   pub message : List ℕ
   pub stop : IsStop (optimized_rules_of rules) rule text message
-  pub line : TellsLine message written old new
+  pub line : WritesLine message written old new

@@ -5,14 +5,14 @@ ghost use Rattle.clap.specs.Matches.{first_value, found_of};
 use clap::{Arg, ArgMatches, Command};
 use std::alloc::{AllocError, Global};
 
-/// How trees are written.
+/// The format of printed trees.
 #[derive(Clone, Copy)]
 pub enum Format {
     Text,
     Json,
 }
 
-/// The arguments that the program takes.
+/// Returns the command line that the program accepts.
 pub fn command<'a>(alloc: Global) -> Result<Command<'a>, AllocError> {
     let format = Arg::new(alloc, "format")
         .long("format")
@@ -42,7 +42,7 @@ pub fn command<'a>(alloc: Global) -> Result<Command<'a>, AllocError> {
         .arg(text)
 }
 
-/// The format that a command line asks for.
+/// Returns the format that a command line asks for.
 pub fn format_of(matches: &ArgMatches<'_>) -> Format
     ensures json { first_value (found_of matches.now) (codes "format") ≡ Some (codes "json")
         → result ≡ Format.Json }

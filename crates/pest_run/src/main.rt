@@ -17,7 +17,8 @@ use std::process::ExitCode;
 use std::{env, fs};
 use tool_support::output::Output;
 
-/// The bytes of the file of a name, or of standard input for `-`; or why they can't be read.
+/// Reads the file of that name, or standard input for `-`. The source has the bytes, or the reason why they
+/// can't be read.
 fn source<'a>(rt: &HostRuntime, name: &'a str) -> Result<Source<'a>, AllocError> {
     let alloc = rt.alloc();
     let mut bytes = Vec::new(alloc);
@@ -33,7 +34,7 @@ fn source<'a>(rt: &HostRuntime, name: &'a str) -> Result<Source<'a>, AllocError>
     Ok(Source { name, bytes, why })
 }
 
-/// Runs the program on two files, over the process's own output, and hands on the status.
+/// Runs the program on two files with the process's own output, and returns the status.
 fn match_files(
     rt: &HostRuntime,
     grammar: &Source<'_>,
@@ -53,7 +54,7 @@ fn match_files(
     exit.status
 }
 
-/// The status for the words of the command line.
+/// Returns the status for the words of the command line.
 fn answer(rt: &HostRuntime) -> Result<u8, clap::Error> {
     let alloc = rt.alloc();
     let Ok(words) = env::args(rt) else {

@@ -1,15 +1,15 @@
-//! What is said of a text on which a rule fails.
+//! The message for a text on which a rule fails.
 ghost use Rattle.std.specs.Prelude.{◌≡◌, ◌==◌, ◌++◌, IfOk, OnOk, encode_utf8_all, length, string_bytes};
 ghost use Rattle.std.specs.Str.{chars};
-ghost use Rattle.meta_matcher.specs.Told.{told_of};
-ghost use Rattle.pest_run.specs.Messages.{before_name, failure_message, other_names};
+ghost use Rattle.meta_matcher.specs.ExpectedNames.{name_texts};
+ghost use Rattle.pest_run.specs.Messages.{failure_message, name_separator, other_names};
 
 use std::alloc::{AllocError, Global};
 
-/// What is said of a text where these names are expected, in pest's words. The only error is a want of
-/// memory.
+/// Returns the message for a text where these names are expected, in pest's words. The only error is an
+/// allocation failure.
 pub fn failure_message(alloc: Global, names: &[&str]) -> Result<String, AllocError>
-    ensures { IfOk result (λ message. string_bytes message ≡ failure_message (told_of names.now)) }
+    ensures { IfOk result (λ message. string_bytes message ≡ failure_message (name_texts names.now)) }
 {
     let mut message = String::new(alloc);
     match names.split_first() {
@@ -23,7 +23,7 @@ pub fn failure_message(alloc: Global, names: &[&str]) -> Result<String, AllocErr
     Ok(message)
 }
 
-/// Adds a name, and what stands before it.
+/// Adds a separator and a name.
 fn add_name(message: &mut String, before: &str, name: &str) -> Result<(), AllocError>
     ensures { OnOk result (string_bytes message.new
         ≡ string_bytes message.old ++ before.now ++ encode_utf8_all (chars name.now)) }
@@ -32,9 +32,9 @@ fn add_name(message: &mut String, before: &str, name: &str) -> Result<(), AllocE
     message.push_str(name)
 }
 
-/// What stands before a name that is not the first.
-fn before_name(of_two: bool, last: bool) -> &'static str
-    ensures { result.now ≡ before_name of_two last }
+/// Returns the separator before a name that is not the first.
+fn name_separator(of_two: bool, last: bool) -> &'static str
+    ensures { result.now ≡ name_separator of_two last }
 {
     match (of_two, last) {
         (_, false) => ", ",
@@ -43,16 +43,16 @@ fn before_name(of_two: bool, last: bool) -> &'static str
     }
 }
 
-/// Adds the names behind the first one.
+/// Adds the names after the first one.
 fn add_others(message: &mut String, names: &[&str]) -> Result<(), AllocError>
     ensures { OnOk result (string_bytes message.new
-        ≡ string_bytes message.old ++ other_names (length names.now == 1) (told_of names.now)) }
+        ≡ string_bytes message.old ++ other_names (length names.now == 1) (name_texts names.now)) }
 {
     let of_two = names.len() == 1;
     let mut following = names.len();
     for name in names {
         following -= 1;
-        add_name(message, before_name(of_two, following == 0), name)?;
+        add_name(message, name_separator(of_two, following == 0), name)?;
     }
     Ok(())
 }

@@ -1,13 +1,13 @@
-//! What comes of a rule on a text.
+//! The outcome of a rule on a text.
 ghost use Rattle.std.specs.Prelude.{◌≡◌, IfOk, string_bytes};
 ghost use Rattle.meta_ast.specs.Optimized.{optimized_rules_of};
 ghost use Rattle.meta_base.specs.Language.State.{Trees};
 ghost use Rattle.meta_base.specs.Pieces.Span.{position_offset, position_text};
-ghost use Rattle.meta_matcher.specs.Told.{told_of};
+ghost use Rattle.meta_matcher.specs.ExpectedNames.{name_texts};
 ghost use Rattle.meta_matcher.specs.Written.{seen};
 ghost use Rattle.meta_syntax.specs.Entries.{entries_of};
 ghost use Rattle.std.specs.Str.{IsCharBoundary};
-ghost use Rattle.pest_run.specs.Outcomes.{IsOutcome, TellsOf, failure_text, stopped_outcome, trees_text, unfit_outcome};
+ghost use Rattle.pest_run.specs.Outcomes.{IsFailureReport, IsOutcome, failure_text, stopped_outcome, trees_text, unfit_outcome};
 
 use crate::arguments::Format;
 use crate::messages::failure_message;
@@ -23,15 +23,15 @@ use meta_matcher::matcher::{Found, Matcher, Refusal};
 use pest_meta::optimizer::OptimizedRule;
 use std::alloc::{AllocError, Global};
 
-/// How many steps the matcher may take: no run comes to so many.
+/// The greatest number of steps, which no run reaches.
 const STEPS: u64 = u64::MAX;
 
-/// What comes of a rule on a text.
+/// The outcome of a rule on a text.
 #[derive(Drop)]
 pub enum Outcome {
     /// The rule matches, and these lines show the trees.
     Shown(String),
-    /// The rule fails, and this tells where, and what was expected there.
+    /// The rule fails; the report has the position and the expected set.
     Failed(String),
     /// The grammar has no rule of that name.
     NoRule,
@@ -43,11 +43,11 @@ pub enum Outcome {
     UnknownName,
     /// A bound of a range is not one character.
     Bound,
-    /// Memory was wanting.
+    /// An allocation failed.
     Memory,
 }
 
-/// What comes of the rule of a name on a text.
+/// Runs the rule of that name on a text, and returns the outcome.
 pub fn outcome_of(
     alloc: Global,
     rules: &[OptimizedRule],
@@ -79,7 +79,7 @@ pub fn outcome_of(
     }
 }
 
-/// The trees that were found as text, or as a line of JSON. The only error is a want of memory.
+/// Returns the trees of a match as text, or as a line of JSON. The only error is an allocation failure.
 fn lines_of(
     alloc: Global,
     text: &str,
@@ -95,7 +95,7 @@ fn lines_of(
     }
 }
 
-/// Trees and where they end as a line of JSON. The only error is a want of memory.
+/// Returns trees and their end position as a line of JSON. The only error is an allocation failure.
 fn json_line(
     alloc: Global,
     text: &str,
@@ -111,11 +111,11 @@ fn json_line(
     Ok(line)
 }
 
-/// What comes of a text on which the rule fails at a place between two characters, where these names are
+/// Returns the outcome of a rule that fails at a byte position between two characters, where these names are
 /// expected.
 fn failed_outcome(alloc: Global, text: &str, place: usize, names: &[&str]) -> Outcome
     requires { IsCharBoundary text.now place }
-    ensures { TellsOf text.now place (told_of names.now) result }
+    ensures { IsFailureReport text.now place (name_texts names.now) result }
 {
     let Some(position) = Position::new(text, place) else {
         unreachable!()
@@ -126,11 +126,11 @@ fn failed_outcome(alloc: Global, text: &str, place: usize, names: &[&str]) -> Ou
     }
 }
 
-/// What an error prints that stands at a place where these names are expected. The only error is a want of
-/// memory.
+/// Returns the text of an error at a position where these names are expected. The only error is an allocation
+/// failure.
 fn report_at(alloc: Global, place: Position<'_>, names: &[&str]) -> Result<String, Fault>
     ensures { IfOk result (λ report. string_bytes report
-        ≡ failure_text (position_text place.entry) (position_offset place.entry) (told_of names.now)) }
+        ≡ failure_text (position_text place.entry) (position_offset place.entry) (name_texts names.now)) }
 {
     let message = failure_message(alloc, names)?;
     let error: Error<Rule> = Error::new_from_pos(
@@ -141,7 +141,7 @@ fn report_at(alloc: Global, place: Position<'_>, names: &[&str]) -> Result<Strin
     Ok(format!(in alloc; "{error}")?)
 }
 
-/// What comes of a run that was stopped.
+/// Returns the outcome of a run that was stopped.
 fn stopped_outcome(stop: Stop) -> Outcome
     ensures { result ≡ stopped_outcome stop }
 {
@@ -152,7 +152,7 @@ fn stopped_outcome(stop: Stop) -> Outcome
     }
 }
 
-/// What comes of rules that can't be run. Rules of a grammar that is accepted can.
+/// Returns the outcome of rules that can't be run. Rules of a grammar that is accepted can.
 fn unfit_outcome(unfit: Unfit) -> Outcome
     ensures { result ≡ unfit_outcome unfit }
 {

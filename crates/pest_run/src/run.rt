@@ -1,7 +1,7 @@
-//! What the program does once its files are read.
+//! The program after its files are read.
 ghost use Rattle.std.specs.Prelude.{◌≡◌, ◌≢◌, ◌≤◌, ◌⊎◌, ◌↔◌, ◌++◌, IfSome, IsErr, IsOk, IsSome, codes, true};
 ghost use Rattle.pest_run.specs.Ends.{EndsAs, IsStatus};
-ghost use Rattle.pest_run.specs.Written.{IsReadable, PrintsTrees, TellsLine, TellsReason, TellsStop};
+ghost use Rattle.pest_run.specs.Written.{IsReadable, PrintsTrees, ReportsReason, ReportsStop, WritesLine};
 
 use crate::arguments::Format;
 use crate::outcomes::{Outcome, outcome_of};
@@ -15,7 +15,7 @@ use tool_support::output::{Output, RefusedWrite};
 const PRINTED: u8 = 0;
 /// The grammar is refused, has no such rule, or does not match the text.
 const REFUSED: u8 = 1;
-/// Want of memory.
+/// An allocation failed.
 pub const MEMORY: u8 = 2;
 /// A file can't be read.
 pub const UNREADABLE: u8 = 3;
@@ -24,7 +24,7 @@ const UNWRITABLE: u8 = 4;
 /// The run was stopped.
 const STOPPED: u8 = 5;
 
-/// A file: its name, its bytes, and why they can't be read, if so.
+/// A file: its name, its bytes, and the reason if they can't be read.
 #[derive(Drop)]
 pub struct Source<'a> {
     pub name: &'a str,
@@ -32,27 +32,27 @@ pub struct Source<'a> {
     pub why: Option<String>,
 }
 
-/// What is asked of a grammar and a text.
+/// The rule to match, and the format of the trees.
 #[derive(Clone, Copy)]
 pub struct Request<'a> {
     /// The name of the rule that is to match the text.
     pub rule: &'a str,
-    /// How the trees are to be printed.
+    /// The format of the printed trees.
     pub format: Format,
 }
 
-/// How a run ends.
+/// The end of a run.
 #[derive(Drop)]
-pub struct Exit {
+pub struct RunExit {
     /// The status that the program ends with.
     pub status: u8,
-    /// Whether `err` took the line that it was given: an error where it refused a write.
-    pub told: Result<(), RefusedWrite>,
+    /// An error if `err` refused the line that it was given.
+    pub write_result: Result<(), RefusedWrite>,
 }
 
-/// Matches a text by the rule of a grammar that is asked for, both as their files hold them, and prints the
-/// trees to `out`, as `run` does. A file that can't be read or is not UTF-8 is told on `err` with its name
-/// and why (3).
+/// Matches a text by the requested rule of a grammar, both read from files, and prints the trees to `out`, as
+/// `run` does. A file that can't be read or is not UTF-8 is reported on `err` with its name and the reason
+/// (3).
 pub fn run_files<W: Write, E: Write>(
     alloc: Global,
     grammar: &Source<'_>,
@@ -60,7 +60,7 @@ pub fn run_files<W: Write, E: Write>(
     request: Request<'_>,
     out: &mut Output<W>,
     err: &mut Output<E>,
-) -> Exit
+) -> RunExit
     ensures known { result.status ≤ 5 }
     ensures read { result.status ≢ 3 → IsReadable grammar.now × IsReadable text.now }
     ensures unread { IsReadable grammar.now → IsReadable text.now → result.status ≢ 3 }
@@ -72,19 +72,20 @@ pub fn run_files<W: Write, E: Write>(
     ensures refused_write { result.status ≡ 4 → out.new.refused ≡ true }
     ensures silent { result.status ≡ 0 → err.new ≡ err.old }
     ensures reason { result.status ≡ 1
-        → TellsReason grammar.now.bytes.items request.entry.rule.now text.now.bytes.items result.told
+        → ReportsReason grammar.now.bytes.items request.entry.rule.now text.now.bytes.items
+        result.write_result
         (E.contents err.old.writer) (E.contents err.new.writer) }
     ensures tells_memory { result.status ≡ 2
-        → TellsLine (codes "out of memory") result.told
+        → WritesLine (codes "out of memory") result.write_result
         (E.contents err.old.writer) (E.contents err.new.writer) }
     ensures tells_unwritten { result.status ≡ 4
-        → TellsLine (codes "cannot write") result.told
+        → WritesLine (codes "cannot write") result.write_result
         (E.contents err.old.writer) (E.contents err.new.writer) }
     ensures stopped { result.status ≡ 5
-        → TellsStop grammar.now.bytes.items request.entry.rule.now text.now.bytes.items result.told
+        → ReportsStop grammar.now.bytes.items request.entry.rule.now text.now.bytes.items result.write_result
         (E.contents err.old.writer) (E.contents err.new.writer) }
-    ensures told { IsOk result.told → err.new.refused ≡ err.old.refused }
-    ensures refused_line { IsErr result.told → err.new.refused ≡ true }
+    ensures told { IsOk result.write_result → err.new.refused ≡ err.old.refused }
+    ensures refused_line { IsErr result.write_result → err.new.refused ≡ true }
 {
     let Some(rules) = text_of(grammar) else {
         return unreadable(grammar, err);
@@ -95,10 +96,10 @@ pub fn run_files<W: Write, E: Write>(
     run(alloc, rules, input, request, out, err)
 }
 
-/// Matches a text by the rule of a grammar that is asked for, and prints the trees to `out` (0).
+/// Matches a text by the requested rule of a grammar, and prints the trees to `out` (0).
 ///
-/// Otherwise one text with a line break behind it goes to `err`: the report of a grammar that is refused,
-/// that the grammar has no such rule, or the furthest place at which the rule fails and what was expected
+/// Otherwise one text with a line break at its end goes to `err`: the report of a grammar that is refused,
+/// that the grammar has no such rule, or the furthest position at which the rule fails with the expected set
 /// there (1); `out of memory` (2); `cannot write` where `out` refuses a write (4); why the run was stopped
 /// (5). A write that `err` refuses changes no status.
 pub fn run<W: Write, E: Write>(
@@ -108,7 +109,7 @@ pub fn run<W: Write, E: Write>(
     request: Request<'_>,
     out: &mut Output<W>,
     err: &mut Output<E>,
-) -> Exit
+) -> RunExit
     ensures known { IsStatus result.status }
     ensures printed { result.status ≡ 0
         → PrintsTrees grammar.now request.entry.rule.now text.now request.entry.format
@@ -118,32 +119,32 @@ pub fn run<W: Write, E: Write>(
     ensures refused_write { result.status ≡ 4 → out.new.refused ≡ true }
     ensures silent { result.status ≡ 0 → err.new ≡ err.old }
     ensures reason { result.status ≡ 1
-        → TellsReason grammar.now request.entry.rule.now text.now result.told
+        → ReportsReason grammar.now request.entry.rule.now text.now result.write_result
         (E.contents err.old.writer) (E.contents err.new.writer) }
     ensures tells_memory { result.status ≡ 2
-        → TellsLine (codes "out of memory") result.told
+        → WritesLine (codes "out of memory") result.write_result
         (E.contents err.old.writer) (E.contents err.new.writer) }
     ensures tells_unwritten { result.status ≡ 4
-        → TellsLine (codes "cannot write") result.told
+        → WritesLine (codes "cannot write") result.write_result
         (E.contents err.old.writer) (E.contents err.new.writer) }
     ensures stopped { result.status ≡ 5
-        → TellsStop grammar.now request.entry.rule.now text.now result.told
+        → ReportsStop grammar.now request.entry.rule.now text.now result.write_result
         (E.contents err.old.writer) (E.contents err.new.writer) }
-    ensures told { IsOk result.told → err.new.refused ≡ err.old.refused }
-    ensures refused_line { IsErr result.told → err.new.refused ≡ true }
+    ensures told { IsOk result.write_result → err.new.refused ≡ err.old.refused }
+    ensures refused_line { IsErr result.write_result → err.new.refused ≡ true }
 {
     match unwrap_or_report(alloc, parse_and_optimize(alloc, grammar)) {
         Ok((_, rules)) => {
             let outcome = outcome_of(alloc, &rules, request.rule, text, request.format);
             release(rules);
-            shown(outcome, request.rule, out, err)
+            print_outcome(outcome, request.rule, out, err)
         }
-        Err(Report::Memory) => told(err, "out of memory", MEMORY),
-        Err(Report::Text(report)) => told(err, report.as_str(), REFUSED),
+        Err(Report::Memory) => exit_with(err, "out of memory", MEMORY),
+        Err(Report::Text(report)) => exit_with(err, report.as_str(), REFUSED),
     }
 }
 
-/// The text of a file, if it can be read and is UTF-8.
+/// Returns the text of a file, if it can be read and is UTF-8.
 fn text_of<'s>(source: &'s Source<'_>) -> Option<&'s str>
     ensures readable { IsSome result ↔ IsReadable source.entry.now }
     ensures text { IfSome result (λ text. text.now ≡ source.entry.now.bytes.items) }
@@ -154,25 +155,25 @@ fn text_of<'s>(source: &'s Source<'_>) -> Option<&'s str>
     }
 }
 
-/// Tells of a file that can't be read.
-fn unreadable<E: Write>(source: &Source<'_>, err: &mut Output<E>) -> Exit
+/// Reports a file that can't be read.
+fn unreadable<E: Write>(source: &Source<'_>, err: &mut Output<E>) -> RunExit
     ensures status { result.status ≡ 3 }
-    ensures told { IsOk result.told → err.new.refused ≡ err.old.refused }
-    ensures refused_line { IsErr result.told → err.new.refused ≡ true }
+    ensures told { IsOk result.write_result → err.new.refused ≡ err.old.refused }
+    ensures refused_line { IsErr result.write_result → err.new.refused ≡ true }
 {
     let why = match &source.why {
         Some(why) => why.as_str(),
         None => "it is not UTF-8",
     };
-    let told = unread(err, source.name, why);
-    Exit {
+    let write_result = write_unread(err, source.name, why);
+    RunExit {
         status: UNREADABLE,
-        told,
+        write_result,
     }
 }
 
 /// Writes that a file can't be read, and why.
-fn unread<'t, E: Write>(
+fn write_unread<'t, E: Write>(
     err: &mut Output<E>,
     name: &'t str,
     why: &'t str,
@@ -183,15 +184,15 @@ fn unread<'t, E: Write>(
     err.write_line(&["cannot read ", name, ": ", why])
 }
 
-/// Prints what comes of a rule, or tells why there are no trees.
-fn shown<W: Write, E: Write>(
+/// Prints the trees of an outcome, or reports why there are none.
+fn print_outcome<W: Write, E: Write>(
     outcome: Outcome,
     rule: &str,
     out: &mut Output<W>,
     err: &mut Output<E>,
-) -> Exit
+) -> RunExit
     ensures known { IsStatus result.status }
-    ensures ends { EndsAs outcome rule.now result.status result.told
+    ensures ends { EndsAs outcome rule.now result.status result.write_result
         (W.contents out.old.writer) (W.contents out.new.writer)
         (E.contents err.old.writer) (E.contents err.new.writer) }
     ensures unprinted { result.status ≢ 0 → result.status ≢ 4 → out.new ≡ out.old }
@@ -199,74 +200,81 @@ fn shown<W: Write, E: Write>(
     ensures refused_write { result.status ≡ 4 → out.new.refused ≡ true }
     ensures silent { result.status ≡ 0 → err.new ≡ err.old }
     ensures tells_memory { result.status ≡ 2
-        → TellsLine (codes "out of memory") result.told
+        → WritesLine (codes "out of memory") result.write_result
         (E.contents err.old.writer) (E.contents err.new.writer) }
     ensures tells_unwritten { result.status ≡ 4
-        → TellsLine (codes "cannot write") result.told
+        → WritesLine (codes "cannot write") result.write_result
         (E.contents err.old.writer) (E.contents err.new.writer) }
-    ensures told { IsOk result.told → err.new.refused ≡ err.old.refused }
-    ensures refused_line { IsErr result.told → err.new.refused ≡ true }
+    ensures told { IsOk result.write_result → err.new.refused ≡ err.old.refused }
+    ensures refused_line { IsErr result.write_result → err.new.refused ≡ true }
 {
     match outcome {
-        Outcome::Shown(lines) => written(err, out.write_text(lines.as_str())),
-        Outcome::Failed(report) => told(err, report.as_str(), REFUSED),
+        Outcome::Shown(lines) => exit_after_write(err, out.write_text(lines.as_str())),
+        Outcome::Failed(report) => exit_with(err, report.as_str(), REFUSED),
         Outcome::NoRule => no_rule(err, rule),
-        Outcome::OutOfSteps => told(err, "the text takes too many steps", STOPPED),
-        Outcome::EmptyStack => told(err, "PEEK or POP found nothing on the stack", STOPPED),
-        Outcome::UnknownName => told(err, "the grammar calls a rule that is not known", STOPPED),
-        Outcome::Bound => told(
+        Outcome::OutOfSteps => exit_with(err, "the text takes too many steps", STOPPED),
+        Outcome::EmptyStack => exit_with(err, "PEEK or POP found nothing on the stack", STOPPED),
+        Outcome::UnknownName => exit_with(
+            err,
+            "the grammar calls a rule that is not known",
+            STOPPED,
+        ),
+        Outcome::Bound => exit_with(
             err,
             "a range of the grammar has a bound that is no character",
             STOPPED,
         ),
-        Outcome::Memory => told(err, "out of memory", MEMORY),
+        Outcome::Memory => exit_with(err, "out of memory", MEMORY),
     }
 }
 
-/// How a run ends where the trees were printed or a write of them was refused, which is told.
-fn written<E: Write>(err: &mut Output<E>, outcome: Result<(), RefusedWrite>) -> Exit
+/// Ends a run after its trees were printed, and reports a write of them that was refused.
+fn exit_after_write<E: Write>(err: &mut Output<E>, outcome: Result<(), RefusedWrite>) -> RunExit
     ensures known { (result.status ≡ 0) ⊎ (result.status ≡ 4) }
     ensures printed { IsOk outcome → result.status ≡ 0 }
     ensures silent { IsOk outcome → err.new ≡ err.old }
     ensures unwritten { IsErr outcome → result.status ≡ 4 }
     ensures tells { IsErr outcome
-        → TellsLine (codes "cannot write") result.told
+        → WritesLine (codes "cannot write") result.write_result
         (E.contents err.old.writer) (E.contents err.new.writer) }
-    ensures told { IsOk result.told → err.new.refused ≡ err.old.refused }
-    ensures refused_line { IsErr result.told → err.new.refused ≡ true }
+    ensures told { IsOk result.write_result → err.new.refused ≡ err.old.refused }
+    ensures refused_line { IsErr result.write_result → err.new.refused ≡ true }
 {
     match outcome {
-        Ok(()) => Exit {
+        Ok(()) => RunExit {
             status: PRINTED,
-            told: Ok(()),
+            write_result: Ok(()),
         },
-        Err(_) => told(err, "cannot write", UNWRITABLE),
+        Err(_) => exit_with(err, "cannot write", UNWRITABLE),
     }
 }
 
-/// Tells that the grammar has no rule of a name.
-fn no_rule<E: Write>(err: &mut Output<E>, rule: &str) -> Exit
+/// Reports that the grammar has no rule of that name.
+fn no_rule<E: Write>(err: &mut Output<E>, rule: &str) -> RunExit
     ensures status { result.status ≡ 1 }
-    ensures tells { TellsLine (codes "the grammar has no rule " ++ rule.now) result.told
+    ensures tells { WritesLine (codes "the grammar has no rule " ++ rule.now) result.write_result
         (E.contents err.old.writer) (E.contents err.new.writer) }
-    ensures told { IsOk result.told → err.new.refused ≡ err.old.refused }
-    ensures refused_line { IsErr result.told → err.new.refused ≡ true }
+    ensures told { IsOk result.write_result → err.new.refused ≡ err.old.refused }
+    ensures refused_line { IsErr result.write_result → err.new.refused ≡ true }
 {
-    let told = err.write_line(&["the grammar has no rule ", rule]);
-    Exit {
+    let write_result = err.write_line(&["the grammar has no rule ", rule]);
+    RunExit {
         status: REFUSED,
-        told,
+        write_result,
     }
 }
 
-/// Writes a message and a line break to `err`, whatever comes of it.
-fn told<E: Write>(err: &mut Output<E>, message: &str, status: u8) -> Exit
+/// Ends a run with this status, after writing a message and a line break to `err`.
+fn exit_with<E: Write>(err: &mut Output<E>, message: &str, status: u8) -> RunExit
     ensures status { result.status ≡ status }
-    ensures tells { TellsLine message.now result.told
+    ensures tells { WritesLine message.now result.write_result
         (E.contents err.old.writer) (E.contents err.new.writer) }
-    ensures told { IsOk result.told → err.new.refused ≡ err.old.refused }
-    ensures refused_line { IsErr result.told → err.new.refused ≡ true }
+    ensures told { IsOk result.write_result → err.new.refused ≡ err.old.refused }
+    ensures refused_line { IsErr result.write_result → err.new.refused ≡ true }
 {
-    let told = err.write_line(&[message]);
-    Exit { status, told }
+    let write_result = err.write_line(&[message]);
+    RunExit {
+        status,
+        write_result,
+    }
 }

@@ -20,7 +20,7 @@ use meta_base::runtime::{Fault, Pairs};
 use pest_meta::Report;
 use std::alloc::Global;
 
-/// The rules that the pairs of a grammar spell, or what is wrong with them.
+/// Returns the rules that the pairs of a grammar spell, or their errors.
 pub fn consume_rules(alloc: Global, pairs: Pairs<'_, Rule>) -> Result<Vec<ast::Rule>, Fault>
     requires { AreOfAGrammar pairs }
     ensures rules { IfOk result
@@ -32,7 +32,7 @@ pub fn consume_rules(alloc: Global, pairs: Pairs<'_, Rule>) -> Result<Vec<ast::R
     pest_meta::parser::consume_rules(alloc, pairs)
 }
 
-/// The builtins that a grammar uses, and its optimized rules.
+/// Returns the builtins that a grammar uses, and its optimized rules.
 pub fn parse_and_optimize<'i>(
     alloc: Global,
     grammar: &'i str,
@@ -57,7 +57,7 @@ pub fn parse_and_optimize<'i>(
     pest_meta::parse_and_optimize(alloc, grammar)
 }
 
-/// The value of an outcome, or what is said of its fault.
+/// Returns the value of an outcome, or the report of its fault.
 pub fn unwrap_or_report<T>(alloc: Global, outcome: Result<T, Fault>) -> Result<T, Report>
     ensures value { IfOk outcome (λ value. result ≡ Ok value) }
     ensures report { IfErr outcome (λ fault. IsErrAnd result (IsReportOf fault)) }

@@ -13,21 +13,21 @@ use meta_base::runtime::Error;
 use meta_json::Refusal;
 use std::alloc::{AllocError, Global};
 
-/// Rules as a text.
+/// Returns rules as a text.
 pub fn rules_text(alloc: Global, rules: &[Rule]) -> Result<String, AllocError>
     ensures { IfOk result (λ text. string_bytes text ≡ compact_text (rules_data rules.now)) }
 {
     meta_json::rules_text(alloc, rules)
 }
 
-/// The rules that a text says.
+/// Reads the rules of a text in JSON.
 pub fn read_rules(alloc: Global, text: &str) -> Result<Vec<Rule>, Refusal>
     ensures { IfOk result (λ rules. AreRules text.now rules.items) }
 {
     meta_json::read_rules(alloc, text)
 }
 
-/// Errors as a text.
+/// Returns errors as a text.
 pub fn errors_text(
     alloc: Global,
     errors: &[Error<grammar::Rule>],
@@ -38,7 +38,7 @@ pub fn errors_text(
     meta_json::errors_text(alloc, errors, expected)
 }
 
-/// The rule of the meta-grammar that has a name.
+/// Returns the rule of the meta-grammar of that name.
 pub fn rule_named(name: &str) -> Option<grammar::Rule>
     ensures found { IfSome result (λ rule. name_of rule ≡ name.now) }
     ensures none { IfNone result (IsOfNoRule name.now) }

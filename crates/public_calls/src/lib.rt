@@ -1,5 +1,6 @@
-//! The public calls of the crates below with what they promise. Each function calls one of them and repeats
-//! its clauses, so that edits which turn the meaning of a call are refused in a crate that is proved fast.
+//! The public calls of the crates below with their contracts. Every function calls one of them and repeats
+//! its clauses, so that mutants which change the meaning of a call are refused in a crate that is proved
+//! fast.
 #![tactic(auto)]
 
 pub mod front_end;

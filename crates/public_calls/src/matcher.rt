@@ -15,7 +15,7 @@ use meta_matcher::entries::Entry;
 use meta_matcher::matcher::{Found, Matcher, Refusal};
 use std::alloc::{AllocError, Global};
 
-/// A matcher for rules.
+/// Returns a matcher for rules.
 pub fn matcher_of<P: Properties>(
     alloc: Global,
     rules: &[OptimizedRule],
@@ -29,8 +29,8 @@ pub fn matcher_of<P: Properties>(
     Matcher::new(alloc, rules, properties)
 }
 
-/// What a rule matches of a text, within some steps.
-pub fn matched<'a>(
+/// Matches a text by a rule, with at most so many steps.
+pub fn match_text<'a>(
     matcher: &'a Matcher,
     alloc: Global,
     rule: &'a str,
@@ -47,7 +47,7 @@ pub fn matched<'a>(
     matcher.parse(alloc, rule, text, steps)
 }
 
-/// Token trees as lines.
+/// Returns token trees as lines.
 pub fn tree_text(alloc: Global, text: &str, entries: &[Entry<'_>]) -> Result<String, AllocError>
     ensures { IfOk result (λ lines. (trees : Trees) → seen entries.now ≡ entries_of 0 trees
         → string_bytes lines ≡ shown text.now 0 trees) }

@@ -1,6 +1,6 @@
 //! The names of a grammar.
 ghost use Rattle.std.specs.Prelude.{IfErr, IfOk, OnOk, [], alloc_error, map, ◌≡◌};
-ghost use Rattle.meta_base.specs.Pieces.Saying.{Tell, piece_of};
+ghost use Rattle.meta_base.specs.Pieces.Saying.{AreErrorsFor, piece_of};
 ghost use Rattle.meta_names.specs.GrammarNames.{AreWrittenAt, IsNameRefusal, complaints_of, first_calls_of};
 ghost use Rattle.meta_names.specs.Names.{rust_keyword_complaints, undefined_complaints};
 
@@ -8,7 +8,7 @@ use meta_base::grammar::Rule;
 use meta_base::runtime::{Error, Fault, Pairs, Span};
 use std::alloc::Global;
 
-/// The builtins that a grammar uses, or what is wrong with its names.
+/// Returns the builtins that a grammar uses, or the errors of its names.
 pub fn validate_pairs<'i>(alloc: Global, pairs: Pairs<'i, Rule>) -> Result<Vec<&'i str>, Fault>
     ensures no_complaints { OnOk result (complaints_of pairs.entry ≡ []) }
     ensures builtins { IfOk result (λ names. AreWrittenAt (first_calls_of pairs.entry) names.items) }
@@ -17,26 +17,27 @@ pub fn validate_pairs<'i>(alloc: Global, pairs: Pairs<'i, Rule>) -> Result<Vec<&
     meta_names::validate_pairs(alloc, pairs)
 }
 
-/// The definitions that are keywords of Rust.
+/// Returns the definitions that are keywords of Rust.
 pub fn validate_rust_keywords(
     alloc: Global,
     definitions: &Vec<Span<'_>>,
 ) -> Result<Vec<Error<Rule>>, Fault>
     ensures told { let places = map piece_of definitions.now.items in
-        IfOk result (λ errors. Tell (rust_keyword_complaints places) errors.items) }
+        IfOk result (λ errors. AreErrorsFor (rust_keyword_complaints places) errors.items) }
     ensures memory { IfErr result (λ fault. fault ≡ Fault.Memory alloc_error) }
 {
     meta_names::validate_rust_keywords(alloc, definitions)
 }
 
-/// The calls of names that nothing defines.
+/// Returns the calls of names that nothing defines.
 pub fn validate_undefined<'i>(
     alloc: Global,
     definitions: &Vec<Span<'i>>,
     called: &Vec<Span<'i>>,
 ) -> Result<Vec<Error<Rule>>, Fault>
     ensures told { IfOk result (λ errors.
-        Tell (undefined_complaints (map piece_of definitions.now.items) (map piece_of called.now.items))
+        AreErrorsFor
+        (undefined_complaints (map piece_of definitions.now.items) (map piece_of called.now.items))
         errors.items) }
     ensures memory { IfErr result (λ fault. fault ≡ Fault.Memory alloc_error) }
 {

@@ -17,7 +17,7 @@ use meta_base::runtime::Fault;
 use std::alloc::Global;
 use std::collections::HashMap;
 
-/// A rule whose repetitions are written out.
+/// Returns a rule whose repetitions are written out.
 pub fn unroll(alloc: Global, rule: Rule) -> Result<Rule, Fault>
     ensures name { IfOk result (λ r. text_of r.name ≡ text_of rule.name) }
     ensures ty { IfOk result (λ r. r.ty ≡ rule.ty) }
@@ -30,7 +30,7 @@ pub fn unroll(alloc: Global, rule: Rule) -> Result<Rule, Fault>
     meta_optimizer::unroll(alloc, rule)
 }
 
-/// Whether an expression changes the stack.
+/// Returns whether an expression changes the stack.
 pub fn child_modifies_state(
     alloc: Global,
     expr: &OptimizedExpr,

@@ -1,4 +1,4 @@
-//! The runtime's places, errors and pairs.
+//! The runtime's positions, spans, errors and pairs.
 ghost use Rattle.std.specs.Prelude.{IfErr, IfOk, IfSome, IsSome, alloc_error, ◌↔◌, ◌≡◌, ◌≤◌};
 ghost use Rattle.std.specs.Str.{IsCharBoundary};
 ghost use Rattle.meta_base.specs.declared.runtime.errors.InputLocation.TheVariants as InputLocation;
@@ -13,7 +13,7 @@ use meta_base::grammar;
 use meta_base::runtime::{Error, ErrorVariant, Fault, FlatPairs, Pairs, Position, Span};
 use std::alloc::Global;
 
-/// The span of two places in a text.
+/// Returns the span of two positions in a text.
 pub fn span_of<'i>(text: &'i str, start: usize, end: usize) -> Option<Span<'i>>
     ensures accepted { IsSome result
         ↔ (start ≤ end) × IsCharBoundary text.now start × IsCharBoundary text.now end }
@@ -24,14 +24,14 @@ pub fn span_of<'i>(text: &'i str, start: usize, end: usize) -> Option<Span<'i>>
     Span::new(text, start, end)
 }
 
-/// The line and the column of a position.
+/// Returns the line and the column of a position.
 pub fn line_col(position: &Position<'_>) -> (usize, usize)
     ensures { result ≡ line_column (position_text position.now) (position_offset position.now) }
 {
     position.line_col()
 }
 
-/// An error at a span.
+/// Returns an error at a span.
 pub fn error_at_span(
     alloc: Global,
     variant: ErrorVariant,
@@ -50,7 +50,7 @@ pub fn error_at_span(
     Error::new_from_span(alloc, variant, span)
 }
 
-/// All pairs in one list.
+/// Returns all pairs in one list.
 pub fn flat_pairs_of<'i>(
     pairs: Pairs<'i, grammar::Rule>,
     alloc: Global,

@@ -13,15 +13,15 @@ use meta_reader::rules::PestParser;
 use meta_spanned::ParserRule;
 use std::alloc::{AllocError, Global};
 
-/// The rules that are expected where a text fails.
-pub fn expected(alloc: Global, rule: Rule, text: &str) -> Result<Vec<Rule>, AllocError>
+/// Returns the rules that are expected where a text fails.
+pub fn expected_rules(alloc: Global, rule: Rule, text: &str) -> Result<Vec<Rule>, AllocError>
     ensures nothing { IfOk result (λ rules. ExpectsNothing rule text.now rules.items) }
     ensures expected { IfOk result (λ rules. AreExpected rule text.now rules.items) }
 {
-    PestParser::expected(alloc, rule, text)
+    PestParser::expected_set(alloc, rule, text)
 }
 
-/// What errors call a rule of the meta-grammar.
+/// Returns the name of a rule of the meta-grammar in errors.
 pub fn rename_meta_rule(alloc: Global, rule: &Rule) -> Result<String, Fault>
     ensures { MatchResult result
         (λ name. string_bytes name ≡ shown_name rule.now)
@@ -30,7 +30,7 @@ pub fn rename_meta_rule(alloc: Global, rule: &Rule) -> Result<String, Fault>
     meta_reader::rules::rename_meta_rule(alloc, rule)
 }
 
-/// Rules without their spans.
+/// Returns rules without their spans.
 pub fn erase_spans(alloc: Global, rules: Vec<ParserRule<'_>>) -> Result<Vec<PlainRule>, AllocError>
     ensures { IfOk result
         (λ erased. rules_of erased.items ≡ rules_without_spans (rule_views rules.entry.items)) }

@@ -1,19 +1,19 @@
-//! What is wrong with rules.
+//! The errors of rules.
 ghost use Rattle.std.specs.Prelude.{IfErr, IfOk, IsTrue, [], alloc_error, map, ◌↔◌, ◌≡◌};
 ghost use Rattle.meta_analysis.specs.NamedPlaces.{last_name};
 ghost use Rattle.meta_base.specs.Language.WellFormed.{CannotFail, IsWellFormed};
 ghost use Rattle.meta_spanned.specs.Erasure.{rules_without_spans, without_spans};
 ghost use Rattle.meta_spanned.specs.Nodes.{piece_of, rule_views, unplaced};
-ghost use Rattle.meta_stack_loops.specs.Certain.{AreReports, TellReports};
+ghost use Rattle.meta_stack_loops.specs.Certain.{AreReports, AreErrorsOfReports};
 ghost use Rattle.meta_validator.specs.Reported.{AreReported};
-ghost use Rattle.pest_meta.specs.Findings.{TellFindings};
+ghost use Rattle.pest_meta.specs.Findings.{AreErrorsOfFindings};
 
 use meta_base::grammar::Rule;
 use meta_base::runtime::{Error, Fault, Span};
 use meta_spanned::{ParserExpr, ParserRule};
 use std::alloc::Global;
 
-/// Whether an expression cannot fail.
+/// Returns whether an expression cannot fail.
 pub fn is_non_failing<'i>(
     alloc: Global,
     expr: &ParserExpr<'i>,
@@ -26,7 +26,7 @@ pub fn is_non_failing<'i>(
     meta_validator::validator::is_non_failing(alloc, expr, rules)
 }
 
-/// The errors of rules, with those of some repetitions.
+/// Returns the errors of rules, with those of some repetitions.
 pub fn validate_rules<'i>(
     alloc: Global,
     rules: &Vec<ParserRule<'i>>,
@@ -41,12 +41,12 @@ pub fn validate_rules<'i>(
     meta_validator::validator::validate_rules(alloc, rules, endless)
 }
 
-/// All errors of rules.
+/// Returns all errors of rules.
 pub fn validate_ast<'i>(
     alloc: Global,
     rules: &Vec<ParserRule<'i>>,
 ) -> Result<Vec<Error<Rule>>, Fault>
-    ensures exact { IfOk result (λ errors. TellFindings (rule_views rules.now.items) errors.items) }
+    ensures exact { IfOk result (λ errors. AreErrorsOfFindings (rule_views rules.now.items) errors.items) }
     ensures accepted { IfOk result (λ errors. errors.items ≡ []
         → IsWellFormed (rules_without_spans (rule_views rules.now.items))) }
     ensures silent { IfOk result (λ errors. errors.items ≡ [] → AreReports (rule_views rules.now.items) []) }
@@ -55,19 +55,19 @@ pub fn validate_ast<'i>(
     pest_meta::validator::validate_ast(alloc, rules)
 }
 
-/// The place of the last of some names that is equal to one.
+/// Returns the index of the last of some names that is equal to one.
 pub fn rule_number(names: &Vec<&str>, name: &str) -> Option<usize>
     ensures { result ≡ last_name names.now.items name.now }
 {
     meta_analysis::rule_number(names, name)
 }
 
-/// The errors of the stack pass.
+/// Returns the errors of the stack pass.
 pub fn validate_stack_repetition<'i>(
     alloc: Global,
     rules: &Vec<ParserRule<'i>>,
 ) -> Result<Vec<Error<Rule>>, Fault>
-    ensures exact { IfOk result (λ errors. TellReports (rule_views rules.now.items) errors.items) }
+    ensures exact { IfOk result (λ errors. AreErrorsOfReports (rule_views rules.now.items) errors.items) }
     ensures memory { IfErr result (λ fault. fault ≡ Fault.Memory alloc_error) }
 {
     meta_stack_loops::validate_stack_repetition(alloc, rules)

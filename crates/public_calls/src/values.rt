@@ -6,21 +6,21 @@ ghost use Rattle.meta_ast.specs.Printing.{printed};
 use meta_ast::ast::{Expr, Rule};
 use std::alloc::{AllocError, Global};
 
-/// Whether two rules are equal.
+/// Returns whether two rules are equal.
 pub fn are_same_rules(one: &Rule, other: &Rule) -> bool
     ensures { IsTrue result ↔ (rule_of_code one.now ≡ rule_of_code other.now) }
 {
     *one == *other
 }
 
-/// A copy of a rule.
+/// Returns a copy of a rule.
 pub fn copied_rule(rule: &Rule) -> Result<Rule, AllocError>
     ensures { IfOk result (λ copy. rule_of_code copy ≡ rule_of_code rule.now) }
 {
     rule.clone()
 }
 
-/// An expression as it is printed.
+/// Returns an expression as it is printed.
 pub fn printed_expression(alloc: Global, expr: &Expr) -> Result<String, AllocError>
     ensures { IfOk result
         (λ text. string_bytes text ≡ encode_utf8_all (printed (expression_of expr.now))) }

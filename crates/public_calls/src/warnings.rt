@@ -1,4 +1,4 @@
-//! Warnings that are certain.
+//! Warnings that are definite.
 ghost use Rattle.std.specs.Prelude.{◌≡◌, IfOk, map};
 ghost use Rattle.meta_spanned.specs.Nodes.{piece_of, rule_views};
 ghost use Rattle.meta_warnings.specs.Choices.{unreachable_alternatives};
@@ -8,7 +8,7 @@ use meta_base::runtime::Span;
 use meta_spanned::ParserRule;
 use std::alloc::{AllocError, Global};
 
-/// The alternatives that are never taken.
+/// Returns the alternatives that are never taken.
 pub fn never_taken<'i>(alloc: Global, rules: &[ParserRule<'i>]) -> Result<Vec<Span<'i>>, AllocError>
     ensures { IfOk result (λ places.
         map piece_of places.items ≡ unreachable_alternatives (rule_views rules.now)) }
@@ -16,7 +16,7 @@ pub fn never_taken<'i>(alloc: Global, rules: &[ParserRule<'i>]) -> Result<Vec<Sp
     meta_warnings::unreachable_alternatives(alloc, rules)
 }
 
-/// The rules that no other rule calls.
+/// Returns the rules that no other rule calls.
 pub fn never_called<'i>(
     alloc: Global,
     rules: &[ParserRule<'i>],

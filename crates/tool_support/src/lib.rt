@@ -1,4 +1,4 @@
-//! What the programs share.
+//! Output of the programs.
 #![tactic(auto)]
 
 pub mod output;

@@ -14,12 +14,12 @@ pub struct Output<W> {
     refused: bool,
 }
 
-/// The error of a write that the writer refused: it answered an error, or took nothing.
+/// The error of a write that the writer refused: an error, or nothing taken.
 #[derive(Clone, Copy, Debug, Drop, PartialEq, Eq)]
 pub struct RefusedWrite;
 
 impl<W: Write> Output<W> {
-    /// A writer that has refused nothing.
+    /// Returns a writer that has refused nothing.
     pub fn new(writer: W) -> Output<W>
         ensures writer { result.writer ≡ writer }
         ensures fresh { result.refused ≡ false }
@@ -30,8 +30,8 @@ impl<W: Write> Output<W> {
         }
     }
 
-    /// Writes a text, all of it, and flushes the writer. An error comes where the writer refused one of
-    /// these, and is remembered.
+    /// Writes a text, all of it, and flushes the writer. Returns an error if the writer refused one of these,
+    /// and remembers it.
     pub fn write_text(&mut self, text: &str) -> Result<(), RefusedWrite>
         ensures gained { OnOk result
             (Appends (W.contents self.old.writer) (W.contents self.new.writer) text.now) }

@@ -3,7 +3,7 @@ ghost use Rattle.std.specs.Prelude.{◌≡◌};
 ghost use Rattle.meta_ast.specs.Ast.{expression_of, rule_of_code};
 
 use super::{Expr, Rule};
-use crate::shape::copied;
+use crate::shape::copy_tree;
 use std::alloc::AllocError;
 
 impl Clone for Rule {
@@ -22,6 +22,6 @@ impl Clone for Expr {
     ghost is_clone = { λ expr copy. expression_of copy ≡ expression_of expr };
 
     fn clone(&self) -> Result<Expr, AllocError> {
-        copied(self)
+        copy_tree(self)
     }
 }

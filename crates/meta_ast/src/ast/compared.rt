@@ -5,7 +5,7 @@ ghost use Rattle.meta_ast.specs.Ast.{expression_of, rule_of_code};
 ghost use Rattle.meta_base.specs.Rewritings.Equality.{expression_eq, rule_eq, expression_eq_equiv, rule_eq_equiv};
 
 use super::{Expr, Rule};
-use crate::sameness::{Both, Compared, Left, equal};
+use crate::sameness::{Both, Comparison, TreeEq, equal};
 use crate::texts::{same_text, same_texts};
 
 impl PartialEq for Rule {
@@ -42,46 +42,48 @@ impl Eq for Expr {
     ghost laws = { on_equiv expression_of expression_eq_equiv };
 }
 
-impl Compared for Expr {
+impl TreeEq for Expr {
     ghost is_equal = { λ a b. expression_eq (expression_of a) (expression_of b) };
 
     #[tactic(auto, using(crate::proofs::Weights::some_weight))]
-    fn compared<'a>(&'a self, other: &'a Expr) -> Left<'a, Expr> {
+    fn compare_roots<'a>(&'a self, other: &'a Expr) -> Comparison<'a, Expr> {
         use Expr as E;
         match (self, other) {
             (E::Str(s), E::Str(t))
             | (E::Insens(s), E::Insens(t))
             | (E::Ident(s), E::Ident(t))
-            | (E::PushLiteral(s), E::PushLiteral(t)) => Left::Nothing(same_text(s, t)),
-            (E::Range(s, u), E::Range(t, v)) => Left::Nothing(same_text(s, t) && same_text(u, v)),
-            (E::PeekSlice(i, j), E::PeekSlice(k, l)) => Left::Nothing(i == k && j == l),
+            | (E::PushLiteral(s), E::PushLiteral(t)) => Comparison::Nothing(same_text(s, t)),
+            (E::Range(s, u), E::Range(t, v)) => Comparison::Nothing(
+                same_text(s, t) && same_text(u, v),
+            ),
+            (E::PeekSlice(i, j), E::PeekSlice(k, l)) => Comparison::Nothing(i == k && j == l),
             (E::PosPred(first), E::PosPred(second))
             | (E::NegPred(first), E::NegPred(second))
             | (E::Opt(first), E::Opt(second))
             | (E::Rep(first), E::Rep(second))
             | (E::RepOnce(first), E::RepOnce(second))
-            | (E::Push(first), E::Push(second)) => Left::One(Both { first, second }, true),
+            | (E::Push(first), E::Push(second)) => Comparison::One(Both { first, second }, true),
             (E::NodeTag(first, s), E::NodeTag(second, t)) => {
-                Left::One(Both { first, second }, same_text(s, t))
+                Comparison::One(Both { first, second }, same_text(s, t))
             }
             (E::Seq(first, x), E::Seq(second, y)) | (E::Choice(first, x), E::Choice(second, y)) => {
                 let right = Both {
                     first: x,
                     second: y,
                 };
-                Left::Two(Both { first, second }, right)
+                Comparison::Two(Both { first, second }, right)
             }
             (E::RepExact(first, m), E::RepExact(second, n))
             | (E::RepMin(first, m), E::RepMin(second, n))
-            | (E::RepMax(first, m), E::RepMax(second, n)) => Left::One(
+            | (E::RepMax(first, m), E::RepMax(second, n)) => Comparison::One(
                 Both { first, second },
                 m == n,
             ),
             (E::RepMinMax(first, k, m), E::RepMinMax(second, l, n)) => {
-                Left::One(Both { first, second }, k == l && m == n)
+                Comparison::One(Both { first, second }, k == l && m == n)
             }
-            (E::Skip(ss), E::Skip(ts)) => Left::Nothing(same_texts(ss, ts)),
-            _ => Left::Nothing(false),
+            (E::Skip(ss), E::Skip(ts)) => Comparison::Nothing(same_texts(ss, ts)),
+            _ => Comparison::Nothing(false),
         }
     }
 }

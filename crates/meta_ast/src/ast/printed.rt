@@ -10,15 +10,14 @@ use crate::printing::Counts;
 use crate::printing::pieces::{Leaf, Parts, Printed, fmt_printed};
 use std::fmt;
 
-/// An expression as a grammar's text has it.
+/// Prints an expression as the text of a grammar.
 ///
-/// Literals stand between quotes, with escapes. A sequence and a choice stand in parentheses, and
-/// what is nested to their right has none of its own: `(a ~ b ~ c)`, `(a | b | c)`. A predicate has
-/// parentheses before a postfix operator alone: `(!e)?`. Of a range's bounds the first characters
-/// are printed, and of an empty bound nothing: `('a'..'z')`. What is tagged stands in parentheses
-/// with its tag: `(#tag = e)`.
+/// Literals are quoted and escaped. A sequence and a choice are in parentheses, and one nested to their
+/// right has none of its own: `(a ~ b ~ c)`, `(a | b | c)`. A predicate has parentheses before a postfix
+/// operator alone: `(!e)?`. Of a range's bounds the first characters are printed, and of an empty bound
+/// nothing: `('a'..'z')`. A tagged expression is in parentheses with its tag: `(#tag = e)`.
 ///
-/// What is still to be written is kept on a list. Where memory for it is refused, that is an error.
+/// Uses an explicit stack of pieces. Fails where memory for the stack is refused.
 impl fmt::Display for Expr {
     ghost output = { λ expr. Some (encode_utf8_all (printed (expression_of expr))) };
 

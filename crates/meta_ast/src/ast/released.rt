@@ -1,9 +1,9 @@
-//! Letting go of rules and expressions by a loop.
+//! Iterative drop of rules and expressions.
 use super::{Expr, Rule};
 use crate::deep::Release;
-use crate::shape::let_go;
+use crate::shape::release_tree;
 
-/// Lets rules go, the body of each as [`Expr::release`] does.
+/// Drops rules, the body of each as [`Expr::release`] does.
 pub fn release(rules: Vec<Rule>) {
     rules.release();
 }
@@ -21,11 +21,11 @@ impl Release for Expr {
 }
 
 impl Expr {
-    /// Lets the expression go by a loop, without memory.
+    /// Drops the expression iteratively, without allocating.
     ///
-    /// An expression that goes out of scope is let go by a call a level, so a chain of very many parts takes
-    /// very much of the machine's stack; this takes the same for each.
+    /// An expression that goes out of scope is dropped recursively, so a chain of very many parts takes
+    /// very much stack space; this takes a constant amount.
     pub fn release(self) {
-        let_go(self);
+        release_tree(self);
     }
 }

@@ -1,4 +1,4 @@
-//! Expressions taken apart and put together again.
+//! Destructures and rebuilds expressions.
 ghost use Rattle.std.specs.Prelude.{◌≡◌, ◌+◌, ◌*◌, ◌≤◌, []};
 ghost use Rattle.meta_base.specs.Language.Expression.{Expression};
 ghost use Rattle.meta_ast.specs.Ast.{expression_of};
@@ -12,7 +12,7 @@ use crate::shape::{Joint, Shape, Shaped};
 use crate::texts::copy_texts;
 use std::alloc::AllocError;
 
-/// What stands round one operand of an expression.
+/// The operator over one operand of an expression.
 #[derive(Drop)]
 pub enum Sign {
     PosPred,

@@ -1,4 +1,4 @@
-//! Maps of expressions, and all that stands in them one by one.
+//! Maps of expressions, and iteration over their nodes in preorder.
 ghost use Rattle.std.specs.Prelude.{◌≡◌, alloc_error, IfErr, IfOk};
 ghost use Rattle.meta_ast.specs.Ast.{expression_of};
 ghost use Rattle.meta_ast.specs.ExprWalks.{expressions_left, unary_of};
@@ -9,13 +9,13 @@ use super::Expr;
 use super::shaped::Sign;
 use crate::deep::Deep;
 use crate::shape::{Joint, Shape, Shaped};
-use crate::walks::{Node, Tree, boxed, map_bottom_up, map_top_down, take_first, two};
+use crate::walks::{Node, Tree, box_operand, map_bottom_up, map_top_down, take_first, two};
 use meta_base::runtime::Fault;
 use std::alloc::{AllocError, Global};
 
 impl Expr {
-    /// The expression and all that stands in it, each before what stands in it, the left side before the
-    /// right. The only fault is a want of memory.
+    /// Iterates over the expression and all expressions in it in preorder: node before operands, left
+    /// before right. The only error is allocation failure.
     pub fn iter_top_down(&self, alloc: Global) -> Result<ExprTopDownIterator, Fault>
         ensures whole { IfOk result (λ iter. expressions_left iter ≡ preorder (expression_of self.now)) }
         ensures memory { IfErr result (λ fault. fault ≡ Fault.Memory alloc_error) }
@@ -23,9 +23,9 @@ impl Expr {
         ExprTopDownIterator::new(alloc, self)
     }
 
-    /// The expression with `f` done at it, then at each operand of its answer, and so on down; the left side
-    /// comes before the right. `f` answers no more nodes than it gets. Refused for want of memory, or with
-    /// the first `Err` that `f` answers.
+    /// Applies `f` to the expression, then to each operand of its answer, and so on down, left before
+    /// right. `f` answers no more nodes than it gets. Fails where memory is refused, or with the first
+    /// `Err` of `f`.
     pub fn map_top_down<F>(self, alloc: Global, f: F) -> Result<Expr, Fault>
     where
         F: FnMut(Expr) -> Result<Expr, Fault> + Drop,
@@ -37,9 +37,8 @@ impl Expr {
         map_top_down(alloc, self, f)
     }
 
-    /// The expression with `f` done at what stands in each node, the left side before the right, and then at
-    /// the node with what that gives in it. Refused for want of memory, or with the first `Err` that `f`
-    /// answers.
+    /// Applies `f` to the operands of each node, left before right, and then to the node with their results
+    /// in it. Fails where memory is refused, or with the first `Err` of `f`.
     pub fn map_bottom_up<F>(self, alloc: Global, f: F) -> Result<Expr, Fault>
     where
         F: FnMut(Expr) -> Result<Expr, Fault> + Drop,
@@ -51,16 +50,16 @@ impl Expr {
     }
 }
 
-/// An expression and all that stands in it, each before what stands in it, the left side before the right,
-/// and each as often as it stands there. After an error there are none.
+/// An iterator over an expression and all expressions in it, in preorder, with repetitions. After an error
+/// it is empty.
 #[derive(Drop)]
 pub struct ExprTopDownIterator {
-    /// Those whose turn is still to come, with what stands in them. The last comes first.
+    /// The expressions still to be visited with all in them, the last first.
     stack: Deep<Vec<Expr>>,
 }
 
 impl ExprTopDownIterator {
-    /// What `Expr::iter_top_down` answers.
+    /// Returns the iterator of `Expr::iter_top_down`.
     pub fn new(alloc: Global, expr: &Expr) -> Result<ExprTopDownIterator, Fault>
         ensures whole { IfOk result (λ iter. expressions_left iter ≡ preorder (expression_of expr.now)) }
         ensures memory { IfErr result (λ fault. fault ≡ Fault.Memory alloc_error) }
@@ -81,9 +80,9 @@ impl Iterator for ExprTopDownIterator {
 
     ghost use Rattle.std.specs.Prelude.{length};
     ghost use Rattle.std.specs.Iterator.{at_most};
-    ghost use Rattle.meta_ast.specs.TopDownIterators.{GivesFirstOrFails};
+    ghost use Rattle.meta_ast.specs.TopDownIterators.{YieldsFirstOrFails};
 
-    ghost next_gives = { GivesFirstOrFails expression_of expressions_left };
+    ghost next_gives = { YieldsFirstOrFails expression_of expressions_left };
 
     ghost remaining = { λ iter. at_most (length (expressions_left iter)) };
 
@@ -114,14 +113,14 @@ impl Tree for Expr {
     }
 
     fn enclose(alloc: Global, sign: Sign, operand: Expr) -> Result<Expr, Fault> {
-        let operand = boxed(alloc, Deep { value: operand })?.into_inner();
+        let operand = box_operand(alloc, Deep { value: operand })?.into_inner();
         Ok(Shaped::enclose(sign, operand))
     }
 
     fn join(alloc: Global, joint: Joint, left: Expr, right: Expr) -> Result<Expr, Fault> {
         let right = Deep { value: right };
-        let left = boxed(alloc, Deep { value: left })?;
-        let right = boxed(alloc, right)?.into_inner();
+        let left = box_operand(alloc, Deep { value: left })?;
+        let right = box_operand(alloc, right)?.into_inner();
         Ok(Shaped::join(joint, left.into_inner(), right))
     }
 

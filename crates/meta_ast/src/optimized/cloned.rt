@@ -3,7 +3,7 @@ ghost use Rattle.std.specs.Prelude.{◌≡◌};
 ghost use Rattle.meta_ast.specs.Optimized.{optimized_expression_of, optimized_rule_of};
 
 use super::{OptimizedExpr, OptimizedRule};
-use crate::shape::copied;
+use crate::shape::copy_tree;
 use std::alloc::AllocError;
 
 impl Clone for OptimizedRule {
@@ -22,6 +22,6 @@ impl Clone for OptimizedExpr {
     ghost is_clone = { λ expr copy. optimized_expression_of copy ≡ optimized_expression_of expr };
 
     fn clone(&self) -> Result<OptimizedExpr, AllocError> {
-        copied(self)
+        copy_tree(self)
     }
 }

@@ -5,7 +5,7 @@ ghost use Rattle.meta_base.specs.Rewritings.Equality.{expression_eq, rule_eq, ex
 ghost use Rattle.meta_ast.specs.Optimized.{optimized_expression_of, optimized_rule_of};
 
 use super::{OptimizedExpr, OptimizedRule};
-use crate::sameness::{Both, Compared, Left, equal};
+use crate::sameness::{Both, Comparison, TreeEq, equal};
 use crate::texts::{same_text, same_texts};
 
 impl PartialEq for OptimizedRule {
@@ -44,38 +44,40 @@ impl Eq for OptimizedExpr {
     ghost laws = { on_equiv optimized_expression_of expression_eq_equiv };
 }
 
-impl Compared for OptimizedExpr {
+impl TreeEq for OptimizedExpr {
     ghost is_equal = { λ a b. expression_eq (optimized_expression_of a) (optimized_expression_of b) };
 
     #[tactic(auto, using(crate::proofs::Weights::some_weight))]
-    fn compared<'a>(&'a self, other: &'a OptimizedExpr) -> Left<'a, OptimizedExpr> {
+    fn compare_roots<'a>(&'a self, other: &'a OptimizedExpr) -> Comparison<'a, OptimizedExpr> {
         use OptimizedExpr as E;
         match (self, other) {
             (E::Str(s), E::Str(t))
             | (E::Insens(s), E::Insens(t))
             | (E::Ident(s), E::Ident(t))
-            | (E::PushLiteral(s), E::PushLiteral(t)) => Left::Nothing(same_text(s, t)),
-            (E::Range(s, u), E::Range(t, v)) => Left::Nothing(same_text(s, t) && same_text(u, v)),
-            (E::PeekSlice(i, j), E::PeekSlice(k, l)) => Left::Nothing(i == k && j == l),
+            | (E::PushLiteral(s), E::PushLiteral(t)) => Comparison::Nothing(same_text(s, t)),
+            (E::Range(s, u), E::Range(t, v)) => Comparison::Nothing(
+                same_text(s, t) && same_text(u, v),
+            ),
+            (E::PeekSlice(i, j), E::PeekSlice(k, l)) => Comparison::Nothing(i == k && j == l),
             (E::PosPred(first), E::PosPred(second))
             | (E::NegPred(first), E::NegPred(second))
             | (E::Opt(first), E::Opt(second))
             | (E::Rep(first), E::Rep(second))
             | (E::RepOnce(first), E::RepOnce(second))
             | (E::RestoreOnErr(first), E::RestoreOnErr(second))
-            | (E::Push(first), E::Push(second)) => Left::One(Both { first, second }, true),
+            | (E::Push(first), E::Push(second)) => Comparison::One(Both { first, second }, true),
             (E::NodeTag(first, s), E::NodeTag(second, t)) => {
-                Left::One(Both { first, second }, same_text(s, t))
+                Comparison::One(Both { first, second }, same_text(s, t))
             }
             (E::Seq(first, x), E::Seq(second, y)) | (E::Choice(first, x), E::Choice(second, y)) => {
                 let right = Both {
                     first: x,
                     second: y,
                 };
-                Left::Two(Both { first, second }, right)
+                Comparison::Two(Both { first, second }, right)
             }
-            (E::Skip(ss), E::Skip(ts)) => Left::Nothing(same_texts(ss, ts)),
-            _ => Left::Nothing(false),
+            (E::Skip(ss), E::Skip(ts)) => Comparison::Nothing(same_texts(ss, ts)),
+            _ => Comparison::Nothing(false),
         }
     }
 }

@@ -9,10 +9,10 @@ use super::OptimizedExpr;
 use crate::printing::pieces::{Leaf, Parts, Printed, fmt_printed};
 use std::fmt;
 
-/// An expression as a grammar's text has it, by the rules of [`Expr`](crate::ast::Expr)'s.
+/// Prints an expression as the text of a grammar, by the rules of [`Expr`](crate::ast::Expr)'s.
 ///
-/// A wrapper prints as what it holds: a predicate in it has parentheses before a postfix operator,
-/// `(!e)?`, and a sequence or a choice in it always.
+/// A wrapper prints as its operand: a predicate in it has parentheses before a postfix operator, `(!e)?`,
+/// and a sequence or a choice in it always.
 impl fmt::Display for OptimizedExpr {
     ghost output = { λ expr. Some (encode_utf8_all (printed (optimized_expression_of expr))) };
 

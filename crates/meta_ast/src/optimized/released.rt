@@ -1,9 +1,9 @@
-//! Letting go of optimized rules and expressions by a loop.
+//! Iterative drop of optimized rules and expressions.
 use super::{OptimizedExpr, OptimizedRule};
 use crate::deep::Release;
-use crate::shape::let_go;
+use crate::shape::release_tree;
 
-/// Lets rules go, the body of each as [`OptimizedExpr::release`] does.
+/// Drops rules, the body of each as [`OptimizedExpr::release`] does.
 pub fn release(rules: Vec<OptimizedRule>) {
     rules.release();
 }
@@ -21,9 +21,9 @@ impl Release for OptimizedExpr {
 }
 
 impl OptimizedExpr {
-    /// Lets the expression go by a loop, without memory, as [`Expr::release`](crate::ast::Expr::release)
-    /// does.
+    /// Drops the expression iteratively, without allocating, as
+    /// [`Expr::release`](crate::ast::Expr::release) does.
     pub fn release(self) {
-        let_go(self);
+        release_tree(self);
     }
 }

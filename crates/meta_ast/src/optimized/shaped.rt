@@ -1,4 +1,4 @@
-//! Optimized expressions taken apart and put together again.
+//! Destructures and rebuilds optimized expressions.
 ghost use Rattle.std.specs.Prelude.{◌≡◌, ◌+◌, ◌*◌, ◌≤◌, []};
 ghost use Rattle.meta_base.specs.Language.Expression.{Expression};
 ghost use Rattle.meta_ast.specs.Frames.{joined};
@@ -12,16 +12,16 @@ use crate::shape::{Joint, Shape, Shaped};
 use crate::texts::copy_texts;
 use std::alloc::AllocError;
 
-/// What stands round one operand of an optimized expression.
+/// The operator over one operand of an optimized expression.
 #[derive(Drop)]
 pub enum Sign {
-    /// What stands round operands before the passes too.
+    /// An operator that occurs before the passes, too.
     Plain(PlainSign),
     /// The wrapper that restores the stack.
     Wrapper,
 }
 
-/// What stands round one operand, wrappers aside.
+/// The operator over one operand, wrappers aside.
 #[derive(Drop)]
 pub enum PlainSign {
     PosPred,

@@ -1,5 +1,4 @@
-//! Maps of optimized expressions, and all that stands in them one by one. What lies below a wrapper is not
-//! met.
+//! Maps of optimized expressions, and iteration over their nodes in preorder. Walks do not enter a wrapper.
 ghost use Rattle.std.specs.Prelude.{◌≡◌, alloc_error, IfErr, IfOk};
 ghost use Rattle.meta_ast.specs.Optimized.{optimized_expression_of};
 ghost use Rattle.meta_ast.specs.OptimizedWalks.{optimized_expressions_left, optimized_unary_of};
@@ -10,13 +9,13 @@ use super::OptimizedExpr;
 use super::shaped::{PlainSign, Sign};
 use crate::deep::Deep;
 use crate::shape::{Joint, Shape, Shaped};
-use crate::walks::{Node, Tree, boxed, map_bottom_up, map_top_down, take_first, two};
+use crate::walks::{Node, Tree, box_operand, map_bottom_up, map_top_down, take_first, two};
 use meta_base::runtime::Fault;
 use std::alloc::{AllocError, Global};
 
 impl OptimizedExpr {
-    /// The expression and all that stands in it, each before what stands in it, the left side before the
-    /// right. The only fault is a want of memory.
+    /// Iterates over the expression and all expressions in it in preorder: node before operands, left
+    /// before right. The only error is allocation failure.
     pub fn iter_top_down(&self, alloc: Global) -> Result<OptimizedExprTopDownIterator, Fault>
         ensures whole { IfOk result
             (λ iter. optimized_expressions_left iter ≡ preorder (optimized_expression_of self.now)) }
@@ -25,9 +24,9 @@ impl OptimizedExpr {
         OptimizedExprTopDownIterator::new(alloc, self)
     }
 
-    /// The expression with `f` done at it, then at each operand of its answer, and so on down; the left side
-    /// comes before the right. `f` answers no more nodes than it gets. Refused for want of memory, or with
-    /// the first `Err` that `f` answers.
+    /// Applies `f` to the expression, then to each operand of its answer, and so on down, left before
+    /// right. `f` answers no more nodes than it gets. Fails where memory is refused, or with the first
+    /// `Err` of `f`.
     pub fn map_top_down<F>(self, alloc: Global, f: F) -> Result<OptimizedExpr, Fault>
     where
         F: FnMut(OptimizedExpr) -> Result<OptimizedExpr, Fault> + Drop,
@@ -39,9 +38,8 @@ impl OptimizedExpr {
         map_top_down(alloc, self, f)
     }
 
-    /// The expression with `f` done at what stands in each node, the left side before the right, and then at
-    /// the node with what that gives in it. Refused for want of memory, or with the first `Err` that `f`
-    /// answers.
+    /// Applies `f` to the operands of each node, left before right, and then to the node with their results
+    /// in it. Fails where memory is refused, or with the first `Err` of `f`.
     pub fn map_bottom_up<F>(self, alloc: Global, f: F) -> Result<OptimizedExpr, Fault>
     where
         F: FnMut(OptimizedExpr) -> Result<OptimizedExpr, Fault> + Drop,
@@ -53,16 +51,16 @@ impl OptimizedExpr {
     }
 }
 
-/// An expression and all that stands in it, each before what stands in it, the left side before the right,
-/// and each as often as it stands there. After an error there are none.
+/// An iterator over an expression and all expressions in it, in preorder, with repetitions. After an error
+/// it is empty.
 #[derive(Drop)]
 pub struct OptimizedExprTopDownIterator {
-    /// Those whose turn is still to come, with what stands in them. The last comes first.
+    /// The expressions still to be visited with all in them, the last first.
     stack: Deep<Vec<OptimizedExpr>>,
 }
 
 impl OptimizedExprTopDownIterator {
-    /// What `OptimizedExpr::iter_top_down` answers.
+    /// Returns the iterator of `OptimizedExpr::iter_top_down`.
     pub fn new(alloc: Global, expr: &OptimizedExpr) -> Result<OptimizedExprTopDownIterator, Fault>
         ensures whole { IfOk result
             (λ iter. optimized_expressions_left iter ≡ preorder (optimized_expression_of expr.now)) }
@@ -84,9 +82,9 @@ impl Iterator for OptimizedExprTopDownIterator {
 
     ghost use Rattle.std.specs.Prelude.{length};
     ghost use Rattle.std.specs.Iterator.{at_most};
-    ghost use Rattle.meta_ast.specs.TopDownIterators.{GivesFirstOrFails};
+    ghost use Rattle.meta_ast.specs.TopDownIterators.{YieldsFirstOrFails};
 
-    ghost next_gives = { GivesFirstOrFails optimized_expression_of optimized_expressions_left };
+    ghost next_gives = { YieldsFirstOrFails optimized_expression_of optimized_expressions_left };
 
     ghost remaining = { λ iter. at_most (length (optimized_expressions_left iter)) };
 
@@ -124,7 +122,7 @@ impl Tree for OptimizedExpr {
         sign: PlainSign,
         operand: OptimizedExpr,
     ) -> Result<OptimizedExpr, Fault> {
-        let operand = boxed(alloc, Deep { value: operand })?.into_inner();
+        let operand = box_operand(alloc, Deep { value: operand })?.into_inner();
         Ok(Shaped::enclose(Sign::Plain(sign), operand))
     }
 
@@ -135,8 +133,8 @@ impl Tree for OptimizedExpr {
         right: OptimizedExpr,
     ) -> Result<OptimizedExpr, Fault> {
         let right = Deep { value: right };
-        let left = boxed(alloc, Deep { value: left })?;
-        let right = boxed(alloc, right)?.into_inner();
+        let left = box_operand(alloc, Deep { value: left })?;
+        let right = box_operand(alloc, right)?.into_inner();
         Ok(Shaped::join(joint, left.into_inner(), right))
     }
 

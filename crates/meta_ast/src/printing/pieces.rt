@@ -1,4 +1,4 @@
-//! Expressions of both kinds as text, by a list of what is still to be written: no nesting takes depth.
+//! Expressions of both kinds as text, with an explicit stack of pieces: nesting takes no stack space.
 ghost use Rattle.std.specs.Prelude.{◌≡◌, ◌<◌, ◌+◌, ◌*◌, ◌++◌, ℕ, OnOk, codes};
 ghost use Rattle.std.specs.Fmt.{WritesOnOk};
 ghost use Rattle.meta_ast.specs.Pieces.{leaf_bytes, bytes_of_parts, heft_of_parts, bytes_at, inside, piece_bytes, piece_load, Puts};
@@ -11,7 +11,7 @@ use super::{
 use std::alloc::Global;
 use std::fmt;
 
-/// Where an expression stands: by itself, on the right of a `~` or a `|`, or before a postfix operator.
+/// The position of an expression: alone, on the right of a `~` or a `|`, or before a postfix operator.
 #[derive(Clone, Copy)]
 pub(crate) enum Place {
     Alone,
@@ -32,7 +32,7 @@ pub(crate) enum Leaf<'a> {
     PushLiteral(&'a str),
 }
 
-/// What an expression is made of.
+/// An operator with its operands.
 #[derive(Drop)]
 pub(crate) enum Parts<'a, E> {
     Leaf(Leaf<'a>),
@@ -40,31 +40,31 @@ pub(crate) enum Parts<'a, E> {
     Predicate(&'static str, &'a Box<E>),
     Sequence(&'a Box<E>, &'a Box<E>),
     Choice(&'a Box<E>, &'a Box<E>),
-    /// An operand with a sign behind it.
+    /// An operand with a postfix operator.
     Postfix(&'a Box<E>, &'static str),
     Counted(&'a Box<E>, Counts),
     Push(&'a Box<E>),
-    /// A tag, and what it is on.
+    /// A tag and the tagged expression.
     Tag(&'a str, &'a Box<E>),
-    /// What prints as its operand.
+    /// A wrapper, which prints as its operand.
     Wrapper(&'a Box<E>),
 }
 
 /// Expressions that can be printed.
 pub(crate) trait Printed {
-    // what is written of an expression at each place
+    // the bytes of an expression at each position
     ghost bytes: { Self → ByPlace };
 
     // how much there is to be written
     ghost heft: { Self → ℕ };
 
-    /// What it is made of.
+    /// Returns the operator with its operands.
     fn parts(&self) -> Parts<'_, Self>
         ensures bytes { bytes_of_parts bytes result ≡ bytes self.now }
         ensures lighter { heft_of_parts heft result < heft self.now };
 }
 
-/// What is still to be written.
+/// A piece of text that is still to be written.
 #[derive(Clone, Copy)]
 enum Piece<'a, E> {
     Sign(&'static str),
@@ -73,8 +73,8 @@ enum Piece<'a, E> {
     Part(Place, &'a E),
 }
 
-/// Writes an expression that stands by itself. Where memory for the list of what is still to be written is
-/// refused, that is an error, as a write that is refused.
+/// Writes an expression at the position `Alone`. Fails where a write or memory for the stack of pieces is
+/// refused.
 pub(crate) fn fmt_printed<W: fmt::Write, E: Printed>(
     f: &mut fmt::Formatter<W>,
     expr: &E,
@@ -90,7 +90,7 @@ pub(crate) fn fmt_printed<W: fmt::Write, E: Printed>(
         | Parts::Counted(inner, _)
         | Parts::Push(inner)
         | Parts::Tag(_, inner)
-        | Parts::Wrapper(inner) => fmt_by_list(f, *Box::allocator(inner), expr),
+        | Parts::Wrapper(inner) => fmt_iteratively(f, *Box::allocator(inner), expr),
     }
 }
 
@@ -110,7 +110,7 @@ fn fmt_leaf<W: fmt::Write>(f: &mut fmt::Formatter<W>, leaf: Leaf<'_>) -> fmt::Re
 }
 
 /// Writes an expression piece by piece.
-fn fmt_by_list<W: fmt::Write, E: Printed>(
+fn fmt_iteratively<W: fmt::Write, E: Printed>(
     f: &mut fmt::Formatter<W>,
     alloc: Global,
     expr: &E,
@@ -163,7 +163,7 @@ fn put_parts<'a, E: Printed>(
     }
 }
 
-/// Where the operand of a wrapper stands.
+/// Returns the position of a wrapper's operand.
 fn inside_wrapper(place: Place) -> Place
     ensures { result ≡ inside place }
 {
@@ -193,7 +193,7 @@ fn put_predicate<'a, E: Printed>(
     }
 }
 
-/// Puts a sign with what it stands before on the list.
+/// Pushes a predicate's sign and its operand.
 fn put_signed<'a, E: Printed>(
     pieces: &mut Vec<Piece<'a, E>>,
     sign: &'static str,
@@ -206,7 +206,7 @@ fn put_signed<'a, E: Printed>(
     put(pieces, Piece::Sign(sign))
 }
 
-/// Puts an operand and what stands behind it on the list.
+/// Pushes an operand and the piece after it.
 fn put_before<'a, E: Printed>(
     pieces: &mut Vec<Piece<'a, E>>,
     inner: &'a E,
@@ -220,7 +220,7 @@ fn put_before<'a, E: Printed>(
     put(pieces, Piece::Part(Place::BeforePostfix, inner))
 }
 
-/// Puts an expression that stands by itself between an opening and a closing parenthesis on the list.
+/// Pushes an expression between an opening and a closing parenthesis.
 fn put_within<'a, E: Printed>(
     pieces: &mut Vec<Piece<'a, E>>,
     opening: &'static str,

@@ -1,39 +1,39 @@
-//! Copies of trees, by a loop.
+//! Copies of trees, made iteratively.
 ghost use Rattle.std.specs.Prelude.{◌≡◌, ◌*◌, IfOk, ⊤};
 ghost use Rattle.meta_ast.specs.Copying.{waits_of, with_operand};
 
 use super::{Shape, Shaped};
 use crate::deep::{Deep, Release};
-use crate::rebuilt::{Rebuild, Step, rebuilt};
+use crate::rebuilt::{Rebuild, Step, rebuild_tree};
 use std::alloc::{AllocError, Global};
 
-/// The same tree again. The only fault is a want of memory.
-pub fn copied<T: Shaped + Release>(tree: &T) -> Result<T, AllocError>
+/// Copies a tree. The only error is allocation failure.
+pub fn copy_tree<T: Shaped + Release>(tree: &T) -> Result<T, AllocError>
     ensures { IfOk result (λ copy. T.says copy ≡ T.says tree.now) }
 {
     match tree.shape()? {
         Shape::Leaf(copy) => Ok(copy),
-        Shape::One(sign, operand) => Ok(T::enclose(sign, copied_box(operand)?)),
+        Shape::One(sign, operand) => Ok(T::enclose(sign, copy_box(operand)?)),
         Shape::Two(joint, left, right) => {
             let left = Deep {
-                value: copied_box(left)?,
+                value: copy_box(left)?,
             };
-            let right = copied_box(right)?;
+            let right = copy_box(right)?;
             Ok(T::join(joint, left.into_inner(), right))
         }
     }
 }
 
-/// The same tree again, in a box of its own. The only fault is a want of memory.
-pub fn copied_box<T: Shaped + Release>(tree: &Box<T>) -> Result<Box<T>, AllocError>
+/// Copies a tree into a box of its own. The only error is allocation failure.
+pub fn copy_box<T: Shaped + Release>(tree: &Box<T>) -> Result<Box<T>, AllocError>
     ensures { IfOk result (λ copy. T.says copy.value ≡ T.says tree.now.value) }
 {
     let alloc = *Box::allocator(tree);
-    let value = rebuilt::<Around<'_, T, T::Sign, T::Joint>>(alloc, tree)?;
-    Ok(Deep { value }.boxed(alloc)?.into_inner())
+    let value = rebuild_tree::<Around<'_, T, T::Sign, T::Joint>>(alloc, tree)?;
+    Ok(Deep { value }.into_box(alloc)?.into_inner())
 }
 
-/// What stands around an operand while it is copied.
+/// The context of an operand while it is copied.
 enum Around<'a, T: Release, S: Drop, J: Drop> {
     Sign(S),
     /// The operand is the left one, and this the right one.
@@ -91,7 +91,7 @@ impl<'a, T: Shaped + Release> Rebuild for Around<'a, T, T::Sign, T::Joint> {
         alloc: Global,
         copy: T,
     ) -> Result<Step<&'a Box<T>, Around<'a, T, T::Sign, T::Joint>, T>, AllocError> {
-        let copy = Deep { value: copy }.boxed(alloc)?;
+        let copy = Deep { value: copy }.into_box(alloc)?;
         match self {
             Around::Sign(sign) => Ok(Step::Made(T::enclose(sign, copy.into_inner()))),
             Around::First(joint, right) => Ok(Step::Inside(Around::Second(joint, copy), right)),

@@ -2,12 +2,12 @@
 ghost use Rattle.std.specs.Prelude.{IfErr, IfOk};
 ghost use Rattle.meta_ast.specs.Maps.{MapsBottomUp, RefusesBottomUp};
 
-use super::frames::opened;
+use super::frames::open_node;
 use super::{Onward, Tree};
 use meta_base::runtime::Fault;
 use std::alloc::Global;
 
-/// The expression with `f` done at the operands of each node, and then at what that gives.
+/// Applies `f` to the operands of each node, and then to the node with their results.
 pub(crate) fn map_bottom_up<E: Tree, F: FnMut(E) -> Result<E, Fault> + Drop>(
     alloc: Global,
     expr: E,
@@ -22,11 +22,11 @@ pub(crate) fn map_bottom_up<E: Tree, F: FnMut(E) -> Result<E, Fault> + Drop>(
     let mut next = Onward::Next(expr);
     'along: loop {
         match next {
-            Onward::Next(expr) => next = opened(&mut frames, expr)?,
+            Onward::Next(expr) => next = open_node(&mut frames, expr)?,
             Onward::Done(whole) => {
                 let done = f(whole)?;
                 match frames.pop() {
-                    Some(frame) => next = frame.closed(alloc, &mut frames, done)?,
+                    Some(frame) => next = frame.close(alloc, &mut frames, done)?,
                     None => return Ok(done),
                 }
             }

@@ -1,16 +1,16 @@
-//! One step of a map: an expression that is taken apart, or what stands round it put together again.
+//! One step of a map: an expression is destructured, or rebuilt from its frame.
 ghost use Rattle.std.specs.Prelude.{◌≡◌, ◌++◌, ◌∷◌, [], alloc_error, IfErr, IfOk, OnOk};
 ghost use Rattle.meta_ast.specs.Frames.{Closes, Opens};
 
-use super::{Frame, Node, Onward, Tree};
+use super::{Node, Onward, Tree, WalkFrame};
 use crate::deep::{Deep, Release};
 use meta_base::runtime::Fault;
 use std::alloc::Global;
 
-/// What is to be met next of an expression, with a frame for what stands round it. The only fault is a want
-/// of memory.
-pub(crate) fn opened<E: Tree>(
-    frames: &mut Vec<Frame<E, E::Sign>>,
+/// Returns the next node of a walk at an expression, and pushes a frame for its context. The only error is
+/// allocation failure.
+pub(crate) fn open_node<E: Tree>(
+    frames: &mut Vec<WalkFrame<E, E::Sign>>,
     expr: E,
 ) -> Result<Onward<E>, Fault>
     ensures opens { IfOk result (λ next.
@@ -21,24 +21,24 @@ pub(crate) fn opened<E: Tree>(
         Node::Leaf(leaf) => Ok(Onward::Done(leaf)),
         Node::One(sign, operand) => {
             let operand = Deep { value: operand };
-            keep(frames, Frame::Around(sign))?;
+            keep(frames, WalkFrame::Around(sign))?;
             Ok(Onward::Next(operand.into_inner()))
         }
         Node::Two(joint, left, right) => {
             let left = Deep { value: left };
-            keep(frames, Frame::Before(joint, right))?;
+            keep(frames, WalkFrame::Before(joint, right))?;
             Ok(Onward::Next(left.into_inner()))
         }
     }
 }
 
-impl<E: Tree> Frame<E, E::Sign> {
-    /// What becomes of the frame, which stood behind these, once what stands in it is done. The only fault is
-    /// a want of memory.
-    pub(crate) fn closed(
+impl<E: Tree> WalkFrame<E, E::Sign> {
+    /// Returns the next node after an operand of this frame, which followed `frames`, is done. The only
+    /// error is allocation failure.
+    pub(crate) fn close(
         self,
         alloc: Global,
-        frames: &mut Vec<Frame<E, E::Sign>>,
+        frames: &mut Vec<WalkFrame<E, E::Sign>>,
         done: E,
     ) -> Result<Onward<E>, Fault>
         ensures closes { IfOk result (λ next.
@@ -46,19 +46,22 @@ impl<E: Tree> Frame<E, E::Sign> {
         ensures memory { IfErr result (λ fault. fault ≡ Fault.Memory alloc_error) }
     {
         match self {
-            Frame::Around(sign) => Ok(Onward::Done(E::enclose(alloc, sign, done)?)),
-            Frame::After(joint, left) => Ok(Onward::Done(E::join(alloc, joint, left, done)?)),
-            Frame::Before(joint, right) => {
+            WalkFrame::Around(sign) => Ok(Onward::Done(E::enclose(alloc, sign, done)?)),
+            WalkFrame::After(joint, left) => Ok(Onward::Done(E::join(alloc, joint, left, done)?)),
+            WalkFrame::Before(joint, right) => {
                 let right = Deep { value: right };
-                keep(frames, Frame::After(joint, done))?;
+                keep(frames, WalkFrame::After(joint, done))?;
                 Ok(Onward::Next(right.into_inner()))
             }
         }
     }
 }
 
-// Puts a frame behind the others.
-fn keep<E: Release, S: Drop>(frames: &mut Vec<Frame<E, S>>, frame: Frame<E, S>) -> Result<(), Fault>
+// Pushes a frame.
+fn keep<E: Release, S: Drop>(
+    frames: &mut Vec<WalkFrame<E, S>>,
+    frame: WalkFrame<E, S>,
+) -> Result<(), Fault>
     ensures kept { OnOk result (frames.new.items ≡ frames.old.items ++ (frame ∷ [])) }
     ensures memory { IfErr result (λ fault. fault ≡ Fault.Memory alloc_error) }
 {

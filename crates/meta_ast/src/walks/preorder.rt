@@ -6,7 +6,8 @@ use super::{Node, Tree};
 use crate::deep::Deep;
 use std::alloc::AllocError;
 
-/// A copy of the expression on top of a stack, which gives way to its operands. After an error it is lost.
+/// Pops an expression from a stack, pushes its operands, and returns a copy of it. After an error the
+/// expression is lost.
 pub(crate) fn take_first<E: Tree>(stack: &mut Deep<Vec<E>>) -> Result<Option<E>, AllocError>
     ensures given { IfOk result (λ given. MatchOption given
         ((waiting E.says stack.old.value.items ≡ []) × (waiting E.says stack.new.value.items ≡ []))

@@ -2,12 +2,12 @@
 ghost use Rattle.std.specs.Prelude.{IfErr, IfOk};
 ghost use Rattle.meta_ast.specs.Maps.{MapsTopDown, RefusesTopDown, NeverGrows};
 
-use super::frames::opened;
+use super::frames::open_node;
 use super::{Onward, Tree};
 use meta_base::runtime::Fault;
 use std::alloc::Global;
 
-/// The expression with `f` done at each node, and then at the operands of its answer.
+/// Applies `f` to each node, and then to the operands of its answer.
 pub(crate) fn map_top_down<E: Tree, F: FnMut(E) -> Result<E, Fault> + Drop>(
     alloc: Global,
     expr: E,
@@ -23,9 +23,9 @@ pub(crate) fn map_top_down<E: Tree, F: FnMut(E) -> Result<E, Fault> + Drop>(
     let mut next = Onward::Next(expr);
     'along: loop {
         match next {
-            Onward::Next(expr) => next = opened(&mut frames, f(expr)?)?,
+            Onward::Next(expr) => next = open_node(&mut frames, f(expr)?)?,
             Onward::Done(done) => match frames.pop() {
-                Some(frame) => next = frame.closed(alloc, &mut frames, done)?,
+                Some(frame) => next = frame.close(alloc, &mut frames, done)?,
                 None => return Ok(done),
             },
         }

@@ -1,4 +1,4 @@
--- What is expected at a place: what would have let a match get further.
+-- The expected set at a position: names of calls that would have let a match get further.
 use Rattle.std.specs.Prelude.{ℕ, List, [], ◌∷◌, ◌++◌, Bool, if◌then◌else◌, ◌&&◌, nat_eq}
 use Rattle.meta_base.specs.Language.Text.{Text}
 use Rattle.meta_base.specs.Language.Expression.{Grammar}
@@ -6,14 +6,14 @@ use Rattle.meta_base.specs.Language.State.{State, Outcome, Success, Failure, Cla
 use Rattle.meta_base.specs.Language.Meaning.{Does, Task, str, insens, range, slice, skip, call, other, pos_pred, neg_pred, push, restore, seq, seq_first, seq_second, left, right, opt, opt_none, rep_none, turn, turn_none, rep_exact, rep_max, rep_min_max, skips, atomic, compound_atomic, between, gives_token, seen_from, rep, rep_once, rep_min, push_literal, tag}
 use Rattle.meta_base.specs.Language.FurthestFailure.{furthest, is_eoi}
 
--- a call that counts and fails at the place tells its name, in place of what is told within it; every other
--- call leaves what is told within it
+-- a call that counts and fails at the position adds its name, in place of the names added within it; any
+-- other call keeps the names added within it
 abbrev pub told : Bool → Text → ℕ → State → Outcome → List Text → List Text
 told counts n place s (Success t us) within = within
 told counts n place s Failure within =
     if counts && nat_eq s.position place then n ∷ [] else within
 
--- the names that are expected at a place, in the order of their calls; none below a `!`
+-- the names that are expected at a position, in the order of their calls; none below a `!`
 abbrev pub expected_at : {g : Grammar} {classes : Classes} {k : Task} {s : State} {o : Outcome}
     → ℕ → Does g classes k s o → List Text
 expected_at place str = []
@@ -52,7 +52,7 @@ expected_at place atomic = []
 expected_at place compound_atomic = []
 expected_at place between = []
 
--- the names that are expected at the furthest place; none where all that failed there stood below a `!`
+-- the names that are expected at the furthest position; none if all failures there were below a `!`
 abbrev pub expected : {g : Grammar} {classes : Classes} {k : Task} {s : State} {o : Outcome}
     → Does g classes k s o → List Text
 expected d = expected_at (furthest d) d

@@ -50,7 +50,7 @@ abbrev pub rule_of : Grammar → Text → Option Rule
 rule_of [] n = None
 rule_of (r ∷ g) n = or_else (rule_of g n) (if bytes_eq r.name n then Some r else None)
 
--- the place of that rule
+-- the index of that rule
 abbrev pub last_place : Grammar → Text → Option ℕ
 last_place [] n = None
 last_place (r ∷ g) n = elim (last_place g n) [
@@ -65,7 +65,7 @@ whitespace = codes "WHITESPACE"
 unfoldable pub comment : Text
 comment = codes "COMMENT"
 
--- an expression and what stands in it
+-- an expression and its parts
 pub data Part : Expression → Expression → Type 0 where
   whole : {e : Expression} → Part e e
   of_pos_pred : {e p : Expression} → Part e p → Part (PosPred e) p

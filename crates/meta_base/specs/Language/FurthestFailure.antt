@@ -5,7 +5,7 @@ use Rattle.meta_base.specs.Language.Expression.{Grammar}
 use Rattle.meta_base.specs.Language.State.{State, Outcome, Success, Failure, Classes}
 use Rattle.meta_base.specs.Language.Meaning.{Does, Task, str, insens, range, slice, skip, call, other, pos_pred, neg_pred, push, restore, seq, seq_first, seq_second, left, right, opt, opt_none, rep_none, turn, turn_none, rep_exact, rep_max, rep_min_max, skips, atomic, compound_atomic, between, gives_token, seen_from, rep, rep_once, rep_min, push_literal, tag}
 
--- the place of a call where it counts: it failed, and gives tokens to a mode other than Atomic
+-- the position of a call if it counts, since it failed and gives tokens to a mode other than Atomic
 abbrev pub place_of : Bool → State → Outcome → ℕ
 place_of b s (Success t us) = 0
 place_of b s Failure = if b then s.position else 0
@@ -13,7 +13,7 @@ place_of b s Failure = if b then s.position else 0
 abbrev pub is_eoi : Text → Bool
 is_eoi n = bytes_eq n (codes "EOI")
 
--- the greatest such place in a derivation
+-- the greatest such position in a derivation
 abbrev pub furthest : {g : Grammar} {classes : Classes} {k : Task} {s : State} {o : Outcome}
     → Does g classes k s o → ℕ
 furthest str = 0

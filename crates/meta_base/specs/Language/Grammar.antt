@@ -26,7 +26,7 @@ abbrev pub EndFits : Option ℤ → Type 0
 EndFits None = ⊤
 EndFits (Some j) = FitsSigned32 j
 
--- its own numbers lie within their types, and its own texts are texts
+-- the numbers of the node fit their types, and its texts are texts
 abbrev pub FitsItsTypes : Expression → Type 0
 FitsItsTypes (Str t) = IsText t
 FitsItsTypes (Insens t) = IsText t

@@ -5,6 +5,6 @@ use Rattle.meta_base.specs.Language.Expression.{Grammar, Ident, rule_of}
 use Rattle.meta_base.specs.Language.Text.{Text}
 use Rattle.meta_base.specs.Language.WellFormed.{InSomeRule}
 
--- each name in a body is that of a rule, or of a builtin
+-- a name in a body is that of a rule, or of a builtin
 abbrev pub HasKnownNames : Grammar → Type 0
 HasKnownNames g = (n : Text) → InSomeRule g (Ident n) → rule_of g n ≡ None → builtin_of n ≡ None → ⊥

@@ -1,4 +1,4 @@
--- A second meaning, in which a failure leaves a stack, from which what is tried next goes on.
+-- A second meaning, in which a failure leaves a stack, from which the next attempt starts.
 use Rattle.std.specs.Prelude.{◌≡◌, ◌↔◌, ◌-◌, ℕ, List, [], ◌∷◌, Option, Some, None, if◌then◌else◌, nat_eq, length, take, drop, ⊤, ℤ}
 use Rattle.std.specs.Char.{eq_ignore_ascii_case}
 use Rattle.meta_base.specs.Language.Text.{Text}
@@ -19,7 +19,7 @@ abbrev pub leaving : List Text → Outcome → Ending
 leaving ts Failure = Lost ts
 leaving ts (Success t us) = Done t us
 
--- what a failed POP and POP_ALL leave
+-- the stack after a failed POP or POP_ALL
 abbrev pub below_miss : List Text → Text → List Text
 below_miss [] u = []
 below_miss (t ∷ ts) u = if begins nat_eq t u then below_miss ts (drop (length t) u) else ts
@@ -54,7 +54,7 @@ abbrev pub restoring : State → Ending → Ending
 restoring s (Lost ts) = Lost s.stack
 restoring s (Done t us) = Done t us
 
--- the stack behind a failed turn that is not the first
+-- the stack after a failed turn that is not the first
 abbrev pub behind_turn : Mode → State → List Text → List Text
 behind_turn NonAtomicMode s ts = s.stack
 behind_turn _ s ts = ts
@@ -153,7 +153,7 @@ pub data Safe (g : Grammar) (e : Expression) : Type 0 where
   wrapped : (x : Expression) → e ≡ RestoreOnErr x → Safe g e
   keeps : (Pops g e → ⊥) → Safe g e
 
--- where something is tried next from what a failure left, that failure loses nothing
+-- where another attempt starts from the stack of a failure, that failure loses nothing
 abbrev pub SafeHere : Grammar → Expression → Type 0
 SafeHere g (Choice a b) = Safe g a × Safe g b
 SafeHere g (Opt e) = Safe g e

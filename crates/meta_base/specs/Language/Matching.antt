@@ -1,4 +1,4 @@
--- What the expressions without parts do: literals, ranges, builtins, slices and `Skip`.
+-- The outcomes of expressions without operands: literals, ranges, builtins, slices and `Skip`.
 use Rattle.std.specs.Prelude.{ℕ, suc, ◌-◌, List, [], ◌∷◌, ◌++◌, Option, Some, None, Bool, true, false, ◌&&◌, ◌||◌, ℤ, pos, negsuc, if◌then◌else◌, codes, nat_eq, nat_le, ◌==◌, length, take, drop, reverse}
 use Rattle.meta_base.specs.Language.Text.{Text}
 use Rattle.meta_base.specs.Language.State.{Mode, NonAtomicMode, AtomicMode, CompoundAtomicMode, Between, State, Trees, None', Tree, Outcome, Success, Failure, Classes, moved}
@@ -29,12 +29,12 @@ abbrev pub any_begins : List Text → Text → Bool
 any_begins [] u = false
 any_begins (t ∷ ts) u = begins nat_eq t u || any_begins ts u
 
--- how many characters before the first place where one of the texts stands, or before the end
+-- the number of characters before the first occurrence of one of the texts, or before the end
 abbrev pub distance : List Text → Text → ℕ
 distance ts [] = 0
 distance ts (c ∷ u) = let d = distance ts u in if any_begins ts (c ∷ u) then 0 else suc d
 
--- a slice's number as a place in a stack of n entries
+-- a slice's number as an index in a stack of n entries
 abbrev pub place : ℕ → ℤ → Option ℕ
 place n (pos i) = if nat_le i n then Some i else None
 place n (negsuc i) = if nat_le (suc i) n then Some (n - suc i) else None
@@ -89,7 +89,7 @@ abbrev pub drop_outcome : List Text → State → Outcome
 drop_outcome [] s = Failure
 drop_outcome (t ∷ ts) s = Success (record s { stack = ts }) None'
 
--- what a builtin does, where it has an outcome
+-- the outcome of a builtin, if there is one
 abbrev pub builtin_outcome : Classes → Mode → Builtin → State → Option Outcome
 builtin_outcome classes m (One set) s = Some (character_outcome set s)
 builtin_outcome classes m (Property n) s = Some (character_outcome (classes n) s)
@@ -106,7 +106,7 @@ abbrev pub named_outcome : Classes → Mode → Option Builtin → State → Opt
 named_outcome classes m None s = None
 named_outcome classes m (Some b) s = builtin_outcome classes m b s
 
--- what a name that is no rule's does: the skipping's own names fail where they are not defined
+-- the outcome of a name that is no rule's: the skipping's own names fail where they are not defined
 abbrev pub other_outcome : Classes → Mode → Text → State → Option Outcome
 other_outcome classes Between n s = Some Failure
 other_outcome classes NonAtomicMode n s = named_outcome classes NonAtomicMode (builtin_of n) s

@@ -1,4 +1,4 @@
--- What an expression does from a state: a success, a failure, or neither.
+-- The meaning of an expression from a state: a success, a failure, or neither.
 use Rattle.std.specs.Prelude.{◌≡◌, ℕ, ◌-◌, min, List, [], ◌∷◌, ◌++◌, Option, Some, None, Bool, true, false, ◌||◌, ℤ, if◌then◌else◌, bytes_eq, nat_eq, length, take, replicate}
 use Rattle.std.specs.Char.{eq_ignore_ascii_case}
 use Rattle.meta_base.specs.Language.Text.{Text}
@@ -68,7 +68,7 @@ in_sequence [] = Str []
 in_sequence (e ∷ []) = e
 in_sequence (e ∷ f ∷ es) = Seq e (in_sequence (f ∷ es))
 
--- what the repetitions other than `*` are short for
+-- the expansions of repetitions other than `*`
 abbrev pub once_or_more : Expression → Expression
 once_or_more e = Seq e (Rep e)
 
@@ -88,7 +88,7 @@ from_to e m n = in_sequence (replicate (min m n) e ++ replicate (n - m) (Opt e))
 abbrev pub skipped : Expression
 skipped = Seq (Rep (Ident whitespace)) (Rep (Seq (Ident comment) (Rep (Ident whitespace))))
 
--- what may be done: an expression, the turns of a repetition after its first, and the implicit skipping
+-- the tasks of a match: an expression, the turns of a repetition after its first, and the implicit skipping
 pub data Task : Type 0 where
   Run : Mode → Expression → Task
   Turns : Mode → Expression → Task

@@ -1,10 +1,10 @@
--- Where trees stand in their text.
+-- Positions of trees in their text.
 use Rattle.std.specs.Prelude.{◌≡◌, ℕ, ◌≤◌, ◌++◌, ⊤}
 use Rattle.meta_base.specs.Language.Text.{Text, IsPosition, size_of}
 use Rattle.meta_base.specs.Language.State.{State, Trees, None', Tree, Outcome, Success, Failure}
 
--- what is left is what follows the position
-pub record Stands (text : Text) (s : State) : Type 0 where
+-- the remaining input is the suffix from the position on
+pub record IsStateIn (text : Text) (s : State) : Type 0 where
   pub front : Text
   pub split : text ≡ front ++ s.rest
   pub size : s.position ≡ size_of front
@@ -15,7 +15,7 @@ Nested text None' i j = i ≤ j
 Nested text (Tree r a b inner others) i j =
     (i ≤ a) × IsPosition text a × IsPosition text b × Nested text inner a b × Nested text others b j
 
--- a success stands in the text, and so do its trees, between where it began and where it ended
+-- a success is within the text, and so are its trees, between its start and its end
 abbrev pub FitsIn : Text → State → Outcome → Type 0
 FitsIn text s Failure = ⊤
-FitsIn text s (Success t us) = Stands text t × Nested text us s.position t.position
+FitsIn text s (Success t us) = IsStateIn text t × Nested text us s.position t.position

@@ -1,4 +1,4 @@
--- A run of a task, and what it makes of the furthest failure.
+-- A run of a task, and its effect on the furthest failure.
 use Rattle.std.specs.Prelude.{◌≡◌, ℕ, max}
 use Rattle.meta_base.specs.Language.Expression.{Grammar}
 use Rattle.meta_base.specs.Language.State.{Classes, State, Outcome}

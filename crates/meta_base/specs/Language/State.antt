@@ -1,4 +1,4 @@
--- Where a match stands, and what it comes to.
+-- The state of a match, and its outcome.
 use Rattle.std.specs.Prelude.{ℕ, List, Bool, ◌+◌, take, drop, ⊤}
 use Rattle.meta_base.specs.Language.Text.{Text, size_of}
 
@@ -10,9 +10,9 @@ pub data Mode : Type 0 where
   CompoundAtomicMode : Mode
   Between : Mode
 
--- the modes in which the bodies of rules run, whatever the caller's: all but `Between`. There each name that
--- is no rule's fails, PEEK and POP on an empty stack too, which in these three have no outcome: so a claim
--- that a start has no outcome, as one on what reads an empty stack, is made of these modes alone
+-- the modes in which the bodies of rules run, whatever the caller's: all but `Between`. In that mode a name
+-- that is no rule's fails, and so do PEEK and POP on an empty stack, which in these three have no outcome:
+-- so a claim that a start has no outcome, as one on a read of an empty stack, is about these modes alone
 abbrev pub IsRuleMode : Mode → Type 0
 IsRuleMode NonAtomicMode = ⊤
 IsRuleMode AtomicMode = ⊤
@@ -29,7 +29,7 @@ pub record State : Type 0 where
 abbrev pub moved : ℕ → State → State
 moved n s = record { position = s.position + size_of (take n s.rest); rest = drop n s.rest; stack = s.stack }
 
--- token trees: the first tree, what it holds, and the trees after it
+-- token trees: the first tree, the trees inside it, and the trees after it
 pub data Trees : Type 0 where
   None' : Trees
   Tree : (rule : Text) (start end_ : ℕ) (inner others : Trees) → Trees

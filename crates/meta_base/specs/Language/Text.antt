@@ -18,7 +18,7 @@ IsText t = All IsScalarValue t
 abbrev pub size_of : Text → ℕ
 size_of t = sum_by len_utf8 t
 
--- a position counts the bytes before it, and stands between two characters
+-- a position counts the bytes before it, and is between two characters
 pub record IsPosition (text : Text) (position : ℕ) : Type 0 where
   pub front : Text
   pub back : Text

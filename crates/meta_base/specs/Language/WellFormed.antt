@@ -8,7 +8,7 @@ use Rattle.meta_base.specs.Language.Builtins.{Builtin, One, Property, Newline, S
 use Rattle.meta_base.specs.Language.Meaning.{Matches}
 
 module _ (g : Grammar) where
-  -- it may succeed without consuming: the least relation of these cases
+  -- an expression may succeed without consuming: the least relation of these cases
   pub data IsNullable : Expression → Type 0 where
     nullable_str : IsNullable (Str [])
     nullable_insens : IsNullable (Insens [])
@@ -36,7 +36,7 @@ module _ (g : Grammar) where
     nullable_skip : {ts : List Text} → IsNullable (Skip ts)
     nullable_restore : {e : Expression} → IsNullable e → IsNullable (RestoreOnErr e)
 
-  -- it cannot fail: the least relation of these cases
+  -- an expression cannot fail: the least relation of these cases
   pub data CannotFail : Expression → Type 0 where
     cannot_fail_str : CannotFail (Str [])
     cannot_fail_insens : CannotFail (Insens [])
@@ -92,11 +92,11 @@ module _ (g : Grammar) where
     onward : {n j k : Text} {r : Rule} → Reaches n j → rule_of g j ≡ Some r → Part r.body (Ident k)
         → Reaches n k
 
--- it stands in the body of a rule that a name means
+-- an expression occurs in the body of a rule that a name means
 abbrev pub InRules : Grammar → Expression → Type 0
 InRules g p = (n : Text) × (r : Rule) × (rule_of g n ≡ Some r) × Part r.body p
 
--- it stands in the body of some rule of the list, be it one that a later rule of its name hides
+-- an expression occurs in the body of some rule of the list, be it one that a later rule of its name hides
 abbrev pub InSomeRule : Grammar → Expression → Type 0
 InSomeRule g p = (r : Rule) × Contains g r × Part r.body p
 

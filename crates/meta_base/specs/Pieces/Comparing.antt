@@ -1,4 +1,4 @@
--- When two places or two errors are equal, and the order of the rules.
+-- When two positions or two errors are equal, and the order of the rules.
 use Rattle.std.specs.Prelude.{◌≡◌, List, ◌∷◌, ⊤, string_bytes}
 use Rattle.meta_base.specs.Pieces.MetaRules.{meta_rules}
 use Rattle.meta_base.specs.Pieces.PrintedError.{error_line}
@@ -14,7 +14,7 @@ use Rattle.meta_base.specs.declared.runtime.places.Position.{Position}
 abbrev pub ascending_rules : List Rule
 ascending_rules = EOI ∷ meta_rules
 
--- the same place in texts of the same bytes
+-- equal positions in texts of the same bytes
 pub record SamePlace (a b : Position) : Type 0 where
   pub offset : position_offset a ≡ position_offset b
   pub text : position_text a ≡ position_text b
@@ -25,7 +25,7 @@ SaySame ParsingError ParsingError = ⊤
 SaySame (CustomError m) (CustomError n) = string_bytes m ≡ string_bytes n
 SaySame _ _ = ⊥
 
--- the same message, places and printed line
+-- errors with equal messages, positions and printed lines
 pub record SameError {R : Type 0} (a b : Error R) : Type 0 where
   pub variant : SaySame a.variant b.variant
   pub location : a.location ≡ b.location

@@ -7,7 +7,7 @@ use Rattle.meta_base.specs.Pieces.PrintedError.{printed_line}
 use Rattle.meta_base.specs.declared.runtime.surveys.Landmark.{Landmark}
 use Rattle.meta_base.specs.declared.runtime.surveys.KnownLine.{KnownLine}
 
--- the column behind a piece of a text that begins at this column
+-- the column after a piece of a text that begins at this column
 abbrev pub column_behind : ℕ → List ℕ → ℕ
 column_behind column passed =
     (if length (last_line passed) == length passed then column else 1) + length (chars (last_line passed))
@@ -16,7 +16,7 @@ column_behind column passed =
 abbrev pub start : Landmark
 start = record { place = 0; line = 1; column = 1 }
 
--- a place between two characters, with its line and its column
+-- a position between two characters, with its line and its column
 pub record IsLandmark (text : List ℕ) (landmark : Landmark) : Type 0 where
   pub between : IsCharBoundary text landmark.place
   pub line_column : (landmark.line, landmark.column) ≡ line_column text landmark.place
@@ -26,7 +26,7 @@ pub record IsLandmark (text : List ℕ) (landmark : Landmark) : Type 0 where
 abbrev pub AreLandmarks : List ℕ → List Landmark → Type 0
 AreLandmarks text landmarks = All (IsLandmark text) landmarks
 
--- the line in which a place stands, as it is printed
+-- the line of a position, as it is printed
 pub record IsKnownLine (text : List ℕ) (known : KnownLine) : Type 0 where
   pub landmark : IsLandmark text known.landmark
   pub line : string_bytes (arc_value known.line) ≡ printed_line text known.landmark.place

@@ -7,7 +7,7 @@ use Rattle.meta_base.specs.Pieces.MetaRules.{name_of}
 use Rattle.meta_base.specs.declared.grammar.Rule.{Rule}
 use Rattle.meta_base.specs.declared.runtime.trees.TokenTree.{TokenTree}
 
--- each rule by its name
+-- trees with the names of their rules
 abbrev pub named : TokenTrees Rule → Trees
 named NoTokens = None'
 named (Token rule start end_ inner others) = Tree (name_of rule) start end_ (named inner) (named others)

@@ -1,4 +1,4 @@
--- What a pair and pairs show.
+-- Views of a pair and of pairs.
 use Rattle.std.specs.Prelude.{◌≡◌, ◌<◌, ℕ, List, [], ◌∷◌, Option, Result, MatchOption, MatchResult, length, alloc_error}
 use Rattle.meta_base.specs.Pieces.TokenTrees.{TokenTrees, NoTokens, Token, preorder}
 use Rattle.meta_base.specs.Pieces.TreeViews.{trees_of}
@@ -70,7 +70,7 @@ abbrev pub TakesFirstOfAll : {R : Type 0} → FlatPairs R → Option (Pair R) �
 TakesFirstOfAll old taken new = (flat_text new ≡ flat_text old)
     × MatchOption taken ((flat_pairs old ≡ []) × (flat_pairs new ≡ [])) (λ pair. FirstOfAll old pair new)
 
--- the first pair is taken, where there is one; or memory is wanting for it, and from then on there is none
+-- the first pair is taken, if there is one; or memory for it is refused, and from then on there is none
 abbrev pub TakesFirstOrFails : {R : Type 0} → FlatPairs R → Option (Result (Pair R) Fault) → FlatPairs R
     → Type 0
 TakesFirstOrFails old taken new = (flat_text new ≡ flat_text old)

@@ -25,11 +25,11 @@ start_of (Span start end) = start
 abbrev pub is_printed : ℕ → Bool
 is_printed c = not (c == 13) && not (c == 10)
 
--- the line in which a place stands, as it is printed
+-- the line of a position, as it is printed
 abbrev pub printed_line : List ℕ → ℕ → List ℕ
 printed_line text place = encode_utf8_all (filter is_printed (chars (line_around text place)))
 
--- what stands under a character before the marks: a tab under a tab, else a blank
+-- the character printed under one before the marks: a tab under a tab, else a blank
 abbrev pub blank_under : ℕ → ℕ
 blank_under c = if c == 9 then 9 else 32
 
@@ -48,7 +48,7 @@ abbrev pub marks_under : LineColLocation → List ℕ → List ℕ
 marks_under (Pos place) line = codes "^---"
 marks_under (Span start end) line = marks (marked_count start end line)
 
--- the marks of an error, behind the blanks under the characters before its column
+-- the marks of an error, after the blanks under the characters before its column
 abbrev pub underline : LineColLocation → List ℕ → List ℕ
 underline place line = map blank_under (take ((start_of place).1 - 1) line) ++ marks_under place line
 
@@ -56,7 +56,7 @@ underline place line = map blank_under (take ((start_of place).1 - 1) line) ++ m
 abbrev pub margin : ℕ → List ℕ
 margin number = replicate (length (decimal number)) 32
 
--- the six lines of an error with this message, at this place, on this printed line
+-- the six lines of an error with this message, at this position, on this printed line
 abbrev pub printed_error : List ℕ → LineColLocation → List ℕ → List ℕ
 printed_error message place line = let number = (start_of place).0 in
     join_with_byte 10
@@ -72,6 +72,6 @@ printed_error message place line = let number = (start_of place).0 in
 abbrev pub error_line : {R : Type 0} → Error R → List ℕ
 error_line error = string_bytes (arc_value error.line)
 
--- what an error prints
+-- the printed text of an error
 abbrev pub error_text : {R : Type 0} → Error R → List ℕ
 error_text error = printed_error (message_of error.variant) error.line_col (error_line error)

@@ -25,29 +25,29 @@ piece text i j = record { text = text; start = i; end = j }
 abbrev pub piece_of : code_span.Span → Span
 piece_of s = record { text = span_text s; start = span_start s; end = span_end s }
 
--- what is written there
+-- the text of a piece
 abbrev pub written : Span → List ℕ
 written span = slice_range span.text span.start span.end
 
 -- an error with a message of its own, which is this one
-abbrev pub Says : List ℕ → ErrorVariant → Type 0
-Says message ParsingError = ⊥
-Says message (CustomError own) = string_bytes own ≡ message
+abbrev pub HasMessage : List ℕ → ErrorVariant → Type 0
+HasMessage message ParsingError = ⊥
+HasMessage message (CustomError own) = string_bytes own ≡ message
 
--- the error has this message and stands at this piece, of which it prints the first line
-pub record SaysAt (message : List ℕ) (span : Span) (error : Error Rule) : Type 0 where
-  pub variant : Says message error.variant
+-- the error has this message and this piece, of which it prints the first line
+pub record IsErrorAt (message : List ℕ) (span : Span) (error : Error Rule) : Type 0 where
+  pub variant : HasMessage message error.variant
   pub location : error.location ≡ at.Span (span.start, span.end)
   pub line_col : error.line_col
       ≡ in_lines.Span (line_column span.text span.start) (line_column span.text span.end)
   pub line : error_line error ≡ printed_line span.text span.start
 
--- what is to be said of a piece
+-- the message and the piece of an error
 pub record Complaint : Type 0 where
   pub message : List ℕ
   pub span : Span
 
--- the errors say just what is to be said, in this order
-abbrev pub Tell : List Complaint → List (Error Rule) → Type 0
-Tell complaints errors =
-    AllZip (λ complaint error. SaysAt complaint.message complaint.span error) complaints errors
+-- the errors have just these messages and pieces, in this order
+abbrev pub AreErrorsFor : List Complaint → List (Error Rule) → Type 0
+AreErrorsFor complaints errors =
+    AllZip (λ complaint error. IsErrorAt complaint.message complaint.span error) complaints errors

@@ -1,4 +1,4 @@
--- What a span and a position show.
+-- Views of a span and of a position.
 use Rattle.std.specs.Prelude.{ℕ, List}
 use Rattle.meta_base.specs.declared.runtime.places.Span.{Span}
 use Rattle.meta_base.specs.declared.runtime.places.Position.{Position}
@@ -15,10 +15,10 @@ span_start span = span.start
 abbrev pub span_end : Span → ℕ
 span_end span = span.end
 
--- the text that a position is a place in, as bytes
+-- the text of a position, as bytes
 abbrev pub position_text : Position → List ℕ
 position_text position = position.text.now
 
--- how many bytes of its text stand before a position
+-- a position, in bytes from the start of its text
 abbrev pub position_offset : Position → ℕ
 position_offset position = position.pos

@@ -1,4 +1,4 @@
--- What a survey shows.
+-- The view of a survey.
 use Rattle.std.specs.Prelude.{ℕ, List}
 use Rattle.meta_base.specs.declared.runtime.surveys.Survey.{Survey}
 

@@ -14,22 +14,22 @@ followed_by NoTokens second = second
 followed_by (Token rule start end_ inner others) second =
     Token rule start end_ inner (followed_by others second)
 
--- each tree by itself, an outer one before those inside it, and those before the ones after it
+-- trees in preorder: an outer one before those inside it, and those before the ones after it
 abbrev pub preorder : {R : Type 0} → TokenTrees R → List (TokenTrees R)
 preorder NoTokens = []
 preorder (Token rule start end_ inner others) = Token rule start end_ inner NoTokens
     ∷ (preorder inner ++ preorder others)
 
--- a tree stands behind a byte of a text, and starts and ends between two characters
-abbrev pub StandsBehind : List ℕ → ℕ → ℕ → ℕ → Type 0
-StandsBehind text from start end_ = (from ≤ start) × (IsCharBoundary text start × IsCharBoundary text end_)
+-- a tree starts after a byte of a text, and starts and ends between two characters
+abbrev pub StartsAfter : List ℕ → ℕ → ℕ → ℕ → Type 0
+StartsAfter text from start end_ = (from ≤ start) × (IsCharBoundary text start × IsCharBoundary text end_)
 
--- the trees stand between two bytes of a text: in order and apart, from character to character, and each
--- around the trees inside it
+-- the trees are between two bytes of a text: in order and disjoint, on character boundaries, and around the
+-- trees inside them
 abbrev pub AreNested : {R : Type 0} → List ℕ → TokenTrees R → ℕ → ℕ → Type 0
 AreNested text NoTokens from to = from ≤ to
 AreNested text (Token rule start end_ inner others) from to =
-    StandsBehind text from start end_ × (AreNested text inner start end_ × AreNested text others end_ to)
+    StartsAfter text from start end_ × (AreNested text inner start end_ × AreNested text others end_ to)
 
 -- there is one proof of it at most
 IsCharBoundary-prop : (text : List ℕ) (place : ℕ) → IsProp (IsCharBoundary text place)

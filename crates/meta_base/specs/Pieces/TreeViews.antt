@@ -1,4 +1,4 @@
--- The token trees that pairs stand for.
+-- The token trees of pairs.
 use Rattle.std.specs.Prelude.{ℕ, List, map, fold, length}
 use Rattle.meta_base.specs.Pieces.TokenTrees.{TokenTrees, NoTokens, Token, followed_by, AreNested, AreNested-prop}
 use Rattle.meta_base.specs.declared.runtime.trees.TokenTree.{TokenTree, fold-TokenTree}

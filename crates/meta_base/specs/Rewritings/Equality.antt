@@ -1,5 +1,5 @@
--- Whether two texts, expressions or rules are equal, as a test: of one variant, with equal parts.
--- Each test answers `true` exactly where the two are equal, and so is an equivalence.
+-- Whether two texts, expressions or rules are equal, as a test: of one variant, with equal parts. A test
+-- answers `true` exactly where the two are equal, and so is an equivalence.
 use Rattle.std.specs.Prelude.{◌≡◌, ℤ, Bool, true, false, ◌&&◌, Option, Some, None, List, nat_eq, refl}
 use Rattle.std.specs.Ordering.{int_eq}
 use Rattle.std.specs.Option.{option_eq}

@@ -1,7 +1,7 @@
 -- Expressions without wrappers.
 use Rattle.meta_base.specs.Language.Expression.{Expression, PosPred, NegPred, Seq, Choice, Opt, Rep, RepOnce, RepExact, RepMin, RepMax, RepMinMax, Push, NodeTag, RestoreOnErr}
 
--- each `RestoreOnErr(e)` becomes `e`
+-- any `RestoreOnErr(e)` becomes `e`
 abbrev pub erased : Expression → Expression
 erased (RestoreOnErr e) = erased e
 erased (PosPred e) = PosPred (erased e)

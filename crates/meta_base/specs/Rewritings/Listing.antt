@@ -33,8 +33,8 @@ listed e = e
 abbrev pub EachListed : Grammar → Grammar → Type 0
 EachListed = EachBody (λ y a b. b ≡ listed a)
 
--- in Atomic and CompoundAtomic, what `(x ~ y)* ~ x` matches its listing matches, where there is nothing to
--- list within it
+-- in Atomic and CompoundAtomic, the listing of `(x ~ y)* ~ x` matches what that matches, if there is
+-- nothing to list within it
 abbrev pub ListingKeeps : Type 0
 ListingKeeps = (g : Grammar) (classes : Classes) (x y : Expression) (m : Mode) (s t : State) (us : Trees)
     → (m ≡ AtomicMode) ⊎ (m ≡ CompoundAtomicMode)

@@ -1,4 +1,4 @@
--- The eight rewritings, at any place of any rule.
+-- The eight rewritings, at any position of any rule.
 use Rattle.std.specs.Prelude.{◌≡◌, ℕ, List, [], ◌∷◌, ◌++◌, Some, None, ◌↔◌, codes}
 use Rattle.meta_base.specs.Language.Text.{Text}
 use Rattle.meta_base.specs.Language.Expression.{Expression, Str, Insens, Ident, PosPred, NegPred, Seq, Choice, Opt, Rep, RepOnce, RepExact, RepMin, RepMax, RepMinMax, Skip, Push, NodeTag, RestoreOnErr, RuleType, Atomic, CompoundAtomic, Rule, Grammar, rule_of, Part}
@@ -22,7 +22,7 @@ pub data Unrolls : Expression → Expression → Type 0 where
   unroll_max : {e : Expression} {i : ℕ} → Unrolls (RepMax e i) (at_most e i)
   unroll_min_max : {e : Expression} {i j : ℕ} → Unrolls (RepMinMax e i j) (from_to e i j)
 
--- the strings that an expression stands for, names being looked up in g
+-- the strings that an expression matches as a choice of literals, with names looked up in g
 pub data Strings (g : Grammar) : Expression → List Text → Type 0 where
   one : {t : Text} → Strings g (Str t) (t ∷ [])
   named : {n : Text} {r : Rule} {ts : List Text} → rule_of g n ≡ Some r → Strings g r.body ts
@@ -58,7 +58,7 @@ pub data Rewrites (g : Grammar) (y : RuleType) (a b : Expression) : Type 0 where
   by_factoring : Factors y a b → Rewrites g y a b
 
 module _ (R : Expression → Expression → Type 0) where
-  -- one rewriting at one place of an expression
+  -- one rewriting at one position of an expression
   pub data Within : Expression → Expression → Type 0 where
     here : {a b : Expression} → R a b → Within a b
     in_pos_pred : {a b : Expression} → Within a b → Within (PosPred a) (PosPred b)
@@ -83,7 +83,7 @@ module _ (R : Expression → Expression → Type 0) where
     no_step : {a : Expression} → Many a a
     one_step : {a b c : Expression} → Within a b → Many b c → Many a c
 
-  -- it applies nowhere
+  -- the rewriting applies nowhere
   abbrev pub Nowhere : Expression → Type 0
   Nowhere e = (p q : Expression) → Part e p → R p q → ⊥
 
@@ -97,7 +97,7 @@ pub data Changed (g : Grammar) : Grammar → Grammar → Type 0 where
       → Changed g (r ∷ rs) (record r { body = b } ∷ rs)
   later : {r : Rule} {rs qs : Grammar} → Changed g rs qs → Changed g (r ∷ rs) (r ∷ qs)
 
--- one of the eight steps at one place of one rule
+-- one of the eight steps at one position of one rule
 abbrev pub Step : Grammar → Grammar → Type 0
 Step g h = Changed g g h
 
@@ -111,7 +111,7 @@ pub data EachBody (P : RuleType → Expression → Expression → Type 0) : Gram
   also_rule : {r : Rule} {b : Expression} {rs qs : Grammar} → P r.type_of r.body b → EachBody P rs qs
       → EachBody P (r ∷ rs) (record r { body = b } ∷ qs)
 
--- what a pass does: any number of rewritings in each rule, names being looked up in g throughout
+-- the result of a pass: any number of rewritings in each rule, with names looked up in g throughout
 abbrev pub EachRewritten : Grammar → Grammar → Grammar → Type 0
 EachRewritten g = EachBody (λ y. Many (Rewrites g y))
 

@@ -1,4 +1,4 @@
--- What changes the stack, and where the restorer wraps.
+-- Expressions that change the stack, and where the restorer wraps them.
 use Rattle.std.specs.Prelude.{◌≡◌, ℕ, List, Option, Some, ℤ}
 use Rattle.meta_base.specs.Language.Text.{Text}
 use Rattle.meta_base.specs.Language.Expression.{Expression, Str, Insens, Range, Ident, PeekSlice, PosPred, NegPred, Seq, Choice, Opt, Rep, RepOnce, RepExact, RepMin, RepMax, RepMinMax, Skip, Push, PushLiteral, NodeTag, RestoreOnErr, Rule, Grammar, rule_of}
@@ -30,14 +30,14 @@ module _ (g : Grammar) where
     changes_rep_max : {e : Expression} {i : ℕ} → ChangesStack e → ChangesStack (RepMax e i)
     changes_rep_min_max : {e : Expression} {i j : ℕ} → ChangesStack e → ChangesStack (RepMinMax e i j)
 
-  -- a wrapper round what changes the stack, and round nothing else
+  -- a wrapper around an expression that changes the stack, and around no other
   pub data Wraps : Expression → Expression → Type 0 where
     wraps : {e : Expression} → ChangesStack e → Wraps e (RestoreOnErr e)
     leaves : {e : Expression} → (ChangesStack e → ⊥) → Wraps e e
 
-  -- what the restorer makes of an expression without wrappers and with no counted repetitions: from the
-  -- inside out, the operands of `?`, `*` and `+` and both sides of `|` are wrapped where they change the
-  -- stack as they then stand
+  -- the restorer's result for an expression without wrappers and counted repetitions: from the inside out,
+  -- the operands of `?`, `*` and `+` and both sides of `|` are wrapped if they change the stack in their
+  -- new form
   pub data RestoresTo : Expression → Expression → Type 0 where
     restores_str : {t : Text} → RestoresTo (Str t) (Str t)
     restores_insens : {t : Text} → RestoresTo (Insens t) (Insens t)

@@ -1,4 +1,4 @@
-//! Errors, with the places and the line that they print.
+//! Errors, with their positions and the line that they print.
 ghost use Rattle.std.specs.Prelude.{◌≡◌, Some, IfOk, IfErr, ◌++◌, filter, alloc_error, string_bytes};
 ghost use Rattle.std.specs.Arc.{arc_value};
 ghost use Rattle.std.specs.Str.{chars, encode_utf8_all};
@@ -17,12 +17,12 @@ use std::fmt;
 use std::marker::PhantomData;
 use std::sync::Arc;
 
-/// What is wrong with a text.
+/// The kind of an error, with its message.
 #[derive(Debug, PartialEq, Eq, Drop)]
 pub enum ErrorVariant {
     /// No rule matches it.
     ParsingError,
-    /// What the message says.
+    /// The error has this message.
     CustomError { message: String },
 }
 
@@ -37,14 +37,15 @@ impl fmt::Display for ErrorVariant {
     }
 }
 
-/// Where an error stands, in bytes from the start of the text: a place, or the start and the end of a span.
+/// The location of an error, in bytes from the start of the text: a position, or the start and the end of a
+/// span.
 #[derive(Clone, Copy, Debug, PartialEq, Eq)]
 pub enum InputLocation {
     Pos(usize),
     Span((usize, usize)),
 }
 
-/// Where an error stands, as line and column: of a place, or of the start and the end of a span.
+/// The location of an error, as line and column: of a position, or of the start and the end of a span.
 #[derive(Clone, Copy, Debug, PartialEq, Eq)]
 pub enum LineColLocation {
     Pos((usize, usize)),
@@ -52,7 +53,7 @@ pub enum LineColLocation {
 }
 
 impl LineColLocation {
-    /// The line and the column at which the error begins.
+    /// Returns the line and the column at which the error begins.
     pub(crate) fn start(&self) -> (usize, usize)
         ensures { result ≡ start_of self.now }
     {
@@ -63,8 +64,8 @@ impl LineColLocation {
     }
 }
 
-/// An error in a text that rules of type `R` read. It keeps the line that it prints, which errors of one
-/// survey share.
+/// An error in a text that rules of type `R` read. The line that it prints is kept, and shared by errors of
+/// one survey.
 #[derive_where(Debug, PartialEq, Eq)]
 #[derive(Drop)]
 pub struct Error<R> {
@@ -75,8 +76,8 @@ pub struct Error<R> {
     rule: PhantomData<R>,
 }
 
-/// Six lines, without a last newline: where the error begins, its line of the text, what it spans
-/// there, and its message.
+/// Prints six lines, without a last newline: where the error begins, its line of the text, the marks under
+/// its span, and its message.
 impl<R> fmt::Display for Error<R> {
     ghost output = { λ error. Some (error_text error) };
 
@@ -101,15 +102,15 @@ impl<R> fmt::Display for Error<R> {
 }
 
 impl<R> Error<R> {
-    /// The line of the text on which the error begins, as it prints it: without any `\r` and `\n`.
+    /// Returns the line of the text on which the error begins, as printed: without any `\r` and `\n`.
     pub fn line(&self) -> &str
         ensures { result.now ≡ error_line self.now }
     {
         self.line.as_str()
     }
 
-    /// The error `variant` at `span`: its places are those of the span's start and end, and it prints
-    /// the line on which the span begins. The only fault is a want of memory.
+    /// Makes the error `variant` at `span`: its positions are those of the span's start and end, and it
+    /// prints the line on which the span begins. The only error is allocation failure.
     pub fn new_from_span(
         alloc: Global,
         variant: ErrorVariant,
@@ -136,9 +137,9 @@ impl<R> Error<R> {
         })
     }
 
-    /// The error `variant` at `span`, as `new_from_span` makes it, where the span's text was surveyed: its
-    /// places are found by the survey, and errors that stand in one line, and are made one after another,
-    /// share the line that they print. The only fault is a want of memory.
+    /// Makes the error `variant` at `span`, as `new_from_span` does, where the span's text was surveyed.
+    /// The survey finds the positions, and errors in one line that are made one after another share the
+    /// line that they print. The only error is allocation failure.
     pub fn new_in_survey(
         alloc: Global,
         variant: ErrorVariant,
@@ -169,8 +170,8 @@ impl<R> Error<R> {
         })
     }
 
-    /// The error `variant` at `span`, as `new_from_span` makes it: by the survey, where the span's text is
-    /// byte by byte the one that was surveyed. The only fault is a want of memory.
+    /// Makes the error `variant` at `span`, as `new_from_span` does: by the survey, where the span's text
+    /// is byte by byte the surveyed one. The only error is allocation failure.
     pub fn new_where_surveyed(
         alloc: Global,
         variant: ErrorVariant,
@@ -195,8 +196,8 @@ impl<R> Error<R> {
         }
     }
 
-    /// The error `variant` at `pos`: its place is that position, and it prints the line in which the
-    /// position stands. The only fault is a want of memory.
+    /// Makes the error `variant` at `pos`: its location is that position, and it prints the line of the
+    /// position. The only error is allocation failure.
     pub fn new_from_pos(
         alloc: Global,
         variant: ErrorVariant,
@@ -222,7 +223,7 @@ impl<R> Error<R> {
     }
 }
 
-/// The line in which `pos` stands, without any `\r` and `\n`, to be shared.
+/// Returns the line of `pos`, without any `\r` and `\n`, to be shared.
 fn shared_line(alloc: Global, pos: Position<'_>) -> Result<Arc<String>, AllocError>
     ensures { IfOk result (λ line. string_bytes (arc_value line)
         ≡ printed_line (position_text pos.entry) (position_offset pos.entry)) }
@@ -232,15 +233,15 @@ fn shared_line(alloc: Global, pos: Position<'_>) -> Result<Arc<String>, AllocErr
     Ok(shared)
 }
 
-/// The line in which `pos` stands, without any `\r` and `\n`.
+/// Returns the line of `pos`, without any `\r` and `\n`.
 fn printed_line(alloc: Global, pos: Position<'_>) -> Result<String, AllocError>
     ensures { IfOk result (λ line. string_bytes line
         ≡ printed_line (position_text pos.entry) (position_offset pos.entry)) }
 {
-    without_breaks(alloc, last_line(pos.before()), first_line(pos.after()))
+    without_breaks(alloc, last_line(pos.prefix()), first_line(pos.suffix()))
 }
 
-/// `before` and `after` in one text, without any `\r` and `\n`.
+/// Concatenates `before` and `after`, without any `\r` and `\n`.
 pub(super) fn without_breaks(alloc: Global, before: &str, after: &str) -> Result<String, AllocError>
     ensures { IfOk result (λ text. string_bytes text
         ≡ encode_utf8_all (filter is_printed (chars (before.now ++ after.now)))) }

@@ -7,7 +7,7 @@ use thiserror::Error as DeriveError;
 /// Why a call has no answer.
 #[derive(Debug, Drop, DeriveError)]
 pub enum Fault {
-    /// Want of memory.
+    /// Allocation failure.
     #[error("out of memory")]
     Memory(AllocError),
     /// The text is at fault, as these errors say.

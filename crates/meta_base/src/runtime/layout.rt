@@ -1,4 +1,4 @@
-//! What stands beside and under the line that an error prints.
+//! The margin beside the line that an error prints, and the marks under it.
 ghost use Rattle.std.specs.Prelude.{◌≡◌, ◌+◌, ◌-◌, ◌≤◌, Some, length, take, map, replicate};
 ghost use Rattle.std.specs.Fmt.{decimal, WritesOnOk};
 ghost use Rattle.std.specs.Str.{chars};
@@ -11,7 +11,7 @@ use std::fmt;
 #[derive(Clone, Copy)]
 pub(crate) struct Margin(pub usize);
 
-/// What stands under the printed line of an error at `place`.
+/// The marks under the printed line of an error at `place`, as line and column.
 #[derive(Clone, Copy)]
 pub(crate) struct Underline<'a> {
     pub place: LineColLocation,
@@ -29,7 +29,7 @@ impl fmt::Display for Margin {
     }
 }
 
-/// How many digits `number` has.
+/// Counts the digits of `number`.
 fn digit_count(number: usize) -> usize
     ensures { result ≡ length (decimal number) }
 {
@@ -57,8 +57,8 @@ impl fmt::Display for Underline<'_> {
     }
 }
 
-/// How many characters of `line` an error from `start` to `end` marks: its own, or those up to the
-/// line's end where it ends in a later line.
+/// Counts the characters of `line` that an error from `start` to `end` marks: its own, or those up to the
+/// line's end if it ends in a later line.
 fn marked_count(start: (usize, usize), end: (usize, usize), line: &str) -> usize
     ensures { result ≡ marked_count start end (chars line.now) }
 {
@@ -73,7 +73,8 @@ fn marked_count(start: (usize, usize), end: (usize, usize), line: &str) -> usize
     }
 }
 
-/// Writes what stands under the first `count` characters of `line`: a tab for a tab, else a blank.
+/// Writes the characters printed under the first `count` characters of `line`: a tab for a tab, else a
+/// blank.
 fn write_blanks<W: fmt::Write>(f: &mut fmt::Formatter<W>, line: &str, count: usize) -> fmt::Result
     ensures { WritesOnOk W.write_str_gives f.old result
         (map blank_under (take count (chars line.now))) f.new }

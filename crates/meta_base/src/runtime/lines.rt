@@ -1,8 +1,8 @@
-//! The ends of the line in which a place stands.
+//! The ends of the line of a position.
 ghost use Rattle.std.specs.Prelude.{◌≡◌};
 ghost use Rattle.meta_base.specs.Pieces.LineColumn.{first_line, last_line};
 
-/// What stands after the last `\n` of `text`, or all of it where there is none.
+/// Returns the suffix of `text` after its last `\n`, or all of it if there is none.
 pub(crate) fn last_line(text: &str) -> &str
     ensures { result.now ≡ last_line text.now }
 {
@@ -12,7 +12,7 @@ pub(crate) fn last_line(text: &str) -> &str
     }
 }
 
-/// What stands before the first `\n` of `text`, or all of it where there is none.
+/// Returns the prefix of `text` before its first `\n`, or all of it if there is none.
 pub(crate) fn first_line(text: &str) -> &str
     ensures { result.now ≡ first_line text.now }
 {

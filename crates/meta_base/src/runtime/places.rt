@@ -8,7 +8,7 @@ use super::lines::last_line;
 /// A part of a text: the bytes from `start` up to `end`.
 #[derive(Clone, Copy, Debug, PartialEq, Eq)]
 pub struct Span<'i> {
-    // The derived `==` looks at the fields in this order: at the places before the text.
+    // The derived `==` compares the fields in this order: positions before the text.
     start: usize,
     end: usize,
     text: &'i str,
@@ -17,7 +17,7 @@ pub struct Span<'i> {
     pub ghost ends_at_character: { IsCharBoundary text.now end },
 }
 
-/// A place in a text, counted in bytes from its start.
+/// A position in a text, in bytes from its start.
 #[derive(Clone, Copy, Debug, PartialEq, Eq)]
 pub struct Position<'i> {
     text: &'i str,
@@ -28,8 +28,8 @@ pub struct Position<'i> {
 impl<'i> Span<'i> {
     ghost use Rattle.meta_base.specs.Pieces.Span.{span_text, span_start, span_end, position_text, position_offset};
 
-    /// The part of `text` from byte `start` up to byte `end`, or `None` where the range is reversed,
-    /// reaches past the end of the text, or has an end inside a character.
+    /// Returns the part of `text` from byte `start` up to byte `end`, or `None` where the range is
+    /// reversed, reaches past the end of the text, or has an end inside a character.
     pub fn new(text: &'i str, start: usize, end: usize) -> Option<Span<'i>>
         ensures accepted { IsSome result
             ↔ (start ≤ end) × IsCharBoundary text.now start × IsCharBoundary text.now end }
@@ -44,8 +44,8 @@ impl<'i> Span<'i> {
         }
     }
 
-    /// The part of `text` from byte `start` up to byte `end`, where these stand in it in this order, each
-    /// between two characters.
+    /// Returns the part of `text` from byte `start` up to byte `end`, which are in this order, within the
+    /// text and between two characters.
     pub fn of(text: &'i str, start: usize, end: usize) -> Span<'i>
         requires ordered { start ≤ end }
         requires starts_at_character { IsCharBoundary text.now start }
@@ -57,35 +57,35 @@ impl<'i> Span<'i> {
         Span { text, start, end }
     }
 
-    /// The text that the span is a part of.
+    /// Returns the text that the span is a part of.
     pub fn get_input(&self) -> &'i str
         ensures { result.now ≡ span_text self.now }
     {
         self.text
     }
 
-    /// The byte at which the span begins.
+    /// Returns the byte at which the span begins.
     pub fn start(&self) -> usize
         ensures { result ≡ span_start self.now }
     {
         self.start
     }
 
-    /// The byte before which the span ends.
+    /// Returns the byte before which the span ends.
     pub fn end(&self) -> usize
         ensures { result ≡ span_end self.now }
     {
         self.end
     }
 
-    /// The part of the text itself: its bytes from the span's start up to its end.
+    /// Returns the part of the text itself: its bytes from the span's start up to its end.
     pub fn as_str(&self) -> &'i str
         ensures { result.now ≡ slice_range (span_text self.now) (span_start self.now) (span_end self.now) }
     {
         &self.text[self.start..self.end]
     }
 
-    /// The place at which the span begins, in the same text.
+    /// Returns the position at which the span begins, in the same text.
     pub fn start_pos(&self) -> Position<'i>
         ensures text { position_text result ≡ span_text self.now }
         ensures place { position_offset result ≡ span_start self.now }
@@ -96,7 +96,7 @@ impl<'i> Span<'i> {
         }
     }
 
-    /// The place at which the span ends, in the same text.
+    /// Returns the position at which the span ends, in the same text.
     pub fn end_pos(&self) -> Position<'i>
         ensures text { position_text result ≡ span_text self.now }
         ensures place { position_offset result ≡ span_end self.now }
@@ -111,7 +111,7 @@ impl<'i> Span<'i> {
 impl<'i> Position<'i> {
     ghost use Rattle.meta_base.specs.Pieces.Span.{span_text, span_start, span_end, position_text, position_offset};
 
-    /// The place before byte `pos` of `text`, or `None` where that is past the end or inside a
+    /// Returns the position before byte `pos` of `text`, or `None` where that is past the end or inside a
     /// character.
     pub fn new(text: &'i str, pos: usize) -> Option<Position<'i>>
         ensures accepted { IsSome result ↔ IsCharBoundary text.now pos }
@@ -125,39 +125,39 @@ impl<'i> Position<'i> {
         }
     }
 
-    /// How many bytes of the text stand before the place.
+    /// Returns the position in bytes from the start of the text.
     pub fn pos(&self) -> usize
         ensures { result ≡ position_offset self.now }
     {
         self.pos
     }
 
-    /// The line and the column of the place, both counted from 1: a `\n` ends a line, and a column is
-    /// a character.
+    /// Returns the line and the column of the position, both counted from 1: a `\n` ends a line, and a
+    /// column is a character.
     pub fn line_col(&self) -> (usize, usize)
         ensures { result ≡ line_column (position_text self.now) (position_offset self.now) }
     {
-        let before = self.before();
+        let before = self.prefix();
         let line = 1 + before.bytes().filter(|byte| *byte == b'\n').count();
         let column = 1 + last_line(before).chars().count();
         (line, column)
     }
 
-    /// What stands before the place.
-    pub(crate) fn before(&self) -> &'i str
+    /// Returns the text before the position.
+    pub(crate) fn prefix(&self) -> &'i str
         ensures { result.now ≡ take (position_offset self.now) (position_text self.now) }
     {
         &self.text[..self.pos]
     }
 
-    /// What stands after the place.
-    pub(crate) fn after(&self) -> &'i str
+    /// Returns the text after the position.
+    pub(crate) fn suffix(&self) -> &'i str
         ensures { result.now ≡ drop (position_offset self.now) (position_text self.now) }
     {
         &self.text[self.pos..]
     }
 
-    /// The part of the text from this place up to `other`.
+    /// Returns the part of the text from this position up to `other`.
     pub fn span(&self, other: &Position<'i>) -> Span<'i>
         requires same_text { position_text self.now ≡ position_text other.now }
         requires ordered { position_offset self.now ≤ position_offset other.now }

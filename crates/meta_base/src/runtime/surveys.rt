@@ -1,5 +1,5 @@
-//! Texts in which the places and the lines of many errors are found, none of them by a walk from the text's
-//! start.
+//! Texts with landmarks, by which the positions and the lines of many errors are found without a walk from
+//! the text's start.
 ghost use Rattle.std.specs.Prelude.{◌≡◌, ◌+◌, ◌<◌, ◌≤◌, ◌^◌, IfOk, length, string_bytes};
 ghost use Rattle.std.specs.Arc.{arc_value};
 ghost use Rattle.std.specs.Option.{ForSome};
@@ -14,7 +14,7 @@ use super::places::Position;
 use std::alloc::{AllocError, Global};
 use std::sync::Arc;
 
-/// How many bytes of the text stand between one landmark and the next, but for parts of a character.
+/// The distance of landmarks in bytes, up to parts of a character.
 const STRIDE: usize = 256;
 
 /// Where every text begins.
@@ -24,7 +24,7 @@ const START: Landmark = Landmark {
     column: 1,
 };
 
-/// A place of a text in bytes, with its line and its column, both counted from 1.
+/// A position of a text in bytes, with its line and its column, both counted from 1.
 #[derive(Clone, Copy)]
 pub(crate) struct Landmark {
     pub place: usize,
@@ -32,14 +32,14 @@ pub(crate) struct Landmark {
     pub column: usize,
 }
 
-/// A line of a text as it is printed, and a landmark that stands in it.
+/// A line of a text as it is printed, and a landmark in it.
 #[derive(Drop)]
 struct KnownLine {
     landmark: Landmark,
     line: Arc<String>,
 }
 
-/// A text that was walked over once, for the places and the lines of many errors.
+/// A text that was read once, for the positions and the lines of many errors.
 #[derive(Drop)]
 pub struct Survey<'i> {
     text: &'i str,
@@ -53,7 +53,7 @@ pub struct Survey<'i> {
 impl<'i> Survey<'i> {
     ghost use Rattle.meta_base.specs.Pieces.Survey.{survey_text};
 
-    /// A survey of `text`. The only fault is a want of memory.
+    /// Surveys `text`. The only error is allocation failure.
     pub fn new(alloc: Global, text: &'i str) -> Result<Survey<'i>, AllocError>
         ensures { IfOk result (λ survey. survey_text survey ≡ text.now) }
     {
@@ -65,24 +65,24 @@ impl<'i> Survey<'i> {
         })
     }
 
-    /// The text that was surveyed.
+    /// Returns the text that was surveyed.
     pub fn get_input(&self) -> &'i str
         ensures { result.now ≡ survey_text self.now }
     {
         self.text
     }
 
-    /// The landmark at a place of the text.
+    /// Returns the landmark at a position of the text.
     pub(crate) fn landmark_at(&self, pos: Position<'_>) -> Landmark
         requires same_text { position_text pos ≡ survey_text self.now }
         ensures landmark { IsLandmark (survey_text self.now) result }
         ensures place { result.place ≡ position_offset pos.entry }
     {
         let place = pos.pos();
-        self.landmark_before(place).moved(self.text, place)
+        self.landmark_before(place).move_to(self.text, place)
     }
 
-    /// A landmark that stands at a place or not far before it.
+    /// Returns a landmark at a position or shortly before it.
     fn landmark_before(&self, place: usize) -> Landmark
         ensures landmark { IsLandmark (survey_text self.now) result }
         ensures before { result.place ≤ place }
@@ -93,8 +93,8 @@ impl<'i> Survey<'i> {
         }
     }
 
-    /// The line in which a landmark stands, without any `\r` and `\n`: the one that was asked for last is
-    /// kept, and shared where it is asked for again.
+    /// Returns the line of a landmark, without any `\r` and `\n`. The last such line is kept, and shared by
+    /// a call for the same line.
     pub(crate) fn line_at(
         &mut self,
         alloc: Global,
@@ -118,8 +118,8 @@ impl<'i> Survey<'i> {
 }
 
 impl Landmark {
-    /// The landmark at a place that stands at this one or behind it.
-    fn moved(self, text: &str, place: usize) -> Landmark
+    /// Moves the landmark to a position that is not before it.
+    fn move_to(self, text: &str, place: usize) -> Landmark
         requires landmark { IsLandmark text.now self }
         requires between { IsCharBoundary text.now place }
         requires behind { self.place ≤ place }
@@ -136,7 +136,7 @@ impl Landmark {
     }
 }
 
-/// The column behind a piece of a text that begins at `column`.
+/// Returns the column after a piece of a text that begins at `column`.
 fn column_behind(column: usize, passed: &str) -> usize
     requires from_one { 1 ≤ column }
     requires fits { column + length passed.now < 2 ^ 64 }
@@ -161,13 +161,13 @@ fn landmarks(alloc: Global, text: &str) -> Result<Vec<Landmark>, AllocError>
     let mut landmarks = vec![in alloc; landmark]?;
     for count in 0..text.len() / STRIDE {
         let place = text.floor_char_boundary((count + 1) * STRIDE);
-        landmark = landmark.moved(text, place);
+        landmark = landmark.move_to(text, place);
         landmarks.push(landmark)?;
     }
     Ok(landmarks)
 }
 
-/// The line in which a place stands, without any `\r` and `\n`.
+/// Returns the line of a position, without any `\r` and `\n`.
 fn line_of(alloc: Global, text: &str, place: usize) -> Result<Arc<String>, AllocError>
     requires between { IsCharBoundary text.now place }
     ensures { IfOk result (λ line. string_bytes (arc_value line) ≡ printed_line text.now place) }

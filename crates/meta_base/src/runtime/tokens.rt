@@ -38,21 +38,21 @@ impl<'i, R: Copy> Pair<'i, R> {
     ghost use Rattle.meta_base.specs.Pieces.Span.{span_text, span_start, span_end};
     ghost use Rattle.meta_base.specs.Pieces.Pairs.{pair_text, pair_rule, pair_start, pair_end, pair_inner, pairs_text, pairs_trees};
 
-    /// The rule.
+    /// Returns the rule.
     pub fn as_rule(&self) -> R
         ensures { result ≡ pair_rule self.now }
     {
         self.rule
     }
 
-    /// The part of the text that the rule matched.
+    /// Returns the part of the text that the rule matched.
     pub fn as_str(&self) -> &'i str
         ensures { result.now ≡ slice_range (pair_text self.now) (pair_start self.now) (pair_end self.now) }
     {
         &self.text[self.start..self.end]
     }
 
-    /// The same part, as a span.
+    /// Returns the matched part as a span.
     pub fn as_span(&self) -> Span<'i>
         ensures text { span_text result ≡ pair_text self.now }
         ensures start { span_start result ≡ pair_start self.now }
@@ -61,7 +61,7 @@ impl<'i, R: Copy> Pair<'i, R> {
         Span::of(self.text, self.start, self.end)
     }
 
-    /// The pairs of the rules inside this one. They lie in the part that it matched.
+    /// Returns the pairs of the rules inside this one, in the part that it matched.
     pub fn into_inner(self) -> Pairs<'i, R>
         ensures text { pairs_text result ≡ pair_text self.entry }
         ensures trees { pairs_trees result ≡ pair_inner self.entry }
@@ -80,7 +80,7 @@ impl<'i, R: Copy> Pairs<'i, R> {
     ghost use Rattle.meta_base.specs.Pieces.TokenTrees.{preorder};
     ghost use Rattle.meta_base.specs.Pieces.Pairs.{pairs_text, pairs_trees, flat_text, flat_pairs};
 
-    /// The pairs of these trees of `text`. Of the trees the last comes first.
+    /// Makes the pairs of these trees of `text`. Of the trees the last comes first.
     pub fn new(text: &'i str, trees: Vec<TokenTree<R>>) -> Pairs<'i, R>
         requires nested { AreNested text.now (trees_of trees.items) 0 (length text.now) }
         ensures text { pairs_text result ≡ text.now }
@@ -89,22 +89,21 @@ impl<'i, R: Copy> Pairs<'i, R> {
         Pairs { text, rest: trees }
     }
 
-    /// The text that they are parts of.
+    /// Returns the text that they are parts of.
     pub fn get_input(&self) -> &'i str
         ensures { result.now ≡ pairs_text self.now }
     {
         self.text
     }
 
-    /// Their trees, by reference. The last comes first.
+    /// Returns their trees, by reference. The last comes first.
     pub fn trees(&self) -> &[TokenTree<R>]
         ensures { trees_of result.now ≡ pairs_trees self.entry.now }
     {
         &self.rest
     }
 
-    /// These pairs and all pairs inside them, each before those inside it. The only fault is a want of
-    /// memory.
+    /// Collects these pairs and all pairs inside them, in preorder. The only error is allocation failure.
     pub fn flatten(self, alloc: Global) -> Result<FlatPairs<'i, R>, Fault>
         ensures text { IfOk result (λ flat. flat_text flat ≡ pairs_text self.entry) }
         ensures pairs { IfOk result (λ flat. flat_pairs flat ≡ preorder (pairs_trees self.entry)) }
@@ -163,7 +162,7 @@ impl<'i, R: Copy> Iterator for Pairs<'i, R> {
 #[derive(Drop)]
 pub struct FlatPairs<'i, R> {
     text: &'i str,
-    /// Those still to come. The last tree comes first.
+    /// The remaining trees, the last first.
     rest: Vec<TokenTree<R>>,
     alloc: Global,
     pub ghost nested: { AreNestedIn text.now rest.items } by { AreNestedIn-prop text.now rest.items },

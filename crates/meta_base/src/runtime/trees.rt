@@ -8,7 +8,7 @@ use std::mem::swap;
 
 /// A rule with the part of a text that it matched, in bytes, and the trees of the rules inside it.
 ///
-/// However deep it is, it is let go by a loop wherever it goes out of scope, without memory.
+/// A tree of any depth is dropped iteratively wherever it goes out of scope, without allocating.
 pub struct TokenTree<R> {
     pub(crate) rule: R,
     pub(crate) start: usize,
@@ -18,7 +18,7 @@ pub struct TokenTree<R> {
 }
 
 impl<R> TokenTree<R> {
-    /// The tree of `rule` from byte `start` up to byte `end`. Of the trees inside it the last comes
+    /// Makes the tree of `rule` from byte `start` up to byte `end`. Of the trees inside it the last comes
     /// first.
     pub fn new(rule: R, start: usize, end: usize, inner: Vec<TokenTree<R>>) -> TokenTree<R>
         ensures { tree_of result ≡ Token rule start end (trees_of inner.items) NoTokens }
@@ -32,7 +32,7 @@ impl<R> TokenTree<R> {
     }
 }
 
-/// What a tree is made of.
+/// The parts of a tree.
 #[derive(Drop)]
 pub(crate) struct TreeParts<R> {
     pub(crate) rule: R,
@@ -43,7 +43,7 @@ pub(crate) struct TreeParts<R> {
 }
 
 impl<R> TokenTree<R> {
-    /// The parts of the tree, which is taken apart.
+    /// Destructures the tree.
     pub(crate) fn into_parts(self) -> TreeParts<R>
         ensures { tree_of self
             ≡ Token result.rule result.start result.end (trees_of result.inner.items) NoTokens }
@@ -64,8 +64,8 @@ impl<R> TokenTree<R> {
 }
 
 impl<R: Drop> Drop for TokenTree<R> {
-    /// Lets the trees go from the last to the first of each list. A tree that is gone into keeps the list
-    /// above its own in the place of the trees inside it: so the way back up takes no memory.
+    /// Drops the trees from the last to the first of each list. The list above one that is entered replaces
+    /// the trees inside it: so the way back up takes no memory.
     fn drop(self) {
         let mut trees = self.into_parts().inner;
         let mut above = Vec::new(*trees.allocator());
@@ -98,7 +98,7 @@ pub struct FirstTree<'t, R> {
     pub others: &'t [TokenTree<R>],
 }
 
-/// The first of these trees, of which the last comes first, or `None` where there is no tree.
+/// Returns the first of these trees, of which the last comes first, or `None` where there is no tree.
 pub fn first_tree<R: Copy>(trees: &[TokenTree<R>]) -> Option<FirstTree<'_, R>>
     ensures { MatchOption result (trees_of trees.entry.now ≡ NoTokens)
         (λ first. trees_of trees.entry.now
@@ -116,7 +116,7 @@ pub fn first_tree<R: Copy>(trees: &[TokenTree<R>]) -> Option<FirstTree<'_, R>>
     })
 }
 
-/// A tree whose copy is begun, the trees behind it that are still to be copied, and the copies of those
+/// A tree whose copy is begun, the trees after it that are still to be copied, and the copies of those
 /// before it.
 #[derive(Drop)]
 struct Begun<'t, R> {
@@ -125,8 +125,8 @@ struct Begun<'t, R> {
     copies: Vec<TokenTree<R>>,
 }
 
-/// A copy of `trees`, in the same order. The trees whose copies are begun lie in a list, so what is deep
-/// takes memory and not the machine's stack.
+/// Copies `trees`, in order. Trees whose copies are begun are on an explicit stack, so depth takes memory
+/// and no stack space.
 pub(crate) fn copies<R: Copy>(
     alloc: Global,
     trees: &Vec<TokenTree<R>>,

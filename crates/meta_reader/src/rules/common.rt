@@ -1,15 +1,15 @@
-//! What people call the rules of the meta-grammar.
+//! Common names of the rules of the meta-grammar.
 ghost use Rattle.std.specs.Prelude.{◌≡◌};
 ghost use Rattle.meta_reader.specs.CommonNames.{common_name};
 
 use meta_base::grammar::Rule;
 
-/// What people call a rule, as a message says it behind "expected": what is written in one way stands between
-/// grave accents, as `` `{` ``, and all else has a name in words, as `an identifier`; `EOI` is `the end of
-/// the text`.
+/// Returns the common name of a rule, as a message says it after "expected". A rule that is written in
+/// one way only has its text between grave accents, as `` `{` ``, and all others have a name in words, as
+/// `an identifier`; `EOI` is `the end of the text`.
 ///
-/// It is no name that errors show: those are what `rename_meta_rule` gives, which calls most rules by their
-/// own names, and `~` a `&`.
+/// Errors show the names that `rename_meta_rule` gives, which calls most rules by their own names, and
+/// `~` a `&`.
 pub fn common_name(rule: Rule) -> &'static str
     ensures { result.now ≡ common_name rule }
 {

@@ -1,7 +1,7 @@
-//! The flaws of a grammar's text, and the errors that tell of them.
+//! The flaws of a grammar's text, and the errors that report them.
 ghost use Rattle.std.specs.Prelude.{◌≡◌, alloc_error, IfErr, IfOk, Option};
 ghost use Rattle.meta_reader.specs.Flaws as spec;
-ghost use Rattle.meta_reader.specs.Refusals.{IsReadRefusal, TellsOf, cause_message};
+ghost use Rattle.meta_reader.specs.Refusals.{IsReadRefusal, ReportsFlaw, cause_message};
 ghost use Rattle.meta_reader.specs.Views.{IsFirst, cause_of, flaw_of};
 ghost use Rattle.meta_reader.specs.declared.rules.flaws.ReadError.TheVariants.{Memory};
 
@@ -9,7 +9,7 @@ use meta_base::grammar::Rule;
 use meta_base::runtime::{Error, ErrorVariant, Fault, Span};
 use std::alloc::{AllocError, AllocFailed, Global};
 
-/// What may be wrong with a piece of a grammar's text.
+/// The reason why a piece of a grammar's text is wrong.
 #[derive(Clone, Copy)]
 pub enum Cause {
     /// An escape in a literal is no Unicode scalar value.
@@ -18,18 +18,18 @@ pub enum Cause {
     PastI32,
     /// A count fits no `u32`.
     PastU32,
-    /// A count of how often at most is 0.
+    /// The greatest number of repetitions is 0.
     ZeroTimes,
 }
 
-/// A flaw: what is wrong, and where.
+/// A flaw of a grammar's text, with its cause and its span.
 #[derive(Clone, Copy)]
 pub struct Flaw<'i> {
     pub cause: Cause,
     pub span: Span<'i>,
 }
 
-/// Why a grammar is not read: memory was refused, or its text has a flaw.
+/// The reason why a grammar is not read: memory was refused, or its text has a flaw.
 #[derive(Drop)]
 pub enum ReadError<'i> {
     Memory(AllocError),
@@ -52,7 +52,7 @@ impl<T: Drop> From<AllocFailed<T>> for ReadError<'_> {
     }
 }
 
-/// What the error of a flaw says.
+/// Returns the message of a flaw's error.
 fn message(cause: Cause) -> &'static str
     ensures { result.now ≡ cause_message (cause_of cause) }
 {
@@ -64,9 +64,9 @@ fn message(cause: Cause) -> &'static str
     }
 }
 
-/// A list of one error, which tells of a flaw.
+/// Makes the list of the one error that reports a flaw. The only fault is an allocation failure.
 fn errors(alloc: Global, flaw: Flaw<'_>) -> Result<Vec<Error<Rule>>, Fault>
-    ensures one { IfOk result (λ errors. TellsOf (flaw_of flaw.entry) errors.items) }
+    ensures one { IfOk result (λ errors. ReportsFlaw (flaw_of flaw.entry) errors.items) }
     ensures memory { IfErr result (λ fault. fault ≡ Fault.Memory alloc_error) }
 {
     let message = String::from_str(alloc, message(flaw.cause))?;
@@ -75,8 +75,8 @@ fn errors(alloc: Global, flaw: Flaw<'_>) -> Result<Vec<Error<Rule>>, Fault>
     Ok(vec![in alloc; error]?)
 }
 
-/// The fault that says why a grammar is not read: one error that tells of the flaw in its text,
-/// unless memory is wanting.
+/// Makes the fault that says why a grammar is not read: one error that reports the flaw in its text, or
+/// an allocation failure.
 pub fn refusal(alloc: Global, error: ReadError<'_>) -> Fault
     ensures { (first : Option spec.Flaw) → IsFirst first error.entry → IsReadRefusal first result }
 {

@@ -1,9 +1,9 @@
-//! Literals.
+//! Literals and their escapes.
 ghost use Rattle.std.specs.Prelude.{◌≡◌, ◌<◌, ℕ, IfOk, IfSome, MatchOption, [], ◌∷◌, chars, length, string_bytes};
 ghost use Rattle.std.specs.Char.{IsScalar};
 ghost use Rattle.meta_base.specs.Pieces.NamedTrees.{named_trees_of};
 ghost use Rattle.meta_reader.specs.Literal.{braced, digits, escape, extended, two_digits};
-ghost use Rattle.meta_reader.specs.Pieces.{IsPiece, StandIn};
+ghost use Rattle.meta_reader.specs.Pieces.{IsPiece, AreInText};
 ghost use Rattle.meta_syntax.specs.Shape.{IsQuoted};
 ghost use Rattle.meta_reader.specs.Views.{AnswersLiteral, IsSameNumber, NamesFirst, Unescapes};
 
@@ -14,7 +14,7 @@ use meta_base::runtime::{FirstTree, TokenTree};
 use meta_syntax::trees::leading_tree;
 use std::alloc::{AllocError, Global};
 
-/// The first character of a text, and what follows it.
+/// Returns the first character of a text, and the rest.
 fn first(text: &str) -> Option<(char, &str)>
     ensures parts { MatchOption result (chars text.entry.now ≡ [])
         (λ x. chars text.entry.now ≡ x.0 ∷ chars x.1.now) }
@@ -28,26 +28,26 @@ fn first(text: &str) -> Option<(char, &str)>
     }
 }
 
-/// The number that one more hexadecimal digit makes of another, or, past the greatest scalar value,
-/// some number past it.
-fn extended(value: u32, digit: char) -> u32
+/// Appends one more hexadecimal digit to a number. Past the greatest scalar value the result is some
+/// number past it.
+fn append_digit(value: u32, digit: char) -> u32
     ensures { (n : ℕ) → IsSameNumber value n → IsSameNumber result (extended n digit) }
 {
     let digit = digit.to_digit(16).unwrap_or(0);
     value.saturating_mul(16).saturating_add(digit)
 }
 
-/// The number that two digits name, and what follows them.
+/// Returns the number that two hexadecimal digits name, and the rest after them.
 fn two_digits(text: &str) -> Option<(u32, &str)>
     ensures names { NamesFirst two_digits text.entry.now result }
     ensures shorter { IfSome result (λ x. length x.1.now < length text.entry.now) }
 {
     let (high, rest) = first(text)?;
     let (low, rest) = first(rest)?;
-    Some((extended(extended(0, high), low), rest))
+    Some((append_digit(append_digit(0, high), low), rest))
 }
 
-/// The number that digits up to a brace name, and what follows the brace.
+/// Returns the number that hexadecimal digits up to a brace name, and the rest after the brace.
 fn digits(text: &str) -> Option<(u32, &str)>
     ensures names { NamesFirst (digits 0) text.entry.now result }
     ensures shorter { IfSome result (λ x. length x.1.now < length text.entry.now) }
@@ -58,13 +58,14 @@ fn digits(text: &str) -> Option<(u32, &str)>
         if c == '}' {
             return Some((value, after));
         }
-        value = extended(value, c);
+        value = append_digit(value, c);
         rest = after;
     }
     None
 }
 
-/// The number that an escape names, by what follows its backslash, and what follows the escape.
+/// Returns the number that an escape names, given the text after its backslash, and the rest after the
+/// escape.
 fn escape(text: &str) -> Option<(u32, &str)>
     ensures names { NamesFirst escape text.entry.now result }
     ensures shorter { IfSome result (λ x. length x.1.now < length text.entry.now) }
@@ -84,7 +85,7 @@ fn escape(text: &str) -> Option<(u32, &str)>
     }
 }
 
-/// The text with its escapes read, or none where one names no character.
+/// Returns the text with its escapes read, or none where one names no character.
 fn unescape(alloc: Global, text: &str) -> Result<Option<String>, AllocError>
     ensures { IfOk result (λ o. Unescapes (λ s. chars (string_bytes s)) (chars text.now) o) }
 {
@@ -108,8 +109,8 @@ fn unescape(alloc: Global, text: &str) -> Result<Option<String>, AllocError>
     Ok(Some(read))
 }
 
-/// What a literal stands for, `quoted` being the trees in it: a quote, what is quoted, a quote.
-/// An escape that names no character is a flaw of the whole literal.
+/// Returns the text that a literal denotes, where the trees `quoted` in it are a quote, the quoted text
+/// and a quote. An escape that names no character is a flaw of the whole literal.
 pub fn literal<'i>(
     alloc: Global,
     text: &'i str,
@@ -118,7 +119,7 @@ pub fn literal<'i>(
 ) -> Result<String, ReadError<'i>>
     requires place { IsPiece text.now tree.start tree.end }
     requires shape { IsQuoted (named_trees_of quoted.now) }
-    requires nested { StandIn text.now (named_trees_of quoted.now) }
+    requires nested { AreInText text.now (named_trees_of quoted.now) }
     ensures { AnswersLiteral text.entry.now tree.entry.start tree.entry.end
         (named_trees_of quoted.now) result }
 {

@@ -1,14 +1,14 @@
-//! Postfix operators.
+//! Postfix operators and their numbers.
 ghost use Rattle.std.specs.Prelude.{◌≡◌, codes};
 ghost use Rattle.meta_base.specs.Pieces.NamedTrees.{named_trees_of};
 ghost use Rattle.meta_base.specs.Pieces.Span.{span_text};
-ghost use Rattle.meta_reader.specs.Pieces.{StandIn};
+ghost use Rattle.meta_reader.specs.Pieces.{AreInText};
 ghost use Rattle.meta_base.specs.Pieces.MetaRules.{name_of};
 ghost use Rattle.meta_syntax.specs.Shape.{ArePostfixes, IsCounted, IsPostfix};
 ghost use Rattle.meta_spanned.specs.Nodes.{view, view_at};
 ghost use Rattle.meta_spanned.specs.Spanned as spanned;
 ghost use Rattle.meta_spanned.specs.Spanned.{One, RepExact, RepMax, RepMin, RepMinMax};
-ghost use Rattle.meta_reader.specs.Views.{AnswersCount, AnswersPostfix, AnswersPostfixes, StandsBefore, operator_of};
+ghost use Rattle.meta_reader.specs.Views.{AnswersCount, AnswersPostfix, AnswersPostfixes, IsNodeBefore, operator_of};
 
 use crate::rules::flaws::ReadError;
 use crate::rules::pieces::{count, number, span_at};
@@ -19,10 +19,10 @@ use meta_spanned::{ParserExpr, ParserNode};
 use meta_syntax::trees::{first_tree, leading_tree};
 use std::alloc::Global;
 
-/// The count of `{n}`, by the trees in it. A number that fits no `u32` is a flaw, and so is 0.
+/// Returns the count of `{n}`, by the trees in it. A number that fits no `u32` is a flaw, and so is 0.
 fn exact<'i>(text: &'i str, inner: &[TokenTree<Rule>]) -> Result<u32, ReadError<'i>>
     requires shape { IsCounted text.now (codes "repeat_exact") (named_trees_of inner.now) }
-    requires nested { StandIn text.now (named_trees_of inner.now) }
+    requires nested { AreInText text.now (named_trees_of inner.now) }
     ensures { AnswersCount text.entry.now (codes "repeat_exact") (named_trees_of inner.now) RepExact result }
 {
     let brace = leading_tree(inner);
@@ -30,10 +30,10 @@ fn exact<'i>(text: &'i str, inner: &[TokenTree<Rule>]) -> Result<u32, ReadError<
     count(text, times)
 }
 
-/// The least number of `{n,}`, by the trees in it. A number that fits no `u32` is a flaw.
+/// Returns the least number of `{n,}`, by the trees in it. A number that fits no `u32` is a flaw.
 fn at_least<'i>(text: &'i str, inner: &[TokenTree<Rule>]) -> Result<u32, ReadError<'i>>
     requires shape { IsCounted text.now (codes "repeat_min") (named_trees_of inner.now) }
-    requires nested { StandIn text.now (named_trees_of inner.now) }
+    requires nested { AreInText text.now (named_trees_of inner.now) }
     ensures { AnswersCount text.entry.now (codes "repeat_min") (named_trees_of inner.now) RepMin result }
 {
     let brace = leading_tree(inner);
@@ -41,10 +41,11 @@ fn at_least<'i>(text: &'i str, inner: &[TokenTree<Rule>]) -> Result<u32, ReadErr
     number(text, least)
 }
 
-/// The greatest number of `{,n}`, by the trees in it. A number that fits no `u32` is a flaw, and so is 0.
+/// Returns the greatest number of `{,n}`, by the trees in it. A number that fits no `u32` is a flaw, and
+/// so is 0.
 fn at_most<'i>(text: &'i str, inner: &[TokenTree<Rule>]) -> Result<u32, ReadError<'i>>
     requires shape { IsCounted text.now (codes "repeat_max") (named_trees_of inner.now) }
-    requires nested { StandIn text.now (named_trees_of inner.now) }
+    requires nested { AreInText text.now (named_trees_of inner.now) }
     ensures { AnswersCount text.entry.now (codes "repeat_max") (named_trees_of inner.now) RepMax result }
 {
     let brace = leading_tree(inner);
@@ -53,11 +54,11 @@ fn at_most<'i>(text: &'i str, inner: &[TokenTree<Rule>]) -> Result<u32, ReadErro
     count(text, most)
 }
 
-/// The numbers of `{m,n}`, by the trees in it. A number that fits no `u32` is a flaw, and so is 0 as
-/// the second.
-fn between<'i>(text: &'i str, inner: &[TokenTree<Rule>]) -> Result<(u32, u32), ReadError<'i>>
+/// Returns the numbers of `{m,n}`, by the trees in it. A number that fits no `u32` is a flaw, and so is 0
+/// as the second.
+fn least_and_most<'i>(text: &'i str, inner: &[TokenTree<Rule>]) -> Result<(u32, u32), ReadError<'i>>
     requires shape { IsCounted text.now (codes "repeat_min_max") (named_trees_of inner.now) }
-    requires nested { StandIn text.now (named_trees_of inner.now) }
+    requires nested { AreInText text.now (named_trees_of inner.now) }
     ensures { AnswersCount text.entry.now (codes "repeat_min_max") (named_trees_of inner.now)
         (λ n. RepMinMax n.0 n.1) result }
 {
@@ -70,7 +71,7 @@ fn between<'i>(text: &'i str, inner: &[TokenTree<Rule>]) -> Result<(u32, u32), R
     Ok((least, most))
 }
 
-/// How often what stands before a postfix operator may come.
+/// The number of repetitions that a postfix operator allows.
 #[derive(Clone, Copy)]
 pub enum Times {
     /// `?`: once or not at all.
@@ -89,10 +90,11 @@ pub enum Times {
     Between(u32, u32),
 }
 
-/// What a postfix operator says, or the first flaw of the numbers in it.
+/// Returns the number of repetitions that a postfix operator allows, or the first flaw of the numbers in
+/// it.
 fn times_of<'i>(text: &'i str, operator: FirstTree<'_, Rule>) -> Result<Times, ReadError<'i>>
     requires shape { IsPostfix text.now (name_of operator.rule) (named_trees_of operator.inner.now) }
-    requires nested { StandIn text.now (named_trees_of operator.inner.now) }
+    requires nested { AreInText text.now (named_trees_of operator.inner.now) }
     ensures { AnswersCount text.entry.now (name_of operator.entry.rule)
         (named_trees_of operator.entry.inner.now) operator_of result }
 {
@@ -105,15 +107,15 @@ fn times_of<'i>(text: &'i str, operator: FirstTree<'_, Rule>) -> Result<Times, R
         Rule::repeat_min => Ok(Times::AtLeast(at_least(text, inner)?)),
         Rule::repeat_max => Ok(Times::AtMost(at_most(text, inner)?)),
         Rule::repeat_min_max => {
-            let (least, most) = between(text, inner)?;
+            let (least, most) = least_and_most(text, inner)?;
             Ok(Times::Between(least, most))
         }
         _ => unreachable!(),
     }
 }
 
-/// A node that may come so often.
-fn repeated<'i>(times: Times, node: Box<ParserNode<'i>>) -> ParserExpr<'i>
+/// Makes an expression that repeats a node `times`.
+fn repeat_node<'i>(times: Times, node: Box<ParserNode<'i>>) -> ParserExpr<'i>
     ensures { (place : spanned.Span) → view_at place result
         ≡ One place (operator_of times) (view node.entry.value) }
 {
@@ -128,42 +130,42 @@ fn repeated<'i>(times: Times, node: Box<ParserNode<'i>>) -> ParserExpr<'i>
     }
 }
 
-/// What a postfix operator makes of a node: `span` is where it stands with the node.
-fn postfix<'i>(
+/// Applies a postfix operator to a node. `span` is that of the node with the operator.
+fn apply_postfix<'i>(
     alloc: Global,
     node: ParserNode<'i>,
     span: Span<'i>,
     operator: FirstTree<'_, Rule>,
 ) -> Result<ParserNode<'i>, ReadError<'i>>
     requires shape { IsPostfix (span_text span) (name_of operator.rule) (named_trees_of operator.inner.now) }
-    requires nested { StandIn (span_text span) (named_trees_of operator.inner.now) }
+    requires nested { AreInText (span_text span) (named_trees_of operator.inner.now) }
     ensures { AnswersPostfix span.entry operator.entry node.entry result }
 {
     let node = Deep { value: node };
     let times = times_of(span.get_input(), operator)?;
-    let node = node.boxed(alloc)?.into_inner();
+    let node = node.into_box(alloc)?.into_inner();
     Ok(ParserNode {
-        expr: repeated(times, node),
+        expr: repeat_node(times, node),
         span,
     })
 }
 
-/// What the postfix operators behind a node make of it, or their first flaw.
-pub fn postfixed<'i>(
+/// Applies the postfix operators after a node, one after another, and reports their first flaw.
+pub fn apply_postfixes<'i>(
     alloc: Global,
     text: &'i str,
     operand: ParserNode<'i>,
     operators: &[TokenTree<Rule>],
 ) -> Result<ParserNode<'i>, ReadError<'i>>
     requires shape { ArePostfixes text.now (named_trees_of operators.now) }
-    requires place { StandsBefore text.now operand (named_trees_of operators.now) }
+    requires place { IsNodeBefore text.now operand (named_trees_of operators.now) }
     ensures { AnswersPostfixes text.entry.now (named_trees_of operators.now) operand.entry result }
 {
     let mut node = operand;
     let mut rest = operators;
     while let Some(operator) = first_tree(rest) {
         let span = span_at(text, node.span.start(), operator.end);
-        node = postfix(alloc, node, span, operator)?;
+        node = apply_postfix(alloc, node, span, operator)?;
         rest = operator.others;
     }
     Ok(node)

@@ -13,7 +13,7 @@ use crate::rules::flaws::{Cause, Flaw, ReadError};
 use meta_base::grammar::Rule;
 use meta_base::runtime::{FirstTree, Span};
 
-/// The piece of the text from the byte `start` to the byte `end`.
+/// Returns the span of the text from the byte `start` to the byte `end`.
 pub fn span_at<'i>(text: &'i str, start: usize, end: usize) -> Span<'i>
     requires { IsPiece text.now start end }
     ensures { piece_of result ≡ piece text.entry.now start end }
@@ -21,7 +21,7 @@ pub fn span_at<'i>(text: &'i str, start: usize, end: usize) -> Span<'i>
     Span::of(text, start, end)
 }
 
-/// The piece of the text that a tree stands for.
+/// Returns the span of a tree.
 pub fn span_of<'i>(text: &'i str, tree: FirstTree<'_, Rule>) -> Span<'i>
     requires { IsPiece text.now tree.start tree.end }
     ensures { piece_of result ≡ piece text.entry.now tree.entry.start tree.entry.end }
@@ -29,7 +29,7 @@ pub fn span_of<'i>(text: &'i str, tree: FirstTree<'_, Rule>) -> Span<'i>
     span_at(text, tree.start, tree.end)
 }
 
-/// The text that a tree stands for.
+/// Returns the text of a tree.
 pub fn text_of<'i>(text: &'i str, tree: FirstTree<'_, Rule>) -> &'i str
     requires { IsPiece text.now tree.start tree.end }
     ensures { result.now ≡ slice_range text.entry.now tree.entry.start tree.entry.end }
@@ -37,14 +37,14 @@ pub fn text_of<'i>(text: &'i str, tree: FirstTree<'_, Rule>) -> &'i str
     &text[tree.start..tree.end]
 }
 
-/// The error that a flaw is.
+/// Makes the error of a flaw.
 pub fn error_of<'i>(cause: Cause, span: Span<'i>) -> ReadError<'i>
     ensures { result ≡ Found (record { cause = cause; span = span.entry }) }
 {
     ReadError::Found(Flaw { cause, span })
 }
 
-/// The number that a tree stands for, as how often at least. One that fits no `u32` is a flaw.
+/// Returns the number of a tree, as the least number of repetitions. One that fits no `u32` is a flaw.
 pub fn number<'i>(text: &'i str, tree: FirstTree<'_, Rule>) -> Result<u32, ReadError<'i>>
     requires place { IsPiece text.now tree.start tree.end }
     requires digits { IsNumber text.now tree.start tree.end }
@@ -57,7 +57,8 @@ pub fn number<'i>(text: &'i str, tree: FirstTree<'_, Rule>) -> Result<u32, ReadE
     }
 }
 
-/// The number that a tree stands for, as how often at most. One that fits no `u32` is a flaw, and so is 0.
+/// Returns the number of a tree, as the greatest number of repetitions. One that fits no `u32` is a flaw,
+/// and so is 0.
 pub fn count<'i>(text: &'i str, tree: FirstTree<'_, Rule>) -> Result<u32, ReadError<'i>>
     requires place { IsPiece text.now tree.start tree.end }
     requires digits { IsNumber text.now tree.start tree.end }
@@ -71,7 +72,7 @@ pub fn count<'i>(text: &'i str, tree: FirstTree<'_, Rule>) -> Result<u32, ReadEr
     Ok(n)
 }
 
-/// The number of a slice that a tree stands for. One that fits no `i32` is a flaw.
+/// Returns the number of a slice that a tree spells. One that fits no `i32` is a flaw.
 pub fn slice_number<'i>(text: &'i str, tree: FirstTree<'_, Rule>) -> Result<i32, ReadError<'i>>
     requires place { IsPiece text.now tree.start tree.end }
     requires digits { IsInteger text.now tree.start tree.end }

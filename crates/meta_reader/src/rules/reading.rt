@@ -1,23 +1,24 @@
-//! From trees to nodes.
+//! Iterative recursive descent: reads spanned expressions from token trees, with a list of levels as its
+//! stack.
 ghost use Rattle.std.specs.Prelude.{◌≡◌, ◌≢◌, ◌<◌, ◌+◌, ℕ, List, IfOk, IfSome, MatchOption, MatchResult};
 ghost use Rattle.meta_base.specs.Language.State.{Trees, None'};
 ghost use Rattle.meta_base.specs.Pieces.NamedTrees.{named_trees_of};
 ghost use Rattle.meta_base.specs.Pieces.Span.{span_start, span_end};
 ghost use Rattle.meta_reader.specs.Flaws.{first_flaw};
-ghost use Rattle.meta_reader.specs.Pieces.{IsPiece, StandIn};
+ghost use Rattle.meta_reader.specs.Pieces.{IsPiece, AreInText};
 ghost use Rattle.meta_reader.specs.Reading.{ATerm, AnExpression, both};
 ghost use Rattle.meta_reader.specs.Levels.{GoesOn, HoldsNoExpression, IsAlternative, IsAlternativeRead, IsOperandRead, IsInsideRead, IsLevelRead, IsTermBeside, IsTermRead, Opens, node_view, together, waits_of, work_of};
 ghost use Rattle.meta_reader.specs.Signs.{IsOperand};
 ghost use Rattle.meta_syntax.specs.Shape.{IsExpression, IsMore};
 ghost use Rattle.meta_spanned.specs.Spanned.{Span, Two};
-ghost use Rattle.meta_reader.specs.Views.{IsFirst, TakesTerm, IsBehindBar, IsRest, ReadsAs, all_from, binary_of, count_of};
+ghost use Rattle.meta_reader.specs.Views.{IsFirst, TakesTerm, IsAfterBar, IsRest, ReadsAs, all_from, binary_of, count_of};
 ghost use Rattle.meta_spanned.specs.Nodes.{view, view_at};
 
 use crate::rules::flaws::ReadError;
-use crate::rules::levels::{Beside, Level, Next, Within};
-use crate::rules::operators::postfixed;
+use crate::rules::levels::{Enclosure, Level, Next, TermContext};
+use crate::rules::operators::apply_postfixes;
 use crate::rules::pieces::span_at;
-use crate::rules::signs::{Sign, behind_signs, with_signs};
+use crate::rules::signs::{Sign, take_signs, with_signs};
 use crate::rules::terminals::terminal;
 use meta_ast::deep::Deep;
 use meta_base::grammar::Rule;
@@ -35,7 +36,7 @@ pub enum Infix {
     Choice,
 }
 
-/// What an operator makes of two nodes, wherever they stand.
+/// Makes an expression of two nodes and the operator between them.
 fn operation<'i>(
     operator: Infix,
     left: Box<ParserNode<'i>>,
@@ -50,8 +51,8 @@ fn operation<'i>(
     }
 }
 
-/// Two nodes with an operator between them, from the start of the left to the end of the right.
-fn combined<'i>(
+/// Combines two nodes by an operator, from the start of the left to the end of the right.
+fn combine<'i>(
     alloc: Global,
     text: &'i str,
     operator: Infix,
@@ -63,17 +64,17 @@ fn combined<'i>(
         ≡ both text.entry.now (binary_of operator) (view left.entry.value) (view right.entry.value)) }
 {
     let span = span_at(text, left.value.span.start(), right.value.span.end());
-    let left = left.boxed(alloc)?;
-    let right = right.boxed(alloc)?;
+    let left = left.into_box(alloc)?;
+    let right = right.into_box(alloc)?;
     let expr = operation(operator, left.into_inner(), right.into_inner());
     let value = ParserNode { expr, span };
     Ok(Deep { value })
 }
 
-/// The alternatives of an expression, without a bar before the first.
-fn behind_bar(trees: &[TokenTree<Rule>]) -> &[TokenTree<Rule>]
+/// Skips a bar before the first alternative of an expression.
+fn skip_bar(trees: &[TokenTree<Rule>]) -> &[TokenTree<Rule>]
     ensures { (text : List ℕ) → IsExpression text (named_trees_of trees.entry.now)
-        → IsBehindBar text (named_trees_of trees.entry.now) (named_trees_of result.now) }
+        → IsAfterBar text (named_trees_of trees.entry.now) (named_trees_of result.now) }
 {
     let Some(tree) = first_tree(trees) else {
         return trees;
@@ -84,7 +85,8 @@ fn behind_bar(trees: &[TokenTree<Rule>]) -> &[TokenTree<Rule>]
     }
 }
 
-/// The trees in the next term of a sequence, and what follows it, where a tilde goes before it.
+/// Returns the trees in the next term of a sequence and the trees after it, where a tilde comes before
+/// it.
 fn next_term(trees: &[TokenTree<Rule>]) -> Option<(&[TokenTree<Rule>], &[TokenTree<Rule>])>
     ensures { (text : List ℕ) → IsMore text (named_trees_of trees.entry.now)
         → MatchOption result (IsRest text (named_trees_of trees.entry.now))
@@ -103,7 +105,8 @@ fn next_term(trees: &[TokenTree<Rule>]) -> Option<(&[TokenTree<Rule>], &[TokenTr
     Some((term.inner, term.others))
 }
 
-/// A node and what stands before it, with an operator between them; the node itself where nothing does.
+/// Combines a node with the one before it by an operator; answers the node itself where none is before
+/// it.
 fn together<'i>(
     alloc: Global,
     text: &'i str,
@@ -117,12 +120,12 @@ fn together<'i>(
         ≡ together text.entry.now (binary_of operator) (node_view before.entry) (view node.entry.value)) }
 {
     match before {
-        Some(left) => combined(alloc, text, operator, left, node),
+        Some(left) => combine(alloc, text, operator, left, node),
         None => Ok(node),
     }
 }
 
-/// The first term of an alternative is next. `choice` is what is read before the alternative.
+/// Begins an alternative with its first term. `choice` is the node of the alternatives before it.
 fn first_term<'i, 't>(
     choice: Option<Deep<ParserNode<'i>>>,
     trees: &'t [TokenTree<Rule>],
@@ -134,7 +137,7 @@ fn first_term<'i, 't>(
     ensures work { work_of result < count_of (named_trees_of trees.entry.now) }
 {
     let term = leading_tree(trees);
-    let beside = Beside {
+    let beside = TermContext {
         choice,
         sequence: None,
         rest: term.others,
@@ -142,8 +145,8 @@ fn first_term<'i, 't>(
     Next::Term(beside, term.inner)
 }
 
-/// What is next where the alternative at hand is read, and `rest` is behind it.
-fn behind_alternative<'i, 't>(
+/// Goes on after an alternative, with the trees `rest` after it.
+fn finish_alternative<'i, 't>(
     alloc: Global,
     text: &'i str,
     choice: Option<Deep<ParserNode<'i>>>,
@@ -163,11 +166,11 @@ fn behind_alternative<'i, 't>(
     }
 }
 
-/// What is next where the term at hand is read.
-fn behind_term<'i, 't>(
+/// Goes on after a term.
+fn finish_term<'i, 't>(
     alloc: Global,
     text: &'i str,
-    beside: Beside<'i, 't>,
+    beside: TermContext<'i, 't>,
     node: ParserNode<'i>,
 ) -> Result<Next<'i, 't>, AllocError>
     requires { (us : Trees) × IsTermRead text.now us beside node }
@@ -175,7 +178,7 @@ fn behind_term<'i, 't>(
         → IfOk result (GoesOn text.entry.now us) }
     ensures work { IfOk result (λ next. work_of next < waits_of beside.entry) }
 {
-    let Beside {
+    let TermContext {
         choice,
         sequence,
         rest,
@@ -183,22 +186,22 @@ fn behind_term<'i, 't>(
     let sequence = together(alloc, text, Infix::Sequence, sequence, Deep { value: node })?;
     match next_term(rest) {
         Some((inner, after)) => {
-            let beside = Beside {
+            let beside = TermContext {
                 choice,
                 sequence: Some(sequence),
                 rest: after,
             };
             Ok(Next::Term(beside, inner))
         }
-        None => behind_alternative(alloc, text, choice, sequence, rest),
+        None => finish_alternative(alloc, text, choice, sequence, rest),
     }
 }
 
-/// What is next where a term's operand is read.
-fn behind_operand<'i, 't>(
+/// Goes on after a term's operand.
+fn finish_operand<'i, 't>(
     alloc: Global,
     text: &'i str,
-    beside: Beside<'i, 't>,
+    beside: TermContext<'i, 't>,
     signs: Vec<Sign<'i>>,
     operand: ParserNode<'i>,
 ) -> Result<Next<'i, 't>, AllocError>
@@ -209,14 +212,14 @@ fn behind_operand<'i, 't>(
     ensures work { IfOk result (λ next. work_of next < waits_of beside.entry) }
 {
     let node = with_signs(alloc, operand, signs)?;
-    behind_term(alloc, text, beside, node)
+    finish_term(alloc, text, beside, node)
 }
 
-/// What an operand, which begins with a tree, puts round an expression, the trees in the expression and
-/// the postfix operators behind it; none where it holds no expression.
+/// Destructures an operand that begins with a tree into its wrapper round an expression, the trees in the
+/// expression and the postfix operators after the operand; answers none where it holds no expression.
 fn inner_of<'t>(
     tree: FirstTree<'t, Rule>,
-) -> Option<(Within, &'t [TokenTree<Rule>], &'t [TokenTree<Rule>])>
+) -> Option<(Enclosure, &'t [TokenTree<Rule>], &'t [TokenTree<Rule>])>
     requires { (text : List ℕ) × IsOperand text (all_from tree) }
     ensures { (text : List ℕ) → IsOperand text (all_from tree.entry)
         → MatchOption result (HoldsNoExpression text tree.entry)
@@ -226,7 +229,7 @@ fn inner_of<'t>(
         Rule::opening_paren => {
             let body = leading_tree(tree.others);
             let close = leading_tree(body.others);
-            let within = Within::Parentheses {
+            let within = Enclosure::Parentheses {
                 start: tree.start,
                 end: close.end,
             };
@@ -235,32 +238,33 @@ fn inner_of<'t>(
         Rule::_push => {
             let paren = leading_tree(tree.inner);
             let body = leading_tree(paren.others);
-            let within = Within::Push { start: tree.start };
+            let within = Enclosure::Push { start: tree.start };
             Some((within, body.inner, tree.others))
         }
         _ => None,
     }
 }
 
-/// An operand that holds no expression, by its trees, or its first flaw.
+/// Reads an operand that holds no expression from its trees, and reports its first flaw.
 fn operand<'i>(
     alloc: Global,
     text: &'i str,
     tree: FirstTree<'_, Rule>,
 ) -> Result<ParserNode<'i>, ReadError<'i>>
     requires shape { HoldsNoExpression text.now tree }
-    requires nested { StandIn text.now (all_from tree) }
+    requires nested { AreInText text.now (all_from tree) }
     ensures { ReadsAs text.entry.now ATerm (all_from tree.entry) result }
 {
     let node = terminal(alloc, text, tree)?;
-    postfixed(alloc, text, node, tree.others)
+    apply_postfixes(alloc, text, node, tree.others)
 }
 
-/// What is next where a term is to be read, by the trees in it; or the first flaw of its operand.
+/// Reads the signs of a term from the trees in it, and its operand where that holds no expression.
+/// Reports the operand's first flaw.
 fn term<'i, 't>(
     alloc: Global,
     text: &'i str,
-    beside: Beside<'i, 't>,
+    beside: TermContext<'i, 't>,
     trees: &'t [TokenTree<Rule>],
 ) -> Result<Next<'i, 't>, ReadError<'i>>
     requires { (us : Trees) × IsTermBeside text.now us beside (named_trees_of trees.now) }
@@ -270,7 +274,7 @@ fn term<'i, 't>(
     ensures work { IfOk result (λ next. work_of next
         < waits_of beside.entry + count_of (named_trees_of trees.entry.now)) }
 {
-    let (signs, rest) = behind_signs(alloc, text, trees)?;
+    let (signs, rest) = take_signs(alloc, text, trees)?;
     let tree = leading_tree(rest);
     match inner_of(tree) {
         Some((within, inner, postfixes)) => {
@@ -284,14 +288,14 @@ fn term<'i, 't>(
         }
         None => {
             let node = operand(alloc, text, tree)?;
-            Ok(behind_operand(alloc, text, beside, signs, node)?)
+            Ok(finish_operand(alloc, text, beside, signs, node)?)
         }
     }
 }
 
-/// An expression in parentheses with the postfix operators behind them, or their first flaw. The
-/// outermost node begins with the first parenthesis, and the expression ends with the second.
-fn in_parentheses<'i>(
+/// Closes an expression in parentheses, applies the postfix operators after it, and reports their first
+/// flaw. The outermost node begins with the first parenthesis, and the expression ends with the second.
+fn close_parentheses<'i>(
     alloc: Global,
     text: &'i str,
     start: usize,
@@ -300,22 +304,22 @@ fn in_parentheses<'i>(
     postfixes: &[TokenTree<Rule>],
 ) -> Result<ParserNode<'i>, ReadError<'i>>
     requires { (us : Trees)
-        × IsInsideRead text.now us (Within.Parentheses start end) inside (named_trees_of postfixes.now) }
+        × IsInsideRead text.now us (Enclosure.Parentheses start end) inside (named_trees_of postfixes.now) }
     ensures { (us : Trees)
-        → IsInsideRead text.entry.now us (Within.Parentheses start end) inside.entry
+        → IsInsideRead text.entry.now us (Enclosure.Parentheses start end) inside.entry
         (named_trees_of postfixes.now)
         → ReadsAs text.entry.now ATerm us result }
 {
     let mut inside = inside;
     inside.span = span_at(text, inside.span.start(), end);
-    let mut node = postfixed(alloc, text, inside, postfixes)?;
+    let mut node = apply_postfixes(alloc, text, inside, postfixes)?;
     node.span = span_at(text, start, node.span.end());
     Ok(node)
 }
 
-/// What `PUSH` makes of the expression in it, with the postfix operators behind, or their first flaw.
-/// It ends where the expression does.
-fn pushed<'i>(
+/// Makes the `PUSH` of an expression, applies the postfix operators after it, and reports their first
+/// flaw. `PUSH` ends where the expression does.
+fn close_push<'i>(
     alloc: Global,
     text: &'i str,
     start: usize,
@@ -323,25 +327,25 @@ fn pushed<'i>(
     postfixes: &[TokenTree<Rule>],
 ) -> Result<ParserNode<'i>, ReadError<'i>>
     requires { (us : Trees)
-        × IsInsideRead text.now us (Within.Push start) inside (named_trees_of postfixes.now) }
+        × IsInsideRead text.now us (Enclosure.Push start) inside (named_trees_of postfixes.now) }
     ensures { (us : Trees)
-        → IsInsideRead text.entry.now us (Within.Push start) inside.entry (named_trees_of postfixes.now)
+        → IsInsideRead text.entry.now us (Enclosure.Push start) inside.entry (named_trees_of postfixes.now)
         → ReadsAs text.entry.now ATerm us result }
 {
     let span = span_at(text, start, inside.span.end());
-    let inside = Deep { value: inside }.boxed(alloc)?;
+    let inside = Deep { value: inside }.into_box(alloc)?;
     let node = ParserNode {
         expr: ParserExpr::Push(inside.into_inner()),
         span,
     };
-    postfixed(alloc, text, node, postfixes)
+    apply_postfixes(alloc, text, node, postfixes)
 }
 
-/// An operand whose inner expression is read, or the first flaw of its postfix operators.
-fn closed<'i>(
+/// Closes an operand whose inner expression is read, and reports the first flaw of its postfix operators.
+fn close_operand<'i>(
     alloc: Global,
     text: &'i str,
-    within: Within,
+    within: Enclosure,
     inside: ParserNode<'i>,
     postfixes: &[TokenTree<Rule>],
 ) -> Result<ParserNode<'i>, ReadError<'i>>
@@ -351,15 +355,15 @@ fn closed<'i>(
         → ReadsAs text.entry.now ATerm us result }
 {
     match within {
-        Within::Parentheses { start, end } => {
-            in_parentheses(alloc, text, start, end, inside, postfixes)
+        Enclosure::Parentheses { start, end } => {
+            close_parentheses(alloc, text, start, end, inside, postfixes)
         }
-        Within::Push { start } => pushed(alloc, text, start, inside, postfixes),
+        Enclosure::Push { start } => close_push(alloc, text, start, inside, postfixes),
     }
 }
 
-/// What is next where the expression in a term is read; or the first flaw of the postfix operators.
-fn behind_level<'i, 't>(
+/// Goes on after the expression in a term, and reports the first flaw of the postfix operators.
+fn finish_level<'i, 't>(
     alloc: Global,
     text: &'i str,
     level: Level<'i, 't>,
@@ -376,31 +380,32 @@ fn behind_level<'i, 't>(
         within,
         postfixes,
     } = level;
-    let node = closed(alloc, text, within, inside, postfixes)?;
-    Ok(behind_operand(alloc, text, beside, signs, node)?)
+    let node = close_operand(alloc, text, within, inside, postfixes)?;
+    Ok(finish_operand(alloc, text, beside, signs, node)?)
 }
 
-/// An expression, by the trees in it, or its first flaw. Expressions within one another lie in a list.
+/// Reads an expression from the trees in it, and reports its first flaw. Nesting takes memory in a list,
+/// and no stack space.
 pub fn expression<'i>(
     alloc: Global,
     text: &'i str,
     trees: &[TokenTree<Rule>],
 ) -> Result<ParserNode<'i>, ReadError<'i>>
     requires shape { IsExpression text.now (named_trees_of trees.now) }
-    requires nested { StandIn text.now (named_trees_of trees.now) }
+    requires nested { AreInText text.now (named_trees_of trees.now) }
     ensures { ReadsAs text.entry.now AnExpression (named_trees_of trees.now) result }
 {
     let mut levels = Vec::new(alloc);
-    let mut next = first_term(None, behind_bar(trees));
+    let mut next = first_term(None, skip_bar(trees));
     'terms: loop {
         match next {
             Next::Term(beside, trees) => next = term(alloc, text, beside, trees)?,
             Next::Inner(level, trees) => {
                 levels.push(level)?;
-                next = first_term(None, behind_bar(trees));
+                next = first_term(None, skip_bar(trees));
             }
             Next::Done(node) => match levels.pop() {
-                Some(level) => next = behind_level(alloc, text, level, node)?,
+                Some(level) => next = finish_level(alloc, text, level, node)?,
                 None => return Ok(node),
             },
         }

@@ -1,4 +1,4 @@
-//! What errors call the rules of the meta-grammar.
+//! The names of the meta-grammar's rules that errors show.
 ghost use Rattle.std.specs.Prelude.{◌≡◌, alloc_error, string_bytes, MatchResult};
 ghost use Rattle.meta_reader.specs.ShownNames.{shown_name};
 
@@ -6,21 +6,21 @@ use meta_base::grammar::Rule;
 use meta_base::runtime::Fault;
 use std::alloc::Global;
 
-/// What errors call a rule: `rule`, `PUSH` and `PUSH_LITERAL`; a mark between grave accents for what is
-/// written as one; `//!` and `///` for the comments that document; its own name for any other, `EOI`
-/// included.
+/// Returns the name of a rule that errors show: `rule`, `PUSH` and `PUSH_LITERAL`; a mark between grave
+/// accents where a rule is written as one; `//!` and `///` for the comments that document; the rule's own
+/// name for any other, `EOI` included.
 ///
-/// The only fault is a want of memory.
+/// The only fault is an allocation failure.
 pub fn rename_meta_rule(alloc: Global, rule: &Rule) -> Result<String, Fault>
     ensures { MatchResult result
         (λ name. string_bytes name ≡ shown_name rule.now)
         (λ fault. fault ≡ Fault.Memory alloc_error) }
 {
-    Ok(String::from_str(alloc, shown(*rule))?)
+    Ok(String::from_str(alloc, meta_rule_name(*rule))?)
 }
 
-/// What errors call a rule.
-fn shown(rule: Rule) -> &'static str
+/// Returns the name of a rule that errors show.
+fn meta_rule_name(rule: Rule) -> &'static str
     ensures { result.now ≡ shown_name rule }
 {
     match rule {

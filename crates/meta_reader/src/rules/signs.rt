@@ -1,12 +1,12 @@
-//! The signs of predicates and the tags before what they stand for.
+//! The signs of predicates and the tags before their operands.
 ghost use Rattle.std.specs.Prelude.{◌≡◌, All, IfOk, chars};
 ghost use Rattle.meta_base.specs.Pieces.NamedTrees.{named_trees_of};
 ghost use Rattle.meta_base.specs.Pieces.Span.{span_end, span_text};
 ghost use Rattle.meta_spanned.specs.Nodes.{view, view_at};
 ghost use Rattle.meta_spanned.specs.Spanned.{One, Span};
-ghost use Rattle.meta_reader.specs.Pieces.{IsPiece, StandIn};
+ghost use Rattle.meta_reader.specs.Pieces.{IsPiece, AreInText};
 ghost use Rattle.meta_reader.specs.Reading.{tag_name};
-ghost use Rattle.meta_reader.specs.Signs.{IsBehindSigns, sign_of, signed};
+ghost use Rattle.meta_reader.specs.Signs.{IsAfterSigns, sign_of, signed};
 ghost use Rattle.meta_syntax.specs.Shape.{IsTerm};
 
 use crate::rules::pieces::{span_at, text_of};
@@ -17,7 +17,7 @@ use meta_spanned::{ParserExpr, ParserNode};
 use meta_syntax::trees::first_tree;
 use std::alloc::{AllocError, Global};
 
-/// What a sign before an operand is.
+/// The kind of a sign before an operand.
 #[derive(Clone, Copy)]
 pub enum SignKind<'i> {
     /// `&`
@@ -28,14 +28,14 @@ pub enum SignKind<'i> {
     Tag(&'i str),
 }
 
-/// A sign before an operand, and where it begins.
+/// A sign before an operand, and the byte position where it begins.
 #[derive(Clone, Copy)]
 pub struct Sign<'i> {
     pub kind: SignKind<'i>,
     pub start: usize,
 }
 
-/// The name of a tag: what is behind its `#`.
+/// Returns the name of a tag, without its `#`.
 fn tag_name<'i>(text: &'i str, tag: FirstTree<'_, Rule>) -> &'i str
     requires { IsPiece text.now tag.start tag.end }
     ensures { chars result.now ≡ tag_name text.entry.now tag.entry.start tag.entry.end }
@@ -47,15 +47,16 @@ fn tag_name<'i>(text: &'i str, tag: FirstTree<'_, Rule>) -> &'i str
     }
 }
 
-/// The signs of predicates and the tags in a term, the first first, and what is behind them.
-pub fn behind_signs<'i, 't>(
+/// Collects the signs of predicates and the tags in a term, the first first, and returns the trees after
+/// them.
+pub fn take_signs<'i, 't>(
     alloc: Global,
     text: &'i str,
     trees: &'t [TokenTree<Rule>],
 ) -> Result<(Vec<Sign<'i>>, &'t [TokenTree<Rule>]), AllocError>
     requires shape { IsTerm text.now (named_trees_of trees.now) }
-    requires nested { StandIn text.now (named_trees_of trees.now) }
-    ensures { IfOk result (λ x. IsBehindSigns text.entry.now (named_trees_of trees.entry.now)
+    requires nested { AreInText text.now (named_trees_of trees.now) }
+    ensures { IfOk result (λ x. IsAfterSigns text.entry.now (named_trees_of trees.entry.now)
         x.0.items (named_trees_of x.1.now)) }
 {
     let mut signs = Vec::new(alloc);
@@ -92,7 +93,7 @@ pub fn behind_signs<'i, 't>(
     Ok((signs, rest))
 }
 
-/// What a sign makes of a node.
+/// Applies a sign to a node.
 fn signed_by<'i>(
     alloc: Global,
     kind: SignKind<'_>,
@@ -102,16 +103,17 @@ fn signed_by<'i>(
         ≡ One place (sign_of kind.entry) (view node.entry.value)) }
 {
     match kind {
-        SignKind::Positive => Ok(ParserExpr::PosPred(node.boxed(alloc)?.into_inner())),
-        SignKind::Negative => Ok(ParserExpr::NegPred(node.boxed(alloc)?.into_inner())),
+        SignKind::Positive => Ok(ParserExpr::PosPred(node.into_box(alloc)?.into_inner())),
+        SignKind::Negative => Ok(ParserExpr::NegPred(node.into_box(alloc)?.into_inner())),
         SignKind::Tag(tag) => {
             let tag = String::from_str(alloc, tag)?;
-            Ok(ParserExpr::NodeTag(node.boxed(alloc)?.into_inner(), tag))
+            Ok(ParserExpr::NodeTag(node.into_box(alloc)?.into_inner(), tag))
         }
     }
 }
 
-/// A node with predicates and tags round it, by their signs, the first first. Each ends where the node does.
+/// Wraps a node in predicates and tags, given their signs, the first first. All of them end where the
+/// node does.
 pub fn with_signs<'i>(
     alloc: Global,
     operand: ParserNode<'i>,

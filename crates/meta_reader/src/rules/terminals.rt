@@ -1,7 +1,7 @@
 //! Nodes that hold no expression.
 ghost use Rattle.std.specs.Prelude.{codes};
 ghost use Rattle.meta_base.specs.Pieces.NamedTrees.{named_trees_of};
-ghost use Rattle.meta_reader.specs.Pieces.{StandIn};
+ghost use Rattle.meta_reader.specs.Pieces.{AreInText};
 ghost use Rattle.meta_reader.specs.Reading.{ANode};
 ghost use Rattle.meta_base.specs.Pieces.MetaRules.{name_of};
 ghost use Rattle.meta_syntax.specs.Shape.{IsSlice, IsTerminal, MayBeNumber};
@@ -16,14 +16,14 @@ use meta_spanned::{ParserExpr, ParserNode};
 use meta_syntax::trees::leading_tree;
 use std::alloc::Global;
 
-/// A range. A flaw is its literals'.
+/// Reads a range. Its flaws are those of its literals.
 fn range<'i>(
     alloc: Global,
     text: &'i str,
     tree: FirstTree<'_, Rule>,
 ) -> Result<ParserNode<'i>, ReadError<'i>>
     requires shape { IsTerminal text.now (codes "range") (named_trees_of tree.inner.now) }
-    requires nested { StandIn text.now (alone_as (codes "range") tree) }
+    requires nested { AreInText text.now (alone_as (codes "range") tree) }
     ensures { ReadsAs text.entry.now ANode (alone_as (codes "range") tree.entry) result }
 {
     let first = leading_tree(tree.inner);
@@ -37,13 +37,14 @@ fn range<'i>(
     })
 }
 
-/// The number that may stand first, and what follows it. A number that fits no `i32` is a flaw.
-fn bound<'i, 't>(
+/// Takes the number that may come first, and returns it with the trees after it. A number that fits no
+/// `i32` is a flaw.
+fn take_bound<'i, 't>(
     text: &'i str,
     trees: &'t [TokenTree<Rule>],
 ) -> Result<(Option<i32>, &'t [TokenTree<Rule>]), ReadError<'i>>
     requires shape { MayBeNumber text.now (named_trees_of trees.now) }
-    requires nested { StandIn text.now (named_trees_of trees.now) }
+    requires nested { AreInText text.now (named_trees_of trees.now) }
     ensures { AnswersBound text.entry.now (named_trees_of trees.entry.now) result }
 {
     let tree = leading_tree(trees);
@@ -56,30 +57,30 @@ fn bound<'i, 't>(
     }
 }
 
-/// A slice of the stack. A flaw is its numbers'.
+/// Reads a slice of the stack. Its flaws are those of its numbers.
 fn slice<'i>(text: &'i str, tree: FirstTree<'_, Rule>) -> Result<ParserNode<'i>, ReadError<'i>>
     requires shape { IsSlice text.now (named_trees_of tree.inner.now) }
-    requires nested { StandIn text.now (alone_as (codes "peek_slice") tree) }
+    requires nested { AreInText text.now (alone_as (codes "peek_slice") tree) }
     ensures { ReadsAs text.entry.now ANode (alone_as (codes "peek_slice") tree.entry) result }
 {
     let bracket = leading_tree(tree.inner);
-    let (low, rest) = bound(text, bracket.others)?;
+    let (low, rest) = take_bound(text, bracket.others)?;
     let dots = leading_tree(rest);
-    let (high, _) = bound(text, dots.others)?;
+    let (high, _) = take_bound(text, dots.others)?;
     Ok(ParserNode {
         expr: ParserExpr::PeekSlice(low.unwrap_or(0), high),
         span: span_of(text, tree),
     })
 }
 
-/// A literal push, which stands where its string does. A flaw is its string's.
+/// Reads a literal push, which has the span of its string. Its flaws are those of the string.
 fn push_literal<'i>(
     alloc: Global,
     text: &'i str,
     tree: FirstTree<'_, Rule>,
 ) -> Result<ParserNode<'i>, ReadError<'i>>
     requires shape { IsTerminal text.now (codes "_push_literal") (named_trees_of tree.inner.now) }
-    requires nested { StandIn text.now (alone_as (codes "_push_literal") tree) }
+    requires nested { AreInText text.now (alone_as (codes "_push_literal") tree) }
     ensures { ReadsAs text.entry.now ANode (alone_as (codes "_push_literal") tree.entry) result }
 {
     let paren = leading_tree(tree.inner);
@@ -91,14 +92,14 @@ fn push_literal<'i>(
     })
 }
 
-/// The node of a rule that holds no expression, or its first flaw.
+/// Reads the node of a rule that holds no expression, and reports its first flaw.
 pub fn terminal<'i>(
     alloc: Global,
     text: &'i str,
     tree: FirstTree<'_, Rule>,
 ) -> Result<ParserNode<'i>, ReadError<'i>>
     requires shape { IsTerminal text.now (name_of tree.rule) (named_trees_of tree.inner.now) }
-    requires nested { StandIn text.now (alone tree) }
+    requires nested { AreInText text.now (alone tree) }
     ensures { ReadsAs text.entry.now ANode (alone tree.entry) result }
 {
     let span = span_of(text, tree);

@@ -3,8 +3,8 @@ ghost use Rattle.std.specs.Prelude.{◌≡◌, ◌≤◌, ◌<◌, ◌+◌, ◌�
 ghost use Rattle.meta_stack_domain.specs.Marks.{room, marks_of, blank_marks};
 ghost use Rattle.meta_stack_domain.specs.Stack.{both_marks, marks_eq};
 
-/// The marks with one more on top.
-pub fn pushed(count: u8, marks: u16, blank: bool) -> u16
+/// Returns the marks with one more on top.
+pub fn push_mark(count: u8, marks: u16, blank: bool) -> u16
     requires few { count < 8 }
     requires small { marks < room count }
     ensures marks { marks_of (count + 1) result ≡ blank ∷ marks_of count marks }
@@ -13,7 +13,7 @@ pub fn pushed(count: u8, marks: u16, blank: bool) -> u16
     if blank { marks * 2 + 1 } else { marks * 2 }
 }
 
-/// Whether all marks say so, and `below` is true.
+/// Whether all marks are set, and `below` is true.
 pub fn are_blank(count: u8, marks: u16, below: bool) -> bool
     ensures { result ≡ blank_marks (marks_of count marks) below }
 {
@@ -24,7 +24,7 @@ pub fn are_blank(count: u8, marks: u16, below: bool) -> bool
     }
 }
 
-/// The marks that two lists of the same length have in common.
+/// Returns the marks that are set in both of two lists of one length.
 pub fn both(count: u8, first: u16, second: u16) -> u16
     requires { count ≤ 8 }
     ensures marks { marks_of count result ≡ both_marks (marks_of count first) (marks_of count second) }

@@ -3,18 +3,18 @@ use std::alloc::{AllocError, Global};
 use std::io::{self, ErrorKind, Write};
 use tool_support::output::Output;
 
-/// Whether the program answers this status on an input, prints this, and reports this.
+/// Returns whether the program ends with this status on an input, prints this, and reports this.
 fn is_answer(alloc: Global, input: Option<&[u8]>, status: u8, printed: &str, told: &str) -> bool {
     let mut out = Output::new(Vec::new(alloc));
     let mut err = Output::new(Vec::new(alloc));
     let exit = run(alloc, input, &mut out, &mut err);
     exit.status == status
-        && exit.told.is_ok()
+        && exit.write_result.is_ok()
         && out.writer.as_slice() == printed.as_bytes()
         && err.writer.as_slice() == told.as_bytes()
 }
 
-/// Texts with what is printed for them.
+/// Texts with the lines that are printed for them.
 static PRINTED: [(&str, &str); 30] = [
     ("", ""),
     (
@@ -113,12 +113,12 @@ fn grammars_are_printed(rt: HostRuntime) {
     }
 }
 
-/// What an error prints: its place as `line:column`, the number of the line, the line, what is under it, and
-/// the message.
-type Told = [&'static str; 5];
+/// The parts of a printed error: its position as `line:column`, the number of the line, the line, the marks
+/// below, and the message.
+type ErrorParts = [&'static str; 5];
 
 /// Texts with the errors that are reported for them.
-static REFUSED: [(&str, &[Told]); 18] = [
+static REFUSED: [(&str, &[ErrorParts]); 18] = [
     (
         "a = { b } a = { c }",
         &[
@@ -331,8 +331,8 @@ static REFUSED: [(&str, &[Told]); 18] = [
     ),
 ];
 
-/// What is reported of these errors.
-fn report(alloc: Global, errors: &[Told]) -> Result<String, AllocError> {
+/// Returns the report of these errors.
+fn report(alloc: Global, errors: &[ErrorParts]) -> Result<String, AllocError> {
     let mut text = String::from_str(alloc, "grammar error\n")?;
     for [place, number, line, under, message] in errors {
         write!(
@@ -343,8 +343,8 @@ fn report(alloc: Global, errors: &[Told]) -> Result<String, AllocError> {
     Ok(text)
 }
 
-/// Whether the program prints nothing for a text, and reports these errors.
-fn is_refused(alloc: Global, text: &str, errors: &[Told]) -> bool {
+/// Returns whether the program prints nothing for a text, and reports these errors.
+fn is_refused(alloc: Global, text: &str, errors: &[ErrorParts]) -> bool {
     let Ok(wanted) = report(alloc, errors) else {
         return false;
     };
@@ -367,7 +367,7 @@ static NO_TEXTS: [&[u8]; 4] = [
 ];
 
 #[test]
-fn what_is_no_text_can_not_be_read(rt: HostRuntime) {
+fn bytes_that_are_no_text_can_not_be_read(rt: HostRuntime) {
     for number in 0..5 {
         let input = NO_TEXTS.get(number).copied();
         assert!(rt;
@@ -377,8 +377,8 @@ fn what_is_no_text_can_not_be_read(rt: HostRuntime) {
     }
 }
 
-/// The status that the program answers on a text, whether it prints nothing, and whether it reports nothing.
-fn answered(alloc: Global, text: &[u8]) -> (u8, bool, bool) {
+/// Returns the status on a text, whether nothing is printed, and whether nothing is reported.
+fn status_of(alloc: Global, text: &[u8]) -> (u8, bool, bool) {
     let mut out = Output::new(Vec::new(alloc));
     let mut err = Output::new(Vec::new(alloc));
     let exit = run(alloc, Some(text), &mut out, &mut err);
@@ -392,7 +392,7 @@ fn each_beginning_of_a_grammar_has_its_answer(rt: HostRuntime) {
         let is_grammar = length == 0 || length == text.len();
         let wanted = (u8::from(!is_grammar), length < text.len(), is_grammar);
         assert!(rt;
-            answered(rt.alloc(), &text[..length]) == wanted,
+            status_of(rt.alloc(), &text[..length]) == wanted,
             "at {length}"
         );
     }
@@ -435,8 +435,8 @@ impl Write for Narrow {
     }
 }
 
-/// Whether a write was refused to the program on a text, where so many are taken and so many bytes of each;
-/// nothing where it answers otherwise than it should: what is held then is a beginning of the lines.
+/// Returns whether a write was refused to the program on a text, where `left` writes of at most `width` bytes
+/// are taken. Returns `None` if the status, the report or the written beginning of the lines is wrong.
 fn was_refused(alloc: Global, text: &str, left: usize, width: usize, lines: &[u8]) -> Option<bool> {
     let mut out = Output::new(Narrow::new(alloc, left, width));
     let mut err = Output::new(Vec::new(alloc));
@@ -452,7 +452,7 @@ fn was_refused(alloc: Global, text: &str, left: usize, width: usize, lines: &[u8
     is_right.then_some(narrow.refused)
 }
 
-/// What the program prints for a text.
+/// Returns the lines that the program prints for a text.
 fn printed_lines(alloc: Global, text: &str) -> Vec<u8> {
     let mut out = Output::new(Vec::new(alloc));
     let mut err = Output::new(Vec::new(alloc));
@@ -460,9 +460,9 @@ fn printed_lines(alloc: Global, text: &str) -> Vec<u8> {
     out.writer
 }
 
-/// The Nth write is refused, for each N, where writes are taken whole, three bytes at a time, and one.
+/// Refuses the Nth write, for each N, where writes are taken whole, three bytes at a time, and one.
 #[test]
-fn each_refused_write_is_told(rt: HostRuntime) {
+fn each_refused_write_is_reported(rt: HostRuntime) {
     let text = "a = @{ (\"x\" ~ b) | \"c\" } b = { \"y\" }";
     let lines = printed_lines(rt.alloc(), text);
     for width in [1000, 3, 1] {
@@ -478,25 +478,28 @@ fn each_refused_write_is_told(rt: HostRuntime) {
     }
 }
 
-/// A writer that takes nothing.
+/// Uses a writer that takes nothing.
 #[test]
-fn a_write_that_takes_nothing_is_told(rt: HostRuntime) {
+fn a_write_that_takes_nothing_is_reported(rt: HostRuntime) {
     let answer = was_refused(rt.alloc(), "a = { \"x\" }", 100, 0, &[]);
     assert!(rt; answer == Some(false));
 }
 
-/// Whether the program answers that a text is refused, and prints nothing, where the report is refused after
-/// so many writes.
-fn is_refused_untold(alloc: Global, text: &str, left: usize) -> bool {
+/// Returns whether the program ends with status 1 on a refused text, and prints nothing, where the report is
+/// refused after so many writes.
+fn is_refused_without_report(alloc: Global, text: &str, left: usize) -> bool {
     let mut out = Output::new(Vec::new(alloc));
     let mut err = Output::new(Narrow::new(alloc, left, 5));
     let exit = run(alloc, Some(text.as_bytes()), &mut out, &mut err);
-    exit.status == 1 && exit.told.is_err() && err.writer.refused && out.writer.is_empty()
+    exit.status == 1 && exit.write_result.is_err() && err.writer.refused && out.writer.is_empty()
 }
 
 #[test]
 fn a_refused_report_changes_nothing(rt: HostRuntime) {
     for left in 0..8 {
-        assert!(rt; is_refused_untold(rt.alloc(), "a = {", left), "at {left}");
+        assert!(rt;
+            is_refused_without_report(rt.alloc(), "a = {", left),
+            "at {left}"
+        );
     }
 }

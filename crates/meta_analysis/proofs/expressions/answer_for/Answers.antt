@@ -10,7 +10,7 @@ use Rattle.meta_analysis.specs.Names.{grammar_of}
 use Rattle.meta_analysis.specs.Nodes.{all_nodes, postorder}
 use Rattle.meta_analysis.specs.Shapes as shapes
 use Rattle.meta_analysis.proofs.Numbered.{found_last}
-use Rattle.meta_analysis.specs.Facts.{Asked}
+use Rattle.meta_analysis.specs.Facts.{IsTrueOf}
 use Rattle.meta_analysis.specs.NameKinds.{kind_in}
 use Rattle.meta_analysis.specs.declared.kind_table.KindTable.{KindTable}
 use Rattle.meta_analysis.proofs.Answering.{answers}
@@ -38,5 +38,5 @@ returns c =
     let table = table_of rs t (postorder x) fit c.in_ok-nodes.ensures.roots in
     let right = answers rs t table c.args.question c.in_ok-answers.answers.items c.in_ok-answers.ensures.sound c.in_ok-answers.ensures.closed in
     let d = right c.in_ok-own.own (without_spans x) (says names kinds.items c.in_ok-own.own x (stands_at names all kinds.items fit x c.in_ok-own.own at)) in
-    subst (λ z. Decides c.is_set-answer.result (Asked c.args.question g z)) (said_anywhere _ c.args.expr.now)
-    (subst (λ b. Decides b (Asked c.args.question g (without_spans x))) (sym (c.is_set-answer.ensures ∙ ap (λ m. is_set_at m c.in_ok-own.own) c.as_slice-2.ensures.value)) d)
+    subst (λ z. Decides c.is_set-answer.result (IsTrueOf c.args.question g z)) (said_anywhere _ c.args.expr.now)
+    (subst (λ b. Decides b (IsTrueOf c.args.question g (without_spans x))) (sym (c.is_set-answer.ensures ∙ ap (λ m. is_set_at m c.in_ok-own.own) c.as_slice-2.ensures.value)) d)

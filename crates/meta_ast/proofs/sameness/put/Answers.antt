@@ -4,7 +4,7 @@ use Rattle.meta_ast.proofs.sameness.put.Goals as goal
 
 pub returns-in_ok-push-in-One-clause-same : goal.returns-in_ok-push-in-One-clause-same
 returns-in_ok-push-in-One-clause-same g c =
-    rw c.in-One.is (one_put g.T.Compared.is_equal _ _ c.in-One.both c.in-One.answer c.in_ok-push-in-One.ensures.items)
+    rw c.in-One.is (one_put g.T.TreeEq.is_equal _ _ c.in-One.both c.in-One.answer c.in_ok-push-in-One.ensures.items)
 
 pub returns-in_ok-push-in-One-clause-work : goal.returns-in_ok-push-in-One-clause-work
 returns-in_ok-push-in-One-clause-work g c =
@@ -13,7 +13,7 @@ returns-in_ok-push-in-One-clause-work g c =
 
 pub returns-in_ok-push-in-Two-2-clause-same : goal.returns-in_ok-push-in-Two-2-clause-same
 returns-in_ok-push-in-Two-2-clause-same g c =
-    rw c.in-Two.is (two_put g.T.Compared.is_equal _ _ _ c.in-Two.left c.in-Two.right c.in_ok-push-in-Two.ensures.items c.in_ok-push-in-Two-2.ensures.items)
+    rw c.in-Two.is (two_put g.T.TreeEq.is_equal _ _ _ c.in-Two.left c.in-Two.right c.in_ok-push-in-Two.ensures.items c.in_ok-push-in-Two-2.ensures.items)
 
 pub returns-in_ok-push-in-Two-2-clause-work : goal.returns-in_ok-push-in-Two-2-clause-work
 returns-in_ok-push-in-Two-2-clause-work g c =

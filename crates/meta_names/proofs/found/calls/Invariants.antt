@@ -3,13 +3,13 @@ use Rattle.meta_base.specs.Pieces.NamedTrees.{named_trees_of}
 use Rattle.meta_base.specs.Pieces.TreeViews.{trees_of}
 use Rattle.meta_base.specs.Pieces.Saying.{piece_of}
 use Rattle.meta_names.specs.GrammarNames.{calls}
-use Rattle.meta_names.specs.Standing.{TokenTreesStandIn}
+use Rattle.meta_names.specs.Standing.{AreTreesWithin}
 use Rattle.meta_names.proofs.Trees.{count_of}
 use Rattle.meta_names.proofs.found.calls.Given as goal
 
 abbrev pub invariant-loop-tree : goal.invariant-loop-tree
 invariant-loop-tree l = record {
-  stand : TokenTreesStandIn l.text (trees_of l.rest);
+  stand : AreTreesWithin l.text (trees_of l.rest);
   split : calls l.text (named_trees_of l.trees) ≡ map piece_of l.found.items ++ calls l.text (named_trees_of l.rest);
 }
 

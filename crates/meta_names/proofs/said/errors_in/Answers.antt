@@ -1,5 +1,5 @@
 use Rattle.std.proofs.Common.{◌≡◌, [], ◌∷◌, ◌+◌, ◌∙◌, sym, append-nil, get_or, map, drop, rules}
-use Rattle.meta_base.specs.Pieces.Saying.{Tell, piece_of}
+use Rattle.meta_base.specs.Pieces.Saying.{AreErrorsFor, piece_of}
 use Rattle.meta_names.specs.Names.{AreIn, said}
 use Rattle.meta_names.proofs.Places.{none_left, nothing_said, pieces_left, told_more}
 use Rattle.meta_names.proofs.said.errors_in.Goals as goal
@@ -31,5 +31,5 @@ loop-place-preserved c =
 pub returns-clause-told : goal.returns-clause-told
 returns-clause-told c =
     let none : map piece_of (drop c.loop-place.place-index c.args.places.now) ≡ [] = none_left c.args.places.now c.loop-place.place-index c.loop-place-test.false in
-    let t : Tell (said c.args.before.now c.args.after.now (map piece_of (drop c.loop-place.place-index c.args.places.now))) [] = rw none tt in
+    let t : AreErrorsFor (said c.args.before.now c.args.after.now (map piece_of (drop c.loop-place.place-index c.args.places.now))) [] = rw none tt in
     rw append-nil at (c.loop-place.invariant.told [] t)

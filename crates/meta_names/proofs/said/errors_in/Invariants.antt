@@ -1,5 +1,5 @@
 use Rattle.std.proofs.Common.{◌≡◌, List, ◌++◌, map, drop}
-use Rattle.meta_base.specs.Pieces.Saying.{Tell, piece_of}
+use Rattle.meta_base.specs.Pieces.Saying.{AreErrorsFor, piece_of}
 use Rattle.meta_base.specs.Pieces.Survey.{survey_text}
 use Rattle.meta_base.specs.declared.grammar.Rule.{Rule}
 use Rattle.meta_base.specs.declared.runtime.errors.Error.{Error}
@@ -10,6 +10,6 @@ abbrev pub invariant-loop-place : goal.invariant-loop-place
 invariant-loop-place l = record {
   text : survey_text l.survey ≡ l.text;
   in_text : AreIn l.text (map piece_of (drop l.place-index l.places));
-  told : (more : List (Error Rule)) → Tell (said l.before l.after (map piece_of (drop l.place-index l.places))) more
-      → Tell (said l.before l.after (map piece_of l.places)) (l.errors.items ++ more);
+  told : (more : List (Error Rule)) → AreErrorsFor (said l.before l.after (map piece_of (drop l.place-index l.places))) more
+      → AreErrorsFor (said l.before l.after (map piece_of l.places)) (l.errors.items ++ more);
 }

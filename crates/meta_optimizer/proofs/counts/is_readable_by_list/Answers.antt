@@ -20,23 +20,23 @@ nodes-smaller-in-Nothing c = rw c.in-Some.ensures.items (less_by_none c.pop.new.
 pub nodes-preserved-in-Nothing : goal.nodes-preserved-in-Nothing
 nodes-preserved-in-Nothing c =
     let good : CountIsReadable (expression_of c.in-Some.node.now) = search rules in
-    no_operands c.pop.new.self.items c.in-Some.node (rw c.in-Some.ensures.items at c.nodes.invariant) good (rw c.in-Nothing.is at c.held_by.ensures)
+    no_operands c.pop.new.self.items c.in-Some.node (rw c.in-Some.ensures.items at c.nodes.invariant) good (rw c.in-Nothing.is at c.children_of.ensures)
 
 pub nodes-smaller-in-Continue-branch-2 : goal.nodes-smaller-in-Continue-branch-2
-nodes-smaller-in-Continue-branch-2 c = rw (c.in-Some.ensures.items, c.in_ok-push-in-One.ensures.items) (less_by_one c.pop.new.self.items c.in-Some.node c.in-One.inner (rw c.in-One.is at c.held_by.ensures))
+nodes-smaller-in-Continue-branch-2 c = rw (c.in-Some.ensures.items, c.in_ok-push-in-One.ensures.items) (less_by_one c.pop.new.self.items c.in-Some.node c.in-One.inner (rw c.in-One.is at c.children_of.ensures))
 
 pub nodes-preserved-in-Continue-branch-2 : goal.nodes-preserved-in-Continue-branch-2
 nodes-preserved-in-Continue-branch-2 c =
     let good : CountIsReadable (expression_of c.in-Some.node.now) = search rules in
-    rw c.in_ok-push-in-One.ensures.items (one_operand c.pop.new.self.items c.in-Some.node (rw c.in-Some.ensures.items at c.nodes.invariant) good c.in-One.inner (rw c.in-One.is at c.held_by.ensures))
+    rw c.in_ok-push-in-One.ensures.items (one_operand c.pop.new.self.items c.in-Some.node (rw c.in-Some.ensures.items at c.nodes.invariant) good c.in-One.inner (rw c.in-One.is at c.children_of.ensures))
 
 pub nodes-smaller : goal.nodes-smaller
-nodes-smaller c = rw (c.in-Some.ensures.items, c.in_ok-push-in-Two-2.ensures.items, c.in_ok-push-in-Two.ensures.items) (less_by_two c.pop.new.self.items c.in-Some.node c.in-Two.left c.in-Two.right (rw c.in-Two.is at c.held_by.ensures))
+nodes-smaller c = rw (c.in-Some.ensures.items, c.in_ok-push-in-Two-2.ensures.items, c.in_ok-push-in-Two.ensures.items) (less_by_two c.pop.new.self.items c.in-Some.node c.in-Two.left c.in-Two.right (rw c.in-Two.is at c.children_of.ensures))
 
 pub nodes-preserved : goal.nodes-preserved
 nodes-preserved c =
     let good : CountIsReadable (expression_of c.in-Some.node.now) = search rules in
-    rw (c.in_ok-push-in-Two-2.ensures.items, c.in_ok-push-in-Two.ensures.items) (two_operands c.pop.new.self.items c.in-Some.node (rw c.in-Some.ensures.items at c.nodes.invariant) good c.in-Two.left c.in-Two.right (rw c.in-Two.is at c.held_by.ensures))
+    rw (c.in_ok-push-in-Two-2.ensures.items, c.in_ok-push-in-Two.ensures.items) (two_operands c.pop.new.self.items c.in-Some.node (rw c.in-Some.ensures.items at c.nodes.invariant) good c.in-Two.left c.in-Two.right (rw c.in-Two.is at c.children_of.ensures))
 
 pub returns : goal.returns
 returns c =

@@ -1,7 +1,7 @@
 use Rattle.std.proofs.Common.{◌≡◌, ◌++◌, List}
 use Rattle.meta_base.specs.Pieces.NamedTrees.{named_trees_of}
 use Rattle.meta_reader.specs.Flaws.{first_flaw}
-use Rattle.meta_reader.specs.Pieces.{StandIn}
+use Rattle.meta_reader.specs.Pieces.{AreInText}
 use Rattle.meta_reader.specs.Reading.{ReadsRules}
 use Rattle.meta_spanned.specs.Spanned.{SpannedRule}
 use Rattle.meta_reader.specs.Views.{count_of}
@@ -12,7 +12,7 @@ use Rattle.meta_reader.proofs.rules.rules.Given as goal
 abbrev pub invariant-loop-tree : goal.invariant-loop-tree
 invariant-loop-tree l = record {
   shape : IsLeft l.text (named_trees_of l.rest);
-  nested : StandIn l.text (named_trees_of l.rest);
+  nested : AreInText l.text (named_trees_of l.rest);
   flaws : first_flaw l.text (named_trees_of l.trees) ≡ first_flaw l.text (named_trees_of l.rest);
   reads : (rs : List SpannedRule) → ReadsLeft l.text (named_trees_of l.rest) rs
       → ReadsRules l.text (named_trees_of l.trees) (rule_views l.read.value.items ++ rs);

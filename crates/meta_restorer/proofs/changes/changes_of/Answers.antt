@@ -4,8 +4,8 @@ use Rattle.meta_restorer.proofs.Looking.{are_within}
 use Rattle.meta_restorer.proofs.Telling.{tells}
 use Rattle.meta_restorer.proofs.changes.changes_of.Goals as goal
 
-pub flagged-requires : goal.flagged-requires
-flagged-requires c = are_within c.in_ok-names.names (map said_by c.args.bodies.now) c.in_ok-noted.noted c.in_ok-noted.ensures
+pub find_changing_rules-requires : goal.find_changing_rules-requires
+find_changing_rules-requires c = are_within c.in_ok-names.names (map said_by c.args.bodies.now) c.in_ok-noted.noted c.in_ok-noted.ensures
 
 pub returns-clause-tells : goal.returns-clause-tells
 returns-clause-tells c =

@@ -1,7 +1,7 @@
 use Rattle.std.proofs.Common.{map, subst}
 use Rattle.std.proofs.lemmas.Result.{IfOk-weaker}
 use Rattle.meta_restorer.specs.Bodies.{said_by, grammar_with}
-use Rattle.meta_restorer.specs.Telling.{Tells}
+use Rattle.meta_restorer.specs.KnownChanges.{KnowsChanges}
 use Rattle.meta_restorer.proofs.Holding.{tells_moved}
 use Rattle.meta_restorer.proofs.restorer.changes_in_map.Goals as goal
 
@@ -9,4 +9,4 @@ pub returns : goal.returns
 returns c =
     let bs = map said_by c.in_ok-bodies.bodies.items in
     IfOk-weaker c.changes_of.result _ _
-    (λ changes t g h. tells_moved changes bs g (c.in_ok-bodies.ensures g h) (subst (λ ds. Tells changes (grammar_with (map said_by ds))) c.deref.ensures.value t)) c.changes_of.ensures.tells
+    (λ changes t g h. tells_moved changes bs g (c.in_ok-bodies.ensures g h) (subst (λ ds. KnowsChanges changes (grammar_with (map said_by ds))) c.deref.ensures.value t)) c.changes_of.ensures.tells

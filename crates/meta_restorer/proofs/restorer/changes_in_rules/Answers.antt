@@ -2,8 +2,8 @@ use Rattle.std.proofs.Common.{map, subst, sym}
 use Rattle.meta_ast.specs.Optimized.{optimized_rules_of}
 use Rattle.std.proofs.lemmas.Result.{IfOk-weaker}
 use Rattle.meta_restorer.specs.Bodies.{said_by, grammar_with, SameBodies}
-use Rattle.meta_restorer.specs.Noted.{AreNotedOf}
-use Rattle.meta_restorer.specs.Telling.{Tells}
+use Rattle.meta_restorer.specs.Summaries.{AreSummariesOf}
+use Rattle.meta_restorer.specs.KnownChanges.{KnowsChanges}
 use Rattle.meta_restorer.proofs.Holding.{of_rules, tells_moved}
 use Rattle.meta_restorer.proofs.restorer.changes_in_rules.Goals as goal
 
@@ -13,9 +13,9 @@ returns-clause-tells c =
     let rs = c.args.rules.now in
     let same = subst (λ ds. SameBodies (grammar_with ds) (optimized_rules_of rs)) (sym c.in_ok-bodies.ensures) (of_rules rs) in
     IfOk-weaker c.changes_of.result _ _
-    (λ changes t. tells_moved changes bs (optimized_rules_of rs) same (subst (λ ds. Tells changes (grammar_with (map said_by ds))) c.deref.ensures.value t)) c.changes_of.ensures.tells
+    (λ changes t. tells_moved changes bs (optimized_rules_of rs) same (subst (λ ds. KnowsChanges changes (grammar_with (map said_by ds))) c.deref.ensures.value t)) c.changes_of.ensures.tells
 
 pub returns-clause-noted : goal.returns-clause-noted
 returns-clause-noted c =
     IfOk-weaker c.changes_of.result _ _
-    (λ changes t. subst (λ ds. AreNotedOf changes.names ds changes.noted) c.in_ok-bodies.ensures (subst (λ ds. AreNotedOf changes.names (map said_by ds) changes.noted) c.deref.ensures.value t)) c.changes_of.ensures.noted
+    (λ changes t. subst (λ ds. AreSummariesOf changes.names ds changes.noted) c.in_ok-bodies.ensures (subst (λ ds. AreSummariesOf changes.names (map said_by ds) changes.noted) c.deref.ensures.value t)) c.changes_of.ensures.noted

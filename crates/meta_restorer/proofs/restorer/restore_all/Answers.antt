@@ -3,7 +3,7 @@ use Rattle.std.proofs.Math.Seq.{drop-cons}
 use Rattle.std.proofs.lemmas.Option.{slice_get-get_or}
 use Rattle.meta_ast.specs.Optimized.{optimized_rule_of}
 use Rattle.meta_restorer.specs.Restoring.{restored_rule_by}
-use Rattle.meta_restorer.specs.Telling.{told}
+use Rattle.meta_restorer.specs.KnownChanges.{changes_stack}
 use Rattle.meta_restorer.proofs.Looking.{noted_at, noted_within, next_of}
 use Rattle.meta_restorer.proofs.Restoring.{one_more_restored}
 use Rattle.meta_restorer.proofs.restorer.restore_all.Goals as goal
@@ -28,7 +28,7 @@ pub loop-place-preserved : goal.loop-place-preserved
 loop-place-preserved c =
     let n = c.loop-place.place in
     let d = c.index-rules-place.result in
-    let whole : optimized_rule_of c.restore_rule.new.rule ≡ restored_rule_by (told c.args.changes.now) (optimized_rule_of (get_or c.loop-place.rules n d)) = c.in_ok-restore_rule.ensures.whole in
+    let whole : optimized_rule_of c.restore_rule.new.rule ≡ restored_rule_by (changes_stack c.args.changes.now) (optimized_rule_of (get_or c.loop-place.rules n d)) = c.in_ok-restore_rule.ensures.whole in
     let inside : n < length c.loop-place.rules = omega arith in
-    let more = one_more_restored (told c.args.changes.now) c.args.rules.now c.loop-place.rules n d c.restore_rule.new.rule inside c.loop-place.invariant.made c.loop-place.invariant.others whole in
+    let more = one_more_restored (changes_stack c.args.changes.now) c.args.rules.now c.loop-place.rules n d c.restore_rule.new.rule inside c.loop-place.invariant.made c.loop-place.invariant.others whole in
     record { made = more.0; others = more.1 }

@@ -1,8 +1,8 @@
 use Rattle.std.proofs.Common.{◌≡◌, ◌∙◌, ap, sym, false, rules, subst}
 use Rattle.meta_ast.specs.Optimized.{optimized_expression_of, optimized_rule_of}
 use Rattle.meta_fixpoint.specs.Least.{is_set_at}
-use Rattle.meta_restorer.specs.Noted.{IsWithin, shows}
-use Rattle.meta_restorer.specs.Telling.{told}
+use Rattle.meta_restorer.specs.Summaries.{IsWithin, shows}
+use Rattle.meta_restorer.specs.KnownChanges.{changes_stack}
 use Rattle.meta_restorer.proofs.Looking.{shown}
 use Rattle.meta_restorer.proofs.Noting.{noted_from}
 use Rattle.meta_restorer.proofs.Quiet.{restored_stays}
@@ -18,7 +18,7 @@ returns-then-not-is_shown-clause-whole c =
     let rule = c.args.rule.now in
     let qs = changes.noted.numbers.items in
     let off : shows qs (is_set_at flags) c.args.share ≡ false = search rules in
-    ap (λ b. record (optimized_rule_of rule) { body = b }) (sym (restored_stays (told changes) (optimized_expression_of rule.expr) (sym (shown changes.names (is_set_at flags) rule.expr qs c.args.share c.requires) ∙ off)))
+    ap (λ b. record (optimized_rule_of rule) { body = b }) (sym (restored_stays (changes_stack changes) (optimized_expression_of rule.expr) (sym (shown changes.names (is_set_at flags) rule.expr qs c.args.share c.requires) ∙ off)))
 
 pub restore-requires : goal.restore-requires
 restore-requires c = record {

@@ -2,7 +2,7 @@ use Rattle.std.proofs.Common.{◌≡◌, false, rules, subst, length, arith}
 use Rattle.std.proofs.lemmas.List.{with_items_is}
 use Rattle.meta_ast.specs.Optimized.{optimized_rules_of}
 use Rattle.meta_restorer.specs.Restoring.{AreQuiet, restored_rules_by}
-use Rattle.meta_restorer.specs.Telling.{Tells, told}
+use Rattle.meta_restorer.specs.KnownChanges.{KnowsChanges, changes_stack}
 use Rattle.meta_restorer.proofs.Restoring.{each_restored, rules_same}
 use Rattle.meta_restorer.proofs.Quiet.{quiet_restored, quiet_erased}
 use Rattle.meta_restorer.proofs.restorer.restore_rules.Goals as goal
@@ -18,17 +18,17 @@ returns-then-not-any_changes-clause-erased c =
 pub returns-clause-restores : goal.returns-clause-restores
 returns-clause-restores c = λ h.
     let rs = c.args.rules.items in
-    let p = told c.in_ok-changes.changes in
+    let p = changes_stack c.in_ok-changes.changes in
     let count : length c.restore_all.new.rules ≡ c.args.rules.len = omega arith in
     let all : c.into_inner-2.result.items ≡ c.restore_all.new.rules = rw c.into_inner-2.ensures (with_items_is c.args.rules c.restore_all.new.rules count) in
     let made : optimized_rules_of c.restore_all.new.rules ≡ restored_rules_by p (optimized_rules_of rs) = rw c.deref_mut.ensures.value at c.in_ok-restore_all.ensures in
-    let tells = subst (λ qs. Tells c.in_ok-changes.changes (optimized_rules_of qs)) c.deref-2.ensures.value c.in_ok-changes.ensures.tells in
+    let tells = subst (λ qs. KnowsChanges c.in_ok-changes.changes (optimized_rules_of qs)) c.deref-2.ensures.value c.in_ok-changes.ensures.tells in
     rw (all, made) (each_restored p (optimized_rules_of rs) tells rs h)
 
 pub returns-clause-erased : goal.returns-clause-erased
 returns-clause-erased c =
     let rs = c.args.rules.items in
-    let p = told c.in_ok-changes.changes in
+    let p = changes_stack c.in_ok-changes.changes in
     let count : length c.restore_all.new.rules ≡ c.args.rules.len = omega arith in
     let all : c.into_inner-2.result.items ≡ c.restore_all.new.rules = rw c.into_inner-2.ensures (with_items_is c.args.rules c.restore_all.new.rules count) in
     let made : optimized_rules_of c.restore_all.new.rules ≡ restored_rules_by p (optimized_rules_of rs) = rw c.deref_mut.ensures.value at c.in_ok-restore_all.ensures in

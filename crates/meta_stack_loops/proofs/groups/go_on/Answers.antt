@@ -18,7 +18,7 @@ returns-then-leads_on c =
     let l = get_or ls c.args.place none in
     let less : c.args.place < length ls = search rules in
     let at : slice_get ls c.args.place ≡ Some l = slice_get-get_or ls c.args.place none less in
-    let is : c.turned-link.result ≡ turned down l = c.turned-link.ensures in
-    let on = subst (λ z. IsOnward leaders z c.turned-link.result.source c.turned-link.result.target) c.as_slice.ensures.value (c.leads_on.ensures c.if-leads_on.true) in
+    let is : c.orient-link.result ≡ turned down l = c.orient-link.ensures in
+    let on = subst (λ z. IsOnward leaders z c.orient-link.result.source c.orient-link.result.target) c.as_slice.ensures.value (c.leads_on.ensures c.if-leads_on.true) in
     subst (λ m. AreLed ns roots down leaders (set flags m.target true)) (sym is)
     (one_led ns roots down leaders flags l c.requires.flags (c.requires.links c.args.place l at) (subst (λ m. IsOnward leaders flags m.source m.target) is on))

@@ -1,6 +1,6 @@
 use Rattle.std.proofs.Common.{◌∙◌, ap, ap₂, sym, false}
 use Rattle.meta_stack_loops.specs.Kinds.{wrap_kind}
-use Rattle.meta_stack_loops.specs.declared.table.Kind.TheVariants as is
+use Rattle.meta_stack_loops.specs.declared.table.NodeKind.TheVariants as is
 use Rattle.meta_stack_loops.proofs.kinds.kind_of_wrap.Goals as goal
 
 pub returns-in-RepMinMax : goal.returns-in-RepMinMax

@@ -3,7 +3,7 @@ use Rattle.std.proofs.lemmas.List.{take_all}
 use Rattle.meta_analysis.specs.Names.{grammar_of}
 use Rattle.meta_analysis.proofs.Numbered.{mapped_more}
 use Rattle.meta_stack_loops.specs.Names.{kind_in}
-use Rattle.meta_stack_loops.specs.declared.table.Node.{Node}
+use Rattle.meta_stack_loops.specs.declared.table.PassNode.{PassNode}
 use Rattle.meta_stack_loops.proofs.KindLemmas.{node_of, with_kinds}
 use Rattle.meta_stack_loops.proofs.kinds.nodes_with_kinds.Goals as goal
 
@@ -12,7 +12,7 @@ loop-place-preserved c =
     let names = kind_in (grammar_of c.args.rules.now) in
     let ns = c.args.table.now.nodes.items in
     let n = c.index-node.result.now in
-    let made : Node = record { kind = c.kind_of_node.result; rule = n.rule; span = n.span } in
+    let made : PassNode = record { kind = c.kind_of_node.result; rule = n.rule; span = n.span } in
     let same : made ≡ node_of names n = ap (λ k. record made { kind = k }) c.kind_of_node.ensures in
     let inside : c.loop-place.place < length ns = search rules in
     mapped_more (node_of names) ns c.loop-place.place n c.loop-place.nodes.items c.push.new.self.items made inside c.in_ok-push.ensures.items

@@ -12,7 +12,7 @@ pub returns-in_default : goal.returns-in_default
 returns-in_default c =
     let v = c.loop-done.invariant in
     let one : c.args.turns - c.loop-done.done ≡ suc (c.args.turns - (c.loop-done.done + 1)) = omega arith in
-    let none : settled (reading_of c.in_ok-reading.reading) ≡ None = sym c.settled.ensures ∙ ap possible c.in_default.is in record {
+    let none : settled (reading_of c.in_ok-reading.reading) ≡ None = sym c.sure_stack.ensures ∙ ap possible c.in_default.is in record {
       value = λ meaning h i. stopped (meaning c.args.body) (c.args.turns - (c.loop-done.done + 1)) (c.args.turns - c.loop-done.done) (reverse (marks_in c.loop-done.starts.items)) (stack_of c.loop-done.start) (reading_of c.in_ok-reading.reading)
           one (c.in_ok-reading.ensures.value meaning h (v.kept meaning h i)) none ∙ v.value meaning h i;
       kept = λ meaning h i. c.in_ok-reading.ensures.kept meaning h (v.kept meaning h i);
@@ -23,7 +23,7 @@ returns-then-has_marks_of c =
     let v = c.loop-done.invariant in
     let one : c.args.turns - c.loop-done.done ≡ suc (c.args.turns - (c.loop-done.done + 1)) = omega arith in
     let b = stack_of c.in-Some.after in
-    let some : settled (reading_of c.in_ok-reading.reading) ≡ Some b = sym c.settled.ensures ∙ ap possible c.in-Some.is in
+    let some : settled (reading_of c.in_ok-reading.reading) ≡ Some b = sym c.sure_stack.ensures ∙ ap possible c.in-Some.is in
     let again : are_among (reverse (marks_in c.loop-done.starts.items)) b.marks ≡ true = among_reverse (marks_in c.loop-done.starts.items) b.marks ∙ (sym (c.has_marks_of.ensures ∙ ap (λ l. are_among (marks_in l) b.marks) c.deref.ensures.value) ∙ c.if-has_marks_of.true) in record {
       value = λ meaning h i. found (meaning c.args.body) (c.args.turns - (c.loop-done.done + 1)) (c.args.turns - c.loop-done.done) (reverse (marks_in c.loop-done.starts.items)) (stack_of c.loop-done.start) (reading_of c.in_ok-reading.reading)
           one (c.in_ok-reading.ensures.value meaning h (v.kept meaning h i)) b some (not-false _ c.if-not-after.false) again ∙ v.value meaning h i;
@@ -37,7 +37,7 @@ loop-done-preserved c =
     let b = stack_of c.in-Some.after in
     let starts = reverse (marks_in c.loop-done.starts.items) in
     let front = reverse (marks_in c.if-not-after.starts.items) in
-    let some : settled (reading_of c.in_ok-reading.reading) ≡ Some b = sym c.settled.ensures ∙ ap possible c.in-Some.is in
+    let some : settled (reading_of c.in_ok-reading.reading) ≡ Some b = sym c.sure_stack.ensures ∙ ap possible c.in-Some.is in
     let kept : ((b.intact ≡ false) × (front ≡ [])) ⊎ ((b.intact ≡ true) × (are_among starts b.marks ≡ false) × (front ≡ starts)) = elim c.if-not-after.branch [
       | then-not-after w ↦ inl (not-true _ w.if-not-after.true, ap (λ v. reverse (marks_in v.items)) w.starts-is ∙ ap (λ l. reverse (marks_in l)) w.new-starts-then-not-after.ensures.items)
       | else-not-after+else-has_marks_of w ↦ inr (not-false _ w.if-not-after.false, among_reverse (marks_in c.loop-done.starts.items) b.marks ∙ (sym (w.has_marks_of.ensures ∙ ap (λ l. are_among (marks_in l) b.marks) w.deref.ensures.value) ∙ w.if-has_marks_of.false), ap (λ v. reverse (marks_in v.items)) w.starts-is)

@@ -1,6 +1,6 @@
 use Rattle.std.proofs.Common.{◌≡◌, ◌∙◌, subst, refl, rules, ◌<◌, [], length, append-nil}
 use Rattle.meta_stack_loops.specs.Table.{nodes_of}
-use Rattle.meta_stack_loops.specs.declared.waiting.Next.TheVariants as next
+use Rattle.meta_stack_loops.specs.declared.waiting.ReadTask.TheVariants as next
 use Rattle.meta_stack_loops.proofs.Awaiting.{ReadSoFar, read_begun, read_done, read_on}
 use Rattle.meta_stack_loops.proofs.reader.read.Goals as goal
 

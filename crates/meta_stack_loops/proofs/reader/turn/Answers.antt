@@ -64,8 +64,8 @@ loop-taken-preserved c =
     let one : limit - c.loop-taken.taken ≡ suc (limit - (c.loop-taken.taken + 1)) = omega arith in record {
       kept = λ meaning h i. c.in_ok-reading.ensures.kept meaning h (v.kept meaning h i);
       value = λ meaning h i.
-          turn_on limit (meaning c.args.body) (limit - (c.loop-taken.taken + 1)) (limit - c.loop-taken.taken) (reverse (seen_stacks ss)) _ a (walk_of c.loop-taken.walk) (walk_of c.turned-walk.result) (possible c.loop-taken.next) (possible r.ok) (reading_of r)
-          one fresh here shifted (c.in_ok-reading.ensures.value meaning h (v.kept meaning h i)) refl c.turned-walk.ensures ∙ v.value meaning h i;
+          turn_on limit (meaning c.args.body) (limit - (c.loop-taken.taken + 1)) (limit - c.loop-taken.taken) (reverse (seen_stacks ss)) _ a (walk_of c.loop-taken.walk) (walk_of c.after_turn-walk.result) (possible c.loop-taken.next) (possible r.ok) (reading_of r)
+          one fresh here shifted (c.in_ok-reading.ensures.value meaning h (v.kept meaning h i)) refl c.after_turn-walk.ensures ∙ v.value meaning h i;
       starts = λ meaning h i.
           start_on limit (meaning c.args.body) (limit - (c.loop-taken.taken + 1)) (limit - c.loop-taken.taken) (seen_stacks ss) (seen_stacks c.push.new.self.items) (reverse (seen_stacks ss)) _ a (possible c.loop-taken.next) (possible r.ok) (reading_of r)
           one fresh here shifted (c.in_ok-reading.ensures.value meaning h (v.kept meaning h i)) refl (ap seen_stacks items ∙ map_push stack_of ss s) ∙ v.starts meaning h i;

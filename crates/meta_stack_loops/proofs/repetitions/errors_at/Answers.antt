@@ -1,6 +1,6 @@
 use Rattle.std.proofs.Common.{◌≡◌, subst, Some, ◌∷◌, [], slice_get, get_or}
 use Rattle.std.proofs.lemmas.Option.{slice_get-get_or}
-use Rattle.meta_base.specs.Pieces.Saying.{Tell}
+use Rattle.meta_base.specs.Pieces.Saying.{AreErrorsFor}
 use Rattle.meta_spanned.specs.Nodes.{piece_of}
 use Rattle.meta_stack_loops.specs.Certain.{complaint_at}
 use Rattle.meta_stack_loops.proofs.Telling.{told_step}
@@ -13,4 +13,4 @@ loop-place-preserved c =
     let f = get_or fs i c.index-found-place.result in
     let at : slice_get fs i ≡ Some f = slice_get-get_or fs i c.index-found-place.result c.loop-place-test.true in
     told_step fs i f c.loop-place.errors.items c.push.new.self.items c.in_ok-error.error at c.in_ok-push.ensures.items
-    (subst (λ z. Tell (complaint_at (piece_of z) ∷ []) (c.in_ok-error.error ∷ [])) c.index-found-place.is c.in_ok-error.ensures.tells) c.loop-place.invariant
+    (subst (λ z. AreErrorsFor (complaint_at (piece_of z) ∷ []) (c.in_ok-error.error ∷ [])) c.index-found-place.is c.in_ok-error.ensures.tells) c.loop-place.invariant

@@ -14,7 +14,7 @@ returns-in-Some c =
     let rs = c.args.rules.now in
     let facts = c.in-Some.facts.now in
     let h : AreFacts rs facts = subst (λ o. IfSome o (λ f. AreFacts rs f.now)) c.in-Some.is c.requires.facts in
-    where_ok c.copied_nullable.result (λ flags e. subst (AreNullable rs) (sym e) (right_flags rs facts h)) c.copied_nullable.ensures
+    where_ok c.copy_nullable.result (λ flags e. subst (AreNullable rs) (sym e) (right_flags rs facts h)) c.copy_nullable.ensures
 
 pub returns-in_ok-nullable-in-None : goal.returns-in_ok-nullable-in-None
 returns-in_ok-nullable-in-None c = right_flags c.args.rules.now _ c.in_ok-nullable-in-None.ensures

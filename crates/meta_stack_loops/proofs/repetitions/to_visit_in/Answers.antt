@@ -6,11 +6,11 @@ use Rattle.meta_stack_loops.specs.Answers.{AreSound, AreClosed}
 use Rattle.meta_stack_loops.specs.Expressions.{name_flag}
 use Rattle.meta_stack_loops.specs.Leading.{AreCalls}
 use Rattle.meta_analysis.specs.Names.{grammar_of}
-use Rattle.meta_stack_loops.specs.Reportable.{AreBehind, AreReportable}
+use Rattle.meta_stack_loops.specs.Reportable.{AreInPostorder, AreReportable}
 use Rattle.meta_stack_loops.specs.declared.facts.Question.{Question}
 use Rattle.meta_stack_loops.specs.declared.facts.Question.TheVariants as asks
-use Rattle.meta_stack_loops.specs.declared.table.Kind.{Kind}
-use Rattle.meta_stack_loops.specs.declared.table.Node.{Node}
+use Rattle.meta_stack_loops.specs.declared.table.NodeKind.{NodeKind}
+use Rattle.meta_stack_loops.specs.declared.table.PassNode.{PassNode}
 use Rattle.meta_stack_loops.specs.Kinds.{AreTabled}
 use Rattle.meta_base.specs.Language.Text.{Text}
 use Rattle.meta_spanned.specs.declared.node.ParserRule.{ParserRule}
@@ -19,22 +19,22 @@ use Rattle.meta_stack_loops.proofs.Tabled.{as_it_should, is_calm, is_changed}
 use Rattle.meta_stack_loops.proofs.Whole.{plain_none}
 use Rattle.meta_stack_loops.proofs.repetitions.to_visit_in.Goals as goal
 
-tabled_at : (rules : List ParserRule) (kind_of : Text → Kind) (ns : List Node) (rs ts : List ℕ) → rs ≡ ts → AreTabled rules kind_of ns ts → AreTabled rules kind_of ns rs
+tabled_at : (rules : List ParserRule) (kind_of : Text → NodeKind) (ns : List PassNode) (rs ts : List ℕ) → rs ≡ ts → AreTabled rules kind_of ns ts → AreTabled rules kind_of ns rs
 tabled_at rules kind_of ns rs ts e h = subst (λ z. AreTabled rules kind_of ns z) (sym e) h
 
-sound_at : (q : Question) (ns ms : List Node) (rs ts : List ℕ) (flags : List Bool) → ns ≡ ms → rs ≡ ts → AreSound q ns rs flags → AreSound q ms ts flags
+sound_at : (q : Question) (ns ms : List PassNode) (rs ts : List ℕ) (flags : List Bool) → ns ≡ ms → rs ≡ ts → AreSound q ns rs flags → AreSound q ms ts flags
 sound_at q ns ms rs ts flags e f h = subst (λ z. AreSound q z ts flags) e (subst (λ z. AreSound q ns z flags) f h)
 
-closed_at : (q : Question) (ns ms : List Node) (rs ts : List ℕ) (flags : List Bool) → ns ≡ ms → rs ≡ ts → AreClosed q ns rs flags → AreClosed q ms ts flags
+closed_at : (q : Question) (ns ms : List PassNode) (rs ts : List ℕ) (flags : List Bool) → ns ≡ ms → rs ≡ ts → AreClosed q ns rs flags → AreClosed q ms ts flags
 closed_at q ns ms rs ts flags e f h = subst (λ z. AreClosed q z ts flags) e (subst (λ z. AreClosed q ns z flags) f h)
 
-calls_at : (ns ms : List Node) (rs ts : List ℕ) (recursive : List Bool) (ranks : List ℕ) → ns ≡ ms → rs ≡ ts → AreCalls ns rs recursive ranks → AreCalls ms ts recursive ranks
+calls_at : (ns ms : List PassNode) (rs ts : List ℕ) (recursive : List Bool) (ranks : List ℕ) → ns ≡ ms → rs ≡ ts → AreCalls ns rs recursive ranks → AreCalls ms ts recursive ranks
 calls_at ns ms rs ts recursive ranks e f h = subst (λ z. AreCalls z ts recursive ranks) e (subst (λ z. AreCalls ns z recursive ranks) f h)
 
 pub reportable_nodes-requires : goal.reportable_nodes-requires
-reportable_nodes-requires c = subst AreBehind (sym c.as_slice-2.ensures.value) (behind c.args.rules.now c.in_ok-nodes.nodes.items c.in_ok-roots.roots.items (tabled_at _ _ _ _ _ c.in_ok-roots.ensures c.in_ok-nodes.ensures))
+reportable_nodes-requires c = subst AreInPostorder (sym c.as_slice-2.ensures.value) (behind c.args.rules.now c.in_ok-nodes.nodes.items c.in_ok-roots.roots.items (tabled_at _ _ _ _ _ c.in_ok-roots.ensures c.in_ok-nodes.ensures))
 
-may_at : (ns ms : List Node) (rs ts : List ℕ) (flags : List Bool) → ns ≡ ms → rs ≡ ts → AreReportable ns rs flags → AreReportable ms ts flags
+may_at : (ns ms : List PassNode) (rs ts : List ℕ) (flags : List Bool) → ns ≡ ms → rs ≡ ts → AreReportable ns rs flags → AreReportable ms ts flags
 may_at ns ms rs ts flags e f h = subst (λ z. AreReportable z ts flags) e (subst (λ z. AreReportable ns z flags) f h)
 
 off_at : (rs ts : List ℕ) (flags others : List Bool) → rs ≡ ts → flags ≡ others → ((r i : ℕ) → slice_get rs r ≡ Some i → is_set_at flags i ≡ false) → (r i : ℕ) → slice_get ts r ≡ Some i → is_set_at others i ≡ false

@@ -1,5 +1,5 @@
 use Rattle.std.proofs.Common.{subst}
-use Rattle.meta_stack_loops.specs.Reportable.{TellLoops}
+use Rattle.meta_stack_loops.specs.Reportable.{AreLoopFlags}
 use Rattle.meta_stack_loops.specs.declared.facts.Question.TheVariants as asks
 use Rattle.meta_stack_loops.proofs.FlagLemmas.{sound_answers}
 use Rattle.meta_stack_loops.proofs.Work.{where_ok}
@@ -13,5 +13,5 @@ returns c =
     where_ok c.with_loops.result (λ v told. record {
       still = still;
       answers = sound_answers asks.MayBeStill ns roots still c.in_ok-still.ensures.sound c.in_ok-still.ensures.closed;
-      told = subst (λ z. TellLoops ns z v.items) c.as_slice.ensures.value told;
+      told = subst (λ z. AreLoopFlags ns z v.items) c.as_slice.ensures.value told;
     }) c.with_loops.ensures

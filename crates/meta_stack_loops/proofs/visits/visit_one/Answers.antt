@@ -1,5 +1,5 @@
 use Rattle.std.proofs.Common.{◌∙◌, ◌∷◌, ◌++◌, [], ap, subst, refl}
-use Rattle.meta_stack_loops.specs.Table.{HasParts, PartsLie, copies}
+use Rattle.meta_stack_loops.specs.Table.{HasParts, AreOrderedParts, copies}
 use Rattle.meta_stack_loops.specs.Visiting.{Collects, IsAfter, IsStartOf}
 use Rattle.meta_stack_loops.specs.declared.visits.Pending.{Pending}
 use Rattle.meta_stack_loops.proofs.Left.{visits_none, visits_both, visits_inside}
@@ -14,10 +14,10 @@ returns-in_ok-push-in-Both-2 c =
     let v = c.args.next in
     let w : Pending = record { node = c.in-Both.second; stacks = c.in_ok-behind-in-Both.behind } in
     let u : Pending = record { node = c.in-Both.first; stacks = v.stacks } in
-    visits_both t c.args.memory.now c.after.new.memory c.args.left.now.items _ v w u c.in-Both.choice c.args.found.now.items
+    visits_both t c.args.memory.now c.stacks_after.new.memory c.args.left.now.items _ v w u c.in-Both.choice c.args.found.now.items
     (subst (HasParts t v.node) c.in-Both.is c.parts_at.ensures.parts)
-    (subst (λ ss. Collects t c.args.memory.now c.after.new.memory (λ meaning. IsAfter (meaning c.in-Both.first) c.in-Both.choice) ss c.in_ok-behind-in-Both.behind.items) c.deref.ensures.value c.in_ok-behind-in-Both.ensures)
-    refl (subst (PartsLie t v.node) c.in-Both.is (c.parts_at.ensures.ordered c.requires.ordered))
+    (subst (λ ss. Collects t c.args.memory.now c.stacks_after.new.memory (λ meaning. IsAfter (meaning c.in-Both.first) c.in-Both.choice) ss c.in_ok-behind-in-Both.behind.items) c.deref.ensures.value c.in_ok-behind-in-Both.ensures)
+    refl (subst (AreOrderedParts t v.node) c.in-Both.is (c.parts_at.ensures.ordered c.requires.ordered))
     (c.in_ok-push-in-Both-2.ensures.items ∙ ap (λ l. l ++ u ∷ []) c.in_ok-push-in-Both.ensures.items)
 
 pub returns-in_ok-push-in-Inside : goal.returns-in_ok-push-in-Inside
@@ -30,4 +30,4 @@ returns-in_ok-push-in-Inside c =
     (subst (HasParts t v.node) i.is c.parts_at.ensures.parts)
     c.in_ok-report-in-Inside.ensures
     (subst (λ ss. Collects t c.report.new.memory c.starts.new.memory (λ meaning. IsStartOf t.limit (meaning i.body) (copies i.required i.optional i.endless)) ss w.stacks.items) c.deref-in-Inside.ensures.value c.in_ok-stacks-in-Inside.ensures)
-    (subst (PartsLie t v.node) i.is (c.parts_at.ensures.ordered c.requires.ordered)) c.in_ok-push-in-Inside.ensures.items
+    (subst (AreOrderedParts t v.node) i.is (c.parts_at.ensures.ordered c.requires.ordered)) c.in_ok-push-in-Inside.ensures.items

@@ -14,7 +14,7 @@ pub returns-in_ok-remember-in-Last : goal.returns-in_ok-remember-in-Last
 returns-in_ok-remember-in-Last c = last_done c.args.table.now _ _ _ c.args.last c.args.reading _ c.in-Last.how c.in-Last.is c.whole-whole.ensures c.in_ok-remember-in-Last.ensures
 
 pub returns-in-Copy : goal.returns-in-Copy
-returns-in-Copy c = where_ok c.copied.result (λ q g. resumed c.args.table.now _ _ _ _ c.args.last c.args.reading _ _ _ q c.in-Copy.is refl (λ l h. h) g) c.copied.ensures
+returns-in-Copy c = where_ok c.resume_copies.result (λ q g. resumed c.args.table.now _ _ _ _ c.args.last c.args.reading _ _ _ q c.in-Copy.is refl (λ l h. h) g) c.resume_copies.ensures
 
 pub returns-in-Turn : goal.returns-in-Turn
-returns-in-Turn c = where_ok c.turned.result (λ q g. resumed c.args.table.now _ _ _ _ c.args.last c.args.reading _ _ _ q c.in-Turn.is refl (λ l h. h) g) c.turned.ensures
+returns-in-Turn c = where_ok c.resume_turns.result (λ q g. resumed c.args.table.now _ _ _ _ c.args.last c.args.reading _ _ _ q c.in-Turn.is refl (λ l h. h) g) c.resume_turns.ensures

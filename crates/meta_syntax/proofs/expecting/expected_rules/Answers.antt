@@ -7,4 +7,4 @@ pub call-requires : goal.call-requires
 call-requires c = record { ready = record { left = search rules; truly = c.new-expecting.ensures.truly c.args.text.now } }
 
 pub returns : goal.returns
-returns c = in_order_told c.args.rule c.args.text.now c.args.place (sought_of c.new-expecting.result) (sought_of c.call.new.self) c.in_ok-_answer._answer c.in_order.result c.in_ok-_answer.ensures.means c.new-expecting.ensures.told c.new-expecting.ensures.place (rw (c.deref.ensures.value, c.into_told-told.ensures) at c.in_order.ensures)
+returns c = in_order_told c.args.rule c.args.text.now c.args.place (sought_of c.new-expecting.result) (sought_of c.call.new.self) c.in_ok-_answer._answer c.in_order.result c.in_ok-_answer.ensures.means c.new-expecting.ensures.told c.new-expecting.ensures.place (rw (c.deref.ensures.value, c.into_recorded-told.ensures) at c.in_order.ensures)

@@ -1,5 +1,5 @@
 use Rattle.std.proofs.Common.{refl, List, [], chars, false, ℕ}
-use Rattle.meta_base.specs.Language.Places.{Stands}
+use Rattle.meta_base.specs.Language.Places.{IsStateIn}
 use Rattle.meta_base.specs.declared.grammar.Rule.TheVariants as is
 use Rattle.meta_syntax.proofs.Naming.{named_rule}
 use Rattle.meta_syntax.proofs.Yielding.{yields}
@@ -9,5 +9,5 @@ use Rattle.meta_syntax.proofs.laws.trees_of_a_grammar_have_their_shape.Goals as 
 pub returns : goal.returns
 returns c = λ text us utf8 spells.
     let classes = λ (n : List ℕ) (x : ℕ). false in
-    let start : Stands (chars text) (start_of text) = record { front = []; split = refl; size = refl } in
+    let start : IsStateIn (chars text) (start_of text) = record { front = []; split = refl; size = refl } in
     rw (named_rule is.grammar_rules) at (yields text utf8 classes (spells classes).1 refl start)

@@ -6,7 +6,7 @@ use Rattle.meta_base.proofs.Basics.{one_item}
 use Rattle.meta_spanned.specs.Nodes.{rule_view, piece_of}
 use Rattle.meta_spanned.specs.Spanned.{span_of}
 use Rattle.meta_validator.specs.Findings.{not_recursive}
-use Rattle.meta_validator.specs.Searching.{IsClosing, IsSought, NeverComesBack}
+use Rattle.meta_validator.specs.Searching.{IsClosing, IsSearchResult, NeverComesBack}
 use Rattle.meta_validator.specs.declared.recursions.ClosedTrail.{ClosedTrail}
 use Rattle.meta_validator.proofs.RecursionLemmas.{view_at, told_right}
 use Rattle.meta_validator.proofs.ReportingLemmas.{span_got}
@@ -18,14 +18,14 @@ returns-in-None-clause-nothing c =
     let place = c.args.place in
     let roots = c.args.guide.facts.now.table.roots.items in
     let (r, at) = view_at rs place c.requires.inside in
-    let none = subst (λ o. IfNone o (IsSought rs roots place None × NeverComesBack rs roots place)) c.in-None.is c.in_ok-sought.ensures.none in
+    let none = subst (λ o. IfNone o (IsSearchResult rs roots place None × NeverComesBack rs roots place)) c.in-None.is c.in_ok-find_trail.ensures.none in
     not_recursive at (c.requires.last r at) (none.0 r at)
 
 pub returns-in-None-clause-never : goal.returns-in-None-clause-never
 returns-in-None-clause-never c =
     let rs = c.args.rules.now in
     let roots = c.args.guide.facts.now.table.roots.items in
-    let none = subst (λ o. IfNone o (IsSought rs roots c.args.place None × NeverComesBack rs roots c.args.place)) c.in-None.is c.in_ok-sought.ensures.none in
+    let none = subst (λ o. IfNone o (IsSearchResult rs roots c.args.place None × NeverComesBack rs roots c.args.place)) c.in-None.is c.in_ok-find_trail.ensures.none in
     none.1
 
 pub returns-in_ok-message-in-Some-clause-some : goal.returns-in_ok-message-in-Some-clause-some
@@ -36,7 +36,7 @@ returns-in_ok-message-in-Some-clause-some c =
     let spans = c.args.spans.now in
     let (r, at) = view_at rs place c.requires.inside in
     let closed = c.in-Some.closed in
-    let closing = subst (λ o. IfSome o (λ (k : ClosedTrail). IsClosing rs roots place k.call k.trail.items)) c.in-Some.is c.in_ok-sought.ensures.some in
+    let closing = subst (λ o. IfSome o (λ (k : ClosedTrail). IsClosing rs roots place k.call k.trail.items)) c.in-Some.is c.in_ok-find_trail.ensures.some in
     let span = c.index-spans-closed.result in
     let (s, got, same) = span_got rs c.args.guide.facts.now c.requires.facts spans c.requires.spans closed.call closing.call closing.here in
     let one : s ≡ span = one_item got (slice_get-get_or spans closed.call span (slice_get_within spans closed.call s got) ∙ ap Some (sym c.index-spans-closed.is)) in

@@ -1,11 +1,11 @@
 use Rattle.std.proofs.Common.{◌≡◌, take}
-use Rattle.meta_base.specs.Pieces.Saying.{Tell}
+use Rattle.meta_base.specs.Pieces.Saying.{AreErrorsFor}
 use Rattle.meta_base.specs.Pieces.Survey.{survey_text}
 use Rattle.meta_validator.specs.Reporting.{findings_of}
 use Rattle.meta_validator.proofs.reported.errors_in.Given as goal
 
 abbrev pub invariant-loop-place : goal.invariant-loop-place
 invariant-loop-place l = record {
-  told : Tell (findings_of (take l.place l.found)) l.errors.items;
+  told : AreErrorsFor (findings_of (take l.place l.found)) l.errors.items;
   text : survey_text l.survey ≡ l.text;
 }

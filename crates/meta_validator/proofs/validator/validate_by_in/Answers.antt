@@ -2,7 +2,7 @@ use Rattle.std.proofs.Common.{map, subst, sym}
 use Rattle.std.proofs.lemmas.Result.{IfOk-weaker}
 use Rattle.meta_spanned.specs.Nodes.{piece_of, rule_views}
 use Rattle.meta_validator.specs.Reporting.{findings_of}
-use Rattle.meta_base.specs.Pieces.Saying.{Tell}
+use Rattle.meta_base.specs.Pieces.Saying.{AreErrorsFor}
 use Rattle.std.specs.List.{All}
 use Rattle.meta_validator.proofs.PlacedLemmas.{InText, all_found_in}
 use Rattle.meta_validator.proofs.SortedLemmas.{told_empty}
@@ -13,13 +13,13 @@ returns-clause-exact c =
     IfOk-weaker c.errors_in.result _ _ (λ errors told. record {
       findings = findings_of c.in_ok-found.found.items;
       complete = c.in_ok-found.ensures.found;
-      told = subst (λ z. Tell (findings_of z) errors.items) c.as_slice.ensures.value told;
+      told = subst (λ z. AreErrorsFor (findings_of z) errors.items) c.as_slice.ensures.value told;
     }) c.errors_in.ensures.told
 
 pub returns-clause-accepted : goal.returns-clause-accepted
 returns-clause-accepted c =
     IfOk-weaker c.errors_in.result _ _ (λ errors told none.
-    let here = subst (λ z. Tell (findings_of z) errors.items) c.as_slice.ensures.value told in
+    let here = subst (λ z. AreErrorsFor (findings_of z) errors.items) c.as_slice.ensures.value told in
     c.in_ok-found.ensures.accepted (told_empty (findings_of c.in_ok-found.found.items) errors.items here none)
     ) c.errors_in.ensures.told
 

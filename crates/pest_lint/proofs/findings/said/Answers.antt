@@ -1,5 +1,5 @@
 use Rattle.std.proofs.Common.{◌≡◌, [], append-nil, get_or, map, drop, rules}
-use Rattle.meta_base.specs.Pieces.Saying.{Tell, piece_of}
+use Rattle.meta_base.specs.Pieces.Saying.{AreErrorsFor, piece_of}
 use Rattle.pest_lint.specs.Found.{said_at}
 use Rattle.pest_lint.proofs.Told.{none_left, places_left, told_more}
 use Rattle.pest_lint.proofs.findings.said.Goals as goal
@@ -14,5 +14,5 @@ loop-place-preserved c = λ more t.
 pub returns : goal.returns
 returns c =
     let none : map (said_at c.args.message.now) (map piece_of (drop c.loop-place.place-index c.args.places.now)) ≡ [] = none_left c.args.message.now c.args.places.now c.loop-place.place-index c.loop-place-test.false in
-    let t : Tell (map (said_at c.args.message.now) (map piece_of (drop c.loop-place.place-index c.args.places.now))) [] = rw none tt in
+    let t : AreErrorsFor (map (said_at c.args.message.now) (map piece_of (drop c.loop-place.place-index c.args.places.now))) [] = rw none tt in
     rw append-nil at (c.loop-place.invariant [] t)

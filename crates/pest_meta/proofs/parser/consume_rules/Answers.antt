@@ -12,12 +12,12 @@ use Rattle.meta_reader.proofs.ReadableCounts.{counts_readable}
 use Rattle.meta_validator.specs.Reported.{AreReported}
 use Rattle.meta_validator.specs.Placed.{AreIn}
 use Rattle.meta_validator.proofs.NothingElse.{none_endless}
-use Rattle.pest_meta.specs.Findings.{TellFindings}
+use Rattle.pest_meta.specs.Findings.{AreErrorsOfFindings}
 use Rattle.pest_meta.proofs.InText.{rules_in}
 use Rattle.pest_meta.proofs.Spelled.{given}
 use Rattle.pest_meta.proofs.parser.consume_rules.Goals as goal
 
-nothing_found : (rules : List SpannedRule) (errors : List (Error Rule)) → errors ≡ [] → TellFindings rules errors → AreReported rules [] []
+nothing_found : (rules : List SpannedRule) (errors : List (Error Rule)) → errors ≡ [] → AreErrorsOfFindings rules errors → AreReported rules [] []
 nothing_found rules errors none told =
     let tell = subst (AreReported rules told.endless) none told.tell in
     subst (λ spans. AreReported rules spans []) (none_endless rules told.endless tell) tell

@@ -6,7 +6,7 @@ use Rattle.meta_analysis.specs.Names.{grammar_of}
 use Rattle.meta_stack_loops.specs.Certain.{AreReports}
 use Rattle.meta_validator.specs.Reported.{AreReported}
 use Rattle.meta_validator.proofs.NothingElse.{none_endless}
-use Rattle.pest_meta.specs.Findings.{TellFindings}
+use Rattle.pest_meta.specs.Findings.{AreErrorsOfFindings}
 use Rattle.pest_meta.proofs.validator.validate_ast.Goals as goal
 
 pub returns-clause-exact : goal.returns-clause-exact
@@ -26,6 +26,6 @@ returns-clause-accepted c =
 pub returns-clause-silent : goal.returns-clause-silent
 returns-clause-silent c =
     let views = rule_views c.args.rules.now.items in
-    IfOk-weaker c.validate_by.result (λ errors. TellFindings views errors.items) _ (λ errors told none.
+    IfOk-weaker c.validate_by.result (λ errors. AreErrorsOfFindings views errors.items) _ (λ errors told none.
     subst (AreReports views) (none_endless views told.endless (subst (AreReported views told.endless) none told.tell)) told.reports
     ) (returns-clause-exact c)

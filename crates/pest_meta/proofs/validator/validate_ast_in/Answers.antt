@@ -8,7 +8,7 @@ use Rattle.meta_validator.specs.Reported.{AreReported}
 use Rattle.meta_validator.proofs.NothingElse.{none_endless}
 use Rattle.meta_validator.specs.Placed.{AreIn, ArePiecesOf}
 use Rattle.pest_meta.proofs.InText.{reports_in}
-use Rattle.pest_meta.specs.Findings.{TellFindings}
+use Rattle.pest_meta.specs.Findings.{AreErrorsOfFindings}
 use Rattle.pest_meta.proofs.validator.validate_ast_in.Goals as goal
 
 pub returns-clause-exact : goal.returns-clause-exact
@@ -28,7 +28,7 @@ returns-clause-accepted c =
 pub returns-clause-silent : goal.returns-clause-silent
 returns-clause-silent c =
     let views = rule_views c.args.rules.now.items in
-    IfOk-weaker c.validate_by_in.result (λ errors. TellFindings views errors.items) _ (λ errors told none.
+    IfOk-weaker c.validate_by_in.result (λ errors. AreErrorsOfFindings views errors.items) _ (λ errors told none.
     subst (AreReports views) (none_endless views told.endless (subst (AreReported views told.endless) none told.tell)) told.reports
     ) (returns-clause-exact c)
 

@@ -19,13 +19,13 @@ pub returns-in-Ok-clause-answered : goal.returns-in-Ok-clause-answered
 returns-in-Ok-clause-answered c =
     let text = c.args.text.now in
     let read = c.in-Ok in
-    answered_from (AreNames text) (names_data c.deref.result.now) c.names_text.result c.answered.result c.names_text.ensures
+    answered_from (AreNames text) (names_data c.deref.result.now) c.names_text.result c.to_outcome.result c.names_text.ensures
     (λ bytes e. names_answered text bytes c.in_ok-pairs.pairs read.names.items c.in_ok-pairs.ensures.text c.in_ok-pairs.ensures.spelled read.ensures.no_complaints read.ensures.builtins (e ∙ ap (λ xs. compact_text (names_data xs)) c.deref.ensures.value))
-    c.answered.ensures.answered
+    c.to_outcome.ensures.answered
 
 pub returns-in-Err-clause-refused : goal.returns-in-Err-clause-refused
 returns-in-Err-clause-refused c =
     let text = c.args.text.now in
     let read = c.in-Err in
-    told_such text (OfTrees (IsMisnamed text) text) read.fault c.told.result
-    (misnamed text c.in_ok-pairs.pairs read.fault c.in_ok-pairs.ensures.text c.in_ok-pairs.ensures.spelled read.ensures.refused) c.told.ensures
+    told_such text (OfTrees (IsMisnamed text) text) read.fault c.to_refusal.result
+    (misnamed text c.in_ok-pairs.pairs read.fault c.in_ok-pairs.ensures.text c.in_ok-pairs.ensures.spelled read.ensures.refused) c.to_refusal.ensures

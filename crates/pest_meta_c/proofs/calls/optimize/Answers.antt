@@ -8,7 +8,7 @@ use Rattle.pest_meta_c.proofs.calls.optimize.Goals as goal
 
 pub returns-in-Ok-optimize-clause-answered : goal.returns-in-Ok-optimize-clause-answered
 returns-in-Ok-optimize-clause-answered c =
-    answered_from (AreOptimized c.args.json.now) (optimized_rules_data c.deref.result.now) c.optimized_rules_text-json.result c.answered.result c.optimized_rules_text-json.ensures
+    answered_from (AreOptimized c.args.json.now) (optimized_rules_data c.deref.result.now) c.optimized_rules_text-json.result c.to_outcome.result c.optimized_rules_text-json.ensures
     (λ bytes e. record {
       rules = c.in-Ok.rules.items;
       read = c.in-Ok.ensures.rules;
@@ -17,9 +17,9 @@ returns-in-Ok-optimize-clause-answered c =
       agrees = c.in-Ok-optimize.ensures.agrees;
       written = e ∙ ap (λ rules. compact_text (optimized_rules_data rules)) c.deref.ensures.value;
     })
-    c.answered.ensures.answered
+    c.to_outcome.ensures.answered
 
 pub returns-in-Err-Text-clause-refused : goal.returns-in-Err-Text-clause-refused
 returns-in-Err-Text-clause-refused c =
     let why = rw c.in-Err-Text.field-0-is at c.in-Err-Text.ensures.refused in
-    no_json c.args.json.now c.in-Err-Text.place c.in-Err-Text.why c.refused.result why c.refused.ensures
+    no_json c.args.json.now c.in-Err-Text.place c.in-Err-Text.why c.json_refusal.result why c.json_refusal.ensures

@@ -8,7 +8,7 @@ use Rattle.pest_meta_c.proofs.calls.parse_and_optimize.Goals as goal
 pub returns-in-Ok-clause-answered : goal.returns-in-Ok-clause-answered
 returns-in-Ok-clause-answered c =
     let kept = c.in-Ok.ensures in
-    answered_from (IsWhole c.args.text.now) (answer_data c.deref.result.now c.deref-in-Ok.result.now) c.answer_text-json.result c.answered.result c.answer_text-json.ensures
+    answered_from (IsWhole c.args.text.now) (answer_data c.deref.result.now c.deref-in-Ok.result.now) c.answer_text-json.result c.to_outcome.result c.answer_text-json.ensures
     (λ bytes e. record {
       builtins = c.in-Ok.builtins.items;
       rules = c.in-Ok.rules.items;
@@ -26,4 +26,4 @@ returns-in-Ok-clause-answered c =
       written = e ∙ ap (λ names. compact_text (answer_data names c.deref-in-Ok.result.now)) c.deref.ensures.value
           ∙ ap (λ rules. compact_text (answer_data c.in-Ok.builtins.items rules)) c.deref-in-Ok.ensures.value;
     })
-    c.answered.ensures.answered
+    c.to_outcome.ensures.answered

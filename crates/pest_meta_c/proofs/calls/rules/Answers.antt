@@ -18,13 +18,13 @@ pub returns-in-Ok-clause-answered : goal.returns-in-Ok-clause-answered
 returns-in-Ok-clause-answered c =
     let text = c.args.text.now in
     let read = c.in-Ok in
-    answered_from (AreRules text) (rules_data c.deref.result.now) c.rules_text-json.result c.answered.result c.rules_text-json.ensures
+    answered_from (AreRules text) (rules_data c.deref.result.now) c.rules_text-json.result c.to_outcome.result c.rules_text-json.ensures
     (λ bytes e. rules_answered text bytes c.in_ok-pairs.pairs read.rules.items c.in_ok-pairs.ensures.text c.in_ok-pairs.ensures.spelled read.ensures.rules read.ensures.counts (e ∙ ap (λ xs. compact_text (rules_data xs)) c.deref.ensures.value))
-    c.answered.ensures.answered
+    c.to_outcome.ensures.answered
 
 pub returns-in-Err-clause-refused : goal.returns-in-Err-clause-refused
 returns-in-Err-clause-refused c =
     let text = c.args.text.now in
     let read = c.in-Err in
-    told_such text (OfTrees (HaveWrongRules text) text) read.fault c.told.result
-    (rejected text c.in_ok-pairs.pairs read.fault c.in_ok-pairs.ensures.text c.in_ok-pairs.ensures.spelled read.ensures.refused) c.told.ensures
+    told_such text (OfTrees (HaveWrongRules text) text) read.fault c.to_refusal.result
+    (rejected text c.in_ok-pairs.pairs read.fault c.in_ok-pairs.ensures.text c.in_ok-pairs.ensures.spelled read.ensures.refused) c.to_refusal.ensures

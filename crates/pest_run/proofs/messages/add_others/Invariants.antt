@@ -1,11 +1,11 @@
 use Rattle.std.proofs.Common.{◌≡◌, ◌+◌, ◌++◌, drop, length}
 use Rattle.std.specs.Prelude.{string_bytes}
-use Rattle.meta_matcher.specs.Told.{told_of}
+use Rattle.meta_matcher.specs.ExpectedNames.{name_texts}
 use Rattle.pest_run.specs.Messages.{other_names}
 use Rattle.pest_run.proofs.messages.add_others.Given as goal
 
 abbrev pub invariant-loop-name : goal.invariant-loop-name
 invariant-loop-name l = record {
   counted : l.following + l.name-index ≡ length l.names;
-  written : string_bytes l.message ++ other_names l.of_two (told_of (drop l.name-index l.names)) ≡ string_bytes l.fn.message ++ other_names l.of_two (told_of l.names);
+  written : string_bytes l.message ++ other_names l.of_two (name_texts (drop l.name-index l.names)) ≡ string_bytes l.fn.message ++ other_names l.of_two (name_texts l.names);
 }

@@ -4,8 +4,8 @@ use Rattle.meta_matcher.proofs.Stacking.{left_between}
 use Rattle.meta_matcher.proofs.Waiting.{after_none, after_some, answers}
 use Rattle.meta_matcher.proofs.machine.Machine.after_push.Goals as goal
 
-pub taken-taken-requires : goal.taken-taken-requires
-taken-taken-requires c =
+pub text_between-taken-requires : goal.text_between-taken-requires
+text_between-taken-requires c =
     let g = rw c.in-Some.is at c.requires.follows.gives in
     let e = c.requires.follows.follows.from in
     let l = g.goes_on.shorter in
@@ -13,7 +13,7 @@ taken-taken-requires c =
 
 pub returns-in_ok-self-in-Some : goal.returns-in_ok-self-in-Some
 returns-in_ok-self-in-Some c =
-    after_some c.requires.follows refl c.in-Some.is (λ part whole f g t. answers _ f.within t (f.found _ _ _ c.taken-taken.result.now g c.taken-taken.ensures c.taken-taken.utf8 refl refl (c.in_ok-self-in-Some.ensures ∙ ap (λ ts. chars c.taken-taken.result.now ∷ ts) c.in_ok-below-in-Some.ensures)))
+    after_some c.requires.follows refl c.in-Some.is (λ part whole f g t. answers _ f.within t (f.found _ _ _ c.text_between-taken.result.now g c.text_between-taken.ensures c.text_between-taken.utf8 refl refl (c.in_ok-self-in-Some.ensures ∙ ap (λ ts. chars c.text_between-taken.result.now ∷ ts) c.in_ok-below-in-Some.ensures)))
 
 pub returns-in-None : goal.returns-in-None
 returns-in-None c = after_none c.requires.follows refl c.in-None.is (λ part whole f g t. answers _ f.within t (f.failed _ g))

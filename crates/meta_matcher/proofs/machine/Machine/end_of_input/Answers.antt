@@ -12,12 +12,12 @@ returns-then-not-is_empty-clause-means c =
     record {
       kept = ap (λ es. seen es.items) c.note.ensures.entries;
       same = ap stack_of c.note.ensures.stack;
-      ran = λ classes fits. ran_not_end c.args.mode _ _ c.requires.unnamed (end_missing _ _ _ _ _ c.utf8.rest c.is_empty.ensures c.if-not-is_empty.true) c.is_seen_from-seen.ensures c.count-told.ensures n;
+      ran = λ classes fits. ran_not_end c.args.mode _ _ c.requires.unnamed (end_missing _ _ _ _ _ c.utf8.rest c.is_empty.ensures c.if-not-is_empty.true) c.is_seen_from-seen.ensures c.count-mark.ensures n;
     }
 
 pub returns-clause-means : goal.returns-clause-means
 returns-clause-means c = record {
   trees = _;
-  added = let x = adds_tree _ _ _ _ _ _ (seen c.open.new.entries.items) (seen c.open.new.entries.items) _ None' c.in_ok-open.ensures (not_grown (seen c.open.new.entries.items)) c.written-first.ensures c.in_ok-close.ensures in rw eoi_chars at x;
+  added = let x = adds_tree _ _ _ _ _ _ (seen c.open.new.entries.items) (seen c.open.new.entries.items) _ None' c.in_ok-open.ensures (not_grown (seen c.open.new.entries.items)) c.entry_count-first.ensures c.in_ok-close.ensures in rw eoi_chars at x;
   ran = λ classes fits. ran_end c.args.mode c.requires.unnamed (end_found _ _ _ _ _ _ c.is_empty.ensures c.if-not-is_empty.false c.is_seen_from-seen.ensures);
 }

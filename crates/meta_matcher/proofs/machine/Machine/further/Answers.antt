@@ -21,7 +21,7 @@ forms-preserved c =
     let b = rw c.in-Seq.is at c.forms.invariant.bound in
     let d = rw c.in-Seq.is at c.forms.invariant.follows in
     let g = rw (c.deref.ensures, c.in-Answered.is, c.in-Some.is) at c.in_ok-answer.ensures.means in
-    let h = rw c.in-Some-passed.is at c.passed.ensures.at_once in
+    let h = rw c.in-Some-skip_at_once.is at c.skip_at_once.ensures.at_once in
     let s : Sequence = record { second = second.Once c.deref-form.result; mode = c.args.mode; saved = c.args.saved } in
     record {
       text = search rules;
@@ -42,12 +42,12 @@ blanks-requires-clause-skips c =
     let b = rw c.in-Seq.is at c.forms.invariant.bound in
     let d = rw c.in-Seq.is at c.forms.invariant.follows in
     let g = rw (c.deref.ensures, c.in-Answered.is, c.in-Some.is) at c.in_ok-answer.ensures.means in
-    let later = rw c.in-None-passed.is at c.passed.ensures.later in
+    let later = rw c.in-None-skip_at_once.is at c.skip_at_once.ensures.later in
     let e1 = c.at_once.ensures.steps ∙ c.forms.invariant.steps in
     let le : steps_of c.at_once.new.self ≤ (steps_of c.args.self.now + 1) + 1 = rw e1 (omega arith) in
-    let s : Sequence = record { second = second.Once c.deref-in-None-passed.result; mode = c.args.mode; saved = c.args.saved } in
-    pushed_skip {scene = c.args.scene.now} {m = c.at_once.new.self} (frame.Gap s) c.wait.ensures.now c.in_ok-wait-in-None-passed.ensures.frames (mode_of c.args.mode) c.in-Some.after.now later c.wait.ensures.steps
-    (awaits_same {scene = c.args.scene.now} {m = c.forms.self} {n = c.at_once.new.self} c.at_once.ensures.frames (λ whole e. next_gap {scene = c.args.scene.now} s {n = steps_of c.args.self.now + 1} {whole = whole} (rw c.deref-in-None-passed.ensures b.1) g (rw c.deref-in-None-passed.ensures e) (steps_of c.at_once.new.self) le) d)
+    let s : Sequence = record { second = second.Once c.deref-in-None-skip_at_once.result; mode = c.args.mode; saved = c.args.saved } in
+    pushed_skip {scene = c.args.scene.now} {m = c.at_once.new.self} (frame.Gap s) c.wait.ensures.now c.in_ok-wait-in-None-skip_at_once.ensures.frames (mode_of c.args.mode) c.in-Some.after.now later c.wait.ensures.steps
+    (awaits_same {scene = c.args.scene.now} {m = c.forms.self} {n = c.at_once.new.self} c.at_once.ensures.frames (λ whole e. next_gap {scene = c.args.scene.now} s {n = steps_of c.args.self.now + 1} {whole = whole} (rw c.deref-in-None-skip_at_once.ensures b.1) g (rw c.deref-in-None-skip_at_once.ensures e) (steps_of c.at_once.new.self) le) d)
 
 pub returns-in-Nested : goal.returns-in-Nested
 returns-in-Nested c =

@@ -41,7 +41,7 @@ pub returns-in-Property-clause-means : goal.returns-in-Property-clause-means
 returns-in-Property-clause-means c =
     let h = rw c.in-Property.is at c.requires.bound in
     rw c.in-Property.is (gives_from c.args.scene.now _ c.args.rest.now (now_of c.args.self.now) (now_of c.args.self.now) _ (gives_class (setting_of c.args.scene.now) c.args.mode _ _ (now_of c.args.self.now) _ _ c.in-Property.number c.index-property.result.now c.deref-in-Property.result.now h c.index-property.ensures c.deref-in-Property.ensures.value
-    (λ set k. c.within.ensures.means c.args.scene.now.text.now (now_of c.args.self.now).stack set c.requires.left k)) (c.within.ensures.goes_on c.args.scene.now.text.now c.requires.left))
+    (λ set k. c.one_in_ranges.ensures.means c.args.scene.now.text.now (now_of c.args.self.now).stack set c.requires.left k)) (c.one_in_ranges.ensures.goes_on c.args.scene.now.text.now c.requires.left))
 
 pub returns-in-Skip-clause-means : goal.returns-in-Skip-clause-means
 returns-in-Skip-clause-means c =
@@ -70,13 +70,13 @@ returns-in-Set-clause-means c =
 
 pub returns-in-Rep-clause-means : goal.returns-in-Rep-clause-means
 returns-in-Rep-clause-means c =
-    let h = rw c.deref-in-Rep.ensures at c.repeated.ensures in
-    rw c.in-Rep.is (comes_at_once c.args.scene.now (form.Rep c.in-Rep.body) c.args.mode c.args.rest.now c.args.self.now c.repeated.result tt h)
+    let h = rw c.deref-in-Rep.ensures at c.repeat_set.ensures in
+    rw c.in-Rep.is (comes_at_once c.args.scene.now (form.Rep c.in-Rep.body) c.args.mode c.args.rest.now c.args.self.now c.repeat_set.result tt h)
 
 pub returns-in-RepOnce-clause-means : goal.returns-in-RepOnce-clause-means
 returns-in-RepOnce-clause-means c =
-    let h = rw c.deref-in-RepOnce.ensures at c.repeated_once.ensures in
-    rw c.in-RepOnce.is (comes_at_once c.args.scene.now (form.RepOnce c.in-RepOnce.body) c.args.mode c.args.rest.now c.args.self.now c.repeated_once.result tt h)
+    let h = rw c.deref-in-RepOnce.ensures at c.repeat_set_once.ensures in
+    rw c.in-RepOnce.is (comes_at_once c.args.scene.now (form.RepOnce c.in-RepOnce.body) c.args.mode c.args.rest.now c.args.self.now c.repeat_set_once.result tt h)
 
 pub returns-then-branch-2-clause-means : goal.returns-then-branch-2-clause-means
 returns-then-branch-2-clause-means c =

@@ -1,5 +1,5 @@
 use Rattle.std.proofs.Common.{sym, ap}
-use Rattle.meta_matcher.specs.Told.{told_of}
+use Rattle.meta_matcher.specs.ExpectedNames.{name_texts}
 use Rattle.meta_matcher.proofs.Waiting.{nothing_yet}
 use Rattle.meta_matcher.proofs.Whole.{expected_of_top, stopped_as}
 use Rattle.meta_matcher.proofs.matcher.Matcher.expected_at.Goals as goal
@@ -19,7 +19,7 @@ run-requires-clause-fresh c = nothing_yet _ c.new-machine.ensures.entries c.new-
 pub returns-in-Ok-clause-expected : goal.returns-in-Ok-clause-expected
 returns-in-Ok-clause-expected c =
     let h = c.in-Some.ensures.known in
-    rw (← h.same_program, ← h.same_text, ← h.same_place) (expected_of_top c.in-Some.scene _ _ c.in-Ok.field-0 _ h.named c.in-Ok.ensures.gives (sym (ap (λ v. told_of v.items) c.into_told.ensures)))
+    rw (← h.same_program, ← h.same_text, ← h.same_place) (expected_of_top c.in-Some.scene _ _ c.in-Ok.field-0 _ h.named c.in-Ok.ensures.gives (sym (ap (λ v. name_texts v.items) c.into_expected.ensures)))
 
 pub returns-clause-refused : goal.returns-clause-refused
 returns-clause-refused c =

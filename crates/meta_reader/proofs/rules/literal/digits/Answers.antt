@@ -8,5 +8,5 @@ loop-c-preserved c =
     record {
       utf8 = search rules;
       within = omega (arith, c.in-Some.ensures.shorter);
-      reads = (_, c.extended-value.ensures r.0 r.1, r.2 ∙ rw c.in-Some.ensures.parts (digits_step r.0 c.in-Some.c (chars c.in-Some.after.now) c.if-c-eq125.false));
+      reads = (_, c.append_digit-value.ensures r.0 r.1, r.2 ∙ rw c.in-Some.ensures.parts (digits_step r.0 c.in-Some.c (chars c.in-Some.after.now) c.if-c-eq125.false));
     }

@@ -11,13 +11,13 @@ use Rattle.meta_reader.proofs.rules.reading.expression.Goals as goal
 
 pub first_term-next-requires : goal.first_term-next-requires
 first_term-next-requires c = λ z.
-    let b = c.behind_bar.ensures c.args.text.now c.requires.shape in
+    let b = c.skip_bar.ensures c.args.text.now c.requires.shape in
     no_chain (rw z at b.shape)
 
 pub terms-init : goal.terms-init
 terms-init c =
     let us = named_trees_of c.args.trees.now in
-    let b = c.behind_bar.ensures c.args.text.now c.requires.shape in
+    let b = c.skip_bar.ensures c.args.text.now c.requires.shape in
     record {
       us = us;
       opens = rw c.new-levels.ensures.items refl;
@@ -42,7 +42,7 @@ first_term-next-requires-in-Inner c = λ z.
     let P : Next → Type 0 = λ n. GoesOn c.args.text.now i.us n in
     let h = subst P c.in-Inner.is i.goes_on in
     let o = opened h.opens in
-    let b = c.behind_bar-in-Inner.ensures c.args.text.now o.inside in
+    let b = c.skip_bar-in-Inner.ensures c.args.text.now o.inside in
     no_chain (rw z at b.shape)
 
 pub terms-smaller-in-Inner : goal.terms-smaller-in-Inner
@@ -51,8 +51,8 @@ terms-smaller-in-Inner c =
     let P : Next → Type 0 = λ n. GoesOn c.args.text.now i.us n in
     let h = subst P c.in-Inner.is i.goes_on in
     let o = opened h.opens in
-    let b = c.behind_bar-in-Inner.ensures c.args.text.now o.inside in
-    less_inside c.terms.levels.items c.push.new.self.items c.terms.next c.first_term-next-in-Inner.result c.in-Inner.level c.in-Inner.trees (named_trees_of c.behind_bar-in-Inner.result.now) c.in-Inner.is c.in_ok-push-in-Inner.ensures.items c.first_term-next-in-Inner.ensures.work b.shorter
+    let b = c.skip_bar-in-Inner.ensures c.args.text.now o.inside in
+    less_inside c.terms.levels.items c.push.new.self.items c.terms.next c.first_term-next-in-Inner.result c.in-Inner.level c.in-Inner.trees (named_trees_of c.skip_bar-in-Inner.result.now) c.in-Inner.is c.in_ok-push-in-Inner.ensures.items c.first_term-next-in-Inner.ensures.work b.shorter
 
 pub terms-preserved-in-Inner : goal.terms-preserved-in-Inner
 terms-preserved-in-Inner c =
@@ -61,7 +61,7 @@ terms-preserved-in-Inner c =
     let h = subst P c.in-Inner.is i.goes_on in
     let inner = named_trees_of c.in-Inner.trees.now in
     let o = opened h.opens in
-    let b = c.behind_bar-in-Inner.ensures c.args.text.now o.inside in
+    let b = c.skip_bar-in-Inner.ensures c.args.text.now o.inside in
     record {
       us = inner;
       opens = rw c.in_ok-push-in-Inner.ensures.items (open_more c.args.text.now c.terms.levels.items c.in-Inner.level i.us inner (named_trees_of c.args.trees.now) i.opens h);
@@ -70,8 +70,8 @@ terms-preserved-in-Inner c =
 
 -- an expression that is read
 
-pub behind_level-requires : goal.behind_level-requires
-behind_level-requires c =
+pub finish_level-requires : goal.finish_level-requires
+finish_level-requires c =
     let i = c.terms.invariant in
     let P : Next → Type 0 = λ n. GoesOn c.args.text.now i.us n in
     let w = open_last c.args.text.now c.pop.new.self.items c.in-Some.level i.us (named_trees_of c.args.trees.now) (rw c.in-Some.ensures.items at i.opens) in

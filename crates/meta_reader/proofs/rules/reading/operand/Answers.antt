@@ -18,12 +18,12 @@ returns-in_err-node c =
     let f = node_flaw c.args.text.now u.start u.end (named_trees_of u.inner.now) (named_trees_of u.others.now) (terminal c.requires.shape.0) in
     rw (p.1, p.2, f) (first_in _ _ _ c.in_err-node.ensures)
 
-pub postfixed-requires-clause-place : goal.postfixed-requires-clause-place
-postfixed-requires-clause-place c = before_operators c.in_ok-node.node c.requires.nested c.in_ok-node.ensures.1
+pub apply_postfixes-requires-clause-place : goal.apply_postfixes-requires-clause-place
+apply_postfixes-requires-clause-place c = before_operators c.in_ok-node.node c.requires.nested c.in_ok-node.ensures.1
 
 pub returns : goal.returns
 returns c =
     let u = c.args.tree in
     let e = c.in_ok-node.ensures in
     let f = node_flaw c.args.text.now u.start u.end (named_trees_of u.inner.now) (named_trees_of u.others.now) (terminal c.requires.shape.0) in
-    answers_as _ _ _ _ _ (f ∙ rw e.0 refl) (λ n q. bare e.1 q) c.postfixed.ensures
+    answers_as _ _ _ _ _ (f ∙ rw e.0 refl) (λ n q. bare e.1 q) c.apply_postfixes.ensures

@@ -3,8 +3,8 @@ use Rattle.meta_base.specs.Pieces.NamedTrees.{named_trees_of}
 use Rattle.meta_reader.proofs.Levels.{opened, stand_term}
 use Rattle.meta_reader.proofs.rules.reading.term.Goals as goal
 
-pub behind_signs-requires-clause-nested : goal.behind_signs-requires-clause-nested
-behind_signs-requires-clause-nested c = stand_term c.requires.1
+pub take_signs-requires-clause-nested : goal.take_signs-requires-clause-nested
+take_signs-requires-clause-nested c = stand_term c.requires.1
 
 pub operand-requires-clause-nested : goal.operand-requires-clause-nested
 operand-requires-clause-nested c =
@@ -17,9 +17,9 @@ returns-in-Some-clause-work c =
     let o = opened (c.in-Some.ensures c.args.text.now (rw c.leading_tree-tree.ensures at b.shape)) in
     omega (arith, o.smaller, rw c.leading_tree-tree.ensures at b.shorter)
 
-pub returns-in_ok-behind_operand-in-None-clause-goes_on : goal.returns-in_ok-behind_operand-in-None-clause-goes_on
-returns-in_ok-behind_operand-in-None-clause-goes_on c = λ us h.
-    c.in_ok-behind_operand-in-None.ensures.goes_on us (record {
+pub returns-in_ok-finish_operand-in-None-clause-goes_on : goal.returns-in_ok-finish_operand-in-None-clause-goes_on
+returns-in_ok-finish_operand-in-None-clause-goes_on c = λ us h.
+    c.in_ok-finish_operand-in-None.ensures.goes_on us (record {
       term = named_trees_of c.args.trees.now;
       operand = named_trees_of c.in_ok-signs.rest.now;
       stands = h;

@@ -7,11 +7,11 @@ use Rattle.meta_reader.proofs.TreesStandInText.{first_piece, stand_inner, stand_
 use Rattle.meta_reader.proofs.Terminals.{in_slice, start_number, end_number, to_dots, no_dots, behind_dots, dots_flaw, end_flaw, slice_flaw, slice_reads, takes_standing}
 use Rattle.meta_reader.proofs.rules.terminals.slice.Goals as goal
 
-pub bound-requires-clause-shape : goal.bound-requires-clause-shape
-bound-requires-clause-shape c = (start_number (in_slice (rw c.leading_tree-bracket.ensures at c.requires.shape)))
+pub take_bound-requires-clause-shape : goal.take_bound-requires-clause-shape
+take_bound-requires-clause-shape c = (start_number (in_slice (rw c.leading_tree-bracket.ensures at c.requires.shape)))
 
-pub bound-requires-clause-nested : goal.bound-requires-clause-nested
-bound-requires-clause-nested c = let k = stand_inner c.requires.nested in (stand_behind (rw c.leading_tree-bracket.ensures at k))
+pub take_bound-requires-clause-nested : goal.take_bound-requires-clause-nested
+take_bound-requires-clause-nested c = let k = stand_inner c.requires.nested in (stand_behind (rw c.leading_tree-bracket.ensures at k))
 
 pub returns-in_err-low : goal.returns-in_err-low
 returns-in_err-low c =
@@ -24,14 +24,14 @@ leading_tree-dots-requires c = λ z.
     let d = to_dots (in_slice (rw c.leading_tree-bracket.ensures at c.requires.shape)) e.takes in
     no_dots (rw z at d)
 
-pub bound-requires-2-clause-shape : goal.bound-requires-2-clause-shape
-bound-requires-2-clause-shape c =
+pub take_bound-requires-2-clause-shape : goal.take_bound-requires-2-clause-shape
+take_bound-requires-2-clause-shape c =
     let e = c.in_ok-low.ensures in
     let d = to_dots (in_slice (rw c.leading_tree-bracket.ensures at c.requires.shape)) e.takes in
     (end_number (behind_dots (rw c.leading_tree-dots.ensures at d)))
 
-pub bound-requires-2-clause-nested : goal.bound-requires-2-clause-nested
-bound-requires-2-clause-nested c =
+pub take_bound-requires-2-clause-nested : goal.take_bound-requires-2-clause-nested
+take_bound-requires-2-clause-nested c =
     let k = stand_inner c.requires.nested in
     let e = c.in_ok-low.ensures in
     let m = takes_standing (stand_behind (rw c.leading_tree-bracket.ensures at k)) e.takes in

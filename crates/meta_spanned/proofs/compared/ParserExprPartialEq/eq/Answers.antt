@@ -4,4 +4,4 @@ use Rattle.meta_spanned.proofs.NodeTests.{same_expression-Decides}
 use Rattle.meta_spanned.proofs.compared.ParserExprPartialEq.eq.Goals as goal
 
 pub returns-clause-exact : goal.returns-clause-exact
-returns-clause-exact c = Decides-at _ _ (c.are_same.ensures ∙ c.compared.ensures.same) (same_expression-Decides c.args.self.now c.args.other.now)
+returns-clause-exact c = Decides-at _ _ (c.are_same.ensures ∙ c.compare_exprs.ensures.same) (same_expression-Decides c.args.self.now c.args.other.now)

@@ -10,7 +10,7 @@ use Rattle.meta_stack_loops.proofs.memory.Memory.remember.Goals as goal
 pub returns : goal.returns
 returns c =
     let set : is_set_at c.args.self.now.apart.items c.args.node ≡ true = search rules in
-    let right : (meaning : Meaning) → IsRight meaning c.args.self.now → reading_of c.args.reading ≡ meaning c.args.node (stack_of c.args.stack) → reading_of c.moved-kept.result ≡ meaning c.args.node (stack_of c.unknown-unknown.result) = λ meaning h e.
-    c.moved-kept.ensures ∙ ap (λ s. moved s (reading_of c.args.reading)) c.unknown-unknown.ensures ∙ ap (moved unknown) e
+    let right : (meaning : Meaning) → IsRight meaning c.args.self.now → reading_of c.args.reading ≡ meaning c.args.node (stack_of c.args.stack) → reading_of c.rebase-kept.result ≡ meaning c.args.node (stack_of c.unknown-unknown.result) = λ meaning h e.
+    c.rebase-kept.ensures ∙ ap (λ s. moved s (reading_of c.args.reading)) c.unknown-unknown.ensures ∙ ap (moved unknown) e
     ∙ sym (h.movable c.args.node set (stack_of c.args.stack) unknown) ∙ ap (meaning c.args.node) (sym c.unknown-unknown.ensures) in
     on_ok_weaker c.keep-2.result (λ kept meaning h e. kept meaning h (right meaning h e)) c.keep-2.ensures

@@ -5,7 +5,7 @@ use Rattle.meta_syntax.proofs.expecting.Expecting.end_of_input.Goals as goal
 
 pub returns-then-not-is_empty-clause-means : goal.returns-then-not-is_empty-clause-means
 returns-then-not-is_empty-clause-means c = record {
-  ran = λ classes. noted_not_end c.args.mode _ _ (end_missing _ _ _ _ c.utf8.rest c.is_empty.ensures c.if-not-is_empty.true) c.is_seen_from.ensures c.count-saved.ensures c.in_ok-tell.ensures.told;
+  ran = λ classes. noted_not_end c.args.mode _ _ (end_missing _ _ _ _ c.utf8.rest c.is_empty.ensures c.if-not-is_empty.true) c.is_seen_from.ensures c.count-saved.ensures c.in_ok-record_failure.ensures.told;
 }
 
 pub returns-clause-means : goal.returns-clause-means

@@ -21,10 +21,10 @@ returns-in_default c = record {
       (record { means = c.in_ok-end_of_input.ensures.means; goes_on = c.in_ok-end_of_input.ensures.goes_on }) h1 l;
 }
 
-pub returns-then-is_settled : goal.returns-then-is_settled
-returns-then-is_settled c = record {
+pub returns-then-is_unrecorded : goal.returns-then-is_unrecorded
+returns-then-is_unrecorded c = record {
   next = λ top work h l.
-      answer_next c.args.text.now c.args.frames.now.items c.settled.new.self c.in_ok-answer.answer
+      answer_next c.args.text.now c.args.frames.now.items c.call_unrecorded.new.self c.in_ok-answer.answer
       (question_of (Run (mode_of c.args.mode) (Ident (name_of c.args.rule))) c.args.rest.now (nullable c.args.rule) c.args.self.now)
       top (effort c.args.rest.now (rank_of c.args.rule + 3)) work c.in_ok-answer.ensures.truly
       (record { means = c.in_ok-answer.ensures.means; goes_on = c.in_ok-answer.ensures.goes_on }) h l;

@@ -268,13 +268,13 @@ characters-returns-in-None-clause-means t c =
     let x = rw c.in-None.is at c.in_ok-after-2.ensures.means in
     finds_characters c.args.mode (c.is_tight.ensures c.if-not-is_tight.false) c.loop-set.invariant.means x
 
-pub quoted-returns-then-is_seen_from-clause-means : goal.quoted-returns-then-is_seen_from-clause-means
-quoted-returns-then-is_seen_from-clause-means t c =
+pub quotation-returns-then-is_seen_from-clause-means : goal.quotation-returns-then-is_seen_from-clause-means
+quotation-returns-then-is_seen_from-clause-means t c =
     let o : expression_of c.args.spelled.now ≡ body_of is.inner_str = assumption in
     rw (← o) c.copies.ensures.means
 
-pub quoted-loop-next-init : goal.quoted-loop-next-init
-quoted-loop-next-init t c = record {
+pub quotation-loop-next-init : goal.quotation-loop-next-init
+quotation-loop-next-init t c = record {
   text = search rules;
   means = so_far_nothing _ _ _ _ _;
   left = assumption;
@@ -282,8 +282,8 @@ quoted-loop-next-init t c = record {
   remembers = assumption;
 }
 
-pub quoted-loop-next-preserved : goal.quoted-loop-next-preserved
-quoted-loop-next-preserved t c =
+pub quotation-loop-next-preserved : goal.quotation-loop-next-preserved
+quotation-loop-next-preserved t c =
     let o : expression_of c.args.body.now ≡ spelled_by set.Quoted = assumption in
     let y = rw o at c.in_ok-next.ensures.means in
     let w = rw c.in-Some.is at c.in_ok-after.ensures.means in
@@ -296,8 +296,8 @@ quoted-loop-next-preserved t c =
       remembers = c.in_ok-after.ensures.remembers;
     }
 
-pub quoted-returns-in-None-clause-means : goal.quoted-returns-in-None-clause-means
-quoted-returns-in-None-clause-means t c =
+pub quotation-returns-in-None-clause-means : goal.quotation-returns-in-None-clause-means
+quotation-returns-in-None-clause-means t c =
     let o : expression_of c.args.body.now ≡ spelled_by set.Quoted = assumption in
     let y = rw o at c.in_ok-next.ensures.means in
     let w = rw c.in-None.is at c.in_ok-after.ensures.means in
@@ -315,28 +315,28 @@ comment-returns-in_default-clause-means t c =
     let k = unseen c.args.mode (sym c.is_seen_from.ensures ∙ c.if-is_seen_from.false) in
     rw k (never_begun _ _ _ _ (c.in_default.ensures.means c.args.text.now l))
 
-pub comment-returns-in-Some-closed-clause-means : goal.comment-returns-in-Some-closed-clause-means
-comment-returns-in-Some-closed-clause-means t c =
+pub comment-returns-in-Some-skip_closed_comment-clause-means : goal.comment-returns-in-Some-skip_closed_comment-clause-means
+comment-returns-in-Some-skip_closed_comment-clause-means t c =
     let l : IsLeft c.args.text.now c.args.from.now = assumption in
     let k = unseen c.args.mode (sym c.is_seen_from.ensures ∙ c.if-is_seen_from.false) in
     let g = c.in-Some.ensures.goes_on c.args.text.now l in
-    rw k (comment_gives _ _ _ _ _ (Some c.in-Some-closed.after) (c.in-Some.ensures.means c.args.text.now l) (λ classes. c.in-Some-closed.ensures.closed c.args.text.now classes _ g.left))
+    rw k (comment_gives _ _ _ _ _ (Some c.in-Some-skip_closed_comment.after) (c.in-Some.ensures.means c.args.text.now l) (λ classes. c.in-Some-skip_closed_comment.ensures.closed c.args.text.now classes _ g.left))
 
 pub comment-returns-clause-means : goal.comment-returns-clause-means
 comment-returns-clause-means t c =
     let l : IsLeft c.args.text.now c.args.from.now = assumption in
     let k = unseen c.args.mode (sym c.is_seen_from.ensures ∙ c.if-is_seen_from.false) in
     let f = c.in_ok-find_ends.ensures in
-    rw (k, f.entries, f.furthest) (comment_gives _ _ _ _ _ c.behind.result (c.in-Some.ensures.means c.args.text.now l) (λ classes. c.behind.ensures.means classes _))
+    rw (k, f.entries, f.furthest) (comment_gives _ _ _ _ _ c.skip_comment.result (c.in-Some.ensures.means c.args.text.now l) (λ classes. c.skip_comment.ensures.means classes _))
 
-pub called-returns-then-has_failed-clause-means : goal.called-returns-then-has_failed-clause-means
-called-returns-then-has_failed-clause-means t c =
+pub run_call-returns-then-has_failed-clause-means : goal.run_call-returns-then-has_failed-clause-means
+run_call-returns-then-has_failed-clause-means t c =
     let l : IsLeft c.args.text.now c.args.rest.now = assumption in
     let s : RemembersTruly c.args.text.now c.args.self.now = assumption in
     fails_again c.args.rule _ _ _ _ _ (c.has_failed.ensures c.args.text.now s l c.if-has_failed.true)
 
-pub called-returns-in_ok-close-in-Some-2-clause-means : goal.called-returns-in_ok-close-in-Some-2-clause-means
-called-returns-in_ok-close-in-Some-2-clause-means t c =
+pub run_call-returns-in_ok-close-in-Some-2-clause-means : goal.run_call-returns-in_ok-close-in-Some-2-clause-means
+run_call-returns-in_ok-close-in-Some-2-clause-means t c =
     let x = rw c.in-Some-2.is at c.in_ok-after.ensures.means in
     let r = c.in-Some.ensures in
     record {
@@ -345,8 +345,8 @@ called-returns-in_ok-close-in-Some-2-clause-means t c =
       ran = λ classes. call_found c.args.rule _ _ _ _ r.defined c.body_mode-inner_mode.ensures.means r.body r.kind _ (x.ran classes) c.gives_token-gives.ensures;
     }
 
-pub called-returns-in_ok-remember-in-None-clause-remembers : goal.called-returns-in_ok-remember-in-None-clause-remembers
-called-returns-in_ok-remember-in-None-clause-remembers t c =
+pub run_call-returns-in_ok-remember-in-None-clause-remembers : goal.run_call-returns-in_ok-remember-in-None-clause-remembers
+run_call-returns-in_ok-remember-in-None-clause-remembers t c =
     let x = rw c.in-None.is at c.in_ok-after.ensures.means in
     let r = c.in-Some.ensures in
     let l : IsLeft c.args.text.now c.args.rest.now = assumption in
@@ -354,8 +354,8 @@ called-returns-in_ok-remember-in-None-clause-remembers t c =
     (remembers_truly_on c.args.text.now c.run.new.self c.furthest_with-self.result c.in_ok-after.ensures.remembers c.furthest_with-self.ensures.further) l
     (failed_within c.args.rule _ _ _ _ _ (λ classes. call_failed c.args.rule _ _ _ _ r.defined c.body_mode-inner_mode.ensures.means r.body r.kind _ (x.ran classes) c.call_counts.ensures c.furthest_with-self.ensures.value))
 
-pub called-returns-in_ok-remember-in-None-clause-means : goal.called-returns-in_ok-remember-in-None-clause-means
-called-returns-in_ok-remember-in-None-clause-means t c =
+pub run_call-returns-in_ok-remember-in-None-clause-means : goal.run_call-returns-in_ok-remember-in-None-clause-means
+run_call-returns-in_ok-remember-in-None-clause-means t c =
     let x = rw c.in-None.is at c.in_ok-after.ensures.means in
     let r = c.in-Some.ensures in
     let m = c.in_ok-remember-in-None.ensures in

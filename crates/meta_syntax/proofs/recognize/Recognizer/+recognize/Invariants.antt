@@ -17,8 +17,8 @@ use Rattle.meta_syntax.proofs.recognize.Recognizer.+recognize.Given as goal
 abbrev pub decreases-call : goal.decreases-call
 decreases-call l = 2 * measure l.rest.now (skips_in_call l.rule l.mode) (rank_of l.rule + 2)
 
-abbrev pub decreases-called : goal.decreases-called
-decreases-called l = 2 * measure l.rest.now (skips_in_call l.rule l.mode) (rank_of l.rule + 1)
+abbrev pub decreases-run_call : goal.decreases-run_call
+decreases-run_call l = 2 * measure l.rest.now (skips_in_call l.rule l.mode) (rank_of l.rule + 1)
 
 abbrev pub decreases-deeper : goal.decreases-deeper
 decreases-deeper l = 2 * measure l.rest.now (skips_in_call l.rule l.mode) (rank_of l.rule + 1) + 1
@@ -26,11 +26,11 @@ decreases-deeper l = 2 * measure l.rest.now (skips_in_call l.rule l.mode) (rank_
 abbrev pub decreases-characters : goal.decreases-characters
 decreases-characters l = 2 * measure l.from.now (skips_in l.mode) (2 + cost l.body.now)
 
-abbrev pub decreases-quoted : goal.decreases-quoted
-decreases-quoted l = 2 * measure l.from.now (skips_in l.mode) (6 + max (cost l.body.now) (cost l.spelled.now))
+abbrev pub decreases-quotation : goal.decreases-quotation
+decreases-quotation l = 2 * measure l.from.now (skips_in l.mode) (6 + max (cost l.body.now) (cost l.spelled.now))
 
-abbrev pub invariant-quoted-loop-next : goal.invariant-quoted-loop-next
-invariant-quoted-loop-next l = record {
+abbrev pub invariant-quotation-loop-next : goal.invariant-quotation-loop-next
+invariant-quotation-loop-next l = record {
   text : shadow (Utf8 l.rest);
   means : SoFar (Run AtomicMode text_of_string) l.text l.from l.fn.self.entries.items l.fn.self.furthest l.rest l.self.entries.items l.self.furthest;
   left : IsLeft l.text l.rest;
@@ -38,8 +38,8 @@ invariant-quoted-loop-next l = record {
   remembers : RemembersTruly l.text l.self;
 }
 
-abbrev pub decreases-quoted-loop-next : goal.decreases-quoted-loop-next
-decreases-quoted-loop-next l = length l.rest
+abbrev pub decreases-quotation-loop-next : goal.decreases-quotation-loop-next
+decreases-quotation-loop-next l = length l.rest
 
 abbrev pub decreases-comment : goal.decreases-comment
 decreases-comment l = 2 * measure l.from.now (skips_in l.mode) (2 + cost l.spelled.now)

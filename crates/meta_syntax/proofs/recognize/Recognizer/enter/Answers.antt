@@ -14,7 +14,7 @@ use Rattle.meta_syntax.proofs.recognize.Recognizer.enter.Goals as goal
 pub returns-in-Some : goal.returns-in-Some
 returns-in-Some c = record {
   next = λ top work h l.
-      answer_next c.args.text.now c.args.frames.now.items c.decided.new.self c.in-Some.answer
+      answer_next c.args.text.now c.args.frames.now.items c.decide_call.new.self c.in-Some.answer
       (question_of (Run (mode_of c.args.mode) (Ident (name_of c.args.rule))) c.args.rest.now (nullable c.args.rule) c.args.self.now)
       top (effort c.args.rest.now (rank_of c.args.rule + 3)) work c.in-Some.ensures.remembers
       (record { means = c.in-Some.ensures.means; goes_on = c.in-Some.ensures.goes_on }) h l;
@@ -25,7 +25,7 @@ returns-in_default-row_of c = record {
   next = λ top work h l.
       let same = c.in_default.ensures.means in
       let h1 = subst (λ r. IsAsked c.args.text.now c.args.frames.now.items (question_of (Run (mode_of c.args.mode) (Ident (name_of c.args.rule))) c.args.rest.now (nullable c.args.rule) r) top) (sym same) h in
-      let h2 = subst (λ r. IsAsked c.args.text.now c.args.frames.now.items (question_of (Run (mode_of c.args.mode) (Ident (name_of r))) c.args.rest.now (nullable r) c.decided.new.self) top) c.in_default-row_of.ensures h1 in
+      let h2 = subst (λ r. IsAsked c.args.text.now c.args.frames.now.items (question_of (Run (mode_of c.args.mode) (Ident (name_of r))) c.args.rest.now (nullable r) c.decide_call.new.self) top) c.in_default-row_of.ensures h1 in
       answer_next c.args.text.now c.args.frames.now.items c.end_of_input.new.self c.in_ok-end_of_input.field-0
       _ top (effort c.args.rest.now (rank_of c.args.rule + 3)) work c.in_ok-end_of_input.ensures.remembers
       (record { means = c.in_ok-end_of_input.ensures.means; goes_on = c.in_ok-end_of_input.ensures.goes_on }) h2 l;
@@ -36,7 +36,7 @@ returns-then-has_failed c = record {
   next = λ top work h l.
       let same = c.in_default.ensures.means in
       let h1 = subst (λ r. IsAsked c.args.text.now c.args.frames.now.items (question_of (Run (mode_of c.args.mode) (Ident (name_of c.args.rule))) c.args.rest.now (nullable c.args.rule) r) top) (sym same) h in
-      answer_next c.args.text.now c.args.frames.now.items c.decided.new.self None
+      answer_next c.args.text.now c.args.frames.now.items c.decide_call.new.self None
       _ top (effort c.args.rest.now (rank_of c.args.rule + 3)) work c.in_default.ensures.remembers
       (record {
         means = fails_again c.args.rule _ _ _ _ _ (c.has_failed.ensures c.args.text.now c.in_default.ensures.remembers c.requires.ready.left c.if-has_failed.true);
@@ -58,6 +58,6 @@ returns c = record {
       c.in_ok-push.ensures.items
       (record { good = row.good; spelled = row.spelled })
       (record { left = c.requires.ready.left; remembers = c.in_default.ensures.remembers })
-      (call_follows c.args.text.now c.args.rule c.in-Some-row_of.row.kind c.args.mode c.body_mode.result c.count_of_entries-saved.result c.args.rest c.in-Some-row_of.row.body c.decided.new.self.entries.items c.open.new.entries.items c.decided.new.self.furthest h1.0 c.requires.ready.left row c.body_mode.ensures.means opened c.count_of_entries-saved.ensures h1.1)
+      (call_follows c.args.text.now c.args.rule c.in-Some-row_of.row.kind c.args.mode c.body_mode.result c.count_of_entries-saved.result c.args.rest c.in-Some-row_of.row.body c.decide_call.new.self.entries.items c.open.new.entries.items c.decide_call.new.self.furthest h1.0 c.requires.ready.left row c.body_mode.ensures.means opened c.count_of_entries-saved.ensures h1.1)
       h1.2 (omega (arith, less)) l;
 }

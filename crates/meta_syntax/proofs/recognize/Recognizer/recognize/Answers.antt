@@ -5,8 +5,8 @@ use Rattle.meta_syntax.proofs.recognize.Recognizer.recognize.Goals as goal
 pub call-requires : goal.call-requires
 call-requires c = record { ready = record { left = search rules; remembers = c.requires.remembers } }
 
-pub by_list-requires : goal.by_list-requires
-by_list-requires c = record { ready = record { left = search rules; remembers = c.new.ensures.remembers c.args.text.now } }
+pub call_iteratively-requires : goal.call_iteratively-requires
+call_iteratively-requires c = record { ready = record { left = search rules; remembers = c.new.ensures.remembers c.args.text.now } }
 
 pub returns-clause-means : goal.returns-clause-means
 returns-clause-means c =

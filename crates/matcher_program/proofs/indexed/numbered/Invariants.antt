@@ -1,7 +1,0 @@
-use Rattle.std.proofs.Common.{take}
-use Rattle.meta_ast.specs.Optimized.{optimized_rules_of}
-use Rattle.matcher_program.specs.Indexed.{KnowsLast}
-use Rattle.matcher_program.proofs.indexed.numbered.Given as goal
-
-abbrev pub invariant-loop-number : goal.invariant-loop-number
-invariant-loop-number l = KnowsLast (optimized_rules_of (take l.number l.rules)) l.numbers
