@@ -1,3 +1,6 @@
 pub mod Trees
 pub mod Reaching
 pub mod Forward
+pub mod Leaves
+pub mod Sets
+pub mod Ends

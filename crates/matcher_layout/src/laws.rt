@@ -1,14 +1,17 @@
 //! Laws over the definitions alone.
-ghost use Rattle.std.specs.Prelude.{◌≡◌, ℕ, List, []};
+ghost use Rattle.std.specs.Prelude.{◌≡◌, ◌==◌, ℕ, List, [], IsUtf8, chars, codes, if◌then◌else◌, nat_eq, true};
 ghost use Rattle.meta_base.specs.Language.Expression.{Grammar};
-ghost use Rattle.meta_base.specs.Language.FurthestFailure.{furthest};
-ghost use Rattle.meta_base.specs.Language.Meaning.{Does, Task};
-ghost use Rattle.meta_base.specs.Language.State.{Classes, Outcome, State};
+ghost use Rattle.meta_base.specs.Language.FurthestFailure.{furthest, place_of};
+ghost use Rattle.meta_base.specs.Language.Meaning.{Does, Task, seen_from};
+ghost use Rattle.meta_base.specs.Language.State.{AtomicMode, Classes, Failure, Mode, None', Outcome, State, Success};
 ghost use Rattle.meta_base.specs.Language.Text.{Text};
+ghost use Rattle.meta_base.specs.Language.Matching.{character_outcome, end_outcome, text_outcome};
+ghost use Rattle.matcher_code.specs.Reading.{is_covered, text_of};
+ghost use Rattle.matcher_code.specs.Sets.{IsSetOf};
 ghost use Rattle.matcher_code.specs.Steps.{Config, op_at};
 ghost use Rattle.matcher_code.specs.declared.code.Code.{Code};
 ghost use Rattle.matcher_code.specs.declared.code.Op.TheVariants as op;
-ghost use Rattle.matcher_layout.specs.Laid.{AreLaid, IsPoint, Point};
+ghost use Rattle.matcher_layout.specs.Laid.{AreLaid, IsPoint, Performs, Point, skip_set};
 ghost use Rattle.matcher_layout.specs.Reached.{Comes, IsAt, IsGuarded};
 
 /// Where the operation 0 is `Fail` and each point of a list is laid by points of the list, the code of a point
@@ -20,4 +23,52 @@ pub fn laid_code_does_its_task()
         → (k : Task) (l n w : ℕ) → IsPoint points k l n w
         → (text : List ℕ) (s : State) (c : Config) → IsAt text s c.at → IsGuarded w c
         → (o : Outcome) (d : Does g classes k s o) → Comes code text number l n w o (furthest d) c }
+{}
+
+/// Where the operation 0 is `Fail`, the operation `Text` of a text matches it as the expression of a literal
+/// does.
+pub fn text_operation_matches_literal()
+    ensures { (code : Code) (number : Text → ℕ) → op_at code [] 0 ≡ op.Fail
+        → (l n w i : ℕ) (b : List ℕ) → IsUtf8 b → text_of code i ≡ b → op_at code [] l ≡ op.Text i n w
+        → Performs code number l n w (text_outcome nat_eq (chars b)) (λ s. 0) }
+{}
+
+/// Where the operation 0 is `Fail`, the operation `One` of a set matches one character of it.
+pub fn one_operation_matches_character()
+    ensures { (code : Code) (set : ℕ) (ranges : List (ℕ × ℕ)) → IsSetOf code set ranges
+        → (number : Text → ℕ) → op_at code [] 0 ≡ op.Fail → (l n w : ℕ) → op_at code [] l ≡ op.One set n w
+        → Performs code number l n w (character_outcome (is_covered ranges)) (λ s. 0) }
+{}
+
+/// Where the operation 0 is `Fail`, the operation `All` of a set matches the characters of it that follow.
+pub fn all_operation_matches_span()
+    ensures { (code : Code) (set : ℕ) (ranges : List (ℕ × ℕ)) → IsSetOf code set ranges
+        → (number : Text → ℕ) → op_at code [] 0 ≡ op.Fail → (l n w : ℕ) → op_at code [] l ≡ op.All set n
+        → Performs code number l n w (skip_set (is_covered ranges)) (λ s. 0) }
+{}
+
+/// Where the operation 0 is `Fail`, the operation `Start` matches at the start of a text alone.
+pub fn start_operation_matches_start()
+    ensures { (code : Code) (number : Text → ℕ) → op_at code [] 0 ≡ op.Fail
+        → (l n w : ℕ) → op_at code [] l ≡ op.Start n w
+        → Performs code number l n w (λ s. if s.position == 0 then Success s None' else Failure) (λ s. 0) }
+{}
+
+/// Where the operation 0 is `Fail`, the operation `End` matches at the end of a text alone, as `EOI` does in
+/// Atomic.
+pub fn end_operation_matches_end()
+    ensures { (code : Code) (number : Text → ℕ) → op_at code [] 0 ≡ op.Fail
+        → (l n w : ℕ) → op_at code [] l ≡ op.End n w
+        → Performs code number l n w (λ s. end_outcome AtomicMode s.rest s) (λ s. 0) }
+{}
+
+/// Where the operation 0 is `Fail`, the operations `End`, `Open`, `Close` and `Note` match the end of a text as
+/// `EOI` does in a mode that gives its tree.
+pub fn end_operations_give_tree()
+    ensures { (code : Code) (number : Text → ℕ) → op_at code [] 0 ≡ op.Fail
+        → (m : Mode) (l n w open close note : ℕ) → seen_from m ≡ true → op_at code [] l ≡ op.End open note
+        → op_at code [] open ≡ op.Open (number (codes "EOI")) close → op_at code [] close ≡ op.Close n
+        → op_at code [] note ≡ op.Note w
+        → Performs code number l n w (λ s. end_outcome m s.rest s)
+        (λ s. place_of true s (end_outcome m s.rest s)) }
 {}

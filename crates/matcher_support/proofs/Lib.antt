@@ -1,3 +1,3 @@
 pub mod FlatLines
-pub mod BuiltTrees
 pub mod Ranges
+pub mod JsonEntries

@@ -1,6 +1,5 @@
 pub mod Shown
 pub mod Flat
 pub mod Values
-pub mod Built
 pub mod Sets
 pub mod Json

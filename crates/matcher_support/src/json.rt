@@ -13,11 +13,11 @@ use meta_matcher::entries::Entry;
 use serde_json::{Value, json};
 use std::alloc::{AllocError, Global};
 
-/// The trees of a text, given as the list of their starts and ends, and where the match ended, as JSON.
+/// Returns the trees of a text, from the list of their starts and ends, and the end of the match as JSON.
 ///
-/// The text is an object with `end` and the array `trees`. A tree is an object with `rule`, `start` and `end`,
-/// and with `children`, the trees that it holds, or with `text`, its part of the text, where it holds none.
-/// Positions are in bytes. No depth of the trees takes stack space. The only error is an allocation failure.
+/// The JSON is an object with `end` and the array `trees`. A tree is an object with `rule`, `start` and `end`;
+/// an inner tree has `children` too, and a leaf has `text`, its part of the text. Positions are in bytes. The
+/// depth of the trees takes no stack space. The only error is an allocation failure.
 pub fn tree_json(
     alloc: Global,
     text: &str,
@@ -38,14 +38,14 @@ pub fn tree_json(
     Ok(json)
 }
 
-/// Writes where a match ended, and what precedes the trees.
+/// Writes the end of the match, and the text before the trees.
 fn write_head(json: &mut String, end: usize) -> Result<(), AllocError>
     ensures { OnOk result (string_bytes json.new ≡ string_bytes json.old ++ head end) }
 {
     write!(json, "{{\"end\":{end},\"trees\":[")
 }
 
-/// Whether an entry is the end of a tree.
+/// Returns whether an entry is the end of a tree.
 fn is_end(entry: &Entry<'_>) -> bool
     ensures { result ≡ is_end (entry_of entry.now) }
 {
@@ -55,7 +55,7 @@ fn is_end(entry: &Entry<'_>) -> bool
     }
 }
 
-/// Writes what the entry of a number adds; `later` says that the end of a tree precedes it.
+/// Writes the text of the entry of a number, where `later` says whether the end of a tree precedes it.
 fn write_entry(
     alloc: Global,
     json: &mut String,
@@ -88,7 +88,7 @@ fn write_entry(
     }
 }
 
-/// Writes the end of a tree: all of a leaf; or of another tree what follows the trees that it holds.
+/// Writes a leaf, or the text of another tree after its children.
 fn write_end(
     alloc: Global,
     json: &mut String,
@@ -113,7 +113,7 @@ fn write_end(
     }
 }
 
-/// A tree that holds no other.
+/// Returns the JSON of a leaf.
 fn leaf_text(
     alloc: Global,
     rule: &str,
@@ -127,7 +127,7 @@ fn leaf_text(
     value.to_string(alloc)
 }
 
-/// The rule of a tree and its positions.
+/// Returns the JSON of a tree's rule and positions.
 fn own_text(alloc: Global, rule: &str, from: usize, to: usize) -> Result<String, AllocError>
     ensures { IfOk result (λ json. string_bytes json ≡ compact_text (own_data rule.now from to)) }
 {

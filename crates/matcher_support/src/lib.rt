@@ -5,4 +5,3 @@ pub mod json;
 pub mod literal;
 pub mod shown;
 pub mod unicode_properties;
-pub mod values;
