@@ -4,3 +4,4 @@ pub mod Forward
 pub mod Leaves
 pub mod Sets
 pub mod Ends
+pub mod Existence

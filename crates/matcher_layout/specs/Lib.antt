@@ -1,2 +1,4 @@
+pub mod Endings
 pub mod Laid
 pub mod Reached
+pub mod Sizes

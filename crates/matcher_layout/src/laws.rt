@@ -1,5 +1,5 @@
 //! Laws over the definitions alone.
-ghost use Rattle.std.specs.Prelude.{◌≡◌, ◌==◌, ℕ, List, [], IsUtf8, chars, codes, if◌then◌else◌, nat_eq, true};
+ghost use Rattle.std.specs.Prelude.{◌≡◌, ◌*◌, ◌==◌, ℕ, List, [], IsUtf8, chars, codes, if◌then◌else◌, nat_eq, true};
 ghost use Rattle.meta_base.specs.Language.Expression.{Grammar};
 ghost use Rattle.meta_base.specs.Language.FurthestFailure.{furthest, place_of};
 ghost use Rattle.meta_base.specs.Language.Meaning.{Does, Task, seen_from};
@@ -8,21 +8,34 @@ ghost use Rattle.meta_base.specs.Language.Text.{Text};
 ghost use Rattle.meta_base.specs.Language.Matching.{character_outcome, end_outcome, text_outcome};
 ghost use Rattle.matcher_code.specs.Reading.{is_covered, text_of};
 ghost use Rattle.matcher_code.specs.Sets.{IsSetOf};
-ghost use Rattle.matcher_code.specs.Steps.{Config, op_at};
+ghost use Rattle.matcher_code.specs.Steps.{Config, jump, op_at};
 ghost use Rattle.matcher_code.specs.declared.code.Code.{Code};
 ghost use Rattle.matcher_code.specs.declared.code.Op.TheVariants as op;
+ghost use Rattle.matcher_layout.specs.Endings.{IsFound, IsOver};
 ghost use Rattle.matcher_layout.specs.Laid.{AreLaid, IsPoint, Performs, Point, skip_set};
 ghost use Rattle.matcher_layout.specs.Reached.{Comes, IsAt, IsGuarded};
+ghost use Rattle.matcher_layout.specs.Sizes.{least_steps, size};
 
 /// Where the operation 0 is `Fail` and each point of a list is laid by points of the list, the code of a point
 /// does its task: from each state, and for each outcome of the task there, the machine comes to where the
-/// outcome goes on, with its trees and the furthest place of its failures.
+/// outcome goes on, with its trees and the furthest position of its failures, in at most eight steps for each
+/// rule of the relation of matching that the derivation applies.
 pub fn laid_code_does_its_task()
     ensures { (g : Grammar) (classes : Classes) (code : Code) (number : Text → ℕ) (points : List Point)
         → op_at code [] 0 ≡ op.Fail → AreLaid g classes code number points
         → (k : Task) (l n w : ℕ) → IsPoint points k l n w
         → (text : List ℕ) (s : State) (c : Config) → IsAt text s c.at → IsGuarded w c
-        → (o : Outcome) (d : Does g classes k s o) → Comes code text number l n w o (furthest d) c }
+        → (o : Outcome) (d : Does g classes k s o)
+        → Comes code text number l n w o (furthest d) (least_steps k) (8 * size d) c }
+{}
+
+/// In such code, a run from a point that comes to an end has an outcome of the point's task.
+pub fn runs_that_end_have_outcomes()
+    ensures { (g : Grammar) (classes : Classes) (code : Code) (number : Text → ℕ) (points : List Point)
+        → op_at code [] 0 ≡ op.Fail → AreLaid g classes code number points
+        → (k : Task) (l n w : ℕ) → IsPoint points k l n w
+        → (text : List ℕ) (s : State) (c : Config) → IsAt text s c.at → IsGuarded w c
+        → (steps : ℕ) → IsOver code text steps (jump l c) → IsFound g classes k s }
 {}
 
 /// Where the operation 0 is `Fail`, the operation `Text` of a text matches it as the expression of a literal

@@ -52,13 +52,20 @@ abbrev later_after : Bool → Trees → Bool
 later_after later None' = later
 later_after later (Tree r i j inner others) = true
 
-first_of_rest : (es : List Entry) (n : ℕ) (e : Entry) (rest : List Entry) → drop n es ≡ e ∷ rest → get_or es n (Ends 0 0) ≡ e
+pub first_of_rest : (es : List Entry) (n : ℕ) (e : Entry) (rest : List Entry) → drop n es ≡ e ∷ rest → get_or es n (Ends 0 0) ≡ e
 first_of_rest es n e rest h =
     let z : n + 0 ≡ n = omega arith in
     ap (λ k. get_or es k (Ends 0 0)) (sym z) ∙ (sym (get_or-drop n es 0 (Ends 0 0)) ∙ ap (λ xs. get_or xs 0 (Ends 0 0)) h)
 
-rest_of_rest : (es : List Entry) (n : ℕ) (e : Entry) (rest : List Entry) → drop n es ≡ e ∷ rest → drop (n + 1) es ≡ rest
+pub rest_of_rest : (es : List Entry) (n : ℕ) (e : Entry) (rest : List Entry) → drop n es ≡ e ∷ rest → drop (n + 1) es ≡ rest
 rest_of_rest es n e rest h = sym (drop-drop 1 n es) ∙ ap (drop 1) h
+
+pub after_front : (es : List Entry) (n : ℕ) (us : Trees) (rest : List Entry) → drop n es ≡ entries_of n us ++ rest
+    → drop (n + entry_count us) es ≡ rest
+after_front es n us rest h =
+    let c : n + entry_count us ≡ n + length (entries_of n us) = omega (arith, length-entries n us) in
+    ap (λ x. drop x es) c ∙ (sym (drop-drop (length (entries_of n us)) n es)
+    ∙ (ap (drop (length (entries_of n us))) h ∙ drop-append_seam (entries_of n us) rest))
 
 module _ (text : List ℕ) (es : List Entry) where
   -- a leaf, and a tree that holds others
@@ -101,6 +108,29 @@ module _ (text : List ℕ) (es : List Entry) where
       ∙ (sym (append_assoc start (body false d ++ end_) after)
       ∙ ap (λ t. t ++ after) (sym (inner_text (encode_utf8_all r) i j d))))))
 
+  one_tree : (n : ℕ) (later : Bool) (r : Text) (i j : ℕ) (us : Trees) (tail : List Entry)
+      → drop n es ≡ Starts r i (n + 1 + entry_count us) ∷ (entries_of (n + 1) us ++ Ends j n ∷ tail)
+      → flat text es (n + 1) false (entries_of (n + 1) us ++ Ends j n ∷ tail)
+      ≡ body false (trees_data text us) ++ flat text es (n + 1 + entry_count us) (later_after false us) (Ends j n ∷ tail)
+      → flat text es n later (Starts r i (n + 1 + entry_count us) ∷ (entries_of (n + 1) us ++ Ends j n ∷ tail))
+      ≡ comma_if later ++ (compact_text (tree_data text r i j (trees_data text us)) ++ flat text es (n + 2 + entry_count us) true tail)
+  one_tree n later r i j None' tail k ih = leaf_tree n later r i j tail k
+  one_tree n later r i j (Tree s a b x y) tail k ih =
+      let us = Tree s a b x y in
+      inner_tree n later r i j (entry_count us) (entries_of (n + 1) us) tail (trees_data text us) (omega arith) k ih
+
+  after_tree : (n : ℕ) (r : Text) (i j : ℕ) (us : Trees) (tail : List Entry)
+      → drop n es ≡ Starts r i (n + 1 + entry_count us) ∷ (entries_of (n + 1) us ++ Ends j n ∷ tail)
+      → drop (n + 2 + entry_count us) es ≡ tail
+  after_tree n r i j us tail k =
+      let b = after_front es (n + 1) us (Ends j n ∷ tail) (rest_of_rest es n _ _ k) in
+      let z : n + 1 + entry_count us + 1 ≡ n + 2 + entry_count us = omega arith in
+      ap (λ x. drop x es) (sym z) ∙ rest_of_rest es (n + 1 + entry_count us) _ _ b
+
+  later_stays : (vs : Trees) → later_after true vs ≡ true
+  later_stays None' = refl
+  later_stays (Tree s a b x y) = refl
+
   -- the entries of trees
   flat_trees : (n : ℕ) (later : Bool) (us : Trees) (rest : List Entry) → drop n es ≡ entries_of n us ++ rest
       → flat text es n later (entries_of n us ++ rest)
@@ -114,39 +144,16 @@ module _ (text : List ℕ) (es : List Entry) where
       let e : Starts r i (n + 1 + entry_count inner) ∷ ((entries_of (n + 1) inner ++ Ends j n ∷ entries_of next others) ++ rest) ≡ whole =
           ap (λ l. Starts r i (n + 1 + entry_count inner) ∷ l) (append_assoc (entries_of (n + 1) inner) (Ends j n ∷ entries_of next others) rest) in
       let k : drop n es ≡ whole = h ∙ e in
-      let d = tree_data text r i j (trees_data text inner) in
-      let z : next + entry_count others ≡ n + (entry_count inner + 2 + entry_count others) = omega arith in
+      let d = compact_text (tree_data text r i j (trees_data text inner)) in
+      let last = n + (entry_count inner + 2 + entry_count others) in
+      let z : next + entry_count others ≡ last = omega arith in
+      let ih = flat_trees (n + 1) false inner (Ends j n ∷ tail) (rest_of_rest es n _ _ k) in
+      let more = flat_trees next true others rest (after_tree n r i j inner tail k) in
       ap (flat text es n later) e
-      ∙ (one inner k
-      ∙ (ap (λ t. comma_if later ++ (compact_text d ++ t)) (flat_trees next true others rest (after inner k) ∙ ap₂ (λ x b. body true (trees_data text others) ++ flat text es x b rest) z (ends others))
-      ∙ (ap (λ t. comma_if later ++ t) (sym (append_assoc (compact_text d) (body true (trees_data text others)) (flat text es (n + (entry_count inner + 2 + entry_count others)) true rest)))
-      ∙ sym (append_assoc (comma_if later) (compact_text d ++ body true (trees_data text others)) (flat text es (n + (entry_count inner + 2 + entry_count others)) true rest)))))
-    where
-      ends : (vs : Trees) → later_after true vs ≡ true
-      ends None' = refl
-      ends (Tree s a b x y) = refl
-
-      one : (us : Trees) → drop n es ≡ Starts r i (n + 1 + entry_count us) ∷ (entries_of (n + 1) us ++ Ends j n ∷ (entries_of (n + 2 + entry_count us) others ++ rest))
-          → flat text es n later (Starts r i (n + 1 + entry_count us) ∷ (entries_of (n + 1) us ++ Ends j n ∷ (entries_of (n + 2 + entry_count us) others ++ rest)))
-          ≡ comma_if later ++ (compact_text (tree_data text r i j (trees_data text us)) ++ flat text es (n + 2 + entry_count us) true (entries_of (n + 2 + entry_count us) others ++ rest))
-      one None' k = leaf_tree n later r i j (entries_of (n + 2 + 0) others ++ rest) k
-      one (Tree s a b x y) k =
-          let us = Tree s a b x y in
-          let t = entries_of (n + 2 + entry_count us) others ++ rest in
-          inner_tree n later r i j (entry_count us) (entries_of (n + 1) us) t (trees_data text us) (omega arith) k
-          (flat_trees (n + 1) false us (Ends j n ∷ t) (rest_of_rest es n _ _ k))
-
-      after : (us : Trees) → drop n es ≡ Starts r i (n + 1 + entry_count us) ∷ (entries_of (n + 1) us ++ Ends j n ∷ (entries_of (n + 2 + entry_count us) others ++ rest))
-          → drop (n + 2 + entry_count us) es ≡ entries_of (n + 2 + entry_count us) others ++ rest
-      after us k =
-          let t = entries_of (n + 2 + entry_count us) others ++ rest in
-          let a : drop (n + 1) es ≡ entries_of (n + 1) us ++ Ends j n ∷ t = rest_of_rest es n _ _ k in
-          let c : n + 1 + entry_count us ≡ n + 1 + length (entries_of (n + 1) us) = omega (arith, length-entries (n + 1) us) in
-          let b : drop (n + 1 + entry_count us) es ≡ Ends j n ∷ t =
-              ap (λ x. drop x es) c ∙ (sym (drop-drop (length (entries_of (n + 1) us)) (n + 1) es)
-              ∙ (ap (drop (length (entries_of (n + 1) us))) a ∙ drop-append_seam (entries_of (n + 1) us) (Ends j n ∷ t))) in
-          let z : n + 1 + entry_count us + 1 ≡ n + 2 + entry_count us = omega arith in
-          ap (λ x. drop x es) (sym z) ∙ rest_of_rest es (n + 1 + entry_count us) _ _ b
+      ∙ (one_tree n later r i j inner tail k ih
+      ∙ (ap (λ t. comma_if later ++ (d ++ t)) (more ∙ ap₂ (λ x b. body true (trees_data text others) ++ flat text es x b rest) z (later_stays others))
+      ∙ (ap (λ t. comma_if later ++ t) (sym (append_assoc d (body true (trees_data text others)) (flat text es last true rest)))
+      ∙ sym (append_assoc (comma_if later) (d ++ body true (trees_data text others)) (flat text es last true rest)))))
 
   -- from the first entry on
   pub all_entries : (us : Trees) → es ≡ entries_of 0 us → flat text es 0 false es ≡ body false (trees_data text us)

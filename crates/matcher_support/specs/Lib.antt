@@ -3,3 +3,4 @@ pub mod Flat
 pub mod Values
 pub mod Sets
 pub mod Json
+pub mod Lines

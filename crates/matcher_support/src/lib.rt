@@ -2,6 +2,7 @@
 #![tactic(auto)]
 
 pub mod json;
+pub mod lines;
 pub mod literal;
 pub mod shown;
 pub mod unicode_properties;
