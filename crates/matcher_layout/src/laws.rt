@@ -79,8 +79,8 @@ pub fn end_operation_matches_end()
 /// `EOI` does in a mode that gives its tree.
 pub fn end_operations_give_tree()
     ensures { (code : Code) (number : Text → ℕ) → op_at code [] 0 ≡ op.Fail
-        → (m : Mode) (l n w open close note : ℕ) → seen_from m ≡ true → op_at code [] l ≡ op.End open note
-        → op_at code [] open ≡ op.Open (number (codes "EOI")) close → op_at code [] close ≡ op.Close n
+        → (m : Mode) (l n w begin close note : ℕ) → seen_from m ≡ true → op_at code [] l ≡ op.End begin note
+        → op_at code [] begin ≡ op.Open (number (codes "EOI")) close → op_at code [] close ≡ op.Close n
         → op_at code [] note ≡ op.Note w
         → Performs code number l n w (λ s. end_outcome m s.rest s)
         (λ s. place_of true s (end_outcome m s.rest s)) }

@@ -13,6 +13,7 @@ use crate::arguments::Format;
 use crate::messages::failure_message;
 use matcher_program::compile::Unfit;
 use matcher_support::json::tree_json;
+use matcher_support::lines::tree_lines;
 use matcher_support::shown::tree_text;
 use matcher_support::unicode_properties::UnicodeProperties;
 use meta_base::grammar::Rule;
@@ -92,6 +93,7 @@ fn lines_of(
     match format {
         Format::Text => tree_text(alloc, text, &found.entries),
         Format::Json => json_line(alloc, text, &found.entries, found.end),
+        Format::Lines => tree_lines(alloc, &found.entries),
     }
 }
 
