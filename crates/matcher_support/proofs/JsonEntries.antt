@@ -13,7 +13,6 @@ use Rattle.meta_matcher.specs.declared.entries.Entry as code
 use Rattle.matcher_support.specs.Json.{closing, closing_of, flat, head, is_end, own_data, piece}
 use Rattle.matcher_support.specs.Shown.{part}
 use Rattle.matcher_support.specs.Values.{answer_data, inner_data, leaf_data, tree_data, trees_data}
-use Rattle.json.specs.Print.{quoted}
 use Rattle.serde_json.proofs.OnLiterals.{serde_json_on_literals}
 use Rattle.serde_json.specs.Data.{Items, no_items, item}
 use Rattle.serde_json.specs.Written.{comma_if, compact_text, items_text}
