@@ -78,7 +78,7 @@ module _ (text : List ℕ) (es : List Entry) where
       let b : (n + 1 == n + 1) ≡ true = eq-eqb (n + 1) (n + 1) refl in
       let k : n + 1 + 1 ≡ n + 2 + 0 = omega arith in
       let m : closing_of text (n + 1) n j (get_or es n (Ends 0 0)) ≡ compact_text (leaf_data (encode_utf8_all r) i j (part text i j)) =
-          ap (closing_of text (n + 1) n j) f ∙ ap (λ t. closing text t (encode_utf8_all r) i j) b in
+      ap (closing_of text (n + 1) n j) f ∙ ap (λ t. closing text t (encode_utf8_all r) i j) b in
       ap₂ (λ t x. (comma_if later ++ (if t then [] else codes "{\"children\":[")) ++ (closing_of text (n + 1) n j (get_or es n (Ends 0 0)) ++ flat text es x true tail)) a k
       ∙ (append_assoc (comma_if later) [] (closing_of text (n + 1) n j (get_or es n (Ends 0 0)) ++ flat text es (n + 2 + 0) true tail)
       ∙ ap (λ t. comma_if later ++ (t ++ flat text es (n + 2 + 0) true tail)) m)
@@ -97,7 +97,7 @@ module _ (text : List ℕ) (es : List Entry) where
       let end_ = codes "]," ++ own in
       let after = flat text es (n + 2 + c) true tail in
       let m : closing_of text (n + 1 + c) n j (get_or es n (Ends 0 0)) ≡ end_ =
-          ap (closing_of text (n + 1 + c) n j) f ∙ ap (λ t. closing text t (encode_utf8_all r) i j) a in
+      ap (closing_of text (n + 1 + c) n j) f ∙ ap (λ t. closing text t (encode_utf8_all r) i j) a in
       let w : flat text es (n + 1 + c) true (Ends j n ∷ tail) ≡ end_ ++ after = ap₂ (λ t x. t ++ flat text es x true tail) m k in
       ap (λ t. (comma_if later ++ (if t then [] else start)) ++ flat text es (n + 1) false (front ++ Ends j n ∷ tail)) a
       ∙ (ap (λ t. (comma_if later ++ start) ++ t) (ih ∙ ap (λ t. body false d ++ t) w)
@@ -141,7 +141,7 @@ module _ (text : List ℕ) (es : List Entry) where
       let tail = entries_of next others ++ rest in
       let whole = Starts r i (n + 1 + entry_count inner) ∷ (entries_of (n + 1) inner ++ Ends j n ∷ tail) in
       let e : Starts r i (n + 1 + entry_count inner) ∷ ((entries_of (n + 1) inner ++ Ends j n ∷ entries_of next others) ++ rest) ≡ whole =
-          ap (λ l. Starts r i (n + 1 + entry_count inner) ∷ l) (append_assoc (entries_of (n + 1) inner) (Ends j n ∷ entries_of next others) rest) in
+      ap (λ l. Starts r i (n + 1 + entry_count inner) ∷ l) (append_assoc (entries_of (n + 1) inner) (Ends j n ∷ entries_of next others) rest) in
       let k : drop n es ≡ whole = h ∙ e in
       let d = compact_text (tree_data text r i j (trees_data text inner)) in
       let last = n + (entry_count inner + 2 + entry_count others) in

@@ -21,7 +21,7 @@ module _ (es : List Entry) where
       let tail = entries_of next others ++ rest in
       let whole = Starts r i number ∷ (entries_of (n + 1) inner ++ Ends j n ∷ tail) in
       let e : Starts r i number ∷ ((entries_of (n + 1) inner ++ Ends j n ∷ entries_of next others) ++ rest) ≡ whole =
-          ap (λ l. Starts r i number ∷ l) (append_assoc (entries_of (n + 1) inner) (Ends j n ∷ entries_of next others) rest) in
+      ap (λ l. Starts r i number ∷ l) (append_assoc (entries_of (n + 1) inner) (Ends j n ∷ entries_of next others) rest) in
       let k : drop n es ≡ whole = h ∙ e in
       let a : drop (n + 1) es ≡ entries_of (n + 1) inner ++ Ends j n ∷ tail = rest_of_rest es n _ _ k in
       let b : drop number es ≡ Ends j n ∷ tail = after_front es (n + 1) inner (Ends j n ∷ tail) a in
@@ -33,8 +33,8 @@ module _ (es : List Entry) where
       ap (flat es depth) e
       ∙ (ap₂ (λ x t. line i x depth r ++ t) f (flat_trees (n + 1) (depth + 1) inner (Ends j n ∷ tail) a
       ∙ ap (λ t. lines_of (depth + 1) inner ++ t) (ap (λ x. flat es x tail) d ∙ flat_trees next depth others rest c))
-      ∙ (ap (λ t. front ++ t) (sym (append_assoc (lines_of (depth + 1) inner) (lines_of depth others) (flat es depth rest)))
-      ∙ sym (append_assoc front (lines_of (depth + 1) inner ++ lines_of depth others) (flat es depth rest))))
+      ∙ (sym (append_assoc front (lines_of (depth + 1) inner) (lines_of depth others ++ flat es depth rest))
+      ∙ sym (append_assoc (front ++ lines_of (depth + 1) inner) (lines_of depth others) (flat es depth rest))))
 
   -- from the first entry on
   pub all_lines : (us : Trees) → es ≡ entries_of 0 us → flat es 0 es ≡ lines_of 0 us

@@ -1,5 +1,5 @@
 //! Token trees as JSON, written one entry after another.
-ghost use Rattle.std.specs.Prelude.{◌≡◌, ◌++◌, ◌<◌, IfOk, OnOk, length, string_bytes};
+ghost use Rattle.std.specs.Prelude.{◌≡◌, ◌++◌, ◌<◌, IfOk, OnOk, chars, encode_utf8_all, length, string_bytes};
 ghost use Rattle.meta_base.specs.Language.State.{Trees};
 ghost use Rattle.meta_syntax.specs.Entries.{entries_of};
 ghost use Rattle.meta_matcher.specs.Written.{entry_of, seen};
@@ -80,9 +80,13 @@ fn write_entry(
             Ok(())
         }
         Entry::End { pos, partner } => match entries.get(partner) {
-            Some(Entry::Start { rule, pos: from, .. }) => {
-                write_end(alloc, json, text, rule, *from, pos, number == partner + 1)
-            }
+            Some(
+                Entry::Start {
+                    rule,
+                    pos: from,
+                    ..
+                },
+            ) => { write_end(alloc, json, text, rule, *from, pos, number == partner + 1) }
             _ => Ok(()),
         },
     }
@@ -99,7 +103,7 @@ fn write_end(
     is_leaf: bool,
 ) -> Result<(), AllocError>
     ensures { OnOk result (string_bytes json.new
-        ≡ string_bytes json.old ++ closing text.now is_leaf rule.now from to) }
+        ≡ string_bytes json.old ++ closing text.now is_leaf (encode_utf8_all (chars rule.now)) from to) }
 {
     if is_leaf {
         json.push_str(&leaf_text(alloc, rule, from, to, part_of(text, from, to))?)
@@ -121,16 +125,38 @@ fn leaf_text(
     to: usize,
     part: &str,
 ) -> Result<String, AllocError>
-    ensures { IfOk result (λ json. string_bytes json ≡ compact_text (leaf_data rule.now from to part.now)) }
+    ensures { IfOk result (λ json. string_bytes json
+        ≡ compact_text (leaf_data (encode_utf8_all (chars rule.now)) from to part.now)) }
 {
-    let value: Value = json!(in alloc; {"rule": rule, "start": from, "end": to, "text": part})?;
+    let value = leaf_value(alloc, rule, from, to, part)?;
     value.to_string(alloc)
+}
+
+/// Returns a leaf as a value.
+fn leaf_value(
+    alloc: Global,
+    rule: &str,
+    from: usize,
+    to: usize,
+    part: &str,
+) -> Result<Value, AllocError>
+    ensures { IfOk result (λ value. view value ≡ leaf_data rule.now from to part.now) }
+{
+    json!(in alloc; {"rule": rule, "start": from, "end": to, "text": part})
 }
 
 /// Returns the JSON of a tree's rule and positions.
 fn own_text(alloc: Global, rule: &str, from: usize, to: usize) -> Result<String, AllocError>
-    ensures { IfOk result (λ json. string_bytes json ≡ compact_text (own_data rule.now from to)) }
+    ensures { IfOk result (λ json. string_bytes json
+        ≡ compact_text (own_data (encode_utf8_all (chars rule.now)) from to)) }
 {
-    let value: Value = json!(in alloc; {"rule": rule, "start": from, "end": to})?;
+    let value = own_value(alloc, rule, from, to)?;
     value.to_string(alloc)
+}
+
+/// Returns a tree's rule and positions as a value.
+fn own_value(alloc: Global, rule: &str, from: usize, to: usize) -> Result<Value, AllocError>
+    ensures { IfOk result (λ value. view value ≡ own_data rule.now from to) }
+{
+    json!(in alloc; {"rule": rule, "start": from, "end": to})
 }
