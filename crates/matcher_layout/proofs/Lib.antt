@@ -5,3 +5,4 @@ pub mod Leaves
 pub mod Sets
 pub mod Ends
 pub mod Existence
+pub mod Characters

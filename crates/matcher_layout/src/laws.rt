@@ -1,8 +1,8 @@
 //! Laws over the definitions alone.
-ghost use Rattle.std.specs.Prelude.{◌≡◌, ◌*◌, ◌==◌, ℕ, List, [], IsUtf8, chars, codes, if◌then◌else◌, nat_eq, true};
-ghost use Rattle.meta_base.specs.Language.Expression.{Grammar};
+ghost use Rattle.std.specs.Prelude.{◌≡◌, ◌*◌, ◌==◌, ◌&&◌, ◌||◌, ℕ, List, [], IsUtf8, Some, chars, codes, if◌then◌else◌, nat_eq, not, true};
+ghost use Rattle.meta_base.specs.Language.Expression.{Choice, Expression, Grammar, Ident, NegPred, Rep, Rule, Seq, rule_of};
 ghost use Rattle.meta_base.specs.Language.FurthestFailure.{furthest, place_of};
-ghost use Rattle.meta_base.specs.Language.Meaning.{Does, Task, seen_from};
+ghost use Rattle.meta_base.specs.Language.Meaning.{Does, Run, Task, body_mode, gives_token, seen_from};
 ghost use Rattle.meta_base.specs.Language.State.{AtomicMode, Classes, Failure, Mode, None', Outcome, State, Success};
 ghost use Rattle.meta_base.specs.Language.Text.{Text};
 ghost use Rattle.meta_base.specs.Language.Matching.{character_outcome, end_outcome, text_outcome};
@@ -12,7 +12,7 @@ ghost use Rattle.matcher_code.specs.Steps.{Config, jump, op_at};
 ghost use Rattle.matcher_code.specs.declared.code.Code.{Code};
 ghost use Rattle.matcher_code.specs.declared.code.Op.TheVariants as op;
 ghost use Rattle.matcher_layout.specs.Endings.{IsFound, IsOver};
-ghost use Rattle.matcher_layout.specs.Laid.{AreLaid, IsPoint, Performs, Point, skip_set};
+ghost use Rattle.matcher_layout.specs.Laid.{AreLaid, HasOutcome, IsPoint, IsTight, Performs, Point, skip_set};
 ghost use Rattle.matcher_layout.specs.Reached.{Comes, IsAt, IsGuarded};
 ghost use Rattle.matcher_layout.specs.Sizes.{least_steps, size};
 
@@ -84,4 +84,36 @@ pub fn end_operations_give_tree()
         → op_at code [] note ≡ op.Note w
         → Performs code number l n w (λ s. end_outcome m s.rest s)
         (λ s. place_of true s (end_outcome m s.rest s)) }
+{}
+
+/// A choice of two expressions that match one character of a set matches one of both sets.
+pub fn choice_matches_union()
+    ensures { (g : Grammar) (classes : Classes) (m : Mode) (a b : Expression) (f h : ℕ → Bool)
+        → HasOutcome g classes (Run m a) (character_outcome f) (λ s. 0)
+        → HasOutcome g classes (Run m b) (character_outcome h) (λ s. 0)
+        → HasOutcome g classes (Run m (Choice a b)) (character_outcome (λ c. f c || h c)) (λ s. 0) }
+{}
+
+/// Where nothing is skipped, `!a ~ b` of two such expressions matches one character of the second set that is
+/// not of the first.
+pub fn negation_matches_difference()
+    ensures { (g : Grammar) (classes : Classes) (m : Mode) (a b : Expression) (f h : ℕ → Bool)
+        → IsTight g classes m → HasOutcome g classes (Run m a) (character_outcome f) (λ s. 0)
+        → HasOutcome g classes (Run m b) (character_outcome h) (λ s. 0)
+        → HasOutcome g classes (Run m (Seq (NegPred a) b)) (character_outcome (λ c. not (f c) && h c)) (λ s. 0) }
+{}
+
+/// Where nothing is skipped, a repetition of such an expression matches the characters of the set that follow.
+pub fn repetition_matches_span()
+    ensures { (g : Grammar) (classes : Classes) (m : Mode) (e : Expression) (f : ℕ → Bool)
+        → IsTight g classes m → HasOutcome g classes (Run m e) (character_outcome f) (λ s. 0)
+        → HasOutcome g classes (Run m (Rep e)) (skip_set f) (λ s. 0) }
+{}
+
+/// A call without a token of a rule whose body is such an expression matches one character of the set.
+pub fn silent_call_matches_character()
+    ensures { (g : Grammar) (classes : Classes) (m : Mode) (x : Text) (r : Rule) (f : ℕ → Bool)
+        → rule_of g x ≡ Some r → gives_token r.type_of m ≡ false
+        → HasOutcome g classes (Run (body_mode r m) r.body) (character_outcome f) (λ s. 0)
+        → HasOutcome g classes (Run m (Ident x)) (character_outcome f) (λ s. 0) }
 {}
