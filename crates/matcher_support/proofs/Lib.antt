@@ -1,3 +1,4 @@
 pub mod FlatLines
-pub mod BuiltTrees
 pub mod Ranges
+pub mod JsonEntries
+pub mod LineEntries

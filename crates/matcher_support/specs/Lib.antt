@@ -1,5 +1,6 @@
 pub mod Shown
 pub mod Flat
 pub mod Values
-pub mod Built
 pub mod Sets
+pub mod Json
+pub mod Lines

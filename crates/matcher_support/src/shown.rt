@@ -91,7 +91,7 @@ fn write_opening(
 }
 
 /// Writes the name of a tree.
-fn write_name(lines: &mut String, rule: &str) -> Result<(), AllocError>
+pub(crate) fn write_name(lines: &mut String, rule: &str) -> Result<(), AllocError>
     ensures { OnOk result (string_bytes lines.new
         ≡ string_bytes lines.old ++ encode_utf8_all (chars rule.now)) }
 {

@@ -1,4 +1,3 @@
 pub mod Ended
 pub mod Came
 pub mod Names
-pub mod JsonLines

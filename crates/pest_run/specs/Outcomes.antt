@@ -18,6 +18,7 @@ use Rattle.meta_matcher.specs.Sizes.{most_steps}
 use Rattle.meta_matcher.specs.ExpectedNames.{each_once}
 use Rattle.meta_matcher.specs.declared.machine.Stop.{Stop}
 use Rattle.meta_matcher.specs.declared.machine.Stop.TheVariants as stop
+use Rattle.matcher_support.specs.Lines.{lines_of}
 use Rattle.matcher_support.specs.Sets.{has_set, is_in_property}
 use Rattle.matcher_support.specs.Shown.{shown}
 use Rattle.matcher_support.specs.Values.{answer_data}
@@ -31,6 +32,7 @@ use Rattle.serde_json.specs.Written.{compact_text}
 -- trees of a text, and where they end, as text or as a line of JSON
 abbrev pub trees_text : Format → List ℕ → ℕ → Trees → List ℕ
 trees_text format_is.Text text end_ trees = shown text 0 trees
+trees_text format_is.Lines text end_ trees = lines_of 0 trees
 trees_text format_is.Json text end_ trees = compact_text (answer_data text end_ trees) ++ codes "\n"
 
 -- the rule, called at the start of the text, succeeds, and the lines show its trees

@@ -10,13 +10,14 @@ use std::alloc::{AllocError, Global};
 pub enum Format {
     Text,
     Json,
+    Lines,
 }
 
 /// Returns the command line that the program accepts.
 pub fn command<'a>(alloc: Global) -> Result<Command<'a>, AllocError> {
     let format = Arg::new(alloc, "format")
         .long("format")
-        .value_parser(["text", "json"].as_slice())
+        .value_parser(["text", "json", "lines"].as_slice())
         .default_value("text")
         .help("How the trees are written");
     let grammar = Arg::new(alloc, "GRAMMAR")
@@ -48,9 +49,14 @@ pub fn format_of(matches: &ArgMatches<'_>) -> Format
         → result ≡ Format.Json }
     ensures json_only { result ≡ Format.Json
         → first_value (found_of matches.now) (codes "format") ≡ Some (codes "json") }
+    ensures lines { first_value (found_of matches.now) (codes "format") ≡ Some (codes "lines")
+        → result ≡ Format.Lines }
+    ensures lines_only { result ≡ Format.Lines
+        → first_value (found_of matches.now) (codes "format") ≡ Some (codes "lines") }
 {
     match matches.get_str("format") {
         Some("json") => Format::Json,
+        Some("lines") => Format::Lines,
         _ => Format::Text,
     }
 }

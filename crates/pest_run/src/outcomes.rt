@@ -12,9 +12,10 @@ ghost use Rattle.pest_run.specs.Outcomes.{IsFailureReport, IsOutcome, failure_te
 use crate::arguments::Format;
 use crate::messages::failure_message;
 use matcher_program::compile::Unfit;
+use matcher_support::json::tree_json;
+use matcher_support::lines::tree_lines;
 use matcher_support::shown::tree_text;
 use matcher_support::unicode_properties::UnicodeProperties;
-use matcher_support::values::tree_value;
 use meta_base::grammar::Rule;
 use meta_base::runtime::{Error, ErrorVariant, Fault, Position};
 use meta_matcher::entries::Entry;
@@ -92,6 +93,7 @@ fn lines_of(
     match format {
         Format::Text => tree_text(alloc, text, &found.entries),
         Format::Json => json_line(alloc, text, &found.entries, found.end),
+        Format::Lines => tree_lines(alloc, &found.entries),
     }
 }
 
@@ -105,8 +107,7 @@ fn json_line(
     ensures { IfOk result (λ line. (trees : Trees) → seen entries.now ≡ entries_of 0 trees
         → string_bytes line ≡ trees_text Format.Json text.now end trees) }
 {
-    let value = tree_value(alloc, text, entries, end)?;
-    let mut line = value.to_string(alloc)?;
+    let mut line = tree_json(alloc, text, entries, end)?;
     line.push_str("\n")?;
     Ok(line)
 }

@@ -1,0 +1,4 @@
+pub mod Endings
+pub mod Laid
+pub mod Reached
+pub mod Sizes

@@ -1,0 +1,119 @@
+//! Laws over the definitions alone.
+ghost use Rattle.std.specs.Prelude.{◌≡◌, ◌*◌, ◌==◌, ◌&&◌, ◌||◌, ℕ, List, [], IsUtf8, Some, chars, codes, if◌then◌else◌, nat_eq, not, true};
+ghost use Rattle.meta_base.specs.Language.Expression.{Choice, Expression, Grammar, Ident, NegPred, Rep, Rule, Seq, rule_of};
+ghost use Rattle.meta_base.specs.Language.FurthestFailure.{furthest, place_of};
+ghost use Rattle.meta_base.specs.Language.Meaning.{Does, Run, Task, body_mode, gives_token, seen_from};
+ghost use Rattle.meta_base.specs.Language.State.{AtomicMode, Classes, Failure, Mode, None', Outcome, State, Success};
+ghost use Rattle.meta_base.specs.Language.Text.{Text};
+ghost use Rattle.meta_base.specs.Language.Matching.{character_outcome, end_outcome, text_outcome};
+ghost use Rattle.matcher_code.specs.Reading.{is_covered, text_of};
+ghost use Rattle.matcher_code.specs.Sets.{IsSetOf};
+ghost use Rattle.matcher_code.specs.Steps.{Config, jump, op_at};
+ghost use Rattle.matcher_code.specs.declared.code.Code.{Code};
+ghost use Rattle.matcher_code.specs.declared.code.Op.TheVariants as op;
+ghost use Rattle.matcher_layout.specs.Endings.{IsFound, IsOver};
+ghost use Rattle.matcher_layout.specs.Laid.{AreLaid, HasOutcome, IsPoint, IsTight, Performs, Point, skip_set};
+ghost use Rattle.matcher_layout.specs.Reached.{Comes, IsAt, IsGuarded};
+ghost use Rattle.matcher_layout.specs.Sizes.{least_steps, size};
+
+/// Where the operation 0 is `Fail` and each point of a list is laid by points of the list, the code of a point
+/// does its task: from each state, and for each outcome of the task there, the machine comes to where the
+/// outcome goes on, with its trees and the furthest position of its failures, in at most eight steps for each
+/// rule of the relation of matching that the derivation applies.
+pub fn laid_code_does_its_task()
+    ensures { (g : Grammar) (classes : Classes) (code : Code) (number : Text → ℕ) (points : List Point)
+        → op_at code [] 0 ≡ op.Fail → AreLaid g classes code number points
+        → (k : Task) (l n w : ℕ) → IsPoint points k l n w
+        → (text : List ℕ) (s : State) (c : Config) → IsAt text s c.at → IsGuarded w c
+        → (o : Outcome) (d : Does g classes k s o)
+        → Comes code text number l n w o (furthest d) (least_steps k) (8 * size d) c }
+{}
+
+/// In such code, a run from a point that comes to an end has an outcome of the point's task.
+pub fn runs_that_end_have_outcomes()
+    ensures { (g : Grammar) (classes : Classes) (code : Code) (number : Text → ℕ) (points : List Point)
+        → op_at code [] 0 ≡ op.Fail → AreLaid g classes code number points
+        → (k : Task) (l n w : ℕ) → IsPoint points k l n w
+        → (text : List ℕ) (s : State) (c : Config) → IsAt text s c.at → IsGuarded w c
+        → (steps : ℕ) → IsOver code text steps (jump l c) → IsFound g classes k s }
+{}
+
+/// Where the operation 0 is `Fail`, the operation `Text` of a text matches it as the expression of a literal
+/// does.
+pub fn text_operation_matches_literal()
+    ensures { (code : Code) (number : Text → ℕ) → op_at code [] 0 ≡ op.Fail
+        → (l n w i : ℕ) (b : List ℕ) → IsUtf8 b → text_of code i ≡ b → op_at code [] l ≡ op.Text i n w
+        → Performs code number l n w (text_outcome nat_eq (chars b)) (λ s. 0) }
+{}
+
+/// Where the operation 0 is `Fail`, the operation `One` of a set matches one character of it.
+pub fn one_operation_matches_character()
+    ensures { (code : Code) (set : ℕ) (ranges : List (ℕ × ℕ)) → IsSetOf code set ranges
+        → (number : Text → ℕ) → op_at code [] 0 ≡ op.Fail → (l n w : ℕ) → op_at code [] l ≡ op.One set n w
+        → Performs code number l n w (character_outcome (is_covered ranges)) (λ s. 0) }
+{}
+
+/// Where the operation 0 is `Fail`, the operation `All` of a set matches the characters of it that follow.
+pub fn all_operation_matches_span()
+    ensures { (code : Code) (set : ℕ) (ranges : List (ℕ × ℕ)) → IsSetOf code set ranges
+        → (number : Text → ℕ) → op_at code [] 0 ≡ op.Fail → (l n w : ℕ) → op_at code [] l ≡ op.All set n
+        → Performs code number l n w (skip_set (is_covered ranges)) (λ s. 0) }
+{}
+
+/// Where the operation 0 is `Fail`, the operation `Start` matches at the start of a text alone.
+pub fn start_operation_matches_start()
+    ensures { (code : Code) (number : Text → ℕ) → op_at code [] 0 ≡ op.Fail
+        → (l n w : ℕ) → op_at code [] l ≡ op.Start n w
+        → Performs code number l n w (λ s. if s.position == 0 then Success s None' else Failure) (λ s. 0) }
+{}
+
+/// Where the operation 0 is `Fail`, the operation `End` matches at the end of a text alone, as `EOI` does in
+/// Atomic.
+pub fn end_operation_matches_end()
+    ensures { (code : Code) (number : Text → ℕ) → op_at code [] 0 ≡ op.Fail
+        → (l n w : ℕ) → op_at code [] l ≡ op.End n w
+        → Performs code number l n w (λ s. end_outcome AtomicMode s.rest s) (λ s. 0) }
+{}
+
+/// Where the operation 0 is `Fail`, the operations `End`, `Open`, `Close` and `Note` match the end of a text as
+/// `EOI` does in a mode that gives its tree.
+pub fn end_operations_give_tree()
+    ensures { (code : Code) (number : Text → ℕ) → op_at code [] 0 ≡ op.Fail
+        → (m : Mode) (l n w begin close note : ℕ) → seen_from m ≡ true → op_at code [] l ≡ op.End begin note
+        → op_at code [] begin ≡ op.Open (number (codes "EOI")) close → op_at code [] close ≡ op.Close n
+        → op_at code [] note ≡ op.Note w
+        → Performs code number l n w (λ s. end_outcome m s.rest s)
+        (λ s. place_of true s (end_outcome m s.rest s)) }
+{}
+
+/// A choice of two expressions that match one character of a set matches one of both sets.
+pub fn choice_matches_union()
+    ensures { (g : Grammar) (classes : Classes) (m : Mode) (a b : Expression) (f h : ℕ → Bool)
+        → HasOutcome g classes (Run m a) (character_outcome f) (λ s. 0)
+        → HasOutcome g classes (Run m b) (character_outcome h) (λ s. 0)
+        → HasOutcome g classes (Run m (Choice a b)) (character_outcome (λ c. f c || h c)) (λ s. 0) }
+{}
+
+/// Where nothing is skipped, `!a ~ b` of two such expressions matches one character of the second set that is
+/// not of the first.
+pub fn negation_matches_difference()
+    ensures { (g : Grammar) (classes : Classes) (m : Mode) (a b : Expression) (f h : ℕ → Bool)
+        → IsTight g classes m → HasOutcome g classes (Run m a) (character_outcome f) (λ s. 0)
+        → HasOutcome g classes (Run m b) (character_outcome h) (λ s. 0)
+        → HasOutcome g classes (Run m (Seq (NegPred a) b)) (character_outcome (λ c. not (f c) && h c)) (λ s. 0) }
+{}
+
+/// Where nothing is skipped, a repetition of such an expression matches the characters of the set that follow.
+pub fn repetition_matches_span()
+    ensures { (g : Grammar) (classes : Classes) (m : Mode) (e : Expression) (f : ℕ → Bool)
+        → IsTight g classes m → HasOutcome g classes (Run m e) (character_outcome f) (λ s. 0)
+        → HasOutcome g classes (Run m (Rep e)) (skip_set f) (λ s. 0) }
+{}
+
+/// A call without a token of a rule whose body is such an expression matches one character of the set.
+pub fn silent_call_matches_character()
+    ensures { (g : Grammar) (classes : Classes) (m : Mode) (x : Text) (r : Rule) (f : ℕ → Bool)
+        → rule_of g x ≡ Some r → gives_token r.type_of m ≡ false
+        → HasOutcome g classes (Run (body_mode r m) r.body) (character_outcome f) (λ s. 0)
+        → HasOutcome g classes (Run m (Ident x)) (character_outcome f) (λ s. 0) }
+{}
