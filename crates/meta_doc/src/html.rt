@@ -176,7 +176,7 @@ fn push_modifier(markup: &mut MarkupBuilder<'_>, ty: RuleType) -> Result<(), All
 }
 
 /// What the modifier of a rule means, in a few words.
-fn meaning_of(ty: RuleType) -> &'static str {
+pub fn meaning_of(ty: RuleType) -> &'static str {
     match ty {
         RuleType::Normal => "",
         RuleType::Silent => "silent: gives no token",
@@ -241,7 +241,7 @@ fn push_callers(markup: &mut MarkupBuilder<'_>, callers: &[usize]) -> Result<(),
     markup.element(Tag::Dt, "Used in")?;
     markup.start(Tag::Dd)?;
     if callers.is_empty() {
-        markup.put(Markup::Text("no rule"))?;
+        markup.put(Markup::Text("no other rule"))?;
     }
     for (place, caller) in callers.iter().enumerate() {
         push_comma(markup, place)?;

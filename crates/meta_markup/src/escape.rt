@@ -32,7 +32,7 @@ fn push_escaped_character(character: char, page: &mut String) -> Result<(), Allo
 }
 
 /// Returns a character, or U+FFFD in place of one that is not shown or changes the direction of a line.
-fn visible(character: char) -> char
+pub(crate) fn visible(character: char) -> char
     ensures { result ≡ visible character }
 {
     match character {

@@ -1,17 +1,17 @@
-//! Prints a page of a grammar, or the diagram of one of its rules.
+//! Prints documents of grammars.
 #![tactic(auto)]
 
 mod arguments;
 mod run;
 
-use arguments::command;
+use arguments::{command, format_of};
 use run::{MEMORY, Outcome, PRINTED, REFUSED, Request, UNREADABLE, UNWRITABLE, outcome_of};
 use std::alloc::AllocError;
 use std::io::{self, Read, Write};
 use std::process::ExitCode;
 use std::{env, fs};
 
-/// The bytes of the file of a name, or of standard input for `-`.
+/// Reads the file of a name, or standard input for `-`.
 fn read(rt: &HostRuntime, name: &str) -> io::Result<Vec<u8>> {
     let mut bytes = Vec::new(rt.alloc());
     if name == "-" {
@@ -28,7 +28,7 @@ fn write(rt: &HostRuntime, name: &str, text: &str) -> io::Result<()> {
     file.write_all(text.as_bytes())
 }
 
-/// Prints what is asked for to standard output, or to the file of a name, and answers the status.
+/// Prints a document to standard output, or to the file of a name, and returns the status.
 fn print(rt: &HostRuntime, request: Request<'_>, out: Option<&str>) -> Result<u8, AllocError> {
     let bytes = match read(rt, request.name) {
         Ok(bytes) => bytes,
@@ -42,15 +42,15 @@ fn print(rt: &HostRuntime, request: Request<'_>, out: Option<&str>) -> Result<u8
             let _ = eprintln!(rt; "pest-doc: {}: {why}", request.name);
             Ok(REFUSED)
         }
-        Outcome::Page(page) => Ok(put(rt, page.as_str(), out)),
+        Outcome::Document(document) => Ok(deliver(rt, document.as_str(), out)),
     }
 }
 
-/// Writes a page to standard output, or to the file of a name, and answers the status.
-fn put(rt: &HostRuntime, page: &str, out: Option<&str>) -> u8 {
+/// Writes a document to standard output, or to the file of a name, and returns the status.
+fn deliver(rt: &HostRuntime, document: &str, out: Option<&str>) -> u8 {
     let written = match out {
-        Some(file) => write(rt, file, page),
-        None => rt.stdout().write_all(page.as_bytes()),
+        Some(file) => write(rt, file, document),
+        None => rt.stdout().write_all(document.as_bytes()),
     };
     match written {
         Ok(()) => PRINTED,
@@ -58,7 +58,7 @@ fn put(rt: &HostRuntime, page: &str, out: Option<&str>) -> u8 {
     }
 }
 
-/// The status for the words of the command line.
+/// Runs the program for the words of the command line, and returns the status.
 fn answer(rt: &HostRuntime) -> Result<u8, clap::Error> {
     let alloc = rt.alloc();
     let Ok(words) = env::args(rt) else {
@@ -72,13 +72,9 @@ fn answer(rt: &HostRuntime) -> Result<u8, clap::Error> {
             return Ok(if error.use_stderr() { UNREADABLE } else { 0 });
         }
     };
-    let is_diagram = match matches.get_str("format") {
-        Some(format) => format == "svg",
-        None => false,
-    };
     let request = Request {
         name: matches.get_str("GRAMMAR").unwrap_or("-"),
-        is_diagram,
+        format: format_of(&matches),
         rule: matches.get_str("rule"),
     };
     Ok(print(rt, request, matches.get_str("out"))?)

@@ -1,43 +1,43 @@
-//! What the program answers, once the grammar is read.
+//! From the bytes of a grammar to a document, or to the reason why there is none.
+use crate::arguments::Format;
 use meta_base::grammar::Rule;
 use meta_base::runtime::{Error, Fault};
-use meta_doc::{html_page, svg_diagram};
+use meta_doc::{ebnf_text, html_page, markdown_page, svg_diagram};
 use meta_markup::push_visible;
 use std::alloc::{AllocError, Global};
 
-/// The page was printed.
+/// The document was printed.
 pub const PRINTED: u8 = 0;
 /// The grammar is refused, or has no such rule.
 pub const REFUSED: u8 = 1;
-/// Memory was refused.
+/// An allocation failed.
 pub const MEMORY: u8 = 2;
 /// A file or the command line can't be read.
 pub const UNREADABLE: u8 = 3;
-/// Output refused a write.
+/// A file or standard output can't be written.
 pub const UNWRITABLE: u8 = 4;
 
-/// What is asked for.
+/// A request for a document.
 #[derive(Clone, Copy)]
 pub struct Request<'a> {
     /// The name of the grammar's file.
     pub name: &'a str,
-    /// Whether the diagram of one rule is asked for, in place of a page.
-    pub is_diagram: bool,
-    /// The name of that rule; the first one if there is none.
+    pub format: Format,
+    /// The name of the rule of which a diagram is asked for; the first one if there is none.
     pub rule: Option<&'a str>,
 }
 
-/// What is answered.
+/// The answer to a request.
 #[derive(Drop)]
 pub enum Outcome {
-    /// A page or a diagram.
-    Page(String),
-    /// Why there is none, for a terminal.
+    /// A document.
+    Document(String),
+    /// The reason why there is none, for a terminal.
     Refused(String),
 }
 
-/// The page or the diagram of a grammar's bytes, or why there is none: they are not UTF-8, the grammar has a
-/// syntax error or a flaw, or it has no such rule. The only error is that memory is refused.
+/// Returns the document of a grammar's bytes, or the reason why there is none: they are not UTF-8, the grammar is
+/// refused, or it has no such rule. The only error is an allocation failure.
 pub fn outcome_of(
     alloc: Global,
     bytes: &[u8],
@@ -46,20 +46,31 @@ pub fn outcome_of(
     let Ok(text) = str::from_utf8(bytes) else {
         return refusal(alloc, "the grammar is not UTF-8");
     };
-    if request.is_diagram {
-        return match svg_diagram(alloc, text, request.rule) {
-            Ok(Some(diagram)) => Ok(Outcome::Page(diagram)),
-            Ok(None) => refusal(alloc, "the grammar has no such rule"),
-            Err(fault) => refusal_of(alloc, fault),
-        };
-    }
-    match html_page(alloc, file_name(request.name), text) {
-        Ok(page) => Ok(Outcome::Page(page)),
-        Err(fault) => refusal_of(alloc, fault),
+    let title = file_name(request.name);
+    match document_of(alloc, title, text, request) {
+        Ok(Some(document)) => Ok(Outcome::Document(document)),
+        Ok(None) => refusal(alloc, "the grammar has no such rule"),
+        Err(Fault::Grammar(errors)) => Ok(Outcome::Refused(messages(alloc, &errors)?)),
+        Err(Fault::Memory(error)) => Err(error),
     }
 }
 
-/// A path's last part.
+/// The document of a grammar's text, under a title; `None` where the grammar has no such rule.
+fn document_of(
+    alloc: Global,
+    title: &str,
+    text: &str,
+    request: Request<'_>,
+) -> Result<Option<String>, Fault> {
+    match request.format {
+        Format::Html => Ok(Some(html_page(alloc, title, text)?)),
+        Format::Markdown => Ok(Some(markdown_page(alloc, title, text)?)),
+        Format::Ebnf => Ok(Some(ebnf_text(alloc, text)?)),
+        Format::Svg => svg_diagram(alloc, text, request.rule),
+    }
+}
+
+/// The last part of a path.
 fn file_name(path: &str) -> &str {
     match path.rsplit_once('/') {
         Some((_, name)) => name,
@@ -67,20 +78,12 @@ fn file_name(path: &str) -> &str {
     }
 }
 
-/// A refusal that says this.
-fn refusal(alloc: Global, why: &str) -> Result<Outcome, AllocError> {
-    Ok(Outcome::Refused(String::from_str(alloc, why)?))
+/// A refusal with this message.
+fn refusal(alloc: Global, message: &str) -> Result<Outcome, AllocError> {
+    Ok(Outcome::Refused(String::from_str(alloc, message)?))
 }
 
-/// The refusal of a grammar, or that memory was refused.
-fn refusal_of(alloc: Global, fault: Fault) -> Result<Outcome, AllocError> {
-    match fault {
-        Fault::Grammar(errors) => Ok(Outcome::Refused(messages(alloc, &errors)?)),
-        Fault::Memory(error) => Err(error),
-    }
-}
-
-/// Errors as they are printed, with no character that a terminal obeys.
+/// Errors as they are printed, without characters that a terminal obeys.
 fn messages(alloc: Global, errors: &[Error<Rule>]) -> Result<String, AllocError> {
     let mut text = String::from_str(alloc, "grammar error")?;
     for error in errors {
