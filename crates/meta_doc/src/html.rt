@@ -1,20 +1,30 @@
 //! Pages of HTML, and single diagrams.
+ghost use Rattle.std.specs.Prelude.{IfErr, IfOk, IfSome, OnOk, string_bytes};
+ghost use Rattle.meta_ast.specs.Ast.{rules_of};
+ghost use Rattle.meta_markup.specs.Pages.{IsPage};
+ghost use Rattle.meta_doc.specs.Documents.{EndsWithSections, IsDiagram, IsPageOf};
+ghost use Rattle.pest_meta.specs.Spelling.{IsRefusal};
+
 use crate::facts::RuleFacts;
 use crate::first_sets::FirstSet;
 use crate::read::{GrammarDoc, read_grammar};
 use crate::source::{RuleSource, SourcePart};
-use crate::template::{FOOT, HEAD, STYLE};
 use crate::warnings::RuleWarning;
 use meta_ast::ast;
 use meta_ast::ast::RuleType;
 use meta_base::runtime::Fault;
 use meta_diagram::push_diagram;
-use meta_markup::{Class, Markup, MarkupBuilder, Tag, push_escaped, push_markup};
+use meta_markup::{
+    Class, FOOT, Markup, MarkupBuilder, SectionContents, Tag, push_markup, push_section, start_page,
+};
 use std::alloc::{AllocError, Global};
 use std::collections::HashMap;
 
 /// Returns the page of a grammar's text under a title. Refused as by `parse_and_optimize`.
-pub fn html_page(alloc: Global, title: &str, grammar: &str) -> Result<String, Fault> {
+pub fn html_page(alloc: Global, title: &str, grammar: &str) -> Result<String, Fault>
+    ensures page { IfOk result (λ page. IsPageOf title.now grammar.now (string_bytes page)) }
+    ensures refused { IfErr result (IsRefusal grammar.now) }
+{
     let doc = read_grammar(alloc, grammar)?;
     Ok(render_page(alloc, title, &doc)?)
 }
@@ -25,7 +35,10 @@ pub fn svg_diagram(
     alloc: Global,
     grammar: &str,
     rule: Option<&str>,
-) -> Result<Option<String>, Fault> {
+) -> Result<Option<String>, Fault>
+    ensures diagram { IfOk result (λ diagram. IfSome diagram IsDiagram) }
+    ensures refused { IfErr result (IsRefusal grammar.now) }
+{
     let doc = read_grammar(alloc, grammar)?;
     let number = match rule {
         Some(name) => doc.numbers.get(name).copied(),
@@ -45,7 +58,9 @@ fn render_diagram(
     alloc: Global,
     rule: &ast::Rule,
     numbers: &HashMap<String, usize>,
-) -> Result<String, AllocError> {
+) -> Result<String, AllocError>
+    ensures { IfOk result IsDiagram }
+{
     let mut markup = MarkupBuilder::new(alloc);
     push_diagram(alloc, &rule.expr, numbers, &mut markup)?;
     let mut drawing = String::new(alloc);
@@ -55,52 +70,32 @@ fn render_diagram(
 }
 
 /// The page of a document.
-fn render_page(alloc: Global, title: &str, doc: &GrammarDoc<'_>) -> Result<String, AllocError> {
+fn render_page(alloc: Global, title: &str, doc: &GrammarDoc<'_>) -> Result<String, AllocError>
+    ensures { IfOk result (λ page. IsPage title.now (rules_of doc.now.rules.value.items) (string_bytes page)) }
+{
     let names = doc.names(alloc)?;
-    let mut page = String::from_str(alloc, HEAD)?;
-    push_escaped(title, &mut page)?;
-    page.push_str(STYLE)?;
-    push_escaped(title, &mut page)?;
-    page.push_str("</h1>\n")?;
     let introduction = introduce(alloc, doc)?;
-    push_markup(&introduction.tokens, &names, &mut page)?;
-    page.push_str("<main>\n")?;
-    for (number, rule) in doc.rules.value.iter().enumerate() {
-        let details = describe(alloc, doc, number, rule)?;
-        push_section(alloc, rule, &details, &names, &mut page)?;
-    }
+    let mut page = start_page(alloc, title, &introduction.tokens, &names)?;
+    push_sections(alloc, doc, &names, &mut page)?;
     page.push_str(FOOT)?;
     Ok(page)
 }
 
-/// The contents of a rule's section, before and after its printed expression.
-#[derive(Drop)]
-struct Details<'i> {
-    before: MarkupBuilder<'i>,
-    after: MarkupBuilder<'i>,
-}
-
-/// Appends the section of a rule.
-fn push_section(
+/// Appends the sections of all rules.
+fn push_sections(
     alloc: Global,
-    rule: &ast::Rule,
-    details: &Details<'_>,
+    doc: &GrammarDoc<'_>,
     names: &[&str],
     page: &mut String,
-) -> Result<(), AllocError> {
-    let name = rule.name.as_str();
-    page.push_str("<section id=\"")?;
-    push_escaped(name, page)?;
-    page.push_str("\">\n<h2>")?;
-    push_escaped(name, page)?;
-    page.push_str("</h2>\n")?;
-    push_markup(&details.before.tokens, names, page)?;
-    page.push_str("<details><summary>Expression</summary>\n<pre><code>")?;
-    let expression = rule.expr.to_string(alloc)?;
-    push_escaped(expression.as_str(), page)?;
-    page.push_str("</code></pre></details>\n")?;
-    push_markup(&details.after.tokens, names, page)?;
-    page.push_str("</section>\n")
+) -> Result<(), AllocError>
+    ensures { OnOk result (EndsWithSections names.now (rules_of doc.now.rules.value.items)
+        (string_bytes page.old) (string_bytes page.new)) }
+{
+    for (number, rule) in doc.rules.value.iter().enumerate() {
+        let contents = describe(alloc, doc, number, rule)?;
+        push_section(alloc, rule, &contents, names, page)?;
+    }
+    Ok(())
 }
 
 /// The comment of a grammar, and the list of its rules.
@@ -144,7 +139,7 @@ fn describe<'i>(
     doc: &GrammarDoc<'i>,
     number: usize,
     rule: &ast::Rule,
-) -> Result<Details<'i>, AllocError> {
+) -> Result<SectionContents<'i>, AllocError> {
     let mut before = MarkupBuilder::new(alloc);
     push_modifier(&mut before, rule.ty)?;
     let source = doc.source.rules.get(number);
@@ -161,7 +156,10 @@ fn describe<'i>(
     if let Some(facts) = doc.facts.get(number) {
         push_facts(&mut after, facts)?;
     }
-    Ok(Details { before, after })
+    Ok(SectionContents {
+        before: before.tokens,
+        after: after.tokens,
+    })
 }
 
 /// Adds what the modifier of a rule means.

@@ -9,7 +9,6 @@ mod html;
 mod markdown;
 mod read;
 mod source;
-mod template;
 mod terms;
 mod warnings;
 

@@ -1,4 +1,10 @@
 //! Pages of Markdown.
+ghost use Rattle.std.specs.Prelude.{IfErr, IfOk, OnOk, string_bytes};
+ghost use Rattle.meta_ast.specs.Ast.{rules_of};
+ghost use Rattle.meta_markup.specs.Pages.{IsMarkdownPage};
+ghost use Rattle.meta_doc.specs.Documents.{EndsWithMarkdownSections, IsMarkdownPageOf};
+ghost use Rattle.pest_meta.specs.Spelling.{IsRefusal};
+
 use crate::facts::RuleFacts;
 use crate::html::meaning_of;
 use crate::read::{GrammarDoc, read_grammar};
@@ -6,7 +12,7 @@ use crate::source::{RuleSource, SourcePart};
 use meta_ast::ast;
 use meta_base::runtime::Fault;
 use meta_markup::{
-    MarkdownToken, MarkdownWord, push_code, push_escaped, push_inline, push_markdown,
+    MarkdownContents, MarkdownToken, MarkdownWord, push_markdown_section, start_markdown,
 };
 use std::alloc::{AllocError, Global};
 
@@ -16,55 +22,41 @@ struct MarkdownBuilder<'t> {
     tokens: Vec<MarkdownToken<'t>>,
 }
 
-/// The contents of a rule's section, before and after its printed expression.
-#[derive(Drop)]
-struct MarkdownDetails<'t> {
-    before: MarkdownBuilder<'t>,
-    after: MarkdownBuilder<'t>,
-}
-
 /// Returns the page of a grammar's text under a title, in Markdown. Refused as by `parse_and_optimize`.
-pub fn markdown_page(alloc: Global, title: &str, grammar: &str) -> Result<String, Fault> {
+pub fn markdown_page(alloc: Global, title: &str, grammar: &str) -> Result<String, Fault>
+    ensures page { IfOk result (λ page. IsMarkdownPageOf title.now grammar.now (string_bytes page)) }
+    ensures refused { IfErr result (IsRefusal grammar.now) }
+{
     let doc = read_grammar(alloc, grammar)?;
     Ok(render_page(alloc, title, &doc)?)
 }
 
 /// The page of a document.
-fn render_page(alloc: Global, title: &str, doc: &GrammarDoc<'_>) -> Result<String, AllocError> {
+fn render_page(alloc: Global, title: &str, doc: &GrammarDoc<'_>) -> Result<String, AllocError>
+    ensures { IfOk result (λ page. IsMarkdownPage title.now (rules_of doc.now.rules.value.items) (string_bytes page)) }
+{
     let names = doc.names(alloc)?;
-    let mut page = String::from_str(alloc, "# ")?;
-    push_inline(title, &mut page)?;
-    page.push_str("\n\n")?;
     let introduction = introduce(alloc, doc)?;
-    push_markdown(&introduction.tokens, &names, &mut page)?;
-    for (number, rule) in doc.rules.value.iter().enumerate() {
-        let details = describe(alloc, doc, number, rule)?;
-        push_section(alloc, rule, &details, &names, &mut page)?;
-    }
+    let mut page = start_markdown(alloc, title, &introduction.tokens, &names)?;
+    push_sections(alloc, doc, &names, &mut page)?;
     Ok(page)
 }
 
-/// Appends the section of a rule.
-fn push_section(
+/// Appends the sections of all rules.
+fn push_sections(
     alloc: Global,
-    rule: &ast::Rule,
-    details: &MarkdownDetails<'_>,
+    doc: &GrammarDoc<'_>,
     names: &[&str],
     page: &mut String,
-) -> Result<(), AllocError> {
-    let name = rule.name.as_str();
-    page.push_str("## <a id=\"")?;
-    push_escaped(name, page)?;
-    page.push_str("\"></a>")?;
-    push_inline(name, page)?;
-    page.push_str("\n\n")?;
-    push_markdown(&details.before.tokens, names, page)?;
-    page.push_str("Expression:\n\n    ")?;
-    let expression = rule.expr.to_string(alloc)?;
-    push_code(expression.as_str(), page)?;
-    page.push_str("\n\n")?;
-    push_markdown(&details.after.tokens, names, page)?;
-    page.push_str("\n")
+) -> Result<(), AllocError>
+    ensures { OnOk result (EndsWithMarkdownSections names.now (rules_of doc.now.rules.value.items)
+        (string_bytes page.old) (string_bytes page.new)) }
+{
+    for (number, rule) in doc.rules.value.iter().enumerate() {
+        let contents = describe(alloc, doc, number, rule)?;
+        push_markdown_section(alloc, rule, &contents, names, page)?;
+    }
+    Ok(())
 }
 
 /// The comment of a grammar, and the list of its rules.
@@ -86,7 +78,7 @@ fn describe<'i>(
     doc: &GrammarDoc<'i>,
     number: usize,
     rule: &ast::Rule,
-) -> Result<MarkdownDetails<'i>, AllocError> {
+) -> Result<MarkdownContents<'i>, AllocError> {
     let mut before = MarkdownBuilder::new(alloc);
     before.emphasis(meaning_of(rule.ty))?;
     if let Some(source) = doc.source.rules.get(number) {
@@ -97,7 +89,10 @@ fn describe<'i>(
     if let Some(facts) = doc.facts.get(number) {
         after.facts(facts)?;
     }
-    Ok(MarkdownDetails { before, after })
+    Ok(MarkdownContents {
+        before: before.tokens,
+        after: after.tokens,
+    })
 }
 
 impl<'t> MarkdownBuilder<'t> {
@@ -165,36 +160,36 @@ impl<'t> MarkdownBuilder<'t> {
         self.callers(&facts.callers)?;
         self.first_set(&facts.first_set.labels, facts.first_set.has_more)?;
         if facts.is_nullable {
-            self.item("May match nothing")?;
+            self.item(MarkdownWord::MayMatchNothing)?;
             self.word(MarkdownWord::LineFeed)?;
         }
         for warning in &facts.warnings {
-            self.item("Warning: ")?;
+            self.item(MarkdownWord::Warning)?;
             self.word(MarkdownWord::CodeStart)?;
             self.text(warning.text)?;
             self.word(MarkdownWord::CodeEnd)?;
-            self.text(": ")?;
+            self.word(MarkdownWord::Colon)?;
             self.text(warning.message)?;
             self.word(MarkdownWord::LineFeed)?;
         }
         Ok(())
     }
 
-    /// Adds the start of an item, up to a text.
-    fn item(&mut self, text: &'t str) -> Result<(), AllocError> {
+    /// Adds the start of an item of a list, with its first word.
+    fn item(&mut self, word: MarkdownWord) -> Result<(), AllocError> {
         self.word(MarkdownWord::Item)?;
-        self.text(text)
+        self.word(word)
     }
 
     /// Adds the rules that call a rule.
     fn callers(&mut self, callers: &[usize]) -> Result<(), AllocError> {
-        self.item("Used in: ")?;
+        self.item(MarkdownWord::UsedIn)?;
         if callers.is_empty() {
-            self.text("no other rule")?;
+            self.word(MarkdownWord::NoOtherRule)?;
         }
         for (place, caller) in callers.iter().enumerate() {
             if place > 0 {
-                self.text(", ")?;
+                self.word(MarkdownWord::Comma)?;
             }
             self.put(MarkdownToken::RuleLink(*caller))?;
         }
@@ -206,17 +201,17 @@ impl<'t> MarkdownBuilder<'t> {
         if labels.is_empty() {
             return Ok(());
         }
-        self.item("Begins with: ")?;
+        self.item(MarkdownWord::BeginsWith)?;
         for (place, label) in labels.iter().enumerate() {
             if place > 0 {
-                self.text(", ")?;
+                self.word(MarkdownWord::Comma)?;
             }
             self.word(MarkdownWord::CodeStart)?;
             self.put(MarkdownToken::Label(label.clone()?))?;
             self.word(MarkdownWord::CodeEnd)?;
         }
         if has_more {
-            self.text(" and more")?;
+            self.word(MarkdownWord::AndMore)?;
         }
         self.word(MarkdownWord::LineFeed)
     }

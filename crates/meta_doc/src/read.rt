@@ -1,4 +1,9 @@
 //! From a grammar's text to what its documents are made of.
+ghost use Rattle.std.specs.Prelude.{◌≡◌, IfErr, IfOk};
+ghost use Rattle.meta_ast.specs.Ast.{rules_of};
+ghost use Rattle.meta_markup.specs.Pages.{AreNames};
+ghost use Rattle.pest_meta.specs.Spelling.{IsRefusal, SpellsGrammar};
+
 use crate::facts::{RuleFacts, find_facts};
 use crate::source::{GrammarSource, read_source};
 use meta_analysis::names_of;
@@ -26,7 +31,10 @@ pub struct GrammarDoc<'i> {
 
 /// Reads the text of a grammar. Refused as by `parse_and_optimize`: where the text is no grammar, where its names are
 /// not in order, and where its rules are not; and where an allocation fails.
-pub fn read_grammar<'i>(alloc: Global, text: &'i str) -> Result<GrammarDoc<'i>, Fault> {
+pub fn read_grammar<'i>(alloc: Global, text: &'i str) -> Result<GrammarDoc<'i>, Fault>
+    ensures rules { IfOk result (λ doc. SpellsGrammar text.entry.now (rules_of doc.rules.value.items)) }
+    ensures refused { IfErr result (IsRefusal text.entry.now) }
+{
     let pairs = parse(alloc, Rule::grammar_rules, text)?;
     let copy = pairs.clone()?;
     validate_pairs(alloc, copy)?;
@@ -41,7 +49,9 @@ fn document<'i>(
     rules: Deep<Vec<ast::Rule>>,
     pairs: Pairs<'i, Rule>,
     same: Pairs<'i, Rule>,
-) -> Result<GrammarDoc<'i>, Fault> {
+) -> Result<GrammarDoc<'i>, Fault>
+    ensures rules { IfOk result (λ doc. rules_of doc.rules.value.items ≡ rules_of rules.value.items) }
+{
     let source = read_source(alloc, pairs)?;
     let spanned = consume_rules_with_spans(alloc, same)?;
     let spanned = Deep { value: spanned };
@@ -57,7 +67,9 @@ fn document<'i>(
 
 impl GrammarDoc<'_> {
     /// Returns the names of the rules, in order.
-    pub fn names(&self, alloc: Global) -> Result<Vec<&str>, AllocError> {
+    pub fn names(&self, alloc: Global) -> Result<Vec<&str>, AllocError>
+        ensures { IfOk result (λ names. AreNames (rules_of self.entry.now.rules.value.items) names.items) }
+    {
         let mut names = Vec::new(alloc);
         for rule in &self.rules.value {
             names.push(rule.name.as_str())?;

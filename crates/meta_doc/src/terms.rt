@@ -81,8 +81,10 @@ impl<'e> TermWriter<'e, '_> {
                 self.word_later(EbnfWord::Bar)?;
                 self.later(TermStep::Visit(left, TermContext::Alternative))
             }
-            Expr::Push(inner) => self.noted("PUSH", inner, context),
-            Expr::NodeTag(inner, tag) => self.noted(tag.as_str(), inner, context),
+            Expr::Push(inner) => { self.remark_on(EbnfWord::CommentStart, "PUSH", inner, context) }
+            Expr::NodeTag(inner, tag) => {
+                self.remark_on(EbnfWord::TagStart, tag.as_str(), inner, context)
+            }
             _ => self.repetition(expr, context),
         }
     }
@@ -118,14 +120,17 @@ impl<'e> TermWriter<'e, '_> {
     }
 
     /// Writes an operand after a comment.
-    fn noted(
+    fn remark_on(
         &mut self,
-        note: &'e str,
+        start: EbnfWord,
+        remark: &'e str,
         operand: &'e Expr,
         context: TermContext,
     ) -> Result<(), AllocError> {
         self.open(context == TermContext::Operand)?;
-        self.comment(EbnfToken::Comment(note))?;
+        self.word(start)?;
+        self.tokens.push(EbnfToken::Comment(remark))?;
+        self.word(EbnfWord::CommentEnd)?;
         self.word(EbnfWord::Blank)?;
         self.later(TermStep::Visit(operand, TermContext::Item))
     }
@@ -170,6 +175,9 @@ impl<'e> TermWriter<'e, '_> {
         if numbers.contains_key(name) {
             self.tokens.push(EbnfToken::Name(name))?;
             return Ok(());
+        }
+        if name == "NEWLINE" {
+            return self.word(EbnfWord::LineEnd);
         }
         let ranges = ranges_of(name);
         if ranges.is_empty() {

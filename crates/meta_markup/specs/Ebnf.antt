@@ -17,8 +17,11 @@ is_plain c = not (c == 9 || (c == 10 || c == 34)) && visible c == c
 abbrev pub plain_character : ℕ → List ℕ
 plain_character c = if is_plain c then c ∷ [] else []
 
+abbrev pub plain_text : List ℕ → List ℕ
+plain_text text = encode_utf8_all (flat_map plain_character text)
+
 abbrev pub plain_bytes : List ℕ → List ℕ
-plain_bytes text = encode_utf8_all (flat_map plain_character (chars text))
+plain_bytes text = plain_text (chars text)
 
 -- a character by its number
 abbrev pub numbered : ℕ → List ℕ
@@ -55,8 +58,9 @@ ebnf_word_text word.RangeMiddle = codes "-"
 ebnf_word_text word.RangeEnd = codes "]"
 ebnf_word_text word.DoubleQuote = codes "'\"'"
 ebnf_word_text word.CommentStart = codes "/* "
+ebnf_word_text word.TagStart = codes "/* #"
 ebnf_word_text word.CommentEnd = codes " */"
-ebnf_word_text word.LineFeed = codes "\n"
+ebnf_word_text word.LineEnd = codes "(#xa | #xd #xa | #xd)"
 
 -- the bytes of a token
 abbrev pub ebnf_token_bytes : EbnfToken → List ℕ

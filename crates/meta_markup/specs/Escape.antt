@@ -27,9 +27,12 @@ escaped_character c =
     else if c == 39 then codes "&#39;"
     else visible c ∷ []
 
--- a text as it is written in markup, as characters and as bytes
+-- a text as it is written in markup: its characters, their bytes, and those for a text in bytes
 abbrev pub escaped : List ℕ → List ℕ
 escaped = flat_map escaped_character
 
+abbrev pub escaped_text : List ℕ → List ℕ
+escaped_text text = encode_utf8_all (escaped text)
+
 abbrev pub escaped_bytes : List ℕ → List ℕ
-escaped_bytes text = encode_utf8_all (escaped (chars text))
+escaped_bytes text = escaped_text (chars text)

@@ -21,8 +21,11 @@ inline_character c =
     else if is_punctuation c then 92 ∷ c ∷ []
     else visible c ∷ []
 
+abbrev pub inline_text : List ℕ → List ℕ
+inline_text text = encode_utf8_all (flat_map inline_character text)
+
 abbrev pub inline_bytes : List ℕ → List ℕ
-inline_bytes text = encode_utf8_all (flat_map inline_character (chars text))
+inline_bytes text = inline_text (chars text)
 
 -- a character of a block of code: each line after the first is indented
 abbrev pub code_character : ℕ → List ℕ
@@ -40,6 +43,14 @@ word_text word.CodeEnd = codes "</code>"
 word_text word.Emphasis = codes "*"
 word_text word.LineFeed = codes "\n"
 word_text word.BlockEnd = codes "\n\n"
+word_text word.Comma = codes ", "
+word_text word.UsedIn = codes "Used in: "
+word_text word.NoOtherRule = codes "no other rule"
+word_text word.BeginsWith = codes "Begins with: "
+word_text word.AndMore = codes " and more"
+word_text word.MayMatchNothing = codes "May match nothing"
+word_text word.Warning = codes "Warning: "
+word_text word.Colon = codes ": "
 
 -- a link to a rule of this name
 abbrev pub rule_link_bytes : Option (Bor (List ℕ)) → List ℕ

@@ -25,9 +25,12 @@ pub enum EbnfWord {
     RangeEnd,
     /// A string of one `"`.
     DoubleQuote,
+    /// The start of a comment, and of one on a tag.
     CommentStart,
+    TagStart,
     CommentEnd,
-    LineFeed,
+    /// The end of a line, in any form.
+    LineEnd,
 }
 
 /// A token of EBNF.
@@ -68,8 +71,9 @@ impl EbnfWord {
             EbnfWord::RangeEnd => "]",
             EbnfWord::DoubleQuote => "'\"'",
             EbnfWord::CommentStart => "/* ",
+            EbnfWord::TagStart => "/* #",
             EbnfWord::CommentEnd => " */",
-            EbnfWord::LineFeed => "\n",
+            EbnfWord::LineEnd => "(#xa | #xd #xa | #xd)",
         }
     }
 }
@@ -112,7 +116,7 @@ pub fn is_plain(character: char) -> bool
 }
 
 /// Appends the plain characters of a text.
-fn push_plain(text: &str, page: &mut String) -> Result<(), AllocError>
+pub(crate) fn push_plain(text: &str, page: &mut String) -> Result<(), AllocError>
     ensures { OnOk result (string_bytes page.new ≡ string_bytes page.old ++ plain_bytes text.now) }
 {
     for character in text.chars() {

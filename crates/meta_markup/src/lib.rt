@@ -5,12 +5,19 @@ mod builder;
 mod ebnf;
 mod escape;
 mod markdown;
+mod sections;
+mod template;
 mod tokens;
 mod vocabulary;
 
 pub use crate::builder::MarkupBuilder;
-pub use crate::ebnf::{EbnfToken, EbnfWord, is_plain, push_comment, push_ebnf};
+pub use crate::ebnf::{EbnfToken, EbnfWord, is_plain};
 pub use crate::escape::{push_escaped, push_visible};
-pub use crate::markdown::{MarkdownToken, MarkdownWord, push_code, push_inline, push_markdown};
+pub use crate::markdown::{MarkdownToken, MarkdownWord};
+pub use crate::sections::{
+    MarkdownContents, SectionContents, push_definition, push_markdown_section, push_section,
+    start_markdown, start_page,
+};
+pub use crate::template::FOOT;
 pub use crate::tokens::{Markup, push_markup};
 pub use crate::vocabulary::{Attribute, Class, PathCommand, Tag};

@@ -23,6 +23,14 @@ pub enum MarkdownWord {
     LineFeed,
     /// The end of a block: two line feeds.
     BlockEnd,
+    Comma,
+    UsedIn,
+    NoOtherRule,
+    BeginsWith,
+    AndMore,
+    MayMatchNothing,
+    Warning,
+    Colon,
 }
 
 /// A token of Markdown.
@@ -52,6 +60,14 @@ impl MarkdownWord {
             MarkdownWord::Emphasis => "*",
             MarkdownWord::LineFeed => "\n",
             MarkdownWord::BlockEnd => "\n\n",
+            MarkdownWord::Comma => ", ",
+            MarkdownWord::UsedIn => "Used in: ",
+            MarkdownWord::NoOtherRule => "no other rule",
+            MarkdownWord::BeginsWith => "Begins with: ",
+            MarkdownWord::AndMore => " and more",
+            MarkdownWord::MayMatchNothing => "May match nothing",
+            MarkdownWord::Warning => "Warning: ",
+            MarkdownWord::Colon => ": ",
         }
     }
 }
