@@ -11,22 +11,33 @@ use std::collections::HashMap;
 /// The space around a diagram.
 const MARGIN: u64 = 12;
 
+/// Where the style of a diagram is.
+#[derive(Clone, Copy)]
+pub enum DiagramStyle {
+    /// In the page around it.
+    OfPage,
+    /// In the diagram itself.
+    Own,
+}
+
 /// Adds the diagram of an expression, an element `svg`, where `rules` has the numbers of rules by their names. Calls
 /// of rules link to them. The only error is an allocation failure.
 pub fn push_diagram(
     alloc: Global,
     expr: &Expr,
     rules: &HashMap<String, usize>,
+    style: DiagramStyle,
     markup: &mut MarkupBuilder<'_>,
 ) -> Result<(), AllocError> {
     let boxes = build_boxes(alloc, expr, rules)?;
-    draw(alloc, &boxes, markup)
+    draw(alloc, &boxes, style, markup)
 }
 
 /// Draws boxes, the last of which is the whole.
 fn draw(
     alloc: Global,
     boxes: &[LayoutBox],
+    style: DiagramStyle,
     markup: &mut MarkupBuilder<'_>,
 ) -> Result<(), AllocError> {
     let Some(whole) = boxes.last() else {
@@ -41,6 +52,9 @@ fn draw(
         extent.width.saturating_add(4 * MARGIN),
         height.saturating_add(2 * MARGIN),
     )?;
+    if let DiagramStyle::Own = style {
+        markup.put(Markup::Style)?;
+    }
     let start = Point {
         x: 2 * MARGIN,
         y: MARGIN.saturating_add(extent.ascent),

@@ -13,7 +13,7 @@ use crate::warnings::RuleWarning;
 use meta_ast::ast;
 use meta_ast::ast::RuleType;
 use meta_base::runtime::Fault;
-use meta_diagram::push_diagram;
+use meta_diagram::{DiagramStyle, push_diagram};
 use meta_markup::{
     Class, FOOT, Markup, MarkupBuilder, SectionContents, Tag, push_markup, push_section, start_page,
 };
@@ -62,7 +62,7 @@ fn render_diagram(
     ensures { IfOk result IsDiagram }
 {
     let mut markup = MarkupBuilder::new(alloc);
-    push_diagram(alloc, &rule.expr, numbers, &mut markup)?;
+    push_diagram(alloc, &rule.expr, numbers, DiagramStyle::Own, &mut markup)?;
     let mut drawing = String::new(alloc);
     push_markup(&markup.tokens, &[], &mut drawing)?;
     drawing.push_str("\n")?;
@@ -147,7 +147,13 @@ fn describe<'i>(
         push_comment(&mut before, &source.comment)?;
     }
     before.start_with_class(Tag::Div, Class::Scroll)?;
-    push_diagram(alloc, &rule.expr, &doc.numbers, &mut before)?;
+    push_diagram(
+        alloc,
+        &rule.expr,
+        &doc.numbers,
+        DiagramStyle::OfPage,
+        &mut before,
+    )?;
     before.close_line(Tag::Div)?;
     if let Some(source) = source {
         push_source(&mut before, source, &doc.numbers)?;

@@ -11,7 +11,7 @@ use Rattle.meta_markup.specs.Markdown.{code_bytes, inline_bytes, inline_text, ma
 use Rattle.meta_markup.specs.Tokens.{markup_bytes}
 use Rattle.meta_markup.specs.declared.ebnf.EbnfToken.{EbnfToken}
 use Rattle.meta_markup.specs.declared.markdown.MarkdownToken.{MarkdownToken}
-use Rattle.meta_markup.specs.declared.template.TheConstants.{FOOT, HEAD, STYLE}
+use Rattle.meta_markup.specs.declared.template.TheConstants.{BODY, DIAGRAM_STYLE, FOOT, HEAD, STYLE}
 use Rattle.meta_markup.specs.declared.tokens.Markup.{Markup}
 
 -- names of rules, in order
@@ -46,7 +46,8 @@ module _ (names : List (Bor (List ℕ))) where
 -- a page up to its first section
 abbrev pub page_start : List ℕ → List (Bor (List ℕ)) → List Markup → List ℕ
 page_start title names introduction =
-    HEAD.now ++ escaped_bytes title ++ STYLE.now ++ escaped_bytes title ++ codes "</h1>\n"
+    HEAD.now ++ escaped_bytes title ++ STYLE.now ++ DIAGRAM_STYLE.now ++ BODY.now
+    ++ escaped_bytes title ++ codes "</h1>\n"
     ++ markup_bytes names introduction ++ codes "<main>\n"
 
 abbrev pub markdown_start : List ℕ → List (Bor (List ℕ)) → List MarkdownToken → List ℕ

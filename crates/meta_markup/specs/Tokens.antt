@@ -7,6 +7,7 @@ use Rattle.meta_markup.specs.Escape.{escaped_bytes}
 use Rattle.meta_markup.specs.Vocabulary.{attribute_name, class_name, command_text, tag_name}
 use Rattle.meta_markup.specs.declared.tokens.Markup.{Markup}
 use Rattle.meta_markup.specs.declared.tokens.Markup.TheVariants as token
+use Rattle.meta_markup.specs.declared.template.TheConstants.{DIAGRAM_STYLE}
 use Rattle.meta_markup.specs.declared.tokens.TheConstants.{NAMESPACE}
 
 -- a rule's name
@@ -30,6 +31,7 @@ module _ (names : List (Bor (List ℕ))) where
   token_bytes token.Quote = codes "\""
   token_bytes (token.Class c) = codes " class=\"" ++ class_name c ++ codes "\""
   token_bytes token.Namespace = NAMESPACE.now
+  token_bytes token.Style = codes "<style>\n" ++ DIAGRAM_STYLE.now ++ codes "</style>\n"
   token_bytes token.LineFeed = codes "\n"
   token_bytes (token.Command c) = command_text c
   token_bytes (token.Number n) = decimal n

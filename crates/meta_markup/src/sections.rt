@@ -6,7 +6,7 @@ ghost use Rattle.meta_markup.specs.Pages.{definition_bytes, markdown_section, ma
 use crate::ebnf::{EbnfToken, push_ebnf, push_plain};
 use crate::escape::push_escaped;
 use crate::markdown::{MarkdownToken, push_code, push_inline, push_markdown};
-use crate::template::{HEAD, STYLE};
+use crate::template::{BODY, DIAGRAM_STYLE, HEAD, STYLE};
 use crate::tokens::{Markup, push_markup};
 use meta_ast::ast::Rule;
 use std::alloc::{AllocError, Global};
@@ -37,6 +37,8 @@ pub fn start_page(
     let mut page = String::from_str(alloc, HEAD)?;
     push_escaped(title, &mut page)?;
     page.push_str(STYLE)?;
+    page.push_str(DIAGRAM_STYLE)?;
+    page.push_str(BODY)?;
     push_escaped(title, &mut page)?;
     page.push_str("</h1>\n")?;
     push_markup(introduction, names, &mut page)?;

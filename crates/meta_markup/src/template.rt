@@ -1,4 +1,4 @@
-//! The fixed parts of a page.
+//! The fixed parts of a page of HTML.
 
 /// A page up to its title.
 pub const HEAD: &str = "<!DOCTYPE html>\n\
@@ -8,16 +8,13 @@ pub const HEAD: &str = "<!DOCTYPE html>\n\
 <meta name=\"viewport\" content=\"width=device-width, initial-scale=1\">\n\
 <title>";
 
-/// A page from the end of its title up to its heading.
+/// A page from the end of its title up to the style of diagrams.
 pub const STYLE: &str = "</title>\n\
 <style>\n\
-:root { color-scheme: light dark; --ink: #1f2328; --paper: #fff; --faint: #59636e; --line: #d1d9e0; --link: #0550ae;\n\
-  --terminal: #dafbe1; --call: #ddf4ff; --builtin: #fff8c5; --alert: #9a3b00; }\n\
-@media (prefers-color-scheme: dark) { :root { --ink: #e6edf3; --paper: #0d1117; --faint: #9198a1; --line: #3d444d;\n\
-  --link: #79c0ff; --terminal: #12361f; --call: #0c2d4a; --builtin: #3b2e00; --alert: #f0883e; } }\n\
-body { margin: 0 auto; max-width: 62rem; padding: 1rem 1.5rem 4rem; font: 16px/1.5 system-ui, sans-serif;\n\
-  color: var(--ink); background: var(--paper); }\n\
-h1 { margin: 1rem 0 .5rem; } h2 { margin: 2rem 0 .5rem; font-size: 1.25rem; }\n\
+:root { color-scheme: light dark; --ink: #1f2328; --paper: #fff; --faint: #59636e; --line: #d1d9e0; --link: #0550ae; --alert: #9a3b00; }\n\
+@media (prefers-color-scheme: dark) { :root { --ink: #e6edf3; --paper: #0d1117; --faint: #9198a1; --line: #3d444d; --link: #79c0ff; --alert: #f0883e; } }\n\
+body { margin: 0 auto; max-width: 62rem; padding: 1rem 1.5rem 4rem; font: 16px/1.5 system-ui, sans-serif; color: var(--ink); background: var(--paper); }\n\
+h1 { margin: 1rem 0 .5rem; } h2 { margin: 1.5rem 0 .25rem; font-size: 1.25rem; }\n\
 section { border-top: 1px solid var(--line); } section h2 { font-family: ui-monospace, monospace; }\n\
 h1, h2, code, dd { overflow-wrap: anywhere; }\n\
 .modifier { color: var(--faint); margin: 0; } .warning { color: var(--alert); }\n\
@@ -25,20 +22,23 @@ a { color: var(--link); }\n\
 nav ul { columns: 12rem; padding-left: 1.2rem; }\n\
 pre { padding: .6rem .8rem; border: 1px solid var(--line); border-radius: 6px; overflow-x: auto; }\n\
 code { font: 13px/1.45 ui-monospace, monospace; } details code { white-space: pre-wrap; }\n\
-dl { display: grid; grid-template-columns: max-content 1fr; gap: .2rem 1rem; margin: .5rem 0; }\n\
+dl { display: grid; grid-template-columns: max-content 1fr; gap: .2rem 1rem; margin: .5rem 0 1rem; }\n\
 dt { color: var(--faint); } dd { margin: 0; } summary { color: var(--faint); }\n\
-.scroll { overflow-x: auto; }\n\
-.diagram { display: block; } .diagram path { fill: none; stroke: var(--ink, #000); stroke-width: 1.5; }\n\
-.diagram .end { fill: var(--ink, #000); } .diagram rect { stroke: var(--ink, #000); stroke-width: 1.2; }\n\
-.diagram .terminal { fill: var(--terminal, #dafbe1); } .diagram .call { fill: var(--call, #ddf4ff); }\n\
-.diagram .builtin { fill: var(--builtin, #fff8c5); }\n\
-.diagram .group { fill: none; stroke: var(--faint, #59636e); stroke-dasharray: 4 3; }\n\
-.diagram text { font: 13px ui-monospace, monospace; fill: var(--ink, #000); white-space: pre; }\n\
-.diagram .label { font: 12px system-ui, sans-serif; fill: var(--faint, #59636e); }\n\
-</style>\n\
-</head>\n\
-<body>\n\
-<h1>";
+.scroll { overflow-x: auto; margin: .5rem 0; }\n";
+
+/// The style of diagrams.
+pub const DIAGRAM_STYLE: &str =
+    ".diagram { --ink: #1f2328; --faint: #59636e; --terminal: #dafbe1; --call: #ddf4ff; --builtin: #fff8c5; display: block; }\n\
+@media (prefers-color-scheme: dark) { .diagram { --ink: #e6edf3; --faint: #9198a1; --terminal: #12361f; --call: #0c2d4a; --builtin: #3b2e00; } }\n\
+.diagram path { fill: none; stroke: var(--ink); stroke-width: 1.5; }\n\
+.diagram rect { stroke: var(--ink); stroke-width: 1.2; } .diagram .end { fill: var(--ink); }\n\
+.diagram .terminal { fill: var(--terminal); } .diagram .call { fill: var(--call); } .diagram .builtin { fill: var(--builtin); }\n\
+.diagram .group { fill: none; stroke: var(--faint); stroke-dasharray: 4 3; }\n\
+.diagram text { font: 13px ui-monospace, monospace; fill: var(--ink); white-space: pre; }\n\
+.diagram .label { font: 12px system-ui, sans-serif; fill: var(--faint); }\n";
+
+/// A page from the end of the style of diagrams up to its heading.
+pub const BODY: &str = "</style>\n</head>\n<body>\n<h1>";
 
 /// The end of a page.
 pub const FOOT: &str = "</main>\n</body>\n</html>\n";

@@ -7,6 +7,7 @@ ghost use Rattle.meta_markup.specs.Escape.{escaped_bytes};
 ghost use Rattle.meta_markup.specs.Tokens.{link_bytes, markup_bytes, name_bytes, token_bytes};
 
 use crate::escape::push_escaped;
+use crate::template::DIAGRAM_STYLE;
 use crate::vocabulary::{Attribute, Class, PathCommand, Tag};
 use std::alloc::AllocError;
 
@@ -29,6 +30,8 @@ pub enum Markup<'t> {
     Class(Class),
     /// The attributes of a drawing.
     Namespace,
+    /// An element with the style of diagrams.
+    Style,
     /// A line feed.
     LineFeed,
     /// A command of a path.
@@ -76,6 +79,7 @@ fn push_token(token: &Markup<'_>, names: &[&str], page: &mut String) -> Result<(
         Markup::Quote => page.push_str("\""),
         Markup::Class(class) => push_three(" class=\"", class.name(), "\"", page),
         Markup::Namespace => page.push_str(NAMESPACE),
+        Markup::Style => push_three("<style>\n", DIAGRAM_STYLE, "</style>\n", page),
         Markup::LineFeed => page.push_str("\n"),
         Markup::Command(command) => page.push_str(command.text()),
         Markup::Number(number) => write!(page, "{number}"),
