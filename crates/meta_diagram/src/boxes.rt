@@ -1,10 +1,10 @@
 //! Layout boxes: the parts of a diagram, each with the space that it takes.
 //!
-//! All lengths are pixels. A box's rail enters at its left side, and leaves at its right side. The boxes of a diagram
-//! are a list, in which each comes after its children.
+//! All lengths are pixels. A box's rail enters at its left side, and leaves at its right side. The boxes of
+//! a diagram are a list, in which each comes after its children.
 use std::alloc::{AllocError, Global};
 
-/// What a box shows.
+/// The content of a box.
 #[derive(Clone, Copy, PartialEq, Eq)]
 pub enum BoxContent {
     /// A rail alone.

@@ -22,7 +22,7 @@ enum BuildStep<'e> {
     Bypass,
 }
 
-/// What joins the operands of a list.
+/// An operator that joins the operands of a list.
 #[derive(Clone, Copy, PartialEq, Eq)]
 enum Operator {
     Tilde,
@@ -40,8 +40,8 @@ struct BoxBuilder<'e> {
     steps: Vec<BuildStep<'e>>,
 }
 
-/// Builds the boxes of an expression, where `rules` has the numbers of rules by their names. The last box is that of
-/// the whole expression. The only error is an allocation failure.
+/// Builds the boxes of an expression, where `rules` has the numbers of rules by their names. The last box is
+/// that of the whole expression. The only error is an allocation failure.
 pub fn build_boxes(
     alloc: Global,
     expr: &Expr,

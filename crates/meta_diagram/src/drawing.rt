@@ -20,8 +20,8 @@ pub enum DiagramStyle {
     Own,
 }
 
-/// Adds the diagram of an expression, an element `svg`, where `rules` has the numbers of rules by their names. Calls
-/// of rules link to them. The only error is an allocation failure.
+/// Adds the diagram of an expression, an element `svg`, where `rules` has the numbers of rules by their
+/// names. Calls of rules link to them. The only error is an allocation failure.
 pub fn push_diagram(
     alloc: Global,
     expr: &Expr,

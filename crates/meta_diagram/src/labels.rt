@@ -5,8 +5,8 @@ use std::alloc::{AllocError, Global};
 /// The number of characters that a label shows of a longer text.
 const SHOWN: usize = 40;
 
-/// Returns the label of an expression without operands: the expression as it is printed, its first 40 characters
-/// where it is longer. The only error is an allocation failure.
+/// Returns the label of an expression without operands: the expression as it is printed, its first 40
+/// characters where it is longer. The only error is an allocation failure.
 pub fn leaf_label(alloc: Global, expr: &Expr) -> Result<String, AllocError> {
     let printed = expr.to_string(alloc)?;
     shorten(alloc, strip_parentheses(printed.as_str()))
@@ -32,7 +32,7 @@ fn shorten(alloc: Global, text: &str) -> Result<String, AllocError> {
     Ok(label)
 }
 
-/// What is written at a box that has children.
+/// The text at a box that has children.
 #[derive(Clone, Copy)]
 pub enum Caption<'e> {
     Empty,

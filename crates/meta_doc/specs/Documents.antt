@@ -14,7 +14,8 @@ abbrev pub IsPageOf : List ℕ → List ℕ → List ℕ → Type 0
 IsPageOf title text page = (rules : Grammar) × SpellsGrammar text rules × IsPage title rules page
 
 abbrev pub IsMarkdownPageOf : List ℕ → List ℕ → List ℕ → Type 0
-IsMarkdownPageOf title text page = (rules : Grammar) × SpellsGrammar text rules × IsMarkdownPage title rules page
+IsMarkdownPageOf title text page =
+    (rules : Grammar) × SpellsGrammar text rules × IsMarkdownPage title rules page
 
 -- the grammar that a text spells, in EBNF
 abbrev pub IsEbnfOf : List ℕ → List ℕ → Type 0
@@ -26,7 +27,8 @@ IsDiagram drawing = (tokens : List Markup) × (string_bytes drawing ≡ markup_b
 
 -- a page that has gained the sections of rules
 abbrev pub EndsWithSections : List (Bor (List ℕ)) → Grammar → List ℕ → List ℕ → Type 0
-EndsWithSections names rules old new = (sections : List ℕ) × AreSections names rules sections × (new ≡ old ++ sections)
+EndsWithSections names rules old new =
+    (sections : List ℕ) × AreSections names rules sections × (new ≡ old ++ sections)
 
 abbrev pub EndsWithMarkdownSections : List (Bor (List ℕ)) → Grammar → List ℕ → List ℕ → Type 0
 EndsWithMarkdownSections names rules old new =

@@ -3,8 +3,8 @@ use crate::source::{RuleSource, SourcePart};
 use std::alloc::{AllocError, Global};
 use std::collections::HashMap;
 
-/// Finds for each rule the rules that call it, each once, in order, where `numbers` has the numbers of rules by
-/// their names.
+/// Finds for each rule the rules that call it, each once, in order, where `numbers` has the numbers of rules
+/// by their names.
 pub fn find_callers(
     alloc: Global,
     rules: &[RuleSource<'_>],

@@ -1,4 +1,4 @@
-//! Grammars in W3C's EBNF. Whatever has no counterpart there is in comments.
+//! Grammars in W3C's EBNF. Comments have what has no counterpart there.
 ghost use Rattle.std.specs.Prelude.{IfErr, IfOk, string_bytes};
 ghost use Rattle.meta_ast.specs.Ast.{rules_of};
 ghost use Rattle.meta_markup.specs.Pages.{AreDefinitions};

@@ -31,8 +31,8 @@ struct FirstSearch<'s, 'n, 'i> {
     labels: Vec<String>,
 }
 
-/// Finds the terminals and builtins that may begin a rule, at most twelve, within 400 nodes. The only error is an
-/// allocation failure.
+/// Finds the terminals and builtins that may begin a rule, at most twelve, within 400 nodes. The only error
+/// is an allocation failure.
 pub fn find_first_set(
     alloc: Global,
     analysis: &Groundwork<'_, '_>,

@@ -15,7 +15,7 @@ use meta_ast::ast::RuleType;
 use meta_base::runtime::Fault;
 use meta_diagram::{DiagramStyle, push_diagram};
 use meta_markup::{
-    Class, FOOT, Markup, MarkupBuilder, SectionContents, Tag, push_markup, push_section, start_page,
+    Class, Markup, MarkupBuilder, SectionContents, Tag, foot, push_markup, push_section, start_page,
 };
 use std::alloc::{AllocError, Global};
 use std::collections::HashMap;
@@ -29,8 +29,8 @@ pub fn html_page(alloc: Global, title: &str, grammar: &str) -> Result<String, Fa
     Ok(render_page(alloc, title, &doc)?)
 }
 
-/// Returns the diagram of the rule of a name, or of the first rule where no name is given, as SVG; `None` where the
-/// grammar has no such rule. Refused as by `parse_and_optimize`.
+/// Returns the diagram of the rule of a name, or of the first rule where no name is given, as SVG; `None`
+/// where the grammar has no such rule. Refused as by `parse_and_optimize`.
 pub fn svg_diagram(
     alloc: Global,
     grammar: &str,
@@ -71,13 +71,14 @@ fn render_diagram(
 
 /// The page of a document.
 fn render_page(alloc: Global, title: &str, doc: &GrammarDoc<'_>) -> Result<String, AllocError>
-    ensures { IfOk result (λ page. IsPage title.now (rules_of doc.now.rules.value.items) (string_bytes page)) }
+    ensures { IfOk result
+        (λ page. IsPage title.now (rules_of doc.now.rules.value.items) (string_bytes page)) }
 {
     let names = doc.names(alloc)?;
     let introduction = introduce(alloc, doc)?;
     let mut page = start_page(alloc, title, &introduction.tokens, &names)?;
     push_sections(alloc, doc, &names, &mut page)?;
-    page.push_str(FOOT)?;
+    page.push_str(foot())?;
     Ok(page)
 }
 
@@ -179,7 +180,7 @@ fn push_modifier(markup: &mut MarkupBuilder<'_>, ty: RuleType) -> Result<(), All
     markup.close_line(Tag::P)
 }
 
-/// What the modifier of a rule means, in a few words.
+/// Describes the modifier of a rule in a few words.
 pub fn meaning_of(ty: RuleType) -> &'static str {
     match ty {
         RuleType::Normal => "",

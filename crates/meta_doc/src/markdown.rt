@@ -33,7 +33,8 @@ pub fn markdown_page(alloc: Global, title: &str, grammar: &str) -> Result<String
 
 /// The page of a document.
 fn render_page(alloc: Global, title: &str, doc: &GrammarDoc<'_>) -> Result<String, AllocError>
-    ensures { IfOk result (λ page. IsMarkdownPage title.now (rules_of doc.now.rules.value.items) (string_bytes page)) }
+    ensures { IfOk result
+        (λ page. IsMarkdownPage title.now (rules_of doc.now.rules.value.items) (string_bytes page)) }
 {
     let names = doc.names(alloc)?;
     let introduction = introduce(alloc, doc)?;

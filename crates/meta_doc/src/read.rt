@@ -29,8 +29,8 @@ pub struct GrammarDoc<'i> {
     pub numbers: HashMap<String, usize>,
 }
 
-/// Reads the text of a grammar. Refused as by `parse_and_optimize`: where the text is no grammar, where its names are
-/// not in order, and where its rules are not; and where an allocation fails.
+/// Reads the text of a grammar. Refused as by `parse_and_optimize`: where the text is no grammar, where its
+/// names are not in order, and where its rules are not; and where an allocation fails.
 pub fn read_grammar<'i>(alloc: Global, text: &'i str) -> Result<GrammarDoc<'i>, Fault>
     ensures rules { IfOk result (λ doc. SpellsGrammar text.entry.now (rules_of doc.rules.value.items)) }
     ensures refused { IfErr result (IsRefusal text.entry.now) }

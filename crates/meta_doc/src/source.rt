@@ -38,7 +38,7 @@ pub struct GrammarSource<'i> {
 struct SourceReader<'i> {
     alloc: Global,
     text: &'i str,
-    /// What is read so far.
+    /// The source so far.
     source: GrammarSource<'i>,
     /// The comment of the next rule.
     comment: Vec<&'i str>,

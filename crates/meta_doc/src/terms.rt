@@ -244,7 +244,7 @@ impl<'e> TermWriter<'e, '_> {
         Ok(others.as_str())
     }
 
-    /// Writes a text that is matched in either case: each letter in both cases.
+    /// Writes a text that is matched in either case, letter by letter.
     fn either_case(&mut self, text: &'e str, context: TermContext) -> Result<(), AllocError> {
         self.open(context == TermContext::Operand)?;
         if text.is_empty() {
@@ -319,7 +319,8 @@ fn is_string(text: &str) -> bool {
     text.chars().all(is_plain)
 }
 
-/// The ranges of the characters that a builtin matches; none for a builtin that is no class of ASCII characters.
+/// The ranges of the characters that a builtin matches; none for a builtin that is no class of ASCII
+/// characters.
 fn ranges_of(name: &str) -> &'static [(char, char)] {
     match name {
         "ANY" => &[('\0', '\u{10ffff}')],

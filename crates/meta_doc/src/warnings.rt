@@ -13,8 +13,8 @@ pub struct RuleWarning<'i> {
     pub text: &'i str,
 }
 
-/// Finds for each rule its warnings: alternatives that are never taken, and ranges that match nothing. The only
-/// error is an allocation failure.
+/// Finds for each rule its warnings: alternatives that are never taken, and ranges that match nothing. The
+/// only error is an allocation failure.
 pub fn find_warnings<'i>(
     alloc: Global,
     sources: &[RuleSource<'i>],

@@ -27,7 +27,7 @@ inline_text text = encode_utf8_all (flat_map inline_character text)
 abbrev pub inline_bytes : List ℕ → List ℕ
 inline_bytes text = inline_text (chars text)
 
--- a character of a block of code: each line after the first is indented
+-- a character of a block of code, in which lines after the first are indented
 abbrev pub code_character : ℕ → List ℕ
 code_character c = if c == 10 then codes "\n    " else visible c ∷ []
 
@@ -55,7 +55,8 @@ word_text word.Colon = codes ": "
 -- a link to a rule of this name
 abbrev pub rule_link_bytes : Option (Bor (List ℕ)) → List ℕ
 rule_link_bytes None = []
-rule_link_bytes (Some name) = codes "[" ++ inline_bytes name.now ++ codes "](#" ++ inline_bytes name.now ++ codes ")"
+rule_link_bytes (Some name) =
+    codes "[" ++ inline_bytes name.now ++ codes "](#" ++ inline_bytes name.now ++ codes ")"
 
 module _ (names : List (Bor (List ℕ))) where
   -- the bytes of a token

@@ -7,8 +7,7 @@ use Rattle.meta_markup.specs.Escape.{escaped_bytes}
 use Rattle.meta_markup.specs.Vocabulary.{attribute_name, class_name, command_text, tag_name}
 use Rattle.meta_markup.specs.declared.tokens.Markup.{Markup}
 use Rattle.meta_markup.specs.declared.tokens.Markup.TheVariants as token
-use Rattle.meta_markup.specs.declared.template.TheConstants.{DIAGRAM_STYLE}
-use Rattle.meta_markup.specs.declared.tokens.TheConstants.{NAMESPACE}
+use Rattle.meta_markup.specs.Template.{diagram_style, namespace}
 
 -- a rule's name
 abbrev pub name_bytes : Option (Bor (List ℕ)) → List ℕ
@@ -30,8 +29,8 @@ module _ (names : List (Bor (List ℕ))) where
   token_bytes (token.Attribute a) = codes " " ++ attribute_name a ++ codes "=\""
   token_bytes token.Quote = codes "\""
   token_bytes (token.Class c) = codes " class=\"" ++ class_name c ++ codes "\""
-  token_bytes token.Namespace = NAMESPACE.now
-  token_bytes token.Style = codes "<style>\n" ++ DIAGRAM_STYLE.now ++ codes "</style>\n"
+  token_bytes token.Namespace = namespace
+  token_bytes token.Style = codes "<style>\n" ++ diagram_style ++ codes "</style>\n"
   token_bytes token.LineFeed = codes "\n"
   token_bytes (token.Command c) = command_text c
   token_bytes (token.Number n) = decimal n

@@ -1,7 +1,7 @@
 //! The tokens of W3C's EBNF, and the bytes that are written for them.
 //!
-//! A string has no escapes there: a quote is written between the other quotes, and a character that is not shown by
-//! its number, as `#xa`. In a comment a blank comes before each slash, so no text ends it.
+//! A string has no escapes there: a quote is written between the other quotes, and a character that is not
+//! shown by its number, as `#xa`. In a comment a blank comes before each slash, so no text ends it.
 ghost use Rattle.std.specs.Prelude.{◌≡◌, ◌∷◌, ◌++◌, [], OnOk, codes, encode_utf8_all, string_bytes};
 ghost use Rattle.meta_markup.specs.Ebnf.{bound_bytes, comment_bytes, comment_character, ebnf_bytes, ebnf_token_bytes, ebnf_word_text, either_case_bytes, is_plain, numbered, plain_bytes, plain_character};
 
@@ -108,7 +108,7 @@ fn push_token(token: &EbnfToken<'_>, page: &mut String) -> Result<(), AllocError
     }
 }
 
-/// Returns whether a character stands for itself in a string: it is shown, and is not `"`.
+/// Returns whether a character stands for itself in a string: a shown one other than `"`.
 pub fn is_plain(character: char) -> bool
     ensures { result ≡ is_plain character }
 {

@@ -5,8 +5,8 @@ ghost use Rattle.meta_markup.specs.Escape.{escaped_bytes, escaped_character, vis
 
 use std::alloc::AllocError;
 
-/// Appends a text, escaped: `<`, `>`, `&` and both quotes become entities, and U+FFFD replaces each character that
-/// is not shown or changes the direction of a line. The only error is an allocation failure.
+/// Appends a text, escaped: `<`, `>`, `&` and both quotes become entities, and U+FFFD replaces each
+/// character that is not shown or changes the direction of a line. The only error is an allocation failure.
 pub fn push_escaped(text: &str, page: &mut String) -> Result<(), AllocError>
     ensures { OnOk result (string_bytes page.new ≡ string_bytes page.old ++ escaped_bytes text.now) }
 {
@@ -43,8 +43,8 @@ pub(crate) fn visible(character: char) -> char
     }
 }
 
-/// Appends a text with U+FFFD in place of each character that is not shown or changes the direction of a line, so
-/// that a terminal obeys no part of it. The only error is an allocation failure.
+/// Appends a text with U+FFFD in place of each character that is not shown or changes the direction of a
+/// line, so that a terminal obeys no part of it. The only error is an allocation failure.
 pub fn push_visible(text: &str, page: &mut String) -> Result<(), AllocError>
     ensures { OnOk result (string_bytes page.new
         ≡ string_bytes page.old ++ encode_utf8_all (map visible (chars text.now))) }

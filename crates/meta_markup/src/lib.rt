@@ -4,6 +4,7 @@
 mod builder;
 mod ebnf;
 mod escape;
+pub mod laws;
 mod markdown;
 mod sections;
 mod template;
@@ -18,6 +19,6 @@ pub use crate::sections::{
     MarkdownContents, SectionContents, push_definition, push_markdown_section, push_section,
     start_markdown, start_page,
 };
-pub use crate::template::FOOT;
+pub use crate::template::foot;
 pub use crate::tokens::{Markup, push_markup};
 pub use crate::vocabulary::{Attribute, Class, PathCommand, Tag};

@@ -1,7 +1,8 @@
 //! The tokens of Markdown, and the bytes that are written for them.
 //!
-//! As in markup, texts of a grammar occur in tokens that are escaped alone. Escaped is each ASCII punctuation
-//! character, by a backslash; in a block of code each line is indented by four blanks instead, and none can end it.
+//! As in markup, texts of a grammar occur in tokens that are escaped alone. Escaped is each ASCII
+//! punctuation character, by a backslash; in a block of code each line is indented by four blanks instead,
+//! and none can end it.
 ghost use Rattle.std.specs.Prelude.{◌≡◌, ◌++◌, OnOk, encode_utf8_all, string_bytes};
 ghost use Rattle.meta_markup.specs.Markdown.{code_bytes, code_character, inline_bytes, inline_character, markdown_bytes, markdown_token_bytes, rule_link_bytes, word_text};
 
@@ -78,7 +79,8 @@ pub fn push_markdown(
     names: &[&str],
     page: &mut String,
 ) -> Result<(), AllocError>
-    ensures { OnOk result (string_bytes page.new ≡ string_bytes page.old ++ markdown_bytes names.now tokens.now) }
+    ensures { OnOk result (string_bytes page.new
+        ≡ string_bytes page.old ++ markdown_bytes names.now tokens.now) }
 {
     for token in tokens {
         push_token(token, names, page)?;
@@ -145,7 +147,8 @@ fn push_inline_character(character: char, page: &mut String) -> Result<(), Alloc
     }
 }
 
-/// Appends a text in a block of code, its lines after the first indented. The only error is an allocation failure.
+/// Appends a text in a block of code, its lines after the first indented. The only error is an allocation
+/// failure.
 pub fn push_code(text: &str, page: &mut String) -> Result<(), AllocError>
     ensures { OnOk result (string_bytes page.new ≡ string_bytes page.old ++ code_bytes text.now) }
 {

@@ -1,12 +1,13 @@
 //! The parts of documents that each rule has: its name, its contents and its printed expression.
 ghost use Rattle.std.specs.Prelude.{◌≡◌, ◌++◌, IfOk, OnOk, string_bytes};
 ghost use Rattle.meta_ast.specs.Ast.{rule_of_code};
-ghost use Rattle.meta_markup.specs.Pages.{definition_bytes, markdown_section, markdown_start, page_start, section_bytes};
+ghost use Rattle.std.specs.Str.{chars};
+ghost use Rattle.meta_markup.specs.Pages.{definition_bytes, expression_bytes, heading_bytes, markdown_expression, markdown_heading, markdown_section, markdown_start, page_start, section_bytes, style_start};
 
 use crate::ebnf::{EbnfToken, push_ebnf, push_plain};
 use crate::escape::push_escaped;
 use crate::markdown::{MarkdownToken, push_code, push_inline, push_markdown};
-use crate::template::{BODY, DIAGRAM_STYLE, HEAD, STYLE};
+use crate::template::{body, diagram_style, head, style};
 use crate::tokens::{Markup, push_markup};
 use meta_ast::ast::Rule;
 use std::alloc::{AllocError, Global};
@@ -34,15 +35,23 @@ pub fn start_page(
 ) -> Result<String, AllocError>
     ensures { IfOk result (λ page. string_bytes page ≡ page_start title.now names.now introduction.now) }
 {
-    let mut page = String::from_str(alloc, HEAD)?;
-    push_escaped(title, &mut page)?;
-    page.push_str(STYLE)?;
-    page.push_str(DIAGRAM_STYLE)?;
-    page.push_str(BODY)?;
+    let mut page = page_with_style(alloc, title)?;
     push_escaped(title, &mut page)?;
     page.push_str("</h1>\n")?;
     push_markup(introduction, names, &mut page)?;
     page.push_str("<main>\n")?;
+    Ok(page)
+}
+
+/// A page of HTML up to its heading.
+fn page_with_style(alloc: Global, title: &str) -> Result<String, AllocError>
+    ensures { IfOk result (λ page. string_bytes page ≡ style_start title.now) }
+{
+    let mut page = String::from_str(alloc, head())?;
+    push_escaped(title, &mut page)?;
+    page.push_str(style())?;
+    page.push_str(diagram_style())?;
+    page.push_str(body())?;
     Ok(page)
 }
 
@@ -55,21 +64,36 @@ pub fn push_section(
     page: &mut String,
 ) -> Result<(), AllocError>
     ensures { OnOk result (string_bytes page.new ≡ string_bytes page.old
-        ++ section_bytes names.now (rule_of_code rule.now) contents.now.before.items contents.now.after.items) }
+        ++ section_bytes names.now (rule_of_code rule.now)
+        contents.now.before.items contents.now.after.items) }
 {
-    let name = rule.name.as_str();
-    let expression = rule.expr.to_string(alloc)?;
+    push_heading(rule.name.as_str(), page)?;
+    push_markup(&contents.before, names, page)?;
+    push_expression(alloc, rule, page)?;
+    push_markup(&contents.after, names, page)?;
+    page.push_str("</section>\n")
+}
+
+/// Appends the heading of a rule's section, by which links find it.
+fn push_heading(name: &str, page: &mut String) -> Result<(), AllocError>
+    ensures { OnOk result (string_bytes page.new ≡ string_bytes page.old ++ heading_bytes (chars name.now)) }
+{
     page.push_str("<section id=\"")?;
     push_escaped(name, page)?;
     page.push_str("\">\n<h2>")?;
     push_escaped(name, page)?;
-    page.push_str("</h2>\n")?;
-    push_markup(&contents.before, names, page)?;
+    page.push_str("</h2>\n")
+}
+
+/// Appends the printed expression of a rule.
+fn push_expression(alloc: Global, rule: &Rule, page: &mut String) -> Result<(), AllocError>
+    ensures { OnOk result (string_bytes page.new
+        ≡ string_bytes page.old ++ expression_bytes (rule_of_code rule.now)) }
+{
+    let expression = rule.expr.to_string(alloc)?;
     page.push_str("<details><summary>Expression</summary>\n<pre><code>")?;
     push_escaped(expression.as_str(), page)?;
-    page.push_str("</code></pre></details>\n")?;
-    push_markup(&contents.after, names, page)?;
-    page.push_str("</section>\n")
+    page.push_str("</code></pre></details>\n")
 }
 
 /// Returns a page of Markdown up to its first section, where the rules have these names.
@@ -97,21 +121,37 @@ pub fn push_markdown_section(
     page: &mut String,
 ) -> Result<(), AllocError>
     ensures { OnOk result (string_bytes page.new ≡ string_bytes page.old
-        ++ markdown_section names.now (rule_of_code rule.now) contents.now.before.items contents.now.after.items) }
+        ++ markdown_section names.now (rule_of_code rule.now)
+        contents.now.before.items contents.now.after.items) }
 {
-    let name = rule.name.as_str();
-    let expression = rule.expr.to_string(alloc)?;
+    push_markdown_heading(rule.name.as_str(), page)?;
+    push_markdown(&contents.before, names, page)?;
+    push_markdown_expression(alloc, rule, page)?;
+    push_markdown(&contents.after, names, page)?;
+    page.push_str("\n")
+}
+
+/// Appends the heading of a rule's section in Markdown, by which links find it.
+fn push_markdown_heading(name: &str, page: &mut String) -> Result<(), AllocError>
+    ensures { OnOk result (string_bytes page.new
+        ≡ string_bytes page.old ++ markdown_heading (chars name.now)) }
+{
     page.push_str("## <a id=\"")?;
     push_escaped(name, page)?;
     page.push_str("\"></a>")?;
     push_inline(name, page)?;
-    page.push_str("\n\n")?;
-    push_markdown(&contents.before, names, page)?;
+    page.push_str("\n\n")
+}
+
+/// Appends the printed expression of a rule in Markdown.
+fn push_markdown_expression(alloc: Global, rule: &Rule, page: &mut String) -> Result<(), AllocError>
+    ensures { OnOk result (string_bytes page.new
+        ≡ string_bytes page.old ++ markdown_expression (rule_of_code rule.now)) }
+{
+    let expression = rule.expr.to_string(alloc)?;
     page.push_str("<details><summary>Expression</summary>\n\n    ")?;
     push_code(expression.as_str(), page)?;
-    page.push_str("\n\n</details>\n\n")?;
-    push_markdown(&contents.after, names, page)?;
-    page.push_str("\n")
+    page.push_str("\n\n</details>\n\n")
 }
 
 /// Appends the definition of a rule in EBNF.

@@ -1,7 +1,9 @@
 //! The fixed parts of a page of HTML.
+ghost use Rattle.std.specs.Prelude.{◌≡◌};
+ghost use Rattle.meta_markup.specs.Template.{body, diagram_style, foot, head, namespace, style};
 
 /// A page up to its title.
-pub const HEAD: &str = "<!DOCTYPE html>\n\
+const HEAD: &str = "<!DOCTYPE html>\n\
 <html lang=\"en\">\n\
 <head>\n\
 <meta charset=\"utf-8\">\n\
@@ -9,11 +11,14 @@ pub const HEAD: &str = "<!DOCTYPE html>\n\
 <title>";
 
 /// A page from the end of its title up to the style of diagrams.
-pub const STYLE: &str = "</title>\n\
+const STYLE: &str = "</title>\n\
 <style>\n\
-:root { color-scheme: light dark; --ink: #1f2328; --paper: #fff; --faint: #59636e; --line: #d1d9e0; --link: #0550ae; --alert: #9a3b00; }\n\
-@media (prefers-color-scheme: dark) { :root { --ink: #e6edf3; --paper: #0d1117; --faint: #9198a1; --line: #3d444d; --link: #79c0ff; --alert: #f0883e; } }\n\
-body { margin: 0 auto; max-width: 62rem; padding: 1rem 1.5rem 4rem; font: 16px/1.5 system-ui, sans-serif; color: var(--ink); background: var(--paper); }\n\
+:root { color-scheme: light dark; --ink: #1f2328; --paper: #fff; --faint: #59636e; --line: #d1d9e0;\n\
+  --link: #0550ae; --alert: #9a3b00; }\n\
+@media (prefers-color-scheme: dark) { :root { --ink: #e6edf3; --paper: #0d1117; --faint: #9198a1;\n\
+  --line: #3d444d; --link: #79c0ff; --alert: #f0883e; } }\n\
+body { margin: 0 auto; max-width: 62rem; padding: 1rem 1.5rem 4rem; font: 16px/1.5 system-ui, sans-serif;\n\
+  color: var(--ink); background: var(--paper); }\n\
 h1 { margin: 1rem 0 .5rem; } h2 { margin: 1.5rem 0 .25rem; font-size: 1.25rem; }\n\
 section { border-top: 1px solid var(--line); } section h2 { font-family: ui-monospace, monospace; }\n\
 h1, h2, code, dd { overflow-wrap: anywhere; }\n\
@@ -27,18 +32,73 @@ dt { color: var(--faint); } dd { margin: 0; } summary { color: var(--faint); }\n
 .scroll { overflow-x: auto; margin: .5rem 0; }\n";
 
 /// The style of diagrams.
-pub const DIAGRAM_STYLE: &str =
-    ".diagram { --ink: #1f2328; --faint: #59636e; --terminal: #dafbe1; --call: #ddf4ff; --builtin: #fff8c5; display: block; }\n\
-@media (prefers-color-scheme: dark) { .diagram { --ink: #e6edf3; --faint: #9198a1; --terminal: #12361f; --call: #0c2d4a; --builtin: #3b2e00; } }\n\
+const DIAGRAM_STYLE: &str =
+    ".diagram { --ink: #1f2328; --faint: #59636e; --terminal: #dafbe1; --call: #ddf4ff;\n\
+  --builtin: #fff8c5; display: block; }\n\
+@media (prefers-color-scheme: dark) { .diagram { --ink: #e6edf3; --faint: #9198a1; --terminal: #12361f;\n\
+  --call: #0c2d4a; --builtin: #3b2e00; } }\n\
 .diagram path { fill: none; stroke: var(--ink); stroke-width: 1.5; }\n\
 .diagram rect { stroke: var(--ink); stroke-width: 1.2; } .diagram .end { fill: var(--ink); }\n\
-.diagram .terminal { fill: var(--terminal); } .diagram .call { fill: var(--call); } .diagram .builtin { fill: var(--builtin); }\n\
+.diagram .terminal { fill: var(--terminal); } .diagram .call { fill: var(--call); }\n\
+.diagram .builtin { fill: var(--builtin); }\n\
 .diagram .group { fill: none; stroke: var(--faint); stroke-dasharray: 4 3; }\n\
 .diagram text { font: 13px ui-monospace, monospace; fill: var(--ink); white-space: pre; }\n\
 .diagram .label { font: 12px system-ui, sans-serif; fill: var(--faint); }\n";
 
 /// A page from the end of the style of diagrams up to its heading.
-pub const BODY: &str = "</style>\n</head>\n<body>\n<h1>";
+const BODY: &str = "</style>\n</head>\n<body>\n<h1>";
 
 /// The end of a page.
-pub const FOOT: &str = "</main>\n</body>\n</html>\n";
+const FOOT: &str = "</main>\n</body>\n</html>\n";
+
+/// The attributes of a drawing.
+const NAMESPACE: &str =
+    " xmlns=\"http://www.w3.org/2000/svg\" role=\"group\" aria-label=\"Railroad diagram\"";
+
+/// Returns a page up to its title.
+#[tactic(auto, unfolding(crate::specs::Template::head))]
+pub fn head() -> &'static str
+    ensures { result.now ≡ head }
+{
+    HEAD
+}
+
+/// Returns a page from the end of its title up to the style of diagrams.
+#[tactic(auto, unfolding(crate::specs::Template::style))]
+pub fn style() -> &'static str
+    ensures { result.now ≡ style }
+{
+    STYLE
+}
+
+/// Returns the style of diagrams.
+#[tactic(auto, unfolding(crate::specs::Template::diagram_style))]
+pub fn diagram_style() -> &'static str
+    ensures { result.now ≡ diagram_style }
+{
+    DIAGRAM_STYLE
+}
+
+/// Returns a page from the end of the style of diagrams up to its heading.
+#[tactic(auto, unfolding(crate::specs::Template::body))]
+pub fn body() -> &'static str
+    ensures { result.now ≡ body }
+{
+    BODY
+}
+
+/// Returns the end of a page.
+#[tactic(auto, unfolding(crate::specs::Template::foot))]
+pub fn foot() -> &'static str
+    ensures { result.now ≡ foot }
+{
+    FOOT
+}
+
+/// Returns the attributes of a drawing.
+#[tactic(auto, unfolding(crate::specs::Template::namespace))]
+pub fn namespace() -> &'static str
+    ensures { result.now ≡ namespace }
+{
+    NAMESPACE
+}

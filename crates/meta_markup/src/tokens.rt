@@ -1,13 +1,13 @@
 //! The tokens of markup, and the bytes that are written for them.
 //!
-//! Markup itself is one of a fixed set of words. Texts of a grammar occur in tokens that are escaped alone, and a
-//! link refers to a rule by its number, so that it cannot lead anywhere else.
+//! Markup itself is one of a fixed set of words. Texts of a grammar occur in tokens that are escaped alone,
+//! and a link refers to a rule by its number, so that it cannot lead anywhere else.
 ghost use Rattle.std.specs.Prelude.{◌≡◌, ◌++◌, OnOk, codes, string_bytes};
 ghost use Rattle.meta_markup.specs.Escape.{escaped_bytes};
 ghost use Rattle.meta_markup.specs.Tokens.{link_bytes, markup_bytes, name_bytes, token_bytes};
 
 use crate::escape::push_escaped;
-use crate::template::DIAGRAM_STYLE;
+use crate::template::{diagram_style, namespace};
 use crate::vocabulary::{Attribute, Class, PathCommand, Tag};
 use std::alloc::AllocError;
 
@@ -48,17 +48,14 @@ pub enum Markup<'t> {
     Link(usize),
 }
 
-/// The attributes of a drawing.
-const NAMESPACE: &str =
-    " xmlns=\"http://www.w3.org/2000/svg\" role=\"group\" aria-label=\"Railroad diagram\"";
-
 /// Appends the bytes of tokens, where the rules have these names. The only error is an allocation failure.
 pub fn push_markup(
     tokens: &[Markup<'_>],
     names: &[&str],
     page: &mut String,
 ) -> Result<(), AllocError>
-    ensures { OnOk result (string_bytes page.new ≡ string_bytes page.old ++ markup_bytes names.now tokens.now) }
+    ensures { OnOk result (string_bytes page.new
+        ≡ string_bytes page.old ++ markup_bytes names.now tokens.now) }
 {
     for token in tokens {
         push_token(token, names, page)?;
@@ -78,8 +75,8 @@ fn push_token(token: &Markup<'_>, names: &[&str], page: &mut String) -> Result<(
         Markup::Attribute(attribute) => push_three(" ", attribute.name(), "=\"", page),
         Markup::Quote => page.push_str("\""),
         Markup::Class(class) => push_three(" class=\"", class.name(), "\"", page),
-        Markup::Namespace => page.push_str(NAMESPACE),
-        Markup::Style => push_three("<style>\n", DIAGRAM_STYLE, "</style>\n", page),
+        Markup::Namespace => page.push_str(namespace()),
+        Markup::Style => push_three("<style>\n", diagram_style(), "</style>\n", page),
         Markup::LineFeed => page.push_str("\n"),
         Markup::Command(command) => page.push_str(command.text()),
         Markup::Number(number) => write!(page, "{number}"),

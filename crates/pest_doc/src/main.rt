@@ -5,7 +5,7 @@ mod arguments;
 mod run;
 
 use arguments::{command, format_of};
-use run::{MEMORY, Outcome, PRINTED, REFUSED, Request, UNREADABLE, UNWRITABLE, outcome_of};
+use run::{DocumentOutcome, MEMORY, PRINTED, REFUSED, Request, UNREADABLE, UNWRITABLE, outcome_of};
 use std::alloc::AllocError;
 use std::io::{self, Read, Write};
 use std::process::ExitCode;
@@ -38,11 +38,11 @@ fn print(rt: &HostRuntime, request: Request<'_>, out: Option<&str>) -> Result<u8
         }
     };
     match outcome_of(rt.alloc(), &bytes, request)? {
-        Outcome::Refused(why) => {
+        DocumentOutcome::Refused(why) => {
             let _ = eprintln!(rt; "pest-doc: {}: {why}", request.name);
             Ok(REFUSED)
         }
-        Outcome::Document(document) => Ok(deliver(rt, document.as_str(), out)),
+        DocumentOutcome::Document(document) => Ok(deliver(rt, document.as_str(), out)),
     }
 }
 

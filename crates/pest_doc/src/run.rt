@@ -29,28 +29,28 @@ pub struct Request<'a> {
 
 /// The answer to a request.
 #[derive(Drop)]
-pub enum Outcome {
+pub enum DocumentOutcome {
     /// A document.
     Document(String),
     /// The reason why there is none, for a terminal.
     Refused(String),
 }
 
-/// Returns the document of a grammar's bytes, or the reason why there is none: they are not UTF-8, the grammar is
-/// refused, or it has no such rule. The only error is an allocation failure.
+/// Returns the document of a grammar's bytes, or the reason why there is none: they are not UTF-8, the
+/// grammar is refused, or it has no such rule. The only error is an allocation failure.
 pub fn outcome_of(
     alloc: Global,
     bytes: &[u8],
     request: Request<'_>,
-) -> Result<Outcome, AllocError> {
+) -> Result<DocumentOutcome, AllocError> {
     let Ok(text) = str::from_utf8(bytes) else {
         return refusal(alloc, "the grammar is not UTF-8");
     };
     let title = file_name(request.name);
     match document_of(alloc, title, text, request) {
-        Ok(Some(document)) => Ok(Outcome::Document(document)),
+        Ok(Some(document)) => Ok(DocumentOutcome::Document(document)),
         Ok(None) => refusal(alloc, "the grammar has no such rule"),
-        Err(Fault::Grammar(errors)) => Ok(Outcome::Refused(messages(alloc, &errors)?)),
+        Err(Fault::Grammar(errors)) => Ok(DocumentOutcome::Refused(messages(alloc, &errors)?)),
         Err(Fault::Memory(error)) => Err(error),
     }
 }
@@ -79,8 +79,8 @@ fn file_name(path: &str) -> &str {
 }
 
 /// A refusal with this message.
-fn refusal(alloc: Global, message: &str) -> Result<Outcome, AllocError> {
-    Ok(Outcome::Refused(String::from_str(alloc, message)?))
+fn refusal(alloc: Global, message: &str) -> Result<DocumentOutcome, AllocError> {
+    Ok(DocumentOutcome::Refused(String::from_str(alloc, message)?))
 }
 
 /// Errors as they are printed, without characters that a terminal obeys.
