@@ -1,25 +1,21 @@
--- Documents of the grammar that a text spells.
+-- The rules of documents, and parts of documents.
 use Rattle.std.specs.Prelude.{◌≡◌, ℕ, List, [], ◌++◌, codes, string_bytes}
 use Rattle.std.specs.Borrow.{Bor}
 use Rattle.std.specs.declared.alloc.Global.{Global}
 use Rattle.std.specs.declared.string.String.{String}
 use Rattle.meta_base.specs.Language.Expression.{Grammar}
-use Rattle.meta_markup.specs.Pages.{AreDefinitions, AreMarkdownSections, AreSections, IsMarkdownPage, IsPage}
+use Rattle.meta_base.specs.declared.grammar.Rule.{Rule}
+use Rattle.meta_base.specs.declared.runtime.tokens.Pairs.{Pairs}
+use Rattle.meta_markup.specs.Pages.{AreMarkdownSections, AreSections}
 use Rattle.meta_markup.specs.Tokens.{markup_bytes}
 use Rattle.meta_markup.specs.declared.tokens.Markup.{Markup}
-use Rattle.pest_meta.specs.Spelling.{SpellsGrammar}
+use Rattle.meta_reader.specs.Refusals.{AreReadAs}
+use Rattle.meta_spanned.specs.Erasure.{rules_without_spans}
+use Rattle.meta_spanned.specs.Spanned.{SpannedRule}
 
--- a page of the grammar that a text spells
-abbrev pub IsPageOf : List ℕ → List ℕ → List ℕ → Type 0
-IsPageOf title text page = (rules : Grammar) × SpellsGrammar text rules × IsPage title rules page
-
-abbrev pub IsMarkdownPageOf : List ℕ → List ℕ → List ℕ → Type 0
-IsMarkdownPageOf title text page =
-    (rules : Grammar) × SpellsGrammar text rules × IsMarkdownPage title rules page
-
--- the grammar that a text spells, in EBNF
-abbrev pub IsEbnfOf : List ℕ → List ℕ → Type 0
-IsEbnfOf text ebnf = (rules : Grammar) × SpellsGrammar text rules × AreDefinitions rules ebnf
+-- the rules that pairs are read as, without spans
+abbrev pub AreRulesOf : Pairs Rule → Grammar → Type 0
+AreRulesOf pairs rules = (read : List SpannedRule) × AreReadAs pairs read × (rules ≡ rules_without_spans read)
 
 -- a diagram without links
 abbrev pub IsDiagram : String Global → Type 0

@@ -1,18 +1,16 @@
 //! Pages of HTML, and single diagrams.
-ghost use Rattle.std.specs.Prelude.{IfErr, IfOk, IfSome, OnOk, string_bytes};
+ghost use Rattle.std.specs.Prelude.{IfOk, IfSome, OnOk, string_bytes};
 ghost use Rattle.meta_ast.specs.Ast.{rules_of};
 ghost use Rattle.meta_markup.specs.Pages.{IsPage};
-ghost use Rattle.meta_doc.specs.Documents.{EndsWithSections, IsDiagram, IsPageOf};
-ghost use Rattle.pest_meta.specs.Spelling.{IsRefusal};
+ghost use Rattle.meta_doc.specs.Documents.{EndsWithSections, IsDiagram};
 
 use crate::facts::RuleFacts;
 use crate::first_sets::FirstSet;
-use crate::read::{GrammarDoc, read_grammar};
+use crate::read::GrammarDoc;
 use crate::source::{RuleSource, SourcePart};
 use crate::warnings::RuleWarning;
 use meta_ast::ast;
 use meta_ast::ast::RuleType;
-use meta_base::runtime::Fault;
 use meta_diagram::{DiagramStyle, push_diagram};
 use meta_markup::{
     Class, Markup, MarkupBuilder, SectionContents, Tag, foot, push_markup, push_section, start_page,
@@ -20,26 +18,28 @@ use meta_markup::{
 use std::alloc::{AllocError, Global};
 use std::collections::HashMap;
 
-/// Returns the page of a grammar's text under a title. Refused as by `parse_and_optimize`.
-pub fn html_page(alloc: Global, title: &str, grammar: &str) -> Result<String, Fault>
-    ensures page { IfOk result (λ page. IsPageOf title.now grammar.now (string_bytes page)) }
-    ensures refused { IfErr result (IsRefusal grammar.now) }
+/// Returns the page of a grammar under a title. The only error is an allocation failure.
+pub fn html_page(alloc: Global, title: &str, doc: &GrammarDoc<'_>) -> Result<String, AllocError>
+    ensures { IfOk result
+        (λ page. IsPage title.now (rules_of doc.now.rules.value.items) (string_bytes page)) }
 {
-    let doc = read_grammar(alloc, grammar)?;
-    Ok(render_page(alloc, title, &doc)?)
+    let names = doc.names(alloc)?;
+    let introduction = introduce(alloc, doc)?;
+    let mut page = start_page(alloc, title, &introduction.tokens, &names)?;
+    push_sections(alloc, doc, &names, &mut page)?;
+    page.push_str(foot())?;
+    Ok(page)
 }
 
 /// Returns the diagram of the rule of a name, or of the first rule where no name is given, as SVG; `None`
-/// where the grammar has no such rule. Refused as by `parse_and_optimize`.
+/// where the grammar has no such rule. The only error is an allocation failure.
 pub fn svg_diagram(
     alloc: Global,
-    grammar: &str,
+    doc: &GrammarDoc<'_>,
     rule: Option<&str>,
-) -> Result<Option<String>, Fault>
-    ensures diagram { IfOk result (λ diagram. IfSome diagram IsDiagram) }
-    ensures refused { IfErr result (IsRefusal grammar.now) }
+) -> Result<Option<String>, AllocError>
+    ensures { IfOk result (λ diagram. IfSome diagram IsDiagram) }
 {
-    let doc = read_grammar(alloc, grammar)?;
     let number = match rule {
         Some(name) => doc.numbers.get(name).copied(),
         None => Some(0),
@@ -67,19 +67,6 @@ fn render_diagram(
     push_markup(&markup.tokens, &[], &mut drawing)?;
     drawing.push_str("\n")?;
     Ok(drawing)
-}
-
-/// The page of a document.
-fn render_page(alloc: Global, title: &str, doc: &GrammarDoc<'_>) -> Result<String, AllocError>
-    ensures { IfOk result
-        (λ page. IsPage title.now (rules_of doc.now.rules.value.items) (string_bytes page)) }
-{
-    let names = doc.names(alloc)?;
-    let introduction = introduce(alloc, doc)?;
-    let mut page = start_page(alloc, title, &introduction.tokens, &names)?;
-    push_sections(alloc, doc, &names, &mut page)?;
-    page.push_str(foot())?;
-    Ok(page)
 }
 
 /// Appends the sections of all rules.

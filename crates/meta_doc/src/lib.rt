@@ -15,3 +15,4 @@ mod warnings;
 pub use crate::ebnf::ebnf_text;
 pub use crate::html::{html_page, svg_diagram};
 pub use crate::markdown::markdown_page;
+pub use crate::read::{GrammarDoc, read_grammar};

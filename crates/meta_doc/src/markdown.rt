@@ -1,16 +1,14 @@
 //! Pages of Markdown.
-ghost use Rattle.std.specs.Prelude.{IfErr, IfOk, OnOk, string_bytes};
+ghost use Rattle.std.specs.Prelude.{IfOk, OnOk, string_bytes};
 ghost use Rattle.meta_ast.specs.Ast.{rules_of};
 ghost use Rattle.meta_markup.specs.Pages.{IsMarkdownPage};
-ghost use Rattle.meta_doc.specs.Documents.{EndsWithMarkdownSections, IsMarkdownPageOf};
-ghost use Rattle.pest_meta.specs.Spelling.{IsRefusal};
+ghost use Rattle.meta_doc.specs.Documents.{EndsWithMarkdownSections};
 
 use crate::facts::RuleFacts;
 use crate::html::meaning_of;
-use crate::read::{GrammarDoc, read_grammar};
+use crate::read::GrammarDoc;
 use crate::source::{RuleSource, SourcePart};
 use meta_ast::ast;
-use meta_base::runtime::Fault;
 use meta_markup::{
     MarkdownContents, MarkdownToken, MarkdownWord, push_markdown_section, start_markdown,
 };
@@ -22,17 +20,8 @@ struct MarkdownBuilder<'t> {
     tokens: Vec<MarkdownToken<'t>>,
 }
 
-/// Returns the page of a grammar's text under a title, in Markdown. Refused as by `parse_and_optimize`.
-pub fn markdown_page(alloc: Global, title: &str, grammar: &str) -> Result<String, Fault>
-    ensures page { IfOk result (λ page. IsMarkdownPageOf title.now grammar.now (string_bytes page)) }
-    ensures refused { IfErr result (IsRefusal grammar.now) }
-{
-    let doc = read_grammar(alloc, grammar)?;
-    Ok(render_page(alloc, title, &doc)?)
-}
-
-/// The page of a document.
-fn render_page(alloc: Global, title: &str, doc: &GrammarDoc<'_>) -> Result<String, AllocError>
+/// Returns the page of a grammar under a title, in Markdown. The only error is an allocation failure.
+pub fn markdown_page(alloc: Global, title: &str, doc: &GrammarDoc<'_>) -> Result<String, AllocError>
     ensures { IfOk result
         (λ page. IsMarkdownPage title.now (rules_of doc.now.rules.value.items) (string_bytes page)) }
 {

@@ -1,8 +1,10 @@
-//! From a grammar's text to what its documents are made of.
-ghost use Rattle.std.specs.Prelude.{◌≡◌, IfErr, IfOk};
+//! From the pairs of a grammar's text to what its documents are made of.
+ghost use Rattle.std.specs.Prelude.{◌≡◌, IfErr, IfOk, None, OnOk};
 ghost use Rattle.meta_ast.specs.Ast.{rules_of};
+ghost use Rattle.meta_doc.specs.Documents.{AreRulesOf};
 ghost use Rattle.meta_markup.specs.Pages.{AreNames};
-ghost use Rattle.pest_meta.specs.Spelling.{IsRefusal, SpellsGrammar};
+ghost use Rattle.meta_reader.specs.Refusals.{IsReadRefusal, first_flaw_of};
+ghost use Rattle.meta_syntax.specs.Parses.{AreOfAGrammar};
 
 use crate::facts::{RuleFacts, find_facts};
 use crate::source::{GrammarSource, read_source};
@@ -11,8 +13,8 @@ use meta_ast::ast;
 use meta_ast::deep::Deep;
 use meta_base::grammar::Rule;
 use meta_base::runtime::{Fault, Pairs};
-use pest_meta::parser::{consume_rules, consume_rules_with_spans, parse};
-use pest_meta::validator::validate_pairs;
+use meta_reader::rules::consume_rules_with_spans;
+use meta_spanned::erase_spans;
 use std::alloc::{AllocError, Global};
 use std::collections::HashMap;
 
@@ -29,36 +31,24 @@ pub struct GrammarDoc<'i> {
     pub numbers: HashMap<String, usize>,
 }
 
-/// Reads the text of a grammar. Refused as by `parse_and_optimize`: where the text is no grammar, where its
-/// names are not in order, and where its rules are not; and where an allocation fails.
-pub fn read_grammar<'i>(alloc: Global, text: &'i str) -> Result<GrammarDoc<'i>, Fault>
-    ensures rules { IfOk result (λ doc. SpellsGrammar text.entry.now (rules_of doc.rules.value.items)) }
-    ensures refused { IfErr result (IsRefusal text.entry.now) }
+/// Reads a grammar from all pairs of a parse of its text by `grammar_rules`. Refused with the one error of
+/// its first flaw, as by `consume_rules_with_spans`, and where an allocation fails. Names may be undefined,
+/// and rules not valid.
+pub fn read_grammar<'i>(alloc: Global, pairs: Pairs<'i, Rule>) -> Result<GrammarDoc<'i>, Fault>
+    requires { AreOfAGrammar pairs }
+    ensures rules { IfOk result (λ doc. AreRulesOf pairs.entry (rules_of doc.rules.value.items)) }
+    ensures flawless { OnOk result (first_flaw_of pairs.entry ≡ None) }
+    ensures refused { IfErr result (IsReadRefusal (first_flaw_of pairs.entry)) }
 {
-    let pairs = parse(alloc, Rule::grammar_rules, text)?;
     let copy = pairs.clone()?;
-    validate_pairs(alloc, copy)?;
-    let (copy, another) = (pairs.clone()?, pairs.clone()?);
-    let rules = consume_rules(alloc, pairs)?;
-    document(alloc, Deep { value: rules }, copy, another)
-}
-
-/// Makes the document of rules, whose text has these pairs, given twice.
-fn document<'i>(
-    alloc: Global,
-    rules: Deep<Vec<ast::Rule>>,
-    pairs: Pairs<'i, Rule>,
-    same: Pairs<'i, Rule>,
-) -> Result<GrammarDoc<'i>, Fault>
-    ensures rules { IfOk result (λ doc. rules_of doc.rules.value.items ≡ rules_of rules.value.items) }
-{
-    let source = read_source(alloc, pairs)?;
-    let spanned = consume_rules_with_spans(alloc, same)?;
+    let spanned = consume_rules_with_spans(alloc, pairs)?;
     let spanned = Deep { value: spanned };
+    let source = read_source(alloc, copy)?;
     let facts = find_facts(alloc, &source.rules, &spanned.value)?;
     let names = names_of(alloc, &spanned.value)?;
+    let rules = erase_spans(alloc, spanned.into_inner())?;
     Ok(GrammarDoc {
-        rules,
+        rules: Deep { value: rules },
         source,
         facts,
         numbers: names.places,

@@ -18,3 +18,13 @@ pub flat_map_one_more : (f : ℕ → List ℕ) (xs : List ℕ) (x : ℕ)
     → flat_map f xs ++ f x ≡ flat_map f (xs ++ x ∷ [])
 flat_map_one_more f xs x =
     ap (λ t. flat_map f xs ++ t) (sym (append-nil (f x))) ∙ sym (flat_map-append f xs (x ∷ []))
+
+-- a page that gains one piece after another
+pub three_more : (p q r s a b c : List ℕ) → q ≡ p ++ a → r ≡ q ++ b → s ≡ r ++ c → s ≡ p ++ (a ++ b ++ c)
+three_more p q r s a b c x y z =
+    z ∙ ap (λ t. t ++ c) (y ∙ ap (λ t. t ++ b) x ∙ append_assoc p a b) ∙ append_assoc p (a ++ b) c
+
+pub five_more : (p q r s t u a b c d e : List ℕ) → q ≡ p ++ a → r ≡ q ++ b → s ≡ r ++ c → t ≡ s ++ d → u ≡ t ++ e
+    → u ≡ p ++ (a ++ b ++ c ++ d ++ e)
+five_more p q r s t u a b c d e x y z v w =
+    three_more p s t u (a ++ b ++ c) d e (three_more p q r s a b c x y z) v w

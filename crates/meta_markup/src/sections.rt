@@ -1,6 +1,8 @@
 //! The parts of documents that each rule has: its name, its contents and its printed expression.
-ghost use Rattle.std.specs.Prelude.{◌≡◌, ◌++◌, IfOk, OnOk, string_bytes};
-ghost use Rattle.meta_ast.specs.Ast.{rule_of_code};
+ghost use Rattle.std.specs.Prelude.{◌≡◌, ◌++◌, IfOk, OnOk, encode_utf8_all, string_bytes};
+ghost use Rattle.meta_ast.specs.Ast.{expression_of, rule_of_code};
+ghost use Rattle.meta_ast.specs.Printing.{printed};
+ghost use Rattle.meta_markup.specs.Markdown.{code_bytes};
 ghost use Rattle.std.specs.Str.{chars};
 ghost use Rattle.meta_markup.specs.Pages.{definition_bytes, expression_bytes, heading_bytes, markdown_expression, markdown_heading, markdown_section, markdown_start, page_start, section_bytes, style_start};
 
@@ -9,7 +11,7 @@ use crate::escape::push_escaped;
 use crate::markdown::{MarkdownToken, push_code, push_inline, push_markdown};
 use crate::template::{body, diagram_style, head, style};
 use crate::tokens::{Markup, push_markup};
-use meta_ast::ast::Rule;
+use meta_ast::ast::{Expr, Rule};
 use std::alloc::{AllocError, Global};
 
 /// The contents of a rule's section, before and after its printed expression.
@@ -71,7 +73,8 @@ pub fn push_section(
     push_markup(&contents.before, names, page)?;
     push_expression(alloc, rule, page)?;
     push_markup(&contents.after, names, page)?;
-    page.push_str("</section>\n")
+    page.push_str("</section>\n")?;
+    Ok(())
 }
 
 /// Appends the heading of a rule's section, by which links find it.
@@ -82,7 +85,8 @@ fn push_heading(name: &str, page: &mut String) -> Result<(), AllocError>
     push_escaped(name, page)?;
     page.push_str("\">\n<h2>")?;
     push_escaped(name, page)?;
-    page.push_str("</h2>\n")
+    page.push_str("</h2>\n")?;
+    Ok(())
 }
 
 /// Appends the printed expression of a rule.
@@ -128,7 +132,8 @@ pub fn push_markdown_section(
     push_markdown(&contents.before, names, page)?;
     push_markdown_expression(alloc, rule, page)?;
     push_markdown(&contents.after, names, page)?;
-    page.push_str("\n")
+    page.push_str("\n")?;
+    Ok(())
 }
 
 /// Appends the heading of a rule's section in Markdown, by which links find it.
@@ -148,10 +153,19 @@ fn push_markdown_expression(alloc: Global, rule: &Rule, page: &mut String) -> Re
     ensures { OnOk result (string_bytes page.new
         ≡ string_bytes page.old ++ markdown_expression (rule_of_code rule.now)) }
 {
-    let expression = rule.expr.to_string(alloc)?;
     page.push_str("<details><summary>Expression</summary>\n\n    ")?;
-    push_code(expression.as_str(), page)?;
-    page.push_str("\n\n</details>\n\n")
+    push_printed(alloc, &rule.expr, page)?;
+    page.push_str("\n\n</details>\n\n")?;
+    Ok(())
+}
+
+/// Appends an expression as it is printed, in a block of code.
+fn push_printed(alloc: Global, expr: &Expr, page: &mut String) -> Result<(), AllocError>
+    ensures { OnOk result (string_bytes page.new
+        ≡ string_bytes page.old ++ code_bytes (encode_utf8_all (printed (expression_of expr.now)))) }
+{
+    let expression = expr.to_string(alloc)?;
+    push_code(expression.as_str(), page)
 }
 
 /// Appends the definition of a rule in EBNF.

@@ -1,9 +1,18 @@
 //! From the bytes of a grammar to a document, or to the reason why there is none.
+ghost use Rattle.std.specs.Prelude.{IfErr, IfOk, IfSome};
+ghost use Rattle.meta_ast.specs.Ast.{rules_of};
+ghost use Rattle.pest_doc.specs.Outcomes.{IsDocument, IsOutcome};
+ghost use Rattle.pest_meta.specs.Spelling.{IsRefusal, SpellsGrammar};
+
 use crate::arguments::Format;
+use meta_ast::deep::Deep;
 use meta_base::grammar::Rule;
 use meta_base::runtime::{Error, Fault};
-use meta_doc::{ebnf_text, html_page, markdown_page, svg_diagram};
+use meta_doc::{GrammarDoc, ebnf_text, html_page, markdown_page, read_grammar, svg_diagram};
 use meta_markup::push_visible;
+use meta_syntax::grammar::PestParser;
+use pest_meta::parser::consume_rules;
+use pest_meta::validator::validate_pairs;
 use std::alloc::{AllocError, Global};
 
 /// The document was printed.
@@ -42,7 +51,9 @@ pub fn outcome_of(
     alloc: Global,
     bytes: &[u8],
     request: Request<'_>,
-) -> Result<DocumentOutcome, AllocError> {
+) -> Result<DocumentOutcome, AllocError>
+    ensures { IfOk result (IsOutcome request.entry.format bytes.now) }
+{
     let Ok(text) = str::from_utf8(bytes) else {
         return refusal(alloc, "the grammar is not UTF-8");
     };
@@ -55,19 +66,40 @@ pub fn outcome_of(
     }
 }
 
-/// The document of a grammar's text, under a title; `None` where the grammar has no such rule.
+/// The document of a grammar's text, under a title; `None` where the grammar has no such rule. Refused as by
+/// `parse_and_optimize`.
 fn document_of(
     alloc: Global,
     title: &str,
     text: &str,
     request: Request<'_>,
-) -> Result<Option<String>, Fault> {
+) -> Result<Option<String>, Fault>
+    ensures { IfOk result (λ document. IfSome document (IsDocument request.entry.format title.now text.now)) }
+{
+    let doc = read_valid_grammar(alloc, text)?;
     match request.format {
-        Format::Html => Ok(Some(html_page(alloc, title, text)?)),
-        Format::Markdown => Ok(Some(markdown_page(alloc, title, text)?)),
-        Format::Ebnf => Ok(Some(ebnf_text(alloc, text)?)),
-        Format::Svg => svg_diagram(alloc, text, request.rule),
+        Format::Html => Ok(Some(html_page(alloc, title, &doc)?)),
+        Format::Markdown => Ok(Some(markdown_page(alloc, title, &doc)?)),
+        Format::Ebnf => Ok(Some(ebnf_text(alloc, &doc)?)),
+        Format::Svg => Ok(svg_diagram(alloc, &doc, request.rule)?),
     }
+}
+
+/// Reads the text of a grammar. Refused as by `parse_and_optimize`: where the text is no grammar, where its
+/// names are not in order, where its rules are not, and where an allocation fails.
+fn read_valid_grammar(alloc: Global, text: &str) -> Result<GrammarDoc<'_>, Fault>
+    ensures rules { IfOk result (λ doc. SpellsGrammar text.entry.now (rules_of doc.rules.value.items)) }
+    ensures refused { IfErr result (IsRefusal text.entry.now) }
+{
+    let pairs = PestParser::parse(alloc, Rule::grammar_rules, text)?;
+    let copy = pairs.clone()?;
+    validate_pairs(alloc, copy)?;
+    let copy = pairs.clone()?;
+    let rules = Deep {
+        value: consume_rules(alloc, copy)?,
+    };
+    drop(rules);
+    read_grammar(alloc, pairs)
 }
 
 /// The last part of a path.
