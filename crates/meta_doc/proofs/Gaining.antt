@@ -26,10 +26,11 @@ pub one_section_more : (names : List (Bor (List ℕ))) (rules others : Grammar) 
     (old page new : List ℕ) → EndsWithSections names rules old page → new ≡ page ++ section_bytes names r before after
     → others ≡ rules ++ r ∷ [] → EndsWithSections names others old new
 one_section_more names rules others r before after old page new gained step same =
-    let section = section_bytes names r before after in
-    (gained.0 ++ section,
-    subst (λ rs. AreSections names rs (gained.0 ++ section)) (sym same) (more_sections r before after gained.1),
-    step ∙ ap (λ t. t ++ section) gained.2 ∙ append_assoc old gained.0 section)
+    let section = section_bytes names r before after in (
+      gained.0 ++ section,
+      subst (λ rs. AreSections names rs (gained.0 ++ section)) (sym same) (more_sections r before after gained.1),
+      step ∙ ap (λ t. t ++ section) gained.2 ∙ append_assoc old gained.0 section,
+    )
 
 pub no_markdown_yet : (names : List (Bor (List ℕ))) (page : List ℕ) → EndsWithMarkdownSections names [] page page
 no_markdown_yet names page = ([], no_markdown, sym (append-nil page))
@@ -39,10 +40,11 @@ pub one_markdown_more : (names : List (Bor (List ℕ))) (rules others : Grammar)
     → new ≡ page ++ markdown_section names r before after → others ≡ rules ++ r ∷ []
     → EndsWithMarkdownSections names others old new
 one_markdown_more names rules others r before after old page new gained step same =
-    let section = markdown_section names r before after in
-    (gained.0 ++ section,
-    subst (λ rs. AreMarkdownSections names rs (gained.0 ++ section)) (sym same) (more_markdown r before after gained.1),
-    step ∙ ap (λ t. t ++ section) gained.2 ∙ append_assoc old gained.0 section)
+    let section = markdown_section names r before after in (
+      gained.0 ++ section,
+      subst (λ rs. AreMarkdownSections names rs (gained.0 ++ section)) (sym same) (more_markdown r before after gained.1),
+      step ∙ ap (λ t. t ++ section) gained.2 ∙ append_assoc old gained.0 section,
+    )
 
 pub one_definition_more : (rules others : Grammar) (r : Rule) (body : List EbnfToken) (old new : List ℕ)
     → AreDefinitions rules old → new ≡ old ++ definition_bytes r body → others ≡ rules ++ r ∷ []

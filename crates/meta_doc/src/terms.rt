@@ -68,7 +68,7 @@ impl<'e> TermWriter<'e, '_> {
             Expr::Str(text) => self.literal(text.as_str(), context),
             Expr::Insens(text) => self.either_case(text.as_str(), context),
             Expr::Range(first, last) => self.range(first.as_str(), last.as_str()),
-            Expr::Ident(name) => self.call(name.as_str(), numbers),
+            Expr::Ident(name) => self.call(name.as_str(), context, numbers),
             Expr::Seq(left, right) => {
                 self.open(context == TermContext::Operand)?;
                 self.later(TermStep::Visit(right, TermContext::Item))?;
@@ -102,7 +102,10 @@ impl<'e> TermWriter<'e, '_> {
             Expr::RepMinMax(inner, m, n) => {
                 self.repeat(inner, *m, Times::Between(*m, *n), context)
             }
-            _ => self.remark(expr),
+            _ => {
+                self.open(context == TermContext::Operand)?;
+                self.remark(expr)
+            }
         }
     }
 
@@ -181,6 +184,7 @@ impl<'e> TermWriter<'e, '_> {
         }
         let ranges = ranges_of(name);
         if ranges.is_empty() {
+            self.open(context == TermContext::Operand)?;
             return self.comment(EbnfToken::Comment(name));
         }
         self.word(EbnfWord::RangeStart)?;
