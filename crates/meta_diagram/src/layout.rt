@@ -70,7 +70,7 @@ fn lay_out_sequence(boxes: &mut Vec<LayoutBox>, children: &[usize]) -> Extent {
         }
         let (items, others) = rest.split_at(row_length(boxes, rest).min(rest.len()));
         whole = if row == 0 {
-            lay_out_first_row(boxes, items)
+            lay_out_first_row(boxes, items, !others.is_empty())
         } else {
             lay_out_row(boxes, items, whole)
         };
@@ -79,10 +79,15 @@ fn lay_out_sequence(boxes: &mut Vec<LayoutBox>, children: &[usize]) -> Extent {
     whole
 }
 
-/// Lays out the first row of a sequence.
-fn lay_out_first_row(boxes: &mut Vec<LayoutBox>, items: &[usize]) -> Extent {
+/// Lays out the first row of a sequence, with room for the rail to the next one, if there is one.
+fn lay_out_first_row(boxes: &mut Vec<LayoutBox>, items: &[usize], has_next: bool) -> Extent {
     place_row(boxes, items, Point { x: 0, y: 0 });
-    row_extent(boxes, items)
+    let row = row_extent(boxes, items);
+    let room = if has_next { 2 * TURN } else { 0 };
+    Extent {
+        width: row.width.saturating_add(room),
+        ..row
+    }
 }
 
 /// The number of these boxes that fit into a row, at least one where there is one.
@@ -102,10 +107,8 @@ fn row_length(boxes: &[LayoutBox], children: &[usize]) -> usize {
 fn lay_out_row(boxes: &mut Vec<LayoutBox>, items: &[usize], above: Extent) -> Extent {
     let row = row_extent(boxes, items);
     let x = 2 * TURN;
-    let y = above
-        .descent
-        .saturating_add(2 * GAP)
-        .saturating_add(row.ascent);
+    let ascent = row.ascent.max(TURN);
+    let y = above.descent.saturating_add(2 * GAP).saturating_add(ascent);
     place_row(boxes, items, Point { x, y });
     Extent {
         width: above.width.max(row.width.saturating_add(4 * TURN)),

@@ -12,6 +12,8 @@ use std::alloc::{AllocError, Global};
 pub struct RuleFacts<'i> {
     /// The numbers of the rules that call it, each once, in order.
     pub callers: Vec<usize>,
+    /// Whether it is called implicitly, between the items of sequences and repetitions.
+    pub is_implicit: bool,
     /// The terminals that may begin it.
     pub first_set: FirstSet,
     /// Whether it may match the empty text.
@@ -34,7 +36,12 @@ pub fn find_facts<'i>(
             callers: callers.pop().unwrap_or(Vec::new(alloc)),
             warnings: warnings.pop().unwrap_or(Vec::new(alloc)),
         };
-        facts.push(facts_of_rule(alloc, &analysis, rule, own)?)?;
+        let mut own = facts_of_rule(alloc, &analysis, rule, own)?;
+        own.is_implicit = match rules.get(rule) {
+            Some(rule) => is_implicit(rule.name.as_str()),
+            None => false,
+        };
+        facts.push(own)?;
     }
     facts.reverse();
     Ok(facts)
@@ -57,8 +64,14 @@ fn facts_of_rule<'i>(
     let FactsOfOthers { callers, warnings } = others;
     Ok(RuleFacts {
         callers,
+        is_implicit: false,
         first_set: find_first_set(alloc, analysis, rule)?,
         is_nullable: is_nullable(analysis, rule),
         warnings,
     })
+}
+
+/// Whether the rule of a name is called implicitly.
+fn is_implicit(name: &str) -> bool {
+    name == "WHITESPACE" || name == "COMMENT"
 }

@@ -144,7 +144,7 @@ fn describe<'i>(
     )?;
     before.close_line(Tag::Div)?;
     if let Some(source) = source {
-        push_source(&mut before, source, &doc.numbers)?;
+        push_source(&mut before, source, number, &doc.numbers)?;
     }
     let mut after = MarkupBuilder::new(alloc);
     if let Some(facts) = doc.facts.get(number) {
@@ -182,6 +182,7 @@ pub fn meaning_of(ty: RuleType) -> &'static str {
 fn push_source<'i>(
     markup: &mut MarkupBuilder<'i>,
     source: &RuleSource<'i>,
+    own: usize,
     numbers: &HashMap<String, usize>,
 ) -> Result<(), AllocError> {
     markup.start(Tag::Pre)?;
@@ -189,8 +190,8 @@ fn push_source<'i>(
     for part in &source.parts {
         match part {
             SourcePart::Name(name) => match numbers.get(*name) {
-                Some(rule) => markup.rule_link(*rule)?,
-                None => markup.put(Markup::Text(*name))?,
+                Some(rule) if *rule != own => markup.rule_link(*rule)?,
+                _ => markup.put(Markup::Text(*name))?,
             },
             SourcePart::Other(text) => markup.put(Markup::Text(*text))?,
         }
@@ -203,7 +204,7 @@ fn push_source<'i>(
 fn push_facts<'i>(markup: &mut MarkupBuilder<'i>, facts: &RuleFacts<'i>) -> Result<(), AllocError> {
     push_warnings(markup, &facts.warnings)?;
     markup.start(Tag::Dl)?;
-    push_callers(markup, &facts.callers)?;
+    push_callers(markup, facts)?;
     push_first_set(markup, &facts.first_set)?;
     if facts.is_nullable {
         markup.element(Tag::Dt, "Empty text")?;
@@ -229,25 +230,28 @@ fn push_warnings<'i>(
 }
 
 /// Adds the rules that call a rule.
-fn push_callers(markup: &mut MarkupBuilder<'_>, callers: &[usize]) -> Result<(), AllocError> {
+fn push_callers(markup: &mut MarkupBuilder<'_>, facts: &RuleFacts<'_>) -> Result<(), AllocError> {
     markup.element(Tag::Dt, "Used in")?;
     markup.start(Tag::Dd)?;
-    if callers.is_empty() {
+    if facts.is_implicit {
+        markup.put(Markup::Text("sequences and repetitions, implicitly"))?;
+    } else if facts.callers.is_empty() {
         markup.put(Markup::Text("no other rule"))?;
     }
-    for (place, caller) in callers.iter().enumerate() {
-        push_comma(markup, place)?;
+    for (place, caller) in facts.callers.iter().enumerate() {
+        push_comma(markup, place > 0 || facts.is_implicit)?;
         markup.rule_link(*caller)?;
     }
     markup.close(Tag::Dd)
 }
 
-/// Adds a comma before an item of a list, unless it is the first.
-fn push_comma(markup: &mut MarkupBuilder<'_>, place: usize) -> Result<(), AllocError> {
-    if place == 0 {
-        return Ok(());
+/// Adds a comma, where there is to be one.
+fn push_comma(markup: &mut MarkupBuilder<'_>, has_comma: bool) -> Result<(), AllocError> {
+    if has_comma {
+        markup.put(Markup::Text(", "))
+    } else {
+        Ok(())
     }
-    markup.put(Markup::Text(", "))
 }
 
 /// Adds the terminals that may begin a rule.
@@ -258,7 +262,7 @@ fn push_first_set(markup: &mut MarkupBuilder<'_>, first_set: &FirstSet) -> Resul
     markup.element(Tag::Dt, "Begins with")?;
     markup.start(Tag::Dd)?;
     for (place, label) in first_set.labels.iter().enumerate() {
-        push_comma(markup, place)?;
+        push_comma(markup, place > 0)?;
         markup.start(Tag::Code)?;
         markup.put(Markup::Label(label.clone()?))?;
         markup.close(Tag::Code)?;

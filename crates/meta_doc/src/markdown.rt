@@ -147,7 +147,7 @@ impl<'t> MarkdownBuilder<'t> {
 
     /// Adds the facts of a rule, as a list.
     fn facts(&mut self, facts: &RuleFacts<'t>) -> Result<(), AllocError> {
-        self.callers(&facts.callers)?;
+        self.callers(facts)?;
         self.first_set(&facts.first_set.labels, facts.first_set.has_more)?;
         if facts.is_nullable {
             self.item(MarkdownWord::MayMatchNothing)?;
@@ -172,13 +172,15 @@ impl<'t> MarkdownBuilder<'t> {
     }
 
     /// Adds the rules that call a rule.
-    fn callers(&mut self, callers: &[usize]) -> Result<(), AllocError> {
+    fn callers(&mut self, facts: &RuleFacts<'_>) -> Result<(), AllocError> {
         self.item(MarkdownWord::UsedIn)?;
-        if callers.is_empty() {
+        if facts.is_implicit {
+            self.word(MarkdownWord::Implicitly)?;
+        } else if facts.callers.is_empty() {
             self.word(MarkdownWord::NoOtherRule)?;
         }
-        for (place, caller) in callers.iter().enumerate() {
-            if place > 0 {
+        for (place, caller) in facts.callers.iter().enumerate() {
+            if place > 0 || facts.is_implicit {
                 self.word(MarkdownWord::Comma)?;
             }
             self.put(MarkdownToken::RuleLink(*caller))?;

@@ -174,7 +174,12 @@ impl<'e> TermWriter<'e, '_> {
     }
 
     /// Writes a call of a rule, a builtin as a class of characters, or another builtin in a comment.
-    fn call(&mut self, name: &'e str, numbers: &HashMap<String, usize>) -> Result<(), AllocError> {
+    fn call(
+        &mut self,
+        name: &'e str,
+        context: TermContext,
+        numbers: &HashMap<String, usize>,
+    ) -> Result<(), AllocError> {
         if numbers.contains_key(name) {
             self.tokens.push(EbnfToken::Name(name))?;
             return Ok(());
