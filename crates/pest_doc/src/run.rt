@@ -1,18 +1,16 @@
 //! From the bytes of a grammar to a document, or to the reason why there is none.
-ghost use Rattle.std.specs.Prelude.{IfErr, IfOk, IfSome};
+ghost use Rattle.std.specs.Prelude.{◌≡◌, IfErr, IfNone, IfOk, IfSome};
 ghost use Rattle.meta_ast.specs.Ast.{rules_of};
-ghost use Rattle.pest_doc.specs.Outcomes.{IsDocument, IsOutcome};
-ghost use Rattle.pest_meta.specs.Spelling.{IsRefusal, SpellsGrammar};
+ghost use Rattle.pest_doc.specs.Outcomes.{IsDocument, IsOutcome, RefusesText, SpellsRules};
+ghost use Rattle.pest_doc.specs.declared.arguments.Format.TheVariants.{Svg};
 
 use crate::arguments::Format;
-use meta_ast::deep::Deep;
 use meta_base::grammar::Rule;
 use meta_base::runtime::{Error, Fault};
 use meta_doc::{GrammarDoc, ebnf_text, html_page, markdown_page, read_grammar, svg_diagram};
 use meta_markup::push_visible;
+use meta_names::validate_pairs;
 use meta_syntax::grammar::PestParser;
-use pest_meta::parser::consume_rules;
-use pest_meta::validator::validate_pairs;
 use std::alloc::{AllocError, Global};
 
 /// The document was printed.
@@ -55,51 +53,58 @@ pub fn outcome_of(
     ensures { IfOk result (IsOutcome request.entry.format bytes.now) }
 {
     let Ok(text) = str::from_utf8(bytes) else {
-        return refusal(alloc, "the grammar is not UTF-8");
+        let message = String::from_str(alloc, "the grammar is not UTF-8")?;
+        return Ok(DocumentOutcome::Refused(message));
     };
     let title = file_name(request.name);
-    match document_of(alloc, title, text, request) {
+    match document_of(alloc, title, text, request.format, request.rule) {
         Ok(Some(document)) => Ok(DocumentOutcome::Document(document)),
-        Ok(None) => refusal(alloc, "the grammar has no such rule"),
-        Err(Fault::Grammar(errors)) => Ok(DocumentOutcome::Refused(messages(alloc, &errors)?)),
+        Ok(None) => {
+            let message = String::from_str(alloc, "the grammar has no such rule")?;
+            Ok(DocumentOutcome::Refused(message))
+        }
+        Err(Fault::Grammar(errors)) => {
+            let message = messages(alloc, &errors)?;
+            Ok(DocumentOutcome::Refused(message))
+        }
         Err(Fault::Memory(error)) => Err(error),
     }
 }
 
 /// The document of a grammar's text, under a title; `None` where the grammar has no such rule. Refused as by
-/// `parse_and_optimize`.
+/// `read_named_grammar`.
 fn document_of(
     alloc: Global,
     title: &str,
     text: &str,
-    request: Request<'_>,
+    format: Format,
+    rule: Option<&str>,
 ) -> Result<Option<String>, Fault>
-    ensures { IfOk result (λ document. IfSome document (IsDocument request.entry.format title.now text.now)) }
+    ensures document { IfOk result (λ document. IfSome document (IsDocument format title.now text.now)) }
+    ensures no_rule { IfOk result (λ document. IfNone document (format ≡ Svg)) }
+    ensures refused { IfErr result (RefusesText text.now) }
 {
-    let doc = read_valid_grammar(alloc, text)?;
-    match request.format {
+    let doc = read_named_grammar(alloc, text)?;
+    match format {
         Format::Html => Ok(Some(html_page(alloc, title, &doc)?)),
         Format::Markdown => Ok(Some(markdown_page(alloc, title, &doc)?)),
         Format::Ebnf => Ok(Some(ebnf_text(alloc, &doc)?)),
-        Format::Svg => Ok(svg_diagram(alloc, &doc, request.rule)?),
+        Format::Svg => Ok(svg_diagram(alloc, &doc, rule)?),
     }
 }
 
-/// Reads the text of a grammar. Refused as by `parse_and_optimize`: where the text is no grammar, where its
-/// names are not in order, where its rules are not, and where an allocation fails.
-fn read_valid_grammar(alloc: Global, text: &str) -> Result<GrammarDoc<'_>, Fault>
-    ensures rules { IfOk result (λ doc. SpellsGrammar text.entry.now (rules_of doc.rules.value.items)) }
-    ensures refused { IfErr result (IsRefusal text.entry.now) }
+/// Reads the text of a grammar. Refused where the text is no grammar, with one syntax error; where its names
+/// are not in order, as by `validate_pairs`; where it has a flaw, with one error; and where an allocation
+/// fails.
+fn read_named_grammar(alloc: Global, text: &str) -> Result<GrammarDoc<'_>, Fault>
+    ensures rules { IfOk result (λ doc. SpellsRules text.entry.now (rules_of doc.rules.value.items)) }
+    ensures refused { IfErr result (RefusesText text.entry.now) }
 {
     let pairs = PestParser::parse(alloc, Rule::grammar_rules, text)?;
     let copy = pairs.clone()?;
-    validate_pairs(alloc, copy)?;
-    let copy = pairs.clone()?;
-    let rules = Deep {
-        value: consume_rules(alloc, copy)?,
-    };
-    drop(rules);
-    read_grammar(alloc, pairs)
+    let _builtins = validate_pairs(alloc, copy)?;
+    let doc = read_grammar(alloc, pairs)?;
+    Ok(doc)
 }
 
 /// The last part of a path.
@@ -108,11 +113,6 @@ fn file_name(path: &str) -> &str {
         Some((_, name)) => name,
         None => path,
     }
-}
-
-/// A refusal with this message.
-fn refusal(alloc: Global, message: &str) -> Result<DocumentOutcome, AllocError> {
-    Ok(DocumentOutcome::Refused(String::from_str(alloc, message)?))
 }
 
 /// Errors as they are printed, without characters that a terminal obeys.
