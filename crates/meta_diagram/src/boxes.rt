@@ -1,0 +1,116 @@
+//! Layout boxes: the parts of a diagram, each with the space that it takes.
+//!
+//! All lengths are pixels. A box's rail enters at its left side, and leaves at its right side. The boxes of
+//! a diagram are a list, in which each comes after its children.
+use std::alloc::{AllocError, Global};
+
+/// The content of a box.
+#[derive(Clone, Copy, PartialEq, Eq)]
+pub enum BoxContent {
+    /// A rail alone.
+    Rail,
+    /// A text that is matched, in a round box.
+    Terminal,
+    /// A call of the rule of this number, in a square box that links to it.
+    RuleCall(usize),
+    /// A builtin, in a square box.
+    Builtin,
+    /// Children one after another.
+    Sequence,
+    /// Children below one another, each an alternative.
+    Choice,
+    /// Choices side by side, all of one list of alternatives.
+    Columns,
+    /// A child with a rail back to its start.
+    Loop,
+    /// A child in a frame with a label.
+    Group,
+}
+
+/// A point of a diagram: its distance from the left and from the upper side.
+#[derive(Clone, Copy)]
+pub struct Point {
+    pub x: u64,
+    pub y: u64,
+}
+
+/// The space that a box takes.
+#[derive(Clone, Copy)]
+pub struct Extent {
+    pub width: u64,
+    /// The height above the rail where it enters.
+    pub ascent: u64,
+    /// The height below the rail where it enters.
+    pub descent: u64,
+    /// How far the rail leaves the box below the height where it enters.
+    pub exit_y: u64,
+}
+
+/// A box of a diagram.
+#[derive(Drop)]
+pub struct LayoutBox {
+    pub content: BoxContent,
+    /// The text in the box, in its frame or at its rail back; empty where there is none.
+    pub label: String,
+    /// The indices of its children.
+    pub children: Vec<usize>,
+    pub extent: Extent,
+    /// Where its rail enters, from where that of its parent enters.
+    pub offset: Point,
+}
+
+impl Point {
+    /// The point so far to the right and below.
+    pub fn plus(self, offset: Point) -> Point {
+        Point {
+            x: self.x.saturating_add(offset.x),
+            y: self.y.saturating_add(offset.y),
+        }
+    }
+}
+
+impl Extent {
+    /// No space.
+    pub const EMPTY: Extent = Extent {
+        width: 0,
+        ascent: 0,
+        descent: 0,
+        exit_y: 0,
+    };
+
+    /// The space of a box that reaches as far above its rail as below.
+    pub fn level(width: u64, half_height: u64) -> Extent {
+        Extent {
+            width,
+            ascent: half_height,
+            descent: half_height,
+            exit_y: 0,
+        }
+    }
+}
+
+impl LayoutBox {
+    /// Where the rail leaves the box, if it enters at a point.
+    pub fn exit(&self, entry: Point) -> Point {
+        entry.plus(Point {
+            x: self.extent.width,
+            y: self.extent.exit_y,
+        })
+    }
+}
+
+/// The children of a box, and where their rails enter, if that of the box enters at a point.
+pub fn children_at<'b>(
+    alloc: Global,
+    boxes: &'b [LayoutBox],
+    parent: &LayoutBox,
+    entry: Point,
+) -> Result<Vec<(&'b LayoutBox, Point)>, AllocError> {
+    let mut children = Vec::new(alloc);
+    for index in &parent.children {
+        if let Some(child) = boxes.get(*index) {
+            children.push((child, entry.plus(child.offset)))?;
+        }
+    }
+    Ok(children)
+}

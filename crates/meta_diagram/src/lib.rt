@@ -1,0 +1,12 @@
+//! Railroad diagrams of expressions, as SVG.
+#![tactic(auto)]
+
+mod boxes;
+mod build;
+mod drawing;
+mod labels;
+mod layout;
+mod rails;
+
+pub use crate::drawing::{DiagramStyle, push_diagram};
+pub use crate::labels::leaf_label;

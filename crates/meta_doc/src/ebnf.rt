@@ -1,0 +1,53 @@
+//! Grammars in W3C's EBNF. Comments have what has no counterpart there.
+ghost use Rattle.std.specs.Prelude.{IfOk, string_bytes};
+ghost use Rattle.meta_ast.specs.Ast.{rules_of};
+ghost use Rattle.meta_markup.specs.Pages.{AreDefinitions};
+
+use crate::read::GrammarDoc;
+use crate::terms::push_expression;
+use meta_ast::ast;
+use meta_ast::ast::RuleType;
+use meta_markup::{EbnfToken, EbnfWord, push_definition};
+use std::alloc::{AllocError, Global};
+use std::collections::HashMap;
+
+/// Returns a grammar in EBNF. The only error is an allocation failure.
+pub fn ebnf_text(alloc: Global, doc: &GrammarDoc<'_>) -> Result<String, AllocError>
+    ensures { IfOk result (λ text. AreDefinitions (rules_of doc.now.rules.value.items) (string_bytes text)) }
+{
+    let mut text = String::new(alloc);
+    for rule in &doc.rules.value {
+        let body = body_of(alloc, rule, &doc.numbers)?;
+        push_definition(rule, &body, &mut text)?;
+    }
+    Ok(text)
+}
+
+/// The expression of a rule, and what its modifier means.
+fn body_of<'r>(
+    alloc: Global,
+    rule: &'r ast::Rule,
+    numbers: &HashMap<String, usize>,
+) -> Result<Vec<EbnfToken<'r>>, AllocError> {
+    let mut tokens = Vec::new(alloc);
+    push_expression(alloc, &rule.expr, numbers, &mut tokens)?;
+    let modifier = comment_of(rule.ty);
+    if !modifier.is_empty() {
+        tokens.push(EbnfToken::Word(EbnfWord::Blank))?;
+        tokens.push(EbnfToken::Word(EbnfWord::CommentStart))?;
+        tokens.push(EbnfToken::Comment(modifier))?;
+        tokens.push(EbnfToken::Word(EbnfWord::CommentEnd))?;
+    }
+    Ok(tokens)
+}
+
+/// The comment on the modifier of a rule.
+fn comment_of(ty: RuleType) -> &'static str {
+    match ty {
+        RuleType::Normal => "",
+        RuleType::Silent => "silent",
+        RuleType::Atomic => "atomic",
+        RuleType::CompoundAtomic => "compound-atomic",
+        RuleType::NonAtomic => "non-atomic",
+    }
+}

@@ -1,0 +1,274 @@
+//! Pages of HTML, and single diagrams.
+ghost use Rattle.std.specs.Prelude.{IfOk, IfSome, OnOk, string_bytes};
+ghost use Rattle.meta_ast.specs.Ast.{rules_of};
+ghost use Rattle.meta_markup.specs.Pages.{IsPage};
+ghost use Rattle.meta_doc.specs.Documents.{EndsWithSections, IsDiagram};
+
+use crate::facts::RuleFacts;
+use crate::first_sets::FirstSet;
+use crate::read::GrammarDoc;
+use crate::source::{RuleSource, SourcePart};
+use crate::warnings::RuleWarning;
+use meta_ast::ast;
+use meta_ast::ast::RuleType;
+use meta_diagram::{DiagramStyle, push_diagram};
+use meta_markup::{
+    Class, Markup, MarkupBuilder, SectionContents, Tag, foot, push_markup, push_section, start_page,
+};
+use std::alloc::{AllocError, Global};
+use std::collections::HashMap;
+
+/// Returns the page of a grammar under a title. The only error is an allocation failure.
+pub fn html_page(alloc: Global, title: &str, doc: &GrammarDoc<'_>) -> Result<String, AllocError>
+    ensures { IfOk result
+        (λ page. IsPage title.now (rules_of doc.now.rules.value.items) (string_bytes page)) }
+{
+    let names = doc.names(alloc)?;
+    let introduction = introduce(alloc, doc)?;
+    let mut page = start_page(alloc, title, &introduction.tokens, &names)?;
+    push_sections(alloc, doc, &names, &mut page)?;
+    page.push_str(foot())?;
+    Ok(page)
+}
+
+/// Returns the diagram of the rule of a name, or of the first rule where no name is given, as SVG; `None`
+/// where the grammar has no such rule. The only error is an allocation failure.
+pub fn svg_diagram(
+    alloc: Global,
+    doc: &GrammarDoc<'_>,
+    rule: Option<&str>,
+) -> Result<Option<String>, AllocError>
+    ensures { IfOk result (λ diagram. IfSome diagram IsDiagram) }
+{
+    let number = match rule {
+        Some(name) => doc.numbers.get(name).copied(),
+        None => Some(0),
+    };
+    let Some(number) = number else {
+        return Ok(None);
+    };
+    match doc.rules.value.get(number) {
+        Some(rule) => Ok(Some(render_diagram(alloc, rule, &doc.numbers)?)),
+        None => Ok(None),
+    }
+}
+
+/// The diagram of a rule. Since no page is around it, it has no links.
+fn render_diagram(
+    alloc: Global,
+    rule: &ast::Rule,
+    numbers: &HashMap<String, usize>,
+) -> Result<String, AllocError>
+    ensures { IfOk result IsDiagram }
+{
+    let mut markup = MarkupBuilder::new(alloc);
+    push_diagram(alloc, &rule.expr, numbers, DiagramStyle::Own, &mut markup)?;
+    let mut drawing = String::new(alloc);
+    push_markup(&markup.tokens, &[], &mut drawing)?;
+    drawing.push_str("\n")?;
+    Ok(drawing)
+}
+
+/// Appends the sections of all rules.
+fn push_sections(
+    alloc: Global,
+    doc: &GrammarDoc<'_>,
+    names: &[&str],
+    page: &mut String,
+) -> Result<(), AllocError>
+    ensures { OnOk result (EndsWithSections names.now (rules_of doc.now.rules.value.items)
+        (string_bytes page.old) (string_bytes page.new)) }
+{
+    for (number, rule) in doc.rules.value.iter().enumerate() {
+        let contents = describe(alloc, doc, number, rule)?;
+        push_section(alloc, rule, &contents, names, page)?;
+    }
+    Ok(())
+}
+
+/// The comment of a grammar, and the list of its rules.
+fn introduce<'i>(alloc: Global, doc: &GrammarDoc<'i>) -> Result<MarkupBuilder<'i>, AllocError> {
+    let mut markup = MarkupBuilder::new(alloc);
+    push_comment(&mut markup, &doc.source.comment)?;
+    markup.start(Tag::Nav)?;
+    markup.element(Tag::H2, "Rules")?;
+    markup.start(Tag::Ul)?;
+    for number in 0..doc.rules.value.len() {
+        markup.start(Tag::Li)?;
+        markup.rule_link(number)?;
+        markup.close_line(Tag::Li)?;
+    }
+    markup.close(Tag::Ul)?;
+    markup.close_line(Tag::Nav)?;
+    Ok(markup)
+}
+
+/// Adds the lines of a comment as paragraphs, which empty lines separate.
+fn push_comment<'i>(markup: &mut MarkupBuilder<'i>, lines: &[&'i str]) -> Result<(), AllocError> {
+    if lines.is_empty() {
+        return Ok(());
+    }
+    markup.start(Tag::P)?;
+    for line in lines {
+        if line.is_empty() {
+            markup.close_line(Tag::P)?;
+            markup.start(Tag::P)?;
+        } else {
+            markup.put(Markup::Text(*line))?;
+            markup.put(Markup::LineFeed)?;
+        }
+    }
+    markup.close_line(Tag::P)
+}
+
+/// The contents of the section of a rule.
+fn describe<'i>(
+    alloc: Global,
+    doc: &GrammarDoc<'i>,
+    number: usize,
+    rule: &ast::Rule,
+) -> Result<SectionContents<'i>, AllocError> {
+    let mut before = MarkupBuilder::new(alloc);
+    push_modifier(&mut before, rule.ty)?;
+    let source = doc.source.rules.get(number);
+    if let Some(source) = source {
+        push_comment(&mut before, &source.comment)?;
+    }
+    before.start_with_class(Tag::Div, Class::Scroll)?;
+    push_diagram(
+        alloc,
+        &rule.expr,
+        &doc.numbers,
+        DiagramStyle::OfPage,
+        &mut before,
+    )?;
+    before.close_line(Tag::Div)?;
+    if let Some(source) = source {
+        push_source(&mut before, source, number, &doc.numbers)?;
+    }
+    let mut after = MarkupBuilder::new(alloc);
+    if let Some(facts) = doc.facts.get(number) {
+        push_facts(&mut after, facts)?;
+    }
+    Ok(SectionContents {
+        before: before.tokens,
+        after: after.tokens,
+    })
+}
+
+/// Adds what the modifier of a rule means.
+fn push_modifier(markup: &mut MarkupBuilder<'_>, ty: RuleType) -> Result<(), AllocError> {
+    let meaning = meaning_of(ty);
+    if meaning.is_empty() {
+        return Ok(());
+    }
+    markup.start_with_class(Tag::P, Class::Modifier)?;
+    markup.put(Markup::Text(meaning))?;
+    markup.close_line(Tag::P)
+}
+
+/// Describes the modifier of a rule in a few words.
+pub fn meaning_of(ty: RuleType) -> &'static str {
+    match ty {
+        RuleType::Normal => "",
+        RuleType::Silent => "silent: gives no token",
+        RuleType::Atomic => "atomic: no implicit whitespace, and no tokens inside",
+        RuleType::CompoundAtomic => "compound-atomic: no implicit whitespace",
+        RuleType::NonAtomic => "non-atomic: implicit whitespace, whatever rule calls it",
+    }
+}
+
+/// Adds a rule as it is written, with the names of other rules as links.
+fn push_source<'i>(
+    markup: &mut MarkupBuilder<'i>,
+    source: &RuleSource<'i>,
+    own: usize,
+    numbers: &HashMap<String, usize>,
+) -> Result<(), AllocError> {
+    markup.start(Tag::Pre)?;
+    markup.start(Tag::Code)?;
+    for part in &source.parts {
+        match part {
+            SourcePart::Name(name) => match numbers.get(*name) {
+                Some(rule) if *rule != own => markup.rule_link(*rule)?,
+                _ => markup.put(Markup::Text(*name))?,
+            },
+            SourcePart::Other(text) => markup.put(Markup::Text(*text))?,
+        }
+    }
+    markup.close(Tag::Code)?;
+    markup.close_line(Tag::Pre)
+}
+
+/// Adds the warnings and the facts of a rule.
+fn push_facts<'i>(markup: &mut MarkupBuilder<'i>, facts: &RuleFacts<'i>) -> Result<(), AllocError> {
+    push_warnings(markup, &facts.warnings)?;
+    markup.start(Tag::Dl)?;
+    push_callers(markup, facts)?;
+    push_first_set(markup, &facts.first_set)?;
+    if facts.is_nullable {
+        markup.element(Tag::Dt, "Empty text")?;
+        markup.element(Tag::Dd, "may match nothing")?;
+    }
+    markup.close_line(Tag::Dl)
+}
+
+/// Adds the warnings of a rule.
+fn push_warnings<'i>(
+    markup: &mut MarkupBuilder<'i>,
+    warnings: &[RuleWarning<'i>],
+) -> Result<(), AllocError> {
+    for warning in warnings {
+        markup.start_with_class(Tag::P, Class::Warning)?;
+        markup.put(Markup::Text("warning: "))?;
+        markup.element(Tag::Code, warning.text)?;
+        markup.put(Markup::Text(": "))?;
+        markup.put(Markup::Text(warning.message))?;
+        markup.close_line(Tag::P)?;
+    }
+    Ok(())
+}
+
+/// Adds the rules that call a rule.
+fn push_callers(markup: &mut MarkupBuilder<'_>, facts: &RuleFacts<'_>) -> Result<(), AllocError> {
+    markup.element(Tag::Dt, "Used in")?;
+    markup.start(Tag::Dd)?;
+    if facts.is_implicit {
+        markup.put(Markup::Text("sequences and repetitions, implicitly"))?;
+    } else if facts.callers.is_empty() {
+        markup.put(Markup::Text("no other rule"))?;
+    }
+    for (place, caller) in facts.callers.iter().enumerate() {
+        push_comma(markup, place > 0 || facts.is_implicit)?;
+        markup.rule_link(*caller)?;
+    }
+    markup.close(Tag::Dd)
+}
+
+/// Adds a comma, where there is to be one.
+fn push_comma(markup: &mut MarkupBuilder<'_>, has_comma: bool) -> Result<(), AllocError> {
+    if has_comma {
+        markup.put(Markup::Text(", "))
+    } else {
+        Ok(())
+    }
+}
+
+/// Adds the terminals that may begin a rule.
+fn push_first_set(markup: &mut MarkupBuilder<'_>, first_set: &FirstSet) -> Result<(), AllocError> {
+    if first_set.labels.is_empty() {
+        return Ok(());
+    }
+    markup.element(Tag::Dt, "Begins with")?;
+    markup.start(Tag::Dd)?;
+    for (place, label) in first_set.labels.iter().enumerate() {
+        push_comma(markup, place > 0)?;
+        markup.start(Tag::Code)?;
+        markup.put(Markup::Label(label.clone()?))?;
+        markup.close(Tag::Code)?;
+    }
+    if first_set.has_more {
+        markup.put(Markup::Text(" and more"))?;
+    }
+    markup.close(Tag::Dd)
+}

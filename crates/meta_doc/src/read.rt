@@ -1,0 +1,69 @@
+//! From the pairs of a grammar's text to what its documents are made of.
+ghost use Rattle.std.specs.Prelude.{◌≡◌, IfErr, IfOk, None, OnOk};
+ghost use Rattle.meta_ast.specs.Ast.{rules_of};
+ghost use Rattle.meta_doc.specs.Documents.{AreRulesOf};
+ghost use Rattle.meta_markup.specs.Pages.{AreNames};
+ghost use Rattle.meta_reader.specs.Refusals.{IsReadRefusal, first_flaw_of};
+ghost use Rattle.meta_syntax.specs.Parses.{AreOfAGrammar};
+
+use crate::facts::{RuleFacts, find_facts};
+use crate::source::{GrammarSource, read_source};
+use meta_analysis::names_of;
+use meta_ast::ast;
+use meta_ast::deep::Deep;
+use meta_base::grammar::Rule;
+use meta_base::runtime::{Fault, Pairs};
+use meta_reader::rules::consume_rules_with_spans;
+use meta_spanned::erase_spans;
+use std::alloc::{AllocError, Global};
+use std::collections::HashMap;
+
+/// A grammar, and what its documents say of it.
+#[derive(Drop)]
+pub struct GrammarDoc<'i> {
+    /// The rules.
+    pub rules: Deep<Vec<ast::Rule>>,
+    /// The rules as they are written, in the same order.
+    pub source: GrammarSource<'i>,
+    /// The facts of each rule.
+    pub facts: Vec<RuleFacts<'i>>,
+    /// The numbers of rules by their names.
+    pub numbers: HashMap<String, usize>,
+}
+
+/// Reads a grammar from all pairs of a parse of its text by `grammar_rules`. Refused with the one error of
+/// its first flaw, as by `consume_rules_with_spans`, and where an allocation fails. Names may be undefined,
+/// and rules not valid.
+pub fn read_grammar<'i>(alloc: Global, pairs: Pairs<'i, Rule>) -> Result<GrammarDoc<'i>, Fault>
+    requires { AreOfAGrammar pairs }
+    ensures rules { IfOk result (λ doc. AreRulesOf pairs.entry (rules_of doc.rules.value.items)) }
+    ensures flawless { OnOk result (first_flaw_of pairs.entry ≡ None) }
+    ensures refused { IfErr result (IsReadRefusal (first_flaw_of pairs.entry)) }
+{
+    let copy = pairs.clone()?;
+    let spanned = consume_rules_with_spans(alloc, pairs)?;
+    let spanned = Deep { value: spanned };
+    let source = read_source(alloc, copy)?;
+    let facts = find_facts(alloc, &source.rules, &spanned.value)?;
+    let names = names_of(alloc, &spanned.value)?;
+    let rules = erase_spans(alloc, spanned.into_inner())?;
+    Ok(GrammarDoc {
+        rules: Deep { value: rules },
+        source,
+        facts,
+        numbers: names.places,
+    })
+}
+
+impl GrammarDoc<'_> {
+    /// Returns the names of the rules, in order.
+    pub fn names(&self, alloc: Global) -> Result<Vec<&str>, AllocError>
+        ensures { IfOk result (λ names. AreNames (rules_of self.entry.now.rules.value.items) names.items) }
+    {
+        let mut names = Vec::new(alloc);
+        for rule in &self.rules.value {
+            names.push(rule.name.as_str())?;
+        }
+        Ok(names)
+    }
+}

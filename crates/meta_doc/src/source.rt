@@ -1,0 +1,143 @@
+//! The text of a grammar by rules: their comments, and the names in them.
+use meta_base::grammar::Rule;
+use meta_base::runtime::{Fault, Pair, Pairs, Span};
+use std::alloc::{AllocError, Global};
+use std::mem;
+
+/// A part of a rule's text.
+#[derive(Clone, Copy)]
+pub enum SourcePart<'i> {
+    /// The name of a rule or a builtin.
+    Name(&'i str),
+    /// Any other text.
+    Other(&'i str),
+}
+
+/// A rule as it is written.
+#[derive(Drop)]
+pub struct RuleSource<'i> {
+    /// The lines of its comment, without `///`.
+    pub comment: Vec<&'i str>,
+    /// Its text, in parts. The first name is its own.
+    pub parts: Vec<SourcePart<'i>>,
+    /// Where it begins in the grammar, in bytes.
+    pub start: usize,
+}
+
+/// A grammar as it is written.
+#[derive(Drop)]
+pub struct GrammarSource<'i> {
+    /// The lines of its comment, without `//!`.
+    pub comment: Vec<&'i str>,
+    /// Its rules, in order.
+    pub rules: Vec<RuleSource<'i>>,
+}
+
+/// A reader of pairs.
+#[derive(Drop)]
+struct SourceReader<'i> {
+    alloc: Global,
+    text: &'i str,
+    /// The source so far.
+    source: GrammarSource<'i>,
+    /// The comment of the next rule.
+    comment: Vec<&'i str>,
+    /// The part of the text that is in the current rule, and in none of its parts yet, in bytes.
+    start: usize,
+    end: usize,
+    /// Whether the current rule has its name already.
+    is_named: bool,
+}
+
+/// Reads the comments and the texts of a grammar's rules. The only fault is an allocation failure.
+pub fn read_source<'i>(alloc: Global, pairs: Pairs<'i, Rule>) -> Result<GrammarSource<'i>, Fault> {
+    let mut reader = SourceReader {
+        alloc,
+        text: pairs.get_input(),
+        source: GrammarSource {
+            comment: Vec::new(alloc),
+            rules: Vec::new(alloc),
+        },
+        comment: Vec::new(alloc),
+        start: 0,
+        end: 0,
+        is_named: false,
+    };
+    for pair in pairs.flatten(alloc)? {
+        reader.read(pair?)?;
+    }
+    reader.finish_rule()?;
+    let SourceReader { source, .. } = reader;
+    Ok(source)
+}
+
+impl<'i> SourceReader<'i> {
+    /// Reads a pair.
+    fn read(&mut self, pair: Pair<'i, Rule>) -> Result<(), AllocError> {
+        let span = pair.as_span();
+        match pair.as_rule() {
+            Rule::grammar_doc => {
+                self.source
+                    .comment
+                    .push(strip_marker(span.as_str(), "//!"))?;
+            }
+            Rule::line_doc => self.comment.push(strip_marker(span.as_str(), "///"))?,
+            Rule::grammar_rule => {
+                self.finish_rule()?;
+                self.start = span.start();
+                self.end = span.end();
+            }
+            Rule::identifier => self.add_name(span)?,
+            _ => {}
+        }
+        Ok(())
+    }
+
+    /// Adds a name, which is that of a rule or of a call, to the current rule.
+    fn add_name(&mut self, span: Span<'i>) -> Result<(), AllocError> {
+        if !self.is_named {
+            self.is_named = true;
+            let comment = mem::replace(&mut self.comment, Vec::new(self.alloc));
+            self.source.rules.push(RuleSource {
+                comment,
+                parts: Vec::new(self.alloc),
+                start: span.start(),
+            })?;
+        }
+        self.add_text(span.start())?;
+        self.add_part(SourcePart::Name(span.as_str()))?;
+        self.start = span.end();
+        Ok(())
+    }
+
+    /// Adds the text up to a position.
+    fn add_text(&mut self, end: usize) -> Result<(), AllocError> {
+        match self.text.get(self.start..end) {
+            Some(text) => self.add_part(SourcePart::Other(text)),
+            None => Ok(()),
+        }
+    }
+
+    /// Adds a part to the current rule.
+    fn add_part(&mut self, part: SourcePart<'i>) -> Result<(), AllocError> {
+        if let Some(rule) = self.source.rules.last_mut() {
+            rule.parts.push(part)?;
+        }
+        Ok(())
+    }
+
+    /// Adds the rest of the current rule.
+    fn finish_rule(&mut self) -> Result<(), AllocError> {
+        if self.is_named {
+            self.is_named = false;
+            return self.add_text(self.end);
+        }
+        Ok(())
+    }
+}
+
+/// A comment's line without its marker and one blank after it.
+fn strip_marker<'i>(line: &'i str, marker: &str) -> &'i str {
+    let line = line.strip_prefix(marker).unwrap_or(line);
+    line.strip_prefix(" ").unwrap_or(line).trim_end()
+}

@@ -1,0 +1,348 @@
+//! Expressions in EBNF, iteratively, with a stack of steps.
+use meta_ast::ast::Expr;
+use meta_markup::{EbnfToken, EbnfWord, is_plain};
+use std::alloc::{AllocError, Global};
+use std::collections::HashMap;
+
+/// Where an expression is written.
+#[derive(Clone, Copy, PartialEq, Eq)]
+enum TermContext {
+    /// As a whole, or as an alternative.
+    Alternative,
+    /// As an item of a sequence.
+    Item,
+    /// Before an operator.
+    Operand,
+}
+
+/// A step of the walk.
+#[derive(Drop)]
+enum TermStep<'e> {
+    Visit(&'e Expr, TermContext),
+    Token(EbnfToken<'e>),
+}
+
+/// The tokens so far.
+#[derive(Drop)]
+struct TermWriter<'e, 't> {
+    alloc: Global,
+    tokens: &'t mut Vec<EbnfToken<'e>>,
+    /// The steps that are still to be done, the next one last.
+    steps: Vec<TermStep<'e>>,
+}
+
+/// Adds the tokens of an expression. The only error is an allocation failure.
+pub fn push_expression<'e>(
+    alloc: Global,
+    expr: &'e Expr,
+    numbers: &HashMap<String, usize>,
+    tokens: &mut Vec<EbnfToken<'e>>,
+) -> Result<(), AllocError> {
+    let mut writer = TermWriter {
+        alloc,
+        tokens,
+        steps: Vec::new(alloc),
+    };
+    writer
+        .steps
+        .push(TermStep::Visit(expr, TermContext::Alternative))?;
+    for _ in 0..u64::MAX {
+        match writer.steps.pop() {
+            Some(TermStep::Token(token)) => writer.tokens.push(token)?,
+            Some(TermStep::Visit(expr, context)) => writer.visit(expr, context, numbers)?,
+            None => break,
+        }
+    }
+    Ok(())
+}
+
+impl<'e> TermWriter<'e, '_> {
+    /// Writes an expression, or adds the steps that write it.
+    fn visit(
+        &mut self,
+        expr: &'e Expr,
+        context: TermContext,
+        numbers: &HashMap<String, usize>,
+    ) -> Result<(), AllocError> {
+        match expr {
+            Expr::Str(text) => self.literal(text.as_str(), context),
+            Expr::Insens(text) => self.either_case(text.as_str(), context),
+            Expr::Range(first, last) => self.range(first.as_str(), last.as_str()),
+            Expr::Ident(name) => self.call(name.as_str(), context, numbers),
+            Expr::Seq(left, right) => {
+                self.open(context == TermContext::Operand)?;
+                self.later(TermStep::Visit(right, TermContext::Item))?;
+                self.word_later(EbnfWord::Blank)?;
+                self.later(TermStep::Visit(left, TermContext::Item))
+            }
+            Expr::Choice(left, right) => {
+                self.open(context != TermContext::Alternative)?;
+                self.later(TermStep::Visit(right, TermContext::Alternative))?;
+                self.word_later(EbnfWord::Bar)?;
+                self.later(TermStep::Visit(left, TermContext::Alternative))
+            }
+            Expr::Push(inner) => { self.remark_on(EbnfWord::CommentStart, "PUSH", inner, context) }
+            Expr::NodeTag(inner, tag) => {
+                self.remark_on(EbnfWord::TagStart, tag.as_str(), inner, context)
+            }
+            _ => self.repetition(expr, context),
+        }
+    }
+
+    /// Writes a repetition, or in a comment an expression that has no counterpart.
+    fn repetition(&mut self, expr: &'e Expr, context: TermContext) -> Result<(), AllocError> {
+        match expr {
+            Expr::Opt(inner) => self.postfix(inner, EbnfWord::Optional, Times::Plain, context),
+            Expr::Rep(inner) => self.postfix(inner, EbnfWord::Star, Times::Plain, context),
+            Expr::RepOnce(inner) => self.postfix(inner, EbnfWord::Plus, Times::Plain, context),
+            Expr::RepExact(inner, n) => self.repeat(inner, *n, Times::Exactly(*n), context),
+            Expr::RepMin(inner, 0) => self.postfix(inner, EbnfWord::Star, Times::Plain, context),
+            Expr::RepMin(inner, n) => self.repeat(inner, *n, Times::AtLeast(*n), context),
+            Expr::RepMax(inner, n) => self.repeat(inner, 0, Times::AtMost(*n), context),
+            Expr::RepMinMax(inner, m, n) => {
+                self.repeat(inner, *m, Times::Between(*m, *n), context)
+            }
+            _ => {
+                self.open(context == TermContext::Operand)?;
+                self.remark(expr)
+            }
+        }
+    }
+
+    /// Writes an expression that has no counterpart, as it is printed, in a comment.
+    fn remark(&mut self, expr: &Expr) -> Result<(), AllocError> {
+        let printed = expr.to_string(self.alloc)?;
+        self.comment(EbnfToken::ComposedComment(printed))
+    }
+
+    /// Writes a comment.
+    fn comment(&mut self, text: EbnfToken<'e>) -> Result<(), AllocError> {
+        self.word(EbnfWord::CommentStart)?;
+        self.tokens.push(text)?;
+        self.word(EbnfWord::CommentEnd)
+    }
+
+    /// Writes an operand after a comment.
+    fn remark_on(
+        &mut self,
+        start: EbnfWord,
+        remark: &'e str,
+        operand: &'e Expr,
+        context: TermContext,
+    ) -> Result<(), AllocError> {
+        self.open(context == TermContext::Operand)?;
+        self.word(start)?;
+        self.tokens.push(EbnfToken::Comment(remark))?;
+        self.word(EbnfWord::CommentEnd)?;
+        self.word(EbnfWord::Blank)?;
+        self.later(TermStep::Visit(operand, TermContext::Item))
+    }
+
+    /// Writes a repetition of at least so often, with a comment on how often.
+    fn repeat(
+        &mut self,
+        operand: &'e Expr,
+        least: u32,
+        times: Times,
+        context: TermContext,
+    ) -> Result<(), AllocError> {
+        let sign = if least == 0 {
+            EbnfWord::Star
+        } else {
+            EbnfWord::Plus
+        };
+        self.postfix(operand, sign, times, context)
+    }
+
+    /// Writes an operand with a sign after it, and a comment on how often it is repeated.
+    fn postfix(
+        &mut self,
+        operand: &'e Expr,
+        sign: EbnfWord,
+        times: Times,
+        context: TermContext,
+    ) -> Result<(), AllocError> {
+        self.open(context == TermContext::Operand)?;
+        if let Some(text) = times.text(self.alloc)? {
+            self.word_later(EbnfWord::CommentEnd)?;
+            self.later(TermStep::Token(EbnfToken::ComposedComment(text)))?;
+            self.word_later(EbnfWord::CommentStart)?;
+            self.word_later(EbnfWord::Blank)?;
+        }
+        self.word_later(sign)?;
+        self.later(TermStep::Visit(operand, TermContext::Operand))
+    }
+
+    /// Writes a call of a rule, a builtin as a class of characters, or another builtin in a comment.
+    fn call(
+        &mut self,
+        name: &'e str,
+        context: TermContext,
+        numbers: &HashMap<String, usize>,
+    ) -> Result<(), AllocError> {
+        if numbers.contains_key(name) {
+            self.tokens.push(EbnfToken::Name(name))?;
+            return Ok(());
+        }
+        if name == "NEWLINE" {
+            return self.word(EbnfWord::LineEnd);
+        }
+        let ranges = ranges_of(name);
+        if ranges.is_empty() {
+            self.open(context == TermContext::Operand)?;
+            return self.comment(EbnfToken::Comment(name));
+        }
+        self.word(EbnfWord::RangeStart)?;
+        for (first, last) in ranges {
+            self.bounds(*first, *last)?;
+        }
+        self.word(EbnfWord::RangeEnd)
+    }
+
+    /// Writes a range between the first characters of two texts.
+    fn range(&mut self, first: &str, last: &str) -> Result<(), AllocError> {
+        self.word(EbnfWord::RangeStart)?;
+        if let (Some(first), Some(last)) = (first.chars().next(), last.chars().next()) {
+            self.bounds(first, last)?;
+        }
+        self.word(EbnfWord::RangeEnd)
+    }
+
+    /// Writes the bounds of a range.
+    fn bounds(&mut self, first: char, last: char) -> Result<(), AllocError> {
+        self.tokens.push(EbnfToken::Bound(first))?;
+        self.word(EbnfWord::RangeMiddle)?;
+        self.tokens.push(EbnfToken::Bound(last))?;
+        Ok(())
+    }
+
+    /// Writes a literal: strings of plain characters, and other characters between them.
+    fn literal(&mut self, text: &'e str, context: TermContext) -> Result<(), AllocError> {
+        let has_parentheses = context == TermContext::Operand && !is_string(text);
+        self.open(has_parentheses)?;
+        if text.is_empty() {
+            self.tokens.push(EbnfToken::String(text))?;
+        }
+        let mut rest = text;
+        for place in 0..text.len() {
+            if rest.is_empty() {
+                break;
+            }
+            if place > 0 {
+                self.word(EbnfWord::Blank)?;
+            }
+            rest = self.part(rest)?;
+        }
+        Ok(())
+    }
+
+    /// Writes the first string of plain characters of a text, or its first character, and returns the rest.
+    fn part(&mut self, text: &'e str) -> Result<&'e str, AllocError> {
+        let end = text.find(|c: char| !is_plain(c)).unwrap_or(text.len());
+        let (plain, rest) = text.split_at(end);
+        if !plain.is_empty() {
+            self.tokens.push(EbnfToken::String(plain))?;
+            return Ok(rest);
+        }
+        let mut others = rest.chars();
+        match others.next() {
+            Some('"') => self.word(EbnfWord::DoubleQuote)?,
+            Some(character) => self.tokens.push(EbnfToken::Numbered(character))?,
+            None => {}
+        }
+        Ok(others.as_str())
+    }
+
+    /// Writes a text that is matched in either case, letter by letter.
+    fn either_case(&mut self, text: &'e str, context: TermContext) -> Result<(), AllocError> {
+        self.open(context == TermContext::Operand)?;
+        if text.is_empty() {
+            self.tokens.push(EbnfToken::String(text))?;
+        }
+        for (place, character) in text.chars().enumerate() {
+            if place > 0 {
+                self.word(EbnfWord::Blank)?;
+            }
+            if character.is_ascii_alphabetic() {
+                self.tokens.push(EbnfToken::EitherCase(character))?;
+            } else {
+                self.tokens.push(EbnfToken::Numbered(character))?;
+            }
+        }
+        Ok(())
+    }
+
+    /// Writes a parenthesis, and adds the step that closes it, where there is to be one.
+    fn open(&mut self, has_parentheses: bool) -> Result<(), AllocError> {
+        if has_parentheses {
+            self.word(EbnfWord::Open)?;
+            self.word_later(EbnfWord::Close)?;
+        }
+        Ok(())
+    }
+
+    /// Writes a word.
+    fn word(&mut self, word: EbnfWord) -> Result<(), AllocError> {
+        self.tokens.push(EbnfToken::Word(word))?;
+        Ok(())
+    }
+
+    /// Adds a step.
+    fn later(&mut self, step: TermStep<'e>) -> Result<(), AllocError> {
+        self.steps.push(step)?;
+        Ok(())
+    }
+
+    /// Adds the step of a word.
+    fn word_later(&mut self, word: EbnfWord) -> Result<(), AllocError> {
+        self.later(TermStep::Token(EbnfToken::Word(word)))
+    }
+}
+
+/// How often an operand is repeated.
+#[derive(Clone, Copy)]
+enum Times {
+    /// As its sign says.
+    Plain,
+    Exactly(u32),
+    AtLeast(u32),
+    AtMost(u32),
+    Between(u32, u32),
+}
+
+impl Times {
+    /// Returns how often, in words, where the sign does not say it.
+    fn text(self, alloc: Global) -> Result<Option<String>, AllocError> {
+        match self {
+            Times::Plain => Ok(None),
+            Times::Exactly(n) => Ok(Some(format!(in alloc; "{n} times")?)),
+            Times::AtLeast(n) => Ok(Some(format!(in alloc; "{n} times or more")?)),
+            Times::AtMost(n) => Ok(Some(format!(in alloc; "up to {n} times")?)),
+            Times::Between(m, n) => Ok(Some(format!(in alloc; "{m} to {n} times")?)),
+        }
+    }
+}
+
+/// Whether a text is one string of EBNF.
+fn is_string(text: &str) -> bool {
+    text.chars().all(is_plain)
+}
+
+/// The ranges of the characters that a builtin matches; none for a builtin that is no class of ASCII
+/// characters.
+fn ranges_of(name: &str) -> &'static [(char, char)] {
+    match name {
+        "ANY" => &[('\0', '\u{10ffff}')],
+        "ASCII" => &[('\0', '\u{7f}')],
+        "ASCII_DIGIT" => &[('0', '9')],
+        "ASCII_NONZERO_DIGIT" => &[('1', '9')],
+        "ASCII_BIN_DIGIT" => &[('0', '1')],
+        "ASCII_OCT_DIGIT" => &[('0', '7')],
+        "ASCII_HEX_DIGIT" => &[('0', '9'), ('a', 'f'), ('A', 'F')],
+        "ASCII_ALPHA_LOWER" => &[('a', 'z')],
+        "ASCII_ALPHA_UPPER" => &[('A', 'Z')],
+        "ASCII_ALPHA" => &[('a', 'z'), ('A', 'Z')],
+        "ASCII_ALPHANUMERIC" => &[('a', 'z'), ('A', 'Z'), ('0', '9')],
+        _ => &[],
+    }
+}

@@ -1,0 +1,20 @@
+//! Laws over the definitions alone: no text becomes markup.
+ghost use Rattle.meta_markup.specs.Laws.{CodeIsIndented, CommentsAreInert, EscapedIsInert, InlineIsInert, StringsArePlain};
+
+/// Texts in HTML and SVG: entities, and characters that are neither special nor hidden.
+pub fn escaped_texts_are_inert()
+    ensures { EscapedIsInert }
+{}
+
+/// Texts in Markdown: in a line each punctuation character is escaped, and in a block of code each line is
+/// indented.
+pub fn markdown_texts_are_inert()
+    ensures inline { InlineIsInert }
+    ensures code { CodeIsIndented }
+{}
+
+/// Texts in EBNF: a string has no quote in it, and a comment no end.
+pub fn ebnf_texts_are_inert()
+    ensures strings { StringsArePlain }
+    ensures comments { CommentsAreInert }
+{}
