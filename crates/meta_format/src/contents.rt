@@ -60,8 +60,8 @@ fn after_block(around: usize) -> GapState
     }
 }
 
-/// Returns the state after a byte; so many of the block comments that are open there are closed in the rest of
-/// the gap.
+/// Returns the state after a byte. `closings` counts the block comments, of those open after it, that the gap
+/// closes.
 fn state_after(place: GapState, byte: u8, closings: usize) -> GapState
     ensures { result ≡ spec.state_after place byte closings }
 {
@@ -100,8 +100,8 @@ fn state_after(place: GapState, byte: u8, closings: usize) -> GapState
 }
 
 /// Returns how many of the block comments that are open before a text are closed in it, by its first two
-/// bytes, and by these counts of the text from the third and from the second byte on. A comment that begins in the
-/// text and is left open is none, as the second one of `/* /*/`.
+/// bytes, and by these counts of the text from the third and from the second byte on. A comment that begins
+/// in the text and is left open is none, as the second one of `/* /*/`.
 pub fn closings_at(byte: u8, next: u8, third: usize, second: usize) -> usize
     ensures { result ≡ spec.closings_at byte next third second }
 {
