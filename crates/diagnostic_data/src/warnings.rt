@@ -69,21 +69,21 @@ fn diagnose_code(
         (spec.warnings_with (texts_of starts.now) (rule_views rules.now) code) diagnostics.items) }
 {
     let spans = spans_of(alloc, code, rules, starts)?;
-    report_spans(alloc, code, spans)
+    report_spans(alloc, code, &spans)
 }
 
 /// A warning of a code at each of these spans.
 fn report_spans(
     alloc: Global,
     code: Code,
-    spans: Vec<Span<'_>>,
+    spans: &[Span<'_>],
 ) -> Result<Vec<Diagnostic>, AllocError>
     requires { severity_of code ≡ severity.Warning }
     ensures { IfOk result (λ diagnostics.
-        AllZip (λ span. ReportsWarning (spec.warning code (piece_of span))) spans.items diagnostics.items) }
+        AllZip (λ span. ReportsWarning (spec.warning code (piece_of span))) spans.now diagnostics.items) }
 {
     let mut diagnostics = Vec::new(alloc);
-    for span in &spans {
+    for span in spans {
         let diagnostic = report_span(alloc, code, *span)?;
         diagnostics.push(diagnostic)?;
     }

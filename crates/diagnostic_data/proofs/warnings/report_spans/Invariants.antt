@@ -7,5 +7,5 @@ use Rattle.meta_spanned.specs.Nodes.{piece_of}
 use Rattle.diagnostic_data.proofs.warnings.report_spans.Given as goal
 
 abbrev pub invariant-loop-span : goal.invariant-loop-span
-invariant-loop-span l = (more : List Diagnostic) → AllZip (λ span. ReportsWarning (warning l.code (piece_of span))) (drop l.span-index l.spans.items) more
-    → AllZip (λ span. ReportsWarning (warning l.code (piece_of span))) l.spans.items (l.diagnostics.items ++ more)
+invariant-loop-span l = (more : List Diagnostic) → AllZip (λ span. ReportsWarning (warning l.code (piece_of span))) (drop l.span-index l.spans) more
+    → AllZip (λ span. ReportsWarning (warning l.code (piece_of span))) l.spans (l.diagnostics.items ++ more)
