@@ -29,7 +29,8 @@ pub fn diagnose_errors(
     let mut names = Definitions::new(alloc, text)?;
     let mut diagnostics = Vec::new(alloc);
     for error in errors {
-        diagnostics.push(diagnose_error(alloc, text, expected, &mut names, error)?)?;
+        let diagnostic = diagnose_error(alloc, text, expected, &mut names, error)?;
+        diagnostics.push(diagnostic)?;
     }
     Ok(diagnostics)
 }

@@ -86,22 +86,27 @@ impl<'t> Definitions<'t> {
             return Ok(None);
         }
         self.count = self.count.saturating_add(1);
-        let Some(nearest) = self.nearest(alloc, name)? else {
-            return Ok(None);
-        };
-        let message = format!(in alloc; "did you mean `{nearest}`?")?;
-        let help = Help::replace(alloc, message.as_str(), start, end, nearest)?;
-        Ok(Some(help))
+        if let Some(nearest) = nearest_name(alloc, name, &self.names)? {
+            return did_you_mean(alloc, nearest, start, end);
+        }
+        if let Some(nearest) = nearest_name(alloc, name, &BUILTINS)? {
+            return did_you_mean(alloc, nearest, start, end);
+        }
+        match nearest_name(alloc, name, unicode_property_names())? {
+            Some(nearest) => did_you_mean(alloc, nearest, start, end),
+            None => Ok(None),
+        }
     }
+}
 
-    /// The name that is nearest to an undefined one.
-    fn nearest(&self, alloc: Global, name: &str) -> Result<Option<&'t str>, AllocError> {
-        if let Some(found) = nearest_name(alloc, name, &self.names)? {
-            return Ok(Some(found));
-        }
-        if let Some(found) = nearest_name(alloc, name, &BUILTINS)? {
-            return Ok(Some(found));
-        }
-        nearest_name(alloc, name, unicode_property_names())
-    }
+/// A help that replaces the bytes `start..end` by a name.
+fn did_you_mean(
+    alloc: Global,
+    name: &str,
+    start: usize,
+    end: usize,
+) -> Result<Option<Help>, AllocError> {
+    let message = format!(in alloc; "did you mean `{name}`?")?;
+    let help = Help::replace(alloc, message.as_str(), start, end, name)?;
+    Ok(Some(help))
 }

@@ -84,7 +84,8 @@ fn report_spans(
 {
     let mut diagnostics = Vec::new(alloc);
     for span in spans {
-        diagnostics.push(report_span(alloc, code, *span)?)?;
+        let diagnostic = report_span(alloc, code, *span)?;
+        diagnostics.push(diagnostic)?;
     }
     Ok(diagnostics)
 }

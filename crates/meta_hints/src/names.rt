@@ -37,7 +37,7 @@ fn name_span(lexeme: Lexeme) -> Option<(usize, usize)> {
 pub fn nearest_name<'n>(
     alloc: Global,
     name: &str,
-    names: &[&'n str],
+    names: &'n [&'n str],
 ) -> Result<Option<&'n str>, AllocError> {
     let mut best = None;
     let mut bound = name.len() / 3 + 1;

@@ -5,8 +5,8 @@ use Rattle.diagnostic_data.proofs.errors.diagnose_errors.Goals as goal
 
 pub loop-error-preserved : goal.loop-error-preserved
 loop-error-preserved c = λ more each.
-    rw (c.in_ok-push.ensures.items, append_assoc) (c.loop-error.invariant (c.in_ok-diagnose_error.diagnose_error ∷ more)
-    (zip_next ReportsError c.args.errors.now c.loop-error.error-index c.error-item.result _ more c.error-item.is c.loop-error-test.true c.in_ok-diagnose_error.ensures each))
+    rw (c.in_ok-push.ensures.items, append_assoc) (c.loop-error.invariant (c.in_ok-diagnostic.diagnostic ∷ more)
+    (zip_next ReportsError c.args.errors.now c.loop-error.error-index c.error-item.result _ more c.error-item.is c.loop-error-test.true c.in_ok-diagnostic.ensures each))
 
 pub returns : goal.returns
 returns c = rw append-nil at (c.loop-error.invariant [] (zip_end ReportsError c.args.errors.now c.loop-error.error-index c.loop-error-test.false))

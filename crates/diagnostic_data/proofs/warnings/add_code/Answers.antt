@@ -3,6 +3,6 @@ use Rattle.diagnostic_data.specs.Reports.{ReportsWarning}
 use Rattle.diagnostic_data.proofs.Zips.{zip_both}
 use Rattle.diagnostic_data.proofs.warnings.add_code.Goals as goal
 
-pub returns-in_ok-append : goal.returns-in_ok-append
-returns-in_ok-append c = λ earlier h.
+pub returns : goal.returns
+returns c = λ earlier h.
     rw c.in_ok-append.ensures.items (zip_both ReportsWarning earlier _ _ _ h c.in_ok-others.ensures)
