@@ -21,7 +21,7 @@ end
 local function request(method, params)
   local answers = vim.lsp.buf_request_sync(buffer, method, params, 5000) or {}
   local answer = answers[id] or {}
-  return answer.result, answer.err
+  return answer.result, answer.err or answer.error
 end
 
 local function at(line, character)
@@ -40,7 +40,7 @@ step("mended", wait(function() return #vim.diagnostic.get(buffer) == 0 end), tos
 local place = request("textDocument/definition", at(0, 16))
 step("definition", place ~= nil and place[1] ~= nil and place[1].range.start.line == 2)
 local shown = request("textDocument/hover", at(0, 16))
-step("hover", shown ~= nil and shown.contents.value:find("An item.", 1, true) ~= nil)
+step("hover", shown ~= nil and shown.contents.value:find("One of them.", 1, true) ~= nil)
 
 local params = at(0, 16)
 params.newName = "entry"
