@@ -1,6 +1,6 @@
 -- Expressions that match one character of a set, and as many as there are.
 use Rattle.std.proofs.Common.{◌≡◌, refl, sym, ◌∙◌, ap, subst, ℕ, suc, ◌+◌, List, [], ◌∷◌, Bool, true, false, ◌&&◌, ◌||◌, Some, arith, add-zero, take, drop, if◌then◌else◌}
-use Rattle.std.specs.Prelude.{max, not}
+use Rattle.std.specs.Prelude.{not}
 use Rattle.std.specs.List.{sum_by}
 use Rattle.std.specs.Char.{len_utf8}
 use Rattle.std.proofs.lemmas.List.Sums.{sum_by-cons}
