@@ -1,6 +1,6 @@
 -- Expressions that match one character of a set, and as many as there are.
 use Rattle.std.proofs.Common.{◌≡◌, refl, sym, ◌∙◌, ap, subst, ℕ, suc, ◌+◌, List, [], ◌∷◌, Bool, true, false, ◌&&◌, ◌||◌, Some, arith, add-zero, take, drop, if◌then◌else◌}
-use Rattle.std.specs.Prelude.{max, not}
+use Rattle.std.specs.Prelude.{not}
 use Rattle.std.specs.List.{sum_by}
 use Rattle.std.specs.Char.{len_utf8}
 use Rattle.std.proofs.lemmas.List.Sums.{sum_by-cons}
@@ -36,55 +36,55 @@ other_starts : (f h : ℕ → Bool) (t : Text) → starts_in (λ c. not (f c) &&
 other_starts f h [] = refl
 other_starts f h (c ∷ t) = refl
 
-module _ {g : Grammar} {classes : Classes} where
+abbrev either : State → Bool → Outcome
+either t b = if b then Success t None' else Failure
+
+hidden : (b : Bool) → (b && false) ≡ false
+hidden true = refl
+hidden false = refl
+
+module _ (g : Grammar) (classes : Classes) where
   -- a derivation that notes no failure
   abbrev Quiet : Task → State → Outcome → Type 0
   Quiet k s o = (d : Does g classes k s o) × (furthest d ≡ 0)
 
-  abbrev either : State → Bool → Outcome
-  either t b = if b then Success t None' else Failure
-
-  left_or_right : {m : Mode} {a b : Expression} {s : State} (t : State) (p q : Bool) → Quiet (Run m a) s (either t p) → Quiet (Run m b) s (either t q)
+  left_or_right : (m : Mode) (a b : Expression) (s t : State) (p q : Bool) → Quiet (Run m a) s (either t p) → Quiet (Run m b) s (either t q)
       → Quiet (Run m (Choice a b)) s (either t (p || q))
-  left_or_right t true q x y = (by.left x.0, x.1)
-  left_or_right t false q x y = (by.right x.0 y.0, omega (arith, x.1, y.1))
+  left_or_right m a b s t true q x y = (by.left x.0, x.1)
+  left_or_right m a b s t false q x y = (by.right x.0 y.0, omega (arith, x.1, y.1))
 
-  pub choice_of_sets : {m : Mode} {a b : Expression} (f h : ℕ → Bool) → HasOutcome g classes (Run m a) (character_outcome f) (λ s. 0)
+  pub choice_of_sets : (m : Mode) (a b : Expression) (f h : ℕ → Bool) → HasOutcome g classes (Run m a) (character_outcome f) (λ s. 0)
       → HasOutcome g classes (Run m b) (character_outcome h) (λ s. 0) → HasOutcome g classes (Run m (Choice a b)) (character_outcome (λ c. f c || h c)) (λ s. 0)
-  choice_of_sets {m} {a} {b} f h x y s =
+  choice_of_sets m a b f h x y s =
       subst (λ p. Quiet (Run m (Choice a b)) s (either (moved 1 s) p)) (sym (either_starts f h s.rest))
-      (left_or_right (moved 1 s) (starts_in f s.rest) (starts_in h s.rest) (x s) (y s))
+      (left_or_right m a b s (moved 1 s) (starts_in f s.rest) (starts_in h s.rest) (x s) (y s))
 
-  not_and_then : {m : Mode} {a b : Expression} {s : State} (t : State) (p q : Bool) → IsTight g classes m → Quiet (Run m a) s (either t p)
+  not_and_then : (m : Mode) (a b : Expression) (s t : State) (p q : Bool) → IsTight g classes m → Quiet (Run m a) s (either t p)
       → Quiet (Run m b) s (either t q) → Quiet (Run m (Seq (NegPred a) b)) s (either t (not p && q))
-  not_and_then t true q tight x y = (by.seq_first (by.neg_pred x.0), x.1)
-  not_and_then {s = s} t false true tight x y = (by.seq (by.neg_pred x.0) (tight s).0 y.0, omega (arith, x.1, (tight s).1, y.1))
-  not_and_then {s = s} t false false tight x y = (by.seq_second (by.neg_pred x.0) (tight s).0 y.0, omega (arith, x.1, (tight s).1, y.1))
+  not_and_then m a b s t true q tight x y = (by.seq_first (by.neg_pred x.0), x.1)
+  not_and_then m a b s t false true tight x y = (by.seq (by.neg_pred x.0) (tight s).0 y.0, omega (arith, x.1, (tight s).1, y.1))
+  not_and_then m a b s t false false tight x y = (by.seq_second (by.neg_pred x.0) (tight s).0 y.0, omega (arith, x.1, (tight s).1, y.1))
 
-  pub difference_of_sets : {m : Mode} {a b : Expression} (f h : ℕ → Bool) → IsTight g classes m → HasOutcome g classes (Run m a) (character_outcome f) (λ s. 0)
+  pub difference_of_sets : (m : Mode) (a b : Expression) (f h : ℕ → Bool) → IsTight g classes m → HasOutcome g classes (Run m a) (character_outcome f) (λ s. 0)
       → HasOutcome g classes (Run m b) (character_outcome h) (λ s. 0)
       → HasOutcome g classes (Run m (Seq (NegPred a) b)) (character_outcome (λ c. not (f c) && h c)) (λ s. 0)
-  difference_of_sets {m} {a} {b} f h tight x y s =
+  difference_of_sets m a b f h tight x y s =
       subst (λ p. Quiet (Run m (Seq (NegPred a) b)) s (either (moved 1 s) p)) (sym (other_starts f h s.rest))
-      (not_and_then (moved 1 s) (starts_in f s.rest) (starts_in h s.rest) tight (x s) (y s))
+      (not_and_then m a b s (moved 1 s) (starts_in f s.rest) (starts_in h s.rest) tight (x s) (y s))
 
-  hidden : (b : Bool) → (b && false) ≡ false
-  hidden true = refl
-  hidden false = refl
-
-  silently : {m : Mode} {x : Text} {s : State} (r : Rule) (t : State) (p : Bool) → rule_of g x ≡ Some r → gives_token r.type_of m ≡ false
+  silently : (m : Mode) (x : Text) (s : State) (r : Rule) (t : State) (p : Bool) → rule_of g x ≡ Some r → gives_token r.type_of m ≡ false
       → Quiet (Run (body_mode r m) r.body) s (either t p) → Quiet (Run m (Ident x)) s (either t p)
-  silently {m} {x} {s} r t true h e d =
+  silently m x s r t true h e d =
       subst (λ us. Quiet (Run m (Ident x)) s (Success t us)) (ap (λ b. if b then Tree r.name s.position t.position None' None' else None') e) (by.call {m = m} h d.0, omega (arith, d.1))
-  silently {m} {x} {s} r t false h e d =
+  silently m x s r t false h e d =
       let z : place_of (seen_from m && gives_token r.type_of m) s Failure ≡ 0 = ap (λ b. if (seen_from m && b) then s.position else 0) e ∙ ap (λ b. if b then s.position else 0) (hidden (seen_from m)) in
       (by.call {m = m} h d.0, omega (arith, z, d.1))
 
-  pub silent_call_of_set : {m : Mode} {x : Text} (r : Rule) (f : ℕ → Bool) → rule_of g x ≡ Some r → gives_token r.type_of m ≡ false
+  pub silent_call_of_set : (m : Mode) (x : Text) (r : Rule) (f : ℕ → Bool) → rule_of g x ≡ Some r → gives_token r.type_of m ≡ false
       → HasOutcome g classes (Run (body_mode r m) r.body) (character_outcome f) (λ s. 0) → HasOutcome g classes (Run m (Ident x)) (character_outcome f) (λ s. 0)
-  silent_call_of_set r f h e d s = silently r (moved 1 s) (starts_in f s.rest) h e (d s)
+  silent_call_of_set m x r f h e d s = silently m x s r (moved 1 s) (starts_in f s.rest) h e (d s)
 
-  module _ {m : Mode} {e : Expression} (f : ℕ → Bool) (tight : IsTight g classes m) (one : HasOutcome g classes (Run m e) (character_outcome f) (λ s. 0)) where
+  module _ (m : Mode) (e : Expression) (f : ℕ → Bool) (tight : IsTight g classes m) (one : HasOutcome g classes (Run m e) (character_outcome f) (λ s. 0)) where
     turns : (p : ℕ) (cs : Text) (ts : List Text) → Quiet (Turns m e) (here p cs ts) (Success (moved (span_of f cs) (here p cs ts)) None')
     turns p [] ts =
         let k = tight (here p [] ts) in

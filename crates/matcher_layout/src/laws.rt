@@ -1,5 +1,5 @@
 //! Laws over the definitions alone.
-ghost use Rattle.std.specs.Prelude.{◌≡◌, ◌*◌, ◌==◌, ◌&&◌, ◌||◌, ℕ, List, [], IsUtf8, Some, chars, codes, if◌then◌else◌, nat_eq, not, true};
+ghost use Rattle.std.specs.Prelude.{◌≡◌, ◌*◌, ◌==◌, ◌&&◌, ◌||◌, ℕ, Bool, List, [], IsUtf8, Some, chars, codes, false, if◌then◌else◌, nat_eq, not, true};
 ghost use Rattle.meta_base.specs.Language.Expression.{Choice, Expression, Grammar, Ident, NegPred, Rep, Rule, Seq, rule_of};
 ghost use Rattle.meta_base.specs.Language.FurthestFailure.{furthest, place_of};
 ghost use Rattle.meta_base.specs.Language.Meaning.{Does, Run, Task, body_mode, gives_token, seen_from};
