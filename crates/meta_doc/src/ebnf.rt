@@ -4,7 +4,7 @@ ghost use Rattle.meta_ast.specs.Ast.{rules_of};
 ghost use Rattle.meta_markup.specs.Pages.{AreDefinitions};
 
 use crate::read::GrammarDoc;
-use crate::terms::push_expression;
+use crate::terms::expression_tokens;
 use meta_ast::ast;
 use meta_ast::ast::RuleType;
 use meta_markup::{EbnfToken, EbnfWord, push_definition};
@@ -29,8 +29,7 @@ fn body_of<'r>(
     rule: &'r ast::Rule,
     numbers: &HashMap<String, usize>,
 ) -> Result<Vec<EbnfToken<'r>>, AllocError> {
-    let mut tokens = Vec::new(alloc);
-    push_expression(alloc, &rule.expr, numbers, &mut tokens)?;
+    let mut tokens = expression_tokens(alloc, &rule.expr, numbers)?;
     let modifier = comment_of(rule.ty);
     if !modifier.is_empty() {
         tokens.push(EbnfToken::Word(EbnfWord::Blank))?;

@@ -49,8 +49,11 @@ struct SourceReader<'i> {
     is_named: bool,
 }
 
-/// Reads the comments and the texts of a grammar's rules. The only fault is an allocation failure.
-pub fn read_source<'i>(alloc: Global, pairs: Pairs<'i, Rule>) -> Result<GrammarSource<'i>, Fault> {
+/// Reads the comments and the texts of a grammar's rules. The only error is an allocation failure.
+pub fn read_source<'i>(
+    alloc: Global,
+    pairs: Pairs<'i, Rule>,
+) -> Result<GrammarSource<'i>, AllocError> {
     let mut reader = SourceReader {
         alloc,
         text: pairs.get_input(),
@@ -63,12 +66,27 @@ pub fn read_source<'i>(alloc: Global, pairs: Pairs<'i, Rule>) -> Result<GrammarS
         end: 0,
         is_named: false,
     };
-    for pair in pairs.flatten(alloc)? {
-        reader.read(pair?)?;
+    let pairs = match pairs.flatten(alloc) {
+        Ok(pairs) => pairs,
+        Err(fault) => return Err(to_alloc_error(fault)),
+    };
+    for pair in pairs {
+        match pair {
+            Ok(pair) => reader.read(pair)?,
+            Err(fault) => return Err(to_alloc_error(fault)),
+        }
     }
     reader.finish_rule()?;
     let SourceReader { source, .. } = reader;
     Ok(source)
+}
+
+/// The error of a walk over pairs, of which each is an allocation failure.
+fn to_alloc_error(fault: Fault) -> AllocError {
+    match fault {
+        Fault::Memory(error) => error,
+        Fault::Grammar(_) => AllocError,
+    }
 }
 
 impl<'i> SourceReader<'i> {

@@ -24,39 +24,48 @@ enum TermStep<'e> {
 
 /// The tokens so far.
 #[derive(Drop)]
-struct TermWriter<'e, 't> {
+struct TermWriter<'e> {
     alloc: Global,
-    tokens: &'t mut Vec<EbnfToken<'e>>,
+    tokens: Vec<EbnfToken<'e>>,
     /// The steps that are still to be done, the next one last.
     steps: Vec<TermStep<'e>>,
 }
 
-/// Adds the tokens of an expression. The only error is an allocation failure.
-pub fn push_expression<'e>(
+/// Returns the tokens of an expression. The only error is an allocation failure.
+pub fn expression_tokens<'e>(
     alloc: Global,
     expr: &'e Expr,
     numbers: &HashMap<String, usize>,
-    tokens: &mut Vec<EbnfToken<'e>>,
-) -> Result<(), AllocError> {
+) -> Result<Vec<EbnfToken<'e>>, AllocError> {
     let mut writer = TermWriter {
         alloc,
-        tokens,
+        tokens: Vec::new(alloc),
         steps: Vec::new(alloc),
     };
-    writer
-        .steps
-        .push(TermStep::Visit(expr, TermContext::Alternative))?;
+    writer.later(TermStep::Visit(expr, TermContext::Alternative))?;
     for _ in 0..u64::MAX {
-        match writer.steps.pop() {
-            Some(TermStep::Token(token)) => writer.tokens.push(token)?,
-            Some(TermStep::Visit(expr, context)) => writer.visit(expr, context, numbers)?,
-            None => break,
-        }
+        let Some(step) = writer.steps.pop() else {
+            break;
+        };
+        writer.run(step, numbers)?;
     }
-    Ok(())
+    let TermWriter { tokens, .. } = writer;
+    Ok(tokens)
 }
 
-impl<'e> TermWriter<'e, '_> {
+impl<'e> TermWriter<'e> {
+    /// Runs a step.
+    fn run(
+        &mut self,
+        step: TermStep<'e>,
+        numbers: &HashMap<String, usize>,
+    ) -> Result<(), AllocError> {
+        match step {
+            TermStep::Token(token) => Ok(self.tokens.push(token)?),
+            TermStep::Visit(expr, context) => self.visit(expr, context, numbers),
+        }
+    }
+
     /// Writes an expression, or adds the steps that write it.
     fn visit(
         &mut self,
@@ -325,7 +334,7 @@ impl Times {
 
 /// Whether a text is one string of EBNF.
 fn is_string(text: &str) -> bool {
-    text.chars().all(is_plain)
+    text.chars().all(|c| is_plain(c))
 }
 
 /// The ranges of the characters that a builtin matches; none for a builtin that is no class of ASCII

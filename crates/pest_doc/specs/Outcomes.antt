@@ -35,11 +35,13 @@ pub record SpellsRules (text : List ℕ) (rules : Grammar) : Type 0 where
   pub flawless : first_flaw_of pairs ≡ None
   pub are_rules : AreRulesOf pairs rules
 
--- why a text is refused: it is no grammar, its names are not in order, or it has a flaw; or an allocation fails
+-- why a text is refused: it is no grammar, its names are not in order, it has a flaw, or an allocation fails
 pub data RefusesText (text : List ℕ) (f : Fault) : Type 0 where
   no_grammar : ParseRefuses grammar_rules text f → RefusesText text f
-  misnamed : (pairs : Pairs Rule) → ArePairsOf text pairs → IsNameRefusal (complaints_of pairs) f → RefusesText text f
-  flawed : (pairs : Pairs Rule) → ArePairsOf text pairs → IsReadRefusal (first_flaw_of pairs) f → RefusesText text f
+  misnamed : (pairs : Pairs Rule) → ArePairsOf text pairs → IsNameRefusal (complaints_of pairs) f
+      → RefusesText text f
+  flawed : (pairs : Pairs Rule) → ArePairsOf text pairs → IsReadRefusal (first_flaw_of pairs) f
+      → RefusesText text f
 
 -- a document of rules, in a format, under a title
 abbrev pub IsDocumentOf : Format → List ℕ → Grammar → String Global → Type 0

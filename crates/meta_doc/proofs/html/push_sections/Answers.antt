@@ -1,0 +1,15 @@
+use Rattle.std.proofs.Common.{◌≡◌, ◌<◌, ◌∙◌, ap, arith, get_or, length, string_bytes}
+use Rattle.meta_doc.proofs.Gaining.{one_section_more, no_sections_yet, rules_more}
+use Rattle.meta_doc.proofs.html.push_sections.Goals as goal
+
+pub loop-number-init : goal.loop-number-init
+loop-number-init c = no_sections_yet c.args.names.now (string_bytes c.args.page.now)
+
+pub loop-number-preserved : goal.loop-number-preserved
+loop-number-preserved c =
+    let items = c.args.doc.now.rules.value.items in
+    let same = c.deref-rule-items.ensures.value in
+    let small : c.loop-number.number < length items = omega (arith, ap length same) in
+    one_section_more _ _ _ _ _ _ _ _ _ c.loop-number.invariant c.in_ok-push_section.ensures
+    (rules_more items c.loop-number.number c.rule-item.result small
+    (c.rule-item.is ∙ ap (λ xs. get_or xs c.loop-number.number c.rule-item.result) same))
