@@ -1,3 +1,5 @@
+pub mod Decoding
+pub mod Depths
 pub mod Floats
 pub mod Lists
 pub mod PlacedFloats

@@ -5,6 +5,7 @@ mod answers;
 mod ast;
 mod errors;
 mod expressions;
+pub mod laws;
 mod nodes;
 mod optimized;
 mod placed;

@@ -21,7 +21,8 @@ use std::alloc::{AllocError, Global};
 /// Returns rules as JSON. The only error is an allocation failure.
 #[tactic(auto, using(crate::proofs::Floats::rules_without_floats))]
 pub fn rules_text(alloc: Global, rules: &[Rule]) -> Result<String, AllocError>
-    ensures { IfOk result (λ text. string_bytes text ≡ compact_text (rules_data rules.now)) }
+    ensures text { IfOk result (λ text. string_bytes text ≡ compact_text (rules_data rules.now)) }
+    ensures reads_back { IfOk result (λ text. AreRules (string_bytes text) rules.now) }
 {
     rules_value(alloc, rules)?.to_string(alloc)
 }
@@ -29,7 +30,8 @@ pub fn rules_text(alloc: Global, rules: &[Rule]) -> Result<String, AllocError>
 /// Returns optimized rules as JSON. The only error is an allocation failure.
 #[tactic(auto, using(crate::proofs::Floats::optimized_without_floats))]
 pub fn optimized_rules_text(alloc: Global, rules: &[OptimizedRule]) -> Result<String, AllocError>
-    ensures { IfOk result (λ text. string_bytes text ≡ compact_text (optimized_rules_data rules.now)) }
+    ensures text { IfOk result (λ text. string_bytes text ≡ compact_text (optimized_rules_data rules.now)) }
+    ensures reads_back { IfOk result (λ text. AreOptimizedRules (string_bytes text) rules.now) }
 {
     optimized_rules_value(alloc, rules)?.to_string(alloc)
 }

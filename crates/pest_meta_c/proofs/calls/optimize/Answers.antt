@@ -8,7 +8,7 @@ use Rattle.pest_meta_c.proofs.calls.optimize.Goals as goal
 
 pub returns-in-Ok-optimize-clause-answered : goal.returns-in-Ok-optimize-clause-answered
 returns-in-Ok-optimize-clause-answered c =
-    answered_from (AreOptimized c.args.json.now) (optimized_rules_data c.deref.result.now) c.optimized_rules_text-json.result c.to_outcome.result c.optimized_rules_text-json.ensures
+    answered_from (AreOptimized c.args.json.now) (optimized_rules_data c.deref.result.now) c.optimized_rules_text-json.result c.to_outcome.result c.optimized_rules_text-json.ensures.text
     (λ bytes e. record {
       rules = c.in-Ok.rules.items;
       read = c.in-Ok.ensures.rules;

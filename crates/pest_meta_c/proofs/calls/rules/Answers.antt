@@ -18,7 +18,7 @@ pub returns-in-Ok-clause-answered : goal.returns-in-Ok-clause-answered
 returns-in-Ok-clause-answered c =
     let text = c.args.text.now in
     let read = c.in-Ok in
-    answered_from (AreRules text) (rules_data c.deref.result.now) c.rules_text-json.result c.to_outcome.result c.rules_text-json.ensures
+    answered_from (AreRules text) (rules_data c.deref.result.now) c.rules_text-json.result c.to_outcome.result c.rules_text-json.ensures.text
     (λ bytes e. rules_answered text bytes c.in_ok-pairs.pairs read.rules.items c.in_ok-pairs.ensures.text c.in_ok-pairs.ensures.spelled read.ensures.rules read.ensures.counts (e ∙ ap (λ xs. compact_text (rules_data xs)) c.deref.ensures.value))
     c.to_outcome.ensures.answered
 
