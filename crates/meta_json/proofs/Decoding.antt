@@ -17,7 +17,18 @@ use Rattle.meta_ast.specs.declared.optimized.OptimizedExpr as optimized
 use Rattle.meta_ast.specs.declared.optimized.OptimizedRule.{OptimizedRule}
 use Rattle.meta_json.specs.Format.{end_data, nodes_of, optimized_nodes_of, place_data, text_data, type_name}
 use Rattle.meta_json.specs.Reading.{AreOptimizedRules, AreRules, Members, members_of, members_of_optimized, members_of_rule, rule_members}
-use Rattle.meta_json.proofs.Readable.{arrays_one}
+
+items_one : (ds es : List Data) → items_of ds ≡ items_of es → ds ≡ es
+items_one [] [] h = refl
+items_one [] (e ∷ es) h = cc
+items_one (d ∷ ds) [] h = cc
+items_one (d ∷ ds) (e ∷ es) h =
+    let inner : items_of ds ≡ items_of es = cc in
+    let rest = items_one ds es inner in
+    cc
+
+pub arrays_one : (ds es : List Data) → ◌≡◌ {A = Option Data} (Some (array (items_of ds))) (Some (array (items_of es))) → ds ≡ es
+arrays_one ds es h = let inner : items_of ds ≡ items_of es = cc in items_one ds es inner
 
 abbrev unary : (Expression → Expression) → List Expression → List Expression
 unary f [] = []

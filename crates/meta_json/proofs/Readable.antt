@@ -26,18 +26,7 @@ use Rattle.meta_json.specs.declared.refusal.RefusalReason.TheVariants as is
 use Rattle.meta_json.specs.declared.refusal.Unread.{Unread}
 use Rattle.meta_json.specs.declared.refusal.Unread.TheVariants as unread
 use Rattle.meta_json.proofs.Counting.{counted, optimized_counted}
-
-items_one : (ds es : List Data) → items_of ds ≡ items_of es → ds ≡ es
-items_one [] [] h = refl
-items_one [] (e ∷ es) h = cc
-items_one (d ∷ ds) [] h = cc
-items_one (d ∷ ds) (e ∷ es) h =
-    let inner : items_of ds ≡ items_of es = cc in
-    let rest = items_one ds es inner in
-    cc
-
-pub arrays_one : (ds es : List Data) → ◌≡◌ {A = Option Data} (Some (array (items_of ds))) (Some (array (items_of es))) → ds ≡ es
-arrays_one ds es h = let inner : items_of ds ≡ items_of es = cc in items_one ds es inner
+use Rattle.meta_json.proofs.Decoding.{arrays_one}
 
 -- a node before nodes that are counted, where both together are
 opened : (o a : Option ℕ) (n : ℕ) → option_and_then (λ m. option_and_then (add_node m) a) o ≡ Some n → (m : ℕ) × (k : ℕ) × (o ≡ Some m) × (a ≡ Some k) × (add_node m k ≡ Some n)
