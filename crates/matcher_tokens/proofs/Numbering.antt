@@ -11,7 +11,7 @@ use Rattle.meta_base.specs.Language.Text.{Text}
 use Rattle.meta_matcher.specs.ExpectedNames.{name_texts}
 use Rattle.meta_matcher.specs.Written.{entry_of, seen}
 use Rattle.meta_matcher.specs.declared.entries.Entry as code
-use Rattle.matcher_tokens.specs.Numbers.{entry_numbers, rule_number, rule_numbers, token_numbers}
+use Rattle.matcher_tokens.specs.Numbers.{entry_numbers, number_of, rule_number, rule_numbers, token_numbers}
 
 -- the last rule of a name, with none of that name after it
 last_found : (g : Grammar) (i : ℕ) (d : Rule) (n : Text) → i < length g → last_place (drop (suc i) g) n ≡ None → bytes_eq (get_or g i d).name n ≡ true → last_place g n ≡ Some i
@@ -52,11 +52,15 @@ module _ (rs : List OptimizedRule) (below next : ℕ) (rule : OptimizedRule) (n 
   pub that_name : bytes_eq (optimized_rule_of rule).name n ≡ true → next + 1 ≡ rule_number (map optimized_rule_of rs) n
   that_name h =
       let x = last_found (map optimized_rule_of rs) next (optimized_rule_of rule) n within after (rw at_next h) in
-      rw x (omega arith)
+      let e : next + 1 ≡ suc next = omega arith in
+      e ∙ ap (λ o. number_of o (length (map optimized_rule_of rs))) (sym x)
 
 -- no rule has the name
 pub no_such_name : (rs : List OptimizedRule) (n : Text) → last_place (map optimized_rule_of rs) n ≡ None → length rs + 1 ≡ rule_number (map optimized_rule_of rs) n
-no_such_name rs n u = let l = length-map rs optimized_rule_of in rw u (omega (arith, l))
+no_such_name rs n u =
+    let l = length-map rs optimized_rule_of in
+    let e : length rs + 1 ≡ suc (length (map optimized_rule_of rs)) = omega (arith, l) in
+    e ∙ ap (λ o. number_of o (length (map optimized_rule_of rs))) (sym u)
 
 -- one entry more is written
 pub one_entry : (g : Grammar) (old new whole : List ℕ) (es : List code.Entry) (i : ℕ) (d : code.Entry) → i < length es → old ++ token_numbers g (seen (drop i es)) ≡ whole → new ≡ old ++ entry_numbers g (entry_of (get_or es i d)) → new ++ token_numbers g (seen (drop (i + 1) es)) ≡ whole

@@ -1,16 +1,18 @@
 -- Tokens, and the rules that are expected at a failure, as numbers.
-use Rattle.std.specs.Prelude.{ℕ, suc, List, [], ◌∷◌, ◌++◌, Some, None, length, map}
+use Rattle.std.specs.Prelude.{ℕ, suc, List, [], ◌∷◌, ◌++◌, Option, Some, None, length, map}
 use Rattle.meta_base.specs.Language.Expression.{Grammar, last_place}
 use Rattle.meta_base.specs.Language.State.{Trees}
 use Rattle.meta_base.specs.Language.Text.{Text}
 use Rattle.meta_syntax.specs.Entries.{Entry, Starts, Ends, entries_of}
 
+-- one more than an index, or than a count if there is no index
+abbrev pub number_of : Option ℕ → ℕ → ℕ
+number_of (Some i) count = suc i
+number_of None count = suc count
+
 -- one more than the index of the last rule of a name, or the number after all rules if none has it
 abbrev pub rule_number : Grammar → Text → ℕ
-rule_number g n = elim (last_place g n) [
-  | Some i ↦ suc i
-  | None ↦ suc (length g)
-]
+rule_number g n = number_of (last_place g n) (length g)
 
 -- the numbers of names
 abbrev pub rule_numbers : Grammar → List Text → List ℕ

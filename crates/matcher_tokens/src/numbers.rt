@@ -48,7 +48,7 @@ fn push_entry(
     entry: Entry<'_>,
 ) -> Result<(), AllocError>
     ensures { OnOk result (numbers.new.items
-        ≡ numbers.old.items ++ entry_numbers (optimized_rules_of rules.now) (entry_of entry)) }
+        ≡ numbers.old.items ++ entry_numbers (optimized_rules_of rules.now) (entry_of entry.entry)) }
 {
     match entry {
         Entry::Start { rule, pos, partner } => {

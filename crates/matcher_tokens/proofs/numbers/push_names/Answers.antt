@@ -4,7 +4,7 @@ use Rattle.matcher_tokens.proofs.numbers.push_names.Goals as goal
 
 pub loop-name-preserved : goal.loop-name-preserved
 loop-name-preserved c =
-    one_name (optimized_rules_of c.args.rules.now) _ _ _ c.args.names.now c.loop-name.name-index c.rule_number.result _ c.loop-name-test.true c.loop-name.invariant c.rule_number.ensures c.in_ok-push.ensures
+    one_name (optimized_rules_of c.args.rules.now) _ _ _ c.args.names.now c.loop-name.name-index c.rule_number.result _ c.loop-name-test.true c.loop-name.invariant c.rule_number.ensures c.in_ok-push.ensures.items
 
 pub returns : goal.returns
 returns c =

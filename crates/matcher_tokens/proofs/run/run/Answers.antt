@@ -12,8 +12,8 @@ pub returns-in-Ok-expected_at : goal.returns-in-Ok-expected_at
 returns-in-Ok-expected_at c =
     let program = c.in-Ok.matcher.program in
     let refused = rw c.in-Err-NoMatch.field-0-is at c.in-Err-NoMatch.ensures.refused in
-    let names = rw c.in-Err-NoMatch.field-0-is at c.in-Ok-expected_at.ensures.expected in
-    let told = rw (c.deref.ensures.value, c.in-Err-NoMatch.field-0-is) at c.failed_outcome.ensures in
+    let names = c.in-Ok-expected_at.ensures.expected in
+    let told = rw c.deref-in-Ok-expected_at.ensures.value at c.failed_outcome.ensures in
     let F : Grammar → Type 0 = λ g. IsFailureOutcome g c.in-Err-NoMatch.place (name_texts c.in-Ok-expected_at.names.items) c.failed_outcome.result in
     let P : Grammar → Type 0 = λ g. IsRunOutcome g (chars c.args.rule.now) c.args.text.now c.args.steps c.failed_outcome.result in
     subst P c.in-Ok.ensures.means
@@ -36,7 +36,7 @@ returns c =
     let program = c.in-Ok.matcher.program in
     let why = c.in-Err-Stopped.stop in
     let says = rw c.in-Err-Stopped.field-0-is at c.in-Err-Stopped.ensures.refused in
-    let same : c.stopped_outcome-in-Err-Stopped.result ≡ stopped_outcome why = rw c.in-Err-Stopped.field-0-is at c.stopped_outcome-in-Err-Stopped.ensures in
+    let same : c.stopped_outcome-in-Err-Stopped.result ≡ stopped_outcome why = c.stopped_outcome-in-Err-Stopped.ensures in
     let P : MatchOutcome → Type 0 = λ o. IsRunOutcome (optimized_rules_of c.args.rules.now) (chars c.args.rule.now) c.args.text.now c.args.steps o in
     let Q : Grammar → Type 0 = λ g. IsRunOutcome g (chars c.args.rule.now) c.args.text.now c.args.steps (stopped_outcome why) in
     subst P (sym same) (subst Q c.in-Ok.ensures.means (stopped (grammar_of program.rows.items) program.properties.items (chars c.args.rule.now) c.args.text.now c.args.steps why c.in-Ok.ensures.fits says))
