@@ -1,7 +1,7 @@
 -- Nodes in preorder are those of one expression at most.
-use Rattle.std.proofs.Common.{◌≡◌, ℕ, ℤ, pos, negsuc, cond, bytes_eq, Option, Some, None, List, [], ◌∷◌, ◌++◌, String, Global, map, refl, sym, ap, ap₂, ◌∙◌, codes, append_assoc, append-nil, string_bytes}
+use Rattle.std.proofs.Common.{◌≡◌, ℕ, ℤ, pos, negsuc, cond, bytes_eq, Option, Some, None, List, [], ◌∷◌, ◌++◌, String, Global, map, refl, sym, ap, ap₂, ◌∙◌, codes, append_assoc, string_bytes}
 use Rattle.std.specs.Str.{chars}
-use Rattle.serde_json.specs.Data.{Data, Items, Num, array, boolean, item, no_items, null, number, object, string, unsigned, negative, float}
+use Rattle.serde_json.specs.Data.{Data, Items, Num, array, item, no_items, number, string, unsigned, negative, float}
 use Rattle.serde_json.specs.Read.{read}
 use Rattle.serde_json.specs.View.{items_of}
 use Rattle.meta_base.specs.Language.Text.{Text}

@@ -1,15 +1,14 @@
 -- What is written nests a few levels deep, so its text is read back.
 use Rattle.std.proofs.Common.{◌≡◌, ◌≤◌, ℕ, ℤ, max, Option, Some, None, Result, Ok, Err, IfOk, List, [], ◌∷◌, ◌++◌, String, Global, map, refl, sym, ap, ap₂, ◌∙◌, subst, arith}
-use Rattle.std.proofs.lemmas.Simd.{map-map}
-use Rattle.serde_json.specs.Data.{Data, array, depth, items_depth}
+use Rattle.serde_json.specs.Data.{Data, depth, items_depth}
 use Rattle.serde_json.specs.Read.{max_depth, read}
 use Rattle.serde_json.specs.View.{items_of}
 use Rattle.meta_ast.specs.declared.ast.Rule as bare_rule
 use Rattle.meta_ast.specs.declared.ast.Expr as bare
 use Rattle.meta_ast.specs.declared.optimized.OptimizedExpr as optimized
 use Rattle.meta_ast.specs.declared.optimized.OptimizedRule.{OptimizedRule}
-use Rattle.meta_json.specs.Format.{end_data, nodes_of, optimized_nodes_of, optimized_rules_data, place_data, rule_data, rules_data, text_data, texts_data}
-use Rattle.meta_json.specs.Reading.{AreOptimizedRules, AreRules, Lists, Members, members_of, members_of_optimized, members_of_rule}
+use Rattle.meta_json.specs.Format.{end_data, nodes_of, optimized_nodes_of, optimized_rules_data, rule_data, rules_data, text_data}
+use Rattle.meta_json.specs.Reading.{AreOptimizedRules, AreRules, Members, members_of, members_of_optimized, members_of_rule}
 use Rattle.std.specs.Prelude.{string_bytes as bytes_of}
 
 both : (a b n : ℕ) → a ≤ n → b ≤ n → max a b ≤ n
@@ -32,9 +31,6 @@ texts_depth ss = map_depth text_data 0 (λ s. omega arith) ss
 end_depth : (j : Option ℤ) → depth (end_data j) ≤ 0
 end_depth None = omega arith
 end_depth (Some z) = omega arith
-
-then_depth : (n m : ℕ) → n ≤ 2 → m ≤ 2 → max n m ≤ 2
-then_depth n m h k = both n m 2 h k
 
 pub nodes_depth : (e : bare.Expr) → items_depth (items_of (nodes_of e)) ≤ 2
 nodes_depth (bare.Str s) = omega arith
