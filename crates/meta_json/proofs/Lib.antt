@@ -1,12 +1,8 @@
-pub mod Counting
 pub mod Decoding
 pub mod Depths
-pub mod Fitting
 pub mod Floats
 pub mod Lists
-pub mod Nodes
 pub mod PlacedFloats
-pub mod Readable
 pub mod RuleNames
 pub mod Turns
 pub mod Refused

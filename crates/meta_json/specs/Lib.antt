@@ -1,6 +1,5 @@
 pub mod Errors
 pub mod Format
-pub mod Forms
 pub mod Nodes
 pub mod Placed
 pub mod Reading

@@ -1,14 +1,8 @@
 -- Nodes without their operands, and the worklist of the writer; the proofs of the code use these.
-use Rattle.std.specs.Prelude.{◌≡◌, ◌<◌, ℕ, ◌+◌, List, [], ◌∷◌, ◌++◌, Bool, true, false, None, Some, codes, ⊤}
+use Rattle.std.specs.Prelude.{ℕ, ◌+◌, List, [], ◌∷◌, ◌++◌, codes}
 use Rattle.std.specs.Borrow.{Bor}
 use Rattle.serde_json.specs.Data.{Data, string}
-use Rattle.serde_json.specs.Find.{as_array}
 use Rattle.meta_json.specs.Format.{count_data, end_data, form, form_with, form_with_two, place_data, texts_data}
-use Rattle.meta_json.specs.Forms.{form_of, has_arguments, operand_count}
-use Rattle.meta_json.specs.Refusals.{IsWrongNode}
-use Rattle.meta_json.specs.declared.refusal.RefusalReason.TheVariants as is
-use Rattle.meta_json.specs.declared.refusal.Unread.{Unread}
-use Rattle.meta_json.specs.declared.refusal.Unread.TheVariants as unread
 use Rattle.meta_json.specs.declared.expressions.NodeOperands.{NodeOperands}
 use Rattle.meta_json.specs.declared.expressions.NodeOperands.TheVariants as operands
 use Rattle.meta_json.specs.declared.nodes.JsonNode.{JsonNode}
@@ -64,49 +58,3 @@ module _ {E : Type 0} (heft : E → ℕ) where
   heft_of_operands operands.None = 0
   heft_of_operands (operands.One x) = heft x.now
   heft_of_operands (operands.Two x y) = heft x.now + heft y.now
-
--- the form of these arguments is refused, or memory was
-abbrev pub IsUnfit : Bool → Unread → Type 0
-IsUnfit fits unread.Memory = ⊤
-IsUnfit fits (unread.Reason is.Form) = fits ≡ false
-IsUnfit fits (unread.Reason _) = ⊥
-IsUnfit fits (unread.At node why) = ⊥
-
--- the value is no node, whatever the forms are, or memory was refused
-abbrev pub IsNoNode : Data → Unread → Type 0
-IsNoNode d unread.Memory = ⊤
-IsNoNode d (unread.Reason is.Node) = form_of d ≡ None
-IsNoNode d (unread.Reason is.Form) =
-    (form : List ℕ) × (form_of d ≡ Some form) × (has_arguments form (as_array d) ≡ false)
-IsNoNode d (unread.Reason _) = ⊥
-IsNoNode d (unread.At node why) = ⊥
-
--- the value is a node of some form
-abbrev pub IsSomeNode : Data → Type 0
-IsSomeNode d = (form : List ℕ) × (form_of d ≡ Some form) × (has_arguments form (as_array d) ≡ true)
-
--- no expression is built of a node of that form: the form is none of these, or too few operands wait
-abbrev pub IsUnbuilt : (List ℕ → Bool) → ℕ → Unread → List ℕ → Type 0
-IsUnbuilt is_known waiting unread.Memory form = ⊤
-IsUnbuilt is_known waiting (unread.Reason is.Form) form = is_known form ≡ false
-IsUnbuilt is_known waiting (unread.Reason is.Operands) form =
-    (is_known form ≡ true) × (waiting < operand_count form)
-IsUnbuilt is_known waiting (unread.Reason _) form = ⊥
-IsUnbuilt is_known waiting (unread.At node why) form = ⊥
-
--- a node of that form is one of these, and took its operands from those that waited
-abbrev pub TakesOperands : (List ℕ → Bool) → ℕ → ℕ → List ℕ → Type 0
-TakesOperands is_known old new form = (is_known form ≡ true) × (old ≡ new + operand_count form)
-
--- a node is refused where so many operands wait, or memory is
-abbrev pub IsUnread : (List ℕ → Bool) → Data → ℕ → Unread → Type 0
-IsUnread is_known d waiting unread.Memory = ⊤
-IsUnread is_known d waiting (unread.Reason why) = IsWrongNode is_known d waiting why
-IsUnread is_known d waiting (unread.At node why) = ⊥
-
--- too few operands wait, or memory was refused
-abbrev pub IsShort : ℕ → ℕ → Unread → Type 0
-IsShort waiting wanted unread.Memory = ⊤
-IsShort waiting wanted (unread.Reason is.Operands) = waiting < wanted
-IsShort waiting wanted (unread.Reason _) = ⊥
-IsShort waiting wanted (unread.At node why) = ⊥

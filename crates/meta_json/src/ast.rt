@@ -2,7 +2,6 @@
 ghost use Rattle.meta_ast.specs.Ast.{expression_of};
 ghost use Rattle.meta_ast.specs.Weight.{weight};
 ghost use Rattle.meta_json.specs.Format.{nodes_of};
-ghost use Rattle.meta_json.specs.Forms.{is_form};
 
 use crate::expressions::{AsNodes, FromNodes, NodeOperands, one_operand, two_operands};
 use crate::nodes::{JsonNode, copies};
@@ -69,8 +68,6 @@ impl AsNodes for Expr {
 }
 
 impl FromNodes for Expr {
-    ghost is_known = { is_form };
-
     #[tactic(auto, using(crate::proofs::Turns::in_turn_last, crate::proofs::Turns::in_turn_last_two))]
     fn of_node(
         alloc: Global,

@@ -1,10 +1,8 @@
 //! Expressions as lists of nodes in preorder, and read back. Stack use does not depend on nesting depth.
-ghost use Rattle.std.specs.Prelude.{◌≡◌, ◌<◌, ◌+◌, ◌++◌, ℕ, List, [], ◌∷◌, Bool, IfErr, IfOk, IfSome, OnOk, length, map, option_and_then};
+ghost use Rattle.std.specs.Prelude.{◌≡◌, ◌<◌, ◌+◌, ◌++◌, ℕ, List, [], ◌∷◌, IfOk, OnOk, map};
 ghost use Rattle.serde_json.specs.Data.{Data};
 ghost use Rattle.serde_json.specs.View.{view};
-ghost use Rattle.meta_json.specs.Forms.{arity, form_of, add_node};
-ghost use Rattle.meta_json.specs.Refusals.{IsWrongBody};
-ghost use Rattle.meta_json.specs.Nodes.{IsShort, IsUnbuilt, IsUnread, TakesOperands, heft_now, heft_of_operands, in_turn, node_data, nodes_of_operands, now_in_turn};
+ghost use Rattle.meta_json.specs.Nodes.{heft_now, heft_of_operands, in_turn, node_data, nodes_of_operands, now_in_turn};
 
 use crate::nodes::JsonNode;
 use crate::refusal::{RefusalReason, Unread};
@@ -37,9 +35,6 @@ pub(crate) trait AsNodes {
 
 /// Expressions that are also read from nodes.
 pub(crate) trait FromNodes: AsNodes + Release {
-    // the forms of nodes of these expressions
-    ghost is_known: { List ℕ → Bool };
-
     /// Builds the expression of a node. Its operands are popped from the end of the list, the first one
     /// first.
     fn of_node(
@@ -47,12 +42,8 @@ pub(crate) trait FromNodes: AsNodes + Release {
         node: JsonNode<'_>,
         operands: &mut Deep<Vec<Self>>,
     ) -> Result<Self, Unread>
-        ensures nodes { IfOk result (λ expr. Self.nodes expr ++ in_turn Self.nodes operands.new.value.items
-            ≡ node_data node.entry ∷ in_turn Self.nodes operands.old.value.items) }
-        ensures operands { IfOk result (λ expr. IfSome (form_of (node_data node.entry))
-            (TakesOperands is_known (length operands.old.value.items) (length operands.new.value.items))) }
-        ensures refused { IfErr result (λ unread. IfSome (form_of (node_data node.entry))
-            (IsUnbuilt is_known (length operands.old.value.items) unread)) };
+        ensures { IfOk result (λ expr. Self.nodes expr ++ in_turn Self.nodes operands.new.value.items
+            ≡ node_data node.entry ∷ in_turn Self.nodes operands.old.value.items) };
 }
 
 /// Returns the nodes of an expression in preorder, as values.
@@ -99,8 +90,7 @@ fn put<'a, E: AsNodes>(
 /// Builds the expression whose nodes in preorder these values are. Reads them from the last to the first.
 #[tactic(auto, using(crate::proofs::Turns::in_turn_last))]
 pub(crate) fn expression_of<E: FromNodes>(alloc: Global, nodes: &[Value]) -> Result<E, Unread>
-    ensures nodes { IfOk result (λ expr. E.nodes expr ≡ map view nodes.now) }
-    ensures refused { IfErr result (IsWrongBody E.is_known (map view nodes.now)) }
+    ensures { IfOk result (λ expr. E.nodes expr ≡ map view nodes.now) }
 {
     let mut operands = Deep {
         value: Vec::new(alloc),
@@ -123,17 +113,14 @@ pub(crate) fn expression_of<E: FromNodes>(alloc: Global, nodes: &[Value]) -> Res
 }
 
 /// Builds the expression of a node, and replaces its operands on the list by it.
-#[tactic(auto, using(crate::proofs::Turns::in_turn_last, crate::proofs::Nodes::no_node, crate::proofs::Nodes::unbuilt, crate::proofs::Nodes::taken))]
+#[tactic(auto, using(crate::proofs::Turns::in_turn_last))]
 fn expression_with<E: FromNodes>(
     alloc: Global,
     node: &Value,
     operands: &mut Deep<Vec<E>>,
 ) -> Result<(), Unread>
-    ensures nodes { OnOk result (in_turn E.nodes operands.new.value.items
+    ensures { OnOk result (in_turn E.nodes operands.new.value.items
         ≡ view node.now ∷ in_turn E.nodes operands.old.value.items) }
-    ensures count { OnOk result (option_and_then (add_node (length operands.old.value.items))
-        (arity E.is_known (view node.now)) ≡ Some (length operands.new.value.items)) }
-    ensures refused { IfErr result (IsUnread E.is_known (view node.now) (length operands.old.value.items)) }
 {
     let expr = E::of_node(alloc, JsonNode::of_value(alloc, node)?, operands)?;
     operands.push(Deep { value: expr })?;
@@ -142,9 +129,8 @@ fn expression_with<E: FromNodes>(
 
 /// Pops an operand, in a box that is dropped iteratively.
 fn operand<E: Release>(alloc: Global, operands: &mut Deep<Vec<E>>) -> Result<Deep<Box<E>>, Unread>
-    ensures operands { IfOk result (λ taken. operands.old.value.items
+    ensures { IfOk result (λ taken. operands.old.value.items
         ≡ operands.new.value.items ++ (taken.value.value ∷ [])) }
-    ensures refused { IfErr result (IsShort (length operands.old.value.items) 1) }
 {
     match operands.value.pop() {
         Some(expr) => Ok(Deep { value: expr }.into_box(alloc)?),
@@ -157,9 +143,8 @@ pub(crate) fn one_operand<E: Release>(
     alloc: Global,
     operands: &mut Deep<Vec<E>>,
 ) -> Result<Box<E>, Unread>
-    ensures operands { IfOk result (λ taken. operands.old.value.items
+    ensures { IfOk result (λ taken. operands.old.value.items
         ≡ operands.new.value.items ++ (taken.value ∷ [])) }
-    ensures refused { IfErr result (IsShort (length operands.old.value.items) 1) }
 {
     Ok(operand(alloc, operands)?.into_inner())
 }
@@ -169,9 +154,8 @@ pub(crate) fn two_operands<E: Release>(
     alloc: Global,
     operands: &mut Deep<Vec<E>>,
 ) -> Result<(Box<E>, Box<E>), Unread>
-    ensures operands { IfOk result (λ taken. operands.old.value.items
+    ensures { IfOk result (λ taken. operands.old.value.items
         ≡ (operands.new.value.items ++ (taken.1.value ∷ [])) ++ (taken.0.value ∷ [])) }
-    ensures refused { IfErr result (IsShort (length operands.old.value.items) 2) }
 {
     let left = operand(alloc, operands)?;
     let right = operand(alloc, operands)?;

@@ -1,12 +1,9 @@
 //! Nodes of expressions as JSON: a list of a form's name and its arguments.
-ghost use Rattle.std.specs.Prelude.{◌≡◌, IfErr, IfOk, codes, true};
+ghost use Rattle.std.specs.Prelude.{◌≡◌, IfOk, codes};
 ghost use Rattle.serde_json.specs.Data.{array, item, string};
 ghost use Rattle.serde_json.specs.View.{items_view, view};
 ghost use Rattle.meta_json.specs.Format.{count_data, end_data, form as form_data, form_with, form_with_two, place_data, texts_data};
-ghost use Rattle.meta_base.specs.Language.Builtins.{is_one_of};
-ghost use Rattle.meta_json.specs.Forms.{are_texts, bare_forms, fits, fits_one, fits_two, is_count, is_end, is_index, is_text};
-ghost use Rattle.meta_json.specs.Nodes.{IsNoNode, IsSomeNode, IsUnfit, node_data};
-ghost use Rattle.serde_json.specs.Find.{as_array};
+ghost use Rattle.meta_json.specs.Nodes.{node_data};
 
 use crate::refusal::{RefusalReason, Unread};
 use serde_json::{Value, json};
@@ -70,11 +67,8 @@ impl<'a> JsonNode<'a> {
     }
 
     /// Reads a node from a value.
-    #[tactic(auto, using(crate::proofs::Nodes::some_node, crate::proofs::Nodes::no_such_node))]
     pub(crate) fn of_value(alloc: Global, value: &'a Value) -> Result<JsonNode<'a>, Unread>
-        ensures node { IfOk result (λ node. node_data node ≡ view value.now) }
-        ensures form { IfOk result (λ node. IsSomeNode (view value.now)) }
-        ensures refused { IfErr result (IsNoNode (view value.now)) }
+        ensures { IfOk result (λ node. node_data node ≡ view value.now) }
     {
         let Some(parts) = value.as_array() else {
             return Err(Unread::Reason(RefusalReason::Node));
@@ -134,10 +128,8 @@ fn skip_value(alloc: Global, texts: &[String]) -> Result<Value, AllocError>
 
 /// Returns the node of that form with these arguments.
 fn node_of<'a>(alloc: Global, form: &'a str, arguments: &'a [Value]) -> Result<JsonNode<'a>, Unread>
-    ensures node { IfOk result (λ node. node_data node
+    ensures { IfOk result (λ node. node_data node
         ≡ array (item (string form.now) (items_view arguments.now))) }
-    ensures form { IfOk result (λ node. fits form.now (items_view arguments.now) ≡ true) }
-    ensures refused { IfErr result (IsUnfit (fits form.now (items_view arguments.now))) }
 {
     match arguments {
         [] => node_alone(form),
@@ -149,9 +141,7 @@ fn node_of<'a>(alloc: Global, form: &'a str, arguments: &'a [Value]) -> Result<J
 
 /// Returns the node of that form without arguments.
 fn node_alone<'a>(form: &'a str) -> Result<JsonNode<'a>, Unread>
-    ensures node { IfOk result (λ node. node_data node ≡ form_data form.now) }
-    ensures form { IfOk result (λ node. is_one_of bare_forms form.now ≡ true) }
-    ensures refused { IfErr result (IsUnfit (is_one_of bare_forms form.now)) }
+    ensures { IfOk result (λ node. node_data node ≡ form_data form.now) }
 {
     match form {
         "pos_pred" => Ok(JsonNode::PosPred),
@@ -169,10 +159,8 @@ fn node_alone<'a>(form: &'a str) -> Result<JsonNode<'a>, Unread>
 
 /// Returns the node of that form with one argument.
 fn node_with<'a>(alloc: Global, form: &'a str, one: &'a Value) -> Result<JsonNode<'a>, Unread>
-    ensures node { IfOk result (λ node. node_data node
+    ensures { IfOk result (λ node. node_data node
         ≡ form_with form.now (view one.now)) }
-    ensures form { IfOk result (λ node. fits_one form.now (view one.now) ≡ true) }
-    ensures refused { IfErr result (IsUnfit (fits_one form.now (view one.now))) }
 {
     match form {
         "str" => Ok(JsonNode::Str(text_of(one)?)),
@@ -194,10 +182,8 @@ fn node_with_two<'a>(
     first: &'a Value,
     second: &'a Value,
 ) -> Result<JsonNode<'a>, Unread>
-    ensures node { IfOk result (λ node. node_data node
+    ensures { IfOk result (λ node. node_data node
         ≡ form_with_two form.now (view first.now) (view second.now)) }
-    ensures form { IfOk result (λ node. fits_two form.now (view first.now) (view second.now) ≡ true) }
-    ensures refused { IfErr result (IsUnfit (fits_two form.now (view first.now) (view second.now))) }
 {
     match form {
         "range" => Ok(JsonNode::Range(text_of(first)?, text_of(second)?)),
@@ -209,9 +195,7 @@ fn node_with_two<'a>(
 
 /// Returns a text, if the value is one.
 fn text_of(value: &Value) -> Result<&str, Unread>
-    ensures value { IfOk result (λ text. string text.now ≡ view value.now) }
-    ensures fits { IfOk result (λ text. is_text (view value.now) ≡ true) }
-    ensures refused { IfErr result (IsUnfit (is_text (view value.now))) }
+    ensures { IfOk result (λ text. string text.now ≡ view value.now) }
 {
     match value.as_str() {
         Some(text) => Ok(text),
@@ -221,9 +205,7 @@ fn text_of(value: &Value) -> Result<&str, Unread>
 
 /// Returns a number of 32 bits, if the value is one.
 fn count_of(value: &Value) -> Result<u32, Unread>
-    ensures value { IfOk result (λ count. count_data count ≡ view value.now) }
-    ensures fits { IfOk result (λ count. is_count (view value.now) ≡ true) }
-    ensures refused { IfErr result (IsUnfit (is_count (view value.now))) }
+    ensures { IfOk result (λ count. count_data count ≡ view value.now) }
 {
     match value.as_u64() {
         Some(count) if count <= u64::from(u32::MAX) => Ok(count as u32),
@@ -233,9 +215,7 @@ fn count_of(value: &Value) -> Result<u32, Unread>
 
 /// Returns a signed number of 32 bits, if the value is one.
 fn index_of(value: &Value) -> Result<i32, Unread>
-    ensures value { IfOk result (λ index. place_data index ≡ view value.now) }
-    ensures fits { IfOk result (λ index. is_index (view value.now) ≡ true) }
-    ensures refused { IfErr result (IsUnfit (is_index (view value.now))) }
+    ensures { IfOk result (λ index. place_data index ≡ view value.now) }
 {
     match value.as_i64() {
         Some(index) if i64::from(i32::MIN) <= index && index <= i64::from(i32::MAX) => Ok(
@@ -247,9 +227,7 @@ fn index_of(value: &Value) -> Result<i32, Unread>
 
 /// Returns a signed number of 32 bits, or `None` if the value is null.
 fn end_of(value: &Value) -> Result<Option<i32>, Unread>
-    ensures value { IfOk result (λ end. end_data end ≡ view value.now) }
-    ensures fits { IfOk result (λ end. is_end (view value.now) ≡ true) }
-    ensures refused { IfErr result (IsUnfit (is_end (view value.now))) }
+    ensures { IfOk result (λ end. end_data end ≡ view value.now) }
 {
     match value {
         Value::Null => Ok(None),
@@ -259,9 +237,7 @@ fn end_of(value: &Value) -> Result<Option<i32>, Unread>
 
 /// Returns a list of texts, if the value is one.
 fn texts_of(alloc: Global, value: &Value) -> Result<Vec<String>, Unread>
-    ensures value { IfOk result (λ texts. texts_data texts.items ≡ view value.now) }
-    ensures fits { IfOk result (λ texts. are_texts (as_array (view value.now)) ≡ true) }
-    ensures refused { IfErr result (IsUnfit (are_texts (as_array (view value.now)))) }
+    ensures { IfOk result (λ texts. texts_data texts.items ≡ view value.now) }
 {
     let Some(values) = value.as_array() else {
         return Err(Unread::Reason(RefusalReason::Form));

@@ -2,7 +2,6 @@
 ghost use Rattle.meta_ast.specs.Optimized.{optimized_expression_of};
 ghost use Rattle.meta_ast.specs.Weight.{weight};
 ghost use Rattle.meta_json.specs.Format.{optimized_nodes_of};
-ghost use Rattle.meta_json.specs.Forms.{is_optimized_form};
 
 use crate::expressions::{AsNodes, FromNodes, NodeOperands, one_operand, two_operands};
 use crate::nodes::{JsonNode, copies};
@@ -67,8 +66,6 @@ impl AsNodes for OptimizedExpr {
 }
 
 impl FromNodes for OptimizedExpr {
-    ghost is_known = { is_optimized_form };
-
     #[tactic(auto, using(crate::proofs::Turns::in_turn_last, crate::proofs::Turns::in_turn_last_two))]
     fn of_node(
         alloc: Global,

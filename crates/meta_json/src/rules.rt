@@ -7,8 +7,7 @@ ghost use Rattle.serde_json.specs.View.{items_view, view};
 ghost use Rattle.serde_json.specs.Written.{compact_text};
 ghost use Rattle.meta_json.specs.Format.{optimized_rules_data, rule_data, rules_data, type_name};
 ghost use Rattle.meta_ast.specs.declared.ast.RuleType.{RuleType};
-ghost use Rattle.meta_json.specs.Forms.{is_form, is_optimized_form};
-ghost use Rattle.meta_json.specs.Refusals.{IsNoJson, IsRefusedAsOptimizedRules, IsRefusedAsRules, IsWrongIn, IsWrongRule};
+ghost use Rattle.meta_json.specs.Refusals.{IsInRule, IsRefusedText};
 ghost use Rattle.meta_json.specs.Reading.{AreOptimizedRules, AreRules, members_of, members_of_optimized, members_of_rule, rule_members};
 
 use crate::expressions::{AsNodes, FromNodes, expression_of, nodes_of};
@@ -90,10 +89,10 @@ pub(crate) fn name_of_type(ty: RuleType) -> &'static str
 
 /// Reads rules from a text in JSON. Refuses a text that is no JSON, or no list, or has an object that is no
 /// rule, and reports the first one. An allocation failure is a refusal, too.
-#[tactic(auto, using(crate::proofs::Refused::no_json))]
+#[tactic(auto, using(crate::proofs::Refused::of_rule))]
 pub fn read_rules(alloc: Global, text: &str) -> Result<Vec<Rule>, Refusal>
     ensures rules { IfOk result (λ rules. AreRules text.now rules.items) }
-    ensures refused { IfErr result (IsRefusedAsRules text.now) }
+    ensures refused { IfErr result (IsRefusedText text.now) }
 {
     let value = value_of(alloc, text)?;
     let values = values_of(&value)?;
@@ -110,10 +109,10 @@ pub fn read_rules(alloc: Global, text: &str) -> Result<Vec<Rule>, Refusal>
 }
 
 /// Reads optimized rules from a text in JSON. Refuses as `read_rules` does.
-#[tactic(auto, using(crate::proofs::Refused::no_json))]
+#[tactic(auto, using(crate::proofs::Refused::of_rule))]
 pub fn read_optimized_rules(alloc: Global, text: &str) -> Result<Vec<OptimizedRule>, Refusal>
     ensures rules { IfOk result (λ rules. AreOptimizedRules text.now rules.items) }
-    ensures refused { IfErr result (IsRefusedAsOptimizedRules text.now) }
+    ensures refused { IfErr result (IsRefusedText text.now) }
 {
     let value = value_of(alloc, text)?;
     let values = values_of(&value)?;
@@ -132,7 +131,7 @@ pub fn read_optimized_rules(alloc: Global, text: &str) -> Result<Vec<OptimizedRu
 /// Reads a text as JSON.
 fn value_of(alloc: Global, text: &str) -> Result<Value, Refusal>
     ensures value { IfOk result (λ value. read text.now ≡ Some (view value)) }
-    ensures refused { IfErr result (IsNoJson text.now) }
+    ensures refused { IfErr result (IsRefusedText text.now) }
 {
     match Value::from_str(alloc, text) {
         Ok(value) => Ok(value),
@@ -158,9 +157,10 @@ fn values_of(value: &Value) -> Result<&Vec<Value>, Refusal>
 }
 
 /// Reads a rule from a value. `place` is its number in the list.
+#[tactic(auto, using(crate::proofs::Refused::in_its_rule))]
 fn rule_of(alloc: Global, value: &Value, place: usize) -> Result<Rule, Refusal>
     ensures members { IfOk result (λ rule. members_of (view value.now) ≡ members_of_rule rule) }
-    ensures refused { IfErr result (IsWrongIn is_form (view value.now) place) }
+    ensures refused { IfErr result (IsInRule place) }
 {
     match parts_of(alloc, value) {
         Ok((name, ty, expr)) => Ok(Rule { name, ty, expr }),
@@ -169,9 +169,10 @@ fn rule_of(alloc: Global, value: &Value, place: usize) -> Result<Rule, Refusal>
 }
 
 /// Reads an optimized rule from a value. `place` is its number in the list.
+#[tactic(auto, using(crate::proofs::Refused::in_its_rule))]
 fn optimized_rule_of(alloc: Global, value: &Value, place: usize) -> Result<OptimizedRule, Refusal>
     ensures members { IfOk result (λ rule. members_of (view value.now) ≡ members_of_optimized rule) }
-    ensures refused { IfErr result (IsWrongIn is_optimized_form (view value.now) place) }
+    ensures refused { IfErr result (IsInRule place) }
 {
     match parts_of(alloc, value) {
         Ok((name, ty, expr)) => Ok(OptimizedRule { name, ty, expr }),
@@ -180,11 +181,9 @@ fn optimized_rule_of(alloc: Global, value: &Value, place: usize) -> Result<Optim
 }
 
 /// Reads a rule's name, type and body.
-#[tactic(auto, using(crate::proofs::Refused::wrong_name, crate::proofs::Refused::wrong_type, crate::proofs::Refused::wrong_nodes, crate::proofs::Refused::wrong_body))]
 fn parts_of<E: FromNodes>(alloc: Global, value: &Value) -> Result<(String, RuleType, E), Unread>
-    ensures members { IfOk result (λ parts. members_of (view value.now)
+    ensures { IfOk result (λ parts. members_of (view value.now)
         ≡ rule_members (string_bytes parts.0) parts.1 (E.nodes parts.2)) }
-    ensures refused { IfErr result (IsWrongRule E.is_known (view value.now)) }
 {
     let name = String::from_str(alloc, name_in(value)?)?;
     let ty = type_in(value)?;

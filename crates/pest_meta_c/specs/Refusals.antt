@@ -6,7 +6,7 @@ use Rattle.meta_base.specs.Pieces.MetaRules.{name_of}
 use Rattle.meta_base.specs.declared.grammar.Rule.{Rule}
 use Rattle.meta_base.specs.declared.grammar.Rule.TheVariants as rule_is
 use Rattle.meta_base.specs.declared.runtime.errors.Error.{Error}
-use Rattle.meta_json.specs.Refusals.{IsRefusedAsRules, refusal_data}
+use Rattle.meta_json.specs.Refusals.{IsRefusedText, refusal_data}
 use Rattle.meta_json.specs.RuleNames.{IsOfNoRule}
 use Rattle.meta_json.specs.declared.refusal.RefusalLocation.{RefusalLocation}
 use Rattle.meta_json.specs.declared.refusal.RefusalLocation.TheVariants as place_is
@@ -62,11 +62,10 @@ HasNoRules text json = ReportsSuch text
 abbrev pub IsRefused : List ℕ → List ℕ → Type 0
 IsRefused text json = ReportsSuch text (IsRefusedWith text) json
 
--- the bytes are the reason why a text has no rules, and its location: no JSON, no list, or the first value
--- that is no rule
+-- the bytes are the reason why a text has no rules, and its location: no JSON, no list, or an error in a rule
 abbrev pub IsNoJson : List ℕ → List ℕ → Type 0
 IsNoJson text json = (place : RefusalLocation) × (why : RefusalReason)
-    × IsRefusedAsRules text (refusal_is.Text place why)
+    × IsRefusedText text (refusal_is.Text place why)
     × (json ≡ compact_text (refusal_data place why))
 
 -- nothing is refused
