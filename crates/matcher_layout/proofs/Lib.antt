@@ -6,3 +6,4 @@ pub mod Sets
 pub mod Ends
 pub mod Existence
 pub mod Characters
+pub mod Runs

@@ -2,3 +2,4 @@ pub mod Endings
 pub mod Laid
 pub mod Reached
 pub mod Sizes
+pub mod Results

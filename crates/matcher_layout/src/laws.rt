@@ -1,5 +1,5 @@
 //! Laws over the definitions alone.
-ghost use Rattle.std.specs.Prelude.{◌≡◌, ◌*◌, ◌==◌, ◌&&◌, ◌||◌, ℕ, Bool, List, [], IsUtf8, Some, chars, codes, false, if◌then◌else◌, nat_eq, not, true};
+ghost use Rattle.std.specs.Prelude.{◌≡◌, ◌<◌, ◌*◌, ◌==◌, ◌&&◌, ◌||◌, ℕ, Bool, List, [], IsUtf8, Some, chars, codes, false, get_or, if◌then◌else◌, nat_eq, not, true};
 ghost use Rattle.meta_base.specs.Language.Expression.{Choice, Expression, Grammar, Ident, NegPred, Rep, Rule, Seq, rule_of};
 ghost use Rattle.meta_base.specs.Language.FurthestFailure.{furthest, place_of};
 ghost use Rattle.meta_base.specs.Language.Meaning.{Does, Run, Task, body_mode, gives_token, seen_from};
@@ -8,12 +8,13 @@ ghost use Rattle.meta_base.specs.Language.Text.{Text};
 ghost use Rattle.meta_base.specs.Language.Matching.{character_outcome, end_outcome, text_outcome};
 ghost use Rattle.matcher_code.specs.Reading.{is_covered, text_of};
 ghost use Rattle.matcher_code.specs.Sets.{IsSetOf};
-ghost use Rattle.matcher_code.specs.Steps.{Config, jump, op_at};
+ghost use Rattle.matcher_code.specs.Steps.{Config, jump, op_at, steps};
 ghost use Rattle.matcher_code.specs.declared.code.Code.{Code};
 ghost use Rattle.matcher_code.specs.declared.code.Op.TheVariants as op;
 ghost use Rattle.matcher_layout.specs.Endings.{IsFound, IsOver};
-ghost use Rattle.matcher_layout.specs.Laid.{AreLaid, HasOutcome, IsPoint, IsTight, Performs, Point, skip_set};
+ghost use Rattle.matcher_layout.specs.Laid.{AreLaid, HasOutcome, IsEnd, IsPoint, IsTight, Performs, Point, skip_set};
 ghost use Rattle.matcher_layout.specs.Reached.{Comes, IsAt, IsGuarded};
+ghost use Rattle.matcher_layout.specs.Results.{HasFailed, HasSucceeded, start_config, start_of};
 ghost use Rattle.matcher_layout.specs.Sizes.{least_steps, size};
 
 /// Where the operation 0 is `Fail` and each point of a list is laid by points of the list, the code of a point
@@ -35,7 +36,35 @@ pub fn runs_that_end_have_outcomes()
         → op_at code [] 0 ≡ op.Fail → AreLaid g classes code number points
         → (k : Task) (l n w : ℕ) → IsPoint points k l n w
         → (text : List ℕ) (s : State) (c : Config) → IsAt text s c.at → IsGuarded w c
-        → (steps : ℕ) → IsOver code text steps (jump l c) → IsFound g classes k s }
+        → (m : ℕ) → IsOver code text m (jump l c) → IsFound g classes k s }
+{}
+
+/// In such code, let a point go on at `Halt`, and at `Lose` where its task fails. A run from the start of a text
+/// that comes to `Halt` has the end and the trees of the task's success; one that comes to `Lose` has the furthest
+/// failure of its failure; and one that has not ended has taken fewer than eight steps for each rule of the
+/// relation of matching that any derivation applies.
+pub fn runs_have_results()
+    ensures halts { (g : Grammar) (classes : Classes) (code : Code) (number : Text → ℕ) (points : List Point)
+        → op_at code [] 0 ≡ op.Fail → AreLaid g classes code number points
+        → (k : Task) (l n w : ℕ) → IsPoint points k l n w → 0 < w
+        → op_at code [] n ≡ op.Halt → op_at code [] w ≡ op.Lose
+        → (text : List ℕ) → IsUtf8 text → ((i : ℕ) → get_or text i 0 < 256)
+        → (m : ℕ) → op_at code [] (steps code text m (start_config l)).pc ≡ op.Halt
+        → HasSucceeded g classes number k text (steps code text m (start_config l)) }
+    ensures loses { (g : Grammar) (classes : Classes) (code : Code) (number : Text → ℕ) (points : List Point)
+        → op_at code [] 0 ≡ op.Fail → AreLaid g classes code number points
+        → (k : Task) (l n w : ℕ) → IsPoint points k l n w → 0 < w
+        → op_at code [] n ≡ op.Halt → op_at code [] w ≡ op.Lose
+        → (text : List ℕ) → IsUtf8 text → ((i : ℕ) → get_or text i 0 < 256)
+        → (m : ℕ) → op_at code [] (steps code text m (start_config l)).pc ≡ op.Lose
+        → HasFailed g classes k text (steps code text m (start_config l)) }
+    ensures goes_on { (g : Grammar) (classes : Classes) (code : Code) (number : Text → ℕ) (points : List Point)
+        → op_at code [] 0 ≡ op.Fail → AreLaid g classes code number points
+        → (k : Task) (l n w : ℕ) → IsPoint points k l n w → 0 < w
+        → op_at code [] n ≡ op.Halt → op_at code [] w ≡ op.Lose
+        → (text : List ℕ) → IsUtf8 text → ((i : ℕ) → get_or text i 0 < 256)
+        → (m : ℕ) → (IsEnd code (steps code text m (start_config l)).pc → ⊥)
+        → (o : Outcome) (d : Does g classes k (start_of text) o) → m < 8 * size d }
 {}
 
 /// Where the operation 0 is `Fail`, the operation `Text` of a text matches it as the expression of a literal
