@@ -11,6 +11,6 @@ loop-rule-preserved c =
     let items = c.args.doc.now.rules.value.items in
     let same = c.deref-rule-items.ensures.value in
     let small : c.loop-rule.rule-index < length items = omega (arith, ap length same) in
-    one_definition_more _ _ _ _ _ _ c.loop-rule.invariant c.in_ok-push_definition.ensures
+    one_definition_more _ _ _ c.deref.result.now _ _ c.loop-rule.invariant c.in_ok-push_definition.ensures
     (rules_more items c.loop-rule.rule-index c.rule-item.result small
     (c.rule-item.is ∙ ap (λ xs. get_or xs c.loop-rule.rule-index c.rule-item.result) same))
