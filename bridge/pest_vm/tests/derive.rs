@@ -2,7 +2,7 @@
 //! are put together from pieces.
 use std::fmt::Debug;
 
-use pest::error::InputLocation;
+use pest::error::{ErrorVariant, InputLocation};
 use pest::iterators::Pairs;
 use pest::{RuleType, Token};
 use pest_vm::Vm;
@@ -198,7 +198,8 @@ fn a_failure_has_its_position_and_what_was_expected() {
     let vm = machine(include_str!("grammars/lists.pest"));
     let error = vm.parse("file", "[a, .]").unwrap_err();
     assert_eq!(error.location, InputLocation::Pos(4));
-    assert_eq!(error.variant.message(), "expected COMMENT or item");
+    let positives = vec!["COMMENT", "item"];
+    assert_eq!(error.variant, ErrorVariant::ParsingError { positives, negatives: Vec::new() });
 }
 
 #[test]
