@@ -74,7 +74,8 @@ impl<'t> Definitions<'t> {
         Ok(())
     }
 
-    /// A help for an undefined name at the bytes `start..end`: the nearest of the defined ones and the builtins.
+    /// A help for an undefined name at the bytes `start..end`: the nearest of the defined ones and the
+    /// builtins.
     pub(crate) fn help_undefined(
         &mut self,
         alloc: Global,

@@ -17,10 +17,10 @@ ghost use Rattle.matcher_layout.specs.Reached.{Comes, IsAt, IsGuarded};
 ghost use Rattle.matcher_layout.specs.Results.{HasFailed, HasSucceeded, start_config, start_of};
 ghost use Rattle.matcher_layout.specs.Sizes.{least_steps, size};
 
-/// Where the operation 0 is `Fail` and each point of a list is laid by points of the list, the code of a point
-/// does its task: from each state, and for each outcome of the task there, the machine comes to where the
-/// outcome goes on, with its trees and the furthest position of its failures, in at most eight steps for each
-/// rule of the relation of matching that the derivation applies.
+/// Where the operation 0 is `Fail` and each point of a list is laid by points of the list, the code of a
+/// point does its task: from each state, and for each outcome of the task there, the machine comes to where
+/// the outcome goes on, with its trees and the furthest position of its failures, in at most eight steps for
+/// each rule of the relation of matching that the derivation applies.
 pub fn laid_code_does_its_task()
     ensures { (g : Grammar) (classes : Classes) (code : Code) (number : Text → ℕ) (points : List Point)
         → op_at code [] 0 ≡ op.Fail → AreLaid g classes code number points
@@ -39,10 +39,10 @@ pub fn runs_that_end_have_outcomes()
         → (m : ℕ) → IsOver code text m (jump l c) → IsFound g classes k s }
 {}
 
-/// In such code, let a point go on at `Halt`, and at `Lose` where its task fails. A run from the start of a text
-/// that comes to `Halt` has the end and the trees of the task's success; one that comes to `Lose` has the furthest
-/// failure of its failure; and one that has not ended has taken fewer than eight steps for each rule of the
-/// relation of matching that any derivation applies.
+/// In such code, let a point go on at `Halt`, and at `Lose` where its task fails. A run from the start of a
+/// text that comes to `Halt` has the end and the trees of the task's success; one that comes to `Lose` has
+/// the furthest failure of its failure; and one that has not ended has taken fewer than eight steps for each
+/// rule of the relation of matching that any derivation applies.
 pub fn runs_have_results()
     ensures halts { (g : Grammar) (classes : Classes) (code : Code) (number : Text → ℕ) (points : List Point)
         → op_at code [] 0 ≡ op.Fail → AreLaid g classes code number points
@@ -104,8 +104,8 @@ pub fn end_operation_matches_end()
         → Performs code number l n w (λ s. end_outcome AtomicMode s.rest s) (λ s. 0) }
 {}
 
-/// Where the operation 0 is `Fail`, the operations `End`, `Open`, `Close` and `Note` match the end of a text as
-/// `EOI` does in a mode that gives its tree.
+/// Where the operation 0 is `Fail`, the operations `End`, `Open`, `Close` and `Note` match the end of a text
+/// as `EOI` does in a mode that gives its tree.
 pub fn end_operations_give_tree()
     ensures { (code : Code) (number : Text → ℕ) → op_at code [] 0 ≡ op.Fail
         → (m : Mode) (l n w begin close note : ℕ) → seen_from m ≡ true → op_at code [] l ≡ op.End begin note
@@ -129,10 +129,12 @@ pub fn negation_matches_difference()
     ensures { (g : Grammar) (classes : Classes) (m : Mode) (a b : Expression) (f h : ℕ → Bool)
         → IsTight g classes m → HasOutcome g classes (Run m a) (character_outcome f) (λ s. 0)
         → HasOutcome g classes (Run m b) (character_outcome h) (λ s. 0)
-        → HasOutcome g classes (Run m (Seq (NegPred a) b)) (character_outcome (λ c. not (f c) && h c)) (λ s. 0) }
+        → HasOutcome g classes (Run m (Seq (NegPred a) b))
+        (character_outcome (λ c. not (f c) && h c)) (λ s. 0) }
 {}
 
-/// Where nothing is skipped, a repetition of such an expression matches the characters of the set that follow.
+/// Where nothing is skipped, a repetition of such an expression matches the characters of the set that
+/// follow.
 pub fn repetition_matches_span()
     ensures { (g : Grammar) (classes : Classes) (m : Mode) (e : Expression) (f : ℕ → Bool)
         → IsTight g classes m → HasOutcome g classes (Run m e) (character_outcome f) (λ s. 0)

@@ -15,9 +15,9 @@ use std::alloc::{AllocError, Global};
 
 /// Returns the trees of a text, from the list of their starts and ends, and the end of the match as JSON.
 ///
-/// The JSON is an object with `end` and the array `trees`. A tree is an object with `rule`, `start` and `end`;
-/// an inner tree has `children` too, and a leaf has `text`, its part of the text. Positions are in bytes. The
-/// depth of the trees takes no stack space. The only error is an allocation failure.
+/// The JSON is an object with `end` and the array `trees`. A tree is an object with `rule`, `start` and
+/// `end`; an inner tree has `children` too, and a leaf has `text`, its part of the text. Positions are in
+/// bytes. The depth of the trees takes no stack space. The only error is an allocation failure.
 pub fn tree_json(
     alloc: Global,
     text: &str,

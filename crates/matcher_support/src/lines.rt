@@ -10,8 +10,8 @@ use meta_matcher::entries::Entry;
 use std::alloc::{AllocError, Global};
 
 /// Returns one line for each tree of a text, from the list of their starts and ends, before the lines of its
-/// children: the start and the end in bytes, the depth, and the rule, separated by blanks. The only error is an
-/// allocation failure.
+/// children: the start and the end in bytes, the depth, and the rule, separated by blanks. The only error is
+/// an allocation failure.
 pub fn tree_lines(alloc: Global, entries: &[Entry<'_>]) -> Result<String, AllocError>
     ensures { IfOk result (λ lines. (trees : Trees) → seen entries.now ≡ entries_of 0 trees
         → string_bytes lines ≡ lines_of 0 trees) }

@@ -1,4 +1,5 @@
-//! A rule of optimized rules in JSON, run on a text, with its tokens as numbers, for callers in other languages.
+//! A rule of optimized rules in JSON, run on a text, with its tokens as numbers, for callers in other
+//! languages.
 #![tactic(auto)]
 
 mod numbers;

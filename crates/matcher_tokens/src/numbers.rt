@@ -73,7 +73,8 @@ fn push_entries(
     Ok(())
 }
 
-/// Returns the position after a match, and the numbers of its tokens. The only error is an allocation failure.
+/// Returns the position after a match, and the numbers of its tokens. The only error is an allocation
+/// failure.
 pub(crate) fn match_numbers(
     alloc: Global,
     rules: &[OptimizedRule],

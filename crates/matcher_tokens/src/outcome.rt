@@ -3,9 +3,9 @@
 /// The outcome of a rule of rules in JSON on a text.
 #[derive(Debug, Drop)]
 pub enum MatchOutcome {
-    /// The rule matches: the position after the match, in bytes, and three numbers for each entry of its tokens:
-    /// the rule's number, or 0 for the end of a token; the position, in bytes; the index of the partner entry.
-    /// A rule's number is one more than its index, and `EOI` has the number after all rules.
+    /// The rule matches: the position after the match, in bytes, and three numbers for each entry of its
+    /// tokens: the rule's number, or 0 for the end of a token; the position, in bytes; the index of the
+    /// partner entry. A rule's number is one more than its index, and `EOI` has the number after all rules.
     Matched(Vec<usize>),
     /// The rule fails: the furthest position of a failure, in bytes, and the numbers of the rules that are
     /// expected there.

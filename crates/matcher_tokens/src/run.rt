@@ -15,8 +15,8 @@ use meta_matcher::machine::Stop;
 use meta_matcher::matcher::{Matcher, Refusal};
 use std::alloc::Global;
 
-/// Runs the rule of a name from the start of a text, in at most `steps` steps. The rules are optimized rules in
-/// JSON.
+/// Runs the rule of a name from the start of a text, in at most `steps` steps. The rules are optimized rules
+/// in JSON.
 pub fn match_text(alloc: Global, rules: &str, rule: &str, text: &str, steps: u64) -> MatchOutcome
     ensures { IsMatchOutcome rules.now (chars rule.now) text.now steps result }
 {

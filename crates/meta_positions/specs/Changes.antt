@@ -7,7 +7,8 @@ use Rattle.meta_positions.specs.declared.positions.Range.{Range}
 
 -- a range of a text is replaced: before its start and after its end the text stays. A range whose end is
 -- before its start is empty
-pub record IsReplaced (encoding : Encoding) (text : List ℕ) (range : Range) (inserted changed : List ℕ) : Type 0 where
+pub record IsReplaced (encoding : Encoding) (text : List ℕ) (range : Range) (inserted changed : List ℕ)
+    : Type 0 where
   pub start : ℕ
   pub end : ℕ
   pub is_start : IsOffset encoding text range.start start

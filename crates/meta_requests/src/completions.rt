@@ -15,22 +15,22 @@ const KEYWORD: u64 = 14;
 
 /// A completion other than a name: its label, and its text as a snippet.
 #[derive(Clone, Copy)]
-struct Form {
+struct CallForm {
     label: &'static str,
     snippet: &'static str,
 }
 
 /// The forms that take arguments.
-static FORMS: [Form; 3] = [
-    Form {
+static FORMS: [CallForm; 3] = [
+    CallForm {
         label: "PUSH",
         snippet: "PUSH(${1:expression})",
     },
-    Form {
+    CallForm {
         label: "PUSH_LITERAL",
         snippet: "PUSH_LITERAL(\"${1:text}\")",
     },
-    Form {
+    CallForm {
         label: "PEEK",
         snippet: "PEEK[${1:start}..${2:end}]",
     },
@@ -95,7 +95,7 @@ fn push_forms(alloc: Global, has_snippets: bool, items: &mut Vec<Value>) -> Resu
 }
 
 /// Returns a form as a completion.
-fn form_item(alloc: Global, form: &Form, has_snippets: bool) -> Result<Value, AllocError> {
+fn form_item(alloc: Global, form: &CallForm, has_snippets: bool) -> Result<Value, AllocError> {
     if has_snippets {
         json!(in alloc; {
             "label": form.label,

@@ -9,7 +9,7 @@ use crate::messages::{Answer, ErrorCode};
 use crate::params::{is_true_at, text_at};
 use crate::values::{document_edit_value, locations_value, range_value, workspace_edit_value};
 use meta_symbols::{
-    Definition, Extent, Refusal, Renaming, definitions_named, occurrences_of, rename,
+    Definition, Extent, RenameRefusal, Renaming, definitions_named, occurrences_of, rename,
 };
 use serde_json::{Value, json};
 use std::alloc::{AllocError, Global};
@@ -93,7 +93,7 @@ pub fn prepare_rename(
     };
     let placeholder = context.part(name);
     if definitions_named(alloc, context.text, &context.definitions, placeholder)?.is_empty() {
-        return Ok(Answer::Error(ErrorCode::RequestFailed, reason_of(Refusal::NoRule)));
+        return Ok(Answer::Error(ErrorCode::RequestFailed, reason_of(RenameRefusal::NoRule)));
     }
     let range = range_value(alloc, &context.index, name)?;
     let value = json!(in alloc; { "range": range, "placeholder": placeholder })?;
@@ -164,16 +164,16 @@ fn push_edit(
 }
 
 /// Returns why a rename is refused, in words.
-fn reason_of(refusal: Refusal) -> &'static str {
+fn reason_of(refusal: RenameRefusal) -> &'static str {
     match refusal {
-        Refusal::NoRule => "no rule of this name is defined here",
-        Refusal::NoIdentifier => {
+        RenameRefusal::NoRule => "no rule of this name is defined here",
+        RenameRefusal::NoIdentifier => {
             "a name consists of letters, digits and `_`, and does not begin with a digit"
         }
-        Refusal::Keyword => "the new name is a keyword",
-        Refusal::Builtin => "the new name is that of a builtin",
-        Refusal::Taken => "the new name is taken",
-        Refusal::NoGrammar => "the grammar has a syntax error",
-        Refusal::OtherTokens => "the grammar would mean something else",
+        RenameRefusal::Keyword => "the new name is a keyword",
+        RenameRefusal::Builtin => "the new name is that of a builtin",
+        RenameRefusal::Taken => "the new name is taken",
+        RenameRefusal::NoGrammar => "the grammar has a syntax error",
+        RenameRefusal::OtherTokens => "the grammar would mean something else",
     }
 }

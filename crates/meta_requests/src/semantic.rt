@@ -27,7 +27,7 @@ pub fn modifiers() -> &'static [&'static str] {
 
 /// The type of a token, as an index of the legend, and its modifiers, as a set of bits.
 #[derive(Clone, Copy)]
-struct Style {
+struct TokenStyle {
     kind: u64,
     modifiers: u64,
 }
@@ -52,7 +52,7 @@ pub fn semantic_tokens(alloc: Global, context: &Context<'_>) -> Result<Answer, A
 fn push_token(
     context: &Context<'_>,
     token: Token,
-    style: Style,
+    style: TokenStyle,
     last: Position,
     data: &mut Vec<Value>,
 ) -> Result<Position, AllocError> {
@@ -76,13 +76,13 @@ fn push_token(
 }
 
 /// Returns how a token is shown.
-fn style_of(context: &Context<'_>, index: usize, token: Token) -> Option<Style> {
+fn style_of(context: &Context<'_>, index: usize, token: Token) -> Option<TokenStyle> {
     match token.class {
         TokenClass::Name => Some(name_style(context, index, token)),
         TokenClass::Text | TokenClass::Character => Some(plain(2)),
         TokenClass::Number => Some(plain(3)),
         TokenClass::Comment => Some(plain(5)),
-        TokenClass::Doc | TokenClass::GrammarDoc => Some(Style {
+        TokenClass::Doc | TokenClass::GrammarDoc => Some(TokenStyle {
             kind: 5,
             modifiers: 4,
         }),
@@ -93,12 +93,12 @@ fn style_of(context: &Context<'_>, index: usize, token: Token) -> Option<Style> 
 }
 
 /// Returns a style without modifiers.
-fn plain(kind: u64) -> Style {
-    Style { kind, modifiers: 0 }
+fn plain(kind: u64) -> TokenStyle {
+    TokenStyle { kind, modifiers: 0 }
 }
 
 /// Returns how a sign is shown; brackets and the like are not.
-fn sign_style(sign: u8) -> Option<Style> {
+fn sign_style(sign: u8) -> Option<TokenStyle> {
     match sign {
         b'~' | b'|' | b'*' | b'+' | b'?' | b'&' | b'!' | b'=' | b'^' | b'@' | b'$' => {
             Some(plain(4))
@@ -108,18 +108,18 @@ fn sign_style(sign: u8) -> Option<Style> {
 }
 
 /// Returns how a name is shown.
-fn name_style(context: &Context<'_>, index: usize, token: Token) -> Style {
+fn name_style(context: &Context<'_>, index: usize, token: Token) -> TokenStyle {
     let name = context.part(token.extent());
     if matches!(name, "_" | "PUSH" | "PUSH_LITERAL") {
         return plain(1);
     }
     if is_before_equals(context, index) {
-        return Style {
+        return TokenStyle {
             kind: 0,
             modifiers: 1,
         };
     }
-    Style {
+    TokenStyle {
         kind: 0,
         modifiers: if is_builtin(name) { 2 } else { 0 },
     }

@@ -305,7 +305,7 @@ fn respond(
 
 /// A request about a document.
 #[derive(Clone, Copy, Debug, PartialEq, Eq)]
-enum Request {
+enum RequestMethod {
     DocumentSymbol,
     FoldingRange,
     SelectionRange,
@@ -323,22 +323,22 @@ enum Request {
 }
 
 /// Returns the request of a method.
-fn request_of(method: &str) -> Option<Request> {
+fn request_of(method: &str) -> Option<RequestMethod> {
     let request = match method {
-        "textDocument/documentSymbol" => Request::DocumentSymbol,
-        "textDocument/foldingRange" => Request::FoldingRange,
-        "textDocument/selectionRange" => Request::SelectionRange,
-        "textDocument/definition" => Request::Definition,
-        "textDocument/references" => Request::References,
-        "textDocument/documentHighlight" => Request::DocumentHighlight,
-        "textDocument/prepareRename" => Request::PrepareRename,
-        "textDocument/rename" => Request::Rename,
-        "textDocument/hover" => Request::Hover,
-        "textDocument/completion" => Request::Completion,
-        "textDocument/formatting" => Request::Formatting,
-        "textDocument/rangeFormatting" => Request::RangeFormatting,
-        "textDocument/codeAction" => Request::CodeAction,
-        "textDocument/semanticTokens/full" => Request::SemanticTokens,
+        "textDocument/documentSymbol" => RequestMethod::DocumentSymbol,
+        "textDocument/foldingRange" => RequestMethod::FoldingRange,
+        "textDocument/selectionRange" => RequestMethod::SelectionRange,
+        "textDocument/definition" => RequestMethod::Definition,
+        "textDocument/references" => RequestMethod::References,
+        "textDocument/documentHighlight" => RequestMethod::DocumentHighlight,
+        "textDocument/prepareRename" => RequestMethod::PrepareRename,
+        "textDocument/rename" => RequestMethod::Rename,
+        "textDocument/hover" => RequestMethod::Hover,
+        "textDocument/completion" => RequestMethod::Completion,
+        "textDocument/formatting" => RequestMethod::Formatting,
+        "textDocument/rangeFormatting" => RequestMethod::RangeFormatting,
+        "textDocument/codeAction" => RequestMethod::CodeAction,
+        "textDocument/semanticTokens/full" => RequestMethod::SemanticTokens,
         _ => return None,
     };
     Some(request)
@@ -348,23 +348,23 @@ fn request_of(method: &str) -> Option<Request> {
 fn answer_in(
     alloc: Global,
     context: &Context<'_>,
-    request: Request,
+    request: RequestMethod,
     params: &Value,
 ) -> Result<Answer, AllocError> {
     match request {
-        Request::DocumentSymbol => document_symbols(alloc, context),
-        Request::FoldingRange => folding_ranges(alloc, context),
-        Request::SelectionRange => selection_ranges(alloc, context, params),
-        Request::Definition => definition(alloc, context, params),
-        Request::References => references(alloc, context, params),
-        Request::DocumentHighlight => highlights(alloc, context, params),
-        Request::PrepareRename => prepare_rename(alloc, context, params),
-        Request::Rename => rename_rule(alloc, context, params),
-        Request::Hover => hover(alloc, context, params),
-        Request::Completion => completions(alloc, context),
-        Request::Formatting => format_document(alloc, context),
-        Request::RangeFormatting => format_range(alloc, context, params),
-        Request::CodeAction => code_actions(alloc, context, params),
-        Request::SemanticTokens => semantic_tokens(alloc, context),
+        RequestMethod::DocumentSymbol => document_symbols(alloc, context),
+        RequestMethod::FoldingRange => folding_ranges(alloc, context),
+        RequestMethod::SelectionRange => selection_ranges(alloc, context, params),
+        RequestMethod::Definition => definition(alloc, context, params),
+        RequestMethod::References => references(alloc, context, params),
+        RequestMethod::DocumentHighlight => highlights(alloc, context, params),
+        RequestMethod::PrepareRename => prepare_rename(alloc, context, params),
+        RequestMethod::Rename => rename_rule(alloc, context, params),
+        RequestMethod::Hover => hover(alloc, context, params),
+        RequestMethod::Completion => completions(alloc, context),
+        RequestMethod::Formatting => format_document(alloc, context),
+        RequestMethod::RangeFormatting => format_range(alloc, context, params),
+        RequestMethod::CodeAction => code_actions(alloc, context, params),
+        RequestMethod::SemanticTokens => semantic_tokens(alloc, context),
     }
 }

@@ -17,6 +17,6 @@ pub use edits::{Edit, edits_between};
 pub use folding::{Fold, folds_of};
 pub use occurrences::{name_at, occurrences_of};
 pub use outline::{Definition, definitions_named, definitions_of};
-pub use renaming::{Refusal, Renaming, rename};
+pub use renaming::{RenameRefusal, Renaming, rename};
 pub use selection::selections_at;
 pub use tokens::{Extent, Token, TokenClass, tokens_of};

@@ -20,7 +20,7 @@ use std::alloc::{AllocError, Global};
 
 /// The reason for which a rule is not renamed.
 #[derive(Clone, Copy, Debug, PartialEq, Eq)]
-pub enum Refusal {
+pub enum RenameRefusal {
     /// No rule of the old name is defined.
     NoRule,
     /// The new name is no identifier.
@@ -42,7 +42,7 @@ pub enum Refusal {
 pub enum Renaming {
     /// The extents that are to be replaced by the new name.
     Edits(Vec<Extent>),
-    Refused(Refusal),
+    Refused(RenameRefusal),
 }
 
 /// Renames a rule. The edits are where its name is an identifier of the grammar, in definitions and in
@@ -55,7 +55,7 @@ pub fn rename(alloc: Global, text: &str, name: &str, new_name: &str) -> Result<R
         return Ok(Renaming::Refused(refusal));
     }
     let Some(entries) = entries_of(alloc, text)? else {
-        return Ok(Renaming::Refused(Refusal::NoGrammar));
+        return Ok(Renaming::Refused(RenameRefusal::NoGrammar));
     };
     rename_in(alloc, text, &entries, name, new_name)
 }
@@ -77,7 +77,7 @@ fn rename_in(
     if is_renaming(alloc, bytes, entries, name, &edited, new_name)? {
         Ok(Renaming::Edits(edits))
     } else {
-        Ok(Renaming::Refused(Refusal::OtherTokens))
+        Ok(Renaming::Refused(RenameRefusal::OtherTokens))
     }
 }
 
@@ -87,15 +87,15 @@ fn refusal_of(
     text: &str,
     name: &str,
     new_name: &str,
-) -> Result<Option<Refusal>, AllocError> {
+) -> Result<Option<RenameRefusal>, AllocError> {
     if !is_identifier(new_name) {
-        return Ok(Some(Refusal::NoIdentifier));
+        return Ok(Some(RenameRefusal::NoIdentifier));
     }
     if is_builtin(new_name) {
-        return Ok(Some(Refusal::Builtin));
+        return Ok(Some(RenameRefusal::Builtin));
     }
     if is_keyword(alloc, new_name)? {
-        return Ok(Some(Refusal::Keyword));
+        return Ok(Some(RenameRefusal::Keyword));
     }
     refusal_among(alloc, text, name, new_name)
 }
@@ -106,14 +106,14 @@ fn refusal_among(
     text: &str,
     name: &str,
     new_name: &str,
-) -> Result<Option<Refusal>, AllocError> {
+) -> Result<Option<RenameRefusal>, AllocError> {
     let tokens = tokens_of(alloc, text)?;
     let definitions = definitions_of(alloc, text, &tokens)?;
     if definitions_named(alloc, text, &definitions, name)?.is_empty() {
-        return Ok(Some(Refusal::NoRule));
+        return Ok(Some(RenameRefusal::NoRule));
     }
     if name != new_name && !occurrences_of(alloc, text, &tokens, new_name)?.is_empty() {
-        return Ok(Some(Refusal::Taken));
+        return Ok(Some(RenameRefusal::Taken));
     }
     Ok(None)
 }

@@ -15,7 +15,8 @@ use std::alloc::{AllocError, Global};
 use std::collections::HashSet;
 
 /// The spans of the names of rules that are not needed, in order. A rule is needed if a rule of another name
-/// calls it, if it is among `starts`, if it calls `SOI` or `EOI`, or if it is `WHITESPACE` or `COMMENT`. Where no rule calls `SOI` or `EOI`, the first rule but these two is taken for the start; if it is needed,
+/// calls it, if it is among `starts`, if it calls `SOI` or `EOI`, or if it is `WHITESPACE` or `COMMENT`.
+/// Where no rule calls `SOI` or `EOI`, the first rule but these two is taken for the start; if it is needed,
 /// the start is unknown, and there are none. The only error is an allocation failure.
 pub fn uncalled_rules<'n, 'i>(
     alloc: Global,

@@ -17,8 +17,8 @@ use Rattle.meta_markup.specs.Pages.{AreDefinitions, IsMarkdownPage, IsPage}
 use Rattle.meta_names.specs.GrammarNames.{IsNameRefusal, complaints_of}
 use Rattle.meta_reader.specs.Refusals.{IsReadRefusal, first_flaw_of}
 use Rattle.meta_syntax.specs.Parses.{AreOfAGrammar, ParseRefuses}
-use Rattle.pest_doc.specs.declared.arguments.Format.{Format}
-use Rattle.pest_doc.specs.declared.arguments.Format.TheVariants as format
+use Rattle.pest_doc.specs.declared.arguments.DocumentFormat.{DocumentFormat}
+use Rattle.pest_doc.specs.declared.arguments.DocumentFormat.TheVariants as format
 use Rattle.pest_doc.specs.declared.run.DocumentOutcome.{DocumentOutcome}
 use Rattle.pest_doc.specs.declared.run.DocumentOutcome.TheVariants as outcome
 
@@ -44,23 +44,23 @@ pub data RefusesText (text : List ℕ) (f : Fault) : Type 0 where
       → RefusesText text f
 
 -- a document of rules, in a format, under a title
-abbrev pub IsDocumentOf : Format → List ℕ → Grammar → String Global → Type 0
+abbrev pub IsDocumentOf : DocumentFormat → List ℕ → Grammar → String Global → Type 0
 IsDocumentOf format.Html title rules d = IsPage title rules (string_bytes d)
 IsDocumentOf format.Svg title rules d = IsDiagram d
 IsDocumentOf format.Markdown title rules d = IsMarkdownPage title rules (string_bytes d)
 IsDocumentOf format.Ebnf title rules d = AreDefinitions rules (string_bytes d)
 
 -- a document of the rules that a text spells
-abbrev pub IsDocument : Format → List ℕ → List ℕ → String Global → Type 0
+abbrev pub IsDocument : DocumentFormat → List ℕ → List ℕ → String Global → Type 0
 IsDocument f title text d = (rules : Grammar) × SpellsRules text rules × IsDocumentOf f title rules d
 
 -- why there is no document of the bytes of a file
-pub data IsRefused (f : Format) (bytes : List ℕ) : Type 0 where
+pub data IsRefused (f : DocumentFormat) (bytes : List ℕ) : Type 0 where
   not_utf8 : (IsUtf8 bytes → ⊥) → IsRefused f bytes
   refused : (errors : Vec (Error Rule) Global) → RefusesText bytes (fault.Grammar errors) → IsRefused f bytes
   no_such_rule : f ≡ format.Svg → IsRefused f bytes
 
 -- a document of the rules that the bytes of a file spell, or a reason why there is none
-abbrev pub IsOutcome : Format → List ℕ → DocumentOutcome → Type 0
+abbrev pub IsOutcome : DocumentFormat → List ℕ → DocumentOutcome → Type 0
 IsOutcome f bytes (outcome.Document d) = (title : List ℕ) × IsDocument f title bytes d
 IsOutcome f bytes (outcome.Refused message) = IsRefused f bytes

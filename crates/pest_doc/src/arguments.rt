@@ -4,7 +4,7 @@ use std::alloc::{AllocError, Global};
 
 /// A format of a document.
 #[derive(Clone, Copy)]
-pub enum Format {
+pub enum DocumentFormat {
     Html,
     Svg,
     Markdown,
@@ -43,11 +43,11 @@ pub fn command<'a>(alloc: Global) -> Result<Command<'a>, AllocError> {
 }
 
 /// Returns the format that a command line asks for.
-pub fn format_of(matches: &ArgMatches<'_>) -> Format {
+pub fn format_of(matches: &ArgMatches<'_>) -> DocumentFormat {
     match matches.get_str("format") {
-        Some("svg") => Format::Svg,
-        Some("markdown") => Format::Markdown,
-        Some("ebnf") => Format::Ebnf,
-        _ => Format::Html,
+        Some("svg") => DocumentFormat::Svg,
+        Some("markdown") => DocumentFormat::Markdown,
+        Some("ebnf") => DocumentFormat::Ebnf,
+        _ => DocumentFormat::Html,
     }
 }

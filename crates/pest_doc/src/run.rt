@@ -2,9 +2,9 @@
 ghost use Rattle.std.specs.Prelude.{◌≡◌, IfErr, IfNone, IfOk, IfSome};
 ghost use Rattle.meta_ast.specs.Ast.{rules_of};
 ghost use Rattle.pest_doc.specs.Outcomes.{IsDocument, IsOutcome, RefusesText, SpellsRules};
-ghost use Rattle.pest_doc.specs.declared.arguments.Format.TheVariants.{Svg};
+ghost use Rattle.pest_doc.specs.declared.arguments.DocumentFormat.TheVariants.{Svg};
 
-use crate::arguments::Format;
+use crate::arguments::DocumentFormat;
 use meta_base::grammar::Rule;
 use meta_base::runtime::{Error, Fault};
 use meta_doc::{GrammarDoc, ebnf_text, html_page, markdown_page, read_grammar, svg_diagram};
@@ -29,7 +29,7 @@ pub const UNWRITABLE: u8 = 4;
 pub struct Request<'a> {
     /// The name of the grammar's file.
     pub name: &'a str,
-    pub format: Format,
+    pub format: DocumentFormat,
     /// The name of the rule of which a diagram is asked for; the first one if there is none.
     pub rule: Option<&'a str>,
 }
@@ -77,7 +77,7 @@ fn document_of(
     alloc: Global,
     title: &str,
     text: &str,
-    format: Format,
+    format: DocumentFormat,
     rule: Option<&str>,
 ) -> Result<Option<String>, Fault>
     ensures document { IfOk result (λ document. IfSome document (IsDocument format title.now text.now)) }
@@ -86,10 +86,10 @@ fn document_of(
 {
     let doc = read_named_grammar(alloc, text)?;
     match format {
-        Format::Html => Ok(Some(html_page(alloc, title, &doc)?)),
-        Format::Markdown => Ok(Some(markdown_page(alloc, title, &doc)?)),
-        Format::Ebnf => Ok(Some(ebnf_text(alloc, &doc)?)),
-        Format::Svg => Ok(svg_diagram(alloc, &doc, rule)?),
+        DocumentFormat::Html => Ok(Some(html_page(alloc, title, &doc)?)),
+        DocumentFormat::Markdown => Ok(Some(markdown_page(alloc, title, &doc)?)),
+        DocumentFormat::Ebnf => Ok(Some(ebnf_text(alloc, &doc)?)),
+        DocumentFormat::Svg => Ok(svg_diagram(alloc, &doc, rule)?),
     }
 }
 

@@ -5,8 +5,8 @@ use meta_diagnostics::Code;
 pub fn explanation(code: Code) -> &'static str {
     match code {
         Code::Syntax => {
-            "The text is no grammar. The position is where reading came furthest; the expected names are those \
-             of pest's own grammar. A help shows how known mistakes are mended."
+            "The text is no grammar. The position is where reading came furthest; the expected names are \
+             those of pest's own grammar. A help shows how known mistakes are mended."
         }
         Code::EscapeValue => {
             "An escape names no character.\n\n    a = { \"\\u{D800}\" }\n\n\
@@ -69,13 +69,14 @@ fn explanation_of_warnings(code: Code) -> &'static str {
              This takes one \"x\"."
         }
         Code::IdleTest => {
-            "A test or an option holds what cannot fail, and changes nothing.\n\n    a = { ANY*? ~ \"x\" }\n\n\
+            "A test or an option holds what cannot fail, and changes nothing.\n\n    \
+             a = { ANY*? ~ \"x\" }\n\n\
              No repetition is lazy: write (!\"x\" ~ ANY)* for what is before an \"x\"."
         }
         _ => {
             "An expression succeeds on no text.\n\n    a = { ANY* ~ \"x\" }\n\n\
-             ANY* takes the whole rest of the text: write (!\"x\" ~ ANY)* ~ \"x\". And !(e*) always fails, since \
-             e* cannot."
+             ANY* takes the whole rest of the text: write (!\"x\" ~ ANY)* ~ \"x\". And !(e*) always fails, \
+             since e* cannot."
         }
     }
 }

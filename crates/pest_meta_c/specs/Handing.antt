@@ -57,8 +57,10 @@ IsNothing wanted old new needed status = (status ≡ wanted) × WritesNothing ol
 
 -- the result of the outcome of a rule on a text
 abbrev pub IsMatchHandedOver : MatchOutcome → List ℕ → List ℕ → ℕ → ℕ → Type 0
-IsMatchHandedOver (match_is.Matched numbers) old new needed status = IsPut 0 numbers.items old new needed status
-IsMatchHandedOver (match_is.Failed numbers) old new needed status = IsPut 1 numbers.items old new needed status
+IsMatchHandedOver (match_is.Matched numbers) old new needed status =
+    IsPut 0 numbers.items old new needed status
+IsMatchHandedOver (match_is.Failed numbers) old new needed status =
+    IsPut 1 numbers.items old new needed status
 IsMatchHandedOver match_is.NoRules old new needed status = IsNothing 5 old new needed status
 IsMatchHandedOver match_is.Unfit old new needed status = IsNothing 6 old new needed status
 IsMatchHandedOver match_is.NoRule old new needed status = IsNothing 7 old new needed status
@@ -72,8 +74,8 @@ pub record IsOfMatch (P : MatchOutcome → Type 0) (old new : List ℕ) (needed 
   pub holds : P outcome
   pub handed : IsMatchHandedOver outcome old new needed status
 
--- the result of a call that runs a rule on a text: that of an outcome with this property, or 3 for an input that
--- is not UTF-8, with nothing written
+-- the result of a call that runs a rule on a text: that of an outcome with this property, or 3 for an input
+-- that is not UTF-8, with nothing written
 pub record HandsOverMatch (P : MatchOutcome → Type 0) (old new : List ℕ) (needed status : ℕ) : Type 0 where
   pub no_text : status ≡ 3 → WritesNothing old new needed
   pub of_outcome : status ≢ 3 → IsOfMatch P old new needed status

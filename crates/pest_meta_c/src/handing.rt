@@ -40,8 +40,8 @@ pub(crate) fn hand_over(out: &mut [u8], needed: &mut usize, outcome: Outcome) ->
     }
 }
 
-/// Writes the outcome of a rule on a text to the buffer `out`, the count of its numbers to `needed`, and returns
-/// its status.
+/// Writes the outcome of a rule on a text to the buffer `out`, the count of its numbers to `needed`, and
+/// returns its status.
 pub(crate) fn hand_over_match(out: &mut [usize], needed: &mut usize, outcome: MatchOutcome) -> u8
     ensures { IsMatchHandedOver outcome out.old out.new needed.new result }
 {

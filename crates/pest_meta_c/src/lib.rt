@@ -154,8 +154,8 @@ pub extern "C" fn pest_meta_parse_and_optimize(
     }
 }
 
-/// Writes the tokens of a text by a rule of optimized rules in JSON, as numbers. The run takes at most `steps`
-/// steps.
+/// Writes the tokens of a text by a rule of optimized rules in JSON, as numbers. The run takes at most
+/// `steps` steps.
 #[unsafe(no_mangle)]
 pub extern "C" fn pest_meta_match(
     alloc: Global,
