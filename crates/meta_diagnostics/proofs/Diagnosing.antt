@@ -31,7 +31,7 @@ grammar_some text errors trees (inr w) = rules_some text errors trees w.why
 
 -- a refusal has errors
 pub errors_some : (text : List ℕ) (errors : List (Error Rule)) → IsRefusedWith text errors → errors ≢ []
-errors_some text errors (inl no) = one_some errors no.says.says.error no.says.says.one
+errors_some text errors (inl n) = one_some errors n.says.says.error n.says.says.one
 errors_some text errors (inr bad) = grammar_some text errors bad.trees bad.why
 
 -- so one of its diagnostics is an error

@@ -25,7 +25,7 @@ pub fn diagnose(
     text: &str,
     options: Options<'_>,
 ) -> Result<Vec<Diagnostic>, AllocError>
-    ensures diagnosis { IfOk result (λ diagnostics. IsDiagnosis (texts_of options.starts.now) text.now
+    ensures diagnosis { IfOk result (λ diagnostics. IsDiagnosis (texts_of options.entry.starts.now) text.now
         diagnostics.items) }
     ensures accepted { IfOk result (λ diagnostics.
         list_any is_error diagnostics.items ≡ false → HasAnswer text.now) }
@@ -70,7 +70,8 @@ fn diagnose_accepted(alloc: Global, text: &str, starts: &[&str]) -> Result<Vec<D
     let pairs = parse(alloc, Rule::grammar_rules, text)?;
     let rules = consume_rules_with_spans(alloc, pairs)?;
     let rules = Deep { value: rules };
-    Ok(diagnose_rules(alloc, &rules.value, starts)?)
+    let diagnostics = diagnose_rules(alloc, &rules.value, starts)?;
+    Ok(diagnostics)
 }
 
 /// A result whose only fault can be an allocation failure.

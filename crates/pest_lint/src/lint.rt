@@ -49,7 +49,7 @@ pub fn print_files<W: Write, E: Write>(
     ensures known { result ≤ 4 }
     ensures clean { result ≡ 0 → All IsClean sources.now }
     ensures shows { result ≢ 2 → result ≢ 4
-        → GainsAll (texts_of settings.starts.now) settings.deny_warnings style sources.now result
+        → GainsAll (texts_of settings.entry.starts.now) settings.entry.deny_warnings style sources.now result
         (W.contents out.old.writer) (W.contents out.new.writer) }
     ensures taken { result ≢ 4 → out.new.refused ≡ out.old.refused }
     ensures refused_write { result ≡ 4 → out.new.refused ≡ true }
@@ -77,7 +77,7 @@ fn print_file<W: Write, E: Write>(
     ensures known { result ≤ 4 }
     ensures clean { result ≡ 0 → IsClean source.now }
     ensures shows { result ≢ 2 → result ≢ 4
-        → Gains (texts_of settings.starts.now) settings.deny_warnings style source.now result
+        → Gains (texts_of settings.entry.starts.now) settings.entry.deny_warnings style source.now result
         (W.contents out.old.writer) (W.contents out.new.writer) }
     ensures taken { result ≢ 4 → out.new.refused ≡ out.old.refused }
     ensures refused_write { result ≡ 4 → out.new.refused ≡ true }
@@ -136,7 +136,7 @@ fn print_text<W: Write>(
     ensures known { (result ≡ 0) ⊎ ((result ≡ 1) ⊎ ((result ≡ 2) ⊎ (result ≡ 4))) }
     ensures clean { result ≡ 0 → HasAnswer text.now }
     ensures shows { result ≢ 2 → result ≢ 4 → (bytes : List ℕ)
-        × ShowsText (texts_of settings.starts.now) settings.deny_warnings style text.now bytes result
+        × ShowsText (texts_of settings.entry.starts.now) settings.entry.deny_warnings style text.now bytes result
         × Appends (W.contents out.old.writer) (W.contents out.new.writer) bytes }
     ensures taken { result ≢ 4 → out.new.refused ≡ out.old.refused }
     ensures refused_write { result ≡ 4 → out.new.refused ≡ true }

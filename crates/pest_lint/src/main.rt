@@ -51,7 +51,7 @@ fn lint_files(rt: &HostRuntime, sources: &[Source], settings: Settings<'_>) -> u
     ensures known { result ≤ 4 }
     ensures clean { result ≡ 0 → All IsClean sources.now }
     ensures shows { result ≢ 2 → result ≢ 4
-        → GainsIn settings.format (texts_of settings.starts.now) settings.deny_warnings
+        → GainsIn settings.entry.format (texts_of settings.entry.starts.now) settings.entry.deny_warnings
         sources.now result None None }
 {
     let mut out = Output::new(rt.stdout());
