@@ -3,7 +3,7 @@ use crate::callers::find_callers;
 use crate::first_sets::{FirstSet, find_first_set, is_nullable};
 use crate::source::RuleSource;
 use crate::warnings::{RuleWarning, find_warnings};
-use meta_analysis::{Groundwork, groundwork_of};
+use meta_analysis::{Analysis, analyze};
 use meta_spanned::ParserRule;
 use std::alloc::{AllocError, Global};
 
@@ -27,7 +27,7 @@ pub fn find_facts<'i>(
     sources: &[RuleSource<'i>],
     rules: &[ParserRule<'i>],
 ) -> Result<Vec<RuleFacts<'i>>, AllocError> {
-    let analysis = groundwork_of(alloc, rules)?;
+    let analysis = analyze(alloc, rules)?;
     let mut callers = find_callers(alloc, sources, &analysis.names.places)?;
     let mut warnings = find_warnings(alloc, sources, rules)?;
     let mut facts = Vec::new(alloc);
@@ -57,7 +57,7 @@ struct FactsOfOthers<'i> {
 /// Adds the facts that are found for a rule alone.
 fn facts_of_rule<'i>(
     alloc: Global,
-    analysis: &Groundwork<'_, 'i>,
+    analysis: &Analysis<'_, 'i>,
     rule: usize,
     others: FactsOfOthers<'i>,
 ) -> Result<RuleFacts<'i>, AllocError> {

@@ -1,5 +1,5 @@
 //! First sets: the terminals that may begin a rule, through the rules that it calls.
-use meta_analysis::{Groundwork, Joint, Shape, Sign};
+use meta_analysis::{Analysis, Joint, Shape, UnaryOperator};
 use meta_ast::ast::Expr;
 use meta_diagram::leaf_label;
 use meta_spanned::ParserExpr;
@@ -23,7 +23,7 @@ pub struct FirstSet {
 #[derive(Drop)]
 struct FirstSearch<'s, 'n, 'i> {
     alloc: Global,
-    analysis: &'s Groundwork<'n, 'i>,
+    analysis: &'s Analysis<'n, 'i>,
     /// The rules whose bodies were added to `waiting`.
     called: Vec<usize>,
     /// The nodes that are still to be visited, the next one last.
@@ -35,7 +35,7 @@ struct FirstSearch<'s, 'n, 'i> {
 /// is an allocation failure.
 pub fn find_first_set(
     alloc: Global,
-    analysis: &Groundwork<'_, '_>,
+    analysis: &Analysis<'_, '_>,
     rule: usize,
 ) -> Result<FirstSet, AllocError> {
     let mut search = FirstSearch {
@@ -62,7 +62,7 @@ pub fn find_first_set(
 }
 
 /// Whether a rule may match the empty text.
-pub fn is_nullable(analysis: &Groundwork<'_, '_>, rule: usize) -> bool {
+pub fn is_nullable(analysis: &Analysis<'_, '_>, rule: usize) -> bool {
     match analysis.table.roots.get(rule) {
         Some(root) => is_node_nullable(analysis, *root),
         None => false,
@@ -70,7 +70,7 @@ pub fn is_nullable(analysis: &Groundwork<'_, '_>, rule: usize) -> bool {
 }
 
 /// Whether a node may match the empty text.
-fn is_node_nullable(analysis: &Groundwork<'_, '_>, node: usize) -> bool {
+fn is_node_nullable(analysis: &Analysis<'_, '_>, node: usize) -> bool {
     analysis.facts.nullable.get(node).copied().unwrap_or(false)
 }
 
@@ -94,7 +94,7 @@ impl FirstSearch<'_, '_, '_> {
         };
         match node.shape {
             Shape::Leaf => self.visit_leaf(node.expr),
-            Shape::One(Sign::NegPred, _) => Ok(()),
+            Shape::One(UnaryOperator::NegPred, _) => Ok(()),
             Shape::One(_, inner) => Ok(self.waiting.push(inner)?),
             Shape::Two(Joint::Sequence, first, second) => {
                 if is_node_nullable(self.analysis, first) {
