@@ -3,4 +3,3 @@ pub mod Failing
 pub mod Known
 pub mod Names
 pub mod Steps
-pub mod Suspicious

@@ -1,5 +1,5 @@
 -- What the code's lists and sets stand for. No public contract speaks of it.
-use Rattle.std.specs.Prelude.{◌≡◌, ℕ, List, [], ◌∷◌, ◌++◌, Bool, true, bytes_eq, length, map, ◌==◌}
+use Rattle.std.specs.Prelude.{◌≡◌, ℕ, List, [], ◌∷◌, ◌++◌, Bool, true, bytes_eq, length, ◌==◌}
 use Rattle.std.specs.Borrow.{Bor}
 use Rattle.std.specs.HashSet.{HashSet, contains_by}
 use Rattle.std.specs.List.{list_any}
@@ -11,9 +11,10 @@ use Rattle.meta_base.specs.Language.Expression.{Expression}
 use Rattle.meta_base.specs.Language.Text.{Text}
 use Rattle.meta_spanned.specs.Nodes.{view}
 use Rattle.meta_spanned.specs.Spanned as spanned
-use Rattle.meta_spanned.specs.Spanned.{Span, Spanned, Leaf, One, Two, Unary}
+use Rattle.meta_spanned.specs.Spanned.{Span, Spanned, SpannedRule, Leaf, One, Two, Unary}
 use Rattle.meta_spanned.specs.declared.node.ParserNode.{ParserNode}
 use Rattle.meta_warnings.specs.Choices.{alternatives, literals, unreachable_behind}
+use Rattle.meta_warnings.specs.Rules.{is_called}
 use Rattle.meta_warnings.specs.declared.nodes.Operands.{Operands}
 use Rattle.meta_warnings.specs.declared.nodes.Operands.TheVariants as is
 use Rattle.meta_warnings.specs.declared.literals.Literals.{Literals}
@@ -37,13 +38,9 @@ TextSet = HashSet (Bor (List ℕ)) (BuildHasherDefault FoldHasher)
 abbrev pub has_name : TextSet → List ℕ → Bool
 has_name set name = contains_by (λ k. bytes_eq name k.now) set
 
--- the set has the names of which this holds, and no others
-abbrev pub HasNames : (Text → Bool) → TextSet → Type 0
-HasNames f set = (name : List ℕ) → IsUtf8 name → has_name set name ≡ f (chars name)
-
--- the characters of texts
-abbrev pub texts_of : List (Bor (List ℕ)) → List Text
-texts_of ts = map (λ t. chars t.now) ts
+-- the set has the names that a rule of another name calls, and no others
+abbrev pub HasNames : List SpannedRule → TextSet → Type 0
+HasNames rules set = (name : List ℕ) → IsUtf8 name → has_name set name ≡ is_called rules (chars name)
 
 abbrev pub IsKnown : Literals → List ℕ → Bool
 IsKnown literals text = has_name literals.texts text
