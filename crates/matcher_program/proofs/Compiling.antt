@@ -1,6 +1,6 @@
 -- Names that are looked up.
 use Prim.Native.Nat.{zero}
-use Rattle.std.proofs.Common.{◌≡◌, refl, sym, ◌∙◌, ap, ap₂, subst, ℕ, suc, ◌+◌, ◌<◌, List, [], ◌∷◌, Bool, true, false, Option, Some, None, if◌then◌else◌, length, drop, get_or, bytes_eq, arith, map, codes, ◌++◌, ◌==◌, ◌||◌, ◌&&◌, ◌≤◌, take, eqb-true}
+use Rattle.std.proofs.Common.{◌≡◌, refl, sym, ◌∙◌, ap, ap₂, subst, ℕ, suc, ◌+◌, ◌<◌, List, [], ◌∷◌, Bool, true, false, Option, Some, None, if◌then◌else◌, length, drop, get_or, bytes_eq, arith, map, ◌++◌, ◌==◌, ◌||◌, ◌&&◌, ◌≤◌, take, eqb-true}
 use Rattle.std.specs.Prelude.{IsUtf8, chars, encode_utf8}
 use Rattle.std.proofs.lemmas.List.{get_or-map, length-map}
 use Rattle.meta_ast.specs.Ast.{text_of}
@@ -22,10 +22,13 @@ use Rattle.std.specs.declared.alloc.Global.{Global}
 use Rattle.std.proofs.lemmas.Bool.{and_parts}
 use Rattle.meta_base.specs.Language.Builtins.{Named, Property as PropertyOf, builtin_of, builtins, looked_up, is_one_of, property_names, general_categories, binary_properties, scripts}
 use Rattle.matcher_program.specs.declared.form.Property.{Property}
+use Rattle.matcher_program.specs.declared.form.Class.{Class}
+use Rattle.meta_builtins.specs.CharSets.{set_name}
+use Rattle.meta_builtins.specs.declared.char_set.CharSet.{CharSet}
 use Rattle.matcher_program.specs.declared.form.Row.{Row}
 use Rattle.matcher_program.specs.declared.form.Form.TheVariants as form
 use Rattle.matcher_program.specs.Compiled.{Compiles, names_in}
-use Rattle.matcher_program.specs.Programs.{IsNumberOf, IsPropertyOf, IsRow, IsRuleOf, IsSkippedRule, IsSound, grammar_of, name_at, names_of, rule_of_row}
+use Rattle.matcher_program.specs.Programs.{IsNumberOf, IsPropertyOf, IsRow, IsRuleOf, IsSkippedRule, IsSound, class_name, grammar_of, name_at, names_of, rule_of_row}
 
 -- the last rule of a name, with none of that name behind it
 pub last_rule : (g : Grammar) (i : ℕ) (d : Rule) (n : Text) → i < length g → rule_of (drop (suc i) g) n ≡ None → bytes_eq (get_or g i d).name n ≡ true → rule_of g n ≡ Some (get_or g i d)
@@ -86,45 +89,8 @@ call_compiles g ps n i h =
     let k : name_at (names_in g) i ≡ n = get_or-map (λ r. r.name) g i d [] h.within ∙ h.named d in
     record { says = ap Ident k; bound = subst (λ m. IsRuleOf g m i) (sym k) h }
 
-pub start_compiles : (n : Text) → bytes_eq n (chars (83 ∷ 79 ∷ 73 ∷ [])) ≡ true → (g : Grammar) (ps : List Property) → rule_of g n ≡ None → Compiles g ps (Ident n) form.Start
-start_compiles n e g ps h =
-    let k : n ≡ codes "SOI" = (text_eq-Decides n (chars (83 ∷ 79 ∷ 73 ∷ []))).0 e ∙ sym (decoded_chars (83 ∷ 79 ∷ 73 ∷ [])) in
-    record { says = ap Ident (sym k); bound = subst (λ m. rule_of g m ≡ None) k h }
-
-pub end_compiles : (n : Text) → bytes_eq n (chars (69 ∷ 79 ∷ 73 ∷ [])) ≡ true → (g : Grammar) (ps : List Property) → rule_of g n ≡ None → Compiles g ps (Ident n) form.End
-end_compiles n e g ps h =
-    let k : n ≡ codes "EOI" = (text_eq-Decides n (chars (69 ∷ 79 ∷ 73 ∷ []))).0 e ∙ sym (decoded_chars (69 ∷ 79 ∷ 73 ∷ [])) in
-    record { says = ap Ident (sym k); bound = subst (λ m. rule_of g m ≡ None) k h }
-
-pub newline_compiles : (n : Text) → bytes_eq n (chars (78 ∷ 69 ∷ 87 ∷ 76 ∷ 73 ∷ 78 ∷ 69 ∷ [])) ≡ true → (g : Grammar) (ps : List Property) → rule_of g n ≡ None → Compiles g ps (Ident n) form.Newline
-newline_compiles n e g ps h =
-    let k : n ≡ codes "NEWLINE" = (text_eq-Decides n (chars (78 ∷ 69 ∷ 87 ∷ 76 ∷ 73 ∷ 78 ∷ 69 ∷ []))).0 e ∙ sym (decoded_chars (78 ∷ 69 ∷ 87 ∷ 76 ∷ 73 ∷ 78 ∷ 69 ∷ [])) in
-    record { says = ap Ident (sym k); bound = subst (λ m. rule_of g m ≡ None) k h }
-
-pub peek_compiles : (n : Text) → bytes_eq n (chars (80 ∷ 69 ∷ 69 ∷ 75 ∷ [])) ≡ true → (g : Grammar) (ps : List Property) → rule_of g n ≡ None → Compiles g ps (Ident n) form.Peek
-peek_compiles n e g ps h =
-    let k : n ≡ codes "PEEK" = (text_eq-Decides n (chars (80 ∷ 69 ∷ 69 ∷ 75 ∷ []))).0 e ∙ sym (decoded_chars (80 ∷ 69 ∷ 69 ∷ 75 ∷ [])) in
-    record { says = ap Ident (sym k); bound = subst (λ m. rule_of g m ≡ None) k h }
-
-pub pop_compiles : (n : Text) → bytes_eq n (chars (80 ∷ 79 ∷ 80 ∷ [])) ≡ true → (g : Grammar) (ps : List Property) → rule_of g n ≡ None → Compiles g ps (Ident n) form.Pop
-pop_compiles n e g ps h =
-    let k : n ≡ codes "POP" = (text_eq-Decides n (chars (80 ∷ 79 ∷ 80 ∷ []))).0 e ∙ sym (decoded_chars (80 ∷ 79 ∷ 80 ∷ [])) in
-    record { says = ap Ident (sym k); bound = subst (λ m. rule_of g m ≡ None) k h }
-
-pub drop_compiles : (n : Text) → bytes_eq n (chars (68 ∷ 82 ∷ 79 ∷ 80 ∷ [])) ≡ true → (g : Grammar) (ps : List Property) → rule_of g n ≡ None → Compiles g ps (Ident n) form.Discard
-drop_compiles n e g ps h =
-    let k : n ≡ codes "DROP" = (text_eq-Decides n (chars (68 ∷ 82 ∷ 79 ∷ 80 ∷ []))).0 e ∙ sym (decoded_chars (68 ∷ 82 ∷ 79 ∷ 80 ∷ [])) in
-    record { says = ap Ident (sym k); bound = subst (λ m. rule_of g m ≡ None) k h }
-
-pub peek_all_compiles : (n : Text) → bytes_eq n (chars (80 ∷ 69 ∷ 69 ∷ 75 ∷ 95 ∷ 65 ∷ 76 ∷ 76 ∷ [])) ≡ true → (g : Grammar) (ps : List Property) → rule_of g n ≡ None → Compiles g ps (Ident n) form.PeekAll
-peek_all_compiles n e g ps h =
-    let k : n ≡ codes "PEEK_ALL" = (text_eq-Decides n (chars (80 ∷ 69 ∷ 69 ∷ 75 ∷ 95 ∷ 65 ∷ 76 ∷ 76 ∷ []))).0 e ∙ sym (decoded_chars (80 ∷ 69 ∷ 69 ∷ 75 ∷ 95 ∷ 65 ∷ 76 ∷ 76 ∷ [])) in
-    record { says = ap Ident (sym k); bound = subst (λ m. rule_of g m ≡ None) k h }
-
-pub pop_all_compiles : (n : Text) → bytes_eq n (chars (80 ∷ 79 ∷ 80 ∷ 95 ∷ 65 ∷ 76 ∷ 76 ∷ [])) ≡ true → (g : Grammar) (ps : List Property) → rule_of g n ≡ None → Compiles g ps (Ident n) form.PopAll
-pop_all_compiles n e g ps h =
-    let k : n ≡ codes "POP_ALL" = (text_eq-Decides n (chars (80 ∷ 79 ∷ 80 ∷ 95 ∷ 65 ∷ 76 ∷ 76 ∷ []))).0 e ∙ sym (decoded_chars (80 ∷ 79 ∷ 80 ∷ 95 ∷ 65 ∷ 76 ∷ 76 ∷ [])) in
-    record { says = ap Ident (sym k); bound = subst (λ m. rule_of g m ≡ None) k h }
+pub set_compiles : (s : CharSet) (k : Class) → class_name k ≡ set_name s → (g : Grammar) (ps : List Property) → rule_of g (set_name s) ≡ None → Compiles g ps (Ident (set_name s)) (form.One k)
+set_compiles s k e g ps h = record { says = ap Ident e; bound = subst (λ m. rule_of g m ≡ None) (sym e) h }
 
 -- property names
 abbrev no_builtin : List Named → Text → Bool

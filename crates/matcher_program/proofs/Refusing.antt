@@ -1,33 +1,29 @@
 -- Why rules are not run: names that mean nothing, and bounds that are no character.
 use Prim.Native.Nat.{zero}
-use Rattle.std.proofs.Common.{◌≡◌, ◌⊎◌, inl, inr, ℕ, ◌<◌, suc, List, [], ◌∷◌, ◌++◌, Bool, true, false, Option, Some, None, ◌||◌, ◌&&◌, if◌then◌else◌, length, map, refl, sym, ap, subst, ◌∙◌, bytes_eq, codes, chars, arith, ◌==◌, ◌+◌, ◌≤◌, Result, Ok, Err, IfErr, add-one, drop, get_or}
+use Rattle.std.proofs.Common.{◌≡◌, inl, inr, ℕ, ◌<◌, suc, List, [], ◌∷◌, ◌++◌, Bool, true, false, Option, Some, None, ◌||◌, if◌then◌else◌, length, refl, sym, ap, subst, ◌∙◌, bytes_eq, chars, arith, ◌==◌, ◌+◌, Result, Err, IfErr, drop, get_or}
 use Rattle.std.proofs.lemmas.List.{get_or-map, length-map}
 use Rattle.std.proofs.lemmas.List.Elements.{Contains-get_or}
-use Rattle.std.proofs.Math.Seq.{drop-cons}
-use Rattle.std.proofs.Math.ListN.{drop_of_length-le}
 use Rattle.std.specs.Prelude.{IfSome, IsUtf8, encode_utf8, is_some}
 use Rattle.std.specs.List.{Contains}
 use Rattle.std.proofs.lemmas.Str.{chars_past_char, encodes-chars}
 use Rattle.std.proofs.Math.Utf8.{encodes}
-use Rattle.std.proofs.lemmas.Bool.{false_from_ne_true, and_parts}
+use Rattle.std.proofs.lemmas.Bool.{false_from_ne_true}
 use Rattle.meta_ast.specs.Ast.{text_of}
-use Rattle.meta_base.specs.Language.Builtins.{Named, Property as PropertyOf, builtin_of, builtins, is_one_of, looked_up, property_names}
+use Rattle.meta_base.specs.Language.Builtins.{Property as PropertyOf, builtin_of, is_one_of, property_names}
 use Rattle.meta_base.specs.Language.Expression.{Expression, Grammar, Ident, Part, Range, rule_of, whole}
 use Rattle.meta_base.specs.Language.KnownNames.{HasKnownNames}
 use Rattle.meta_base.specs.Language.Text.{Text}
 use Rattle.meta_base.specs.Language.WellFormed.{InSomeRule}
 use Rattle.meta_base.specs.Rewritings.Equality.{text_eq-Decides}
-use Rattle.meta_syntax.specs.Forms.{decoded}
-use Rattle.meta_syntax.proofs.LeafLemmas.{decoded_chars}
-use Rattle.matcher_program.proofs.Compiling.{each, each_of, is_property_of}
-use Rattle.matcher_program.specs.Refusals.{IsNoBuiltin, IsNoCharacter, IsReason, IsUnknown, IsWithin, KnowsProperties, IsWrong, IsWrongBound, IsWrongIn, class_names, has_property, sign_names, stack_names}
+use Rattle.matcher_program.proofs.Compiling.{is_property_of}
+use Rattle.matcher_program.specs.Refusals.{IsNoBuiltin, IsNoCharacter, IsReason, IsUnknown, IsWithin, KnowsProperties, IsWrong, IsWrongBound, IsWrongIn, has_property}
 use Rattle.matcher_program.specs.declared.compile.Unfit.{Unfit}
 use Rattle.matcher_program.specs.declared.compile.Unfit.TheVariants as unfit
 use Rattle.meta_ast.specs.Optimized.{optimized_expression_of, optimized_rule_of, optimized_rules_of}
 use Rattle.meta_ast.specs.declared.optimized.OptimizedRule.{OptimizedRule}
-use Rattle.matcher_program.specs.Programs.{IsNumberOf, class_name}
-use Rattle.matcher_program.specs.declared.form.Class.{Class}
-use Rattle.matcher_program.specs.declared.form.Class.TheVariants as class
+use Rattle.matcher_program.specs.Programs.{IsNumberOf}
+use Rattle.meta_builtins.proofs.BuiltinLemmas.{next_named, other_meaning}
+use Rattle.meta_builtins.specs.Builtins.{builtin_names}
 use Rattle.matcher_program.specs.declared.form.Property.{Property}
 
 true_is_false : true ≡ false → ⊥
@@ -37,34 +33,10 @@ empty_list : (ts : List ℕ) → length ts ≡ 0 → ts ≡ []
 empty_list [] h = refl
 empty_list (t ∷ ts) h = absurd (omega (arith, h))
 
--- a name that is not a word, which is written as it is
-pub other_word : (n w v : Text) → v ≡ w → bytes_eq n v ≡ false → bytes_eq w n ≡ false
-other_word n w v e h = false_from_ne_true (bytes_eq w n) differs
-  where
-    differs : bytes_eq w n ≡ true → ⊥
-    differs k = true_is_false (sym ((text_eq-Decides n v).1 (sym ((text_eq-Decides w n).0 k) ∙ sym e)) ∙ h)
-
--- the names of some things, without those that were looked at
-pub next_named : {A : Type 0} (name : A → Text) (xs : List A) (i : ℕ) (d : A) (n : Text) → i < length xs → bytes_eq (name (get_or xs i d)) n ≡ false
-    → is_one_of (map name (drop i xs)) n ≡ is_one_of (map name (drop (i + 1) xs)) n
-next_named name xs i d n l h =
-    ap (λ ys. is_one_of (map name ys) n) (drop-cons xs i d l) ∙ (ap (λ b. b || is_one_of (map name (drop (suc i) xs)) n) h ∙ rw add-one refl)
-
 pub next_property : (ps : List Property) (i : ℕ) (x : Property) (n : Text) → i < length ps → x ≡ get_or ps i x → bytes_eq (text_of x.name) n ≡ false
     → has_property (drop i ps) n ≡ has_property (drop (i + 1) ps) n
 next_property ps i x n l e h =
     next_named (λ p. text_of p.name) ps i x n l (subst (λ p. bytes_eq (text_of p.name) n ≡ false) e h)
-
-pub next_class : (ks : List Class) (i : ℕ) (d : Class) (n v : Text) → i < length ks → v ≡ class_name (get_or ks i d) → bytes_eq n v ≡ false
-    → is_one_of (map class_name (drop i ks)) n ≡ is_one_of (map class_name (drop (i + 1) ks)) n
-next_class ks i d n v l e h = next_named class_name ks i d n l (other_word n (class_name (get_or ks i d)) v e h)
-
-pub none_left : {A : Type 0} (name : A → Text) (xs : List A) (i : ℕ) (n : Text) → length xs ≤ i → is_one_of (map name (drop i xs)) n ≡ false
-none_left name xs i n l = ap (λ ys. is_one_of (map name ys) n) (drop_of_length-le xs l)
-
-abbrev pub all_classes : List Class
-all_classes =
-    class.Any ∷ class.Digit ∷ class.NonzeroDigit ∷ class.BinDigit ∷ class.OctDigit ∷ class.HexDigit ∷ class.AlphaLower ∷ class.AlphaUpper ∷ class.Alpha ∷ class.Alphanumeric ∷ class.Ascii ∷ []
 
 -- a text of more than one character
 pub many_characters : (bs given r left : List ℕ) (c : ℕ) (empty : Bool) → IsUtf8 bs → given ≡ bs → given ≡ encode_utf8 c ++ r → left ≡ r → IsUtf8 left → empty ≡ (length left == 0) → empty ≡ false → length (chars bs) ≡ 1 → ⊥
@@ -93,33 +65,9 @@ high_wrong knows g t v (unfit.UnknownName n) h = absurd h
 high_wrong knows g t v (unfit.Bound s) h =
     ((t, inr (subst (λ w. Part (Range t v) (Range t w)) (sym h.0) whole)), subst IsNoCharacter (sym h.0) h.1)
 
--- the builtins are those of the three lists, and the properties
-abbrev is_listed : Text → Bool
-is_listed n = is_one_of class_names n || (is_one_of sign_names n || is_one_of stack_names n)
-
-abbrev builtin_names : List Named → List Text
-builtin_names bs = map (λ b. b.name) bs
-
-all_listed : each is_listed (builtin_names builtins) ≡ true
-unfolding builtins
-all_listed = refl
-
-not_looked_up : (bs : List Named) (n : Text) → is_one_of (builtin_names bs) n ≡ false → is_one_of property_names n ≡ false → looked_up bs n ≡ None
-not_looked_up [] n h p = rw p refl
-not_looked_up (b ∷ bs) n h p = go (bytes_eq b.name n) h (λ k. not_looked_up bs n k p)
-  where
-    go : (s : Bool) → (s || is_one_of (builtin_names bs) n) ≡ false → (is_one_of (builtin_names bs) n ≡ false → looked_up bs n ≡ None) → (if s then Some b.builtin else looked_up bs n) ≡ None
-    go true k ih = cc
-    go false k ih = ih k
-
-pub no_builtin_of : (n : Text) → is_one_of class_names n ≡ false → is_one_of sign_names n ≡ false → is_one_of stack_names n ≡ false → is_one_of property_names n ≡ false → builtin_of n ≡ None
-no_builtin_of n c s t p = not_looked_up builtins n (false_from_ne_true (is_one_of (builtin_names builtins) n) listed) p
-  where
-    none : is_listed n ≡ false
-    none = rw (c, s, t) refl
-
-    listed : is_one_of (builtin_names builtins) n ≡ true → ⊥
-    listed h = true_is_false (sym (each_of is_listed (builtin_names builtins) n all_listed h) ∙ none)
+-- a name of neither list is no builtin
+pub no_builtin_of : (n : Text) → is_one_of builtin_names n ≡ false → is_one_of property_names n ≡ false → builtin_of n ≡ None
+no_builtin_of n h p = other_meaning n h ∙ ap (λ b. if b then Some (PropertyOf n) else None) p
 
 pub unknown_property : (ps : List Property) (n : Text) → is_one_of property_names n ≡ true → has_property ps n ≡ false → IsNoBuiltin (has_property ps) n
 unknown_property ps n h k = inr (is_property_of n h, k)

@@ -1,5 +1,5 @@
 -- Reasons to refuse rules.
-use Rattle.std.specs.Prelude.{◌≡◌, ◌≢◌, ◌⊎◌, ⊤, List, Bool, false, true, Some, None, [], ◌∷◌, codes, length, map}
+use Rattle.std.specs.Prelude.{◌≡◌, ◌≢◌, ◌⊎◌, ⊤, List, Bool, false, true, Some, None, length, map}
 use Rattle.meta_base.specs.Language.Builtins.{Property as PropertyOf, builtin_of, is_one_of}
 use Rattle.meta_base.specs.Language.Expression.{Expression, Grammar, Ident, Part, Range, rule_of}
 use Rattle.meta_base.specs.Language.Text.{Text}
@@ -57,17 +57,3 @@ IsWrongIn ps g e = IsWrong (has_property ps) g (Part e)
 -- all parts of the second are parts of the first
 abbrev pub IsWithin : Expression → Expression → Type 0
 IsWithin whole e = (x : Expression) → Part e x → Part whole x
-
--- the builtins that match one character of a set
-abbrev pub class_names : List Text
-class_names =
-    codes "ANY" ∷ codes "ASCII_DIGIT" ∷ codes "ASCII_NONZERO_DIGIT" ∷ codes "ASCII_BIN_DIGIT"
-    ∷ codes "ASCII_OCT_DIGIT" ∷ codes "ASCII_HEX_DIGIT" ∷ codes "ASCII_ALPHA_LOWER"
-    ∷ codes "ASCII_ALPHA_UPPER" ∷ codes "ASCII_ALPHA" ∷ codes "ASCII_ALPHANUMERIC" ∷ codes "ASCII" ∷ []
-
--- the builtins that match no set of characters, without those of the stack, and those of the stack
-abbrev pub sign_names : List Text
-sign_names = codes "SOI" ∷ codes "EOI" ∷ codes "NEWLINE" ∷ []
-
-abbrev pub stack_names : List Text
-stack_names = codes "PEEK" ∷ codes "POP" ∷ codes "DROP" ∷ codes "PEEK_ALL" ∷ codes "POP_ALL" ∷ []

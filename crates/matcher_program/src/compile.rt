@@ -9,8 +9,10 @@ ghost use Rattle.matcher_program.specs.declared.form.Property.{Property};
 ghost use Rattle.matcher_program.specs.Programs.{Fits, IsRow, IsSkippedRule, IsSound, class_name, grammar_of, rule_of_row};
 ghost use Rattle.matcher_program.specs.Compiled.{Compiles, names_in};
 ghost use Rattle.matcher_program.specs.Indexed.{KnowsLast};
-ghost use Rattle.matcher_program.specs.Refusals.{IsNoBuiltin, IsNoCharacter, IsReason, IsWrongBound, IsWrongIn, class_names, has_property, sign_names, stack_names};
+ghost use Rattle.matcher_program.specs.Refusals.{IsNoBuiltin, IsNoCharacter, IsReason, IsWrongBound, IsWrongIn, has_property};
 ghost use Rattle.meta_ast.specs.Ast.{text_of};
+ghost use Rattle.meta_builtins.specs.Builtins.{name_of};
+ghost use Rattle.meta_builtins.specs.CharSets.{set_name};
 
 use crate::form::{Class, Form, Program, Property, Row};
 use crate::forms::form_of;
@@ -19,6 +21,7 @@ use crate::properties::{Properties, find_property, properties_in};
 use crate::sets::{firsts_of, to_set};
 use crate::texts::same;
 use meta_ast::optimized::OptimizedRule;
+use meta_builtins::{Builtin, CharSet};
 use meta_names::unicode_property_names;
 use std::alloc::{AllocError, Global};
 
@@ -41,48 +44,41 @@ impl From<AllocError> for Unfit {
     }
 }
 
-/// Returns the name of a class.
-fn name_of(class: Class) -> &'static str
-    ensures { chars result.now ≡ class_name class }
+/// Returns the class of a builtin's set.
+fn class_of(set: CharSet) -> Class
+    ensures { class_name result ≡ set_name set }
 {
-    match class {
-        Class::Any => "ANY",
-        Class::Digit => "ASCII_DIGIT",
-        Class::NonzeroDigit => "ASCII_NONZERO_DIGIT",
-        Class::BinDigit => "ASCII_BIN_DIGIT",
-        Class::OctDigit => "ASCII_OCT_DIGIT",
-        Class::HexDigit => "ASCII_HEX_DIGIT",
-        Class::AlphaLower => "ASCII_ALPHA_LOWER",
-        Class::AlphaUpper => "ASCII_ALPHA_UPPER",
-        Class::Alpha => "ASCII_ALPHA",
-        Class::Alphanumeric => "ASCII_ALPHANUMERIC",
-        Class::Ascii => "ASCII",
+    match set {
+        CharSet::Any => Class::Any,
+        CharSet::AsciiDigit => Class::Digit,
+        CharSet::AsciiNonzeroDigit => Class::NonzeroDigit,
+        CharSet::AsciiBinDigit => Class::BinDigit,
+        CharSet::AsciiOctDigit => Class::OctDigit,
+        CharSet::AsciiHexDigit => Class::HexDigit,
+        CharSet::AsciiAlphaLower => Class::AlphaLower,
+        CharSet::AsciiAlphaUpper => Class::AlphaUpper,
+        CharSet::AsciiAlpha => Class::Alpha,
+        CharSet::AsciiAlphanumeric => Class::Alphanumeric,
+        CharSet::Ascii => Class::Ascii,
     }
 }
 
-/// Returns the class of a name.
-fn class_of(name: &str) -> Option<Class>
-    ensures none { IfNone result (is_one_of class_names (chars name.now) ≡ false) }
-    ensures some { IfSome result (λ class. chars name.now ≡ class_name class) }
+/// Returns the form of a builtin other than a property name.
+fn form_of_builtin(builtin: Builtin) -> Form
+    ensures { (g : Grammar) (ps : List Property)
+        → rule_of g (name_of builtin) ≡ None → Compiles g ps (Ident (name_of builtin)) result }
 {
-    for class in [
-        Class::Any,
-        Class::Digit,
-        Class::NonzeroDigit,
-        Class::BinDigit,
-        Class::OctDigit,
-        Class::HexDigit,
-        Class::AlphaLower,
-        Class::AlphaUpper,
-        Class::Alpha,
-        Class::Alphanumeric,
-        Class::Ascii,
-    ] {
-        if same(name, name_of(class)) {
-            return Some(class);
-        }
+    match builtin {
+        Builtin::Set(set) => Form::One(class_of(set)),
+        Builtin::Soi => Form::Start,
+        Builtin::Eoi => Form::End,
+        Builtin::Newline => Form::Newline,
+        Builtin::Peek => Form::Peek,
+        Builtin::Pop => Form::Pop,
+        Builtin::Drop => Form::Discard,
+        Builtin::PeekAll => Form::PeekAll,
+        Builtin::PopAll => Form::PopAll,
     }
-    None
 }
 
 /// Returns the character of a text with exactly one.
@@ -110,44 +106,6 @@ pub(crate) fn range_bound(text: &String) -> Result<char, Unfit>
     }
 }
 
-/// Returns the form of a builtin that matches no set of characters.
-fn sign(name: &str) -> Option<Form>
-    ensures none { IfNone result (is_one_of sign_names (chars name.now) ≡ false) }
-    ensures some { IfSome result (λ form. (g : Grammar) (ps : List Property)
-        → rule_of g (chars name.now) ≡ None → Compiles g ps (Ident (chars name.now)) form) }
-{
-    if same(name, "SOI") {
-        Some(Form::Start)
-    } else if same(name, "EOI") {
-        Some(Form::End)
-    } else if same(name, "NEWLINE") {
-        Some(Form::Newline)
-    } else {
-        None
-    }
-}
-
-/// Returns the form of a builtin of the stack.
-fn of_stack(name: &str) -> Option<Form>
-    ensures none { IfNone result (is_one_of stack_names (chars name.now) ≡ false) }
-    ensures some { IfSome result (λ form. (g : Grammar) (ps : List Property)
-        → rule_of g (chars name.now) ≡ None → Compiles g ps (Ident (chars name.now)) form) }
-{
-    if same(name, "PEEK") {
-        Some(Form::Peek)
-    } else if same(name, "POP") {
-        Some(Form::Pop)
-    } else if same(name, "DROP") {
-        Some(Form::Discard)
-    } else if same(name, "PEEK_ALL") {
-        Some(Form::PeekAll)
-    } else if same(name, "POP_ALL") {
-        Some(Form::PopAll)
-    } else {
-        None
-    }
-}
-
 /// Whether a name is a property's.
 pub fn is_property(name: &str) -> bool
     ensures { result ≡ is_one_of property_names (chars name.now) }
@@ -169,14 +127,8 @@ fn builtin(properties: &[Property], name: &String) -> Result<Option<Form>, Alloc
     ensures none { IfOk result (λ found. IfNone found
         (IsNoBuiltin (has_property properties.now) (text_of name.now))) }
 {
-    if let Some(class) = class_of(name.as_str()) {
-        return Ok(Some(Form::One(class)));
-    }
-    if let Some(form) = sign(name.as_str()) {
-        return Ok(Some(form));
-    }
-    if let Some(form) = of_stack(name.as_str()) {
-        return Ok(Some(form));
+    if let Some(builtin) = Builtin::from_name(name.as_str()) {
+        return Ok(Some(form_of_builtin(builtin)));
     }
     if !is_property(name.as_str()) {
         return Ok(None);

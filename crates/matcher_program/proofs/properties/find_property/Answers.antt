@@ -1,6 +1,7 @@
 use Rattle.std.proofs.Common.{◌≡◌, false, sym, subst, ◌∙◌, bytes_eq, chars}
 use Rattle.meta_ast.specs.Ast.{text_of}
-use Rattle.matcher_program.proofs.Refusing.{next_property, none_left}
+use Rattle.meta_builtins.proofs.BuiltinLemmas.{none_left}
+use Rattle.matcher_program.proofs.Refusing.{next_property}
 use Rattle.matcher_program.proofs.properties.find_property.Goals as goal
 
 pub loop-number-preserved : goal.loop-number-preserved
