@@ -9,3 +9,4 @@ pub mod NameKindLemmas
 pub mod Tying
 pub mod Roots
 pub mod Answering
+pub mod Ends

@@ -6,6 +6,7 @@ ghost use Rattle.meta_ast.specs.Ast.{text_of};
 ghost use Rattle.meta_analysis.specs.Names.{grammar_of, is_end};
 ghost use Rattle.meta_analysis.specs.NameMaps.{KnowsRules};
 
+use meta_builtins::Builtin;
 use meta_spanned::ParserRule;
 use std::alloc::{AllocError, Global};
 use std::collections::HashMap;
@@ -60,5 +61,8 @@ pub fn is_literal(name: &String, literal: &str) -> bool
 pub fn is_end(name: &String) -> bool
     ensures { result ≡ is_end (text_of name.now) }
 {
-    is_literal(name, "SOI") || is_literal(name, "EOI")
+    match Builtin::from_name(name.as_str()) {
+        Some(builtin) => builtin.is_nullable(),
+        None => false,
+    }
 }

@@ -10,6 +10,6 @@ mod tables;
 mod undefined;
 
 pub use keywords::{validate_already_defined, validate_pest_keywords, validate_rust_keywords};
-pub use pairs::validate_pairs;
+pub use pairs::{collect_builtins, validate_pairs};
 pub use tables::{is_builtin, unicode_property_names};
 pub use undefined::validate_undefined;

@@ -27,6 +27,15 @@ pub fn validate_pairs<'i>(alloc: Global, pairs: Pairs<'i, Rule>) -> Result<Vec<&
     ensures builtins { IfOk result (λ names. AreWrittenAt (first_calls_of pairs.entry) names.items) }
     ensures refused { IfErr result (IsNameRefusal (complaints_of pairs.entry)) }
 {
+    collect_builtins(alloc, &pairs)
+}
+
+/// Returns the names or the errors of `validate_pairs` for pairs that are lent.
+pub fn collect_builtins<'i>(alloc: Global, pairs: &Pairs<'i, Rule>) -> Result<Vec<&'i str>, Fault>
+    ensures no_complaints { OnOk result (complaints_of pairs.now ≡ []) }
+    ensures builtins { IfOk result (λ names. AreWrittenAt (first_calls_of pairs.now) names.items) }
+    ensures refused { IfErr result (IsNameRefusal (complaints_of pairs.now)) }
+{
     let text = pairs.get_input();
     let trees = pairs.trees();
     let definitions = found::definitions(alloc, text, trees)?;

@@ -1,8 +1,10 @@
 //! The tables of names.
 ghost use Rattle.std.specs.Prelude.{◌≡◌, chars, map};
-ghost use Rattle.meta_base.specs.Language.Builtins.{builtins, is_one_of, property_names};
+ghost use Rattle.meta_base.specs.Language.Builtins.{is_one_of, property_names};
 ghost use Rattle.meta_base.specs.Language.Grammar.{keywords};
 ghost use Rattle.meta_names.specs.Names as spec;
+
+use meta_builtins::Builtin;
 
 /// The names that pest keeps for itself.
 static PEST_KEYWORDS: [&str; 10] = [
@@ -16,29 +18,6 @@ static RUST_KEYWORDS: [&str; 52] = [
     "macro", "match", "mod", "move", "mut", "offsetof", "override", "priv", "proc", "pure", "pub",
     "ref", "return", "Self", "self", "sizeof", "static", "struct", "super", "trait", "true",
     "type", "typeof", "unsafe", "unsized", "use", "virtual", "where", "while", "yield",
-];
-
-/// The builtins other than property names.
-static BUILTINS: [&str; 19] = [
-    "ANY",
-    "SOI",
-    "EOI",
-    "PEEK",
-    "POP",
-    "DROP",
-    "PEEK_ALL",
-    "POP_ALL",
-    "NEWLINE",
-    "ASCII_DIGIT",
-    "ASCII_NONZERO_DIGIT",
-    "ASCII_BIN_DIGIT",
-    "ASCII_OCT_DIGIT",
-    "ASCII_HEX_DIGIT",
-    "ASCII_ALPHA_LOWER",
-    "ASCII_ALPHA_UPPER",
-    "ASCII_ALPHA",
-    "ASCII_ALPHANUMERIC",
-    "ASCII",
 ];
 
 /// The names of Unicode properties: general categories, binary properties and scripts.
@@ -168,13 +147,6 @@ pub fn unicode_property_names() -> &'static [&'static str]
     &PROPERTY_NAMES
 }
 
-/// Returns the builtins other than property names.
-fn other_builtins() -> &'static [&'static str]
-    ensures { map (λ name. name.now) result.now ≡ map (λ b. b.name) builtins }
-{
-    &BUILTINS
-}
-
 /// Returns the names that pest reserves.
 pub(crate) fn pest_keywords() -> &'static [&'static str]
     ensures { map (λ name. name.now) result.now ≡ keywords }
@@ -208,5 +180,8 @@ pub fn is_builtin(name: &str) -> bool
 fn is_known(name: &str) -> bool
     ensures { result ≡ spec.is_builtin name.now }
 {
-    is_among(other_builtins(), name) || is_among(unicode_property_names(), name)
+    match Builtin::from_name(name) {
+        Some(_) => true,
+        None => is_among(unicode_property_names(), name),
+    }
 }

@@ -1,15 +1,13 @@
-use Rattle.std.proofs.Common.{◌∙◌, sym, ap}
-use Rattle.meta_base.specs.Language.Builtins.{builtins, is_one_of}
-use Rattle.meta_names.proofs.Names.{looked_up-found, looked_up-else}
+use Rattle.std.proofs.Common.{◌∙◌, sym, ap, is_some}
+use Rattle.meta_base.specs.Language.Builtins.{builtin_of, is_one_of}
+use Rattle.meta_builtins.proofs.BuiltinLemmas.{named_meaning}
+use Rattle.meta_names.proofs.Names.{known-else}
 use Rattle.meta_names.proofs.tables.is_known.Goals as goal
 
-pub returns-then-is_among : goal.returns-then-is_among
-returns-then-is_among c =
-    let n = c.args.name.now in
-    c.if-is_among.true ∙ sym (looked_up-found builtins n (sym (c.if-is_among.ensures ∙ ap (λ ns. is_one_of ns n) c.other_builtins.ensures)))
+pub returns-in-Some : goal.returns-in-Some
+returns-in-Some c = sym (ap (λ n. is_some (builtin_of n)) c.in-Some.ensures.written ∙ ap is_some (named_meaning c.in-Some.field-0))
 
-pub returns-else-is_among : goal.returns-else-is_among
-returns-else-is_among c =
+pub returns-in-None : goal.returns-in-None
+returns-in-None c =
     let n = c.args.name.now in
-    c.is_among-else-is_among.ensures ∙ ap (λ ns. is_one_of ns n) c.unicode_property_names.ensures
-    ∙ sym (looked_up-else builtins n (sym (c.if-is_among.ensures ∙ ap (λ ns. is_one_of ns n) c.other_builtins.ensures)))
+    c.is_among.ensures ∙ ap (λ ns. is_one_of ns n) c.unicode_property_names.ensures ∙ sym (known-else n c.in-None.ensures.unwritten)

@@ -7,24 +7,24 @@ use Rattle.meta_names.specs.Names.{AreIn}
 use Rattle.meta_base.specs.Pieces.Pairs.{pairs_text, pairs_trees}
 use Rattle.meta_base.specs.Pieces.NamedTrees.{named}
 use Rattle.meta_names.proofs.Places.{tell_none}
-use Rattle.meta_names.proofs.pairs.validate_pairs.Goals as goal
+use Rattle.meta_names.proofs.pairs.collect_builtins.Goals as goal
 
 pub returns-clause-no_complaints : goal.returns-clause-no_complaints
 returns-clause-no_complaints c =
-    let d : map piece_of c.in_ok-definitions.definitions.items ≡ definitions_of c.args.pairs = search rules in
-    let e : map piece_of c.in_ok-calls.calls.items ≡ calls_of c.args.pairs = search rules in
+    let d : map piece_of c.in_ok-definitions.definitions.items ≡ definitions_of c.args.pairs.now = search rules in
+    let e : map piece_of c.in_ok-calls.calls.items ≡ calls_of c.args.pairs.now = search rules in
     let none : c.in_ok-errors.errors.items ≡ [] = first_of (search rules, grind (arith, common_steps)) in
     tell_none _ c.in_ok-errors.errors.items (rw (d, e) at c.in_ok-errors.ensures.told) none
 
 pub name_errors-requires-clause-definitions_in_text :
     goal.name_errors-requires-clause-definitions_in_text
 name_errors-requires-clause-definitions_in_text c =
-    let d : map piece_of c.in_ok-definitions.definitions.items ≡ definitions_of c.args.pairs = search rules in
-    let h : AreIn c.get_input-text.result.now (definitions_of c.args.pairs) = rw c.get_input-text.ensures (definitions_in (pairs_text c.args.pairs) (named (pairs_trees c.args.pairs))) in
+    let d : map piece_of c.in_ok-definitions.definitions.items ≡ definitions_of c.args.pairs.now = search rules in
+    let h : AreIn c.get_input-text.result.now (definitions_of c.args.pairs.now) = rw c.get_input-text.ensures (definitions_in (pairs_text c.args.pairs.now) (named (pairs_trees c.args.pairs.now))) in
     rw d h
 
 pub name_errors-requires-clause-calls_in_text : goal.name_errors-requires-clause-calls_in_text
 name_errors-requires-clause-calls_in_text c =
-    let e : map piece_of c.in_ok-calls.calls.items ≡ calls_of c.args.pairs = search rules in
-    let h : AreIn c.get_input-text.result.now (calls_of c.args.pairs) = rw c.get_input-text.ensures (calls_in (pairs_text c.args.pairs) (named (pairs_trees c.args.pairs))) in
+    let e : map piece_of c.in_ok-calls.calls.items ≡ calls_of c.args.pairs.now = search rules in
+    let h : AreIn c.get_input-text.result.now (calls_of c.args.pairs.now) = rw c.get_input-text.ensures (calls_in (pairs_text c.args.pairs.now) (named (pairs_trees c.args.pairs.now))) in
     rw e h
