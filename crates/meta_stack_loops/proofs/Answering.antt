@@ -17,13 +17,13 @@ use Rattle.meta_analysis.specs.Shapes.{sign_of, joint_of}
 use Rattle.meta_stack_loops.specs.Answers.{AreAnswers, at_place, changing_kind}
 use Rattle.meta_stack_loops.specs.Expressions.{body_flag, name_flag, may_change}
 use Rattle.meta_analysis.specs.Names.{grammar_of, rule_said}
+use Rattle.meta_stack_loops.proofs.Builtins.{comment_kind, whitespace_kind}
 use Rattle.meta_stack_loops.specs.Names.{kind_in, name_kind, builtin_kind}
 use Rattle.meta_analysis.specs.Nodes.{IsSimple, all_nodes}
 use Rattle.meta_stack_loops.specs.Kinds.{AreTabled, leaf_kind, text_kind, slice_kind, wrap_kind, both_kind}
 use Rattle.meta_stack_loops.specs.declared.table.NodeKind.TheVariants as is
 use Rattle.meta_stack_loops.specs.declared.table.PassNode.{PassNode}
 use Rattle.meta_stack_loops.specs.declared.facts.Question.TheVariants as asks
-use Rattle.meta_stack_loops.proofs.Builtins.{builtin_does, kind_by}
 use Rattle.meta_analysis.proofs.Resolved.{Named, absent, named, resolved, same_item}
 
 module _ (rules : List ParserRule) (ns : List PassNode) (roots : List ℕ) (tabled : AreTabled rules (kind_in (grammar_of rules)) ns roots) (flags : List Bool) where
@@ -115,14 +115,14 @@ module _ (rules : List ParserRule) (ns : List PassNode) (roots : List ℕ) (tabl
     changes_builtin : (n : Text) (b : Builtin) → rule_of G n ≡ None → builtin_of n ≡ Some b → TakesEntries b → changes n ≡ true
     changes_builtin n b e is a = go (last_place G n) refl (resolved rules n)
       where
-        alters : (b : Builtin) → TakesEntries b → changing_kind roots P (kind_by (Some b)) ≡ true
+        alters : (b : Builtin) → TakesEntries b → changing_kind roots P (builtin_kind (Some b)) ≡ true
         alters Pop h = refl
         alters Drop h = refl
         alters PopAll h = refl
         alters _ h = absurd h
 
         go : (o : Option ℕ) → last_place G n ≡ o → Named rules n o → changes n ≡ true
-        go o l (absent f) = ap (λ q. changing_kind roots P (name_kind n q)) l ∙ (ap (changing_kind roots P) (builtin_does n ∙ ap kind_by is) ∙ alters b a)
+        go o l (absent f) = ap (λ q. changing_kind roots P (name_kind n q)) l ∙ (ap (λ q. changing_kind roots P (builtin_kind q)) is ∙ alters b a)
         go o l (named rule at f) = let z = sym e ∙ f in cc
 
     changes_so : {e : Expression} → AltersStack G e → may_change changes e ≡ true
@@ -144,15 +144,14 @@ module _ (rules : List ParserRule) (ns : List PassNode) (roots : List ℕ) (tabl
     changes_so (in_tag d) = changes_so d
     changes_so (in_restore d) = changes_so d
 
-    common_name : (n : Text) → builtin_kind n ≡ is.Leaf → (o : Option ℕ) → changing_kind roots P (name_kind n o) ≡ body_flag roots flags o
+    common_name : (n : Text) → builtin_kind (builtin_of n) ≡ is.Leaf → (o : Option ℕ) → changing_kind roots P (name_kind n o) ≡ body_flag roots flags o
     common_name n h None = ap (changing_kind roots P) h
     common_name n h (Some r) = refl
 
-    calm_name : (n : Text) → builtin_kind n ≡ is.Leaf → flag n ≡ false → AltersStack G (Ident n) → ⊥
+    calm_name : (n : Text) → builtin_kind (builtin_of n) ≡ is.Leaf → flag n ≡ false → AltersStack G (Ident n) → ⊥
     calm_name n h f d = both_ways (changes n) (common_name n h (last_place G n) ∙ f) (changes_so d)
 
     -- what is skipped leaves the stack alone, where the flags say so
     pub calm : flag whitespace ≡ false → flag comment ≡ false → SkippingAltersStack G → ⊥
-    unfolding whitespace comment
-    calm f h (inl d) = calm_name whitespace refl f d
-    calm f h (inr d) = calm_name comment refl h d
+    calm f h (inl d) = calm_name whitespace whitespace_kind f d
+    calm f h (inr d) = calm_name comment comment_kind h d

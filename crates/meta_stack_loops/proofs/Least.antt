@@ -17,12 +17,11 @@ use Rattle.meta_analysis.specs.Shapes.{sign_of, joint_of}
 use Rattle.meta_stack_loops.specs.Answers.{at_place, changing_kind, Holds, AreSound}
 use Rattle.meta_stack_loops.specs.Expressions.{body_flag, name_flag}
 use Rattle.meta_analysis.specs.Names.{grammar_of, rule_said}
-use Rattle.meta_stack_loops.specs.Names.{kind_in, name_kind}
+use Rattle.meta_stack_loops.specs.Names.{kind_in, name_kind, builtin_kind}
 use Rattle.meta_analysis.specs.Nodes.{IsSimple, all_nodes}
 use Rattle.meta_stack_loops.specs.Kinds.{AreTabled, IsNode, leaf_kind, text_kind, slice_kind, wrap_kind, both_kind}
 use Rattle.meta_stack_loops.specs.declared.table.PassNode.{PassNode}
 use Rattle.meta_stack_loops.specs.declared.facts.Question.TheVariants as asks
-use Rattle.meta_stack_loops.proofs.Builtins.{builtin_does, kind_by}
 use Rattle.meta_analysis.proofs.Resolved.{Named, absent, named, resolved, same_item}
 
 module _ (rules : List ParserRule) (ns : List PassNode) (roots : List ℕ) (tabled : AreTabled rules (kind_in (grammar_of rules)) ns roots) where
@@ -42,7 +41,7 @@ module _ (rules : List ParserRule) (ns : List PassNode) (roots : List ℕ) (tabl
       let (j, root) = got_alike rules roots r rule at (sym tabled.roots.alike) in
       k j (ap (at_place p) (sym root) ∙ h) (view rule.node) (tabled.roots.lie r j rule at root)
 
-  builtin_changes : (p : ℕ → Bool) (n : Text) (o : Option Builtin) → rule_of G n ≡ None → builtin_of n ≡ o → changing_kind roots p (kind_by o) ≡ true → AltersStack G (Ident n)
+  builtin_changes : (p : ℕ → Bool) (n : Text) (o : Option Builtin) → rule_of G n ≡ None → builtin_of n ≡ o → changing_kind roots p (builtin_kind o) ≡ true → AltersStack G (Ident n)
   builtin_changes p n (Some Pop) e b h = by_builtin e b tt
   builtin_changes p n (Some Drop) e b h = by_builtin e b tt
   builtin_changes p n (Some PopAll) e b h = by_builtin e b tt
@@ -59,7 +58,7 @@ module _ (rules : List ParserRule) (ns : List PassNode) (roots : List ℕ) (tabl
   name_changes p k n h = go (last_place G n) refl (resolved rules n)
     where
       go : (o : Option ℕ) → last_place G n ≡ o → Named rules n o → AltersStack G (Ident n)
-      go o l (absent e) = builtin_changes p n (builtin_of n) e refl (sym (ap (λ q. changing_kind roots p (name_kind n q)) l ∙ ap (changing_kind roots p) (builtin_does n)) ∙ h)
+      go o l (absent e) = builtin_changes p n (builtin_of n) e refl (sym (ap (λ q. changing_kind roots p (name_kind n q)) l) ∙ h)
       go o l (named {r = r} rule at e) = by_rule e (body_changes p k r rule at (sym (ap (λ q. changing_kind roots p (name_kind n q)) l) ∙ h))
 
   text_changing : (p : ℕ → Bool) (t : Text) → changing_kind roots p (text_kind t) ≡ false

@@ -14,7 +14,7 @@ use Rattle.meta_spanned.specs.declared.node.ParserRule.{ParserRule}
 use Rattle.meta_analysis.specs.Shapes.{sign_of, joint_of}
 use Rattle.meta_stack_loops.specs.Leading.{AreRanked, IsOperandOf}
 use Rattle.meta_analysis.specs.Names.{grammar_of}
-use Rattle.meta_stack_loops.specs.Names.{kind_in, name_kind}
+use Rattle.meta_stack_loops.specs.Names.{kind_in, name_kind, builtin_kind}
 use Rattle.meta_analysis.specs.Nodes.{IsSimple, all_nodes}
 use Rattle.meta_stack_loops.specs.Kinds.{AreTabled, Fits, leaf_kind, text_kind, slice_kind, wrap_kind, both_kind}
 use Rattle.meta_stack_loops.specs.Table.{AreInside, IsOrdered, Inside, LeadsTo, HasOrderedOperands, followed_at, nodes_of, parts_of}
@@ -22,7 +22,6 @@ use Rattle.meta_stack_loops.specs.declared.table.NodeKind.{NodeKind}
 use Rattle.meta_stack_loops.specs.declared.table.NodeKind.TheVariants as is
 use Rattle.meta_stack_loops.specs.declared.table.PassNode.{PassNode}
 use Rattle.meta_stack_loops.specs.declared.table.Table.{Table}
-use Rattle.meta_stack_loops.proofs.Builtins.{builtin_does, kind_by}
 use Rattle.meta_stack_loops.proofs.LeadingLemmas.{both_operands, wrap_operand}
 use Rattle.meta_stack_loops.proofs.RankLemmas.{body_falls, operand_falls}
 use Rattle.meta_analysis.proofs.Resolved.{same_item}
@@ -59,7 +58,7 @@ module _ (rules : List ParserRule) (t : Table) (tabled : AreTabled rules (kind_i
             few = omega arith;
           }
 
-  by_lies : (i : ℕ) (q : Option Builtin) → HasOrderedOperands t i (kind_by q)
+  by_lies : (i : ℕ) (q : Option Builtin) → HasOrderedOperands t i (builtin_kind q)
   by_lies i (Some Peek) = tt
   by_lies i (Some Pop) = tt
   by_lies i (Some Drop) = tt
@@ -73,7 +72,7 @@ module _ (rules : List ParserRule) (t : Table) (tabled : AreTabled rules (kind_i
   by_lies i None = tt
 
   name_lies : (i : ℕ) (n : Text) (m : PassNode) → slice_get (nodes_of t) i ≡ Some m → (q : Option ℕ) → m.kind ≡ name_kind n q → HasOrderedOperands t i (name_kind n q)
-  name_lies i n m at None k = subst (HasOrderedOperands t i) (sym (builtin_does n)) (by_lies i (builtin_of n))
+  name_lies i n m at None k = by_lies i (builtin_of n)
   name_lies i n m at (Some r) k = call_lies i r m at k
 
   text_lies : (i : ℕ) (u : Text) → HasOrderedOperands t i (text_kind u)

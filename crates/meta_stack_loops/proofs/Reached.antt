@@ -18,7 +18,7 @@ use Rattle.meta_stack_loops.specs.Answers.{at_place}
 use Rattle.meta_stack_loops.specs.Certain.{IsTableOf}
 use Rattle.meta_stack_loops.specs.Leading.{IsOperandOf, LeadsToCall, to_call, by_body, by_operand, LeadsBack}
 use Rattle.meta_analysis.specs.Names.{grammar_of, rule_said}
-use Rattle.meta_stack_loops.specs.Names.{kind_in, name_kind}
+use Rattle.meta_stack_loops.specs.Names.{kind_in, name_kind, builtin_kind}
 use Rattle.meta_analysis.specs.Nodes.{IsSimple, all_nodes}
 use Rattle.meta_stack_loops.specs.Kinds.{AreTabled, Fits, leaf_kind, text_kind, slice_kind, wrap_kind, both_kind}
 use Rattle.meta_stack_loops.specs.Table.{called_by, nodes_of, parts_of}
@@ -26,7 +26,6 @@ use Rattle.meta_stack_loops.specs.Told.{is_flagged}
 use Rattle.meta_stack_loops.specs.declared.table.NodeKind.TheVariants as is
 use Rattle.meta_stack_loops.specs.declared.table.PassNode.{PassNode}
 use Rattle.meta_stack_loops.specs.declared.table.Table.{Table}
-use Rattle.meta_stack_loops.proofs.Builtins.{builtin_does, kind_by}
 use Rattle.meta_stack_loops.proofs.LeadingLemmas.{both_operands, set_place, wrap_operand}
 use Rattle.meta_analysis.proofs.Resolved.{Named, absent, named, resolved, same_item}
 use Rattle.meta_stack_loops.proofs.Tied.{inner_part, leaf_parts, side_part, simple_part}
@@ -57,7 +56,7 @@ one_name g n c r h k =
     sym d ∙ (ap (λ z. z.name) (same_item (slice_get g r) p q is at) ∙ e)
 
 -- 2. kinds that call
-by_called : (q : Option Builtin) → called_by (kind_by q) ≡ None
+by_called : (q : Option Builtin) → called_by (builtin_kind q) ≡ None
 by_called (Some Peek) = refl
 by_called (Some Pop) = refl
 by_called (Some Drop) = refl
@@ -71,7 +70,7 @@ by_called (Some Eoi) = refl
 by_called None = refl
 
 name_called : (n : Text) (o : Option ℕ) → called_by (name_kind n o) ≡ o
-name_called n None = ap called_by (builtin_does n) ∙ by_called (builtin_of n)
+name_called n None = by_called (builtin_of n)
 name_called n (Some r) = refl
 
 text_called : (t : Text) → called_by (text_kind t) ≡ None

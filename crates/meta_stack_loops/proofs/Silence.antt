@@ -22,7 +22,7 @@ use Rattle.meta_analysis.specs.Shapes.{sign_of, joint_of}
 use Rattle.meta_stack_loops.specs.Answers.{AreAnswers, at_place, some_part, still_kind}
 use Rattle.meta_stack_loops.specs.Leading.{IsOperandOf}
 use Rattle.meta_analysis.specs.Names.{grammar_of, rule_said}
-use Rattle.meta_stack_loops.specs.Names.{kind_in, name_kind}
+use Rattle.meta_stack_loops.specs.Names.{kind_in, name_kind, builtin_kind}
 use Rattle.meta_analysis.specs.Nodes.{IsSimple, all_nodes}
 use Rattle.meta_stack_loops.specs.Kinds.{AreTabled, Fits, is_empty_text, leaf_kind, text_kind, slice_kind, wrap_kind, both_kind}
 use Rattle.meta_stack_loops.specs.Reportable.{AreInPostorder, AreReportable, AreSilent, may_be_still, may_loop, slice_may_be_still, AreLoopFlags}
@@ -31,7 +31,6 @@ use Rattle.meta_stack_loops.specs.declared.facts.Question.TheVariants as asks
 use Rattle.meta_stack_loops.specs.declared.table.PassNode.{PassNode}
 use Rattle.meta_stack_loops.specs.declared.table.Parts.{Parts}
 use Rattle.meta_stack_loops.specs.declared.table.Parts.TheVariants as parts
-use Rattle.meta_stack_loops.proofs.Builtins.{builtin_does, kind_by}
 use Rattle.meta_stack_loops.proofs.Reached.{either_operand, only_operand}
 use Rattle.meta_analysis.proofs.Resolved.{Named, absent, named, resolved, same_item}
 use Rattle.meta_stack_loops.proofs.Still.{first_turn, names_still, reads_still}
@@ -171,7 +170,7 @@ module _ (rules : List ParserRule) (ns : List PassNode) (roots : List ℕ) (tabl
             let same : rule_said rule ≡ q = same_item (rule_of G n) (rule_said rule) q f e in
             ap (λ o. still_kind roots P (name_kind n o)) l ∙ (ap (at_place P) root ∙ (still_at (view rule.node) j (tabled.roots.lie r j rule at root) ∙ (ap (λ z. may_be_still near z.body) same ∙ h)))
 
-    by_still : (q : Option Builtin) (a : AbstractStack) → (builtin_reading q a).still ≡ true → still_kind roots P (kind_by q) ≡ true
+    by_still : (q : Option Builtin) (a : AbstractStack) → (builtin_reading q a).still ≡ true → still_kind roots P (builtin_kind q) ≡ true
     by_still (Some Peek) a h = refl
     by_still (Some Pop) a h = refl
     by_still (Some Drop) a h = refl
@@ -188,7 +187,7 @@ module _ (rules : List ParserRule) (ns : List PassNode) (roots : List ℕ) (tabl
     builtin_near n e a h = go (last_place G n) refl (resolved rules n)
       where
         go : (o : Option ℕ) → last_place G n ≡ o → Named rules n o → near n ≡ true
-        go o l (absent f) = ap (λ q. still_kind roots P (name_kind n q)) l ∙ (ap (still_kind roots P) (builtin_does n) ∙ by_still (builtin_of n) a h)
+        go o l (absent f) = ap (λ q. still_kind roots P (name_kind n q)) l ∙ by_still (builtin_of n) a h
         go o l (named rule at f) = let z = sym e ∙ f in cc
 
     module _ (flags : List Bool) (told : AreLoopFlags ns still flags) (limit turns : ℕ) (recursive : Text → Bool) (nullable : Spanned → Bool) where

@@ -22,7 +22,7 @@ use Rattle.meta_analysis.specs.Shapes.{sign_of, joint_of}
 use Rattle.meta_stack_loops.specs.Answers.{at_place}
 use Rattle.meta_stack_loops.specs.Memory.{Meaning}
 use Rattle.meta_analysis.specs.Names.{grammar_of, rule_said}
-use Rattle.meta_stack_loops.specs.Names.{kind_in, name_kind}
+use Rattle.meta_stack_loops.specs.Names.{kind_in, name_kind, builtin_kind}
 use Rattle.meta_analysis.specs.Nodes.{IsSimple, all_nodes}
 use Rattle.meta_stack_loops.specs.Kinds.{AreTabled, IsNode, is_empty_text, Fits, leaf_kind, text_kind, slice_kind, wrap_kind, both_kind}
 use Rattle.meta_stack_loops.specs.Table.{IsMeaning, IsOrdered, HasOrderedOperands, LeadsTo, Called, Inside, node_reading, call_reading, followed_at, nodes_of, parts_of, copies, rank_at}
@@ -33,7 +33,6 @@ use Rattle.meta_stack_loops.specs.declared.table.NodeKind.TheVariants as is
 use Rattle.meta_stack_loops.specs.declared.table.PassNode.{PassNode}
 use Rattle.meta_stack_loops.specs.declared.table.Parts.TheVariants as parts
 use Rattle.meta_stack_loops.specs.declared.table.Table.{Table}
-use Rattle.meta_stack_loops.proofs.Builtins.{builtin_does, kind_by}
 use Rattle.meta_analysis.proofs.Resolved.{Named, absent, named, resolved, same_item}
 
 -- 1. parts of expressions that are names
@@ -148,7 +147,7 @@ slice_parts (pos zero) (Some (negsuc k)) = refl
 slice_parts (pos (suc k)) j = refl
 slice_parts (negsuc k) j = refl
 
-by_parts : (q : Option Builtin) → parts_of (kind_by q) ≡ parts.Nothing
+by_parts : (q : Option Builtin) → parts_of (builtin_kind q) ≡ parts.Nothing
 by_parts (Some Peek) = refl
 by_parts (Some Pop) = refl
 by_parts (Some Drop) = refl
@@ -162,7 +161,7 @@ by_parts (Some Eoi) = refl
 by_parts None = refl
 
 name_parts : (n : Text) (q : Option ℕ) → parts_of (name_kind n q) ≡ parts.Nothing
-name_parts n None = ap parts_of (builtin_does n) ∙ by_parts (builtin_of n)
+name_parts n None = by_parts (builtin_of n)
 name_parts n (Some r) = refl
 
 pub leaf_parts : (g : Grammar) (e : Expression) → IsSimple e → parts_of (leaf_kind (kind_in g) e) ≡ parts.Nothing
@@ -186,7 +185,7 @@ slice_reads t meaning (pos zero) (Some (negsuc k)) a = refl
 slice_reads t meaning (pos (suc k)) j a = refl
 slice_reads t meaning (negsuc k) j a = refl
 
-by_reads : (t : Table) (meaning : Meaning) (q : Option Builtin) (a : AbstractStack) → node_reading t meaning (kind_by q) a ≡ builtin_reading q a
+by_reads : (t : Table) (meaning : Meaning) (q : Option Builtin) (a : AbstractStack) → node_reading t meaning (builtin_kind q) a ≡ builtin_reading q a
 by_reads t meaning (Some Peek) a = refl
 by_reads t meaning (Some Pop) a = refl
 by_reads t meaning (Some Drop) a = refl
@@ -355,7 +354,7 @@ module _ (rules : List ParserRule) (t : Table) (tabled : AreTabled rules (kind_i
       go : ReadsNode n → node_reading t meaning (kind_in G n) a ≡ At deep n a
       go (as_builtin e l) =
           ap (λ q. node_reading t meaning (name_kind n q) a) l
-          ∙ (ap (λ k. node_reading t meaning k a) (builtin_does n) ∙ (by_reads t meaning (builtin_of n) a ∙ sym (builtin_at deep n e a)))
+          ∙ (by_reads t meaning (builtin_of n) a ∙ sym (builtin_at deep n e a))
       go (as_any {q = q} {r = r} e l o f) =
           ap (λ q. node_reading t meaning (name_kind n q) a) l ∙ (ap (λ q. call_reading meaning q a) o ∙ sym (any_at deep n q e f a))
       go (as_body {r = r} {j = j} rule e l o f here) =

@@ -1,21 +1,27 @@
 -- Kinds of names.
-use Rattle.std.specs.Prelude.{ℕ, Option, Some, None, if◌then◌else◌, bytes_eq, codes}
+use Rattle.std.specs.Prelude.{ℕ, Option, Some, None}
 use Rattle.meta_base.specs.Language.Text.{Text}
+use Rattle.meta_base.specs.Language.Builtins.{Builtin, One, Property, Newline, Soi, Eoi, Peek, Pop, Drop, PeekAll, PopAll, builtin_of}
 use Rattle.meta_base.specs.Language.Expression.{Grammar, last_place}
 use Rattle.meta_stack_loops.specs.declared.table.NodeKind.{NodeKind}
 use Rattle.meta_stack_loops.specs.declared.table.NodeKind.TheVariants as is
 
--- the kind of a name that no rule has
-abbrev pub builtin_kind : Text → NodeKind
-builtin_kind n =
-    if bytes_eq n (codes "PEEK") then is.Peek
-    else (if bytes_eq n (codes "POP") then is.Pop
-    else (if bytes_eq n (codes "DROP") then is.Drop
-    else (if bytes_eq n (codes "PEEK_ALL") then is.PeekAll
-    else (if bytes_eq n (codes "POP_ALL") then is.PopAll else is.Leaf))))
+-- the kind of a builtin
+abbrev pub builtin_kind : Option Builtin → NodeKind
+builtin_kind (Some Peek) = is.Peek
+builtin_kind (Some Pop) = is.Pop
+builtin_kind (Some Drop) = is.Drop
+builtin_kind (Some PeekAll) = is.PeekAll
+builtin_kind (Some PopAll) = is.PopAll
+builtin_kind (Some (One f)) = is.Leaf
+builtin_kind (Some (Property n)) = is.Leaf
+builtin_kind (Some Newline) = is.Leaf
+builtin_kind (Some Soi) = is.Leaf
+builtin_kind (Some Eoi) = is.Leaf
+builtin_kind None = is.Leaf
 
 abbrev pub name_kind : Text → Option ℕ → NodeKind
-name_kind n None = builtin_kind n
+name_kind n None = builtin_kind (builtin_of n)
 name_kind n (Some r) = is.Call r
 
 -- the kind of a name

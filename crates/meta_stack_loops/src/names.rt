@@ -1,30 +1,38 @@
 //! Kinds of names.
-ghost use Rattle.std.specs.Prelude.{◌≡◌};
+ghost use Rattle.std.specs.Prelude.{◌≡◌, Some};
 ghost use Rattle.meta_ast.specs.Ast.{text_of};
+ghost use Rattle.meta_base.specs.Language.Builtins.{builtin_of};
+ghost use Rattle.meta_builtins.specs.Builtins.{meaning_of};
 ghost use Rattle.meta_analysis.specs.NameMaps.{KnowsRules};
 ghost use Rattle.meta_analysis.specs.Names.{grammar_of};
-ghost use Rattle.meta_stack_loops.specs.Names.{kind_in, builtin_kind};
+ghost use Rattle.meta_stack_loops.specs.Names.{builtin_kind, kind_in};
 
 use crate::table::NodeKind;
-use meta_analysis::{Names, is_literal, rule_of_name};
+use meta_analysis::{Names, rule_of_name};
+use meta_builtins::Builtin;
 use meta_spanned::ParserRule;
 
 /// Returns the kind of a builtin.
-fn kind_of_builtin(name: &String) -> NodeKind
-    ensures { result ≡ builtin_kind (text_of name.now) }
+fn kind_of_builtin(builtin: Builtin) -> NodeKind
+    ensures { result ≡ builtin_kind (Some (meaning_of builtin)) }
 {
-    if is_literal(name, "PEEK") {
-        NodeKind::Peek
-    } else if is_literal(name, "POP") {
-        NodeKind::Pop
-    } else if is_literal(name, "DROP") {
-        NodeKind::Drop
-    } else if is_literal(name, "PEEK_ALL") {
-        NodeKind::PeekAll
-    } else if is_literal(name, "POP_ALL") {
-        NodeKind::PopAll
-    } else {
-        NodeKind::Leaf
+    match builtin {
+        Builtin::Peek => NodeKind::Peek,
+        Builtin::Pop => NodeKind::Pop,
+        Builtin::Drop => NodeKind::Drop,
+        Builtin::PeekAll => NodeKind::PeekAll,
+        Builtin::PopAll => NodeKind::PopAll,
+        Builtin::Set(_) | Builtin::Soi | Builtin::Eoi | Builtin::Newline => NodeKind::Leaf,
+    }
+}
+
+/// Returns the kind of a name that no rule has.
+fn kind_of_other(name: &String) -> NodeKind
+    ensures { result ≡ builtin_kind (builtin_of (text_of name.now)) }
+{
+    match Builtin::from_name(name.as_str()) {
+        Some(builtin) => kind_of_builtin(builtin),
+        None => NodeKind::Leaf,
     }
 }
 
@@ -35,6 +43,6 @@ pub(crate) fn kind_of_name<'i>(rules: &[ParserRule<'i>], names: &Names, name: &S
 {
     match rule_of_name(rules, names, name) {
         Some(rule) => NodeKind::Call(rule),
-        None => kind_of_builtin(name),
+        None => kind_of_other(name),
     }
 }
