@@ -28,8 +28,8 @@ returns-in-Ok-clause-stopped g c =
     let comes = rw c.deref.ensures.value at c.outcome_of-outcome.ensures in
     stops c.outcome_of-outcome.result c.args.grammar.now c.args.request.rule.now c.args.text.now c.args.request.format c.args.request.form (optimized_rules_of c.in-Ok.rules.items) c.print_outcome.result.write_result c.print_outcome.result.status _ _ _ _ answers comes c.print_outcome.ensures.ends
 
-pub returns-clause-reason : goal.returns-clause-reason
-returns-clause-reason g c =
+pub returns-in-Err-Text-clause-reason : goal.returns-in-Err-Text-clause-reason
+returns-in-Err-Text-clause-reason g c =
     let parsed = c.read_rules in
     let reported = c.unwrap_or_report in
     let told = c.exit_with-in-Err-Text in
