@@ -59,8 +59,8 @@ pub data IsReason (form : RuleForm) (grammar rule text : List ℕ) : List ℕ �
       → IsReason form grammar rule text (report_text errors)
   no_rule : (rules : Grammar) → AreRun form grammar rules → HasNoRule rules rule
       → IsReason form grammar rule text (codes "the grammar has no rule " ++ rule)
-  no_match : (rules : Grammar) (report : List ℕ) → AreRun form grammar rules → HasFailed rules rule text report
-      → IsReason form grammar rule text report
+  no_match : (rules : Grammar) (report : List ℕ) → AreRun form grammar rules
+      → HasFailed rules rule text report → IsReason form grammar rule text report
 
 -- there is such a reason, and it is the line
 pub record ReportsReason {X E : Type 0} (form : RuleForm) (grammar rule text : List ℕ) (written : Result X E)

@@ -33,7 +33,8 @@ pub fn command<'a>(alloc: Global) -> Result<Command<'a>, AllocError> {
         .long("optimized")
         .action(ArgAction::SetTrue)
         .help(
-            "Match by the optimized rules, as pest's own parsers do: a rule like (x ~ y)* ~ x then matches more",
+            "Match by the optimized rules, as pest's own parsers do; \
+             a rule like (x ~ y)* ~ x then matches more",
         );
     let grammar = Arg::new(alloc, "GRAMMAR")
         .required(true)

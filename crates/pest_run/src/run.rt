@@ -70,7 +70,8 @@ pub fn run_files<W: Write, E: Write>(
     ensures read { result.status ≢ 3 → IsReadable grammar.now × IsReadable text.now }
     ensures unread { IsReadable grammar.now → IsReadable text.now → result.status ≢ 3 }
     ensures printed { result.status ≡ 0
-        → PrintsTrees request.entry.form grammar.now.bytes.items request.entry.rule.now text.now.bytes.items request.entry.format
+        → PrintsTrees request.entry.form grammar.now.bytes.items request.entry.rule.now
+        text.now.bytes.items request.entry.format
         (W.contents out.old.writer) (W.contents out.new.writer) }
     ensures unprinted { result.status ≢ 0 → result.status ≢ 4 → out.new ≡ out.old }
     ensures taken { result.status ≡ 0 → out.new.refused ≡ out.old.refused }
@@ -87,7 +88,8 @@ pub fn run_files<W: Write, E: Write>(
         → WritesLine (codes "cannot write") result.write_result
         (E.contents err.old.writer) (E.contents err.new.writer) }
     ensures stopped { result.status ≡ 5
-        → ReportsStop request.entry.form grammar.now.bytes.items request.entry.rule.now text.now.bytes.items result.write_result
+        → ReportsStop request.entry.form grammar.now.bytes.items request.entry.rule.now
+        text.now.bytes.items result.write_result
         (E.contents err.old.writer) (E.contents err.new.writer) }
     ensures told { IsOk result.write_result → err.new.refused ≡ err.old.refused }
     ensures refused_line { IsErr result.write_result → err.new.refused ≡ true }
