@@ -9,3 +9,4 @@ pub mod Skipped
 pub mod Converting
 pub mod Listed
 pub mod Joined
+pub mod Written

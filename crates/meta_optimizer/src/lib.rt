@@ -15,6 +15,7 @@ mod skipper;
 mod strings;
 mod traversal;
 mod unroller;
+mod written;
 
 pub use concatenator::concatenate;
 pub use counts::counts_are_readable;
@@ -29,3 +30,4 @@ pub use passes::optimize;
 pub use rotator::rotate;
 pub use skipper::skip;
 pub use unroller::unroll;
+pub use written::unroll_rules;

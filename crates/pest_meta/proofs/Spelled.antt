@@ -1,5 +1,5 @@
 -- A text has one list of trees at most, and is read in one way at most.
-use Rattle.std.proofs.Common.{◌≡◌, ◌≢◌, ℕ, List, [], Option, Some, None, MatchOption, false, ◌⊎◌, alloc_error, refl, sym, ap, subst, inl, inr, ◌∙◌}
+use Rattle.std.proofs.Common.{◌≡◌, ◌≢◌, ℕ, List, [], Option, Some, None, MatchOption, Result, Ok, Err, IfOk, false, ◌⊎◌, alloc_error, refl, sym, ap, subst, inl, inr, ◌∙◌}
 use Rattle.std.specs.Borrow.{Bor}
 use Rattle.meta_ast.specs.Optimized.{optimized_rules_of}
 use Rattle.meta_ast.specs.declared.optimized.OptimizedRule.{OptimizedRule}
@@ -31,6 +31,11 @@ use Rattle.meta_validator.proofs.NothingElse.{nothing_else}
 use Rattle.pest_meta.specs.Findings.{AreErrorsOfFindings}
 use Rattle.pest_meta.proofs.ReportsAgree.{reports_agree}
 use Rattle.pest_meta.specs.Promises.{OfRead}
+use Rattle.meta_optimizer.specs.Written.{AreWrittenOut}
+use Rattle.meta_base.specs.Rewritings.Rewriting.{SameOutcomes}
+use Rattle.std.specs.declared.alloc.Global.{Global}
+use Rattle.std.specs.declared.vec.Vec.{Vec}
+use Rattle.pest_meta.specs.Written.{IsWritten, SpellsAccepted}
 use Rattle.pest_meta.specs.Spelling.{AreAccepted, AreFlawed, AreRejected, AreReadAsRules, HasAnswer, HasRefusal, HasTrees, HaveFindings, IsAnswer, complaints_in, HasWrongRules, IsMisnamed, IsNoGrammar, IsRefusal, IsRefusedGrammar, SpellsGrammar}
 
 -- no property name stands for anything
@@ -157,3 +162,23 @@ answered text pairs copy builtins rules answer t h s e u a o =
       accepted = a;
       optimized = o;
     })
+
+-- what is accepted
+pub spells_accepted : (text : List ℕ) (pairs copy : Pairs Rule) (rules : Grammar)
+    → pairs_text pairs ≡ text → AreOfAGrammar pairs → IsSamePairs pairs copy → complaints_of copy ≡ []
+    → AreAccepted (pairs_text pairs) (named (pairs_trees pairs)) rules → SpellsAccepted text rules
+spells_accepted text pairs copy rules t h s e a =
+    subst (λ v. SpellsAccepted v rules) t (record {
+      trees = named (pairs_trees pairs);
+      of_text = h;
+      well_named = rw (s.0, s.1) at e;
+      accepted = a;
+    })
+
+-- accepted rules with counted repetitions written out, where there are some
+pub written : {E : Type 0} (text : List ℕ) (spelled : Grammar) (answer : Result (Vec OptimizedRule Global) E)
+    → SpellsAccepted text spelled → IfOk answer (λ rules. AreWrittenOut spelled (optimized_rules_of rules.items))
+    → IfOk answer (λ rules. SameOutcomes spelled (optimized_rules_of rules.items))
+    → IfOk answer (λ rules. IsWritten text (optimized_rules_of rules.items))
+written text spelled (Ok rules) a w o = record { spelled = spelled; accepted = a; written_out = w; outcomes = o }
+written text spelled (Err e) a w o = o

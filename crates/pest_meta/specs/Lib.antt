@@ -3,3 +3,4 @@ pub mod Laws
 pub mod Promises
 pub mod Reports
 pub mod Spelling
+pub mod Written

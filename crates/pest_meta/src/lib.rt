@@ -6,6 +6,7 @@ pub mod laws;
 pub mod parser;
 mod report;
 pub mod validator;
+mod written;
 
 ghost use Rattle.std.specs.Prelude.{[], IfErr, IfOk};
 ghost use Rattle.meta_ast.specs.Optimized.{optimized_rules_of};
@@ -27,6 +28,7 @@ pub use report::{Report, unwrap_or_report};
 use runtime::Fault;
 use std::alloc::Global;
 use validator::validate_pairs;
+pub use written::parse_as_written;
 
 /// Parses a grammar; returns the builtins that it uses, and its optimized rules.
 ///

@@ -1,21 +1,25 @@
 -- How a run ends, by what comes of the rule.
 use Rattle.std.proofs.Common.{◌≡◌, ◌≢◌, ◌⊎◌, inl, inr, sym, ◌∙◌, ℕ, ◌+◌, ◌≤◌, List, ◌++◌, Option, Result, Ok, Err, IfOk, IfErr, codes, string_bytes, arith, subst}
-use Rattle.std.specs.Prelude.{IsErrAnd}
-use Rattle.std.specs.Borrow.{Bor}
+use Rattle.std.specs.Prelude.{IsErrAnd, chars}
 use Rattle.std.specs.declared.alloc.Global.{Global}
 use Rattle.std.specs.declared.string.String.{String}
-use Rattle.meta_ast.specs.Optimized.{optimized_rules_of}
-use Rattle.meta_ast.specs.declared.optimized.OptimizedRule.{OptimizedRule}
+use Rattle.meta_base.specs.Language.Expression.{Grammar, Ident}
+use Rattle.meta_base.specs.Language.State.{NonAtomicMode, Success}
 use Rattle.meta_base.specs.declared.runtime.faults.Fault.{Fault}
 use Rattle.meta_base.specs.declared.runtime.faults.Fault.TheVariants as fault_is
 use Rattle.pest_meta.specs.Reports.{IsReportOf, report_text}
-use Rattle.pest_meta.specs.Spelling.{IsAnswer, IsRefusal}
+use Rattle.pest_meta.specs.Spelling.{IsRefusal}
+use Rattle.pest_meta.specs.Written.{IsWritten}
 use Rattle.pest_meta.specs.declared.report.Report.{Report}
 use Rattle.pest_meta.specs.declared.report.Report.TheVariants as report_is
 use Rattle.pest_run.specs.Ends.{EndsAs}
-use Rattle.pest_run.specs.Outcomes.{IsOutcome}
-use Rattle.pest_run.specs.Written.{PrintsTrees, ReportsReason, ReportsStop, WritesLine, empty_stack, no_match, no_rule, refused, too_many_steps, unknown_name, wide_bound}
+use Rattle.matcher_support.specs.Sets.{is_in_property}
+use Rattle.meta_matcher.specs.Answers.{start_of}
+use Rattle.pest_run.specs.Outcomes.{IsOutcome, IsShown}
+use Rattle.pest_run.specs.Written.{AreMatched, AreRun, PrintsTrees, ReportsReason, ReportsStop, WritesLine, empty_stack, no_match, no_rule, refused, too_many_steps, unknown_name, wide_bound}
 use Rattle.pest_run.specs.declared.arguments.Format.{Format}
+use Rattle.pest_run.specs.declared.arguments.RuleForm.{RuleForm}
+use Rattle.pest_run.specs.declared.arguments.RuleForm.TheVariants as form_is
 use Rattle.pest_run.specs.declared.outcomes.Outcome.{Outcome}
 use Rattle.pest_run.specs.declared.outcomes.Outcome.TheVariants as is
 
@@ -27,55 +31,79 @@ neither : (n k : ℕ) → (n ≡ 0) ⊎ (n ≡ 4) → n ≡ k → k ≢ 0 → k 
 neither n k (inl z) e f h = f (sym e ∙ z)
 neither n k (inr z) e f h = h (sym e ∙ z)
 
+-- rules by which a text is matched, and which match it
+record Matched (form : RuleForm) (grammar rule text : List ℕ) (format : Format) (lines : List ℕ) : Type 0 where
+  pub rules : Grammar
+  pub matched : AreMatched form grammar rules
+  pub shows : IsShown rules rule text format lines
+
+-- what rules match as they are run, those that the text spells match
+matched : (form : RuleForm) (grammar rule text : List ℕ) (format : Format) (rules : Grammar) (lines : List ℕ)
+    → AreRun form grammar rules → IsShown rules rule text format lines → Matched form grammar rule text format lines
+matched form_is.Written grammar rule text format rules lines a i =
+    let spelled : IsWritten grammar rules = a in
+    record {
+      rules = spelled.spelled;
+      matched = spelled.accepted;
+      shows = record {
+        end_ = i.end_;
+        trees = i.trees;
+        matches = (spelled.outcomes is_in_property (Ident (chars rule)) NonAtomicMode (start_of text) (Success i.end_ i.trees)).1 i.matches;
+        lines_show = i.lines_show;
+      };
+    }
+matched form_is.Optimized grammar rule text format rules lines a i = record { rules = rules; matched = a; shows = i }
+
 -- where the status is 0, trees were printed
-pub prints : {X E : Type 0} (o : Outcome) (grammar rule text : List ℕ) (format : Format) (builtins : List (Bor (List ℕ))) (rules : List OptimizedRule) (told : Result X E) (status : ℕ)
-    (old_out new_out old new : Option (List ℕ)) → IsAnswer grammar builtins rules → IsOutcome (optimized_rules_of rules) rule text format o
-    → EndsAs o rule status told old_out new_out old new → status ≡ 0 → PrintsTrees grammar rule text format old_out new_out
-prints (is.Shown lines) grammar rule text format builtins rules told status old_out new_out old new a i e zero =
-    record { builtins = builtins; rules = rules; answers = a; lines = string_bytes lines; shows = i; gained = e.1 zero }
-prints (is.Failed report) grammar rule text format builtins rules told status old_out new_out old new a i e zero = absurd (apart status 0 1 zero e.0 (omega arith))
-prints is.NoRule grammar rule text format builtins rules told status old_out new_out old new a i e zero = absurd (apart status 0 1 zero e.0 (omega arith))
-prints is.OutOfSteps grammar rule text format builtins rules told status old_out new_out old new a i e zero = absurd (apart status 0 5 zero e.0 (omega arith))
-prints is.EmptyStack grammar rule text format builtins rules told status old_out new_out old new a i e zero = absurd (apart status 0 5 zero e.0 (omega arith))
-prints is.UnknownName grammar rule text format builtins rules told status old_out new_out old new a i e zero = absurd (apart status 0 5 zero e.0 (omega arith))
-prints is.Bound grammar rule text format builtins rules told status old_out new_out old new a i e zero = absurd (apart status 0 5 zero e.0 (omega arith))
-prints is.Memory grammar rule text format builtins rules told status old_out new_out old new a i e zero = absurd (apart status 0 2 zero e (omega arith))
+pub prints : {X E : Type 0} (o : Outcome) (grammar rule text : List ℕ) (format : Format) (form : RuleForm) (rules : Grammar) (told : Result X E) (status : ℕ)
+    (old_out new_out old new : Option (List ℕ)) → AreRun form grammar rules → IsOutcome rules rule text format o
+    → EndsAs o rule status told old_out new_out old new → status ≡ 0 → PrintsTrees form grammar rule text format old_out new_out
+prints (is.Shown lines) grammar rule text format form rules told status old_out new_out old new a i e zero =
+    let m = matched form grammar rule text format rules (string_bytes lines) a i in
+    record { rules = m.rules; matched = m.matched; lines = string_bytes lines; shows = m.shows; gained = e.1 zero }
+prints (is.Failed report) grammar rule text format form rules told status old_out new_out old new a i e zero = absurd (apart status 0 1 zero e.0 (omega arith))
+prints is.NoRule grammar rule text format form rules told status old_out new_out old new a i e zero = absurd (apart status 0 1 zero e.0 (omega arith))
+prints is.OutOfSteps grammar rule text format form rules told status old_out new_out old new a i e zero = absurd (apart status 0 5 zero e.0 (omega arith))
+prints is.EmptyStack grammar rule text format form rules told status old_out new_out old new a i e zero = absurd (apart status 0 5 zero e.0 (omega arith))
+prints is.UnknownName grammar rule text format form rules told status old_out new_out old new a i e zero = absurd (apart status 0 5 zero e.0 (omega arith))
+prints is.Bound grammar rule text format form rules told status old_out new_out old new a i e zero = absurd (apart status 0 5 zero e.0 (omega arith))
+prints is.Memory grammar rule text format form rules told status old_out new_out old new a i e zero = absurd (apart status 0 2 zero e (omega arith))
 
 -- where it is 1, a reason was told
-pub tells : {X E : Type 0} (o : Outcome) (grammar rule text : List ℕ) (format : Format) (builtins : List (Bor (List ℕ))) (rules : List OptimizedRule) (told : Result X E) (status : ℕ)
-    (old_out new_out old new : Option (List ℕ)) → IsAnswer grammar builtins rules → IsOutcome (optimized_rules_of rules) rule text format o
-    → EndsAs o rule status told old_out new_out old new → status ≡ 1 → ReportsReason grammar rule text told old new
-tells (is.Shown lines) grammar rule text format builtins rules told status old_out new_out old new a i e one = absurd (neither status 1 e.0 one (omega arith) (omega arith))
-tells (is.Failed report) grammar rule text format builtins rules told status old_out new_out old new a i e one =
-    record { message = string_bytes report; reason = no_match builtins rules (string_bytes report) a i; line = e.1 }
-tells is.NoRule grammar rule text format builtins rules told status old_out new_out old new a i e one =
-    record { message = codes "the grammar has no rule " ++ rule; reason = no_rule builtins rules a i; line = e.1 }
-tells is.OutOfSteps grammar rule text format builtins rules told status old_out new_out old new a i e one = absurd (apart status 1 5 one e.0 (omega arith))
-tells is.EmptyStack grammar rule text format builtins rules told status old_out new_out old new a i e one = absurd (apart status 1 5 one e.0 (omega arith))
-tells is.UnknownName grammar rule text format builtins rules told status old_out new_out old new a i e one = absurd (apart status 1 5 one e.0 (omega arith))
-tells is.Bound grammar rule text format builtins rules told status old_out new_out old new a i e one = absurd (apart status 1 5 one e.0 (omega arith))
-tells is.Memory grammar rule text format builtins rules told status old_out new_out old new a i e one = absurd (apart status 1 2 one e (omega arith))
+pub tells : {X E : Type 0} (o : Outcome) (grammar rule text : List ℕ) (format : Format) (form : RuleForm) (rules : Grammar) (told : Result X E) (status : ℕ)
+    (old_out new_out old new : Option (List ℕ)) → AreRun form grammar rules → IsOutcome rules rule text format o
+    → EndsAs o rule status told old_out new_out old new → status ≡ 1 → ReportsReason form grammar rule text told old new
+tells (is.Shown lines) grammar rule text format form rules told status old_out new_out old new a i e one = absurd (neither status 1 e.0 one (omega arith) (omega arith))
+tells (is.Failed report) grammar rule text format form rules told status old_out new_out old new a i e one =
+    record { message = string_bytes report; reason = no_match rules (string_bytes report) a i; line = e.1 }
+tells is.NoRule grammar rule text format form rules told status old_out new_out old new a i e one =
+    record { message = codes "the grammar has no rule " ++ rule; reason = no_rule rules a i; line = e.1 }
+tells is.OutOfSteps grammar rule text format form rules told status old_out new_out old new a i e one = absurd (apart status 1 5 one e.0 (omega arith))
+tells is.EmptyStack grammar rule text format form rules told status old_out new_out old new a i e one = absurd (apart status 1 5 one e.0 (omega arith))
+tells is.UnknownName grammar rule text format form rules told status old_out new_out old new a i e one = absurd (apart status 1 5 one e.0 (omega arith))
+tells is.Bound grammar rule text format form rules told status old_out new_out old new a i e one = absurd (apart status 1 5 one e.0 (omega arith))
+tells is.Memory grammar rule text format form rules told status old_out new_out old new a i e one = absurd (apart status 1 2 one e (omega arith))
 
 -- where it is 5, why the matcher was stopped was told
-pub stops : {X E : Type 0} (o : Outcome) (grammar rule text : List ℕ) (format : Format) (builtins : List (Bor (List ℕ))) (rules : List OptimizedRule) (told : Result X E) (status : ℕ)
-    (old_out new_out old new : Option (List ℕ)) → IsAnswer grammar builtins rules → IsOutcome (optimized_rules_of rules) rule text format o
-    → EndsAs o rule status told old_out new_out old new → status ≡ 5 → ReportsStop grammar rule text told old new
-stops (is.Shown lines) grammar rule text format builtins rules told status old_out new_out old new a i e five = absurd (neither status 5 e.0 five (omega arith) (omega arith))
-stops (is.Failed report) grammar rule text format builtins rules told status old_out new_out old new a i e five = absurd (apart status 1 5 e.0 five (omega arith))
-stops is.NoRule grammar rule text format builtins rules told status old_out new_out old new a i e five = absurd (apart status 1 5 e.0 five (omega arith))
-stops is.OutOfSteps grammar rule text format builtins rules told status old_out new_out old new a i e five = record { builtins = builtins; rules = rules; answers = a; message = codes "the text takes too many steps"; stop = too_many_steps i; line = e.1 }
-stops is.EmptyStack grammar rule text format builtins rules told status old_out new_out old new a i e five = record { builtins = builtins; rules = rules; answers = a; message = codes "PEEK or POP found nothing on the stack"; stop = empty_stack i; line = e.1 }
-stops is.UnknownName grammar rule text format builtins rules told status old_out new_out old new a i e five = record { builtins = builtins; rules = rules; answers = a; message = codes "the grammar calls a rule that is not known"; stop = unknown_name i; line = e.1 }
-stops is.Bound grammar rule text format builtins rules told status old_out new_out old new a i e five = record { builtins = builtins; rules = rules; answers = a; message = codes "a range of the grammar has a bound that is no character"; stop = wide_bound i; line = e.1 }
-stops is.Memory grammar rule text format builtins rules told status old_out new_out old new a i e five = absurd (apart status 2 5 e five (omega arith))
+pub stops : {X E : Type 0} (o : Outcome) (grammar rule text : List ℕ) (format : Format) (form : RuleForm) (rules : Grammar) (told : Result X E) (status : ℕ)
+    (old_out new_out old new : Option (List ℕ)) → AreRun form grammar rules → IsOutcome rules rule text format o
+    → EndsAs o rule status told old_out new_out old new → status ≡ 5 → ReportsStop form grammar rule text told old new
+stops (is.Shown lines) grammar rule text format form rules told status old_out new_out old new a i e five = absurd (neither status 5 e.0 five (omega arith) (omega arith))
+stops (is.Failed report) grammar rule text format form rules told status old_out new_out old new a i e five = absurd (apart status 1 5 e.0 five (omega arith))
+stops is.NoRule grammar rule text format form rules told status old_out new_out old new a i e five = absurd (apart status 1 5 e.0 five (omega arith))
+stops is.OutOfSteps grammar rule text format form rules told status old_out new_out old new a i e five = record { rules = rules; are = a; message = codes "the text takes too many steps"; stop = too_many_steps i; line = e.1 }
+stops is.EmptyStack grammar rule text format form rules told status old_out new_out old new a i e five = record { rules = rules; are = a; message = codes "PEEK or POP found nothing on the stack"; stop = empty_stack i; line = e.1 }
+stops is.UnknownName grammar rule text format form rules told status old_out new_out old new a i e five = record { rules = rules; are = a; message = codes "the grammar calls a rule that is not known"; stop = unknown_name i; line = e.1 }
+stops is.Bound grammar rule text format form rules told status old_out new_out old new a i e five = record { rules = rules; are = a; message = codes "a range of the grammar has a bound that is no character"; stop = wide_bound i; line = e.1 }
+stops is.Memory grammar rule text format form rules told status old_out new_out old new a i e five = absurd (apart status 2 5 e five (omega arith))
 
 -- where there is a text, the outcome was a refusal, there is a reason for it, and the text reports it
-pub refusal : {X Y E : Type 0} (grammar rule text : List ℕ) (outcome : Result X Fault) (answer : Result X Report) (message : String Global) (told : Result Y E) (old new : Option (List ℕ))
+pub refusal : {X Y E : Type 0} (form : RuleForm) (grammar rule text : List ℕ) (outcome : Result X Fault) (answer : Result X Report) (message : String Global) (told : Result Y E) (old new : Option (List ℕ))
     → IfErr outcome (IsRefusal grammar) → IfOk outcome (λ v. answer ≡ Ok v) → IfErr outcome (λ fault. IsErrAnd answer (IsReportOf fault))
-    → answer ≡ Err (report_is.Text message) → WritesLine (string_bytes message) told old new → ReportsReason grammar rule text told old new
-refusal grammar rule text (Ok v) answer message told old new r a b e line = cc
-refusal grammar rule text (Err (fault_is.Memory m)) answer message told old new r a b e line = let said = rw e at b in cc
-refusal grammar rule text (Err (fault_is.Grammar errors)) answer message told old new r a b e line =
+    → answer ≡ Err (report_is.Text message) → WritesLine (string_bytes message) told old new → ReportsReason form grammar rule text told old new
+refusal form grammar rule text (Ok v) answer message told old new r a b e line = cc
+refusal form grammar rule text (Err (fault_is.Memory m)) answer message told old new r a b e line = let said = rw e at b in cc
+refusal form grammar rule text (Err (fault_is.Grammar errors)) answer message told old new r a b e line =
     let P : List ℕ → Type 0 = λ t. WritesLine t told old new in
     let said : string_bytes message ≡ report_text errors.items = rw e at b in
     record { message = report_text errors.items; reason = refused errors.items r; line = subst P said line }

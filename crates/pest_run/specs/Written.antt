@@ -9,8 +9,11 @@ use Rattle.meta_base.specs.declared.grammar.Rule.{Rule}
 use Rattle.meta_base.specs.declared.runtime.errors.Error.{Error}
 use Rattle.pest_meta.specs.Reports.{report_text}
 use Rattle.pest_meta.specs.Spelling.{IsAnswer, IsRefusedWith}
+use Rattle.pest_meta.specs.Written.{IsWritten, SpellsAccepted}
 use Rattle.pest_run.specs.Outcomes.{CallsUnknownName, HasFailed, HasNoOutcome, HasNoRule, HasWrongBound, IsShown, TakesTooManySteps}
 use Rattle.pest_run.specs.declared.arguments.Format.{Format}
+use Rattle.pest_run.specs.declared.arguments.RuleForm.{RuleForm}
+use Rattle.pest_run.specs.declared.arguments.RuleForm.TheVariants as form_is
 use Rattle.pest_run.specs.declared.run.Source.{Source}
 
 -- the file could be read, and is text
@@ -21,34 +24,49 @@ IsReadable source = (source.why ≡ None) × IsUtf8 source.bytes.items
 abbrev pub WritesLine : {X E : Type 0} → List ℕ → Result X E → Option (List ℕ) → Option (List ℕ) → Type 0
 WritesLine message written old new = OnOk written (Appends old new (message ++ 10 ∷ []))
 
--- there is an answer for the grammar, its rule matches the text, and the writer's contents grew by the trees
-pub record PrintsTrees (grammar rule text : List ℕ) (format : Format)
-    (old new : Option (List ℕ)) : Type 0 where
+-- the rules that the optimizer returns for a grammar
+pub record AreAnswered (grammar : List ℕ) (rules : Grammar) : Type 0 where
   pub builtins : List (Bor (List ℕ))
-  pub rules : List OptimizedRule
-  pub answers : IsAnswer grammar builtins rules
+  pub answer : List OptimizedRule
+  pub answers : IsAnswer grammar builtins answer
+  pub same : rules ≡ optimized_rules_of answer
+
+-- the rules by which a text is matched: those that the grammar's text spells, or those that the optimizer
+-- returns for it
+abbrev pub AreMatched : RuleForm → List ℕ → Grammar → Type 0
+AreMatched form_is.Written grammar rules = SpellsAccepted grammar rules
+AreMatched form_is.Optimized grammar rules = AreAnswered grammar rules
+
+-- these rules, as they are run: of those that the text spells, counted repetitions are written out
+abbrev pub AreRun : RuleForm → List ℕ → Grammar → Type 0
+AreRun form_is.Written grammar rules = IsWritten grammar rules
+AreRun form_is.Optimized grammar rules = AreAnswered grammar rules
+
+-- the rule of the grammar matches the text, and the writer's contents grew by the trees
+pub record PrintsTrees (form : RuleForm) (grammar rule text : List ℕ) (format : Format)
+    (old new : Option (List ℕ)) : Type 0 where
+  pub rules : Grammar
+  pub matched : AreMatched form grammar rules
   pub lines : List ℕ
-  pub shows : IsShown (optimized_rules_of rules) rule text format lines
+  pub shows : IsShown rules rule text format lines
   pub gained : Appends old new lines
 
 -- the reason why there are no trees, and its text: the grammar is refused, and its report is the text; or
--- there is an answer without a rule of that name; or the rule fails, and the text shows its furthest position
--- and the expected set there
-pub data IsReason (grammar rule text : List ℕ) : List ℕ → Type 0 where
+-- it has no rule of that name; or the rule fails, and the text shows its furthest position and the expected
+-- set there
+pub data IsReason (form : RuleForm) (grammar rule text : List ℕ) : List ℕ → Type 0 where
   refused : (errors : List (Error Rule)) → IsRefusedWith grammar errors
-      → IsReason grammar rule text (report_text errors)
-  no_rule : (builtins : List (Bor (List ℕ))) (rules : List OptimizedRule) → IsAnswer grammar builtins rules
-      → HasNoRule (optimized_rules_of rules) rule
-      → IsReason grammar rule text (codes "the grammar has no rule " ++ rule)
-  no_match : (builtins : List (Bor (List ℕ))) (rules : List OptimizedRule) (report : List ℕ)
-      → IsAnswer grammar builtins rules → HasFailed (optimized_rules_of rules) rule text report
-      → IsReason grammar rule text report
+      → IsReason form grammar rule text (report_text errors)
+  no_rule : (rules : Grammar) → AreRun form grammar rules → HasNoRule rules rule
+      → IsReason form grammar rule text (codes "the grammar has no rule " ++ rule)
+  no_match : (rules : Grammar) (report : List ℕ) → AreRun form grammar rules
+      → HasFailed rules rule text report → IsReason form grammar rule text report
 
 -- there is such a reason, and it is the line
-pub record ReportsReason {X E : Type 0} (grammar rule text : List ℕ) (written : Result X E)
+pub record ReportsReason {X E : Type 0} (form : RuleForm) (grammar rule text : List ℕ) (written : Result X E)
     (old new : Option (List ℕ)) : Type 0 where
   pub message : List ℕ
-  pub reason : IsReason grammar rule text message
+  pub reason : IsReason form grammar rule text message
   pub line : WritesLine message written old new
 
 -- the reason why the matcher was stopped on the text, and its text: too many steps; or the rule has no
@@ -60,12 +78,11 @@ pub data IsStop (g : Grammar) (rule text : List ℕ) : List ℕ → Type 0 where
   wide_bound : HasWrongBound g
       → IsStop g rule text (codes "a range of the grammar has a bound that is no character")
 
--- there is an answer for the grammar, the matcher was stopped on the text, and the reason is the line
-pub record ReportsStop {X E : Type 0} (grammar rule text : List ℕ) (written : Result X E)
+-- the grammar is accepted, the matcher was stopped on the text, and the reason is the line
+pub record ReportsStop {X E : Type 0} (form : RuleForm) (grammar rule text : List ℕ) (written : Result X E)
     (old new : Option (List ℕ)) : Type 0 where
-  pub builtins : List (Bor (List ℕ))
-  pub rules : List OptimizedRule
-  pub answers : IsAnswer grammar builtins rules
+  pub rules : Grammar
+  pub are : AreRun form grammar rules
   pub message : List ℕ
-  pub stop : IsStop (optimized_rules_of rules) rule text message
+  pub stop : IsStop rules rule text message
   pub line : WritesLine message written old new

@@ -2,7 +2,7 @@
 ghost use Rattle.std.specs.Prelude.{◌≡◌, Some, codes};
 ghost use Rattle.clap.specs.Matches.{first_value, found_of};
 
-use clap::{Arg, ArgMatches, Command};
+use clap::{Arg, ArgAction, ArgMatches, Command};
 use std::alloc::{AllocError, Global};
 
 /// The format of printed trees.
@@ -13,6 +13,15 @@ pub enum Format {
     Lines,
 }
 
+/// The rules by which a text is matched.
+#[derive(Clone, Copy)]
+pub enum RuleForm {
+    /// Those of the grammar as it is written.
+    Written,
+    /// Those that the optimizer returns. pest's own parsers run these.
+    Optimized,
+}
+
 /// Returns the command line that the program accepts.
 pub fn command<'a>(alloc: Global) -> Result<Command<'a>, AllocError> {
     let format = Arg::new(alloc, "format")
@@ -20,6 +29,13 @@ pub fn command<'a>(alloc: Global) -> Result<Command<'a>, AllocError> {
         .value_parser(["text", "json", "lines"].as_slice())
         .default_value("text")
         .help("How the trees are written");
+    let optimized = Arg::new(alloc, "optimized")
+        .long("optimized")
+        .action(ArgAction::SetTrue)
+        .help(
+            "Match by the optimized rules, as pest's own parsers do; \
+             a rule like (x ~ y)* ~ x then matches more",
+        );
     let grammar = Arg::new(alloc, "GRAMMAR")
         .required(true)
         .help("The file of a grammar");
@@ -38,6 +54,7 @@ pub fn command<'a>(alloc: Global) -> Result<Command<'a>, AllocError> {
              refused, 5 the run was stopped",
         )
         .arg(format)?
+        .arg(optimized)?
         .arg(grammar)?
         .arg(rule)?
         .arg(text)
@@ -58,5 +75,14 @@ pub fn format_of(matches: &ArgMatches<'_>) -> Format
         Some("json") => Format::Json,
         Some("lines") => Format::Lines,
         _ => Format::Text,
+    }
+}
+
+/// Returns the form of the rules that a command line asks for.
+pub fn form_of(matches: &ArgMatches<'_>) -> RuleForm {
+    if matches.get_flag("optimized") {
+        RuleForm::Optimized
+    } else {
+        RuleForm::Written
     }
 }

@@ -9,7 +9,7 @@ mod messages;
 mod outcomes;
 mod run;
 
-use arguments::{command, format_of};
+use arguments::{command, form_of, format_of};
 use run::{MEMORY, Request, Source, UNREADABLE, run_files};
 use std::alloc::AllocError;
 use std::io::Read;
@@ -45,7 +45,7 @@ fn match_files(
     ensures read { result ≢ 3 → IsReadable grammar.now × IsReadable text.now }
     ensures unread { IsReadable grammar.now → IsReadable text.now → result ≢ 3 }
     ensures matched { result ≡ 0
-        → PrintsTrees grammar.now.bytes.items request.entry.rule.now text.now.bytes.items
+        → PrintsTrees request.entry.form grammar.now.bytes.items request.entry.rule.now text.now.bytes.items
         request.entry.format None None }
 {
     let mut out = Output::new(rt.stdout());
@@ -73,6 +73,7 @@ fn answer(rt: &HostRuntime) -> Result<u8, clap::Error> {
     let request = Request {
         rule: matches.get_str("RULE").unwrap_or(""),
         format: format_of(&matches),
+        form: form_of(&matches),
     };
     Ok(match_files(rt, &grammar, &text, request))
 }

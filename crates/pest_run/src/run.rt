@@ -1,12 +1,15 @@
 //! The program after its files are read.
-ghost use Rattle.std.specs.Prelude.{◌≡◌, ◌≢◌, ◌≤◌, ◌⊎◌, ◌↔◌, ◌++◌, IfSome, IsErr, IsOk, IsSome, codes, true};
+ghost use Rattle.std.specs.Prelude.{◌≡◌, ◌≢◌, ◌≤◌, ◌⊎◌, ◌↔◌, ◌++◌, IfErr, IfOk, IfSome, IsErr, IsOk, IsSome, codes, true};
+ghost use Rattle.meta_ast.specs.Optimized.{optimized_rules_of};
+ghost use Rattle.pest_meta.specs.Spelling.{IsRefusal};
 ghost use Rattle.pest_run.specs.Ends.{EndsAs, IsStatus};
-ghost use Rattle.pest_run.specs.Written.{IsReadable, PrintsTrees, ReportsReason, ReportsStop, WritesLine};
+ghost use Rattle.pest_run.specs.Written.{AreRun, IsReadable, PrintsTrees, ReportsReason, ReportsStop, WritesLine};
 
-use crate::arguments::Format;
+use crate::arguments::{Format, RuleForm};
 use crate::outcomes::{Outcome, outcome_of};
-use meta_ast::optimized::release;
-use pest_meta::{Report, parse_and_optimize, unwrap_or_report};
+use meta_ast::optimized::{OptimizedRule, release};
+use meta_base::runtime::Fault;
+use pest_meta::{Report, parse_and_optimize, parse_as_written, unwrap_or_report};
 use std::alloc::Global;
 use std::io::Write;
 use tool_support::output::{Output, RefusedWrite};
@@ -32,13 +35,15 @@ pub struct Source<'a> {
     pub why: Option<String>,
 }
 
-/// The rule to match, and the format of the trees.
+/// The rule to match, the form of the rules, and the format of the trees.
 #[derive(Clone, Copy)]
 pub struct Request<'a> {
     /// The name of the rule that is to match the text.
     pub rule: &'a str,
     /// The format of the printed trees.
     pub format: Format,
+    /// The form in which the rules of the grammar are run.
+    pub form: RuleForm,
 }
 
 /// The end of a run.
@@ -65,14 +70,15 @@ pub fn run_files<W: Write, E: Write>(
     ensures read { result.status ≢ 3 → IsReadable grammar.now × IsReadable text.now }
     ensures unread { IsReadable grammar.now → IsReadable text.now → result.status ≢ 3 }
     ensures printed { result.status ≡ 0
-        → PrintsTrees grammar.now.bytes.items request.entry.rule.now text.now.bytes.items request.entry.format
+        → PrintsTrees request.entry.form grammar.now.bytes.items request.entry.rule.now
+        text.now.bytes.items request.entry.format
         (W.contents out.old.writer) (W.contents out.new.writer) }
     ensures unprinted { result.status ≢ 0 → result.status ≢ 4 → out.new ≡ out.old }
     ensures taken { result.status ≡ 0 → out.new.refused ≡ out.old.refused }
     ensures refused_write { result.status ≡ 4 → out.new.refused ≡ true }
     ensures silent { result.status ≡ 0 → err.new ≡ err.old }
     ensures reason { result.status ≡ 1
-        → ReportsReason grammar.now.bytes.items request.entry.rule.now text.now.bytes.items
+        → ReportsReason request.entry.form grammar.now.bytes.items request.entry.rule.now text.now.bytes.items
         result.write_result
         (E.contents err.old.writer) (E.contents err.new.writer) }
     ensures tells_memory { result.status ≡ 2
@@ -82,7 +88,8 @@ pub fn run_files<W: Write, E: Write>(
         → WritesLine (codes "cannot write") result.write_result
         (E.contents err.old.writer) (E.contents err.new.writer) }
     ensures stopped { result.status ≡ 5
-        → ReportsStop grammar.now.bytes.items request.entry.rule.now text.now.bytes.items result.write_result
+        → ReportsStop request.entry.form grammar.now.bytes.items request.entry.rule.now
+        text.now.bytes.items result.write_result
         (E.contents err.old.writer) (E.contents err.new.writer) }
     ensures told { IsOk result.write_result → err.new.refused ≡ err.old.refused }
     ensures refused_line { IsErr result.write_result → err.new.refused ≡ true }
@@ -112,14 +119,14 @@ pub fn run<W: Write, E: Write>(
 ) -> RunExit
     ensures known { IsStatus result.status }
     ensures printed { result.status ≡ 0
-        → PrintsTrees grammar.now request.entry.rule.now text.now request.entry.format
+        → PrintsTrees request.entry.form grammar.now request.entry.rule.now text.now request.entry.format
         (W.contents out.old.writer) (W.contents out.new.writer) }
     ensures unprinted { result.status ≢ 0 → result.status ≢ 4 → out.new ≡ out.old }
     ensures taken { result.status ≡ 0 → out.new.refused ≡ out.old.refused }
     ensures refused_write { result.status ≡ 4 → out.new.refused ≡ true }
     ensures silent { result.status ≡ 0 → err.new ≡ err.old }
     ensures reason { result.status ≡ 1
-        → ReportsReason grammar.now request.entry.rule.now text.now result.write_result
+        → ReportsReason request.entry.form grammar.now request.entry.rule.now text.now result.write_result
         (E.contents err.old.writer) (E.contents err.new.writer) }
     ensures tells_memory { result.status ≡ 2
         → WritesLine (codes "out of memory") result.write_result
@@ -128,19 +135,33 @@ pub fn run<W: Write, E: Write>(
         → WritesLine (codes "cannot write") result.write_result
         (E.contents err.old.writer) (E.contents err.new.writer) }
     ensures stopped { result.status ≡ 5
-        → ReportsStop grammar.now request.entry.rule.now text.now result.write_result
+        → ReportsStop request.entry.form grammar.now request.entry.rule.now text.now result.write_result
         (E.contents err.old.writer) (E.contents err.new.writer) }
     ensures told { IsOk result.write_result → err.new.refused ≡ err.old.refused }
     ensures refused_line { IsErr result.write_result → err.new.refused ≡ true }
 {
-    match unwrap_or_report(alloc, parse_and_optimize(alloc, grammar)) {
-        Ok((_, rules)) => {
+    match unwrap_or_report(alloc, read_rules(alloc, grammar, request.form)) {
+        Ok(rules) => {
             let outcome = outcome_of(alloc, &rules, request.rule, text, request.format);
             release(rules);
             print_outcome(outcome, request.rule, out, err)
         }
         Err(Report::Memory) => exit_with(err, "out of memory", MEMORY),
         Err(Report::Text(report)) => exit_with(err, report.as_str(), REFUSED),
+    }
+}
+
+/// Returns the rules of a grammar in the form in which they are run. Errors: those of `parse_and_optimize`.
+fn read_rules(alloc: Global, grammar: &str, form: RuleForm) -> Result<Vec<OptimizedRule>, Fault>
+    ensures rules { IfOk result (λ rules. AreRun form grammar.now (optimized_rules_of rules.items)) }
+    ensures refused { IfErr result (IsRefusal grammar.now) }
+{
+    match form {
+        RuleForm::Written => parse_as_written(alloc, grammar),
+        RuleForm::Optimized => match parse_and_optimize(alloc, grammar) {
+            Ok((_, rules)) => Ok(rules),
+            Err(fault) => Err(fault),
+        },
     }
 }
 

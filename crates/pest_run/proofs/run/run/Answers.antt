@@ -1,35 +1,36 @@
 use Rattle.std.proofs.Common.{ℕ, List, Err, ap, ◌∙◌, string_bytes, subst}
+use Rattle.meta_ast.specs.Optimized.{optimized_rules_of}
 use Rattle.pest_run.specs.Written.{WritesLine}
 use Rattle.pest_run.proofs.Ended.{prints, refusal, stops, tells, value}
 use Rattle.pest_run.proofs.run.run.Goals as goal
 
 pub returns-in-Ok-clause-printed : goal.returns-in-Ok-clause-printed
 returns-in-Ok-clause-printed g c =
-    let parsed = c.parse_and_optimize in
+    let parsed = c.read_rules in
     let reported = c.unwrap_or_report in
-    let answers = value parsed.result reported.result _ _ parsed.ensures.answer reported.ensures.value reported.ensures.report c.in-Ok.is in
+    let answers = value parsed.result reported.result _ _ parsed.ensures.rules reported.ensures.value reported.ensures.report c.in-Ok.is in
     let comes = rw c.deref.ensures.value at c.outcome_of-outcome.ensures in
-    prints c.outcome_of-outcome.result c.args.grammar.now c.args.request.rule.now c.args.text.now c.args.request.format _ c.in-Ok.rules.items c.print_outcome.result.write_result c.print_outcome.result.status _ _ _ _ answers comes c.print_outcome.ensures.ends
+    prints c.outcome_of-outcome.result c.args.grammar.now c.args.request.rule.now c.args.text.now c.args.request.format c.args.request.form (optimized_rules_of c.in-Ok.rules.items) c.print_outcome.result.write_result c.print_outcome.result.status _ _ _ _ answers comes c.print_outcome.ensures.ends
 
 pub returns-in-Ok-clause-reason : goal.returns-in-Ok-clause-reason
 returns-in-Ok-clause-reason g c =
-    let parsed = c.parse_and_optimize in
+    let parsed = c.read_rules in
     let reported = c.unwrap_or_report in
-    let answers = value parsed.result reported.result _ _ parsed.ensures.answer reported.ensures.value reported.ensures.report c.in-Ok.is in
+    let answers = value parsed.result reported.result _ _ parsed.ensures.rules reported.ensures.value reported.ensures.report c.in-Ok.is in
     let comes = rw c.deref.ensures.value at c.outcome_of-outcome.ensures in
-    tells c.outcome_of-outcome.result c.args.grammar.now c.args.request.rule.now c.args.text.now c.args.request.format _ c.in-Ok.rules.items c.print_outcome.result.write_result c.print_outcome.result.status _ _ _ _ answers comes c.print_outcome.ensures.ends
+    tells c.outcome_of-outcome.result c.args.grammar.now c.args.request.rule.now c.args.text.now c.args.request.format c.args.request.form (optimized_rules_of c.in-Ok.rules.items) c.print_outcome.result.write_result c.print_outcome.result.status _ _ _ _ answers comes c.print_outcome.ensures.ends
 
 pub returns-in-Ok-clause-stopped : goal.returns-in-Ok-clause-stopped
 returns-in-Ok-clause-stopped g c =
-    let parsed = c.parse_and_optimize in
+    let parsed = c.read_rules in
     let reported = c.unwrap_or_report in
-    let answers = value parsed.result reported.result _ _ parsed.ensures.answer reported.ensures.value reported.ensures.report c.in-Ok.is in
+    let answers = value parsed.result reported.result _ _ parsed.ensures.rules reported.ensures.value reported.ensures.report c.in-Ok.is in
     let comes = rw c.deref.ensures.value at c.outcome_of-outcome.ensures in
-    stops c.outcome_of-outcome.result c.args.grammar.now c.args.request.rule.now c.args.text.now c.args.request.format _ c.in-Ok.rules.items c.print_outcome.result.write_result c.print_outcome.result.status _ _ _ _ answers comes c.print_outcome.ensures.ends
+    stops c.outcome_of-outcome.result c.args.grammar.now c.args.request.rule.now c.args.text.now c.args.request.format c.args.request.form (optimized_rules_of c.in-Ok.rules.items) c.print_outcome.result.write_result c.print_outcome.result.status _ _ _ _ answers comes c.print_outcome.ensures.ends
 
-pub returns-clause-reason : goal.returns-clause-reason
-returns-clause-reason g c =
-    let parsed = c.parse_and_optimize in
+pub returns-in-Err-Text-clause-reason : goal.returns-in-Err-Text-clause-reason
+returns-in-Err-Text-clause-reason g c =
+    let parsed = c.read_rules in
     let reported = c.unwrap_or_report in
     let told = c.exit_with-in-Err-Text in
     let said = c.in-Err-Text.is ∙ ap Err c.in-Err-Text.field-0-is in
@@ -38,5 +39,5 @@ returns-clause-reason g c =
     let P : List ℕ → Type 0 = λ t. WritesLine t told.result.write_result old new in
     let value = rw c.in-Err-Text.field-0-is at c.as_str.ensures.value in
     let line : WritesLine (string_bytes c.in-Err-Text.report) told.result.write_result old new = subst P value told.ensures.tells in
-    λ one. refusal c.args.grammar.now c.args.request.rule.now c.args.text.now parsed.result reported.result c.in-Err-Text.report told.result.write_result old new
+    λ one. refusal c.args.request.form c.args.grammar.now c.args.request.rule.now c.args.text.now parsed.result reported.result c.in-Err-Text.report told.result.write_result old new
     parsed.ensures.refused reported.ensures.value reported.ensures.report said line

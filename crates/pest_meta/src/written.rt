@@ -1,0 +1,28 @@
+//! The rules of a grammar as they are written, in the form that runs.
+ghost use Rattle.std.specs.Prelude.{IfErr, IfOk};
+ghost use Rattle.meta_ast.specs.Optimized.{optimized_rules_of};
+ghost use Rattle.pest_meta.specs.Spelling.{IsRefusal};
+ghost use Rattle.pest_meta.specs.Written.{IsWritten};
+
+use crate::parser::{PestParser, consume_rules};
+use crate::validator::validate_pairs;
+use meta_base::grammar::Rule;
+use meta_base::runtime::Fault;
+use meta_optimizer::{OptimizedRule, unroll_rules};
+use std::alloc::Global;
+
+/// Parses a grammar; returns its rules as they are written, in the form that runs.
+///
+/// Counted repetitions are the copies that they mean, and nothing else is rewritten, so each rule matches
+/// what it matches as it is written: the rules of `parse_and_optimize` can match other texts where they are
+/// listed. Errors: those of `parse_and_optimize`, for the same texts.
+pub fn parse_as_written(alloc: Global, grammar: &str) -> Result<Vec<OptimizedRule>, Fault>
+    ensures rules { IfOk result (λ rules. IsWritten grammar.now (optimized_rules_of rules.items)) }
+    ensures refused { IfErr result (IsRefusal grammar.now) }
+{
+    let pairs = PestParser::parse(alloc, Rule::grammar_rules, grammar)?;
+    let copy = pairs.clone()?;
+    let _ = validate_pairs(alloc, copy)?;
+    let rules = consume_rules(alloc, pairs)?;
+    unroll_rules(alloc, rules)
+}
