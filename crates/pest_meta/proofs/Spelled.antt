@@ -8,7 +8,7 @@ use Rattle.meta_optimizer.specs.Passes.{IsOptimized}
 use Rattle.meta_base.specs.Language.State.{Classes, State, Trees, Success, Failure}
 use Rattle.meta_base.specs.Pieces.NamedTrees.{named}
 use Rattle.meta_base.specs.Pieces.Saying.{AreErrorsFor}
-use Rattle.meta_base.specs.Pieces.Pairs.{IsSamePairs, pairs_text, pairs_trees}
+use Rattle.meta_base.specs.Pieces.Pairs.{pairs_text, pairs_trees}
 use Rattle.meta_base.specs.declared.grammar.Rule.{Rule}
 use Rattle.meta_base.specs.declared.grammar.Rule.TheVariants as rule_is
 use Rattle.meta_base.specs.declared.runtime.errors.Error.{Error}
@@ -127,51 +127,49 @@ abbrev pub given : (pairs : Pairs Rule) (read : List SpannedRule) (rules : Gramm
 given pairs read rules f r s = record { flawless = f; read = read; reads = r; same = s }
 
 -- what is refused for its names
-pub misnamed : (text : List ℕ) (pairs copy : Pairs Rule) (fault : code.Fault) → pairs_text pairs ≡ text → AreOfAGrammar pairs → IsSamePairs pairs copy → IsNameRefusal (complaints_of copy) fault → IsRefusal text fault
-misnamed text pairs copy (fault_is.Memory e) t h s k = tt
-misnamed text pairs copy (fault_is.Grammar errors) t h s k =
-    let same : complaints_in (pairs_text copy) (named (pairs_trees copy)) ≡ complaints_in text (named (pairs_trees pairs)) =
-    rw (s.0, s.1, t) refl in
+pub misnamed : (text : List ℕ) (pairs : Pairs Rule) (fault : code.Fault) → pairs_text pairs ≡ text → AreOfAGrammar pairs → IsNameRefusal (complaints_of pairs) fault → IsRefusal text fault
+misnamed text pairs (fault_is.Memory e) t h k = tt
+misnamed text pairs (fault_is.Grammar errors) t h k =
+    let same : complaints_of pairs ≡ complaints_in text (named (pairs_trees pairs)) = ap (λ v. complaints_in v (named (pairs_trees pairs))) t in
     let of_text : HasTrees text (named (pairs_trees pairs)) = subst (λ v. HasTrees v (named (pairs_trees pairs))) t h in
     let some : complaints_in text (named (pairs_trees pairs)) ≢ [] = subst (λ cs. cs ≢ []) same k.0 in
     let tell = subst (λ cs. AreErrorsFor cs errors.items) same k.1 in
     inr (record { trees = named (pairs_trees pairs); of_text = of_text; why = inl (record { some = some; tell = tell }) })
 
 -- what is refused for its rules, where there is nothing to say of its names
-pub rejected : (text : List ℕ) (pairs copy : Pairs Rule) (fault : code.Fault) → pairs_text pairs ≡ text → AreOfAGrammar pairs → IsSamePairs pairs copy → complaints_of copy ≡ []
+pub rejected : (text : List ℕ) (pairs : Pairs Rule) (fault : code.Fault) → pairs_text pairs ≡ text → AreOfAGrammar pairs → complaints_of pairs ≡ []
     → AreRejected (pairs_text pairs) (named (pairs_trees pairs)) fault → IsRefusal text fault
-rejected text pairs copy (fault_is.Memory e) t h s n k = tt
-rejected text pairs copy (fault_is.Grammar errors) t h s n k =
-    let well_named : complaints_in (pairs_text pairs) (named (pairs_trees pairs)) ≡ [] = rw (s.0, s.1) at n in
+rejected text pairs (fault_is.Memory e) t h n k = tt
+rejected text pairs (fault_is.Grammar errors) t h n k =
     subst (λ v. IsRefusal v (fault_is.Grammar errors)) t
-    (inr (record { trees = named (pairs_trees pairs); of_text = h; why = inr (record { well_named = well_named; why = k }) }))
+    (inr (record { trees = named (pairs_trees pairs); of_text = h; why = inr (record { well_named = n; why = k }) }))
 
 -- what is answered
-pub answered : (text : List ℕ) (pairs copy : Pairs Rule) (builtins : List (Bor (List ℕ))) (rules : Grammar) (answer : List OptimizedRule)
-    → pairs_text pairs ≡ text → AreOfAGrammar pairs → IsSamePairs pairs copy
-    → complaints_of copy ≡ [] → AreWrittenAt (first_calls_of copy) builtins
+pub answered : (text : List ℕ) (pairs : Pairs Rule) (builtins : List (Bor (List ℕ))) (rules : Grammar) (answer : List OptimizedRule)
+    → pairs_text pairs ≡ text → AreOfAGrammar pairs
+    → complaints_of pairs ≡ [] → AreWrittenAt (first_calls_of pairs) builtins
     → AreAccepted (pairs_text pairs) (named (pairs_trees pairs)) rules → IsOptimized rules (optimized_rules_of answer)
     → IsAnswer text builtins answer
-answered text pairs copy builtins rules answer t h s e u a o =
+answered text pairs builtins rules answer t h e u a o =
     subst (λ v. IsAnswer v builtins answer) t (record {
       trees = named (pairs_trees pairs);
       of_text = h;
-      well_named = rw (s.0, s.1) at e;
-      uses = rw (s.0, s.1) at u;
+      well_named = e;
+      uses = u;
       spelled = rules;
       accepted = a;
       optimized = o;
     })
 
 -- what is accepted
-pub spells_accepted : (text : List ℕ) (pairs copy : Pairs Rule) (rules : Grammar)
-    → pairs_text pairs ≡ text → AreOfAGrammar pairs → IsSamePairs pairs copy → complaints_of copy ≡ []
+pub spells_accepted : (text : List ℕ) (pairs : Pairs Rule) (rules : Grammar)
+    → pairs_text pairs ≡ text → AreOfAGrammar pairs → complaints_of pairs ≡ []
     → AreAccepted (pairs_text pairs) (named (pairs_trees pairs)) rules → SpellsAccepted text rules
-spells_accepted text pairs copy rules t h s e a =
+spells_accepted text pairs rules t h e a =
     subst (λ v. SpellsAccepted v rules) t (record {
       trees = named (pairs_trees pairs);
       of_text = h;
-      well_named = rw (s.0, s.1) at e;
+      well_named = e;
       accepted = a;
     })
 

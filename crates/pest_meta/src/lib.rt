@@ -20,6 +20,7 @@ ghost use Rattle.pest_meta.specs.Spelling.{HasRefusal, IsAnswer, IsRefusal};
 
 use meta_base::grammar::Rule;
 pub use meta_base::runtime;
+use meta_names::collect_builtins;
 pub use meta_optimizer as optimizer;
 pub use meta_syntax::grammar;
 use optimizer::OptimizedRule;
@@ -27,7 +28,6 @@ use parser::{PestParser, consume_rules};
 pub use report::{Report, unwrap_or_report};
 use runtime::Fault;
 use std::alloc::Global;
-use validator::validate_pairs;
 pub use written::parse_as_written;
 
 /// Parses a grammar; returns the builtins that it uses, and its optimized rules.
@@ -67,8 +67,7 @@ pub fn parse_and_optimize<'i>(
     ensures no_refusal { IfOk result (λ answer. HasRefusal grammar.entry.now → ⊥) }
 {
     let pairs = PestParser::parse(alloc, Rule::grammar_rules, grammar)?;
-    let copy = pairs.clone()?;
-    let builtins = validate_pairs(alloc, copy)?;
+    let builtins = collect_builtins(alloc, &pairs)?;
     let rules = consume_rules(alloc, pairs)?;
     Ok((builtins, optimizer::optimize(alloc, rules)?))
 }

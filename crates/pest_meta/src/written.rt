@@ -5,9 +5,9 @@ ghost use Rattle.pest_meta.specs.Spelling.{IsRefusal};
 ghost use Rattle.pest_meta.specs.Written.{IsWritten};
 
 use crate::parser::{PestParser, consume_rules};
-use crate::validator::validate_pairs;
 use meta_base::grammar::Rule;
 use meta_base::runtime::Fault;
+use meta_names::collect_builtins;
 use meta_optimizer::{OptimizedRule, unroll_rules};
 use std::alloc::Global;
 
@@ -21,8 +21,7 @@ pub fn parse_as_written(alloc: Global, grammar: &str) -> Result<Vec<OptimizedRul
     ensures refused { IfErr result (IsRefusal grammar.now) }
 {
     let pairs = PestParser::parse(alloc, Rule::grammar_rules, grammar)?;
-    let copy = pairs.clone()?;
-    let _ = validate_pairs(alloc, copy)?;
+    let _ = collect_builtins(alloc, &pairs)?;
     let rules = consume_rules(alloc, pairs)?;
     unroll_rules(alloc, rules)
 }

@@ -14,21 +14,21 @@ returns-in_err-builtins-clause-refused c =
     let p = err_from_is_err_and c.from_residual-in_err-builtins.result c.from_residual-in_err-builtins.ensures.1 in
     let parsed = c.in_ok-pairs.ensures in
     rw (p.1, p.2)
-    (misnamed c.args.grammar.now c.in_ok-pairs.pairs c.in_ok-copy.copy c.in_err-builtins.field-0.0 parsed.text parsed.spelled c.in_ok-copy.ensures.cases c.in_err-builtins.ensures.refused)
+    (misnamed c.args.grammar.now c.in_ok-pairs.pairs c.in_err-builtins.field-0.0 parsed.text parsed.spelled c.in_err-builtins.ensures.refused)
 
 pub returns-in_err-rules-clause-refused : goal.returns-in_err-rules-clause-refused
 returns-in_err-rules-clause-refused c =
     let p = err_from_is_err_and c.from_residual-in_err-rules.result c.from_residual-in_err-rules.ensures.1 in
     let parsed = c.in_ok-pairs.ensures in
     rw (p.1, p.2)
-    (rejected c.args.grammar.now c.in_ok-pairs.pairs c.in_ok-copy.copy c.in_err-rules.field-0.0 parsed.text parsed.spelled c.in_ok-copy.ensures.cases c.in_ok-builtins.ensures.no_complaints c.in_err-rules.ensures.refused)
+    (rejected c.args.grammar.now c.in_ok-pairs.pairs c.in_err-rules.field-0.0 parsed.text parsed.spelled c.in_ok-builtins.ensures.no_complaints c.in_err-rules.ensures.refused)
 
 pub returns-clause-answer : goal.returns-clause-answer
 returns-clause-answer c =
     let parsed = c.in_ok-pairs.ensures in
     let named = c.in_ok-builtins.ensures in
-    answered c.args.grammar.now c.in_ok-pairs.pairs c.in_ok-copy.copy c.in_ok-builtins.builtins.items (rules_of c.in_ok-rules.rules.items) c.in_ok-optimize.field-0.items
-    parsed.text parsed.spelled c.in_ok-copy.ensures.cases named.no_complaints named.builtins c.in_ok-rules.ensures.rules c.in_ok-optimize.ensures.rules
+    answered c.args.grammar.now c.in_ok-pairs.pairs c.in_ok-builtins.builtins.items (rules_of c.in_ok-rules.rules.items) c.in_ok-optimize.field-0.items
+    parsed.text parsed.spelled named.no_complaints named.builtins c.in_ok-rules.ensures.rules c.in_ok-optimize.ensures.rules
 
 pub returns-clause-builtins : goal.returns-clause-builtins
 returns-clause-builtins c = answers_builtins c.args.grammar.now c.utf8.grammar _ _ (returns-clause-answer c)

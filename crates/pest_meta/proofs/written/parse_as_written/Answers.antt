@@ -8,23 +8,23 @@ returns-in_err-pairs-clause-refused c =
     let p = err_from_is_err_and c.from_residual.result c.from_residual.ensures.1 in
     rw (p.1, p.2) (no_grammar c.args.grammar.now c.in_err-pairs.field-0.0 c.in_err-pairs.ensures.spelled)
 
-pub returns-in_err-validate_pairs-clause-refused : goal.returns-in_err-validate_pairs-clause-refused
-returns-in_err-validate_pairs-clause-refused c =
-    let p = err_from_is_err_and c.from_residual-in_err-validate_pairs.result c.from_residual-in_err-validate_pairs.ensures.1 in
+pub returns-in_err-collect_builtins-clause-refused : goal.returns-in_err-collect_builtins-clause-refused
+returns-in_err-collect_builtins-clause-refused c =
+    let p = err_from_is_err_and c.from_residual-in_err-collect_builtins.result c.from_residual-in_err-collect_builtins.ensures.1 in
     let parsed = c.in_ok-pairs.ensures in
     rw (p.1, p.2)
-    (misnamed c.args.grammar.now c.in_ok-pairs.pairs c.in_ok-copy.copy c.in_err-validate_pairs.field-0.0 parsed.text parsed.spelled c.in_ok-copy.ensures.cases c.in_err-validate_pairs.ensures.refused)
+    (misnamed c.args.grammar.now c.in_ok-pairs.pairs c.in_err-collect_builtins.field-0.0 parsed.text parsed.spelled c.in_err-collect_builtins.ensures.refused)
 
 pub returns-in_err-rules-clause-refused : goal.returns-in_err-rules-clause-refused
 returns-in_err-rules-clause-refused c =
     let p = err_from_is_err_and c.from_residual-in_err-rules.result c.from_residual-in_err-rules.ensures.1 in
     let parsed = c.in_ok-pairs.ensures in
     rw (p.1, p.2)
-    (rejected c.args.grammar.now c.in_ok-pairs.pairs c.in_ok-copy.copy c.in_err-rules.field-0.0 parsed.text parsed.spelled c.in_ok-copy.ensures.cases c.in_ok-validate_pairs.ensures.no_complaints c.in_err-rules.ensures.refused)
+    (rejected c.args.grammar.now c.in_ok-pairs.pairs c.in_err-rules.field-0.0 parsed.text parsed.spelled c.in_ok-collect_builtins.ensures.no_complaints c.in_err-rules.ensures.refused)
 
 pub returns-clause-rules : goal.returns-clause-rules
 returns-clause-rules c =
     let parsed = c.in_ok-pairs.ensures in
-    let spelled = spells_accepted c.args.grammar.now c.in_ok-pairs.pairs c.in_ok-copy.copy (rules_of c.in_ok-rules.rules.items)
-    parsed.text parsed.spelled c.in_ok-copy.ensures.cases c.in_ok-validate_pairs.ensures.no_complaints c.in_ok-rules.ensures.rules in
+    let spelled = spells_accepted c.args.grammar.now c.in_ok-pairs.pairs (rules_of c.in_ok-rules.rules.items)
+    parsed.text parsed.spelled c.in_ok-collect_builtins.ensures.no_complaints c.in_ok-rules.ensures.rules in
     written c.args.grammar.now (rules_of c.in_ok-rules.rules.items) c.unroll_rules.result spelled c.unroll_rules.ensures.rules c.unroll_rules.ensures.outcomes
