@@ -215,7 +215,7 @@ pub fn consume_rules(pairs: Pairs<'_, Rule>) -> Result<Vec<AstRule>, Vec<Error<R
     let Some(grammar) = readable(pairs)? else {
         return Ok(Vec::new());
     };
-    answers::rules(Call::Rules, grammar, AstRule::try_from)
+    answers::grammar_rules(grammar, AstRule::try_from)
 }
 
 /// The rules of a grammar's pairs with the place of each node, or the first flaw for which they can't be
