@@ -2,6 +2,7 @@
 #![forbid(unsafe_code)]
 
 use std::fmt;
+use std::mem::size_of;
 use std::sync::OnceLock;
 
 use pest::error::{Error, ErrorVariant};
@@ -47,9 +48,42 @@ pub(crate) struct FlatRule {
 
 /// An entry of a list of trees: where one starts, with the number of the entry that ends it; or where one
 /// ends.
+#[derive(Debug, PartialEq)]
 pub(crate) enum Entry {
     Start { rule: Rule, place: usize, partner: usize },
     End { place: usize },
+}
+
+/// A list of entries, as the library writes them: three numbers for each.
+pub(crate) struct Entries(Vec<usize>);
+
+impl Entries {
+    /// Takes numbers, if the rules that they stand for are known.
+    fn new(numbers: Vec<usize>) -> Reading<Entries> {
+        let unknown = |entry: &&[usize]| entry[0] > 0 && Rule::numbered(entry[0]).is_none();
+        match numbers.chunks_exact(3).find(unknown) {
+            Some(entry) => {
+                Err(Malformed::Unknown { what: "rule of the meta-grammar", name: entry[0].to_string() })
+            }
+            None => Ok(Entries(numbers)),
+        }
+    }
+
+    pub(crate) fn len(&self) -> usize {
+        self.0.len() / 3
+    }
+
+    /// The entry of that number, if there is one.
+    pub(crate) fn get(&self, at: usize) -> Option<Entry> {
+        let numbers = self.0.get(3 * at..)?;
+        match *numbers {
+            [0, place, _, ..] => Some(Entry::End { place }),
+            [number, place, partner, ..] => {
+                Rule::numbered(number).map(|rule| Entry::Start { rule, place, partner })
+            }
+            _ => None,
+        }
+    }
 }
 
 /// What is wrong with a text.
@@ -90,18 +124,15 @@ impl fmt::Display for Unanswered {
 }
 
 /// The trees that a text has by a rule.
-pub(crate) fn tokens(text: &str, rule: Rule) -> Result<Vec<Entry>, Error<Rule>> {
-    let entries = match token_numbers(text, rule) {
-        Ok(numbers) => numbers.chunks_exact(3).map(entry).collect::<Reading<_>>().map_err(Unanswered::from),
-        Err(why) => Err(why),
-    };
+pub(crate) fn tokens(text: &str, rule: Rule) -> Result<Entries, Error<Rule>> {
+    let entries = token_numbers(text, rule).and_then(|numbers| Ok(Entries::new(numbers)?));
     entries.map_err(|why| errors_of(whole(text), why).swap_remove(0))
 }
 
 /// The entries of the trees that a text has by a rule, three numbers for each.
 fn token_numbers(text: &str, rule: Rule) -> Result<Vec<usize>, Unanswered> {
     check_format()?;
-    let room = room_for(text.len(), NUMBERS_FOR_A_BYTE);
+    let room = (text.len() * NUMBERS_FOR_A_BYTE).clamp(LEAST_ROOM / size_of::<usize>(), MOST_ROOM);
     let call = |out: &mut [usize], needed: &mut usize| library::token_numbers(text, rule.name(), out, needed);
     let (status, numbers) = filled(room, call);
     match status {
@@ -114,7 +145,7 @@ fn token_numbers(text: &str, rule: Rule) -> Result<Vec<usize>, Unanswered> {
 /// The builtins of a grammar, its rules and its optimized rules in binary form, if it is accepted.
 pub(crate) fn grammar(text: &str) -> Option<Vec<u8>> {
     check_format().ok()?;
-    let room = room_for(text.len(), BYTES_FOR_A_BYTE);
+    let room = room_for(text.len(), GRAMMAR_BYTES_FOR_A_BYTE);
     let (status, bytes) = filled(room, |out, needed| library::grammar(text, out, needed));
     match status {
         0 => Some(bytes),
@@ -263,13 +294,18 @@ fn versions() -> &'static Versions {
 /// So much room a call gets at least.
 const LEAST_ROOM: usize = 1 << 12;
 
-/// So much room a call gets at first for each byte of its text, in bytes and in numbers of tokens.
+/// So much room it gets at most before it has said what it wants.
+const MOST_ROOM: usize = 1 << 26;
+
+/// So much room a call gets at first for each byte of its text: in bytes of JSON, in bytes of binary form, and in
+/// numbers of tokens.
 const BYTES_FOR_A_BYTE: usize = 64;
-const NUMBERS_FOR_A_BYTE: usize = 6;
+const GRAMMAR_BYTES_FOR_A_BYTE: usize = 8;
+const NUMBERS_FOR_A_BYTE: usize = 5;
 
 /// The room for the answer about a text of that length. Where it is too small, the call is made twice.
 fn room_for(len: usize, for_a_byte: usize) -> usize {
-    len.saturating_mul(for_a_byte).clamp(LEAST_ROOM, 1 << 26)
+    len.saturating_mul(for_a_byte).clamp(LEAST_ROOM, MOST_ROOM)
 }
 
 /// Calls with that much room, and again with the room that is wanted where it was too small: the status, and what was
@@ -368,18 +404,6 @@ fn pair(reader: &mut Reader<'_>) -> Reading<(usize, usize)> {
     let end = reader.place()?;
     reader.close_list()?;
     Ok((start, end))
-}
-
-/// Reads an entry of three numbers.
-fn entry(numbers: &[usize]) -> Reading<Entry> {
-    match *numbers {
-        [0, place, _] => Ok(Entry::End { place }),
-        [number, place, partner] => match Rule::numbered(number) {
-            Some(rule) => Ok(Entry::Start { rule, place, partner }),
-            None => Err(Malformed::Unknown { what: "rule of the meta-grammar", name: number.to_string() }),
-        },
-        _ => Err(Malformed::Wanted { what: "an entry of three numbers", at: 0 }),
-    }
 }
 
 fn rule_name(reader: &mut Reader<'_>) -> Reading<Rule> {
@@ -525,9 +549,13 @@ mod tests {
         assert_eq!(rules_in(form).unwrap_err(), unknown("form", "lookbehind"));
         let ty = r#"[{"expr":[["str","x"]],"name":"a","type":"loud"}]"#;
         assert_eq!(rules_in(ty).unwrap_err(), unknown("type of rules", "loud"));
-        assert_eq!(entry(&[67, 0, 1]).err().unwrap(), unknown("rule of the meta-grammar", "67"));
-        assert!(matches!(entry(&[66, 0, 1]), Ok(Entry::Start { rule: Rule::EOI, place: 0, partner: 1 })));
-        assert!(matches!(entry(&[1, 0, 1]), Ok(Entry::Start { rule: Rule::grammar_rules, .. })));
+        let entries = Entries::new(vec![1, 0, 1, 67, 0, 0]);
+        assert_eq!(entries.err().unwrap(), unknown("rule of the meta-grammar", "67"));
+        let entries = Entries::new(vec![66, 7, 1, 0, 8, 0, 1, 0, 0]).unwrap();
+        assert_eq!(entries.get(0), Some(Entry::Start { rule: Rule::EOI, place: 7, partner: 1 }));
+        assert_eq!(entries.get(1), Some(Entry::End { place: 8 }));
+        assert!(matches!(entries.get(2), Some(Entry::Start { rule: Rule::grammar_rules, .. })));
+        assert_eq!((entries.len(), entries.get(3)), (3, None));
         let error = json::read(r#"["lookbehind"]"#, |reader| reader.list(rule_name));
         assert_eq!(error.err().unwrap(), unknown("rule of the meta-grammar", "lookbehind"));
     }

@@ -94,7 +94,7 @@ fn grammar_of_names<'i>(definitions: &[Span<'i>], called: &[Span<'i>]) -> Names<
 /// Whether a text is a name, by the meta-grammar.
 fn is_name(text: &str) -> bool {
     match answers::tokens(text, Rule::identifier) {
-        Ok(entries) => matches!(entries[..], [_, Entry::End { place }] if place == text.len()),
+        Ok(entries) => entries.len() == 2 && entries.get(1) == Some(Entry::End { place: text.len() }),
         Err(_) => false,
     }
 }
