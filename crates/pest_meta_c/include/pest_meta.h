@@ -75,7 +75,7 @@ uint8_t pest_meta_rules(const uint8_t *text, size_t text_len, uint8_t *out, size
                         size_t *needed);
 
 /* The rules that a grammar spells, with the spans of their names and nodes
- * ("Rules with places"); neither names nor rules are checked. Refused with a
+ * ("Rules with spans"); neither names nor rules are checked. Refused with a
  * list of errors: of syntax, or of the first flaw. */
 uint8_t pest_meta_nodes(const uint8_t *text, size_t text_len, uint8_t *out, size_t out_len,
                         size_t *needed);
