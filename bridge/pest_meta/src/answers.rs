@@ -132,7 +132,8 @@ pub(crate) fn tokens(text: &str, rule: Rule) -> Result<Entries, Error<Rule>> {
 /// The entries of the trees that a text has by a rule, three numbers for each.
 fn token_numbers(text: &str, rule: Rule) -> Result<Vec<usize>, Unanswered> {
     check_format()?;
-    let room = (text.len() * NUMBERS_FOR_A_BYTE).clamp(LEAST_ROOM / size_of::<usize>(), MOST_ROOM);
+    let room =
+        text.len().saturating_mul(NUMBERS_FOR_A_BYTE).clamp(LEAST_ROOM / size_of::<usize>(), MOST_ROOM);
     let call = |out: &mut [usize], needed: &mut usize| library::token_numbers(text, rule.name(), out, needed);
     let (status, numbers) = filled(room, call);
     match status {
