@@ -31,6 +31,15 @@ static void show_numbers(const char *call, uint8_t status, size_t needed)
     }
 }
 
+/* Shows bytes: those of texts as they are, and a full stop for any other. */
+static void show_bytes(const char *call, uint8_t status, size_t needed)
+{
+    printf("%s: status %d, length %zu\n  ", call, status, needed);
+    for (size_t i = 0; i < needed; i++)
+        putchar(out[i] > ' ' && out[i] < 127 ? out[i] : '.');
+    printf("\n");
+}
+
 /* Runs a rule on a text, by rules of two that match "x!". */
 static void run(const char *call, const char *rule, const char *text, uint64_t steps, size_t room)
 {
@@ -59,6 +68,10 @@ int main(void)
     show("tokens", status, needed);
     status = pest_meta_tokens(text, length, (const uint8_t *)"strong", 6, out, sizeof out, &needed);
     show("tokens of an unknown rule", status, needed);
+    status = pest_meta_token_numbers((const uint8_t *)"\"x\"", 3, (const uint8_t *)"string", 6, numbers, 64, &needed);
+    show_numbers("token_numbers", status, needed);
+    status = pest_meta_token_numbers((const uint8_t *)"x", 1, (const uint8_t *)"string", 6, numbers, 64, &needed);
+    show_numbers("token_numbers of a text that does not match", status, needed);
     status = pest_meta_names(text, length, out, sizeof out, &needed);
     show("names", status, needed);
     status = pest_meta_rust_keyword((const uint8_t *)"while", 5, out, sizeof out, &needed);
@@ -79,6 +92,10 @@ int main(void)
     show("parse_and_optimize of no grammar", status, needed);
     status = pest_meta_parse_and_optimize(bytes, 1, out, sizeof out, &needed);
     show("parse_and_optimize of no text", status, needed);
+    status = pest_meta_grammar(text, length, out, sizeof out, &needed);
+    show_bytes("grammar", status, needed);
+    status = pest_meta_grammar(wrong, strlen((const char *)wrong), out, sizeof out, &needed);
+    show("grammar of no grammar", status, needed);
     memset(out, '.', sizeof out);
     status = pest_meta_parse_and_optimize(text, length, out, 8, &needed);
     show("parse_and_optimize with too little room", status, needed);

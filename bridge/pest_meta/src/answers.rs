@@ -2,6 +2,7 @@
 #![forbid(unsafe_code)]
 
 use std::fmt;
+use std::mem::size_of;
 use std::sync::OnceLock;
 
 use pest::error::{Error, ErrorVariant};
@@ -12,6 +13,7 @@ use crate::json::{self, Malformed, Reader, Reading};
 use crate::library;
 use crate::nodes::{self, Node};
 use crate::parser::Rule;
+use crate::recent;
 
 /// The number of the format that is read here.
 const FORMAT: i64 = 1;
@@ -46,9 +48,42 @@ pub(crate) struct FlatRule {
 
 /// An entry of a list of trees: where one starts, with the number of the entry that ends it; or where one
 /// ends.
+#[derive(Debug, PartialEq)]
 pub(crate) enum Entry {
     Start { rule: Rule, place: usize, partner: usize },
     End { place: usize },
+}
+
+/// A list of entries, as the library writes them: three numbers for each.
+pub(crate) struct Entries(Vec<usize>);
+
+impl Entries {
+    /// Takes numbers, if the rules that they stand for are known.
+    fn new(numbers: Vec<usize>) -> Reading<Entries> {
+        let unknown = |entry: &&[usize]| entry[0] > 0 && Rule::numbered(entry[0]).is_none();
+        match numbers.chunks_exact(3).find(unknown) {
+            Some(entry) => {
+                Err(Malformed::Unknown { what: "rule of the meta-grammar", name: entry[0].to_string() })
+            }
+            None => Ok(Entries(numbers)),
+        }
+    }
+
+    pub(crate) fn len(&self) -> usize {
+        self.0.len() / 3
+    }
+
+    /// The entry of that number, if there is one.
+    pub(crate) fn get(&self, at: usize) -> Option<Entry> {
+        let numbers = self.0.get(3 * at..)?;
+        match *numbers {
+            [0, place, _, ..] => Some(Entry::End { place }),
+            [number, place, partner, ..] => {
+                Rule::numbered(number).map(|rule| Entry::Start { rule, place, partner })
+            }
+            _ => None,
+        }
+    }
 }
 
 /// What is wrong with a text.
@@ -89,15 +124,51 @@ impl fmt::Display for Unanswered {
 }
 
 /// The trees that a text has by a rule.
-pub(crate) fn tokens(text: &str, rule: Rule) -> Result<Vec<Entry>, Error<Rule>> {
-    let function = |out: &mut [u8], needed: &mut usize| library::tokens(text, rule.name(), out, needed);
-    let entries = ask(text.len(), function, |reader| reader.list(entry));
+pub(crate) fn tokens(text: &str, rule: Rule) -> Result<Entries, Error<Rule>> {
+    let entries = token_numbers(text, rule).and_then(|numbers| Ok(Entries::new(numbers)?));
     entries.map_err(|why| errors_of(whole(text), why).swap_remove(0))
+}
+
+/// The entries of the trees that a text has by a rule, three numbers for each.
+fn token_numbers(text: &str, rule: Rule) -> Result<Vec<usize>, Unanswered> {
+    check_format()?;
+    let room =
+        text.len().saturating_mul(NUMBERS_FOR_A_BYTE).clamp(LEAST_ROOM / size_of::<usize>(), MOST_ROOM);
+    let call = |out: &mut [usize], needed: &mut usize| library::token_numbers(text, rule.name(), out, needed);
+    let (status, numbers) = filled(room, call);
+    match status {
+        0 => Ok(numbers),
+        1 => Err(refusal(text, |out, needed| library::tokens(text, rule.name(), out, needed))),
+        _ => no_answer(status),
+    }
+}
+
+/// The builtins of a grammar, its rules and its optimized rules in binary form, if it is accepted.
+pub(crate) fn grammar(text: &str) -> Option<Vec<u8>> {
+    check_format().ok()?;
+    let room = room_for(text.len(), GRAMMAR_BYTES_FOR_A_BYTE);
+    let (status, bytes) = filled(room, |out, needed| library::grammar(text, out, needed));
+    match status {
+        0 => Some(bytes),
+        1 => None,
+        _ => no_answer(status),
+    }
+}
+
+/// The refusal of a text that a call refuses.
+fn refusal(text: &str, call: impl FnMut(&mut [u8], &mut usize) -> u8) -> Unanswered {
+    match ask(text.len(), call, |reader| reader.pass()) {
+        Ok(()) => Malformed::Wanted { what: "a refusal", at: 0 }.into(),
+        Err(why) => why,
+    }
 }
 
 /// The names of the builtins that a grammar uses.
 pub(crate) fn names(grammar: Span<'_>) -> Result<Vec<String>, Errors> {
-    let names = call(Call::Names, grammar.as_str(), |reader| reader.list(Reader::text));
+    let names = match recent::builtins(grammar.as_str()) {
+        Some(names) => names.map_err(Unanswered::from),
+        None => call(Call::Names, grammar.as_str(), |reader| reader.list(Reader::text)),
+    };
     names.map_err(|why| errors_of(grammar, why))
 }
 
@@ -105,6 +176,17 @@ pub(crate) fn names(grammar: Span<'_>) -> Result<Vec<String>, Errors> {
 pub(crate) fn rust_keyword(name: Span<'_>) -> Errors {
     let errors = call(Call::RustKeyword, name.as_str(), |reader| reader.list(|reader| error(name, reader)));
     errors.unwrap_or_else(|why| errors_of(name, why))
+}
+
+/// The rules of a grammar, each made by `rule`, or its errors.
+pub(crate) fn grammar_rules<R>(
+    grammar: Span<'_>,
+    rule: impl Fn(FlatRule) -> Reading<R>,
+) -> Result<Vec<R>, Errors> {
+    match recent::rules(grammar.as_str(), |flat| rule(readable(flat))) {
+        Some(rules) => rules.map_err(|why| errors_of(grammar, why.into())),
+        None => rules(Call::Rules, grammar, rule),
+    }
 }
 
 /// The rules that a call answers for a grammar, each made by `rule`.
@@ -117,9 +199,17 @@ pub(crate) fn rules<R>(
     rules.map_err(|why| errors_of(grammar, why))
 }
 
-/// The optimized rules of rules, which are written as JSON.
-pub(crate) fn optimize<R>(rules: &str, rule: impl Fn(FlatRule) -> Reading<R>) -> Result<Vec<R>, Unanswered> {
-    call(Call::Optimize, rules, |reader| reader.list(|reader| rule(flat_rule(reader)?)))
+/// The optimized rules of rules, which are written in binary form, and as JSON if those are not the rules of the
+/// last grammar.
+pub(crate) fn optimize<R>(
+    rules: &[u8],
+    json: impl FnOnce() -> String,
+    rule: impl Fn(FlatRule) -> Reading<R>,
+) -> Result<Vec<R>, Unanswered> {
+    match recent::optimized(rules, |flat| rule(readable(flat))) {
+        Some(rules) => rules.map_err(Unanswered::from),
+        None => call(Call::Optimize, &json(), |reader| reader.list(|reader| rule(flat_rule(reader)?))),
+    }
 }
 
 /// The used builtins of a grammar, and its optimized rules, each made by `rule`.
@@ -127,15 +217,12 @@ pub(crate) fn parse_and_optimize<R>(
     grammar: &str,
     rule: impl Fn(FlatRule) -> Reading<R>,
 ) -> Result<(Vec<String>, Vec<R>), Errors> {
-    let answer = call(Call::ParseAndOptimize, grammar, |reader| {
-        let (mut builtins, mut rules) = (Vec::new(), Vec::new());
-        reader.object(|reader, member| match member {
-            "builtins" => reader.list(Reader::text).map(|names| builtins = names),
-            "rules" => reader.list(|reader| rule(flat_rule(reader)?)).map(|told| rules = told),
-            _ => reader.pass(),
-        })?;
-        Ok((builtins, rules))
-    });
+    let answer = match recent::parse_and_optimize(grammar, |flat| rule(readable(flat))) {
+        Some(answer) => answer.map_err(Unanswered::from),
+        None => Err(refusal(grammar, |out, needed| {
+            library::over_text(Call::ParseAndOptimize, grammar, out, needed)
+        })),
+    };
     answer.map_err(|why| errors_of(whole(grammar), why))
 }
 
@@ -165,14 +252,19 @@ fn ask<T>(
     call: impl FnMut(&mut [u8], &mut usize) -> u8,
     value: impl FnOnce(&mut Reader<'_>) -> Reading<T>,
 ) -> Result<T, Unanswered> {
-    let format = versions().format;
-    if format != FORMAT {
-        return Err(Malformed::Unknown { what: "format", name: format.to_string() }.into());
-    }
-    in_room(len.saturating_mul(64).clamp(LEAST_ROOM, 1 << 26), call, |answer| match answer {
+    check_format()?;
+    in_room(room_for(len, BYTES_FOR_A_BYTE), call, |answer| match answer {
         Ok(json) => Ok(json::read(json, value)?),
         Err(json) => Err(Unanswered::Refused(json.to_owned())),
     })
+}
+
+/// That the library answers in the format that is read here.
+fn check_format() -> Reading<()> {
+    match versions().format {
+        FORMAT => Ok(()),
+        format => Err(Malformed::Unknown { what: "format", name: format.to_string() }),
+    }
 }
 
 /// What the library says of itself.
@@ -200,8 +292,47 @@ fn versions() -> &'static Versions {
     })
 }
 
-/// So much room a call gets at least, in bytes.
+/// So much room a call gets at least.
 const LEAST_ROOM: usize = 1 << 12;
+
+/// So much room it gets at most before it has said what it wants.
+const MOST_ROOM: usize = 1 << 26;
+
+/// So much room a call gets at first for each byte of its text: in bytes of JSON, in bytes of binary form, and in
+/// numbers of tokens.
+const BYTES_FOR_A_BYTE: usize = 64;
+const GRAMMAR_BYTES_FOR_A_BYTE: usize = 8;
+const NUMBERS_FOR_A_BYTE: usize = 5;
+
+/// The room for the answer about a text of that length. Where it is too small, the call is made twice.
+fn room_for(len: usize, for_a_byte: usize) -> usize {
+    len.saturating_mul(for_a_byte).clamp(LEAST_ROOM, MOST_ROOM)
+}
+
+/// Calls with that much room, and again with the room that is wanted where it was too small: the status, and what was
+/// written.
+fn filled<T: Clone + Default>(room: usize, mut call: impl FnMut(&mut [T], &mut usize) -> u8) -> (u8, Vec<T>) {
+    let mut out = vec![T::default(); room];
+    let mut needed = 0;
+    let mut status = call(&mut out, &mut needed);
+    if status == 4 {
+        out = vec![T::default(); needed];
+        status = call(&mut out, &mut needed);
+    }
+    out.truncate(needed);
+    (status, out)
+}
+
+/// Ends a call that has no answer.
+///
+/// # Panics
+/// Always: where the library has no memory, and where it breaks its word.
+fn no_answer(status: u8) -> ! {
+    match status {
+        2 => panic!("pest_meta: there is no memory for this grammar"),
+        _ => panic!("pest_meta: the library answered with status {status}, which is none for a text"),
+    }
+}
 
 /// Calls with that much room, and again with the room that is wanted where it was too small. What is
 /// answered is read by `read`; a refusal is the error.
@@ -210,22 +341,15 @@ const LEAST_ROOM: usize = 1 << 12;
 /// Where the library has no memory.
 fn in_room<T>(
     room: usize,
-    mut call: impl FnMut(&mut [u8], &mut usize) -> u8,
+    call: impl FnMut(&mut [u8], &mut usize) -> u8,
     read: impl FnOnce(Result<&str, &str>) -> T,
 ) -> T {
-    let mut out = vec![0; room];
-    let mut needed = 0;
-    let mut status = call(&mut out, &mut needed);
-    if status == 4 {
-        out = vec![0; needed];
-        status = call(&mut out, &mut needed);
-    }
-    let text = std::str::from_utf8(&out[..needed]).expect("the library answers UTF-8");
+    let (status, out) = filled(room, call);
+    let text = std::str::from_utf8(&out).expect("the library answers UTF-8");
     match status {
         0 => read(Ok(text)),
         1 => read(Err(text)),
-        2 => panic!("pest_meta: there is no memory for this grammar"),
-        _ => panic!("pest_meta: the library answered with status {status}, which is none for a text"),
+        _ => no_answer(status),
     }
 }
 
@@ -244,15 +368,18 @@ fn flat_rule(reader: &mut Reader<'_>) -> Reading<FlatRule> {
     let (Some(name), Some(ty)) = (name, ty) else {
         return reader.wanted("a rule with its name and its type");
     };
-    let rule = FlatRule { name, ty, nodes, name_span, spans };
-    #[cfg(not(feature = "grammar-extras"))]
-    let rule = without_tags(rule);
-    Ok(rule)
+    Ok(readable(FlatRule { name, ty, nodes, name_span, spans }))
 }
 
-/// A rule without its tags: what a tag is on stands in its place.
+/// A rule as this configuration reads it.
+#[cfg(feature = "grammar-extras")]
+fn readable(rule: FlatRule) -> FlatRule {
+    rule
+}
+
+/// A rule without its tags, which this configuration does not read: what a tag is on stands in its place.
 #[cfg(not(feature = "grammar-extras"))]
-fn without_tags(mut rule: FlatRule) -> FlatRule {
+fn readable(mut rule: FlatRule) -> FlatRule {
     let is_tag = |node: &Node| matches!(node, Node::Tag(_));
     let mut nodes = rule.nodes.iter();
     rule.spans.retain(|_| !nodes.next().is_some_and(is_tag));
@@ -278,26 +405,6 @@ fn pair(reader: &mut Reader<'_>) -> Reading<(usize, usize)> {
     let end = reader.place()?;
     reader.close_list()?;
     Ok((start, end))
-}
-
-fn entry(reader: &mut Reader<'_>) -> Reading<Entry> {
-    reader.open_list()?;
-    let rule = match reader.peek() {
-        Some(b'"') => {
-            let rule = rule_name(reader)?;
-            reader.comma()?;
-            Some(rule)
-        }
-        _ => None,
-    };
-    let place = reader.place()?;
-    reader.comma()?;
-    let partner = reader.place()?;
-    reader.close_list()?;
-    Ok(match rule {
-        Some(rule) => Entry::Start { rule, place, partner },
-        None => Entry::End { place },
-    })
 }
 
 fn rule_name(reader: &mut Reader<'_>) -> Reading<Rule> {
@@ -362,14 +469,96 @@ mod tests {
         Malformed::Unknown { what, name: name.to_owned() }
     }
 
+    /// The grammars of the folder that GRAMMARS names, and those of the validator's tests.
+    fn grammars() -> Vec<String> {
+        let mut texts = crate::validator::tests::grammars();
+        if let Some(folder) = std::env::var_os("GRAMMARS") {
+            let files = std::fs::read_dir(folder).unwrap().map(|entry| entry.unwrap().path());
+            texts.extend(files.map(|file| std::fs::read_to_string(file).unwrap()));
+        }
+        texts
+    }
+
+    /// What a call answers, as it stands.
+    fn json_of(function: Call, text: &str) -> Result<String, String> {
+        let call = |out: &mut [u8], needed: &mut usize| library::over_text(function, text, out, needed);
+        in_room(room_for(text.len(), BYTES_FOR_A_BYTE), call, |answer| match answer {
+            Ok(json) => Ok(json.to_owned()),
+            Err(json) => Err(json.to_owned()),
+        })
+    }
+
+    fn parts(rules: Vec<FlatRule>) -> Vec<(String, RuleType, Vec<Node>)> {
+        rules.into_iter().map(|rule| (rule.name, rule.ty, rule.nodes)).collect()
+    }
+
+    #[test]
+    fn answers_in_binary_form_are_those_in_json() {
+        let mut accepted = 0;
+        for text in grammars() {
+            let Some(answer) = recent::parse_and_optimize(&text, |rule| Ok(readable(rule))) else {
+                assert!(json_of(Call::ParseAndOptimize, &text).is_err(), "{text}");
+                continue;
+            };
+            accepted += 1;
+            let (names, optimized) = answer.unwrap();
+            let rules = recent::rules(&text, |rule| Ok(readable(rule))).unwrap().unwrap();
+            let json = json_of(Call::Rules, &text).unwrap();
+            assert_eq!(parts(rules), parts(rules_in(&json).unwrap()), "{text}");
+            let json = json_of(Call::Optimize, &json).unwrap();
+            assert_eq!(parts(optimized), parts(rules_in(&json).unwrap()), "{text}");
+            let json = json_of(Call::Names, &text).unwrap();
+            assert_eq!(Ok(names), json::read(&json, |reader| reader.list(Reader::text)));
+        }
+        assert!(accepted > 500, "{accepted} grammars are accepted");
+    }
+
+    #[test]
+    fn tokens_as_numbers_are_those_in_json() {
+        for text in grammars() {
+            let call = |out: &mut [u8], needed: &mut usize| {
+                library::tokens(&text, Rule::grammar_rules.name(), out, needed)
+            };
+            let entry = |reader: &mut Reader<'_>| {
+                reader.open_list()?;
+                let rule = if reader.peek() == Some(b'"') {
+                    let rule = rule_name(reader)?;
+                    reader.comma()?;
+                    Some(rule)
+                } else {
+                    None
+                };
+                let (place, _) = (reader.place()?, reader.comma()?);
+                let partner = reader.place()?;
+                reader.close_list()?;
+                Ok((rule, place, partner))
+            };
+            let in_json = ask(text.len(), call, |reader| reader.list(entry)).unwrap();
+            let numbers = token_numbers(&text, Rule::grammar_rules).unwrap();
+            let numbered = numbers.chunks_exact(3).map(|numbers| match *numbers {
+                [0, place, partner] => (None, place, partner),
+                [rule, place, partner] => (Some(Rule::numbered(rule).unwrap()), place, partner),
+                _ => unreachable!(),
+            });
+            assert_eq!(numbered.collect::<Vec<_>>(), in_json);
+        }
+    }
+
     #[test]
     fn names_that_are_new_are_errors() {
         let form = r#"[{"expr":[["lookbehind",3]],"name":"a","type":"normal"}]"#;
         assert_eq!(rules_in(form).unwrap_err(), unknown("form", "lookbehind"));
         let ty = r#"[{"expr":[["str","x"]],"name":"a","type":"loud"}]"#;
         assert_eq!(rules_in(ty).unwrap_err(), unknown("type of rules", "loud"));
-        let rule = json::read(r#"[["lookbehind",0,1],[0,0]]"#, |reader| reader.list(entry));
-        assert_eq!(rule.err().unwrap(), unknown("rule of the meta-grammar", "lookbehind"));
+        let entries = Entries::new(vec![1, 0, 1, 67, 0, 0]);
+        assert_eq!(entries.err().unwrap(), unknown("rule of the meta-grammar", "67"));
+        let entries = Entries::new(vec![66, 7, 1, 0, 8, 0, 1, 0, 0]).unwrap();
+        assert_eq!(entries.get(0), Some(Entry::Start { rule: Rule::EOI, place: 7, partner: 1 }));
+        assert_eq!(entries.get(1), Some(Entry::End { place: 8 }));
+        assert!(matches!(entries.get(2), Some(Entry::Start { rule: Rule::grammar_rules, .. })));
+        assert_eq!((entries.len(), entries.get(3)), (3, None));
+        let error = json::read(r#"["lookbehind"]"#, |reader| reader.list(rule_name));
+        assert_eq!(error.err().unwrap(), unknown("rule of the meta-grammar", "lookbehind"));
     }
 
     #[test]

@@ -24,7 +24,9 @@
 //! which is tested and not proved:
 //!
 //! - `library`: the calls over C, the only `unsafe` code;
-//! - `json`, `nodes`, `answers`: answers in JSON, read into rules, errors and entries of trees;
+//! - `binary`, `json`, `nodes`, `answers`: answers in binary form and in JSON, read into rules, errors and entries
+//!   of trees;
+//! - `recent`: each thread keeps the answer for the last grammar that it asked about;
 //! - `parser`: the entries are replayed through [`pest::state`], which makes the pairs;
 //! - `validator`: [`validator::validate_ast`] and the checks of names write what they are handed as a grammar
 //!   and report at the spans they were handed what the library says of it; `printing` writes it, and `Display`;
@@ -37,6 +39,8 @@
 //! as before.
 //!
 //! # Limits
+//!
+//! Each thread keeps the answer for the last grammar that it read, some ten bytes for each byte of the text.
 //!
 //! A call panics where the library has no memory: in a derive, that is an error at the grammar. Where the
 //! library is of a later release and answers what this crate doesn't know, a call that returns errors returns
@@ -56,6 +60,7 @@ use pest::unicode::unicode_property_names;
 
 mod answers;
 pub mod ast;
+mod binary;
 mod json;
 #[allow(unsafe_code)]
 #[cfg_attr(pest_meta_unlinked, path = "unlinked.rs")]
@@ -66,6 +71,7 @@ mod nodes;
 pub mod optimizer;
 pub mod parser;
 mod printing;
+mod recent;
 pub mod validator;
 
 /// What a result holds; a refusal ends in a panic with a report of all its errors.

@@ -15,6 +15,16 @@ extern "C" {
         out_len: usize,
         needed: *mut usize,
     ) -> u8;
+    fn pest_meta_token_numbers(
+        text: *const u8,
+        text_len: usize,
+        rule: *const u8,
+        rule_len: usize,
+        out: *mut usize,
+        out_len: usize,
+        needed: *mut usize,
+    ) -> u8;
+    fn pest_meta_grammar(text: *const u8, len: usize, out: *mut u8, room: usize, needed: *mut usize) -> u8;
     fn pest_meta_names(text: *const u8, len: usize, out: *mut u8, room: usize, needed: *mut usize) -> u8;
     fn pest_meta_rust_keyword(
         name: *const u8,
@@ -48,6 +58,12 @@ extern "C" {
     fn pest_meta_version(out: *mut u8, out_len: usize, needed: *mut usize) -> u8;
 }
 
+/// The builtins of a grammar, its rules and its optimized rules in binary form, or its errors.
+pub(crate) fn grammar(text: &str, out: &mut [u8], needed: &mut usize) -> u8 {
+    // SAFETY: as below.
+    unsafe { pest_meta_grammar(text.as_ptr(), text.len(), out.as_mut_ptr(), out.len(), needed) }
+}
+
 /// Calls a function over one text.
 pub(crate) fn over_text(call: Call, text: &str, out: &mut [u8], needed: &mut usize) -> u8 {
     let function = match call {
@@ -68,6 +84,22 @@ pub(crate) fn tokens(text: &str, rule: &str, out: &mut [u8], needed: &mut usize)
     // SAFETY: as above.
     unsafe {
         pest_meta_tokens(
+            text.as_ptr(),
+            text.len(),
+            rule.as_ptr(),
+            rule.len(),
+            out.as_mut_ptr(),
+            out.len(),
+            needed,
+        )
+    }
+}
+
+/// The same entries as numbers; nothing is written where there is an error.
+pub(crate) fn token_numbers(text: &str, rule: &str, out: &mut [usize], needed: &mut usize) -> u8 {
+    // SAFETY: as above.
+    unsafe {
+        pest_meta_token_numbers(
             text.as_ptr(),
             text.len(),
             rule.as_ptr(),

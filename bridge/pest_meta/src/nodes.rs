@@ -41,6 +41,33 @@ impl Node {
         }
     }
 
+    /// Its form's number, by which it is written in binary form.
+    pub(crate) fn number(&self) -> u8 {
+        match self {
+            Node::Str(_) => 0,
+            Node::Insens(_) => 1,
+            Node::Range(..) => 2,
+            Node::Ident(_) => 3,
+            Node::PeekSlice(..) => 4,
+            Node::PosPred => 5,
+            Node::NegPred => 6,
+            Node::Seq => 7,
+            Node::Choice => 8,
+            Node::Opt => 9,
+            Node::Rep => 10,
+            Node::RepOnce => 11,
+            Node::RepExact(_) => 12,
+            Node::RepMin(_) => 13,
+            Node::RepMax(_) => 14,
+            Node::RepMinMax(..) => 15,
+            Node::Skip(_) => 16,
+            Node::Push => 17,
+            Node::PushLiteral(_) => 18,
+            Node::Tag(_) => 19,
+            Node::RestoreOnErr => 20,
+        }
+    }
+
     /// Its form's name.
     fn form(&self) -> &'static str {
         match self {

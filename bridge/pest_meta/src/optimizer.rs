@@ -5,6 +5,7 @@ use std::fmt;
 
 use crate::answers::{self, FlatRule};
 use crate::ast::{Rule, RuleType};
+use crate::binary;
 use crate::json::{write_list, write_text, Malformed, Reading};
 use crate::nodes::{self, flat, tree, Node, Operands, Tree};
 use crate::printing::{spelled, BareSide};
@@ -15,9 +16,17 @@ use crate::printing::{spelled, BareSide};
 /// Where there is no memory for what the rules are written out to, and where the library is of a release whose
 /// rules this crate does not know.
 pub fn optimize(rules: Vec<Rule>) -> Vec<OptimizedRule> {
-    let mut json = String::new();
-    write_list(&mut json, &rules, |out, rule| write_rule(out, &rule.name, rule.ty, &flat(&rule.expr)));
-    let optimized = answers::optimize(&json, OptimizedRule::try_from);
+    let mut bytes = Vec::new();
+    binary::write_size(&mut bytes, rules.len());
+    for rule in &rules {
+        binary::write_rule(&mut bytes, &rule.name, rule.ty, &flat(&rule.expr));
+    }
+    let json = || {
+        let mut json = String::new();
+        write_list(&mut json, &rules, |out, rule| write_rule(out, &rule.name, rule.ty, &flat(&rule.expr)));
+        json
+    };
+    let optimized = answers::optimize(&bytes, json, OptimizedRule::try_from);
     optimized.unwrap_or_else(|why| panic!("pest_meta: {why}"))
 }
 

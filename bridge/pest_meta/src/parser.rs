@@ -7,7 +7,7 @@ use pest::error::ErrorVariant;
 use pest::iterators::Pairs;
 use pest::{ParseResult, ParserState, Span};
 
-use crate::answers::{self, part, Call, Entry, FlatRule};
+use crate::answers::{self, part, Call, Entries, Entry, FlatRule};
 use crate::ast::{Rule as AstRule, RuleType};
 use crate::json::{Malformed, Reading};
 use crate::nodes::{tree, Node, Operands, Tree};
@@ -40,11 +40,11 @@ type State<'i> = Box<ParserState<'i, Rule>>;
 fn replayed<'i>(
     mut state: State<'i>,
     text: &str,
-    entries: &[Entry],
+    entries: &Entries,
     mut range: std::ops::Range<usize>,
 ) -> ParseResult<State<'i>> {
     while let Some(at) = range.next() {
-        let Entry::Start { rule, place, partner } = entries[at] else {
+        let Some(Entry::Start { rule, place, partner }) = entries.get(at) else {
             unreachable!("the library ends each tree where it says")
         };
         let Some(Entry::End { place: end }) = entries.get(partner) else {
@@ -52,7 +52,7 @@ fn replayed<'i>(
         };
         state = moved(state, text, place)?.rule(rule, |state| {
             let state = replayed(state, text, entries, at + 1..partner)?;
-            moved(state, text, *end)
+            moved(state, text, end)
         })?;
         range.start = partner + 1;
     }
@@ -215,7 +215,7 @@ pub fn consume_rules(pairs: Pairs<'_, Rule>) -> Result<Vec<AstRule>, Vec<Error<R
     let Some(grammar) = readable(pairs)? else {
         return Ok(Vec::new());
     };
-    answers::rules(Call::Rules, grammar, AstRule::try_from)
+    answers::grammar_rules(grammar, AstRule::try_from)
 }
 
 /// The rules of a grammar's pairs with the place of each node, or the first flaw for which they can't be

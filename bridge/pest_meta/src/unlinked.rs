@@ -15,11 +15,19 @@ fn refused() -> u8 {
     Answer::<()>::REFUSED
 }
 
+pub(crate) fn grammar(_: &str, _: &mut [u8], _: &mut usize) -> u8 {
+    refused()
+}
+
 pub(crate) fn over_text(_: Call, _: &str, _: &mut [u8], _: &mut usize) -> u8 {
     refused()
 }
 
 pub(crate) fn tokens(_: &str, _: &str, _: &mut [u8], _: &mut usize) -> u8 {
+    refused()
+}
+
+pub(crate) fn token_numbers(_: &str, _: &str, _: &mut [usize], _: &mut usize) -> u8 {
     refused()
 }
 

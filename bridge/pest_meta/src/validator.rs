@@ -94,7 +94,7 @@ fn grammar_of_names<'i>(definitions: &[Span<'i>], called: &[Span<'i>]) -> Names<
 /// Whether a text is a name, by the meta-grammar.
 fn is_name(text: &str) -> bool {
     match answers::tokens(text, Rule::identifier) {
-        Ok(entries) => matches!(entries[..], [_, Entry::End { place }] if place == text.len()),
+        Ok(entries) => entries.len() == 2 && entries.get(1) == Some(Entry::End { place: text.len() }),
         Err(_) => false,
     }
 }
@@ -188,12 +188,12 @@ fn span_of(error: &Error<Rule>) -> Range<usize> {
 }
 
 #[cfg(test)]
-mod tests {
+pub(crate) mod tests {
     use super::*;
     use crate::parser::{consume_rules_with_spans, parse};
 
     /// Grammars with each form, and with each form as the operand of each other one that takes it.
-    fn grammars() -> Vec<String> {
+    pub(crate) fn grammars() -> Vec<String> {
         let leaves = [r#""a""#, r#"^"\"\\ä""#, "'a'..'\\''", "b", "PEEK[-1..2]", "PEEK[..]"];
         let over = |e: &str| {
             let signs = ["?", "*", "+", "{2}", "{2,}", "{,2}", "{2,3}"];

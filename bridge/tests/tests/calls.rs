@@ -279,6 +279,37 @@ fn wrappers_are_put_round_what_changes_the_stack() {
     assert_eq!(rules[0].expr.to_string(), r#"(PUSH("x") ~ POP)?"#);
 }
 
+/// The crate keeps the answer for a thread's last grammar, and only what is asked about that one may be taken from it.
+#[test]
+fn an_answer_is_of_what_is_handed_in() {
+    let (one, other) = ("a = { \"x\" ~ \"y\" ~ b } b = { \"z\" }", "a = { ^\"y\" } c = { a* }");
+    let optimized = |rules: &[ast::Rule]| optimize(rules.to_vec());
+    let [alone, alone_too] = [one, other].map(|text| (rules_of(text), optimized(&rules_of(text))));
+    assert_ne!(alone, alone_too);
+    // Two grammars in turn, and the rules of one after the other was read.
+    let (first, second) = (parsed(one), parsed(other));
+    let rules = parser::consume_rules(first.clone()).unwrap();
+    assert_eq!(validator::validate_pairs(second.clone()), Ok(vec![]));
+    assert_eq!(optimized(&rules), alone.1);
+    assert_eq!(optimized(&parser::consume_rules(second).unwrap()), alone_too.1);
+    assert_eq!(optimized(&parser::consume_rules(first).unwrap()), alone.1);
+    // Rules that were changed, left out or put in another order.
+    let mut changed = rules_of(one);
+    changed[1].expr = Expr::Str("w".to_owned());
+    assert_eq!(optimized(&changed)[1].expr, *optimized_string("w"));
+    changed.pop();
+    assert_eq!(optimized(&changed), alone.1[..1]);
+    assert_eq!(optimized(&[]), []);
+    let turned: Vec<ast::Rule> = rules_of(one).into_iter().rev().collect();
+    assert_eq!(optimized(&turned).iter().rev().collect::<Vec<_>>(), alone.1.iter().collect::<Vec<_>>());
+    // A grammar that is refused leaves no answer, and another thread has its own.
+    assert!(parse_and_optimize("a = { b }").is_err());
+    assert!(parser::consume_rules(parsed("a = { (\"\")* }")).is_err());
+    assert_eq!(optimized(&rules), alone.1);
+    let there = std::thread::spawn(move || optimize(rules_of(other))).join().unwrap();
+    assert_eq!(there, alone_too.1);
+}
+
 #[test]
 fn a_grammar_is_answered_as_a_whole() {
     let grammar = "a = @{ ANY ~ \"x\" ~ \"y\" }";

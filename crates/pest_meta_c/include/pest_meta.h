@@ -4,7 +4,8 @@
  * out.
  *
  * A call reads texts, each a pointer and a length in bytes, and writes into
- * `out`, a buffer of `out_len` bytes. It returns a status:
+ * `out`, a buffer of `out_len` bytes (or numbers, where it says so). It returns
+ * a status:
  *
  *   0  the answer is written, and `*needed` is its length
  *   1  the text is refused: its errors are written, and `*needed` is their
@@ -49,6 +50,13 @@ extern "C" {
 uint8_t pest_meta_tokens(const uint8_t *text, size_t text_len, const uint8_t *rule, size_t rule_len,
                          uint8_t *out, size_t out_len, size_t *needed);
 
+/* The same tokens as numbers: for each entry a pest_meta_entry ("Tokens as
+ * numbers"). `out` is a buffer of `out_len` numbers, and `*needed` counts
+ * numbers. Refused with nothing written and 0 in `*needed`: pest_meta_tokens
+ * writes why. */
+uint8_t pest_meta_token_numbers(const uint8_t *text, size_t text_len, const uint8_t *rule,
+                                size_t rule_len, size_t *out, size_t out_len, size_t *needed);
+
 /* The builtins that a grammar uses ("Names"). Refused with a list of errors: of
  * syntax, or of names. */
 uint8_t pest_meta_names(const uint8_t *text, size_t text_len, uint8_t *out, size_t out_len,
@@ -67,7 +75,7 @@ uint8_t pest_meta_rules(const uint8_t *text, size_t text_len, uint8_t *out, size
                         size_t *needed);
 
 /* The rules that a grammar spells, with the spans of their names and nodes
- * ("Rules with places"); neither names nor rules are checked. Refused with a
+ * ("Rules with spans"); neither names nor rules are checked. Refused with a
  * list of errors: of syntax, or of the first flaw. */
 uint8_t pest_meta_nodes(const uint8_t *text, size_t text_len, uint8_t *out, size_t out_len,
                         size_t *needed);
@@ -82,6 +90,11 @@ uint8_t pest_meta_optimize(const uint8_t *rules, size_t rules_len, uint8_t *out,
  * the first flaw, else of the rules. */
 uint8_t pest_meta_parse_and_optimize(const uint8_t *text, size_t text_len, uint8_t *out,
                                      size_t out_len, size_t *needed);
+
+/* The builtins that a grammar uses, its rules and its optimized rules ("Binary
+ * form"). Refused as pest_meta_parse_and_optimize is, in JSON. */
+uint8_t pest_meta_grammar(const uint8_t *text, size_t text_len, uint8_t *out, size_t out_len,
+                          size_t *needed);
 
 /* The tokens of a text by a rule of optimized rules in JSON ("Rules"), from the
  * text's start on. `out` is a buffer of `out_len` numbers, and `*needed` counts

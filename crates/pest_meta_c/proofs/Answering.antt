@@ -1,15 +1,17 @@
 -- What is read from the pairs of a text is answered for the text.
-use Rattle.std.proofs.Common.{◌≡◌, ℕ, List, [], None, Result, Ok, Err, IfOk, Bor, String, Global, string_bytes, subst}
+use Rattle.std.proofs.Common.{◌≡◌, ◌++◌, ◌∙◌, ap, ℕ, List, [], None, Result, Ok, Err, IfOk, Bor, String, Global, string_bytes, subst}
 use Rattle.std.specs.declared.alloc.AllocError.{AllocError}
 use Rattle.serde_json.specs.Data.{Data}
 use Rattle.serde_json.specs.Written.{compact_text}
 use Rattle.meta_ast.specs.Ast.{rules_of}
 use Rattle.meta_ast.specs.declared.ast.Rule as bare_rule
+use Rattle.meta_ast.specs.declared.optimized.OptimizedRule.{OptimizedRule}
 use Rattle.meta_base.specs.Language.WellFormed.{HasReadableCounts}
 use Rattle.meta_base.specs.Pieces.NamedTrees.{named}
 use Rattle.meta_base.specs.Pieces.Pairs.{pairs_text, pairs_trees}
 use Rattle.meta_base.specs.declared.grammar.Rule.{Rule}
 use Rattle.meta_base.specs.declared.runtime.tokens.Pairs.{Pairs}
+use Rattle.meta_binary.specs.Format.{names_bytes, optimized_rules_bytes, rules_bytes}
 use Rattle.meta_json.specs.Errors.{names_data}
 use Rattle.meta_json.specs.Format.{rules_data}
 use Rattle.meta_json.specs.Placed.{placed_rules_data}
@@ -18,9 +20,9 @@ use Rattle.meta_spanned.specs.Nodes.{rule_views}
 use Rattle.meta_spanned.specs.declared.node.ParserRule.{ParserRule}
 use Rattle.meta_reader.specs.Refusals.{AreReadAs, first_flaw_of}
 use Rattle.meta_syntax.specs.Parses.{AreOfAGrammar}
-use Rattle.pest_meta.specs.Spelling.{AreAccepted}
+use Rattle.pest_meta.specs.Spelling.{AreAccepted, IsAnswer, SpellsGrammar}
 use Rattle.pest_meta_c.specs.declared.outcome.CallError as why
-use Rattle.pest_meta_c.specs.Answers.{AreNames, AreNodes, AreRules}
+use Rattle.pest_meta_c.specs.Answers.{AreNames, AreNodes, AreRules, IsGrammar}
 
 pub names_answered : (text json : List ℕ) (pairs : Pairs Rule) (names : List (Bor (List ℕ))) → pairs_text pairs ≡ text → AreOfAGrammar pairs → complaints_of pairs ≡ [] → AreWrittenAt (first_calls_of pairs) names
     → json ≡ compact_text (names_data names) → AreNames text json
@@ -60,3 +62,16 @@ pub answered_from : (P : List ℕ → Type 0) (d : Data) (json : Result (String 
     → IfOk outcome (λ text. json ≡ Ok text) → IfOk outcome (λ text. P (string_bytes text))
 answered_from P d json (Ok text) h f same = f (string_bytes text) (subst (λ r. IfOk r (λ t. string_bytes t ≡ compact_text d)) same h)
 answered_from P d json (Err reason) h f same = tt
+
+-- what is read and optimized is answered in binary form: the builtins, the rules and the optimized rules, one behind the other
+pub grammar_answered : (text bytes first second : List ℕ) (pairs : Pairs Rule) (builtins : List (Bor (List ℕ))) (rules : List bare_rule.Rule) (optimized : List OptimizedRule)
+    → pairs_text pairs ≡ text → AreOfAGrammar pairs → AreAccepted (pairs_text pairs) (named (pairs_trees pairs)) (rules_of rules) → IsAnswer text builtins optimized
+    → first ≡ names_bytes builtins → second ≡ first ++ rules_bytes rules → bytes ≡ second ++ optimized_rules_bytes optimized → IsGrammar text bytes
+grammar_answered text bytes first second pairs builtins rules optimized same h accepted answer n r o = record {
+  builtins = builtins;
+  rules = rules;
+  optimized = optimized;
+  spelled = subst (λ v. SpellsGrammar v (rules_of rules)) same (record { trees = named (pairs_trees pairs); of_text = h; give = accepted.give });
+  answer = answer;
+  written = o ∙ ap (λ t. t ++ optimized_rules_bytes optimized) (r ∙ ap (λ t. t ++ rules_bytes rules) n);
+}

@@ -3,10 +3,13 @@ use Rattle.std.proofs.Common.{◌≡◌, ◌<◌, ◌≤◌, ◌⊎◌, ℕ, Lis
 use Rattle.std.proofs.lemmas.Bool.{cases_lt}
 use Rattle.matcher_tokens.specs.declared.outcome.MatchOutcome.{MatchOutcome}
 use Rattle.matcher_tokens.specs.declared.outcome.MatchOutcome.TheVariants as match_is
-use Rattle.pest_meta_c.specs.Handing.{HandsOver, HandsOverMatch, IsHandedOver, IsMatchHandedOver, IsPut}
-use Rattle.pest_meta_c.specs.Outcomes.{RefusesWith}
+use Rattle.pest_meta_c.specs.Handing.{AreBytesHandedOver, AreNumbersHandedOver, HandsOver, HandsOverMatch, HandsOverNumbers, IsHandedOver, IsMatchHandedOver, IsPut}
+use Rattle.pest_meta_c.specs.Outcomes.{RefusesNumbers, RefusesWith}
 use Rattle.pest_meta_c.specs.declared.outcome.CallError as why
 use Rattle.pest_meta_c.specs.declared.outcome.CallError.TheVariants as why_is
+use Rattle.pest_meta_c.specs.declared.outcome.NumbersError.{NumbersError}
+use Rattle.pest_meta_c.specs.declared.outcome.NumbersError.TheVariants as no_numbers
+use Rattle.std.specs.declared.vec.Vec.{Vec}
 
 -- bytes that are an answer, with status 0, or a refusal, with status 1
 hands_put : (Answer Refusal : List ℕ → Type 0) (wanted : ℕ) (bytes old new : List ℕ) (needed status : ℕ) → wanted ≤ 1 → (wanted ≡ 0 → Answer bytes) → (wanted ≡ 1 → Refusal bytes) → (Answer bytes ⊎ Refusal bytes)
@@ -100,4 +103,59 @@ pub hands_no_match : (P : MatchOutcome → Type 0) (old : List ℕ) (needed stat
 hands_no_match P old needed status three none = record {
   no_text = λ e. record { told = none; unchanged = refl };
   of_outcome = λ other. absurd (other three);
+}
+
+-- an outcome in binary form
+pub hands_bytes : (Answer Refusal : List ℕ → Type 0) (outcome : Result (Vec ℕ Global) why.CallError) (old new : List ℕ) (needed status : ℕ) → IfOk outcome (λ bytes. Answer bytes.items) → IfErr outcome (RefusesWith Refusal)
+    → AreBytesHandedOver outcome old new needed status → HandsOver Answer Refusal old new needed status
+hands_bytes Answer Refusal (Ok bytes) old new needed status a r g =
+    hands_put Answer Refusal 0 bytes.items old new needed status (omega arith) (λ e. a) (λ e. absurd (zero_or_one e)) (inl a) g
+hands_bytes Answer Refusal (Err (why_is.Refused json)) old new needed status a r g =
+    hands_put Answer Refusal 1 (string_bytes json) old new needed status (omega arith) (λ e. absurd (one_or_zero e)) (λ e. r) (inr r) g
+hands_bytes Answer Refusal (Err why_is.Memory) old new needed status a r g = let two : status ≡ 2 = g.0 in record {
+  known = omega arith;
+  answered = λ e. absurd (omega arith);
+  refused = λ e. absurd (omega arith);
+  memory = λ e. g.1;
+  no_text = λ e. absurd (omega arith);
+  no_room = λ e. absurd (omega arith);
+}
+
+-- numbers
+pub hands_numbers : (Answer : List ℕ → Type 0) (Refusal : Type 0) (outcome : Result (Vec ℕ Global) NumbersError) (old new : List ℕ) (needed status : ℕ) → IfOk outcome (λ numbers. Answer numbers.items) → IfErr outcome (RefusesNumbers Refusal)
+    → AreNumbersHandedOver outcome old new needed status → HandsOverNumbers Answer Refusal old new needed status
+hands_numbers Answer Refusal (Ok numbers) old new needed status a r g = go (cases_lt (length old) (length numbers.items))
+  where
+    go : (length old < length numbers.items) ⊎ (length numbers.items ≤ length old) → HandsOverNumbers Answer Refusal old new needed status
+    go (inl less) = let q = g.no_room less in let four : status ≡ 4 = q.0 in record {
+      known = omega arith;
+      answered = λ e. absurd (omega arith);
+      refused = λ e. absurd (omega arith);
+      memory = λ e. absurd (omega arith);
+      no_text = λ e. absurd (omega arith);
+      no_room = λ e. record { bytes = numbers.items; hold = a; told = g.told; more = rw g.told less; unchanged = q.1 };
+    }
+    go (inr fit) = let q = g.put fit in let zero_is : status ≡ 0 = q.0 in record {
+      known = omega arith;
+      answered = λ e. record { bytes = numbers.items; hold = a; told = g.told; fit = rw g.told fit; written = rw g.told q.1 };
+      refused = λ e. absurd (omega arith);
+      memory = λ e. absurd (omega arith);
+      no_text = λ e. absurd (omega arith);
+      no_room = λ e. absurd (omega arith);
+    }
+hands_numbers Answer Refusal (Err no_numbers.Refused) old new needed status a r g = let one : status ≡ 1 = g.0 in record {
+  known = omega arith;
+  answered = λ e. absurd (omega arith);
+  refused = λ e. (r, g.1);
+  memory = λ e. absurd (omega arith);
+  no_text = λ e. absurd (omega arith);
+  no_room = λ e. absurd (omega arith);
+}
+hands_numbers Answer Refusal (Err no_numbers.Memory) old new needed status a r g = let two : status ≡ 2 = g.0 in record {
+  known = omega arith;
+  answered = λ e. absurd (omega arith);
+  refused = λ e. absurd (omega arith);
+  memory = λ e. g.1;
+  no_text = λ e. absurd (omega arith);
+  no_room = λ e. absurd (omega arith);
 }

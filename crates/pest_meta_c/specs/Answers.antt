@@ -1,5 +1,5 @@
--- The answers of the calls, as bytes of JSON.
-use Rattle.std.specs.Prelude.{◌≡◌, ℕ, List, [], ◌∷◌, None, length}
+-- The answers of the calls, as bytes of JSON, in binary form or as numbers.
+use Rattle.std.specs.Prelude.{◌≡◌, ℕ, List, [], ◌∷◌, ◌++◌, None, length}
 use Rattle.std.specs.Borrow.{Bor}
 use Rattle.serde_json.specs.Written.{compact_text}
 use Rattle.meta_ast.specs.Ast.{rules_of}
@@ -12,6 +12,8 @@ use Rattle.meta_base.specs.Pieces.MetaRules.{name_of}
 use Rattle.meta_base.specs.Pieces.Saying.{AreErrorsFor, piece}
 use Rattle.meta_base.specs.declared.grammar.Rule.{Rule}
 use Rattle.meta_base.specs.declared.runtime.errors.Error.{Error}
+use Rattle.meta_binary.specs.Format.{names_bytes, optimized_rules_bytes, rules_bytes}
+use Rattle.meta_binary.specs.Tokens.{token_numbers}
 use Rattle.meta_json.specs.Errors.{answer_data, errors_data, names_data}
 use Rattle.meta_json.specs.Format.{optimized_rules_data, rules_data}
 use Rattle.meta_json.specs.Placed.{placed_rules_data}
@@ -31,7 +33,7 @@ use Rattle.meta_syntax.specs.Entries as entries
 use Rattle.meta_syntax.specs.Parses.{AreTokensOf}
 use Rattle.meta_syntax.specs.declared.entries.Entry.{Entry}
 use Rattle.pest_meta.specs.Promises.{AreBuiltinsOf, EndsFromEverywhere, HasOutcomesOf, IsWellFormedGrammar, OfRead, OfSpelled}
-use Rattle.pest_meta.specs.Spelling.{AreAccepted, HasRefusal, HasTrees, IsAnswer, complaints_in}
+use Rattle.pest_meta.specs.Spelling.{AreAccepted, HasRefusal, HasTrees, IsAnswer, SpellsGrammar, complaints_in}
 
 -- the bytes are the tokens of a text for the rule of that name
 pub record AreTokens (text name json : List ℕ) : Type 0 where
@@ -41,6 +43,15 @@ pub record AreTokens (text name json : List ℕ) : Type 0 where
   pub given : AreTokensOf rule text tokens
   pub whole : entries.IsWhole 0 (entries.named_entries tokens)
   pub written : json ≡ compact_text (tokens_data tokens)
+
+-- the numbers are the tokens of a text for the rule of that name
+pub record AreTokenNumbers (text name numbers : List ℕ) : Type 0 where
+  pub rule : Rule
+  pub named : name_of rule ≡ name
+  pub tokens : List Entry
+  pub given : AreTokensOf rule text tokens
+  pub whole : entries.IsWhole 0 (entries.named_entries tokens)
+  pub written : numbers ≡ token_numbers tokens
 
 -- the bytes are the builtins that a grammar uses: its names are in order, and these are those that it calls
 -- and doesn't define, each once, in the order of their first calls
@@ -107,6 +118,15 @@ pub record IsWhole (text json : List ℕ) : Type 0 where
   pub rules : List OptimizedRule
   pub promised : ArePromised text builtins rules
   pub written : json ≡ compact_text (answer_data builtins rules)
+
+-- the bytes are the builtins that a grammar uses, the rules that it spells, and the answer for it
+pub record IsGrammar (text bytes : List ℕ) : Type 0 where
+  pub builtins : List (Bor (List ℕ))
+  pub rules : List bare_rule.Rule
+  pub optimized : List OptimizedRule
+  pub spelled : SpellsGrammar text (rules_of rules)
+  pub answer : IsAnswer text builtins optimized
+  pub written : bytes ≡ (names_bytes builtins ++ rules_bytes rules) ++ optimized_rules_bytes optimized
 
 -- the bytes are the versions
 abbrev pub IsVersion : List ℕ → Type 0

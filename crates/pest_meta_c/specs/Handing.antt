@@ -2,10 +2,13 @@
 use Rattle.std.specs.Prelude.{◌≡◌, ◌≢◌, ◌<◌, ◌≤◌, ◌⊎◌, ◌++◌, ℕ, List, Result, Ok, Err, drop, length, string_bytes}
 use Rattle.std.specs.declared.string.String.{String}
 use Rattle.std.specs.declared.alloc.Global.{Global}
+use Rattle.std.specs.declared.vec.Vec.{Vec}
 use Rattle.matcher_tokens.specs.declared.outcome.MatchOutcome.{MatchOutcome}
 use Rattle.matcher_tokens.specs.declared.outcome.MatchOutcome.TheVariants as match_is
 use Rattle.pest_meta_c.specs.declared.outcome.CallError as why
 use Rattle.pest_meta_c.specs.declared.outcome.CallError.TheVariants as why_is
+use Rattle.pest_meta_c.specs.declared.outcome.NumbersError.{NumbersError}
+use Rattle.pest_meta_c.specs.declared.outcome.NumbersError.TheVariants as no_numbers
 
 -- such bytes are written at the start of the buffer, the bytes after them stay, and `needed` is their length
 pub record Writes (P : List ℕ → Type 0) (old new : List ℕ) (needed : ℕ) : Type 0 where
@@ -38,6 +41,16 @@ pub record HandsOver (Answer Refusal : List ℕ → Type 0) (old new : List ℕ)
   pub no_text : status ≡ 3 → WritesNothing old new needed
   pub no_room : status ≡ 4 → LacksRoom (λ bytes. Answer bytes ⊎ Refusal bytes) old new needed
 
+-- the result of a call that answers with such numbers, or for a refusal with none; the same statuses
+pub record HandsOverNumbers (Answer : List ℕ → Type 0) (Refusal : Type 0) (old new : List ℕ)
+    (needed status : ℕ) : Type 0 where
+  pub known : status ≤ 4
+  pub answered : status ≡ 0 → Writes Answer old new needed
+  pub refused : status ≡ 1 → Refusal × WritesNothing old new needed
+  pub memory : status ≡ 2 → WritesNothing old new needed
+  pub no_text : status ≡ 3 → WritesNothing old new needed
+  pub no_room : status ≡ 4 → LacksRoom Answer old new needed
+
 -- items with that status are put into the buffer where they fit, and `needed` is their count
 pub record IsPut {A : Type 0} (wanted : ℕ) (items old new : List A) (needed status : ℕ) : Type 0 where
   pub told : needed ≡ length items
@@ -54,6 +67,19 @@ IsHandedOver (Err why_is.Memory) old new needed status = (status ≡ 2) × Write
 -- nothing is written, with that status
 abbrev pub IsNothing : ℕ → List ℕ → List ℕ → ℕ → ℕ → Type 0
 IsNothing wanted old new needed status = (status ≡ wanted) × WritesNothing old new needed
+
+-- the result of an outcome in binary form, by the same statuses
+abbrev pub AreBytesHandedOver : Result (Vec ℕ Global) why.CallError → List ℕ → List ℕ → ℕ → ℕ → Type 0
+AreBytesHandedOver (Ok bytes) old new needed status = IsPut 0 bytes.items old new needed status
+AreBytesHandedOver (Err (why_is.Refused json)) old new needed status =
+    IsPut 1 (string_bytes json) old new needed status
+AreBytesHandedOver (Err why_is.Memory) old new needed status = IsNothing 2 old new needed status
+
+-- the result of numbers: status 0, or nothing with 1 for a refusal and 2 for an allocation failure
+abbrev pub AreNumbersHandedOver : Result (Vec ℕ Global) NumbersError → List ℕ → List ℕ → ℕ → ℕ → Type 0
+AreNumbersHandedOver (Ok numbers) old new needed status = IsPut 0 numbers.items old new needed status
+AreNumbersHandedOver (Err no_numbers.Refused) old new needed status = IsNothing 1 old new needed status
+AreNumbersHandedOver (Err no_numbers.Memory) old new needed status = IsNothing 2 old new needed status
 
 -- the result of the outcome of a rule on a text
 abbrev pub IsMatchHandedOver : MatchOutcome → List ℕ → List ℕ → ℕ → ℕ → Type 0

@@ -12,6 +12,8 @@ use Rattle.meta_json.specs.declared.refusal.RefusalReason.{RefusalReason}
 use Rattle.meta_syntax.specs.ExpectedRules.{AreExpected, ExpectsNothing}
 use Rattle.pest_meta_c.specs.declared.outcome.CallError as why
 use Rattle.pest_meta_c.specs.declared.outcome.CallError.TheVariants as why_is
+use Rattle.pest_meta_c.specs.declared.outcome.NumbersError.{NumbersError}
+use Rattle.pest_meta_c.specs.declared.outcome.NumbersError.TheVariants as no_numbers
 
 -- the bytes are these errors of a text in JSON, with the expected rules if the rule does not match
 pub record ReportsErrors (rule : Rule) (text : List ℕ) (errors : List (Error Rule)) (json : List ℕ)
@@ -36,3 +38,8 @@ IsFaultRefusal rule text (fault_is.Grammar errors) told =
 -- a refusal in JSON, unless an allocation fails
 abbrev pub IsRefusalOf : RefusalLocation → RefusalReason → why.CallError → Type 0
 IsRefusalOf place why told = RefusesWith (λ json. json ≡ compact_text (refusal_data place why)) told
+
+-- an allocation failed, or there is such a refusal
+abbrev pub RefusesNumbers : Type 0 → NumbersError → Type 0
+RefusesNumbers Refusal no_numbers.Memory = ⊤
+RefusesNumbers Refusal no_numbers.Refused = Refusal

@@ -41,6 +41,14 @@ pub record IsNoMatch (text name json : List ℕ) : Type 0 where
   pub refused : parsed.IsRefused rule text errors
   pub told : ReportsErrors rule text errors json
 
+-- the rule does not match at the start of the text
+abbrev pub DoesNotMatch : Rule → List ℕ → Type 0
+DoesNotMatch rule text = (errors : List (Error Rule)) × parsed.IsRefused rule text errors
+
+-- why there are no tokens as numbers: no rule has the name, or the rule does not match
+abbrev pub HasNoMatch : List ℕ → List ℕ → Type 0
+HasNoMatch text name = IsOfNoRule name ⊎ ((rule : Rule) × (name_of rule ≡ name) × DoesNotMatch rule text)
+
 -- why there are no tokens
 abbrev pub HasNoTokens : List ℕ → List ℕ → List ℕ → Type 0
 HasNoTokens text name json = IsUnknown name json ⊎ IsNoMatch text name json

@@ -1,16 +1,19 @@
 //! The calls on texts, before their outcomes are written to a buffer.
 ghost use Rattle.std.specs.Prelude.{◌≡◌, IfErr, IfOk, string_bytes};
+ghost use Rattle.meta_base.specs.Pieces.MetaRules.{name_of};
 ghost use Rattle.meta_base.specs.Pieces.Pairs.{pairs_text};
 ghost use Rattle.meta_syntax.specs.Parses.{AreOfAGrammar};
-ghost use Rattle.pest_meta.specs.Spelling.{IsNoGrammar};
-ghost use Rattle.pest_meta_c.specs.Answers.{AreKeywordErrors, AreNames, AreNodes, AreOptimized, AreRules, AreTokens, IsVersion, IsWhole};
-ghost use Rattle.pest_meta_c.specs.Outcomes.{IsRefusalOf, RefusesWith};
-ghost use Rattle.pest_meta_c.specs.Refusals.{HasNoNames, HasNoNodes, HasNoRules, HasNoTokens, IsNoJson, IsRefused, Never, ReportsSuch};
+ghost use Rattle.pest_meta.specs.Spelling.{IsNoGrammar, IsRefusal};
+ghost use Rattle.pest_meta_c.specs.Answers.{AreKeywordErrors, AreNames, AreNodes, AreOptimized, AreRules, AreTokenNumbers, AreTokens, IsGrammar, IsVersion, IsWhole};
+ghost use Rattle.pest_meta_c.specs.Outcomes.{IsRefusalOf, RefusesNumbers, RefusesWith};
+ghost use Rattle.pest_meta_c.specs.Refusals.{DoesNotMatch, HasNoMatch, HasNoNames, HasNoNodes, HasNoRules, HasNoTokens, IsNoJson, IsRefused, Never, ReportsSuch};
 
-use crate::outcome::{CallError, Outcome, to_refusal};
+use crate::outcome::{BytesOutcome, CallError, NumbersError, NumbersOutcome, Outcome, to_refusal};
+use meta_ast::deep::Deep;
 use meta_ast::{ast, optimized};
 use meta_base::grammar::Rule;
-use meta_base::runtime::{Pairs, Span};
+use meta_base::runtime::{Fault, Pairs, Span};
+use meta_binary::{push_names, push_optimized_rules, push_rules, tokens_numbers};
 use meta_json::{
     Refusal, RefusalLocation, RefusalReason, answer_text, errors_text, names_text, nodes_text,
     optimized_rules_text, read_rules, refusal_text, rule_named, rules_text, tokens_text,
@@ -32,6 +35,32 @@ pub(crate) fn tokens(alloc: Global, text: &str, name: &str) -> Outcome
     match PestParser::tokens(alloc, rule, text) {
         Ok(entries) => to_outcome(tokens_text(alloc, &entries)),
         Err(fault) => Err(to_refusal(alloc, rule, text, fault)),
+    }
+}
+
+/// Returns the tokens of a text for the rule of that name, as numbers.
+pub(crate) fn token_numbers(alloc: Global, text: &str, name: &str) -> NumbersOutcome
+    ensures answered { IfOk result (λ numbers. AreTokenNumbers text.now name.now numbers.items) }
+    ensures refused { IfErr result (RefusesNumbers (HasNoMatch text.now name.now)) }
+{
+    match rule_named(name) {
+        Some(rule) => numbers_of(alloc, text, rule),
+        None => Err(NumbersError::Refused),
+    }
+}
+
+/// Returns the tokens of a text for a rule, as numbers.
+fn numbers_of(alloc: Global, text: &str, rule: Rule) -> NumbersOutcome
+    ensures answered { IfOk result (λ numbers. AreTokenNumbers text.now (name_of rule) numbers.items) }
+    ensures refused { IfErr result (RefusesNumbers (DoesNotMatch rule text.now)) }
+{
+    match PestParser::tokens(alloc, rule, text) {
+        Ok(entries) => match tokens_numbers(alloc, &entries) {
+            Ok(numbers) => Ok(numbers),
+            Err(_) => Err(NumbersError::Memory),
+        },
+        Err(Fault::Memory(_)) => Err(NumbersError::Memory),
+        Err(Fault::Grammar(_)) => Err(NumbersError::Refused),
     }
 }
 
@@ -126,6 +155,38 @@ pub(crate) fn parse_and_optimize(alloc: Global, text: &str) -> Outcome
         }
         Err(fault) => Err(to_refusal(alloc, Rule::grammar_rules, text, fault)),
     }
+}
+
+/// Returns the builtins that a grammar uses, its rules and its optimized rules, in binary form.
+pub(crate) fn grammar(alloc: Global, text: &str) -> BytesOutcome
+    ensures answered { IfOk result (λ bytes. IsGrammar text.now bytes.items) }
+    ensures refused { IfErr result (RefusesWith (IsRefused text.now)) }
+{
+    match grammar_bytes(alloc, text) {
+        Ok(bytes) => Ok(bytes),
+        Err(fault) => Err(to_refusal(alloc, Rule::grammar_rules, text, fault)),
+    }
+}
+
+/// Returns the same, or the fault for which there is none.
+fn grammar_bytes(alloc: Global, text: &str) -> Result<Vec<u8>, Fault>
+    ensures answered { IfOk result (λ bytes. IsGrammar text.now bytes.items) }
+    ensures refused { IfErr result (IsRefusal text.now) }
+{
+    let pairs = PestParser::parse(alloc, Rule::grammar_rules, text)?;
+    let copy = pairs.clone()?;
+    let builtins = validate_pairs(alloc, copy)?;
+    let rules = Deep {
+        value: consume_rules(alloc, pairs)?,
+    };
+    let mut bytes = Vec::new(alloc);
+    push_names(&mut bytes, &builtins)?;
+    push_rules(alloc, &mut bytes, &rules.value)?;
+    let optimized = Deep {
+        value: optimizer::optimize(alloc, rules.into_inner())?,
+    };
+    push_optimized_rules(alloc, &mut bytes, &optimized.value)?;
+    Ok(bytes)
 }
 
 /// Returns the number of the format, and the version of the original crate.

@@ -1,8 +1,8 @@
 //! The result of a call for its caller: a status, bytes in a buffer, and their length.
 ghost use Rattle.std.specs.Prelude.{◌≡◌, ◌<◌, ◌≤◌, ◌++◌, drop, length};
-ghost use Rattle.pest_meta_c.specs.Handing.{IsHandedOver, IsMatchHandedOver, IsPut};
+ghost use Rattle.pest_meta_c.specs.Handing.{AreBytesHandedOver, AreNumbersHandedOver, IsHandedOver, IsMatchHandedOver, IsPut};
 
-use crate::outcome::{CallError, Outcome};
+use crate::outcome::{BytesOutcome, CallError, NumbersError, NumbersOutcome, Outcome};
 use matcher_tokens::outcome::MatchOutcome;
 
 /// The call is answered, and the answer is written.
@@ -37,6 +37,32 @@ pub(crate) fn hand_over(out: &mut [u8], needed: &mut usize, outcome: Outcome) ->
             *needed = 0;
             MEMORY
         }
+    }
+}
+
+/// Writes an outcome in binary form to the buffer `out`, its length to `needed`, and returns its status.
+pub(crate) fn hand_over_bytes(out: &mut [u8], needed: &mut usize, outcome: BytesOutcome) -> u8
+    ensures { AreBytesHandedOver outcome out.old out.new needed.new result }
+{
+    match outcome {
+        Ok(bytes) => put(out, needed, &bytes, ANSWERED),
+        Err(CallError::Refused(errors)) => put(out, needed, errors.as_bytes(), REFUSED),
+        Err(CallError::Memory) => nothing(needed, MEMORY),
+    }
+}
+
+/// Writes numbers to the buffer `out`, their count to `needed`, and returns the status.
+pub(crate) fn hand_over_numbers(
+    out: &mut [usize],
+    needed: &mut usize,
+    outcome: NumbersOutcome,
+) -> u8
+    ensures { AreNumbersHandedOver outcome out.old out.new needed.new result }
+{
+    match outcome {
+        Ok(numbers) => put(out, needed, &numbers, ANSWERED),
+        Err(NumbersError::Refused) => nothing(needed, REFUSED),
+        Err(NumbersError::Memory) => nothing(needed, MEMORY),
     }
 }
 

@@ -4,8 +4,9 @@
 //! Inputs are UTF-8; outputs are JSON (docs/FORMAT.md) with positions in bytes. Every call returns a status:
 //! 0 for an answer, and 1 for a refusal, with JSON at the start of `out` and its length in `needed`; 2 for an
 //! allocation failure and 3 for an input that is not UTF-8, with nothing written and 0 in `needed`; 4 where
-//! `out` is too small, with nothing written and the length of the JSON in `needed`. `pest_meta_match` writes
-//! numbers, and has more statuses.
+//! `out` is too small, with nothing written and the length of the JSON in `needed`. `pest_meta_grammar`
+//! answers in binary form, `pest_meta_token_numbers` and `pest_meta_match` with numbers; the last has more
+//! statuses.
 #![tactic(auto)]
 
 mod calls;
@@ -14,12 +15,12 @@ mod outcome;
 
 ghost use Rattle.std.specs.Prelude.{◌≡◌, ◌≢◌, chars};
 ghost use Rattle.std.specs.Str.{IsUtf8};
-ghost use Rattle.pest_meta_c.specs.Answers.{AreKeywordErrors, AreNames, AreNodes, AreOptimized, AreRules, AreTokens, IsVersion, IsWhole};
+ghost use Rattle.pest_meta_c.specs.Answers.{AreKeywordErrors, AreNames, AreNodes, AreOptimized, AreRules, AreTokenNumbers, AreTokens, IsGrammar, IsVersion, IsWhole};
 ghost use Rattle.matcher_tokens.specs.Outcomes.{IsMatchOutcome};
-ghost use Rattle.pest_meta_c.specs.Handing.{HandsOver, HandsOverMatch};
-ghost use Rattle.pest_meta_c.specs.Refusals.{HasNoNames, HasNoNodes, HasNoRules, HasNoTokens, IsNoJson, IsRefused, Never};
+ghost use Rattle.pest_meta_c.specs.Handing.{HandsOver, HandsOverMatch, HandsOverNumbers};
+ghost use Rattle.pest_meta_c.specs.Refusals.{HasNoMatch, HasNoNames, HasNoNodes, HasNoRules, HasNoTokens, IsNoJson, IsRefused, Never};
 
-use handing::{hand_over, hand_over_match, no_text};
+use handing::{hand_over, hand_over_bytes, hand_over_match, hand_over_numbers, no_text};
 use matcher_tokens::run::match_text;
 use std::alloc::Global;
 
@@ -39,6 +40,28 @@ pub extern "C" fn pest_meta_tokens(
 {
     match (str::from_utf8(text), str::from_utf8(rule)) {
         (Ok(text), Ok(rule)) => hand_over(out, needed, calls::tokens(alloc, text, rule)),
+        _ => no_text(needed),
+    }
+}
+
+/// Writes the same tokens as numbers. A refusal has none.
+#[unsafe(no_mangle)]
+pub extern "C" fn pest_meta_token_numbers(
+    alloc: Global,
+    text: &[u8],
+    rule: &[u8],
+    out: &mut [usize],
+    needed: &mut usize,
+) -> u8
+    ensures hands { HandsOverNumbers (AreTokenNumbers text.now rule.now) (HasNoMatch text.now rule.now)
+        out.old out.new needed.new result }
+    ensures texts { result ≢ 3 → IsUtf8 text.now × IsUtf8 rule.now }
+    ensures no_texts { result ≡ 3 → IsUtf8 text.now × IsUtf8 rule.now → ⊥ }
+{
+    match (str::from_utf8(text), str::from_utf8(rule)) {
+        (Ok(text), Ok(rule)) => {
+            hand_over_numbers(out, needed, calls::token_numbers(alloc, text, rule))
+        }
         _ => no_text(needed),
     }
 }
@@ -150,6 +173,24 @@ pub extern "C" fn pest_meta_parse_and_optimize(
 {
     match str::from_utf8(text) {
         Ok(text) => hand_over(out, needed, calls::parse_and_optimize(alloc, text)),
+        Err(_) => no_text(needed),
+    }
+}
+
+/// Writes the builtins that a grammar uses, its rules and its optimized rules, in binary form.
+#[unsafe(no_mangle)]
+pub extern "C" fn pest_meta_grammar(
+    alloc: Global,
+    text: &[u8],
+    out: &mut [u8],
+    needed: &mut usize,
+) -> u8
+    ensures hands { HandsOver (IsGrammar text.now) (IsRefused text.now) out.old out.new needed.new result }
+    ensures text { result ≢ 3 → IsUtf8 text.now }
+    ensures no_text { result ≡ 3 → IsUtf8 text.now → ⊥ }
+{
+    match str::from_utf8(text) {
+        Ok(text) => hand_over_bytes(out, needed, calls::grammar(alloc, text)),
         Err(_) => no_text(needed),
     }
 }

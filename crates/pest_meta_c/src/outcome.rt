@@ -1,4 +1,4 @@
-//! The outcome of a call: JSON, or the reason why there is none.
+//! The outcome of a call: JSON, bytes or numbers, or the reason why there is none.
 ghost use Rattle.std.specs.Prelude.{◌≡◌, IfOk, string_bytes};
 ghost use Rattle.pest_meta_c.specs.Outcomes.{IsFaultRefusal, ReportsErrors};
 
@@ -19,6 +19,21 @@ pub(crate) enum CallError {
 
 /// The outcome of a call: its answer in JSON, or the reason why there is none.
 pub(crate) type Outcome = Result<String, CallError>;
+
+/// The outcome of a call that answers in binary form.
+pub(crate) type BytesOutcome = Result<Vec<u8>, CallError>;
+
+/// The reason why a call has no numbers.
+#[derive(Clone, Copy, Debug)]
+pub(crate) enum NumbersError {
+    /// An allocation failed.
+    Memory,
+    /// The text is refused.
+    Refused,
+}
+
+/// The outcome of a call that answers with numbers.
+pub(crate) type NumbersOutcome = Result<Vec<usize>, NumbersError>;
 
 /// Returns the errors of a fault in JSON, or its allocation failure. Syntax errors have the rules that were
 /// expected when the text was parsed by this rule.

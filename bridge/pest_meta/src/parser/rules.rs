@@ -29,6 +29,13 @@ macro_rules! rules {
                 }
             }
 
+            /// The rule of that number: one more than its index in `all_rules`, and for `EOI` the number after them.
+            pub(crate) fn numbered(number: usize) -> Option<Rule> {
+                let rules = Rule::all_rules();
+                let index = number.checked_sub(1)?;
+                rules.get(index).copied().or((index == rules.len()).then_some(Rule::EOI))
+            }
+
             /// The rule of that name.
             pub(crate) fn named(name: &str) -> Option<Rule> {
                 match name {
