@@ -2,25 +2,23 @@
 use Rattle.std.proofs.Common.{◌≡◌, ◌⊎◌, inl, inr, ℕ, ◌^◌, List, [], ◌∷◌, Option, None, Some, Bool, true, false, not, if◌then◌else◌, refl, sym, ◌∙◌, ap, subst, codes}
 use Rattle.std.proofs.lemmas.Bool.{false≢true}
 use Rattle.std.proofs.lemmas.Slice.Eq.{bytes_eq-Decides}
-use Rattle.std.specs.Prelude.{bytes_eq, chars, nat_lt, nat_eq, ℤ}
+use Rattle.std.specs.Prelude.{bytes_eq, chars, nat_lt, nat_eq}
 use Rattle.std.specs.List.{slice_range}
 use Rattle.std.specs.Option.{option_or}
-use Rattle.std.specs.Str.{all_scalars}
-use Rattle.std.specs.Str.Parse.{digits_value, signed_digits_value}
+use Rattle.std.specs.Str.Parse.{digits_value}
 use Rattle.meta_base.specs.Language.Text.{Text}
 use Rattle.meta_base.specs.Language.Expression as bare
 use Rattle.meta_base.specs.Language.Expression.{Expression, Rule, Grammar}
 use Rattle.meta_base.specs.Language.State.{Trees, None', Tree, joined}
-use Rattle.meta_base.specs.Pieces.Saying.{piece}
-use Rattle.meta_spanned.specs.Erasure.{round, between, without_spans, rule_without_spans, rules_without_spans}
-use Rattle.meta_spanned.specs.Spanned.{Span, Spanned, Leaf, One, Two, Unary, PosPred, NegPred, Push, Tag, Seq, Choice, placed, starting, ending, SpannedRule}
+use Rattle.meta_spanned.specs.Erasure.{round, without_spans, rule_without_spans, rules_without_spans}
+use Rattle.meta_spanned.specs.Spanned.{Span, Spanned, Leaf, One, Two, Unary, Seq, Choice, placed, ending, SpannedRule}
 use Rattle.meta_syntax.specs.Shape.{Lone}
 use Rattle.meta_reader.specs.Literal.{unescaped}
 use Rattle.meta_reader.specs.Flaws.{Flaw, Cause, PastU32, ZeroTimes, flaw_if, own_flaw, first_flaw, first_inner, closes}
 use Rattle.meta_reader.specs.Reading as reading
 use Rattle.meta_reader.specs.Reading.{Category, Alternatives, Postfix, Postfixed, done, more, Terminal, Reads, both, around, behind_first, literal_value, ReadsRule, ReadsRules}
 use Rattle.meta_reader.proofs.Flawless.{none_left, none_right, own_none, inner_none, behind_none}
-use Rattle.meta_format.proofs.LeafTokens.{is_quoted, is_none, may_hold}
+use Rattle.meta_format.proofs.LeafTokens.{is_quoted, may_hold}
 use Rattle.meta_format.proofs.SimilarTrees.{leaf_text, SameLeaf, Similar, nothing, tree}
 
 not_true : (b : Bool) → not b ≡ true → b ≡ false

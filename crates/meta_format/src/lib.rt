@@ -170,8 +170,8 @@ fn is_equivalent(
     is_same_grammar(alloc, text, entries, candidate, &others)
 }
 
-/// Returns whether two grammars have the same tokens and the same comments. Their rules are the same then, and
-/// are not read.
+/// Returns whether two grammars have the same tokens and the same comments. Their rules are the same then,
+/// and are not read.
 fn is_same_grammar(
     alloc: Global,
     text: &str,
