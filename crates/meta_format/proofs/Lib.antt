@@ -1,3 +1,6 @@
+pub mod LeafTokens
 pub mod Readings
+pub mod SimilarReading
+pub mod SimilarTrees
 pub mod Unchanged
 pub mod WhiteGaps

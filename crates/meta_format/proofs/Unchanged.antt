@@ -16,5 +16,5 @@ its_own line_ends text entries read lines last = record {
   comments = refl;
   lines = lines;
   last_line = last;
-  rules = record { kept = λ rules h. h };
+  rules = record { same = λ rules. (λ h. h, λ h. h) };
 }

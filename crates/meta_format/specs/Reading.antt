@@ -1,5 +1,5 @@
 -- The rules that a grammar's text is read as.
-use Rattle.std.specs.Prelude.{◌≡◌, ℕ, List, None}
+use Rattle.std.specs.Prelude.{◌≡◌, ◌↔◌, ℕ, List, None}
 use Rattle.meta_base.specs.Language.Expression.{Grammar}
 use Rattle.meta_base.specs.Language.State.{Trees}
 use Rattle.meta_base.specs.declared.grammar.Rule.TheVariants.{grammar_rules}
@@ -18,15 +18,6 @@ pub record IsReadAs (text : List ℕ) (rules : Grammar) : Type 0 where
   pub flawless : first_flaw text trees ≡ None
   pub same : rules ≡ rules_without_spans spanned
 
--- a text is read as these rules alone
-pub record IsReadOnlyAs (text : List ℕ) (rules : Grammar) : Type 0 where
-  pub read : IsReadAs text rules
-  pub only : (others : Grammar) → IsReadAs text others → others ≡ rules
-
--- a text is read as no rules
-abbrev pub IsNotRead : List ℕ → Type 0
-IsNotRead text = (rules : Grammar) → ¬ (IsReadAs text rules)
-
--- another text is read as all rules that a text is read as
+-- two texts are read as the same rules, or both as none
 pub record SameRules (text other : List ℕ) : Type 0 where
-  pub kept : (rules : Grammar) → IsReadAs text rules → IsReadAs other rules
+  pub same : (rules : Grammar) → (IsReadAs text rules ↔ IsReadAs other rules)

@@ -5,7 +5,8 @@ ghost use Rattle.std.specs.Prelude.{◌≡◌, IfOk, MatchResult, true};
 ghost use Rattle.meta_base.specs.declared.grammar.Rule.TheVariants.{grammar_rules};
 ghost use Rattle.meta_syntax.specs.Parses.{ParseRefuses};
 ghost use Rattle.meta_syntax.specs.declared.entries.Entry.TheVariants.{End};
-ghost use Rattle.meta_format.specs.Formatting.{AreTokens, IsAnswer, IsFormatted};
+ghost use Rattle.meta_format.specs.Formatting.{AreTokens, IsAnswer, IsFormatted, SameComments, SameTokens};
+ghost use Rattle.meta_format.specs.Reading.{SameRules};
 ghost use Rattle.meta_format.specs.Tokens as token;
 ghost use Rattle.meta_format.specs.declared.LineEnds.TheVariants.{LineFeed};
 
@@ -13,15 +14,15 @@ mod builder;
 mod comparison;
 mod contents;
 mod gaps;
+pub mod laws;
 mod layout;
 mod pieces;
-mod reading;
 mod spacing;
 
 use crate::builder::{Builder, build};
 use crate::comparison::{ends_once, has_clean_lines, is_same};
+use crate::laws::same_tokens_have_the_same_rules;
 use crate::layout::{Style, print};
-use crate::reading::has_same_rules;
 use meta_base::grammar::Rule;
 use meta_base::runtime::Fault;
 use meta_syntax::entries::Entry;
@@ -48,6 +49,9 @@ pub struct Options {
 }
 
 impl Default for Options {
+    ghost is_default = { λ options. (options.width ≡ 100) × (options.indent ≡ 4)
+        × (options.line_ends ≡ LineFeed) };
+
     /// Returns 100 columns, four for each step, and line feeds.
     fn default() -> Options {
         Options {
@@ -163,10 +167,30 @@ fn is_equivalent(
     if !has_lines(bytes, &others, line_ends) || !ends_once(bytes) {
         return Ok(false);
     }
-    if !has_same_rules(alloc, text, entries, candidate, &others)? {
-        return Ok(false);
-    }
-    is_same(alloc, text.as_bytes(), entries, bytes, &others)
+    is_same_grammar(alloc, text, entries, candidate, &others)
+}
+
+/// Returns whether two grammars have the same tokens and the same comments. Their rules are the same then,
+/// and are not read.
+fn is_same_grammar(
+    alloc: Global,
+    text: &str,
+    entries: &[Entry],
+    other: &str,
+    others: &[Entry],
+) -> Result<bool, AllocError>
+    requires text { AreTokens text.now entries.now }
+    requires other { AreTokens other.now others.now }
+    ensures tokens { IfOk result (λ same. same ≡ true
+        → SameTokens text.now entries.now other.now others.now) }
+    ensures comments { IfOk result (λ same. same ≡ true
+        → SameComments text.now entries.now other.now others.now) }
+    ensures rules { IfOk result (λ same. same ≡ true → SameRules text.now other.now) }
+{
+    same_tokens_have_the_same_rules();
+    let bytes = text.as_bytes();
+    let other_bytes = other.as_bytes();
+    is_same(alloc, bytes, entries, other_bytes, others)
 }
 
 /// Returns whether no line outside of literals ends with a blank, where lines are to end with line feeds.

@@ -1,4 +1,7 @@
 //! The command line.
+ghost use Rattle.std.specs.Prelude.{◌≡◌, ◌≢◌, Some, codes};
+ghost use Rattle.clap.specs.Matches.{found_of, one_text};
+
 use clap::{Arg, ArgAction, ArgMatches, Command};
 use meta_format::{LineEnds, Options};
 use std::alloc::{AllocError, Global};
@@ -24,7 +27,12 @@ pub struct Delivery {
 
 impl Delivery {
     /// Returns the delivery for the file of a name: of standard input to standard output.
-    pub fn for_name(self, name: &str) -> Delivery {
+    pub fn for_name(self, name: &str) -> Delivery
+        ensures input { name.now ≡ codes "-" → self.target ≡ Target.File → result.target ≡ Target.Output }
+        ensures file { name.now ≢ codes "-" → result ≡ self }
+        ensures other { self.target ≢ Target.File → result ≡ self }
+        ensures terminal { result.is_to_terminal ≡ self.is_to_terminal }
+    {
         match self.target {
             Target::File if name == "-" => Delivery {
                 target: Target::Output,
@@ -68,7 +76,17 @@ pub fn command<'a>(alloc: Global) -> Result<Command<'a>, AllocError> {
 }
 
 /// Returns the delivery that a command line asks for.
-pub fn delivery_of(matches: &ArgMatches<'_>, is_to_terminal: bool) -> Delivery {
+pub fn delivery_of(matches: &ArgMatches<'_>, is_to_terminal: bool) -> Delivery
+    ensures check { one_text (found_of matches.now) (codes "check") ≡ Some (codes "true")
+        → result.target ≡ Target.Difference }
+    ensures stdout { one_text (found_of matches.now) (codes "check") ≡ Some (codes "false")
+        → one_text (found_of matches.now) (codes "stdout") ≡ Some (codes "true")
+        → result.target ≡ Target.Output }
+    ensures files { one_text (found_of matches.now) (codes "check") ≡ Some (codes "false")
+        → one_text (found_of matches.now) (codes "stdout") ≡ Some (codes "false")
+        → result.target ≡ Target.File }
+    ensures terminal { result.is_to_terminal ≡ is_to_terminal }
+{
     let target = if matches.get_flag("check") {
         Target::Difference
     } else if matches.get_flag("stdout") {
@@ -83,7 +101,13 @@ pub fn delivery_of(matches: &ArgMatches<'_>, is_to_terminal: bool) -> Delivery {
 }
 
 /// Returns the options of the formatter that a command line asks for.
-pub fn options_of(matches: &ArgMatches<'_>) -> Options {
+pub fn options_of(matches: &ArgMatches<'_>) -> Options
+    ensures kept { one_text (found_of matches.now) (codes "keep-line-ends") ≡ Some (codes "true")
+        → result.line_ends ≡ LineEnds.OfFirstLine }
+    ensures line_feeds { one_text (found_of matches.now) (codes "keep-line-ends") ≡ Some (codes "false")
+        → result.line_ends ≡ LineEnds.LineFeed }
+    ensures style { (result.width ≡ 100) × (result.indent ≡ 4) }
+{
     let line_ends = if matches.get_flag("keep-line-ends") {
         LineEnds::OfFirstLine
     } else {
