@@ -1,8 +1,9 @@
 //! Pages of HTML, and single diagrams.
 ghost use Rattle.std.specs.Prelude.{IfOk, IfSome, OnOk, string_bytes};
+ghost use Rattle.std.specs.HashMap.{get_by_text};
 ghost use Rattle.meta_ast.specs.Ast.{rules_of};
 ghost use Rattle.meta_markup.specs.Pages.{IsPage};
-ghost use Rattle.meta_doc.specs.Documents.{EndsWithSections, IsDiagram};
+ghost use Rattle.meta_doc.specs.Documents.{EndsWithSections, IsDiagram, IsDiagramOf};
 
 use crate::facts::RuleFacts;
 use crate::first_sets::FirstSet;
@@ -11,7 +12,7 @@ use crate::source::{RuleSource, SourcePart};
 use crate::warnings::RuleWarning;
 use meta_ast::ast;
 use meta_ast::ast::RuleType;
-use meta_diagram::{DiagramStyle, push_diagram};
+use meta_diagram::{DiagramStyle, draw_diagram};
 use meta_markup::{
     Class, Markup, MarkupBuilder, SectionContents, Tag, foot, push_markup, push_section, start_page,
 };
@@ -59,10 +60,9 @@ fn render_diagram(
     rule: &ast::Rule,
     numbers: &HashMap<String, usize>,
 ) -> Result<String, AllocError>
-    ensures { IfOk result IsDiagram }
+    ensures { IfOk result (IsDiagramOf (get_by_text numbers.now) rule.now.expr) }
 {
-    let mut markup = MarkupBuilder::new(alloc);
-    push_diagram(alloc, &rule.expr, numbers, DiagramStyle::Own, &mut markup)?;
+    let markup = draw_diagram(alloc, &rule.expr, numbers, DiagramStyle::Own)?;
     let mut drawing = String::new(alloc);
     push_markup(&markup.tokens, &[], &mut drawing)?;
     drawing.push_str("\n")?;
@@ -135,13 +135,8 @@ fn describe<'i>(
         push_comment(&mut before, &source.comment)?;
     }
     before.start_with_class(Tag::Div, Class::Scroll)?;
-    push_diagram(
-        alloc,
-        &rule.expr,
-        &doc.numbers,
-        DiagramStyle::OfPage,
-        &mut before,
-    )?;
+    let mut diagram = draw_diagram(alloc, &rule.expr, &doc.numbers, DiagramStyle::OfPage)?;
+    before.tokens.append(&mut diagram.tokens)?;
     before.close_line(Tag::Div)?;
     if let Some(source) = source {
         push_source(&mut before, source, number, &doc.numbers)?;
