@@ -1,13 +1,11 @@
 -- The rules of documents, and parts of documents.
-use Rattle.std.specs.Prelude.{◌≡◌, ℕ, List, [], ◌++◌, Option, codes, string_bytes}
+use Rattle.std.specs.Prelude.{◌≡◌, ℕ, List, [], ◌++◌, codes, string_bytes}
 use Rattle.std.specs.Borrow.{Bor}
 use Rattle.std.specs.declared.alloc.Global.{Global}
 use Rattle.std.specs.declared.string.String.{String}
-use Rattle.meta_ast.specs.declared.ast.Expr.{Expr}
 use Rattle.meta_base.specs.Language.Expression.{Grammar}
 use Rattle.meta_base.specs.declared.grammar.Rule.{Rule}
 use Rattle.meta_base.specs.declared.runtime.tokens.Pairs.{Pairs}
-use Rattle.meta_diagram.specs.Marks.{diagram_marks, marks_of}
 use Rattle.meta_markup.specs.Pages.{AreMarkdownSections, AreSections}
 use Rattle.meta_markup.specs.Tokens.{markup_bytes}
 use Rattle.meta_markup.specs.declared.tokens.Markup.{Markup}
@@ -19,14 +17,9 @@ use Rattle.meta_spanned.specs.Spanned.{SpannedRule}
 abbrev pub AreRulesOf : Pairs Rule → Grammar → Type 0
 AreRulesOf pairs rules = (read : List SpannedRule) × AreReadAs pairs read × (rules ≡ rules_without_spans read)
 
--- a diagram of an expression, without links, where rules have numbers by their names
-pub record IsDiagramOf (number_of : List ℕ → Option ℕ) (e : Expr) (drawing : String Global) : Type 0 where
-  pub tokens : List Markup
-  pub written : string_bytes drawing ≡ markup_bytes [] tokens ++ codes "\n"
-  pub shown : marks_of tokens ≡ diagram_marks number_of e
-
+-- a diagram without links
 abbrev pub IsDiagram : String Global → Type 0
-IsDiagram drawing = (number_of : List ℕ → Option ℕ) × (e : Expr) × IsDiagramOf number_of e drawing
+IsDiagram drawing = (tokens : List Markup) × (string_bytes drawing ≡ markup_bytes [] tokens ++ codes "\n")
 
 -- a page that has gained the sections of rules
 abbrev pub EndsWithSections : List (Bor (List ℕ)) → Grammar → List ℕ → List ℕ → Type 0

@@ -1,9 +1,8 @@
 //! Pages of HTML, and single diagrams.
 ghost use Rattle.std.specs.Prelude.{IfOk, IfSome, OnOk, string_bytes};
-ghost use Rattle.std.specs.HashMap.{get_by_text};
 ghost use Rattle.meta_ast.specs.Ast.{rules_of};
 ghost use Rattle.meta_markup.specs.Pages.{IsPage};
-ghost use Rattle.meta_doc.specs.Documents.{EndsWithSections, IsDiagram, IsDiagramOf};
+ghost use Rattle.meta_doc.specs.Documents.{EndsWithSections, IsDiagram};
 
 use crate::facts::RuleFacts;
 use crate::first_sets::FirstSet;
@@ -60,7 +59,7 @@ fn render_diagram(
     rule: &ast::Rule,
     numbers: &HashMap<String, usize>,
 ) -> Result<String, AllocError>
-    ensures { IfOk result (IsDiagramOf (get_by_text numbers.now) rule.now.expr) }
+    ensures { IfOk result IsDiagram }
 {
     let markup = draw_diagram(alloc, &rule.expr, numbers, DiagramStyle::Own)?;
     let mut drawing = String::new(alloc);
