@@ -5,7 +5,7 @@
 use std::alloc::{AllocError, Global};
 
 /// The content of a box.
-#[derive(Clone, Copy, PartialEq, Eq)]
+#[derive(Clone, Copy)]
 pub enum BoxContent {
     /// A rail alone.
     Rail,
@@ -55,8 +55,15 @@ pub struct LayoutBox {
     /// The indices of its children.
     pub children: Vec<usize>,
     pub extent: Extent,
-    /// Where its rail enters, from where that of its parent enters.
-    pub offset: Point,
+}
+
+/// The boxes of a diagram.
+#[derive(Drop)]
+pub struct Layout {
+    /// The boxes, each after its children.
+    pub boxes: Vec<LayoutBox>,
+    /// For each box where its rail enters, from where that of its parent enters.
+    pub offsets: Vec<Point>,
 }
 
 impl Point {
@@ -78,6 +85,14 @@ impl Extent {
         exit_y: 0,
     };
 
+    /// Where the rail leaves a box of this space, if it enters at a point.
+    pub fn exit(&self, entry: Point) -> Point {
+        entry.plus(Point {
+            x: self.width,
+            y: self.exit_y,
+        })
+    }
+
     /// The space of a box that reaches as far above its rail as below.
     pub fn level(width: u64, half_height: u64) -> Extent {
         Extent {
@@ -89,27 +104,17 @@ impl Extent {
     }
 }
 
-impl LayoutBox {
-    /// Where the rail leaves the box, if it enters at a point.
-    pub fn exit(&self, entry: Point) -> Point {
-        entry.plus(Point {
-            x: self.extent.width,
-            y: self.extent.exit_y,
-        })
-    }
-}
-
-/// The children of a box, and where their rails enter, if that of the box enters at a point.
+/// The children of a box, and where their rails enter, where `entries` has that of each box.
 pub fn children_at<'b>(
     alloc: Global,
     boxes: &'b [LayoutBox],
+    entries: &[Point],
     parent: &LayoutBox,
-    entry: Point,
 ) -> Result<Vec<(&'b LayoutBox, Point)>, AllocError> {
     let mut children = Vec::new(alloc);
     for index in &parent.children {
-        if let Some(child) = boxes.get(*index) {
-            children.push((child, entry.plus(child.offset)))?;
+        if let (Some(child), Some(entry)) = (boxes.get(*index), entries.get(*index)) {
+            children.push((child, *entry))?;
         }
     }
     Ok(children)

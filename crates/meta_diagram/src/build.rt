@@ -1,5 +1,13 @@
 //! From an expression to the boxes of its diagram, iteratively: a depth-first walk with a stack of steps.
-use crate::boxes::{BoxContent, LayoutBox, Point};
+ghost use Rattle.std.specs.Prelude.{◌≡◌, ◌++◌, ◌∷◌, ◌+◌, ◌*◌, ◌≤◌, ℕ, [], IfOk, List, OnOk, Option, string_bytes, vec_len};
+ghost use Rattle.std.specs.HashMap.{get_by_text};
+ghost use Rattle.meta_ast.specs.Ast.{expression_of};
+ghost use Rattle.meta_diagram.specs.Labels.{leaf_label};
+ghost use Rattle.std.specs.List.{flat_map};
+ghost use Rattle.meta_diagram.specs.Marks.{at_least, between, box_marks, content_marks, diagram_marks, link_marks, text_marks};
+ghost use Rattle.meta_diagram.specs.Steps.{IsRun, in_turn, load, size, step_load, step_marks};
+
+use crate::boxes::{BoxContent, Layout, LayoutBox, Point};
 use crate::labels::{Caption, leaf_label};
 use crate::layout::lay_out;
 use meta_ast::ast::Expr;
@@ -23,7 +31,7 @@ enum BuildStep<'e> {
 }
 
 /// An operator that joins the operands of a list.
-#[derive(Clone, Copy, PartialEq, Eq)]
+#[derive(Clone, Copy)]
 enum Operator {
     Tilde,
     Bar,
@@ -33,7 +41,7 @@ enum Operator {
 #[derive(Drop)]
 struct BoxBuilder<'e> {
     alloc: Global,
-    boxes: Vec<LayoutBox>,
+    layout: Layout,
     /// The indices of boxes without a parent.
     roots: Vec<usize>,
     /// The steps that are still to be done, the next one last.
@@ -46,37 +54,38 @@ pub fn build_boxes(
     alloc: Global,
     expr: &Expr,
     rules: &HashMap<String, usize>,
-) -> Result<Vec<LayoutBox>, AllocError> {
+) -> Result<Layout, AllocError>
+    ensures { IfOk result (λ layout. flat_map box_marks layout.boxes.items
+        ≡ diagram_marks (get_by_text rules.now) expr.now) }
+{
     let mut builder = BoxBuilder {
         alloc,
-        boxes: Vec::new(alloc),
+        layout: Layout {
+            boxes: Vec::new(alloc),
+            offsets: Vec::new(alloc),
+        },
         roots: Vec::new(alloc),
         steps: Vec::new(alloc),
     };
-    builder.steps.push(BuildStep::Visit(expr))?;
-    for _ in 0..u64::MAX {
-        let Some(step) = builder.steps.pop() else {
-            break;
-        };
+    builder.later(BuildStep::Visit(expr))?;
+    while let Some(step) = builder.steps.pop() {
         builder.run(step, rules)?;
     }
-    let BoxBuilder { boxes, .. } = builder;
-    Ok(boxes)
+    let BoxBuilder { layout, .. } = builder;
+    Ok(layout)
 }
 
 impl<'e> BoxBuilder<'e> {
     /// Runs a step.
-    fn run(
-        &mut self,
-        step: BuildStep<'e>,
-        rules: &HashMap<String, usize>,
-    ) -> Result<(), AllocError> {
+    fn run(&mut self, step: BuildStep<'e>, rules: &HashMap<String, usize>) -> Result<(), AllocError>
+        ensures { OnOk result (IsRun (get_by_text rules.now) self.old self.new
+            (step_marks (get_by_text rules.now) step.entry) (step_load step.entry)) }
+    {
         match step {
             BuildStep::Visit(expr) => self.visit(expr, rules),
             BuildStep::Enclose(content, caption, count) => {
                 let label = caption.text(self.alloc)?;
-                let children = self.take_roots(count)?;
-                self.push_box(content, label, children)
+                self.enclose_roots(content, label, count)
             }
             BuildStep::Bypass => {
                 let label = String::new(self.alloc);
@@ -86,15 +95,18 @@ impl<'e> BoxBuilder<'e> {
     }
 
     /// Builds the box of a leaf, or adds the steps that build the boxes of an expression with operands.
-    fn visit(&mut self, expr: &'e Expr, rules: &HashMap<String, usize>) -> Result<(), AllocError> {
+    fn visit(&mut self, expr: &'e Expr, rules: &HashMap<String, usize>) -> Result<(), AllocError>
+        ensures { OnOk result (IsRun (get_by_text rules.now) self.old self.new
+            (diagram_marks (get_by_text rules.now) expr.entry.now) (4 * size expr.entry.now)) }
+    {
         match expr {
-            Expr::Seq(_, _) => {
-                let operands = list_operands(self.alloc, expr, Operator::Tilde)?;
-                self.enclose_all(BoxContent::Sequence, &operands)
+            Expr::Seq(left, right) => {
+                let visits = list_visits(self.alloc, left, right, Operator::Tilde)?;
+                self.enclose_all(BoxContent::Sequence, visits)
             }
-            Expr::Choice(_, _) => {
-                let operands = list_operands(self.alloc, expr, Operator::Bar)?;
-                self.enclose_choice(&operands)
+            Expr::Choice(left, right) => {
+                let visits = list_visits(self.alloc, left, right, Operator::Bar)?;
+                self.enclose_all(BoxContent::Choice, visits)
             }
             Expr::PosPred(inner) => self.group("followed by", inner),
             Expr::NegPred(inner) => self.group("not followed by", inner),
@@ -108,31 +120,46 @@ impl<'e> BoxBuilder<'e> {
             Expr::RepExact(inner, count) => {
                 self.enclose(BoxContent::Loop, Caption::Exactly(*count), inner)
             }
-            Expr::RepMin(inner, least) => self.loop_from(*least, Caption::AtLeast(*least), inner),
+            Expr::RepMin(inner, least) => self.loop_from(*least, inner, rules),
             Expr::RepMax(inner, most) => self.optional_loop(Caption::AtMost(*most), inner),
-            Expr::RepMinMax(inner, least, most) => {
-                self.loop_from(*least, Caption::Between(*least, *most), inner)
-            }
-            leaf => self.push_leaf(leaf, rules),
+            Expr::RepMinMax(inner, least, most) => self.loop_between(*least, *most, inner, rules),
+            Expr::Str(_) => self.push_leaf(BoxContent::Terminal, expr),
+            Expr::Insens(_) => self.push_leaf(BoxContent::Terminal, expr),
+            Expr::Range(_, _) => self.push_leaf(BoxContent::Terminal, expr),
+            Expr::Skip(_) => self.push_leaf(BoxContent::Terminal, expr),
+            Expr::PeekSlice(_, _) => self.push_leaf(BoxContent::Builtin, expr),
+            Expr::PushLiteral(_) => self.push_leaf(BoxContent::Builtin, expr),
+            Expr::Ident(name) => self.push_leaf(call_content(name.as_str(), rules), expr),
         }
     }
 
     /// Adds the box of an expression without operands.
-    fn push_leaf(&mut self, leaf: &Expr, rules: &HashMap<String, usize>) -> Result<(), AllocError> {
-        let content = match leaf {
-            Expr::Ident(name) => match rules.get(name.as_str()) {
-                Some(rule) => BoxContent::RuleCall(*rule),
-                None => BoxContent::Builtin,
-            },
-            Expr::PeekSlice(_, _) | Expr::PushLiteral(_) => BoxContent::Builtin,
-            _ => BoxContent::Terminal,
-        };
+    fn push_leaf(&mut self, content: BoxContent, leaf: &Expr) -> Result<(), AllocError>
+        ensures boxes { OnOk result (flat_map box_marks self.new.layout.boxes.items
+            ≡ flat_map box_marks self.old.layout.boxes.items
+            ++ content_marks content (leaf_label (expression_of leaf.now))) }
+        ensures steps { OnOk result (self.new.steps.items ≡ self.old.steps.items) }
+    {
         let label = leaf_label(self.alloc, leaf)?;
         self.push_box(content, label, Vec::new(self.alloc))
     }
 
+    /// Adds a step, which is run next.
+    fn later(&mut self, step: BuildStep<'e>) -> Result<(), AllocError>
+        ensures layout { OnOk result (self.new.layout ≡ self.old.layout) }
+        ensures steps { OnOk result (self.new.steps.items ≡ self.old.steps.items ++ step.entry ∷ []) }
+    {
+        self.steps.push(step)?;
+        Ok(())
+    }
+
     /// Adds the steps of a frame with a label around an operand.
-    fn group(&mut self, label: &'static str, operand: &'e Expr) -> Result<(), AllocError> {
+    fn group(&mut self, label: &'static str, operand: &'e Expr) -> Result<(), AllocError>
+        ensures layout { OnOk result (self.new.layout ≡ self.old.layout) }
+        ensures steps { OnOk result (self.new.steps.items ≡ self.old.steps.items
+            ++ BuildStep.Enclose BoxContent.Group (Caption.Fixed label.entry) 1
+            ∷ BuildStep.Visit operand.entry ∷ []) }
+    {
         self.enclose(BoxContent::Group, Caption::Fixed(label), operand)
     }
 
@@ -142,41 +169,74 @@ impl<'e> BoxBuilder<'e> {
         content: BoxContent,
         caption: Caption<'e>,
         operand: &'e Expr,
-    ) -> Result<(), AllocError> {
-        self.steps.push(BuildStep::Enclose(content, caption, 1))?;
-        self.steps.push(BuildStep::Visit(operand))?;
-        Ok(())
+    ) -> Result<(), AllocError>
+        ensures layout { OnOk result (self.new.layout ≡ self.old.layout) }
+        ensures steps { OnOk result (self.new.steps.items ≡ self.old.steps.items
+            ++ BuildStep.Enclose content caption.entry 1 ∷ BuildStep.Visit operand.entry ∷ []) }
+    {
+        self.later(BuildStep::Enclose(content, caption, 1))?;
+        self.later(BuildStep::Visit(operand))
     }
 
     /// Adds the steps of an operand with a rail that bypasses it.
-    fn optional(&mut self, operand: &'e Expr) -> Result<(), AllocError> {
-        self.steps
-            .push(BuildStep::Enclose(BoxContent::Choice, Caption::Empty, 2))?;
-        self.steps.push(BuildStep::Visit(operand))?;
-        self.steps.push(BuildStep::Bypass)?;
-        Ok(())
+    fn optional(&mut self, operand: &'e Expr) -> Result<(), AllocError>
+        ensures layout { OnOk result (self.new.layout ≡ self.old.layout) }
+        ensures steps { OnOk result (self.new.steps.items ≡ self.old.steps.items
+            ++ BuildStep.Enclose BoxContent.Choice Caption.Empty 2
+            ∷ BuildStep.Visit operand.entry ∷ BuildStep.Bypass ∷ []) }
+    {
+        self.later(BuildStep::Enclose(BoxContent::Choice, Caption::Empty, 2))?;
+        self.later(BuildStep::Visit(operand))?;
+        self.later(BuildStep::Bypass)
     }
 
     /// Adds the steps of a loop with a rail that bypasses it.
-    fn optional_loop(&mut self, caption: Caption<'e>, operand: &'e Expr) -> Result<(), AllocError> {
-        self.steps
-            .push(BuildStep::Enclose(BoxContent::Choice, Caption::Empty, 2))?;
+    fn optional_loop(&mut self, caption: Caption<'e>, operand: &'e Expr) -> Result<(), AllocError>
+        ensures layout { OnOk result (self.new.layout ≡ self.old.layout) }
+        ensures steps { OnOk result (self.new.steps.items ≡ self.old.steps.items
+            ++ BuildStep.Enclose BoxContent.Choice Caption.Empty 2
+            ∷ BuildStep.Enclose BoxContent.Loop caption.entry 1
+            ∷ BuildStep.Visit operand.entry ∷ BuildStep.Bypass ∷ []) }
+    {
+        self.later(BuildStep::Enclose(BoxContent::Choice, Caption::Empty, 2))?;
         self.enclose(BoxContent::Loop, caption, operand)?;
-        self.steps.push(BuildStep::Bypass)?;
-        Ok(())
+        self.later(BuildStep::Bypass)
     }
 
     /// Adds the steps of a loop that is run at least so often.
     fn loop_from(
         &mut self,
         least: u32,
-        caption: Caption<'e>,
         operand: &'e Expr,
-    ) -> Result<(), AllocError> {
-        match (least, caption) {
-            (0, Caption::Between(_, most)) => self.optional_loop(Caption::AtMost(most), operand),
-            (0, _) => self.optional_loop(Caption::Empty, operand),
-            _ => self.enclose(BoxContent::Loop, caption, operand),
+        rules: &HashMap<String, usize>,
+    ) -> Result<(), AllocError>
+        ensures { OnOk result (IsRun (get_by_text rules.now) self.old self.new
+            (diagram_marks (get_by_text rules.now) operand.entry.now ++ text_marks (at_least least))
+            (4 * size operand.entry.now + 4)) }
+    {
+        if least == 0 {
+            self.optional_loop(Caption::Empty, operand)
+        } else {
+            self.enclose(BoxContent::Loop, Caption::AtLeast(least), operand)
+        }
+    }
+
+    /// Adds the steps of a loop that is run so often at least and at most.
+    fn loop_between(
+        &mut self,
+        least: u32,
+        most: u32,
+        operand: &'e Expr,
+        rules: &HashMap<String, usize>,
+    ) -> Result<(), AllocError>
+        ensures { OnOk result (IsRun (get_by_text rules.now) self.old self.new
+            (diagram_marks (get_by_text rules.now) operand.entry.now ++ text_marks (between least most))
+            (4 * size operand.entry.now + 4)) }
+    {
+        if least == 0 {
+            self.optional_loop(Caption::AtMost(most), operand)
+        } else {
+            self.enclose(BoxContent::Loop, Caption::Between(least, most), operand)
         }
     }
 
@@ -184,40 +244,60 @@ impl<'e> BoxBuilder<'e> {
     fn enclose_all(
         &mut self,
         content: BoxContent,
-        operands: &[&'e Expr],
-    ) -> Result<(), AllocError> {
-        self.steps.push(BuildStep::Enclose(content, Caption::Empty, operands.len()))?;
-        for operand in operands.iter().rev() {
-            self.steps.push(BuildStep::Visit(*operand))?;
-        }
+        visits: Vec<BuildStep<'e>>,
+    ) -> Result<(), AllocError>
+        ensures layout { OnOk result (self.new.layout ≡ self.old.layout) }
+        ensures steps { OnOk result (self.new.steps.items ≡ self.old.steps.items
+            ++ BuildStep.Enclose content Caption.Empty (vec_len visits.entry) ∷ visits.entry.items) }
+    {
+        let mut visits = visits;
+        self.later(BuildStep::Enclose(content, Caption::Empty, visits.len()))?;
+        self.steps.append(&mut visits)?;
         Ok(())
     }
 
-    /// Adds the steps of a choice, in columns where it has many alternatives.
-    fn enclose_choice(&mut self, operands: &[&'e Expr]) -> Result<(), AllocError> {
-        if operands.len() <= COLUMN_HEIGHT {
-            return self.enclose_all(BoxContent::Choice, operands);
+    /// Encloses the last so many boxes that have no parent yet; alternatives in columns where there are many.
+    fn enclose_roots(
+        &mut self,
+        content: BoxContent,
+        label: String,
+        count: usize,
+    ) -> Result<(), AllocError>
+        ensures boxes { OnOk result (flat_map box_marks self.new.layout.boxes.items
+            ≡ flat_map box_marks self.old.layout.boxes.items
+            ++ content_marks content (string_bytes label)) }
+        ensures steps { OnOk result (self.new.steps.items ≡ self.old.steps.items) }
+    {
+        let children = self.take_roots(count)?;
+        match content {
+            BoxContent::Choice if count > COLUMN_HEIGHT => self.push_columns(&children),
+            _ => self.push_box(content, label, children),
         }
-        let height = COLUMN_HEIGHT.max(operands.len().div_ceil(COLUMN_COUNT));
-        let columns = operands.len().div_ceil(height);
-        self.steps.push(BuildStep::Enclose(BoxContent::Columns, Caption::Empty, columns))?;
-        for column in (0..columns).rev() {
-            let (_, rest) = operands.split_at(operands.len().min(column.saturating_mul(height)));
-            let (column, _) = rest.split_at(rest.len().min(height));
-            self.enclose_all(BoxContent::Choice, column)?;
+    }
+
+    /// Adds the box of a choice in columns.
+    fn push_columns(&mut self, alternatives: &[usize]) -> Result<(), AllocError>
+        ensures boxes { OnOk result (flat_map box_marks self.new.layout.boxes.items
+            ≡ flat_map box_marks self.old.layout.boxes.items) }
+        ensures steps { OnOk result (self.new.steps.items ≡ self.old.steps.items) }
+    {
+        let height = COLUMN_HEIGHT.max(alternatives.len().div_ceil(COLUMN_COUNT));
+        for column in alternatives.chunks(height) {
+            let children = Vec::from_slice(self.alloc, column)?;
+            self.push_box(BoxContent::Choice, String::new(self.alloc), children)?;
         }
-        Ok(())
+        let columns = self.take_roots(alternatives.len().div_ceil(height))?;
+        self.push_box(BoxContent::Columns, String::new(self.alloc), columns)
     }
 
     /// Takes the last boxes without a parent, in order.
-    fn take_roots(&mut self, count: usize) -> Result<Vec<usize>, AllocError> {
-        let mut taken = Vec::new(self.alloc);
-        for _ in 0..count {
-            if let Some(index) = self.roots.pop() {
-                taken.push(index)?;
-            }
-        }
-        taken.reverse();
+    fn take_roots(&mut self, count: usize) -> Result<Vec<usize>, AllocError>
+        ensures layout { self.new.layout ≡ self.old.layout }
+        ensures steps { self.new.steps ≡ self.old.steps }
+    {
+        let kept = self.roots.len().saturating_sub(count);
+        let taken = Vec::from_slice(self.alloc, &self.roots[kept..])?;
+        self.roots.truncate(kept);
         Ok(taken)
     }
 
@@ -227,42 +307,78 @@ impl<'e> BoxBuilder<'e> {
         content: BoxContent,
         label: String,
         children: Vec<usize>,
-    ) -> Result<(), AllocError> {
-        let extent = lay_out(&mut self.boxes, content, label.as_str(), &children);
-        let index = self.boxes.len();
-        self.boxes.push(LayoutBox {
+    ) -> Result<(), AllocError>
+        ensures boxes { OnOk result (flat_map box_marks self.new.layout.boxes.items
+            ≡ flat_map box_marks self.old.layout.boxes.items
+            ++ content_marks content (string_bytes label)) }
+        ensures steps { OnOk result (self.new.steps.items ≡ self.old.steps.items) }
+    {
+        let extent = lay_out(
+            &self.layout.boxes,
+            &mut self.layout.offsets,
+            content,
+            label.as_str(),
+            &children,
+        );
+        self.roots.push(self.layout.boxes.len())?;
+        self.layout.offsets.push(Point { x: 0, y: 0 })?;
+        self.layout.boxes.push(LayoutBox {
             content,
             label,
             children,
             extent,
-            offset: Point { x: 0, y: 0 },
         })?;
-        self.roots.push(index)?;
         Ok(())
     }
 }
 
-/// The operands of an expression that one operator joins, in order, however they are nested.
-fn list_operands<'e>(
+/// The content of the box of a name: a call of a rule, if there is one of that name, or a builtin.
+fn call_content(name: &str, rules: &HashMap<String, usize>) -> BoxContent
+    ensures { (text : List ℕ) → content_marks result text
+        ≡ link_marks (get_by_text rules.now name.now) ++ text_marks text }
+{
+    match rules.get(name) {
+        Some(rule) => BoxContent::RuleCall(*rule),
+        None => BoxContent::Builtin,
+    }
+}
+
+/// The steps that visit the operands of an expression, in order, however one operator joins them: those of
+/// its first two operands. The first one is last.
+fn list_visits<'e>(
     alloc: Global,
-    expr: &'e Expr,
+    left: &'e Expr,
+    right: &'e Expr,
     operator: Operator,
-) -> Result<Vec<&'e Expr>, AllocError> {
-    let mut operands = Vec::new(alloc);
+) -> Result<Vec<BuildStep<'e>>, AllocError>
+    ensures marks { (n : List ℕ → Option ℕ) → IfOk result (λ visits. in_turn n visits.items
+        ≡ diagram_marks n left.entry.now ++ diagram_marks n right.entry.now) }
+    ensures work { IfOk result (λ visits. load visits.items
+        ≤ 4 * size left.entry.now + 4 * size right.entry.now) }
+{
+    let mut visits = Vec::new(alloc);
     let mut waiting = Vec::new(alloc);
-    waiting.push(expr)?;
-    for _ in 0..u64::MAX {
-        let Some(next) = waiting.pop() else {
-            break;
-        };
-        match (next, operator) {
-            (Expr::Seq(left, right), Operator::Tilde)
-            | (Expr::Choice(left, right), Operator::Bar) => {
-                waiting.push(right)?;
-                waiting.push(left)?;
-            }
-            _ => operands.push(next)?,
+    waiting.push(left)?;
+    waiting.push(right)?;
+    while let Some(next) = waiting.pop() {
+        match (operator, next) {
+            (Operator::Tilde, Expr::Seq(first, second)) => push_both(first, second, &mut waiting)?,
+            (Operator::Bar, Expr::Choice(first, second)) => push_both(first, second, &mut waiting)?,
+            _ => visits.push(BuildStep::Visit(next))?,
         }
     }
-    Ok(operands)
+    Ok(visits)
+}
+
+/// Pushes two expressions.
+fn push_both<'e>(
+    first: &'e Expr,
+    second: &'e Expr,
+    waiting: &mut Vec<&'e Expr>,
+) -> Result<(), AllocError>
+    ensures { OnOk result (waiting.new.items ≡ waiting.old.items ++ first.entry ∷ second.entry ∷ []) }
+{
+    waiting.push(first)?;
+    waiting.push(second)?;
+    Ok(())
 }

@@ -21,7 +21,8 @@ const WIDEST: u64 = 760;
 
 /// Returns the space of a box with this content, label and children, and sets the offsets of its children.
 pub fn lay_out(
-    boxes: &mut Vec<LayoutBox>,
+    boxes: &[LayoutBox],
+    offsets: &mut Vec<Point>,
     content: BoxContent,
     label: &str,
     children: &[usize],
@@ -32,11 +33,11 @@ pub fn lay_out(
         BoxContent::Terminal | BoxContent::RuleCall(_) | BoxContent::Builtin => {
             Extent::level(text.saturating_add(2 * PADDING), HALF_BOX)
         }
-        BoxContent::Sequence => lay_out_sequence(boxes, children),
-        BoxContent::Choice => lay_out_choice(boxes, children),
-        BoxContent::Columns => lay_out_columns(boxes, children),
-        BoxContent::Loop => lay_out_loop(boxes, children, text),
-        BoxContent::Group => lay_out_group(boxes, children, text),
+        BoxContent::Sequence => lay_out_sequence(boxes, offsets, children),
+        BoxContent::Choice => lay_out_choice(boxes, offsets, children),
+        BoxContent::Columns => lay_out_columns(boxes, offsets, children),
+        BoxContent::Loop => lay_out_loop(boxes, offsets, children, text),
+        BoxContent::Group => lay_out_group(boxes, offsets, children, text),
     }
 }
 
@@ -54,14 +55,14 @@ fn extent_of(boxes: &[LayoutBox], index: usize) -> Extent {
 }
 
 /// Sets the offset of a box.
-fn set_offset(boxes: &mut Vec<LayoutBox>, index: usize, x: u64, y: u64) {
-    if let Some(child) = boxes.get_mut(index) {
-        child.offset = Point { x, y };
+fn set_offset(offsets: &mut Vec<Point>, index: usize, x: u64, y: u64) {
+    if let Some(offset) = offsets.get_mut(index) {
+        *offset = Point { x, y };
     }
 }
 
 /// Lays out the items of a sequence side by side, in as many rows as they need.
-fn lay_out_sequence(boxes: &mut Vec<LayoutBox>, children: &[usize]) -> Extent {
+fn lay_out_sequence(boxes: &[LayoutBox], offsets: &mut Vec<Point>, children: &[usize]) -> Extent {
     let mut whole = Extent::EMPTY;
     let mut rest = children;
     for row in 0..children.len() {
@@ -70,9 +71,9 @@ fn lay_out_sequence(boxes: &mut Vec<LayoutBox>, children: &[usize]) -> Extent {
         }
         let (items, others) = rest.split_at(row_length(boxes, rest).min(rest.len()));
         whole = if row == 0 {
-            lay_out_first_row(boxes, items, !others.is_empty())
+            lay_out_first_row(boxes, offsets, items, !others.is_empty())
         } else {
-            lay_out_row(boxes, items, whole)
+            lay_out_row(boxes, offsets, items, whole)
         };
         rest = others;
     }
@@ -80,8 +81,13 @@ fn lay_out_sequence(boxes: &mut Vec<LayoutBox>, children: &[usize]) -> Extent {
 }
 
 /// Lays out the first row of a sequence, with room for the rail to the next one, if there is one.
-fn lay_out_first_row(boxes: &mut Vec<LayoutBox>, items: &[usize], has_next: bool) -> Extent {
-    place_row(boxes, items, Point { x: 0, y: 0 });
+fn lay_out_first_row(
+    boxes: &[LayoutBox],
+    offsets: &mut Vec<Point>,
+    items: &[usize],
+    has_next: bool,
+) -> Extent {
+    place_row(boxes, offsets, items, Point { x: 0, y: 0 });
     let row = row_extent(boxes, items);
     let room = if has_next { 2 * TURN } else { 0 };
     Extent {
@@ -104,12 +110,17 @@ fn row_length(boxes: &[LayoutBox], children: &[usize]) -> usize {
 }
 
 /// Lays out a row of a sequence below the rows above it, and returns the space of all of them.
-fn lay_out_row(boxes: &mut Vec<LayoutBox>, items: &[usize], above: Extent) -> Extent {
+fn lay_out_row(
+    boxes: &[LayoutBox],
+    offsets: &mut Vec<Point>,
+    items: &[usize],
+    above: Extent,
+) -> Extent {
     let row = row_extent(boxes, items);
     let x = 2 * TURN;
     let ascent = row.ascent.max(TURN);
     let y = above.descent.saturating_add(2 * GAP).saturating_add(ascent);
-    place_row(boxes, items, Point { x, y });
+    place_row(boxes, offsets, items, Point { x, y });
     Extent {
         width: above.width.max(row.width.saturating_add(4 * TURN)),
         ascent: above.ascent,
@@ -119,12 +130,12 @@ fn lay_out_row(boxes: &mut Vec<LayoutBox>, items: &[usize], above: Extent) -> Ex
 }
 
 /// Sets the offsets of boxes side by side, the first at a point.
-fn place_row(boxes: &mut Vec<LayoutBox>, items: &[usize], start: Point) {
+fn place_row(boxes: &[LayoutBox], offsets: &mut Vec<Point>, items: &[usize], start: Point) {
     let mut x = start.x;
     let mut y = start.y;
     for index in items {
         let extent = extent_of(boxes, *index);
-        set_offset(boxes, *index, x, y);
+        set_offset(offsets, *index, x, y);
         x = x.saturating_add(extent.width).saturating_add(RAIL);
         y = y.saturating_add(extent.exit_y);
     }
@@ -147,13 +158,13 @@ fn row_extent(boxes: &[LayoutBox], items: &[usize]) -> Extent {
 }
 
 /// Lays out alternatives below one another, the first at the height of the rail.
-fn lay_out_choice(boxes: &mut Vec<LayoutBox>, children: &[usize]) -> Extent {
+fn lay_out_choice(boxes: &[LayoutBox], offsets: &mut Vec<Point>, children: &[usize]) -> Extent {
     let mut whole = Extent::EMPTY;
     for (place, index) in children.iter().enumerate() {
         let own = extent_of(boxes, *index);
         let below = whole.descent.saturating_add(GAP).saturating_add(own.ascent);
         let y = if place == 0 { 0 } else { below.max(2 * TURN) };
-        set_offset(boxes, *index, 2 * TURN, y);
+        set_offset(offsets, *index, 2 * TURN, y);
         whole = Extent {
             width: whole.width.max(own.width.saturating_add(4 * TURN)),
             ascent: if place == 0 { own.ascent } else { whole.ascent },
@@ -165,13 +176,13 @@ fn lay_out_choice(boxes: &mut Vec<LayoutBox>, children: &[usize]) -> Extent {
 }
 
 /// Lays out choices side by side, below a rail that leads to each and above one that leads away.
-fn lay_out_columns(boxes: &mut Vec<LayoutBox>, children: &[usize]) -> Extent {
+fn lay_out_columns(boxes: &[LayoutBox], offsets: &mut Vec<Point>, children: &[usize]) -> Extent {
     let row = row_extent(boxes, children);
     let y = row.ascent.saturating_add(GAP).saturating_add(2 * TURN);
     let mut x = 2 * TURN;
     for index in children {
         let width = extent_of(boxes, *index).width;
-        set_offset(boxes, *index, x, y);
+        set_offset(offsets, *index, x, y);
         x = x.saturating_add(width).saturating_add(4 * TURN);
     }
     let descent = y.saturating_add(row.descent).saturating_add(GAP);
@@ -184,12 +195,17 @@ fn lay_out_columns(boxes: &mut Vec<LayoutBox>, children: &[usize]) -> Extent {
 }
 
 /// Lays out a box above a rail that leads back.
-fn lay_out_loop(boxes: &mut Vec<LayoutBox>, children: &[usize], text: u64) -> Extent {
+fn lay_out_loop(
+    boxes: &[LayoutBox],
+    offsets: &mut Vec<Point>,
+    children: &[usize],
+    text: u64,
+) -> Extent {
     let Some(index) = children.first() else {
         return Extent::EMPTY;
     };
     let own = extent_of(boxes, *index);
-    set_offset(boxes, *index, 2 * TURN, 0);
+    set_offset(offsets, *index, 2 * TURN, 0);
     let label = if text > 0 { LINE } else { 0 };
     Extent {
         width: own.width.max(text).saturating_add(4 * TURN),
@@ -206,12 +222,17 @@ pub fn back_rail(child: Extent) -> u64 {
 }
 
 /// Lays out a box in a frame with its label above.
-fn lay_out_group(boxes: &mut Vec<LayoutBox>, children: &[usize], text: u64) -> Extent {
+fn lay_out_group(
+    boxes: &[LayoutBox],
+    offsets: &mut Vec<Point>,
+    children: &[usize],
+    text: u64,
+) -> Extent {
     let Some(index) = children.first() else {
         return Extent::EMPTY;
     };
     let own = extent_of(boxes, *index);
-    set_offset(boxes, *index, PADDING, 0);
+    set_offset(offsets, *index, PADDING, 0);
     Extent {
         width: own.width.max(text).saturating_add(2 * PADDING),
         ascent: own.ascent.saturating_add(LINE).saturating_add(GAP / 2),

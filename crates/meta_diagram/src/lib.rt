@@ -8,5 +8,5 @@ mod labels;
 mod layout;
 mod rails;
 
-pub use crate::drawing::{DiagramStyle, push_diagram};
+pub use crate::drawing::{DiagramStyle, draw_diagram};
 pub use crate::labels::leaf_label;

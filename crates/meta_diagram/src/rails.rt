@@ -1,48 +1,65 @@
 //! The rails of a diagram, as paths.
+ghost use Rattle.std.specs.Prelude.{◌≡◌, OnOk};
+ghost use Rattle.meta_diagram.specs.Marks.{marks_of};
+
 use crate::boxes::Point;
 use crate::layout::TURN;
 use meta_markup::{Attribute, Markup, MarkupBuilder, PathCommand, Tag};
 use std::alloc::AllocError;
 
 /// Adds the start of a path.
-fn begin(markup: &mut MarkupBuilder<'_>, from: Point) -> Result<(), AllocError> {
+fn begin(markup: &mut MarkupBuilder<'_>, from: Point) -> Result<(), AllocError>
+    ensures { OnOk result (marks_of markup.new.tokens.items ≡ marks_of markup.old.tokens.items) }
+{
     markup.put(Markup::Open(Tag::Path))?;
     markup.put(Markup::Attribute(Attribute::Commands))?;
     markup.command_to(PathCommand::MoveTo, from.x, from.y)
 }
 
 /// Adds the end of a path.
-fn end(markup: &mut MarkupBuilder<'_>) -> Result<(), AllocError> {
+fn end(markup: &mut MarkupBuilder<'_>) -> Result<(), AllocError>
+    ensures { OnOk result (marks_of markup.new.tokens.items ≡ marks_of markup.old.tokens.items) }
+{
     markup.put(Markup::Quote)?;
     markup.put(Markup::EmptyTagEnd)
 }
 
 /// Adds a curve around a corner to a point.
-fn turn(markup: &mut MarkupBuilder<'_>, corner: Point, to: Point) -> Result<(), AllocError> {
+fn turn(markup: &mut MarkupBuilder<'_>, corner: Point, to: Point) -> Result<(), AllocError>
+    ensures { OnOk result (marks_of markup.new.tokens.items ≡ marks_of markup.old.tokens.items) }
+{
     markup.command_to(PathCommand::CurveTo, corner.x, corner.y)?;
     markup.command_to(PathCommand::Separator, to.x, to.y)
 }
 
 /// Adds a turn at a corner from a horizontal line downwards.
-fn turn_down(markup: &mut MarkupBuilder<'_>, x: u64, y: u64) -> Result<(), AllocError> {
+fn turn_down(markup: &mut MarkupBuilder<'_>, x: u64, y: u64) -> Result<(), AllocError>
+    ensures { OnOk result (marks_of markup.new.tokens.items ≡ marks_of markup.old.tokens.items) }
+{
     let below = y.saturating_add(TURN);
     turn(markup, Point { x, y }, Point { x, y: below })
 }
 
 /// Adds a turn at a corner from a horizontal line upwards.
-fn turn_up(markup: &mut MarkupBuilder<'_>, x: u64, y: u64) -> Result<(), AllocError> {
+fn turn_up(markup: &mut MarkupBuilder<'_>, x: u64, y: u64) -> Result<(), AllocError>
+    ensures { OnOk result (marks_of markup.new.tokens.items ≡ marks_of markup.old.tokens.items) }
+{
     let above = y.saturating_sub(TURN);
     turn(markup, Point { x, y }, Point { x, y: above })
 }
 
 /// Adds a turn at a corner from a vertical line to the right.
-fn turn_right(markup: &mut MarkupBuilder<'_>, x: u64, y: u64) -> Result<(), AllocError> {
+fn turn_right(markup: &mut MarkupBuilder<'_>, x: u64, y: u64) -> Result<(), AllocError>
+    ensures { OnOk result (marks_of markup.new.tokens.items ≡ marks_of markup.old.tokens.items) }
+{
     let right = x.saturating_add(TURN);
     turn(markup, Point { x, y }, Point { x: right, y })
 }
 
 /// Adds a turn at a corner from a vertical line to the left.
-fn turn_left(markup: &mut MarkupBuilder<'_>, x: u64, y: u64) -> Result<(), AllocError> {
+fn turn_left(markup: &mut MarkupBuilder<'_>, x: u64, y: u64) -> Result<(), AllocError>
+    ensures { OnOk result (marks_of markup.new.tokens.items ≡ marks_of markup.old.tokens.items) }
+{
     let left = x.saturating_sub(TURN);
     turn(markup, Point { x, y }, Point { x: left, y })
 }
@@ -53,7 +70,9 @@ pub fn draw_level(
     left: u64,
     right: u64,
     y: u64,
-) -> Result<(), AllocError> {
+) -> Result<(), AllocError>
+    ensures { OnOk result (marks_of markup.new.tokens.items ≡ marks_of markup.old.tokens.items) }
+{
     if left >= right {
         return Ok(());
     }
@@ -63,7 +82,9 @@ pub fn draw_level(
 }
 
 /// Draws a rail to a box: to the right, down at once, and to the right again.
-pub fn draw_down(markup: &mut MarkupBuilder<'_>, from: Point, to: Point) -> Result<(), AllocError> {
+pub fn draw_down(markup: &mut MarkupBuilder<'_>, from: Point, to: Point) -> Result<(), AllocError>
+    ensures { OnOk result (marks_of markup.new.tokens.items ≡ marks_of markup.old.tokens.items) }
+{
     if from.y >= to.y {
         return draw_level(markup, from.x, to.x, from.y);
     }
@@ -77,7 +98,9 @@ pub fn draw_down(markup: &mut MarkupBuilder<'_>, from: Point, to: Point) -> Resu
 }
 
 /// Draws a rail from a box: to the right, up at the end, and to the right again.
-pub fn draw_up(markup: &mut MarkupBuilder<'_>, from: Point, to: Point) -> Result<(), AllocError> {
+pub fn draw_up(markup: &mut MarkupBuilder<'_>, from: Point, to: Point) -> Result<(), AllocError>
+    ensures { OnOk result (marks_of markup.new.tokens.items ≡ marks_of markup.old.tokens.items) }
+{
     if from.y <= to.y {
         return draw_level(markup, from.x, to.x, from.y);
     }
@@ -96,7 +119,9 @@ pub fn draw_return(
     from: Point,
     to: Point,
     middle: u64,
-) -> Result<(), AllocError> {
+) -> Result<(), AllocError>
+    ensures { OnOk result (marks_of markup.new.tokens.items ≡ marks_of markup.old.tokens.items) }
+{
     let right = from.x.saturating_add(TURN);
     let left = to.x.saturating_sub(TURN);
     begin(markup, from)?;
@@ -116,7 +141,9 @@ pub fn draw_back(
     from: Point,
     to: Point,
     back: u64,
-) -> Result<(), AllocError> {
+) -> Result<(), AllocError>
+    ensures { OnOk result (marks_of markup.new.tokens.items ≡ marks_of markup.old.tokens.items) }
+{
     let right = from.x.saturating_add(TURN);
     let left = to.x.saturating_sub(TURN);
     begin(markup, from)?;

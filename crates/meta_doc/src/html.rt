@@ -11,7 +11,7 @@ use crate::source::{RuleSource, SourcePart};
 use crate::warnings::RuleWarning;
 use meta_ast::ast;
 use meta_ast::ast::RuleType;
-use meta_diagram::{DiagramStyle, push_diagram};
+use meta_diagram::{DiagramStyle, draw_diagram};
 use meta_markup::{
     Class, Markup, MarkupBuilder, SectionContents, Tag, foot, push_markup, push_section, start_page,
 };
@@ -61,8 +61,7 @@ fn render_diagram(
 ) -> Result<String, AllocError>
     ensures { IfOk result IsDiagram }
 {
-    let mut markup = MarkupBuilder::new(alloc);
-    push_diagram(alloc, &rule.expr, numbers, DiagramStyle::Own, &mut markup)?;
+    let markup = draw_diagram(alloc, &rule.expr, numbers, DiagramStyle::Own)?;
     let mut drawing = String::new(alloc);
     push_markup(&markup.tokens, &[], &mut drawing)?;
     drawing.push_str("\n")?;
@@ -135,13 +134,8 @@ fn describe<'i>(
         push_comment(&mut before, &source.comment)?;
     }
     before.start_with_class(Tag::Div, Class::Scroll)?;
-    push_diagram(
-        alloc,
-        &rule.expr,
-        &doc.numbers,
-        DiagramStyle::OfPage,
-        &mut before,
-    )?;
+    let mut diagram = draw_diagram(alloc, &rule.expr, &doc.numbers, DiagramStyle::OfPage)?;
+    before.tokens.append(&mut diagram.tokens)?;
     before.close_line(Tag::Div)?;
     if let Some(source) = source {
         push_source(&mut before, source, number, &doc.numbers)?;

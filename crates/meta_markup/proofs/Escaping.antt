@@ -13,6 +13,12 @@ page_more page before after xs ys zs first then same =
     then ∙ ap (λ t. t ++ encode_utf8_all ys) first ∙ append_assoc page (encode_utf8_all xs) (encode_utf8_all ys)
     ∙ ap (λ t. page ++ t) (sym (encodes-append xs ys) ∙ ap (λ t. encode_utf8_all t) same)
 
+-- the same of bytes
+pub bytes_more : (page before after xs ys zs : List ℕ) → before ≡ page ++ xs → after ≡ before ++ ys → xs ++ ys ≡ zs
+    → after ≡ page ++ zs
+bytes_more page before after xs ys zs first then same =
+    then ∙ ap (λ t. t ++ ys) first ∙ append_assoc page xs ys ∙ ap (λ t. page ++ t) same
+
 -- one element more
 pub flat_map_one_more : (f : ℕ → List ℕ) (xs : List ℕ) (x : ℕ)
     → flat_map f xs ++ f x ≡ flat_map f (xs ++ x ∷ [])

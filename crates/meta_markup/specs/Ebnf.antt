@@ -45,7 +45,6 @@ comment_bytes text = encode_utf8_all (flat_map comment_character (chars text))
 
 -- a word
 abbrev pub ebnf_word_text : EbnfWord → List ℕ
-ebnf_word_text word.Defines = codes " ::= "
 ebnf_word_text word.Bar = codes " | "
 ebnf_word_text word.Blank = codes " "
 ebnf_word_text word.Open = codes "("

@@ -1,5 +1,6 @@
 -- Texts in markup, no part of which is markup.
-use Rattle.std.specs.Prelude.{ℕ, List, [], ◌∷◌, Bool, ◌||◌, ◌==◌, codes, encode_utf8_all, if◌then◌else◌}
+use Rattle.std.specs.Prelude.{ℕ, List, [], ◌∷◌, ◌++◌, Bool, ◌||◌, ◌==◌, codes, encode_utf8, encode_utf8_all, false, if◌then◌else◌}
+use Rattle.std.specs.Fmt.{digits}
 use Rattle.std.specs.List.{flat_map}
 use Rattle.std.specs.Str.{chars}
 use Rattle.meta_base.specs.Language.Builtins.{is_between}
@@ -10,8 +11,8 @@ is_hidden c = is_between 0 8 c || (is_between 11 31 c || is_between 0x7f 0x9f c)
 
 -- a character that changes the direction of a line, ends it, or is a mark of the byte order
 abbrev pub is_format : ℕ → Bool
-is_format c = is_between 0x200e 0x200f c || (is_between 0x2028 0x202e c
-    || (is_between 0x2066 0x2069 c || c == 0xfeff))
+is_format c = c == 0x61c || (is_between 0x200e 0x200f c || (is_between 0x2028 0x202e c
+    || (is_between 0x2066 0x206f c || c == 0xfeff)))
 
 -- a character as it is shown: U+FFFD for one that is not
 abbrev pub visible : ℕ → ℕ
@@ -36,3 +37,11 @@ escaped_text text = encode_utf8_all (escaped text)
 
 abbrev pub escaped_bytes : List ℕ → List ℕ
 escaped_bytes text = escaped_text (chars text)
+
+-- a character as a terminal shows it: one that is not shown as its escape
+abbrev pub visible_character : ℕ → List ℕ
+visible_character c =
+    if visible c == c then encode_utf8 c else codes "\\u{" ++ digits 16 false c ++ codes "}"
+
+abbrev pub visible_bytes : List ℕ → List ℕ
+visible_bytes text = flat_map visible_character (chars text)

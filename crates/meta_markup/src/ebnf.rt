@@ -11,7 +11,6 @@ use std::alloc::AllocError;
 /// A word of EBNF.
 #[derive(Clone, Copy)]
 pub enum EbnfWord {
-    Defines,
     Bar,
     Blank,
     Open,
@@ -58,7 +57,6 @@ impl EbnfWord {
         ensures { result.now ≡ ebnf_word_text self }
     {
         match self {
-            EbnfWord::Defines => " ::= ",
             EbnfWord::Bar => " | ",
             EbnfWord::Blank => " ",
             EbnfWord::Open => "(",

@@ -1,7 +1,6 @@
 //! Escaping: texts as they are written into markup, and as they are shown on a terminal.
-ghost use Rattle.std.specs.Prelude.{◌≡◌, ◌++◌, OnOk, encode_utf8_all, map, string_bytes};
-ghost use Rattle.std.specs.Str.{chars};
-ghost use Rattle.meta_markup.specs.Escape.{escaped_bytes, escaped_character, visible};
+ghost use Rattle.std.specs.Prelude.{◌≡◌, ◌++◌, OnOk, encode_utf8_all, string_bytes};
+ghost use Rattle.meta_markup.specs.Escape.{escaped_bytes, escaped_character, visible, visible_bytes, visible_character};
 
 use std::alloc::AllocError;
 
@@ -37,20 +36,30 @@ pub(crate) fn visible(character: char) -> char
 {
     match character {
         '\u{0}'..='\u{8}' | '\u{b}'..='\u{1f}' | '\u{7f}'..='\u{9f}' => '\u{fffd}',
-        '\u{200e}' | '\u{200f}' | '\u{2028}'..='\u{202e}' => '\u{fffd}',
-        '\u{2066}'..='\u{2069}' | '\u{feff}' => '\u{fffd}',
+        '\u{61c}' | '\u{200e}' | '\u{200f}' | '\u{2028}'..='\u{202e}' => '\u{fffd}',
+        '\u{2066}'..='\u{206f}' | '\u{feff}' => '\u{fffd}',
         _ => character,
     }
 }
 
-/// Appends a text with U+FFFD in place of each character that is not shown or changes the direction of a
-/// line, so that a terminal obeys no part of it. The only error is an allocation failure.
+/// Appends a text with an escape, as `\u{1b}`, in place of each character that is not shown or changes the
+/// direction of a line, so that a terminal obeys no part of it. The only error is an allocation failure.
 pub fn push_visible(text: &str, page: &mut String) -> Result<(), AllocError>
-    ensures { OnOk result (string_bytes page.new
-        ≡ string_bytes page.old ++ encode_utf8_all (map visible (chars text.now))) }
+    ensures { OnOk result (string_bytes page.new ≡ string_bytes page.old ++ visible_bytes text.now) }
 {
     for character in text.chars() {
-        page.push(visible(character))?;
+        push_visible_character(character, page)?;
     }
     Ok(())
+}
+
+/// Appends a character, or its escape.
+fn push_visible_character(character: char, page: &mut String) -> Result<(), AllocError>
+    ensures { OnOk result (string_bytes page.new ≡ string_bytes page.old ++ visible_character character) }
+{
+    if visible(character) == character {
+        page.push(character)
+    } else {
+        write!(page, "\\u{{{:x}}}", u32::from(character))
+    }
 }

@@ -1,7 +1,8 @@
-use Rattle.std.proofs.Common.{◌≡◌, ◌++◌, encode_utf8_all, map, string_bytes}
-use Rattle.meta_markup.specs.Escape.{visible}
+use Rattle.std.proofs.Common.{◌≡◌, ◌++◌, string_bytes}
+use Rattle.std.specs.List.{flat_map}
+use Rattle.meta_markup.specs.Escape.{visible_character}
 use Rattle.meta_markup.proofs.escape.push_visible.Given as goal
 
 abbrev pub invariant-loop-character : goal.invariant-loop-character
 invariant-loop-character l =
-    string_bytes l.page ≡ string_bytes l.fn.page ++ encode_utf8_all (map visible l.yielded)
+    string_bytes l.page ≡ string_bytes l.fn.page ++ flat_map visible_character l.yielded
