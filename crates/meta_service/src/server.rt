@@ -1,4 +1,7 @@
 //! A server: its state, and what it answers.
+ghost use Rattle.std.specs.Prelude.{◌≡◌, IfOk, None, Some};
+ghost use Rattle.meta_service.specs.Sessions.{AnswersIn, AnswersRequest, IsOneMessage, RepliesTo, TakesNotification, after_request, phase_of, status_in};
+
 use crate::actions::code_actions;
 use crate::capabilities::{client_of, initialize_result};
 use crate::diagnostics::{publish, publish_none};
@@ -15,12 +18,12 @@ use meta_requests::semantic::semantic_tokens;
 use meta_requests::structure::{
     document_symbols, folding_ranges, selection_ranges, workspace_symbols,
 };
-use serde_json::Value;
+use serde_json::{Error, Value};
 use std::alloc::{AllocError, Global};
 
 /// How far a session has come.
 #[derive(Clone, Copy, Debug, PartialEq, Eq)]
-enum Phase {
+pub enum Phase {
     /// `initialize` has not come.
     New,
     Running,
@@ -45,27 +48,11 @@ pub struct Reply {
     pub exit: Option<u8>,
 }
 
-impl Reply {
-    /// Returns a reply of one message, or of none where that found no memory.
-    fn of(outcome: Result<String, AllocError>) -> Reply {
-        Reply {
-            body: outcome.ok(),
-            exit: None,
-        }
-    }
-
-    /// Returns a reply of no message.
-    fn none() -> Reply {
-        Reply {
-            body: None,
-            exit: None,
-        }
-    }
-}
-
 impl Server {
     /// Returns a server at the start of a session.
-    pub fn new(alloc: Global) -> Server {
+    pub fn new(alloc: Global) -> Server
+        ensures { phase_of result ≡ Phase.New }
+    {
         Server {
             phase: Phase::New,
             client: Client::default(),
@@ -73,75 +60,110 @@ impl Server {
         }
     }
 
-    /// Takes the body of a message, and returns the answer. A request is answered once, also where memory
-    /// runs out; the documents then stay as they are.
-    pub fn handle(&mut self, alloc: Global, body: &[u8]) -> Reply {
+    /// Takes the body of a message, and returns the reply. Fails where there is no memory even for an error;
+    /// the documents are then as before, or have taken the change.
+    pub fn handle(&mut self, alloc: Global, body: &[u8]) -> Result<Reply, AllocError>
+        ensures { IfOk result (RepliesTo self.old self.new) }
+    {
         match Value::from_slice(alloc, body) {
             Ok(message) => self.handle_message(alloc, &message),
-            Err(error) if error.is_memory() => Reply::of(error_response(
-                alloc,
-                &Value::Null,
-                ErrorCode::InternalError,
-                OUT_OF_MEMORY,
-            )),
-            Err(_) => Reply::of(error_response(
-                alloc,
-                &Value::Null,
-                ErrorCode::ParseError,
-                "the message is no JSON",
-            )),
+            Err(error) => refuse_unread(alloc, &error),
         }
     }
 
-    /// Returns the answer to a frame without a length.
-    pub fn refuse_frame(&self, alloc: Global) -> Reply {
-        Reply::of(error_response(
-            alloc,
-            &Value::Null,
-            ErrorCode::InvalidRequest,
-            "the frame has no length",
-        ))
+    /// Returns the reply to a frame without a length.
+    pub fn refuse_frame(&self, alloc: Global) -> Result<Reply, AllocError>
+        ensures { IfOk result IsOneMessage }
+    {
+        refusal(alloc, ErrorCode::InvalidRequest, "the frame has no length")
     }
 
-    /// Returns the answer to a frame for which there was no memory.
-    pub fn refuse_body(&self, alloc: Global) -> Reply {
-        Reply::of(error_response(alloc, &Value::Null, ErrorCode::InternalError, OUT_OF_MEMORY))
+    /// Returns the reply to a message for which there was no memory.
+    pub fn refuse_body(&self, alloc: Global) -> Result<Reply, AllocError>
+        ensures { IfOk result IsOneMessage }
+    {
+        refusal(alloc, ErrorCode::InternalError, OUT_OF_MEMORY)
     }
 
-    /// Takes a message, and returns the answer.
-    fn handle_message(&mut self, alloc: Global, message: &Value) -> Reply {
-        let null = Value::Null;
-        let params = message.get("params").unwrap_or(&null);
+    /// Takes a message, and returns the reply.
+    fn handle_message(&mut self, alloc: Global, message: &Value) -> Result<Reply, AllocError>
+        ensures { IfOk result (RepliesTo self.old self.new) }
+    {
         match classify(message) {
-            Incoming::Response => Reply::none(),
-            Incoming::Invalid => Reply::of(error_response(
+            Incoming::Response => Ok(Reply {
+                body: None,
+                exit: None,
+            }),
+            Incoming::Invalid => refusal(
                 alloc,
-                &Value::Null,
                 ErrorCode::InvalidRequest,
                 "the message is no request",
-            )),
-            Incoming::Notification { method } => { self.handle_notification(alloc, method, params) }
-            Incoming::Request { id, method } => {
-                let outcome = self.answer(alloc, method, params);
-                Reply::of(respond(alloc, id, outcome))
-            }
+            ),
+            Incoming::Notification { method } => self.handle_notification(alloc, method, message),
+            Incoming::Request { id, method } => self.handle_request(alloc, id, method, message),
         }
+    }
+
+    /// Takes a request, and returns the reply, also where there was no memory for the answer.
+    fn handle_request(
+        &mut self,
+        alloc: Global,
+        id: &Value,
+        method: &str,
+        message: &Value,
+    ) -> Result<Reply, AllocError>
+        ensures { IfOk result (AnswersRequest self.old self.new method.now) }
+    {
+        let null = Value::Null;
+        let params = message.get("params").unwrap_or(&null);
+        let outcome = self.answer(alloc, method, params);
+        respond(alloc, id, outcome)
     }
 
     /// Takes a notification. A failure has no answer.
-    fn handle_notification(&mut self, alloc: Global, method: &str, params: &Value) -> Reply {
+    fn handle_notification(
+        &mut self,
+        alloc: Global,
+        method: &str,
+        message: &Value,
+    ) -> Result<Reply, AllocError>
+        ensures { IfOk result (TakesNotification self.old self.new method.now) }
+    {
         if method == "exit" {
-            return Reply {
+            return Ok(Reply {
                 body: None,
-                exit: Some(if self.phase == Phase::ShutDown { 0 } else { 1 }),
-            };
+                exit: Some(self.exit_status()),
+            });
         }
+        let null = Value::Null;
+        let params = message.get("params").unwrap_or(&null);
+        Ok(Reply {
+            body: self.take_notification(alloc, method, params),
+            exit: None,
+        })
+    }
+
+    /// Returns the status with which the process is to end at `exit`: 0 after `shutdown`, else 1.
+    fn exit_status(&self) -> u8
+        ensures { result ≡ status_in (phase_of self.now) }
+    {
+        match self.phase {
+            Phase::ShutDown => 0,
+            Phase::New | Phase::Running => 1,
+        }
+    }
+
+    /// Takes a notification other than `exit`, if the session runs. Returns the notification of diagnostics
+    /// that it gives rise to.
+    fn take_notification(&mut self, alloc: Global, method: &str, params: &Value) -> Option<String>
+        ensures { phase_of self.new ≡ phase_of self.old }
+    {
         if self.phase != Phase::Running {
-            return Reply::none();
+            return None;
         }
         match self.synchronize(alloc, method, params) {
-            Ok(body) => Reply { body, exit: None },
-            Err(_) => Reply::none(),
+            Ok(body) => body,
+            Err(_) => None,
         }
     }
 
@@ -151,7 +173,9 @@ impl Server {
         alloc: Global,
         method: &str,
         params: &Value,
-    ) -> Result<Option<String>, AllocError> {
+    ) -> Result<Option<String>, AllocError>
+        ensures { phase_of self.new ≡ phase_of self.old }
+    {
         let Some(uri) = text_at(params, "/textDocument/uri") else {
             return Ok(None);
         };
@@ -173,7 +197,9 @@ impl Server {
         alloc: Global,
         uri: &str,
         params: &Value,
-    ) -> Result<Option<String>, AllocError> {
+    ) -> Result<Option<String>, AllocError>
+        ensures { phase_of self.new ≡ phase_of self.old }
+    {
         let Some(text) = text_at(params, "/textDocument/text") else {
             return Ok(None);
         };
@@ -187,7 +213,9 @@ impl Server {
         alloc: Global,
         uri: &str,
         params: &Value,
-    ) -> Result<Option<String>, AllocError> {
+    ) -> Result<Option<String>, AllocError>
+        ensures { phase_of self.new ≡ phase_of self.old }
+    {
         let Some(values) = params.get("contentChanges").and_then(Value::as_array) else {
             return Ok(None);
         };
@@ -213,7 +241,9 @@ impl Server {
         uri: &str,
         text: String,
         params: &Value,
-    ) -> Result<Option<String>, AllocError> {
+    ) -> Result<Option<String>, AllocError>
+        ensures { phase_of self.new ≡ phase_of self.old }
+    {
         let version = params
             .pointer("/textDocument/version")
             .and_then(Value::as_i64);
@@ -230,40 +260,72 @@ impl Server {
     }
 
     /// Answers a request.
-    fn answer(
+    fn answer(&mut self, alloc: Global, method: &str, params: &Value) -> Result<Answer, AllocError>
+        ensures phase { phase_of self.new ≡ after_request (phase_of self.old) method.now }
+        ensures documents { self.new.documents ≡ self.old.documents }
+        ensures answer { IfOk result (AnswersIn (phase_of self.old) method.now) }
+    {
+        match self.phase {
+            Phase::New => self.answer_first(alloc, method, params),
+            Phase::Running => self.answer_running(alloc, method, params),
+            Phase::ShutDown => Ok(Answer::Error(ErrorCode::InvalidRequest, "`shutdown` has come")),
+        }
+    }
+
+    /// Answers a request before `initialize`.
+    fn answer_first(
         &mut self,
         alloc: Global,
         method: &str,
         params: &Value,
-    ) -> Result<Answer, AllocError> {
-        match (self.phase, method) {
-            (Phase::New, "initialize") => {
-                self.client = client_of(params);
-                self.phase = Phase::Running;
-                Ok(Answer::Result(initialize_result(alloc, self.client)?))
-            }
-            (Phase::New, _) => Ok(Answer::Error(
-                ErrorCode::ServerNotInitialized,
-                "`initialize` has not come",
-            )),
-            (Phase::ShutDown, _) => Ok(Answer::Error(
-                ErrorCode::InvalidRequest,
-                "`shutdown` has come",
-            )),
-            (Phase::Running, "initialize") => Ok(Answer::Error(
-                ErrorCode::InvalidRequest,
-                "`initialize` has come before",
-            )),
-            (Phase::Running, "shutdown") => {
-                self.phase = Phase::ShutDown;
-                Ok(Answer::Result(Value::Null))
-            }
-            (Phase::Running, "workspace/symbol") => {
-                let query = text_at(params, "/query").unwrap_or("");
-                workspace_symbols(alloc, self.client, &self.documents, query)
-            }
-            (Phase::Running, _) => self.answer_for_document(alloc, method, params),
+    ) -> Result<Answer, AllocError>
+        requires { phase_of self.old ≡ Phase.New }
+        ensures phase { phase_of self.new ≡ after_request Phase.New method.now }
+        ensures documents { self.new.documents ≡ self.old.documents }
+        ensures answer { IfOk result (AnswersIn Phase.New method.now) }
+    {
+        if method != "initialize" {
+            return Ok(Answer::Error(ErrorCode::ServerNotInitialized, "`initialize` has not come"));
         }
+        self.client = client_of(params);
+        self.phase = Phase::Running;
+        Ok(Answer::Result(initialize_result(alloc, self.client)?))
+    }
+
+    /// Answers a request after `initialize`.
+    fn answer_running(
+        &mut self,
+        alloc: Global,
+        method: &str,
+        params: &Value,
+    ) -> Result<Answer, AllocError>
+        requires { phase_of self.old ≡ Phase.Running }
+        ensures phase { phase_of self.new ≡ after_request Phase.Running method.now }
+        ensures documents { self.new.documents ≡ self.old.documents }
+        ensures answer { IfOk result (AnswersIn Phase.Running method.now) }
+    {
+        if method == "initialize" {
+            return Ok(Answer::Error(ErrorCode::InvalidRequest, "`initialize` has come before"));
+        }
+        if method == "shutdown" {
+            self.phase = Phase::ShutDown;
+            return Ok(Answer::Result(Value::Null));
+        }
+        self.answer_open(alloc, method, params)
+    }
+
+    /// Answers a request about open documents.
+    fn answer_open(
+        &self,
+        alloc: Global,
+        method: &str,
+        params: &Value,
+    ) -> Result<Answer, AllocError> {
+        if method == "workspace/symbol" {
+            let query = text_at(params, "/query").unwrap_or("");
+            return workspace_symbols(alloc, self.client, &self.documents, query);
+        }
+        self.answer_for_document(alloc, method, params)
     }
 
     /// Answers a request that is about a document.
@@ -287,20 +349,77 @@ impl Server {
 /// The message of an allocation failure.
 const OUT_OF_MEMORY: &str = "out of memory";
 
-/// Returns the message that answers a request, also where there was no memory for its answer.
+/// Returns a reply of one message.
+fn reply_of(body: String) -> Reply
+    ensures body { result.body ≡ Some body }
+    ensures exit { result.exit ≡ None }
+{
+    Reply {
+        body: Some(body),
+        exit: None,
+    }
+}
+
+/// Returns the reply that refuses a message that has no id, or none that can be read.
+fn refusal(alloc: Global, code: ErrorCode, reason: &str) -> Result<Reply, AllocError>
+    ensures { IfOk result IsOneMessage }
+{
+    error_reply(alloc, &Value::Null, code, reason)
+}
+
+/// Returns the reply to bytes that cannot be read as JSON, or for which there was no memory.
+fn refuse_unread(alloc: Global, error: &Error) -> Result<Reply, AllocError>
+    ensures { IfOk result IsOneMessage }
+{
+    if error.is_memory() {
+        refusal(alloc, ErrorCode::InternalError, OUT_OF_MEMORY)
+    } else {
+        refusal(alloc, ErrorCode::ParseError, "the message is no JSON")
+    }
+}
+
+/// Returns the response to a request by an error.
+fn error_reply(
+    alloc: Global,
+    id: &Value,
+    code: ErrorCode,
+    reason: &str,
+) -> Result<Reply, AllocError>
+    ensures { IfOk result IsOneMessage }
+{
+    let body = error_response(alloc, id, code, reason)?;
+    Ok(reply_of(body))
+}
+
+/// Returns the response to a request, also where there was no memory for its answer.
 fn respond(
     alloc: Global,
     id: &Value,
     outcome: Result<Answer, AllocError>,
-) -> Result<String, AllocError> {
-    let made = match outcome {
-        Ok(answer) => response(alloc, id, answer),
-        Err(error) => Err(error),
-    };
-    match made {
-        Ok(text) => Ok(text),
-        Err(_) => error_response(alloc, id, ErrorCode::InternalError, OUT_OF_MEMORY),
+) -> Result<Reply, AllocError>
+    ensures { IfOk result IsOneMessage }
+{
+    match outcome {
+        Ok(answer) => respond_by(alloc, id, answer),
+        Err(_) => internal_error(alloc, id),
     }
+}
+
+/// Returns the response to a request by an answer, also where there was no memory for that.
+fn respond_by(alloc: Global, id: &Value, answer: Answer) -> Result<Reply, AllocError>
+    ensures { IfOk result IsOneMessage }
+{
+    match response(alloc, id, answer) {
+        Ok(body) => Ok(reply_of(body)),
+        Err(_) => internal_error(alloc, id),
+    }
+}
+
+/// Returns the response to a request for which there was no memory.
+fn internal_error(alloc: Global, id: &Value) -> Result<Reply, AllocError>
+    ensures { IfOk result IsOneMessage }
+{
+    error_reply(alloc, id, ErrorCode::InternalError, OUT_OF_MEMORY)
 }
 
 /// A request about a document.

@@ -28,11 +28,15 @@ fn step<R: BufRead, W: Write>(
     input: &mut R,
     out: &mut W,
 ) -> io::Result<Option<u8>> {
-    let reply = match read_frame(alloc, input)? {
+    let outcome = match read_frame(alloc, input)? {
         InputFrame::End => return Ok(Some(FAILED)),
         InputFrame::Invalid => server.refuse_frame(alloc),
         InputFrame::TooLarge => server.refuse_body(alloc),
         InputFrame::Body(body) => server.handle(alloc, &body),
+    };
+    // Where there is no memory even for an error, nothing is sent.
+    let Ok(reply) = outcome else {
+        return Ok(None);
     };
     send(alloc, &reply, out)?;
     Ok(reply.exit)
