@@ -1,12 +1,13 @@
--- Sessions: what a server does at a message.
-use Rattle.std.specs.Prelude.{◌≡◌, ◌⊎◌, ℕ, List, Option, Some, None, IsSome, MatchOption, bytes_eq, codes, if◌then◌else◌}
+-- Sessions: the phases, and the replies to messages.
+use Rattle.std.specs.Prelude.{◌≡◌, ◌⊎◌, ℕ, List, Option, Some, None, MatchOption, bytes_eq, codes, if◌then◌else◌}
 use Rattle.meta_requests.specs.declared.messages.Answer.{Answer}
 use Rattle.meta_requests.specs.declared.messages.Answer.TheVariants as answer
 use Rattle.meta_requests.specs.declared.messages.ErrorCode.{ErrorCode}
 use Rattle.meta_requests.specs.declared.messages.ErrorCode.TheVariants.{InvalidRequest, ServerNotInitialized}
+use Rattle.meta_service.specs.Replies.{IsOneMessage}
 use Rattle.meta_service.specs.declared.server.Phase.{Phase}
 use Rattle.meta_service.specs.declared.server.Phase.TheVariants.{New, Running, ShutDown}
-use Rattle.meta_service.specs.declared.server.Reply.{Reply}
+use Rattle.meta_service.specs.declared.replies.Reply.{Reply}
 use Rattle.meta_service.specs.declared.server.Server.{Server}
 
 -- how far a session has come
@@ -22,7 +23,8 @@ after_request ShutDown method = ShutDown
 -- the error with which a request of a method is refused in a phase
 abbrev pub refused_in : Phase → List ℕ → Option ErrorCode
 refused_in New method = if bytes_eq method (codes "initialize") then None else Some ServerNotInitialized
-refused_in Running method = if bytes_eq method (codes "initialize") then Some InvalidRequest else None
+refused_in Running method = if bytes_eq method (codes "shutdown") then None
+    else (if bytes_eq method (codes "initialize") then Some InvalidRequest else None)
 refused_in ShutDown method = Some InvalidRequest
 
 -- an answer is this error
@@ -44,16 +46,11 @@ status_in ShutDown = 0
 abbrev pub exit_at : Phase → List ℕ → Option ℕ
 exit_at phase method = if bytes_eq method (codes "exit") then Some (status_in phase) else None
 
--- a reply of one message, after which the process goes on
-pub record IsOneMessage (reply : Reply) : Type 0 where
-  pub body : IsSome reply.body
-  pub exit : reply.exit ≡ None
-
 -- a request is answered, and changes no document
 pub record AnswersRequest (old new : Server) (method : List ℕ) (reply : Reply) : Type 0 where
   pub phase : phase_of new ≡ after_request (phase_of old) method
   pub documents : new.documents ≡ old.documents
-  pub reply : IsOneMessage reply
+  pub message : IsOneMessage reply
 
 -- a notification is taken
 pub record TakesNotification (old new : Server) (method : List ℕ) (reply : Reply) : Type 0 where
@@ -65,7 +62,7 @@ pub record ChangesNothing (old new : Server) (reply : Reply) : Type 0 where
   pub same : new ≡ old
   pub exit : reply.exit ≡ None
 
--- what a server does at a message: it answers a request, takes a notification, or changes nothing
+-- a message is answered as a request, taken as a notification, or changes nothing
 abbrev pub RepliesTo : Server → Server → Reply → Type 0
 RepliesTo old new reply = ((method : List ℕ) × AnswersRequest old new method reply)
     ⊎ (((method : List ℕ) × TakesNotification old new method reply) ⊎ ChangesNothing old new reply)

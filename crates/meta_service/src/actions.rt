@@ -1,6 +1,6 @@
 //! Code actions: the remedies of findings.
 use crate::diagnostics::diagnostic_value;
-use crate::findings::{Finding, findings_of};
+use crate::findings::{Problem, findings_of};
 use crate::remedies::{Remedy, remedy_of};
 use meta_requests::context::Context;
 use meta_requests::messages::{Answer, ErrorCode};
@@ -44,7 +44,7 @@ fn is_asked_for(params: &Value) -> bool {
 fn push_action(
     alloc: Global,
     context: &Context<'_>,
-    finding: &Finding,
+    finding: &Problem,
     actions: &mut Vec<Value>,
 ) -> Result<(), AllocError> {
     if let Some(remedy) = remedy_of(alloc, context, finding)? {
@@ -57,7 +57,7 @@ fn push_action(
 fn action_value(
     alloc: Global,
     context: &Context<'_>,
-    finding: &Finding,
+    finding: &Problem,
     remedy: &Remedy,
 ) -> Result<Value, AllocError> {
     let edit = remedy_value(alloc, context, remedy)?;

@@ -1,4 +1,4 @@
-//! What a client can do, and what the server can.
+//! The capabilities of clients and of the server.
 use meta_positions::Encoding;
 use meta_requests::context::Client;
 use meta_requests::params::{is_true_at, lists_at};

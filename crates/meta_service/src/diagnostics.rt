@@ -1,5 +1,5 @@
 //! Diagnostics of a document.
-use crate::findings::{Finding, findings_of};
+use crate::findings::{Problem, findings_of};
 use meta_positions::{Encoding, PositionIndex};
 use meta_requests::documents::Document;
 use meta_requests::messages::notification;
@@ -50,7 +50,7 @@ fn publication(
 fn diagnostic_values(
     alloc: Global,
     index: &PositionIndex<'_>,
-    findings: &[Finding],
+    findings: &[Problem],
 ) -> Result<Vec<Value>, AllocError> {
     let mut values = Vec::new(alloc);
     for finding in findings {
@@ -63,7 +63,7 @@ fn diagnostic_values(
 pub fn diagnostic_value(
     alloc: Global,
     index: &PositionIndex<'_>,
-    finding: &Finding,
+    finding: &Problem,
 ) -> Result<Value, AllocError> {
     let extent = Extent {
         start: finding.start,

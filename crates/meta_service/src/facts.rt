@@ -10,7 +10,7 @@ use std::alloc::{AllocError, Global};
 /// The most expressions of a first set that are listed.
 const MOST_FIRST: usize = 20;
 
-/// What is known of a rule.
+/// Facts about a rule.
 #[derive(Drop)]
 pub struct RuleFacts {
     /// Whether it may match without taking a character.

@@ -1,4 +1,4 @@
-//! What is wrong with a grammar's text: the errors with which it is refused, or else its warnings.
+//! The problems of a grammar's text: the errors with which it is refused, or else its warnings.
 use meta_ast::deep::Deep;
 use meta_ast::optimized::release;
 use meta_base::grammar::Rule;
@@ -11,7 +11,7 @@ use std::alloc::{AllocError, Global};
 
 /// The class of a finding.
 #[derive(Clone, Copy, Debug, PartialEq, Eq)]
-pub enum FindingClass {
+pub enum ProblemClass {
     /// The text is no grammar.
     Syntax,
     /// The grammar is refused.
@@ -24,22 +24,22 @@ pub enum FindingClass {
     ReversedRange,
 }
 
-impl FindingClass {
+impl ProblemClass {
     /// Returns its code.
     pub fn code(self) -> &'static str {
         match self {
-            FindingClass::Syntax => "pest::syntax",
-            FindingClass::Refused => "pest::refused",
-            FindingClass::UncalledRule => "pest::uncalled_rule",
-            FindingClass::Unreachable => "pest::unreachable",
-            FindingClass::ReversedRange => "pest::reversed_range",
+            ProblemClass::Syntax => "pest::syntax",
+            ProblemClass::Refused => "pest::refused",
+            ProblemClass::UncalledRule => "pest::uncalled_rule",
+            ProblemClass::Unreachable => "pest::unreachable",
+            ProblemClass::ReversedRange => "pest::reversed_range",
         }
     }
 
     /// Whether a text with such a finding is refused.
     pub fn is_error(self) -> bool {
         match self {
-            FindingClass::Syntax | FindingClass::Refused => true,
+            ProblemClass::Syntax | ProblemClass::Refused => true,
             _ => false,
         }
     }
@@ -47,11 +47,11 @@ impl FindingClass {
     /// Returns the message of a warning.
     fn message(self) -> &'static str {
         match self {
-            FindingClass::UncalledRule => "no other rule calls this one",
-            FindingClass::Unreachable => {
+            ProblemClass::UncalledRule => "no other rule calls this one",
+            ProblemClass::Unreachable => {
                 "this alternative is never taken: a literal before it begins all that it matches"
             }
-            FindingClass::ReversedRange => {
+            ProblemClass::ReversedRange => {
                 "this range matches nothing: its first character is above its last"
             }
             _ => "",
@@ -61,8 +61,8 @@ impl FindingClass {
 
 /// A finding: its class, its bytes in the text, and its message.
 #[derive(Drop)]
-pub struct Finding {
-    pub class: FindingClass,
+pub struct Problem {
+    pub class: ProblemClass,
     pub start: usize,
     pub end: usize,
     pub message: String,
@@ -70,7 +70,7 @@ pub struct Finding {
 
 /// Returns the errors with which `parse_and_optimize` refuses a text, in their order, or else its warnings.
 /// The only error is an allocation failure.
-pub fn findings_of(alloc: Global, text: &str) -> Result<Vec<Finding>, AllocError> {
+pub fn findings_of(alloc: Global, text: &str) -> Result<Vec<Problem>, AllocError> {
     match parse_and_optimize(alloc, text) {
         Ok((_, rules)) => {
             release(rules);
@@ -86,7 +86,7 @@ fn errors_of(
     alloc: Global,
     text: &str,
     errors: &[Error<Rule>],
-) -> Result<Vec<Finding>, AllocError> {
+) -> Result<Vec<Problem>, AllocError> {
     let mut findings = Vec::new(alloc);
     for error in errors {
         findings.push(error_finding(alloc, text, error)?)?;
@@ -95,20 +95,20 @@ fn errors_of(
 }
 
 /// Returns an error as a finding.
-fn error_finding(alloc: Global, text: &str, error: &Error<Rule>) -> Result<Finding, AllocError> {
+fn error_finding(alloc: Global, text: &str, error: &Error<Rule>) -> Result<Problem, AllocError> {
     let (start, end) = match error.location {
         InputLocation::Pos(offset) => (offset, offset),
         InputLocation::Span(span) => span,
     };
     match &error.variant {
-        ErrorVariant::ParsingError => Ok(Finding {
-            class: FindingClass::Syntax,
+        ErrorVariant::ParsingError => Ok(Problem {
+            class: ProblemClass::Syntax,
             start,
             end,
             message: syntax_message(alloc, text, start)?,
         }),
-        ErrorVariant::CustomError { message } => Ok(Finding {
-            class: FindingClass::Refused,
+        ErrorVariant::CustomError { message } => Ok(Problem {
+            class: ProblemClass::Refused,
             start,
             end,
             message: message.clone()?,
@@ -140,7 +140,7 @@ fn push_found(text: &str, offset: usize, message: &mut String) -> Result<(), All
 }
 
 /// Returns the warnings of an accepted text.
-fn warnings_of(alloc: Global, text: &str) -> Result<Vec<Finding>, AllocError> {
+fn warnings_of(alloc: Global, text: &str) -> Result<Vec<Problem>, AllocError> {
     match warnings_in(alloc, text) {
         Ok(findings) => Ok(findings),
         Err(Fault::Grammar(_)) => Ok(Vec::new(alloc)),
@@ -149,7 +149,7 @@ fn warnings_of(alloc: Global, text: &str) -> Result<Vec<Finding>, AllocError> {
 }
 
 /// Returns the warnings of a text, or the errors with which it is refused.
-fn warnings_in(alloc: Global, text: &str) -> Result<Vec<Finding>, Fault> {
+fn warnings_in(alloc: Global, text: &str) -> Result<Vec<Problem>, Fault> {
     let pairs = parse(alloc, Rule::grammar_rules, text)?;
     let rules = consume_rules_with_spans(alloc, pairs)?;
     let rules = Deep { value: rules };
@@ -157,27 +157,27 @@ fn warnings_in(alloc: Global, text: &str) -> Result<Vec<Finding>, Fault> {
 }
 
 /// Returns the warnings of rules.
-fn warnings_for(alloc: Global, rules: &[ParserRule<'_>]) -> Result<Vec<Finding>, AllocError> {
+fn warnings_for(alloc: Global, rules: &[ParserRule<'_>]) -> Result<Vec<Problem>, AllocError> {
     let mut findings = Vec::new(alloc);
     let spans = uncalled_rules(alloc, rules)?;
-    push_all(alloc, FindingClass::UncalledRule, &spans, &mut findings)?;
+    push_all(alloc, ProblemClass::UncalledRule, &spans, &mut findings)?;
     let spans = unreachable_alternatives(alloc, rules)?;
-    push_all(alloc, FindingClass::Unreachable, &spans, &mut findings)?;
+    push_all(alloc, ProblemClass::Unreachable, &spans, &mut findings)?;
     let spans = reversed_ranges(alloc, rules)?;
-    push_all(alloc, FindingClass::ReversedRange, &spans, &mut findings)?;
+    push_all(alloc, ProblemClass::ReversedRange, &spans, &mut findings)?;
     Ok(findings)
 }
 
 /// Adds a warning at each of these spans.
 fn push_all(
     alloc: Global,
-    class: FindingClass,
+    class: ProblemClass,
     spans: &[Span<'_>],
-    findings: &mut Vec<Finding>,
+    findings: &mut Vec<Problem>,
 ) -> Result<(), AllocError> {
     for span in spans {
         let message = String::from_str(alloc, class.message())?;
-        findings.push(Finding {
+        findings.push(Problem {
             class,
             start: span.start(),
             end: span.end(),

@@ -9,6 +9,9 @@ mod findings;
 mod formatting;
 mod hovers;
 mod remedies;
+mod replies;
+mod requests;
 mod server;
 
-pub use server::{Reply, Server};
+pub use replies::Reply;
+pub use server::Server;

@@ -1,5 +1,5 @@
 //! Remedies of findings, where one is certain.
-use crate::findings::{Finding, FindingClass};
+use crate::findings::{Problem, ProblemClass};
 use meta_base::grammar::Rule;
 use meta_base::runtime::{Error, Fault, InputLocation};
 use meta_requests::context::Context;
@@ -19,13 +19,13 @@ pub struct Remedy {
 pub fn remedy_of(
     alloc: Global,
     context: &Context<'_>,
-    finding: &Finding,
+    finding: &Problem,
 ) -> Result<Option<Remedy>, AllocError> {
     match finding.class {
-        FindingClass::Syntax => syntax_remedy(alloc, context, finding.start),
-        FindingClass::Refused => definition_remedy(alloc, context, finding),
-        FindingClass::Unreachable => removal_of(alloc, context, finding),
-        FindingClass::UncalledRule | FindingClass::ReversedRange => Ok(None),
+        ProblemClass::Syntax => syntax_remedy(alloc, context, finding.start),
+        ProblemClass::Refused => definition_remedy(alloc, context, finding),
+        ProblemClass::Unreachable => removal_of(alloc, context, finding),
+        ProblemClass::UncalledRule | ProblemClass::ReversedRange => Ok(None),
     }
 }
 
@@ -123,7 +123,7 @@ fn is_after(errors: &[Error<Rule>], offset: usize) -> bool {
 fn definition_remedy(
     alloc: Global,
     context: &Context<'_>,
-    finding: &Finding,
+    finding: &Problem,
 ) -> Result<Option<Remedy>, AllocError> {
     if !finding.message.as_str().ends_with(" is undefined") {
         return Ok(None);
@@ -140,11 +140,11 @@ fn definition_remedy(
     }))
 }
 
-/// Returns the remedy of an alternative that is never taken: it is removed with the `|` before it.
+/// Returns the remedy of an alternative that is never taken, its removal with the `|` before it.
 fn removal_of(
     alloc: Global,
     context: &Context<'_>,
-    finding: &Finding,
+    finding: &Problem,
 ) -> Result<Option<Remedy>, AllocError> {
     let Some(bar) = bar_before(&context.tokens, finding.start) else {
         return Ok(None);

@@ -1,24 +1,19 @@
-//! A server: its state, and what it answers.
-ghost use Rattle.std.specs.Prelude.{◌≡◌, IfOk, None, Some};
-ghost use Rattle.meta_service.specs.Sessions.{AnswersIn, AnswersRequest, IsOneMessage, RepliesTo, TakesNotification, after_request, phase_of, status_in};
+//! A server: its state, and its replies.
+ghost use Rattle.std.specs.Prelude.{◌≡◌, IfOk, bytes_eq, codes};
+ghost use Rattle.meta_service.specs.Replies.{IsOneMessage};
+ghost use Rattle.meta_service.specs.Sessions.{AnswersIn, AnswersRequest, RepliesTo, TakesNotification, after_request, exit_at, phase_of, status_in};
 
-use crate::actions::code_actions;
 use crate::capabilities::{client_of, initialize_result};
 use crate::diagnostics::{publish, publish_none};
-use crate::formatting::{format_document, format_range};
-use crate::hovers::hover;
+use crate::replies::{OUT_OF_MEMORY, Reply, refusal, refuse_unread, respond};
+use crate::requests::{answer_in, request_of};
 use meta_positions::apply_changes;
-use meta_requests::completions::completions;
 use meta_requests::context::{Client, Context};
 use meta_requests::documents::{Document, Documents};
-use meta_requests::messages::{Answer, ErrorCode, Incoming, classify, error_response, response};
-use meta_requests::names::{definition, highlights, prepare_rename, references, rename_rule};
+use meta_requests::messages::{Answer, ErrorCode, Incoming, classify};
 use meta_requests::params::{changes_of, text_at};
-use meta_requests::semantic::semantic_tokens;
-use meta_requests::structure::{
-    document_symbols, folding_ranges, selection_ranges, workspace_symbols,
-};
-use serde_json::{Error, Value};
+use meta_requests::structure::workspace_symbols;
+use serde_json::Value;
 use std::alloc::{AllocError, Global};
 
 /// How far a session has come.
@@ -37,15 +32,6 @@ pub struct Server {
     phase: Phase,
     client: Client,
     documents: Documents,
-}
-
-/// What a server answers to a message.
-#[derive(Drop)]
-pub struct Reply {
-    /// The message to be sent, if there is one.
-    pub body: Option<String>,
-    /// The status with which the process is to end, if it is to.
-    pub exit: Option<u8>,
 }
 
 impl Server {
@@ -99,7 +85,9 @@ impl Server {
                 ErrorCode::InvalidRequest,
                 "the message is no request",
             ),
-            Incoming::Notification { method } => self.handle_notification(alloc, method, message),
+            Incoming::Notification { method } => {
+                Ok(self.handle_notification(alloc, method, message))
+            }
             Incoming::Request { id, method } => self.handle_request(alloc, id, method, message),
         }
     }
@@ -121,26 +109,25 @@ impl Server {
     }
 
     /// Takes a notification. A failure has no answer.
-    fn handle_notification(
-        &mut self,
-        alloc: Global,
-        method: &str,
-        message: &Value,
-    ) -> Result<Reply, AllocError>
-        ensures { IfOk result (TakesNotification self.old self.new method.now) }
+    fn handle_notification(&mut self, alloc: Global, method: &str, message: &Value) -> Reply
+        ensures { TakesNotification self.old self.new method.now result }
     {
-        if method == "exit" {
-            return Ok(Reply {
-                body: None,
-                exit: Some(self.exit_status()),
-            });
-        }
         let null = Value::Null;
         let params = message.get("params").unwrap_or(&null);
-        Ok(Reply {
-            body: self.take_notification(alloc, method, params),
-            exit: None,
-        })
+        let exit = self.exit_for(method);
+        let body = self.take_notification(alloc, method, params);
+        Reply { body, exit }
+    }
+
+    /// Returns the status with which the process is to end at a notification of this method, if it is to.
+    fn exit_for(&self, method: &str) -> Option<u8>
+        ensures { result ≡ exit_at (phase_of self.now) method.now }
+    {
+        if is_exit(method) {
+            Some(self.exit_status())
+        } else {
+            None
+        }
     }
 
     /// Returns the status with which the process is to end at `exit`: 0 after `shutdown`, else 1.
@@ -153,7 +140,7 @@ impl Server {
         }
     }
 
-    /// Takes a notification other than `exit`, if the session runs. Returns the notification of diagnostics
+    /// Takes a notification, if the session runs. Returns the notification of diagnostics
     /// that it gives rise to.
     fn take_notification(&mut self, alloc: Global, method: &str, params: &Value) -> Option<String>
         ensures { phase_of self.new ≡ phase_of self.old }
@@ -284,12 +271,12 @@ impl Server {
         ensures documents { self.new.documents ≡ self.old.documents }
         ensures answer { IfOk result (AnswersIn Phase.New method.now) }
     {
-        if method != "initialize" {
+        if !is_initialize(method) {
             return Ok(Answer::Error(ErrorCode::ServerNotInitialized, "`initialize` has not come"));
         }
         self.client = client_of(params);
         self.phase = Phase::Running;
-        Ok(Answer::Result(initialize_result(alloc, self.client)?))
+        initialize_answer(alloc, self.client)
     }
 
     /// Answers a request after `initialize`.
@@ -304,12 +291,12 @@ impl Server {
         ensures documents { self.new.documents ≡ self.old.documents }
         ensures answer { IfOk result (AnswersIn Phase.Running method.now) }
     {
-        if method == "initialize" {
-            return Ok(Answer::Error(ErrorCode::InvalidRequest, "`initialize` has come before"));
-        }
-        if method == "shutdown" {
+        if is_shutdown(method) {
             self.phase = Phase::ShutDown;
             return Ok(Answer::Result(Value::Null));
+        }
+        if is_initialize(method) {
+            return Ok(Answer::Error(ErrorCode::InvalidRequest, "`initialize` has come before"));
         }
         self.answer_open(alloc, method, params)
     }
@@ -346,144 +333,28 @@ impl Server {
     }
 }
 
-/// The message of an allocation failure.
-const OUT_OF_MEMORY: &str = "out of memory";
-
-/// Returns a reply of one message.
-fn reply_of(body: String) -> Reply
-    ensures body { result.body ≡ Some body }
-    ensures exit { result.exit ≡ None }
+/// Whether a method is `initialize`.
+fn is_initialize(method: &str) -> bool
+    ensures { result ≡ bytes_eq method.now (codes "initialize") }
 {
-    Reply {
-        body: Some(body),
-        exit: None,
-    }
+    method == "initialize"
 }
 
-/// Returns the reply that refuses a message that has no id, or none that can be read.
-fn refusal(alloc: Global, code: ErrorCode, reason: &str) -> Result<Reply, AllocError>
-    ensures { IfOk result IsOneMessage }
+/// Whether a method is `shutdown`.
+fn is_shutdown(method: &str) -> bool
+    ensures { result ≡ bytes_eq method.now (codes "shutdown") }
 {
-    error_reply(alloc, &Value::Null, code, reason)
+    method == "shutdown"
 }
 
-/// Returns the reply to bytes that cannot be read as JSON, or for which there was no memory.
-fn refuse_unread(alloc: Global, error: &Error) -> Result<Reply, AllocError>
-    ensures { IfOk result IsOneMessage }
+/// Whether a method is `exit`.
+fn is_exit(method: &str) -> bool
+    ensures { result ≡ bytes_eq method.now (codes "exit") }
 {
-    if error.is_memory() {
-        refusal(alloc, ErrorCode::InternalError, OUT_OF_MEMORY)
-    } else {
-        refusal(alloc, ErrorCode::ParseError, "the message is no JSON")
-    }
+    method == "exit"
 }
 
-/// Returns the response to a request by an error.
-fn error_reply(
-    alloc: Global,
-    id: &Value,
-    code: ErrorCode,
-    reason: &str,
-) -> Result<Reply, AllocError>
-    ensures { IfOk result IsOneMessage }
-{
-    let body = error_response(alloc, id, code, reason)?;
-    Ok(reply_of(body))
-}
-
-/// Returns the response to a request, also where there was no memory for its answer.
-fn respond(
-    alloc: Global,
-    id: &Value,
-    outcome: Result<Answer, AllocError>,
-) -> Result<Reply, AllocError>
-    ensures { IfOk result IsOneMessage }
-{
-    match outcome {
-        Ok(answer) => respond_by(alloc, id, answer),
-        Err(_) => internal_error(alloc, id),
-    }
-}
-
-/// Returns the response to a request by an answer, also where there was no memory for that.
-fn respond_by(alloc: Global, id: &Value, answer: Answer) -> Result<Reply, AllocError>
-    ensures { IfOk result IsOneMessage }
-{
-    match response(alloc, id, answer) {
-        Ok(body) => Ok(reply_of(body)),
-        Err(_) => internal_error(alloc, id),
-    }
-}
-
-/// Returns the response to a request for which there was no memory.
-fn internal_error(alloc: Global, id: &Value) -> Result<Reply, AllocError>
-    ensures { IfOk result IsOneMessage }
-{
-    error_reply(alloc, id, ErrorCode::InternalError, OUT_OF_MEMORY)
-}
-
-/// A request about a document.
-#[derive(Clone, Copy, Debug, PartialEq, Eq)]
-enum RequestMethod {
-    DocumentSymbol,
-    FoldingRange,
-    SelectionRange,
-    Definition,
-    References,
-    DocumentHighlight,
-    PrepareRename,
-    Rename,
-    Hover,
-    Completion,
-    Formatting,
-    RangeFormatting,
-    CodeAction,
-    SemanticTokens,
-}
-
-/// Returns the request of a method.
-fn request_of(method: &str) -> Option<RequestMethod> {
-    let request = match method {
-        "textDocument/documentSymbol" => RequestMethod::DocumentSymbol,
-        "textDocument/foldingRange" => RequestMethod::FoldingRange,
-        "textDocument/selectionRange" => RequestMethod::SelectionRange,
-        "textDocument/definition" => RequestMethod::Definition,
-        "textDocument/references" => RequestMethod::References,
-        "textDocument/documentHighlight" => RequestMethod::DocumentHighlight,
-        "textDocument/prepareRename" => RequestMethod::PrepareRename,
-        "textDocument/rename" => RequestMethod::Rename,
-        "textDocument/hover" => RequestMethod::Hover,
-        "textDocument/completion" => RequestMethod::Completion,
-        "textDocument/formatting" => RequestMethod::Formatting,
-        "textDocument/rangeFormatting" => RequestMethod::RangeFormatting,
-        "textDocument/codeAction" => RequestMethod::CodeAction,
-        "textDocument/semanticTokens/full" => RequestMethod::SemanticTokens,
-        _ => return None,
-    };
-    Some(request)
-}
-
-/// Answers a request about a document.
-fn answer_in(
-    alloc: Global,
-    context: &Context<'_>,
-    request: RequestMethod,
-    params: &Value,
-) -> Result<Answer, AllocError> {
-    match request {
-        RequestMethod::DocumentSymbol => document_symbols(alloc, context),
-        RequestMethod::FoldingRange => folding_ranges(alloc, context),
-        RequestMethod::SelectionRange => selection_ranges(alloc, context, params),
-        RequestMethod::Definition => definition(alloc, context, params),
-        RequestMethod::References => references(alloc, context, params),
-        RequestMethod::DocumentHighlight => highlights(alloc, context, params),
-        RequestMethod::PrepareRename => prepare_rename(alloc, context, params),
-        RequestMethod::Rename => rename_rule(alloc, context, params),
-        RequestMethod::Hover => hover(alloc, context, params),
-        RequestMethod::Completion => completions(alloc, context),
-        RequestMethod::Formatting => format_document(alloc, context),
-        RequestMethod::RangeFormatting => format_range(alloc, context, params),
-        RequestMethod::CodeAction => code_actions(alloc, context, params),
-        RequestMethod::SemanticTokens => semantic_tokens(alloc, context),
-    }
+/// Returns the answer to `initialize`.
+fn initialize_answer(alloc: Global, client: Client) -> Result<Answer, AllocError> {
+    Ok(Answer::Result(initialize_result(alloc, client)?))
 }

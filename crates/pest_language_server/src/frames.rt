@@ -22,7 +22,7 @@ pub enum InputFrame {
     End,
 }
 
-/// Returns the length that a line of a head says. What is before the name is passed over: a body whose
+/// Returns the length that a line of a head says. Bytes before the name are passed over: a body whose
 /// length was wrong, or the rest of one, has no line break at its end, so the next head's first line is
 /// joined to it.
 fn content_length(line: &[u8]) -> Option<u64> {
