@@ -1,0 +1,96 @@
+//! The capabilities of clients and of the server.
+use meta_positions::Encoding;
+use meta_requests::context::Client;
+use meta_requests::params::{is_true_at, lists_at};
+use meta_requests::semantic::{modifiers, types};
+use serde_json::{Value, json};
+use std::alloc::{AllocError, Global};
+
+/// Returns what a client can do, by the parameters of `initialize`.
+pub fn client_of(params: &Value) -> Client {
+    Client {
+        encoding: encoding_of(params),
+        has_snippets: is_true_at(
+            params,
+            "/capabilities/textDocument/completion/completionItem/snippetSupport",
+        ),
+        has_markdown: lists_at(
+            params,
+            "/capabilities/textDocument/hover/contentFormat",
+            "markdown",
+        ),
+        has_nested_symbols: is_true_at(
+            params,
+            "/capabilities/textDocument/documentSymbol/hierarchicalDocumentSymbolSupport",
+        ),
+    }
+}
+
+/// Returns the encoding of positions: UTF-8 where the client offers it.
+fn encoding_of(params: &Value) -> Encoding {
+    if lists_at(params, "/capabilities/general/positionEncodings", "utf-8") {
+        Encoding::Utf8
+    } else {
+        Encoding::Utf16
+    }
+}
+
+/// Returns the answer to `initialize`.
+pub fn initialize_result(alloc: Global, client: Client) -> Result<Value, AllocError> {
+    let encoding = match client.encoding {
+        Encoding::Utf8 => "utf-8",
+        Encoding::Utf16 => "utf-16",
+    };
+    let capabilities = capabilities(alloc, encoding)?;
+    json!(in alloc; {
+        "capabilities": capabilities,
+        "serverInfo": { "name": "pest-language-server", "version": "0.4.0" },
+    })
+}
+
+/// Returns what the server can do.
+fn capabilities(alloc: Global, encoding: &str) -> Result<Value, AllocError> {
+    let tokens = tokens_capability(alloc)?;
+    let synchronization = json!(in alloc; {
+        "openClose": true,
+        "change": 2u64,
+        "save": true,
+    })?;
+    json!(in alloc; {
+        "positionEncoding": encoding,
+        "textDocumentSync": synchronization,
+        "documentSymbolProvider": true,
+        "workspaceSymbolProvider": true,
+        "foldingRangeProvider": true,
+        "selectionRangeProvider": true,
+        "definitionProvider": true,
+        "referencesProvider": true,
+        "documentHighlightProvider": true,
+        "renameProvider": { "prepareProvider": true },
+        "hoverProvider": true,
+        "completionProvider": { "resolveProvider": false },
+        "documentFormattingProvider": true,
+        "documentRangeFormattingProvider": true,
+        "codeActionProvider": { "codeActionKinds": ["quickfix"] },
+        "semanticTokensProvider": tokens,
+    })
+}
+
+/// Returns the legend of semantic tokens.
+fn tokens_capability(alloc: Global) -> Result<Value, AllocError> {
+    let type_names = texts_value(alloc, types())?;
+    let modifier_names = texts_value(alloc, modifiers())?;
+    json!(in alloc; {
+        "legend": { "tokenTypes": type_names, "tokenModifiers": modifier_names },
+        "full": true,
+    })
+}
+
+/// Returns texts as a value.
+fn texts_value(alloc: Global, texts: &[&str]) -> Result<Value, AllocError> {
+    let mut values = Vec::new(alloc);
+    for text in texts {
+        values.push(Value::try_from_str(alloc, text)?)?;
+    }
+    Ok(Value::Array(values))
+}

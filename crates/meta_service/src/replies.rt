@@ -1,0 +1,91 @@
+//! Replies: the messages that answer others.
+ghost use Rattle.std.specs.Prelude.{IfOk};
+ghost use Rattle.meta_service.specs.Replies.{IsOneMessage};
+
+use meta_requests::messages::{Answer, ErrorCode, error_response, response};
+use serde_json::{Error, Value};
+use std::alloc::{AllocError, Global};
+
+/// The reply of a server to a message.
+#[derive(Drop)]
+pub struct Reply {
+    /// The message to be sent, if there is one.
+    pub body: Option<String>,
+    /// The status with which the process is to end, if it is to.
+    pub exit: Option<u8>,
+}
+
+/// The message of an allocation failure.
+pub(crate) const OUT_OF_MEMORY: &str = "out of memory";
+
+/// Returns a reply of one message.
+fn reply_of(body: String) -> Reply
+    ensures { IsOneMessage result }
+{
+    Reply {
+        body: Some(body),
+        exit: None,
+    }
+}
+
+/// Returns the reply that refuses a message that has no id, or none that can be read.
+pub(crate) fn refusal(alloc: Global, code: ErrorCode, reason: &str) -> Result<Reply, AllocError>
+    ensures { IfOk result IsOneMessage }
+{
+    error_reply(alloc, &Value::Null, code, reason)
+}
+
+/// Returns the reply to bytes that cannot be read as JSON, or for which there was no memory.
+pub(crate) fn refuse_unread(alloc: Global, error: &Error) -> Result<Reply, AllocError>
+    ensures { IfOk result IsOneMessage }
+{
+    if error.is_memory() {
+        refusal(alloc, ErrorCode::InternalError, OUT_OF_MEMORY)
+    } else {
+        refusal(alloc, ErrorCode::ParseError, "the message is no JSON")
+    }
+}
+
+/// Returns the response to a request by an error.
+fn error_reply(
+    alloc: Global,
+    id: &Value,
+    code: ErrorCode,
+    reason: &str,
+) -> Result<Reply, AllocError>
+    ensures { IfOk result IsOneMessage }
+{
+    let body = error_response(alloc, id, code, reason)?;
+    Ok(reply_of(body))
+}
+
+/// Returns the response to a request, also where there was no memory for its answer.
+pub(crate) fn respond(
+    alloc: Global,
+    id: &Value,
+    outcome: Result<Answer, AllocError>,
+) -> Result<Reply, AllocError>
+    ensures { IfOk result IsOneMessage }
+{
+    match outcome {
+        Ok(answer) => respond_by(alloc, id, answer),
+        Err(_) => internal_error(alloc, id),
+    }
+}
+
+/// Returns the response to a request by an answer, also where there was no memory for that.
+fn respond_by(alloc: Global, id: &Value, answer: Answer) -> Result<Reply, AllocError>
+    ensures { IfOk result IsOneMessage }
+{
+    match response(alloc, id, answer) {
+        Ok(body) => Ok(reply_of(body)),
+        Err(_) => internal_error(alloc, id),
+    }
+}
+
+/// Returns the response to a request for which there was no memory.
+fn internal_error(alloc: Global, id: &Value) -> Result<Reply, AllocError>
+    ensures { IfOk result IsOneMessage }
+{
+    error_reply(alloc, id, ErrorCode::InternalError, OUT_OF_MEMORY)
+}
