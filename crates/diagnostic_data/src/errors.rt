@@ -124,6 +124,7 @@ fn help_for(
         Code::ZeroRepetition => say(alloc, "what takes nothing is written `\"\"`"),
         Code::UnreachableChoice => say(alloc, "put the alternative that cannot fail last"),
         Code::ReservedName => say(alloc, "take another name: pest has a meaning for this one"),
+        Code::TagWithoutToken => say(alloc, "tag a rule that is not silent, or take the tag away"),
         _ => Ok(None),
     }
 }

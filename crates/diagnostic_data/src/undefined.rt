@@ -93,10 +93,26 @@ impl<'t> Definitions<'t> {
         if let Some(nearest) = nearest_name(alloc, name, &BUILTINS)? {
             return did_you_mean(alloc, nearest, start, end);
         }
+        if let Some(builtin) = builtin_of(name) {
+            return did_you_mean(alloc, builtin, start, end);
+        }
         match nearest_name(alloc, name, unicode_property_names())? {
             Some(nearest) => did_you_mean(alloc, nearest, start, end),
             None => Ok(None),
         }
+    }
+}
+
+/// The builtin that other notations call by a name.
+fn builtin_of(name: &str) -> Option<&'static str> {
+    match name {
+        "digit" | "Digit" | "DIGIT" => Some("ASCII_DIGIT"),
+        "alpha" | "ALPHA" => Some("ASCII_ALPHA"),
+        "alnum" | "ALNUM" | "alphanumeric" => Some("ASCII_ALPHANUMERIC"),
+        "xdigit" | "HEXDIG" => Some("ASCII_HEX_DIGIT"),
+        "nl" | "NL" | "eol" | "EOL" | "CRLF" => Some("NEWLINE"),
+        "eof" => Some("EOI"),
+        _ => None,
     }
 }
 

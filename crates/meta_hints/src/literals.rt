@@ -76,6 +76,9 @@ pub(crate) fn in_character(
     if site.position == first && site.byte(first) == b'\\' {
         return escape_help(alloc, site.byte(first.saturating_add(1)));
     }
+    if is_sign(site.next_lexeme(1), b'.') || is_sign(site.previous_lexeme(1), b'.') {
+        return Help::say(alloc, "a bound of a range is one character");
+    }
     double_quotes(alloc, site, here, "a string is in double quotes")
 }
 
@@ -110,6 +113,9 @@ pub(crate) fn at_character(
             alloc,
             "a string is in double quotes, a bound of a range in single ones",
         );
+    }
+    if is_sign(site.previous_lexeme(1), b'^') {
+        return double_quotes(alloc, site, here, "a string is in double quotes");
     }
     crate::terms::at_term(alloc, site)
 }

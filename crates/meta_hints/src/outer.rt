@@ -31,6 +31,11 @@ fn at_outer_sign(
         b'-' if is_adjacent(here, site.next_lexeme(1), b'-') => line_comment(alloc, site, here, 2),
         b';' => remove(alloc, "a rule ends with its brace, without `;`", here, here),
         b',' => remove(alloc, "rules follow each other without a comma", here, here),
+        b'|' | b'~' => Help::say(
+            alloc,
+            "alternatives and sequences are in one body: `a = { b | c }`",
+        ),
+        b'=' if site.index == 0 => Help::say(alloc, "a rule begins with its name: `name = { .. }`"),
         b':' | b'-' | b'<' | b'=' | b'>' => assignment(alloc, site, here),
         b'{' if site.previous_lexeme(1).class == LexemeClass::Name => missing_equals(alloc, site),
         b'@' | b'$' | b'!' => outer_modifier(alloc, site),
@@ -198,6 +203,9 @@ fn at_outer_name(alloc: Global, site: &Site<'_>, here: Lexeme) -> Result<Option<
     }
     if site.text_of(here).starts_with("PUSH") {
         return Help::say(alloc, "no name begins with `PUSH`");
+    }
+    if site.previous_lexeme(1).class == LexemeClass::Name {
+        return Help::say(alloc, "a rule begins with its name alone: `name = { .. }`");
     }
     Ok(None)
 }

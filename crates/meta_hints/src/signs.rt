@@ -32,7 +32,8 @@ pub(crate) fn at_sign(
         ),
         b'{' => at_brace(alloc, site),
         b'@' | b'$' => at_modifier(alloc, site, here, byte),
-        b'/' => swap(alloc, site, here, "alternatives are separated by `|`", "|"),
+        b'/' => at_slash(alloc, site, here),
+        b':' => at_colon(alloc, site, here),
         b',' => at_comma(alloc, site, here),
         b';' => at_semicolon(alloc, site, here),
         b'-' => at_dash(alloc, site, here),
@@ -73,6 +74,28 @@ fn at_equals(alloc: Global, site: &Site<'_>) -> Result<Option<Help>, AllocError>
 fn at_double_and(alloc: Global, first: Lexeme, last: Lexeme) -> Result<Option<Help>, AllocError> {
     let message = "a sequence is written with `~`";
     Ok(Some(Help::replace(alloc, message, first.start, last.end, "~")?))
+}
+
+/// A help for a slash: between alternatives, or around a regular expression.
+fn at_slash(alloc: Global, site: &Site<'_>, here: Lexeme) -> Result<Option<Help>, AllocError> {
+    if ends_term(site.previous_lexeme(1)) {
+        return swap(alloc, site, here, "alternatives are separated by `|`", "|");
+    }
+    Help::say(
+        alloc,
+        "there are no regular expressions: write strings, ranges, `|`, `~`, `*`, `+` and `?`",
+    )
+}
+
+/// A help for a colon after a name, as of a label.
+fn at_colon(alloc: Global, site: &Site<'_>, here: Lexeme) -> Result<Option<Help>, AllocError> {
+    let name = site.previous_lexeme(1);
+    let message = "a tag is written `#name = e`";
+    if name.class != LexemeClass::Name || !starts_term(site.next_lexeme(1)) {
+        return Ok(None);
+    }
+    let text = format!(in alloc; "#{} = ", site.text_of(name))?;
+    Ok(Some(Help::replace(alloc, message, name.start, here.end, text.as_str())?))
 }
 
 /// A help for a comma, which is nothing but a part of a count.

@@ -6,7 +6,11 @@ use Rattle.std.specs.List.{AllZip, list_any}
 use Rattle.std.specs.Io.KnownBytes.{Appends}
 use Rattle.diagnostic_data.specs.Reports.{is_error}
 use Rattle.diagnostic_data.specs.declared.diagnostic.Diagnostic.{Diagnostic}
-use Rattle.pest_lint.specs.Shows.{counts, status_of}
+use Rattle.lint_output.specs.declared.Style.{Style}
+use Rattle.meta_base.specs.Language.Text.{Text}
+use Rattle.meta_diagnostics.specs.Diagnosis.{IsDiagnosis}
+use Rattle.pest_lint.specs.Shows.{ArePrinted, Gains, IsReadable, ShowsText, counts, read, status_of, unread}
+use Rattle.pest_lint.specs.declared.lint.Source.{Source}
 
 -- two gains in turn, and none
 pub both_gains : (a b c : Option (List ℕ)) (xs ys : List ℕ) → Appends a b xs → Appends b c ys → Appends a c (xs ++ ys)
@@ -64,3 +68,17 @@ no_errors deny ds h = none_counts deny ds (zero_none (list_any (counts deny) ds)
 pub known_status : (b : Bool) → ((if b then 1 else 0) ≡ 0) ⊎ ((if b then 1 else 0) ≡ 1)
 known_status true = inr refl
 known_status false = inl refl
+
+-- a file's text is shown, and of one that can't be read nothing
+pub shown_text : (starts : List Text) (deny : Bool) (style : Style) (source : Source) (text : List ℕ) (status : ℕ) (old new : Option (List ℕ)) → IsReadable source → text ≡ source.bytes.items
+    → (bytes : List ℕ) × ShowsText starts deny style text bytes status × Appends old new bytes → Gains starts deny style source status old new
+shown_text starts deny style source text status old new readable same h =
+    (h.0, read h.0 status readable (subst (λ t. ShowsText starts deny style t h.0 status) same h.1), h.2)
+
+pub shown_unread : (starts : List Text) (deny : Bool) (style : Style) (source : Source) (old : Option (List ℕ)) → (IsReadable source → ⊥) → Gains starts deny style source 3 old old
+shown_unread starts deny style source old no = ([], unread no, no_gain old)
+
+-- the diagnostics of a text are printed, all of them
+pub text_shown : (starts : List Text) (deny : Bool) (style : Style) (text : List ℕ) (ds : List Diagnostic) (status : ℕ) (old new : Option (List ℕ)) → IsDiagnosis starts text ds → status ≡ status_of deny ds
+    → (bytes : List ℕ) × ArePrinted style ds bytes × Appends old new bytes → (bytes : List ℕ) × ShowsText starts deny style text bytes status × Appends old new bytes
+text_shown starts deny style text ds status old new d whole h = (h.0, record { diagnostics = ds; diagnosis = d; printed = h.1; whole = whole }, h.2)

@@ -1,4 +1,7 @@
 //! The command line.
+ghost use Rattle.std.specs.Prelude.{◌≡◌, None, Some, codes, false, true};
+ghost use Rattle.clap.specs.Matches.{first_value, found_of, one_text};
+
 use clap::{Arg, ArgAction, ArgMatches, Command};
 use lint_output::Style;
 use meta_diagnostics::Options;
@@ -100,7 +103,16 @@ fn flag<'a>(alloc: Global, name: &'static str, help: &'static str) -> Arg<'a> {
 }
 
 /// The settings of a command line, where colours are asked for or not.
-pub fn settings_of<'a>(matches: &'a ArgMatches<'_>, has_colour: bool) -> Settings<'a> {
+pub fn settings_of<'a>(matches: &'a ArgMatches<'_>, has_colour: bool) -> Settings<'a>
+    ensures denied { one_text (found_of matches.entry.now) (codes "deny-warnings") ≡ Some (codes "true")
+        → result.deny_warnings ≡ true }
+    ensures accepted { one_text (found_of matches.entry.now) (codes "deny-warnings") ≡ None
+        → result.deny_warnings ≡ false }
+    ensures log { first_value (found_of matches.entry.now) (codes "format") ≡ Some (codes "sarif")
+        → result.format ≡ Format.Log }
+    ensures json { first_value (found_of matches.entry.now) (codes "format") ≡ Some (codes "json")
+        → result.format ≡ Format.Stream Style.Json }
+{
     Settings {
         format: format_of(matches, has_colour),
         deny_warnings: matches.get_flag("deny-warnings"),
@@ -109,7 +121,14 @@ pub fn settings_of<'a>(matches: &'a ArgMatches<'_>, has_colour: bool) -> Setting
 }
 
 /// The form in which diagnostics are asked for.
-fn format_of(matches: &ArgMatches<'_>, has_colour: bool) -> Format {
+fn format_of(matches: &ArgMatches<'_>, has_colour: bool) -> Format
+    ensures json { first_value (found_of matches.now) (codes "format") ≡ Some (codes "json")
+        → result ≡ Format.Stream Style.Json }
+    ensures github { first_value (found_of matches.now) (codes "format") ≡ Some (codes "github")
+        → result ≡ Format.Stream Style.Github }
+    ensures log { first_value (found_of matches.now) (codes "format") ≡ Some (codes "sarif")
+        → result ≡ Format.Log }
+{
     match matches.get_str("format") {
         Some("json") => Format::Stream(Style::Json),
         Some("github") => Format::Stream(Style::Github),
