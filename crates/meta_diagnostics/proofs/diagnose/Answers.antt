@@ -8,11 +8,11 @@ use Rattle.meta_diagnostics.proofs.diagnose.Goals as goal
 pub returns-in-Ok-clause-diagnosis : goal.returns-in-Ok-clause-diagnosis
 returns-in-Ok-clause-diagnosis c =
     diagnosed_accepted (texts_of c.args.options.starts.now) c.args.text.now c.diagnose_accepted.result c.memory_only.result
-    (c.in-Ok.field-0.0.items, c.in-Ok.field-0.1.items, c.in-Ok.ensures.answer) c.diagnose_accepted.ensures c.memory_only.ensures
+    (c.in-Ok.field-0-0.items, c.in-Ok.rules.items, c.in-Ok.ensures.answer) c.diagnose_accepted.ensures c.memory_only.ensures
 
 pub returns-in-Ok-clause-accepted : goal.returns-in-Ok-clause-accepted
 returns-in-Ok-clause-accepted c =
-    answered c.args.text.now c.memory_only.result (c.in-Ok.field-0.0.items, c.in-Ok.field-0.1.items, c.in-Ok.ensures.answer)
+    answered c.args.text.now c.memory_only.result (c.in-Ok.field-0-0.items, c.in-Ok.rules.items, c.in-Ok.ensures.answer)
 
 pub returns-in-Err-Grammar-clause-diagnosis : goal.returns-in-Err-Grammar-clause-diagnosis
 returns-in-Err-Grammar-clause-diagnosis c =

@@ -1,0 +1,10 @@
+use Rattle.std.proofs.Common.{List, ◌++◌, map, drop}
+use Rattle.meta_base.specs.Pieces.Saying.{AreErrorsFor, piece_of}
+use Rattle.meta_base.specs.declared.grammar.Rule.{Rule}
+use Rattle.meta_base.specs.declared.runtime.errors.Error.{Error}
+use Rattle.pest_lint.specs.Found.{said_at}
+use Rattle.pest_lint.proofs.findings.said.Given as goal
+
+abbrev pub invariant-loop-place : goal.invariant-loop-place
+invariant-loop-place l = (more : List (Error Rule)) → AreErrorsFor (map (said_at l.message) (map piece_of (drop l.place-index l.places))) more
+    → AreErrorsFor (map (said_at l.message) (map piece_of l.places)) (l.told.items ++ more)
