@@ -1,6 +1,3 @@
-use Rattle.std.proofs.Common.{subst}
-use Rattle.std.specs.List.{AllZip}
-use Rattle.diagnostic_data.specs.Reports.{ReportsError}
 use Rattle.meta_warnings.specs.Lists.{texts_of}
 use Rattle.meta_diagnostics.proofs.Diagnosing.{answered, answered_refused, diagnosed_accepted, diagnosed_refused}
 use Rattle.meta_diagnostics.proofs.diagnose.Goals as goal
