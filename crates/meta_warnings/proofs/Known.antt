@@ -58,7 +58,7 @@ knows_more texts old new key utf8 updates there kept k = record {
   ];
 }
 
--- one of the texts, with something behind it
+-- one of the texts, with something after it
 one_begins : (ts : List Text) (a b : Text) → is_one_of ts a ≡ true → any_begins ts (a ++ b) ≡ true
 one_begins [] a b h = cc
 one_begins (t ∷ ts) a b h = elim (or_cases (bytes_eq t a) (is_one_of ts a) h) [
@@ -101,11 +101,11 @@ begins_missing texts l text utf8 k none = false_from_ne_true (any_begins texts (
     let split : text ≡ u ++ back = sym (encodes-chars text utf8) ∙ (ap encodes r.1 ∙ encodes-append v r.0) in
     let known : IsUtf8 u = (v, (p.0, refl)) in
     let spelled : is_one_of texts (chars u) ≡ true = ap (is_one_of texts) (chars-encodes v p.0) ∙ s.1 in
-    let place = length_at l.lengths.items (length u) (k.lengths u known spelled) in
+    let index = length_at l.lengths.items (length u) (k.lengths u known spelled) in
     let bound : IsCharBoundary text (length u) = IsCharBoundary-at_seam text u back split (r.0, (p.1, refl)) in
     let front : take (length u) text ≡ u = ap (take (length u)) split ∙ take-append_seam u back in
     let there : IsKnown l (take (length u) text) ≡ true = ap (has_name l.texts) front ∙ (k.has u known ∙ spelled) in
-    let missing : IsKnown l (take (length u) text) ≡ false = subst (λ m. IsCharBoundary text m → IsKnown l (take m text) ≡ false) place.2 (none place.0 place.1) bound in
+    let missing : IsKnown l (take (length u) text) ≡ false = subst (λ m. IsCharBoundary text m → IsKnown l (take m text) ≡ false) index.2 (none index.0 index.1) bound in
     absurd (let e : true ≡ false = sym there ∙ missing in cc))
 
 pub both_ok : {X Y : Type 0} (r : Result X Y) (A B C : Type 0) → OnOk r A → OnOk r B → (A → B → C) → OnOk r C

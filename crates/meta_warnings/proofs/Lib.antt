@@ -3,3 +3,4 @@ pub mod Failing
 pub mod Known
 pub mod Names
 pub mod Steps
+pub mod Suspicious

@@ -1,4 +1,4 @@
--- Steps of the walks, and what is found on the way.
+-- Steps of the walks, and the spans found on the way.
 use Rattle.std.proofs.Common.{◌≡◌, ℕ, ◌+◌, ◌<◌, List, [], ◌∷◌, ◌++◌, Bor, map, length, refl, sym, ap, ◌∙◌, append_assoc, append-nil, length-append, arith}
 use Rattle.std.proofs.lemmas.Grind.{flat_map-append}
 use Rattle.std.proofs.lemmas.List.{map-append}
@@ -13,13 +13,13 @@ use Rattle.meta_spanned.specs.declared.node.ParserNode.{ParserNode}
 use Rattle.meta_spanned.proofs.Walks.{operands_wait}
 use Rattle.meta_spanned.proofs.Places.{span_of-view}
 use Rattle.meta_base.specs.declared.runtime.places.Span as code
-use Rattle.meta_warnings.specs.Choices.{alternatives, beginning_of, literal_of, literals, own_literal, told_behind, unreachable_behind}
-use Rattle.meta_warnings.specs.Lists.{AreOperands, IsTold, Knows, left_over}
+use Rattle.meta_warnings.specs.Choices.{alternatives, beginning_of, literal_of, literals, own_literal, span_if_begun, unreachable_after}
+use Rattle.meta_warnings.specs.Lists.{AreOperands, CollectsUnreachable, Knows, left_over}
 use Rattle.meta_warnings.specs.declared.literals.Literals.{Literals}
 use Rattle.meta_warnings.specs.declared.nodes.Operands.{Operands}
 use Rattle.meta_warnings.specs.declared.nodes.Operands.TheVariants as operands
 
--- one more place
+-- one more span
 pub push_piece : (found : List code.Span) (n : ParserNode) → map piece_of (found ++ n.span ∷ []) ≡ map piece_of found ++ span_of (view n) ∷ []
 push_piece found n = map-append piece_of found (n.span ∷ []) ∙ ap (λ s. map piece_of found ++ s ∷ []) (sym (span_of-view n))
 
@@ -46,14 +46,14 @@ sides_fewer s v ns ms ks l r e g h =
     let w = ap length (operands_wait s Choice v ns ms ks l r e g h) ∙ length-append (preorder v) (waiting ns) in
     omega arith
 
--- what is no choice is its one alternative
+-- a node that is no choice is its one alternative
 pub only_choice : (v : Spanned) (o : Operands) → AreOperands v o → ((x y : Bor ParserNode) → o ≡ operands.Choice x y → ⊥) → alternatives v ≡ v ∷ []
 only_choice v operands.None (s, e, h) f = rw h refl
 only_choice v (operands.One x) (s, u, h) f = rw h refl
 only_choice v (operands.Sequence x y) (s, h) f = rw h refl
 only_choice v (operands.Choice x y) h f = absurd (f x y refl)
 
--- what is no sequence begins with the literal that it is
+-- a node that is no sequence begins with the literal that it is
 pub no_sequence : (t : Span) (e : ParserExpr) → ((x y : _) → e ≡ expr.Seq x y → ⊥) → beginning_of (without_spans (view_at t e)) ≡ literal_of (without_spans (view_at t e))
 no_sequence t (is.Str s) h = refl
 no_sequence t (is.Seq' p e s q f u) h = absurd (h _ _ refl)
@@ -63,16 +63,16 @@ pub literals_more : (earlier : List Spanned) (x : Spanned) → literals (earlier
 literals_more earlier x = flat_map-append own_literal earlier (x ∷ []) ∙ ap (λ l. literals earlier ++ l) (append-nil (own_literal x))
 
 -- the next alternative was looked at
-pub told_more : (all : List Span) (earlier left : List Spanned) (x : Spanned) (old new : Literals) (found after : List Span) → IsTold all earlier (x ∷ left) old found
-    → (Knows (literals earlier) old → after ≡ found ++ told_behind (literals earlier) x)
-    → (Knows (literals earlier) old → Knows (literals earlier ++ own_literal x) new) → IsTold all (earlier ++ x ∷ []) left new after
-told_more all earlier left x old new found after h tells adds = record {
+pub spans_more : (all : List Span) (earlier left : List Spanned) (x : Spanned) (old new : Literals) (found after : List Span) → CollectsUnreachable all earlier (x ∷ left) old found
+    → (Knows (literals earlier) old → after ≡ found ++ span_if_begun (literals earlier) x)
+    → (Knows (literals earlier) old → Knows (literals earlier ++ own_literal x) new) → CollectsUnreachable all (earlier ++ x ∷ []) left new after
+spans_more all earlier left x old new found after h span_added adds = record {
   knows = rw (literals_more earlier x) (adds h.knows);
-  told = h.told ∙ (sym (append_assoc found (told_behind (literals earlier) x) (unreachable_behind (earlier ++ x ∷ []) left)) ∙ ap (λ l. l ++ unreachable_behind (earlier ++ x ∷ []) left) (sym (tells h.knows)));
+  spans = h.spans ∙ (sym (append_assoc found (span_if_begun (literals earlier) x) (unreachable_after (earlier ++ x ∷ []) left)) ∙ ap (λ l. l ++ unreachable_after (earlier ++ x ∷ []) left) (sym (span_added h.knows)));
 }
 
-pub told_along : (all : List Span) (earlier left right : List Spanned) (known : Literals) (found : List Span) → left ≡ right → IsTold all earlier left known found → IsTold all earlier right known found
-told_along all earlier left right known found e h = record {
+pub spans_along : (all : List Span) (earlier left right : List Spanned) (known : Literals) (found : List Span) → left ≡ right → CollectsUnreachable all earlier left known found → CollectsUnreachable all earlier right known found
+spans_along all earlier left right known found e h = record {
   knows = h.knows;
-  told = h.told ∙ ap (λ l. found ++ unreachable_behind earlier l) e;
+  spans = h.spans ∙ ap (λ l. found ++ unreachable_after earlier l) e;
 }

@@ -48,24 +48,24 @@ begins_so texts (Some t) = any_begins texts t
 abbrev pub is_begun : List Text → Spanned → Bool
 is_begun texts x = begins_so texts (beginning_of (without_spans x))
 
--- the place of an alternative behind these literals, where one of them begins it
-abbrev pub told_behind : List Text → Spanned → List Span
-told_behind texts x = if is_begun texts x then span_of x ∷ [] else []
+-- the span of an alternative after these literals, where one of them begins it
+abbrev pub span_if_begun : List Text → Spanned → List Span
+span_if_begun texts x = if is_begun texts x then span_of x ∷ [] else []
 
--- the places of those among alternatives that a literal before them begins
-abbrev pub unreachable_behind : List Spanned → List Spanned → List Span
-unreachable_behind earlier [] = []
-unreachable_behind earlier (x ∷ xs) =
-    told_behind (literals earlier) x ++ unreachable_behind (earlier ++ x ∷ []) xs
+-- the spans of those among alternatives that a literal before them begins
+abbrev pub unreachable_after : List Spanned → List Spanned → List Span
+unreachable_after earlier [] = []
+unreachable_after earlier (x ∷ xs) =
+    span_if_begun (literals earlier) x ++ unreachable_after (earlier ++ x ∷ []) xs
 
--- of an expression as a choice; as one alternative nothing is told of it
+-- of an expression as a choice; one alternative has none
 abbrev pub unreachable_at : Spanned → List Span
-unreachable_at x = unreachable_behind [] (alternatives x)
+unreachable_at x = unreachable_after [] (alternatives x)
 
 abbrev pub unreachable_in_parts : Spanned → List Span
 unreachable_in_parts x = flat_map unreachable_at (parts x)
 
--- of a body, and of what stands in it and is no alternative of a choice around it
+-- of a body, and of the nodes in it that are no alternatives of a choice around them
 abbrev pub unreachable_in : Spanned → List Span
 unreachable_in body = unreachable_at body ++ flat_map unreachable_in_parts (preorder body)
 

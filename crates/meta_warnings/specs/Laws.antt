@@ -1,4 +1,4 @@
--- What is told is so, by the relation of matching.
+-- The warnings are true, by the relation of matching.
 use Rattle.std.specs.Prelude.{◌≡◌, ◌≢◌, ◌↔◌, ◌⊎◌, true, List, [], ◌∷◌, map}
 use Rattle.std.specs.List.{AllByRecursion}
 use Rattle.meta_base.specs.Language.Text.{Text}
@@ -16,7 +16,7 @@ abbrev pub FailsAlone : Grammar → Classes → Expression → Mode → State �
 FailsAlone g classes e m s =
     Matches g classes e m s Failure × ((o : Outcome) → Matches g classes e m s o → o ≡ Failure)
 
--- wherever all that stand before it fail, it fails
+-- wherever all before it fail, it fails
 abbrev pub IsNeverTaken : List Expression → Expression → Type 0
 IsNeverTaken earlier e = (g : Grammar) (classes : Classes) (m : Mode) (s : State)
     → AllByRecursion (λ x. Matches g classes x m s Failure) earlier → FailsAlone g classes e m s
@@ -33,21 +33,21 @@ BegunIsNeverTaken = (earlier : List Spanned) (x : Spanned) → is_begun (literal
 
 -- a choice does what it does without such an alternative at its end
 abbrev pub BegunChangesNothing : Type 0
-BegunChangesNothing = (place : Span) (x y : Spanned) → is_begun (literals (alternatives x)) y ≡ true
-    → IsSameEverywhere (without_spans (Two place Choice x y)) (without_spans x)
+BegunChangesNothing = (span : Span) (x y : Spanned) → is_begun (literals (alternatives x)) y ≡ true
+    → IsSameEverywhere (without_spans (Two span Choice x y)) (without_spans x)
 
 -- a range whose first bound is above its last fails everywhere
 abbrev pub ReversedFails : Type 0
 ReversedFails = (x : Spanned) → is_reversed x ≡ true
     → (g : Grammar) (classes : Classes) (m : Mode) (s : State) → FailsAlone g classes (without_spans x) m s
 
--- a call of the name stands in an expression
+-- an expression contains a call of the name
 abbrev pub Calls : Spanned → Text → Type 0
 Calls (Leaf s e) n = e ≡ Ident n
 Calls (One s f x) n = Calls x n
 Calls (Two s f x y) n = Calls x n ⊎ Calls y n
 
--- a call of the name stands in a rule that has another one
+-- a rule of another name contains a call of the name
 abbrev pub IsCalledElsewhere : List SpannedRule → Text → Type 0
 IsCalledElsewhere [] n = ⊥
 IsCalledElsewhere (r ∷ rs) n = ((r.name ≢ n) × Calls r.body n) ⊎ IsCalledElsewhere rs n

@@ -3,3 +3,5 @@ pub mod Laws
 pub mod Lists
 pub mod Ranges
 pub mod Rules
+pub mod SuspectLaws
+pub mod Suspects

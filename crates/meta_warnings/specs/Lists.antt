@@ -1,5 +1,5 @@
--- What the code's lists and sets stand for. No public contract speaks of it.
-use Rattle.std.specs.Prelude.{◌≡◌, ℕ, List, [], ◌∷◌, ◌++◌, Bool, true, bytes_eq, length, ◌==◌}
+-- The values of the code's lists and sets. Of these, public contracts name `texts_of` alone.
+use Rattle.std.specs.Prelude.{◌≡◌, ℕ, List, [], ◌∷◌, ◌++◌, Bool, true, bytes_eq, length, map, ◌==◌}
 use Rattle.std.specs.Borrow.{Bor}
 use Rattle.std.specs.HashSet.{HashSet, contains_by}
 use Rattle.std.specs.List.{list_any}
@@ -11,10 +11,9 @@ use Rattle.meta_base.specs.Language.Expression.{Expression}
 use Rattle.meta_base.specs.Language.Text.{Text}
 use Rattle.meta_spanned.specs.Nodes.{view}
 use Rattle.meta_spanned.specs.Spanned as spanned
-use Rattle.meta_spanned.specs.Spanned.{Span, Spanned, SpannedRule, Leaf, One, Two, Unary}
+use Rattle.meta_spanned.specs.Spanned.{Span, Spanned, Leaf, One, Two, Unary}
 use Rattle.meta_spanned.specs.declared.node.ParserNode.{ParserNode}
-use Rattle.meta_warnings.specs.Choices.{alternatives, literals, unreachable_behind}
-use Rattle.meta_warnings.specs.Rules.{is_called}
+use Rattle.meta_warnings.specs.Choices.{alternatives, literals, unreachable_after}
 use Rattle.meta_warnings.specs.declared.nodes.Operands.{Operands}
 use Rattle.meta_warnings.specs.declared.nodes.Operands.TheVariants as is
 use Rattle.meta_warnings.specs.declared.literals.Literals.{Literals}
@@ -38,9 +37,13 @@ TextSet = HashSet (Bor (List ℕ)) (BuildHasherDefault FoldHasher)
 abbrev pub has_name : TextSet → List ℕ → Bool
 has_name set name = contains_by (λ k. bytes_eq name k.now) set
 
--- the set has the names that a rule of another name calls, and no others
-abbrev pub HasNames : List SpannedRule → TextSet → Type 0
-HasNames rules set = (name : List ℕ) → IsUtf8 name → has_name set name ≡ is_called rules (chars name)
+-- the set has the names of which this holds, and no others
+abbrev pub HasNames : (Text → Bool) → TextSet → Type 0
+HasNames f set = (name : List ℕ) → IsUtf8 name → has_name set name ≡ f (chars name)
+
+-- the characters of texts
+abbrev pub texts_of : List (Bor (List ℕ)) → List Text
+texts_of ts = map (λ t. chars t.now) ts
 
 abbrev pub IsKnown : Literals → List ℕ → Bool
 IsKnown literals text = has_name literals.texts text
@@ -51,9 +54,9 @@ pub record Knows (texts : List Text) (literals : Literals) : Type 0 where
   pub lengths : (text : List ℕ) → IsUtf8 text → is_one_of texts (chars text) ≡ true
       → list_any (λ n. n == length text) literals.lengths.items ≡ true
 
--- what is found so far, and what is still to be found among these alternatives behind the earlier ones, of
--- which the literals are known, are all
-pub record IsTold (all : List Span) (earlier left : List Spanned) (known : Literals)
+-- the spans found so far, and those still to be found among the alternatives left after the earlier ones,
+-- whose literals are known, are all
+pub record CollectsUnreachable (all : List Span) (earlier left : List Spanned) (known : Literals)
     (found : List Span) : Type 0 where
   pub knows : Knows (literals earlier) known
-  pub told : all ≡ found ++ unreachable_behind earlier left
+  pub spans : all ≡ found ++ unreachable_after earlier left

@@ -19,11 +19,11 @@ abbrev pub is_reversed : Spanned → Bool
 is_reversed (Leaf s e) = is_reversed_range e
 is_reversed _ = false
 
--- the place of a node, where it is such a range
+-- the span of a node, where it is such a range
 abbrev pub reversed_at : Spanned → List Span
 reversed_at x = if is_reversed x then span_of x ∷ [] else []
 
--- such places in a body, and in all rules
+-- such spans in a body, and in all rules
 abbrev pub reversed_in : Spanned → List Span
 reversed_in body = flat_map reversed_at (preorder body)
 

@@ -29,14 +29,38 @@ is_called (r ∷ rs) n = calls_another r n || is_called rs n
 abbrev pub needs_no_call : Text → Bool
 needs_no_call n = bytes_eq n (codes "WHITESPACE") || bytes_eq n (codes "COMMENT")
 
-abbrev pub is_uncalled : List SpannedRule → SpannedRule → Bool
-is_uncalled rules r = not (needs_no_call r.name) && not (is_called rules r.name)
+-- the builtins at the ends of a text: a rule that calls one is a start
+abbrev pub names_end : List Text → Bool
+names_end ns = is_one_of ns (codes "SOI") || is_one_of ns (codes "EOI")
 
--- the place of its name, where no other rule calls it
-abbrev pub uncalled_at : List SpannedRule → SpannedRule → List Span
-uncalled_at rules r = if is_uncalled rules r then r.span ∷ [] else []
+abbrev pub is_start : SpannedRule → Bool
+is_start r = names_end (flat_map name_called (preorder r.body))
 
--- the places of the names that no other rule calls, but for the first rule's
-abbrev pub uncalled_rules : List SpannedRule → List Span
-uncalled_rules [] = []
-uncalled_rules (r ∷ rs) = flat_map (uncalled_at (r ∷ rs)) rs
+-- a name that a rule of another name calls, or that is asked for as a start
+abbrev pub is_needed : List Text → List SpannedRule → Text → Bool
+is_needed starts rules n = is_one_of starts n || is_called rules n
+
+-- `f`: the names that are needed
+abbrev pub is_uncalled : (Text → Bool) → SpannedRule → Bool
+is_uncalled f r = not (needs_no_call r.name) && not (f r.name) && not (is_start r)
+
+-- the span of a rule's name, where it is not needed
+abbrev pub uncalled_at : (Text → Bool) → SpannedRule → List Span
+uncalled_at f r = if is_uncalled f r then r.span ∷ [] else []
+
+-- a start is asked for, or a rule calls a builtin at an end of the text
+abbrev pub knows_start : (Text → Bool) → Bool
+knows_start f = f (codes "SOI") || f (codes "EOI")
+
+-- where none is known: the rules after the first, which is the start unless it is needed
+abbrev pub after_first : (Text → Bool) → List SpannedRule → List SpannedRule
+after_first f [] = []
+after_first f (r ∷ rs) = if needs_no_call r.name then after_first f rs else (if f r.name then [] else rs)
+
+abbrev pub judged : (Text → Bool) → List SpannedRule → List SpannedRule
+judged f rules = if knows_start f then rules else after_first f rules
+
+-- the spans of the names of rules that are not needed
+abbrev pub uncalled_rules : List Text → List SpannedRule → List Span
+uncalled_rules starts rules =
+    flat_map (uncalled_at (is_needed starts rules)) (judged (is_needed starts rules) rules)

@@ -2,11 +2,11 @@
 ghost use Rattle.std.specs.Prelude.{◌≡◌, ◌++◌, ◌+◌, ◌<◌, IfOk, OnOk, List, length, map};
 ghost use Rattle.meta_base.specs.Language.Text.{Text};
 ghost use Rattle.meta_spanned.specs.Nodes.{piece_of, rule_views, view};
-ghost use Rattle.meta_spanned.specs.Spanned.{Span as Place, Spanned};
+ghost use Rattle.meta_spanned.specs.Spanned.{Span as Piece, Spanned};
 ghost use Rattle.meta_spanned.specs.Walk.{preorder, waiting};
 ghost use Rattle.meta_warnings.specs.Choices as spec;
 ghost use Rattle.meta_warnings.specs.Choices.{alternatives};
-ghost use Rattle.meta_warnings.specs.Lists.{IsTold, Knows, left_over};
+ghost use Rattle.meta_warnings.specs.Lists.{CollectsUnreachable, Knows, left_over};
 
 use crate::literals::{Literals, beginning, literal};
 use crate::nodes::{Operands, operands_of, push_both};
@@ -14,9 +14,9 @@ use meta_base::runtime::Span;
 use meta_spanned::{ParserNode, ParserRule, push_operands};
 use std::alloc::{AllocError, Global};
 
-/// Where alternatives stand that are never taken, since one before them in their choice is a literal with
-/// which all that they match begins, as `"ab"` and `"a" ~ b` behind `"a"`: rule by rule, and in a body choice
-/// by choice. A choice inside a choice is part of it. The only fault is a want of memory.
+/// The spans of alternatives that are never taken, since one before them in their choice is a literal with
+/// which all that they match begins, as `"ab"` and `"a" ~ b` after `"a"`: rule by rule, and in a body choice
+/// by choice. A choice inside a choice is part of it. The only error is an allocation failure.
 ///
 /// For each alternative there is a look-up for each length that a literal of its choice has, so the time is
 /// at most the text's length times the square root of that.
@@ -34,7 +34,7 @@ pub fn unreachable_alternatives<'i>(
     Ok(found)
 }
 
-/// Adds those of a body: of the choice that it is, and of those that stand in it.
+/// Adds the spans in a body: of the choice that it is, and of those that it contains.
 fn add_of_body<'i>(
     alloc: Global,
     body: &ParserNode<'i>,
@@ -53,7 +53,7 @@ fn add_of_body<'i>(
     Ok(())
 }
 
-/// Adds those of the choices that the operands of a node are, where it is no choice itself.
+/// Adds the spans in the choices that the operands of a node are, where it is no choice itself.
 fn add_of_parts<'i>(
     alloc: Global,
     node: &ParserNode<'i>,
@@ -72,7 +72,7 @@ fn add_of_parts<'i>(
     }
 }
 
-/// Adds those of a choice.
+/// Adds the spans in a choice.
 fn add_of_choice<'i>(
     alloc: Global,
     whole: &ParserNode<'i>,
@@ -85,23 +85,23 @@ fn add_of_choice<'i>(
     let mut stack = Vec::new(alloc);
     stack.push(whole)?;
     while let Some(next) = stack.pop() {
-        take(next, &mut stack, &mut literals, found)?;
+        take_alternative(next, &mut stack, &mut literals, found)?;
     }
     Ok(())
 }
 
-/// Puts both sides of a choice on a stack, the left one on top; any other node is the next alternative.
-fn take<'n, 'i>(
+/// Pushes both sides of a choice on a stack, the left one on top; any other node is the next alternative.
+fn take_alternative<'n, 'i>(
     node: &'n ParserNode<'i>,
     stack: &mut Vec<&'n ParserNode<'i>>,
     literals: &mut Literals<'n>,
     found: &mut Vec<Span<'i>>,
 ) -> Result<(), AllocError>
-    ensures told { OnOk result ((all : List Place) (earlier : List Spanned)
-        → IsTold all earlier (alternatives (view node.entry.now) ++ left_over stack.old.items)
+    ensures collected { OnOk result ((all : List Piece) (earlier : List Spanned)
+        → CollectsUnreachable all earlier (alternatives (view node.entry.now) ++ left_over stack.old.items)
         literals.old (map piece_of found.old.items)
-        → (later : List Spanned)
-        × IsTold all later (left_over stack.new.items) literals.new (map piece_of found.new.items)) }
+        → (later : List Spanned) × CollectsUnreachable all later (left_over stack.new.items)
+        literals.new (map piece_of found.new.items)) }
     ensures less { OnOk result (length (waiting stack.new.items)
         < length (preorder (view node.entry.now)) + length (waiting stack.old.items)) }
 {
@@ -115,14 +115,14 @@ fn take<'n, 'i>(
     Ok(())
 }
 
-/// Adds the place of an alternative that one of these literals begins.
+/// Adds the span of an alternative that one of these literals begins.
 fn add_where_begun<'i>(
     alternative: &ParserNode<'i>,
     literals: &Literals<'_>,
     found: &mut Vec<Span<'i>>,
 ) -> Result<(), AllocError>
     ensures { OnOk result ((texts : List Text) → Knows texts literals.now → map piece_of found.new.items
-        ≡ map piece_of found.old.items ++ spec.told_behind texts (view alternative.now)) }
+        ≡ map piece_of found.old.items ++ spec.span_if_begun texts (view alternative.now)) }
 {
     if let Some(text) = beginning(alternative) {
         if literals.begin(text) {

@@ -1,5 +1,7 @@
-//! What is told is so: laws over the definitions alone.
+//! The warnings are true: laws over the definitions alone.
 ghost use Rattle.meta_warnings.specs.Laws.{BegunChangesNothing, BegunIsNeverTaken, CalledIsCalled, ReversedFails};
+ghost use Rattle.meta_warnings.specs.SuspectLaws.{IdleOptionChangesNothing, IdleTestNeverFails};
+ghost use Rattle.meta_warnings.specs.SuspectLaws.{ReversedCountIsExact, UnmatchableNeverSucceeds};
 
 /// An alternative that a literal before it begins fails wherever all alternatives before it fail, over every
 /// grammar, and a choice does what it does without such an alternative at its end.
@@ -13,7 +15,24 @@ pub fn reversed_ranges_match_nothing()
     ensures { ReversedFails }
 {}
 
-/// What counts as called is called in the body of a rule of another name, and the other way round.
+/// A name that counts as called is called in the body of a rule of another name, and the other way round.
 pub fn called_rules_are_called()
     ensures { CalledIsCalled }
+{}
+
+/// A count whose first number is above its last does what the last alone does, over every grammar.
+pub fn reversed_counts_are_exact()
+    ensures { ReversedCountIsExact }
+{}
+
+/// A test of what cannot fail fails nowhere, and an option of it does what it does, over every grammar.
+pub fn idle_tests_do_nothing()
+    ensures tests { IdleTestNeverFails }
+    ensures options { IdleOptionChangesNothing }
+{}
+
+/// An unmatchable node succeeds from no state in a text, in every mode of a rule's body, over every grammar
+/// without a rule `ANY`.
+pub fn unmatchable_nodes_match_nothing()
+    ensures { UnmatchableNeverSucceeds }
 {}

@@ -8,7 +8,9 @@ mod literals;
 mod nodes;
 mod ranges;
 mod rules;
+mod suspects;
 
 pub use crate::choices::unreachable_alternatives;
 pub use crate::ranges::reversed_ranges;
 pub use crate::rules::uncalled_rules;
+pub use crate::suspects::{Suspect, suspect_spans};

@@ -6,7 +6,7 @@ ghost use Rattle.meta_warnings.specs.Lists.{AreOperands};
 use meta_spanned::{ParserExpr, ParserNode};
 use std::alloc::{AllocError, Global};
 
-/// The operands of a node, by what stands between two of them.
+/// The operands of a node, by the operator between two of them.
 #[derive(Clone, Copy)]
 pub(crate) enum Operands<'n, 'i> {
     None,
@@ -34,7 +34,7 @@ pub(crate) fn operands_of<'n, 'i>(node: &'n ParserNode<'i>) -> Operands<'n, 'i>
     }
 }
 
-/// Puts two nodes on a stack, the left one on top.
+/// Pushes two nodes on a stack, the left one on top.
 pub(crate) fn push_both<'n, 'i>(
     left: &'n ParserNode<'i>,
     right: &'n ParserNode<'i>,

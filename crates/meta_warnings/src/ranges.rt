@@ -8,8 +8,8 @@ use meta_base::runtime::Span;
 use meta_spanned::{ParserExpr, ParserNode, ParserRule, push_operands};
 use std::alloc::{AllocError, Global};
 
-/// Where ranges stand whose first bound is above their last, as `'z'..'a'`, in the order of the text: such a
-/// range matches nothing. The only fault is a want of memory.
+/// The spans of ranges whose first bound is above their last, as `'z'..'a'`, in the order of the text. Such a
+/// range matches nothing. The only error is an allocation failure.
 pub fn reversed_ranges<'i>(
     alloc: Global,
     rules: &[ParserRule<'i>],
@@ -24,7 +24,7 @@ pub fn reversed_ranges<'i>(
     Ok(found)
 }
 
-/// Adds those of a body.
+/// Adds the spans of reversed ranges in a body.
 fn add_of_body<'i>(
     alloc: Global,
     body: &ParserNode<'i>,
@@ -42,7 +42,7 @@ fn add_of_body<'i>(
     Ok(())
 }
 
-/// Adds the place of a node that is such a range.
+/// Adds the span of a node that is a reversed range.
 fn add_where_reversed<'i>(
     node: &ParserNode<'i>,
     found: &mut Vec<Span<'i>>,

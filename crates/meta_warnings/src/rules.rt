@@ -1,10 +1,11 @@
 //! Rules that no other rule calls.
-ghost use Rattle.std.specs.Prelude.{◌≡◌, ◌++◌, ◌&&◌, ◌||◌, IfOk, OnOk, List, ℕ, bytes_eq, flat_map, map, not};
+ghost use Rattle.std.specs.Prelude.{◌≡◌, ◌≤◌, ◌++◌, ◌&&◌, ◌||◌, Bool, IfOk, OnOk, List, ℕ, bytes_eq, drop, flat_map, length, map, not};
 ghost use Rattle.std.specs.Str.{IsAscii, IsUtf8, chars};
 ghost use Rattle.meta_ast.specs.Ast.{text_of};
 ghost use Rattle.meta_base.specs.Language.Builtins.{is_one_of};
+ghost use Rattle.meta_base.specs.Language.Text.{Text};
 ghost use Rattle.meta_spanned.specs.Nodes.{piece_of, rule_view, rule_views, view};
-ghost use Rattle.meta_warnings.specs.Lists.{HasNames, has_name};
+ghost use Rattle.meta_warnings.specs.Lists.{HasNames, has_name, texts_of};
 ghost use Rattle.meta_warnings.specs.Rules as spec;
 
 use meta_ast::texts::same_text;
@@ -13,50 +14,118 @@ use meta_spanned::{ParserExpr, ParserNode, ParserRule, push_operands};
 use std::alloc::{AllocError, Global};
 use std::collections::HashSet;
 
-/// Where the names of rules stand that no rule of another name calls, in order, but for the first rule and
-/// for `WHITESPACE` and `COMMENT`, which need no call. The only fault is a want of memory.
-pub fn uncalled_rules<'i>(
+/// The spans of the names of rules that are not needed, in order. A rule is needed if a rule of another name
+/// calls it, if it is among `starts`, if it calls `SOI` or `EOI`, or if it is `WHITESPACE` or `COMMENT`.
+/// Where no rule calls `SOI` or `EOI`, the first rule but these two is taken for the start; if it is needed,
+/// the start is unknown, and there are none. The only error is an allocation failure.
+pub fn uncalled_rules<'n, 'i>(
     alloc: Global,
-    rules: &[ParserRule<'i>],
+    rules: &'n [ParserRule<'i>],
+    starts: &'n [&'n str],
 ) -> Result<Vec<Span<'i>>, AllocError>
-    ensures { IfOk result (λ found.
-        map piece_of found.items ≡ spec.uncalled_rules (rule_views rules.now)) }
+    ensures { IfOk result (λ found. map piece_of found.items
+        ≡ spec.uncalled_rules (texts_of starts.entry.now) (rule_views rules.entry.now)) }
 {
-    let called = names_called(alloc, rules)?;
-    match rules {
-        [] => Ok(Vec::new(alloc)),
-        [_, others @ ..] => uncalled_among(alloc, others, &called),
+    let needed = needed_names(alloc, rules, starts)?;
+    if knows_start(&needed) {
+        uncalled_among(alloc, rules, &needed)
+    } else {
+        let first = first_judged(rules, &needed);
+        uncalled_among(alloc, &rules[first..], &needed)
     }
 }
 
-/// Where the names of those rules stand that need a call, and that no rule of another name calls.
+/// Whether one of these names is a builtin at an end of the text.
+fn knows_start(needed: &HashSet<&str>) -> bool
+    ensures { (f : Text → Bool) → HasNames f needed.now → result ≡ spec.knows_start f }
+{
+    has_literal(needed, "SOI") || has_literal(needed, "EOI")
+}
+
+/// Whether a literal is among these names.
+fn has_literal(needed: &HashSet<&str>, literal: &str) -> bool
+    requires { IsAscii literal.now }
+    ensures { (f : Text → Bool) → HasNames f needed.now → result ≡ f literal.now }
+{
+    needed.contains(&literal)
+}
+
+/// The index after the first rule that is no `WHITESPACE` or `COMMENT`, or the length where that one is
+/// needed or there is none.
+fn first_judged(rules: &[ParserRule<'_>], needed: &HashSet<&str>) -> usize
+    ensures within { result ≤ length rules.now }
+    ensures rest { (f : Text → Bool) → HasNames f needed.now
+        → rule_views (drop result rules.now) ≡ spec.after_first f (rule_views rules.now) }
+{
+    for (i, rule) in rules.iter().enumerate() {
+        if !needs_no_call(&rule.name) {
+            return if is_needed(&rule.name, needed) {
+                rules.len()
+            } else {
+                i + 1
+            };
+        }
+    }
+    rules.len()
+}
+
+/// Whether a name is among those that are needed.
+fn is_needed(name: &String, needed: &HashSet<&str>) -> bool
+    ensures { (f : Text → Bool) → HasNames f needed.now → result ≡ f (text_of name.now) }
+{
+    needed.contains(&name.as_str())
+}
+
+/// The spans of the names of those rules that are not needed.
 fn uncalled_among<'i>(
     alloc: Global,
     others: &[ParserRule<'i>],
-    called: &HashSet<&str>,
+    needed: &HashSet<&str>,
 ) -> Result<Vec<Span<'i>>, AllocError>
-    ensures { IfOk result (λ found. (rules : List spec.SpannedRule) → HasNames rules called.now
-        → map piece_of found.items ≡ flat_map (spec.uncalled_at rules) (rule_views others.now)) }
+    ensures { IfOk result (λ found. (f : Text → Bool) → HasNames f needed.now
+        → map piece_of found.items ≡ flat_map (spec.uncalled_at f) (rule_views others.now)) }
 {
     let mut found = Vec::new(alloc);
     for rule in others {
-        add_where_uncalled(rule, called, &mut found)?;
+        add_where_uncalled(alloc, rule, needed, &mut found)?;
     }
     Ok(found)
 }
 
-/// The names that a rule of another name calls.
-fn names_called<'n, 'i>(
+/// The needed names. These are the starts, and the names that a rule of another name calls.
+fn needed_names<'n, 'i>(
     alloc: Global,
     rules: &'n [ParserRule<'i>],
+    starts: &'n [&'n str],
 ) -> Result<HashSet<&'n str>, AllocError>
-    ensures { IfOk result (HasNames (rule_views rules.entry.now)) }
+    ensures { IfOk result
+        (HasNames (spec.is_needed (texts_of starts.entry.now) (rule_views rules.entry.now))) }
 {
-    let mut called = HashSet::new(alloc);
+    let mut needed = names_of(alloc, starts)?;
     for rule in rules {
-        add_calls(alloc, rule, &mut called)?;
+        add_calls(alloc, rule, &mut needed)?;
     }
-    Ok(called)
+    Ok(needed)
+}
+
+/// The set of some names.
+fn names_of<'n>(alloc: Global, names: &'n [&'n str]) -> Result<HashSet<&'n str>, AllocError>
+    ensures { IfOk result (HasNames (is_one_of (texts_of names.entry.now))) }
+{
+    let mut set = HashSet::new(alloc);
+    for name in names {
+        add_name(*name, &mut set)?;
+    }
+    Ok(set)
+}
+
+/// Adds a name to a set.
+fn add_name<'n>(name: &'n str, set: &mut HashSet<&'n str>) -> Result<(), AllocError>
+    ensures { OnOk result ((other : List ℕ) → IsUtf8 other → has_name set.new other
+        ≡ (has_name set.old other || bytes_eq (chars name.entry.now) (chars other))) }
+{
+    set.insert(name)?;
+    Ok(())
 }
 
 /// Adds the names that a rule calls, but for its own.
@@ -95,28 +164,61 @@ fn add_call<'n, 'i>(
     Ok(())
 }
 
-/// Adds the place of a rule's name, where no rule of another name calls it.
+/// Adds the span of a rule's name, where it is not needed.
 fn add_where_uncalled<'i>(
+    alloc: Global,
     rule: &ParserRule<'i>,
-    called: &HashSet<&str>,
+    needed: &HashSet<&str>,
     found: &mut Vec<Span<'i>>,
 ) -> Result<(), AllocError>
-    ensures { OnOk result ((rules : List spec.SpannedRule) → HasNames rules called.now
-        → map piece_of found.new.items
-        ≡ map piece_of found.old.items ++ spec.uncalled_at rules (rule_view rule.now)) }
+    ensures { OnOk result ((f : Text → Bool) → HasNames f needed.now → map piece_of found.new.items
+        ≡ map piece_of found.old.items ++ spec.uncalled_at f (rule_view rule.now)) }
 {
-    if is_uncalled(&rule.name, called) {
+    if is_uncalled(alloc, rule, needed)? {
         found.push(rule.span)?;
     }
     Ok(())
 }
 
-/// Whether a rule of this name needs a call, and none of another name calls it.
-fn is_uncalled(name: &String, called: &HashSet<&str>) -> bool
-    ensures { (rules : List spec.SpannedRule) → HasNames rules called.now → result
-        ≡ (not (spec.needs_no_call (text_of name.now)) && not (spec.is_called rules (text_of name.now))) }
+/// Whether a rule is not needed, and no start.
+fn is_uncalled(
+    alloc: Global,
+    rule: &ParserRule<'_>,
+    needed: &HashSet<&str>,
+) -> Result<bool, AllocError>
+    ensures { IfOk result (λ answer. (f : Text → Bool) → HasNames f needed.now
+        → answer ≡ spec.is_uncalled f (rule_view rule.now)) }
 {
-    !needs_no_call(name) && !called.contains(&name.as_str())
+    if needs_no_call(&rule.name) || is_needed(&rule.name, needed) {
+        return Ok(false);
+    }
+    let is_start = is_start(alloc, rule)?;
+    Ok(!is_start)
+}
+
+/// Whether a rule calls `SOI` or `EOI`.
+fn is_start(alloc: Global, rule: &ParserRule<'_>) -> Result<bool, AllocError>
+    ensures { IfOk result (λ answer. answer ≡ spec.is_start (rule_view rule.now)) }
+{
+    let mut stack = Vec::new(alloc);
+    stack.push(&rule.node)?;
+    while let Some(next) = stack.pop() {
+        if is_end(next) {
+            return Ok(true);
+        }
+        push_operands(next, &mut stack)?;
+    }
+    Ok(false)
+}
+
+/// Whether a node is a call of `SOI` or `EOI`.
+fn is_end(node: &ParserNode<'_>) -> bool
+    ensures { result ≡ spec.names_end (spec.name_called (view node.now)) }
+{
+    match &node.expr {
+        ParserExpr::Ident(name) => is_literal(name, "SOI") || is_literal(name, "EOI"),
+        _ => false,
+    }
 }
 
 /// Whether a name is that of a rule which is skipped between others, without a call.
@@ -127,7 +229,7 @@ fn needs_no_call(name: &String) -> bool
 }
 
 /// Whether a name is a literal's text.
-fn is_literal(name: &String, literal: &str) -> bool
+pub(crate) fn is_literal(name: &String, literal: &str) -> bool
     requires { IsAscii literal.now }
     ensures { result ≡ bytes_eq (text_of name.now) literal.now }
 {

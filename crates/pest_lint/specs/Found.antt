@@ -28,7 +28,7 @@ said_at message span = record { message = message; span = span }
 -- never taken, then ranges that match nothing
 abbrev pub uncalled_of : Bool → List SpannedRule → List Complaint
 uncalled_of all rules =
-    if all then [] else map (said_at (codes "no other rule calls this one")) (uncalled_rules rules)
+    if all then [] else map (said_at (codes "no other rule calls this one")) (uncalled_rules [] rules)
 
 abbrev pub unreachable_of : List SpannedRule → List Complaint
 unreachable_of rules =

@@ -4,7 +4,7 @@ use std::alloc::{AllocError, Global};
 
 /// What is asked for beside the files.
 #[derive(Clone, Copy)]
-pub struct Options {
+pub struct LintOptions {
     /// A line of JSON for each finding, in place of text.
     pub json: bool,
     /// Warnings count as what is found.
@@ -49,12 +49,12 @@ pub fn command<'a>(alloc: Global) -> Result<Command<'a>, AllocError> {
 }
 
 /// What a command line asks for.
-pub fn options_of(matches: &ArgMatches<'_>, colours: bool) -> Options {
+pub fn options_of(matches: &ArgMatches<'_>, colours: bool) -> LintOptions {
     let json = match matches.get_str("format") {
         Some(format) => format == "json",
         None => false,
     };
-    Options {
+    LintOptions {
         json,
         deny_warnings: matches.get_flag("deny-warnings"),
         all_rules: matches.get_flag("all-rules"),

@@ -72,7 +72,7 @@ fn uncalled(
     if all_rules {
         return Ok(Vec::new(alloc));
     }
-    let places = uncalled_rules(alloc, rules)?;
+    let places = uncalled_rules(alloc, rules, &[])?;
     said(alloc, "no other rule calls this one", &places)
 }
 

@@ -3,7 +3,7 @@ ghost use Rattle.std.specs.Prelude.{◌≡◌, ◌≤◌, ◌⊎◌, All, true};
 ghost use Rattle.pest_lint.specs.Found.{IsClean};
 ghost use Rattle.pest_meta.specs.Spelling.{HasAnswer, HasRefusal};
 
-use crate::arguments::Options;
+use crate::arguments::LintOptions;
 use crate::expected::expected;
 use crate::findings::{Verdict, verdict_of, warnings};
 use crate::shown::{Finding, Kind, block, line};
@@ -55,7 +55,7 @@ pub struct Exit {
 pub fn run<W: Write, E: Write>(
     alloc: Global,
     sources: &[Source<'_>],
-    options: Options,
+    options: LintOptions,
     out: &mut W,
     err: &mut E,
 ) -> Exit
@@ -77,7 +77,7 @@ pub fn run<W: Write, E: Write>(
 fn look_at<W: Write, E: Write>(
     alloc: Global,
     source: &Source<'_>,
-    options: Options,
+    options: LintOptions,
     out: &mut W,
     err: &mut E,
 ) -> u8
@@ -108,7 +108,7 @@ fn unreadable<E: Write>(name: &str, why: &str, err: &mut E) -> u8
 }
 
 /// Tells what is found in a text.
-fn tell<W: Write>(alloc: Global, file: &str, text: &str, options: Options, out: &mut W) -> u8
+fn tell<W: Write>(alloc: Global, file: &str, text: &str, options: LintOptions, out: &mut W) -> u8
     ensures known { result ≤ 4 }
     ensures clean { result ≡ 0 → HasAnswer text.now }
     ensures found { result ≡ 1 → HasRefusal text.now ⊎ (options.deny_warnings ≡ true) }
@@ -130,7 +130,7 @@ fn tell_warnings<W: Write>(
     alloc: Global,
     file: &str,
     text: &str,
-    options: Options,
+    options: LintOptions,
     out: &mut W,
 ) -> u8
     ensures known { result ≤ 4 }
@@ -154,7 +154,7 @@ fn tell_all<W: Write>(
     alloc: Global,
     told: Told<'_>,
     errors: &[Error<Rule>],
-    options: Options,
+    options: LintOptions,
     out: &mut W,
 ) -> u8
     ensures { (result ≡ 0) ⊎ ((result ≡ 2) ⊎ (result ≡ 4)) }
@@ -178,7 +178,7 @@ fn shown(
     alloc: Global,
     told: Told<'_>,
     error: &Error<Rule>,
-    options: Options,
+    options: LintOptions,
 ) -> Result<String, AllocError> {
     let names = match error.variant {
         ErrorVariant::ParsingError => expected(alloc, told.text)?,

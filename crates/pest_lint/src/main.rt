@@ -8,7 +8,7 @@ mod lint;
 mod shown;
 mod words;
 
-use arguments::{Options, command, options_of};
+use arguments::{LintOptions, command, options_of};
 use lint::{MEMORY, Source, UNREADABLE, run};
 use std::alloc::AllocError;
 use std::io::{IsTerminal, Read};
@@ -41,7 +41,7 @@ fn shows_colours(rt: &HostRuntime) -> bool {
 }
 
 /// Reads the files of these names, and looks at each.
-fn looked_at(rt: &HostRuntime, names: &[&str], options: Options) -> Result<u8, AllocError> {
+fn looked_at(rt: &HostRuntime, names: &[&str], options: LintOptions) -> Result<u8, AllocError> {
     let mut sources = Vec::new(rt.alloc());
     for name in names {
         sources.push(source(rt, name)?)?;

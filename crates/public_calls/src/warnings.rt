@@ -2,7 +2,10 @@
 ghost use Rattle.std.specs.Prelude.{◌≡◌, IfOk, map};
 ghost use Rattle.meta_spanned.specs.Nodes.{piece_of, rule_views};
 ghost use Rattle.meta_warnings.specs.Choices.{unreachable_alternatives};
+ghost use Rattle.meta_warnings.specs.Lists.{texts_of};
 ghost use Rattle.meta_warnings.specs.Rules.{uncalled_rules};
+ghost use Rattle.meta_warnings.specs.Suspects.{suspects};
+ghost use Rattle.meta_warnings.specs.declared.suspects.Suspect.TheVariants as suspect;
 
 use meta_base::runtime::Span;
 use meta_spanned::ParserRule;
@@ -16,13 +19,25 @@ pub fn never_taken<'i>(alloc: Global, rules: &[ParserRule<'i>]) -> Result<Vec<Sp
     meta_warnings::unreachable_alternatives(alloc, rules)
 }
 
-/// Returns the rules that no other rule calls.
-pub fn never_called<'i>(
+/// Returns the rules that no other rule calls, where rules of some names are starts.
+pub fn never_called<'n, 'i>(
+    alloc: Global,
+    rules: &'n [ParserRule<'i>],
+    starts: &'n [&'n str],
+) -> Result<Vec<Span<'i>>, AllocError>
+    ensures { IfOk result (λ places. map piece_of places.items
+        ≡ uncalled_rules (texts_of starts.entry.now) (rule_views rules.entry.now)) }
+{
+    meta_warnings::uncalled_rules(alloc, rules, starts)
+}
+
+/// Returns the counts whose first number is above their last.
+pub fn reversed_counts<'i>(
     alloc: Global,
     rules: &[ParserRule<'i>],
 ) -> Result<Vec<Span<'i>>, AllocError>
     ensures { IfOk result (λ places.
-        map piece_of places.items ≡ uncalled_rules (rule_views rules.now)) }
+        map piece_of places.items ≡ suspects suspect.ReversedCount (rule_views rules.now)) }
 {
-    meta_warnings::uncalled_rules(alloc, rules)
+    meta_warnings::suspect_spans(alloc, meta_warnings::Suspect::ReversedCount, rules)
 }

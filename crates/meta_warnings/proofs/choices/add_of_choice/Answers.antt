@@ -3,7 +3,7 @@ use Rattle.meta_spanned.specs.Walk.{waiting}
 use Rattle.meta_spanned.proofs.Walks.{waiting_push}
 use Rattle.std.proofs.lemmas.List.{length-append}
 use Rattle.meta_warnings.specs.Lists.{left_over}
-use Rattle.meta_warnings.proofs.Steps.{left_over_push, told_along}
+use Rattle.meta_warnings.proofs.Steps.{left_over_push, spans_along}
 use Rattle.meta_warnings.proofs.choices.add_of_choice.Goals as goal
 
 pub loop-next-smaller : goal.loop-next-smaller
@@ -11,10 +11,10 @@ loop-next-smaller c =
     let next = c.in-Some.next in
     let rest = c.pop.new.self.items in
     let e = ap (λ l. length (waiting l)) c.in-Some.ensures.items ∙ (ap length (waiting_push rest next) ∙ length-append _ (waiting rest)) in
-    let k = c.in_ok-take.ensures.less in
+    let k = c.in_ok-take_alternative.ensures.less in
     omega arith
 
 pub loop-next-preserved : goal.loop-next-preserved
 loop-next-preserved c =
     let before = c.loop-next.invariant in
-    c.in_ok-take.ensures.told _ before.0 (told_along _ before.0 _ _ _ _ (ap left_over c.in-Some.ensures.items ∙ left_over_push c.pop.new.self.items c.in-Some.next) before.1)
+    c.in_ok-take_alternative.ensures.collected _ before.0 (spans_along _ before.0 _ _ _ _ (ap left_over c.in-Some.ensures.items ∙ left_over_push c.pop.new.self.items c.in-Some.next) before.1)

@@ -3,12 +3,12 @@ use Rattle.meta_spanned.specs.Nodes.{piece_of, view}
 use Rattle.meta_spanned.specs.Spanned.{Spanned}
 use Rattle.meta_spanned.specs.Walk.{waiting}
 use Rattle.meta_warnings.specs.Choices.{unreachable_at}
-use Rattle.meta_warnings.specs.Lists.{IsTold, left_over}
+use Rattle.meta_warnings.specs.Lists.{CollectsUnreachable, left_over}
 use Rattle.meta_warnings.proofs.choices.add_of_choice.Given as goal
 
 abbrev pub invariant-loop-next : goal.invariant-loop-next
 invariant-loop-next l =
-    (earlier : List Spanned) × IsTold (map piece_of l.fn.found.items ++ unreachable_at (view l.fn.whole)) earlier
+    (earlier : List Spanned) × CollectsUnreachable (map piece_of l.fn.found.items ++ unreachable_at (view l.fn.whole)) earlier
     (left_over l.stack.items) l.literals (map piece_of l.found.items)
 
 abbrev pub decreases-loop-next : goal.decreases-loop-next

@@ -1,0 +1,90 @@
+-- Codes of warnings: their messages, and the spans at which a grammar has them.
+use Rattle.std.specs.Prelude.{ℕ, List, [], ◌∷◌, codes, flat_map, map}
+use Rattle.meta_base.specs.Language.Text.{Text}
+use Rattle.meta_base.specs.Pieces.Saying.{Span}
+use Rattle.meta_spanned.specs.Spanned.{SpannedRule}
+use Rattle.diagnostic_data.specs.declared.codes.Code.{Code}
+use Rattle.diagnostic_data.specs.declared.codes.Code.TheVariants as code
+use Rattle.diagnostic_data.specs.declared.codes.Severity.{Severity}
+use Rattle.diagnostic_data.specs.declared.codes.Severity.TheVariants as severity
+use Rattle.meta_warnings.specs.Choices.{unreachable_alternatives}
+use Rattle.meta_warnings.specs.Ranges.{reversed_ranges}
+use Rattle.meta_warnings.specs.Rules.{uncalled_rules}
+use Rattle.meta_warnings.specs.Suspects.{suspects}
+use Rattle.meta_warnings.specs.declared.suspects.Suspect.TheVariants as suspect
+
+-- warnings are those of an accepted text
+abbrev pub severity_of : Code → Severity
+severity_of code.UncalledRule = severity.Warning
+severity_of code.Unreachable = severity.Warning
+severity_of code.ReversedRange = severity.Warning
+severity_of code.ReversedCount = severity.Warning
+severity_of code.IdleTest = severity.Warning
+severity_of code.NeverMatches = severity.Warning
+severity_of _ = severity.Error
+
+-- a warning's code, and its span
+pub record Warning : Type 0 where
+  pub code : Code
+  pub span : Span
+
+abbrev pub warning : Code → Span → Warning
+warning c span = record { code = c; span = span }
+
+-- the spans at which rules have a warning of this code
+abbrev pub spans_of : Code → List Text → List SpannedRule → List Span
+spans_of code.UncalledRule starts rules = uncalled_rules starts rules
+spans_of code.Unreachable starts rules = unreachable_alternatives rules
+spans_of code.ReversedRange starts rules = reversed_ranges rules
+spans_of code.ReversedCount starts rules = suspects suspect.ReversedCount rules
+spans_of code.IdleTest starts rules = suspects suspect.IdleTest rules
+spans_of code.NeverMatches starts rules = suspects suspect.Unmatchable rules
+spans_of _ starts rules = []
+
+abbrev pub warnings_with : List Text → List SpannedRule → Code → List Warning
+warnings_with starts rules c = map (warning c) (spans_of c starts rules)
+
+-- the codes of warnings, in the order in which a text's are listed
+abbrev pub warning_codes : List Code
+warning_codes = code.UncalledRule ∷ code.Unreachable ∷ code.ReversedRange ∷ code.ReversedCount ∷ code.IdleTest
+    ∷ code.NeverMatches ∷ []
+
+-- the warnings of rules, of which those of some names are starts
+abbrev pub warnings_of : List Text → List SpannedRule → List Warning
+warnings_of starts rules = flat_map (warnings_with starts rules) warning_codes
+
+-- the message of a warning
+abbrev pub message_of : Code → List ℕ
+message_of code.UncalledRule = codes "no other rule calls this one"
+message_of code.Unreachable =
+    codes "this alternative is never taken: a literal before it begins all that it matches"
+message_of code.ReversedRange =
+    codes "this range matches nothing: its first character is above its last"
+message_of code.ReversedCount = codes "the first number is above the last, which alone counts"
+message_of code.IdleTest = codes "this changes nothing, since what it holds cannot fail"
+message_of code.NeverMatches = codes "this never matches"
+message_of _ = []
+
+-- names of codes and severities
+abbrev pub code_name : Code → List ℕ
+code_name code.Syntax = codes "pest::syntax"
+code_name code.EscapeValue = codes "pest::escape_value"
+code_name code.NumberRange = codes "pest::number_range"
+code_name code.ZeroRepetition = codes "pest::zero_repetition"
+code_name code.ReservedName = codes "pest::reserved_name"
+code_name code.DuplicateRule = codes "pest::duplicate_rule"
+code_name code.UndefinedRule = codes "pest::undefined_rule"
+code_name code.LeftRecursion = codes "pest::left_recursion"
+code_name code.EndlessRepetition = codes "pest::endless_repetition"
+code_name code.UnreachableChoice = codes "pest::unreachable_choice"
+code_name code.TagWithoutToken = codes "pest::tag_without_token"
+code_name code.UncalledRule = codes "pest::uncalled_rule"
+code_name code.Unreachable = codes "pest::unreachable"
+code_name code.ReversedRange = codes "pest::reversed_range"
+code_name code.ReversedCount = codes "pest::reversed_count"
+code_name code.IdleTest = codes "pest::idle_test"
+code_name code.NeverMatches = codes "pest::never_matches"
+
+abbrev pub severity_name : Severity → List ℕ
+severity_name severity.Error = codes "error"
+severity_name severity.Warning = codes "warning"

@@ -1,0 +1,44 @@
+-- Errors and warnings, and the diagnostics that report them.
+use Rattle.std.specs.Prelude.{◌≡◌, ℕ, List, Bool, true, false, string_bytes, ⊤}
+use Rattle.meta_base.specs.declared.grammar.Rule.{Rule}
+use Rattle.meta_base.specs.declared.runtime.errors.Error.{Error}
+use Rattle.meta_base.specs.declared.runtime.errors.ErrorVariant.{ErrorVariant}
+use Rattle.meta_base.specs.declared.runtime.errors.ErrorVariant.TheVariants as variant
+use Rattle.meta_base.specs.declared.runtime.errors.InputLocation.{InputLocation}
+use Rattle.meta_base.specs.declared.runtime.errors.InputLocation.TheVariants as at
+use Rattle.diagnostic_data.specs.Codes.{Warning, message_of}
+use Rattle.diagnostic_data.specs.declared.codes.Severity.{Severity}
+use Rattle.diagnostic_data.specs.declared.codes.Severity.TheVariants as severity
+use Rattle.diagnostic_data.specs.declared.diagnostic.Diagnostic.{Diagnostic}
+
+-- an error's own message; a syntax error has none
+abbrev pub IsMessageOf : ErrorVariant → List ℕ → Type 0
+IsMessageOf variant.ParsingError message = ⊤
+IsMessageOf (variant.CustomError own) message = message ≡ string_bytes own
+
+-- a position or a span begins and ends at these bytes
+abbrev pub IsAt : InputLocation → ℕ → ℕ → Type 0
+IsAt (at.Pos p) start end = (start ≡ p) × (end ≡ p)
+IsAt (at.Span span) start end = (start ≡ span.0) × (end ≡ span.1)
+
+-- the diagnostic is an error
+abbrev pub is_severe : Severity → Bool
+is_severe severity.Error = true
+is_severe severity.Warning = false
+
+abbrev pub is_error : Diagnostic → Bool
+is_error diagnostic = is_severe diagnostic.severity
+
+-- the diagnostic reports an error
+pub record ReportsError (error : Error Rule) (diagnostic : Diagnostic) : Type 0 where
+  pub severity : diagnostic.severity ≡ severity.Error
+  pub location : IsAt error.location diagnostic.start diagnostic.end
+  pub message : IsMessageOf error.variant (string_bytes diagnostic.message)
+
+-- the diagnostic reports a warning
+pub record ReportsWarning (warning : Warning) (diagnostic : Diagnostic) : Type 0 where
+  pub severity : diagnostic.severity ≡ severity.Warning
+  pub code : diagnostic.code ≡ warning.code
+  pub start : diagnostic.start ≡ warning.span.start
+  pub end : diagnostic.end ≡ warning.span.end
+  pub message : string_bytes diagnostic.message ≡ message_of warning.code

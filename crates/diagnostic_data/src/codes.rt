@@ -1,0 +1,133 @@
+//! The codes of diagnostics.
+ghost use Rattle.std.specs.Prelude.{◌≡◌};
+ghost use Rattle.diagnostic_data.specs.Codes.{code_name, severity_name, severity_of};
+
+/// How much a diagnostic weighs.
+#[derive(Clone, Copy, Debug, PartialEq, Eq)]
+pub enum Severity {
+    /// The text is refused.
+    Error,
+    /// The text is accepted.
+    Warning,
+}
+
+impl Severity {
+    /// Its name.
+    pub fn name(self) -> &'static str
+        ensures { result.now ≡ severity_name self }
+    {
+        match self {
+            Severity::Error => "error",
+            Severity::Warning => "warning",
+        }
+    }
+}
+
+/// The class of a diagnostic.
+#[derive(Clone, Copy, Debug, PartialEq, Eq)]
+pub enum Code {
+    /// The text is no grammar.
+    Syntax,
+    /// An escape is no Unicode scalar value.
+    EscapeValue,
+    /// A number is past 32 bits.
+    NumberRange,
+    /// An expression is repeated zero times.
+    ZeroRepetition,
+    /// A rule has a name that pest keeps for itself.
+    ReservedName,
+    /// A rule is defined twice.
+    DuplicateRule,
+    /// A name is called that is not defined.
+    UndefinedRule,
+    /// A rule calls itself before it takes a character.
+    LeftRecursion,
+    /// A repetition may go on without taking a character.
+    EndlessRepetition,
+    /// A choice has an alternative after one that cannot fail.
+    UnreachableChoice,
+    /// A tag is given where no token is made.
+    TagWithoutToken,
+    /// No other rule calls a rule.
+    UncalledRule,
+    /// A literal before an alternative begins all that it matches.
+    Unreachable,
+    /// A range matches nothing.
+    ReversedRange,
+    /// A count's first number is above its last.
+    ReversedCount,
+    /// A test or an option holds what cannot fail.
+    IdleTest,
+    /// An expression matches nowhere.
+    NeverMatches,
+}
+
+/// All codes.
+pub const ALL_CODES: [Code; 17] = [
+    Code::Syntax,
+    Code::EscapeValue,
+    Code::NumberRange,
+    Code::ZeroRepetition,
+    Code::ReservedName,
+    Code::DuplicateRule,
+    Code::UndefinedRule,
+    Code::LeftRecursion,
+    Code::EndlessRepetition,
+    Code::UnreachableChoice,
+    Code::TagWithoutToken,
+    Code::UncalledRule,
+    Code::Unreachable,
+    Code::ReversedRange,
+    Code::ReversedCount,
+    Code::IdleTest,
+    Code::NeverMatches,
+];
+
+impl Code {
+    /// Its name, as `pest::left_recursion`.
+    pub fn name(self) -> &'static str
+        ensures { result.now ≡ code_name self }
+    {
+        match self {
+            Code::Syntax => "pest::syntax",
+            Code::EscapeValue => "pest::escape_value",
+            Code::NumberRange => "pest::number_range",
+            Code::ZeroRepetition => "pest::zero_repetition",
+            Code::ReservedName => "pest::reserved_name",
+            Code::DuplicateRule => "pest::duplicate_rule",
+            Code::UndefinedRule => "pest::undefined_rule",
+            Code::LeftRecursion => "pest::left_recursion",
+            Code::EndlessRepetition => "pest::endless_repetition",
+            Code::UnreachableChoice => "pest::unreachable_choice",
+            Code::TagWithoutToken => "pest::tag_without_token",
+            Code::UncalledRule => "pest::uncalled_rule",
+            Code::Unreachable => "pest::unreachable",
+            Code::ReversedRange => "pest::reversed_range",
+            Code::ReversedCount => "pest::reversed_count",
+            Code::IdleTest => "pest::idle_test",
+            Code::NeverMatches => "pest::never_matches",
+        }
+    }
+
+    /// The code of a name, with or without `pest::`.
+    pub fn from_name(name: &str) -> Option<Code> {
+        for code in &ALL_CODES {
+            let full = code.name();
+            if full == name || full.strip_prefix("pest::") == Some(name) {
+                return Some(*code);
+            }
+        }
+        None
+    }
+
+    /// Whether a text with such a diagnostic is refused.
+    pub fn severity(self) -> Severity
+        ensures { result ≡ severity_of self }
+    {
+        match self {
+            Code::UncalledRule | Code::Unreachable | Code::ReversedRange => Severity::Warning,
+            Code::ReversedCount | Code::IdleTest | Code::NeverMatches => Severity::Warning,
+            _ => Severity::Error,
+        }
+    }
+}

@@ -1,0 +1,129 @@
+//! The definitions of a text by name, and the name that an undefined one may mean.
+use meta_hints::{Help, Related, definitions, nearest_name};
+use meta_names::unicode_property_names;
+use std::alloc::{AllocError, Global};
+use std::collections::HashMap;
+
+/// Undefined names for which another is looked for, at most so many in a text.
+const NAMES_LOOKED_UP: usize = 20;
+
+/// The builtins that are no Unicode properties.
+const BUILTINS: [&str; 19] = [
+    "ANY",
+    "SOI",
+    "EOI",
+    "PEEK",
+    "PEEK_ALL",
+    "POP",
+    "POP_ALL",
+    "DROP",
+    "NEWLINE",
+    "ASCII",
+    "ASCII_DIGIT",
+    "ASCII_NONZERO_DIGIT",
+    "ASCII_BIN_DIGIT",
+    "ASCII_OCT_DIGIT",
+    "ASCII_HEX_DIGIT",
+    "ASCII_ALPHA_LOWER",
+    "ASCII_ALPHA_UPPER",
+    "ASCII_ALPHA",
+    "ASCII_ALPHANUMERIC",
+];
+
+/// The definitions of a text.
+#[derive(Drop)]
+pub(crate) struct Definitions<'t> {
+    /// The bytes of each name's first definition.
+    first: HashMap<&'t str, (usize, usize)>,
+    /// The names in order.
+    names: Vec<&'t str>,
+    /// How many undefined names were looked up.
+    count: usize,
+}
+
+impl<'t> Definitions<'t> {
+    /// The definitions of a text.
+    pub(crate) fn new(alloc: Global, text: &'t str) -> Result<Definitions<'t>, AllocError> {
+        let mut first = HashMap::new(alloc);
+        let mut names = Vec::new(alloc);
+        for (start, end) in &definitions(alloc, text)? {
+            let name = text.get(*start..*end).unwrap_or("");
+            if !first.contains_key(&name) {
+                first.insert(name, (*start, *end))?;
+                names.push(name)?;
+            }
+        }
+        Ok(Definitions {
+            first,
+            names,
+            count: 0,
+        })
+    }
+
+    /// Adds the first definition of a name, with this message.
+    pub(crate) fn push_definition(
+        &self,
+        alloc: Global,
+        name: &str,
+        message: &str,
+        related: &mut Vec<Related>,
+    ) -> Result<(), AllocError> {
+        if let Some((start, end)) = self.first.get(&name) {
+            related.push(Related::new(alloc, *start, *end, message)?)?;
+        }
+        Ok(())
+    }
+
+    /// A help for an undefined name at the bytes `start..end`: the nearest of the defined ones and the
+    /// builtins.
+    pub(crate) fn help_undefined(
+        &mut self,
+        alloc: Global,
+        name: &str,
+        start: usize,
+        end: usize,
+    ) -> Result<Option<Help>, AllocError> {
+        if self.count >= NAMES_LOOKED_UP {
+            return Ok(None);
+        }
+        self.count = self.count.saturating_add(1);
+        if let Some(nearest) = nearest_name(alloc, name, &self.names)? {
+            return did_you_mean(alloc, nearest, start, end);
+        }
+        if let Some(nearest) = nearest_name(alloc, name, &BUILTINS)? {
+            return did_you_mean(alloc, nearest, start, end);
+        }
+        if let Some(builtin) = builtin_of(name) {
+            return did_you_mean(alloc, builtin, start, end);
+        }
+        match nearest_name(alloc, name, unicode_property_names())? {
+            Some(nearest) => did_you_mean(alloc, nearest, start, end),
+            None => Ok(None),
+        }
+    }
+}
+
+/// The builtin that other notations call by a name.
+fn builtin_of(name: &str) -> Option<&'static str> {
+    match name {
+        "digit" | "Digit" | "DIGIT" => Some("ASCII_DIGIT"),
+        "alpha" | "ALPHA" => Some("ASCII_ALPHA"),
+        "alnum" | "ALNUM" | "alphanumeric" => Some("ASCII_ALPHANUMERIC"),
+        "xdigit" | "HEXDIG" => Some("ASCII_HEX_DIGIT"),
+        "nl" | "NL" | "eol" | "EOL" | "CRLF" => Some("NEWLINE"),
+        "eof" => Some("EOI"),
+        _ => None,
+    }
+}
+
+/// A help that replaces the bytes `start..end` by a name.
+fn did_you_mean(
+    alloc: Global,
+    name: &str,
+    start: usize,
+    end: usize,
+) -> Result<Option<Help>, AllocError> {
+    let message = format!(in alloc; "did you mean `{name}`?")?;
+    let help = Help::replace(alloc, message.as_str(), start, end, name)?;
+    Ok(Some(help))
+}

@@ -1,0 +1,154 @@
+//! The warnings of an accepted text as diagnostics.
+ghost use Rattle.std.specs.Prelude.{◌≡◌, IfOk, OnOk, ◌++◌, List, map};
+ghost use Rattle.std.specs.List.{AllZip};
+ghost use Rattle.meta_spanned.specs.Nodes.{piece_of, rule_views};
+ghost use Rattle.diagnostic_data.specs.Codes as spec;
+ghost use Rattle.diagnostic_data.specs.Codes.{severity_of, warnings_of};
+ghost use Rattle.diagnostic_data.specs.Reports.{ReportsWarning};
+ghost use Rattle.diagnostic_data.specs.declared.codes.Severity.TheVariants as severity;
+ghost use Rattle.meta_warnings.specs.Lists.{texts_of};
+
+use crate::codes::Code;
+use crate::diagnostic::Diagnostic;
+use meta_base::runtime::Span;
+use meta_hints::Help;
+use meta_spanned::ParserRule;
+use meta_warnings::{
+    Suspect, reversed_ranges, suspect_spans, uncalled_rules, unreachable_alternatives,
+};
+use std::alloc::{AllocError, Global};
+
+/// The warnings of rules, code by code; rules of the names `starts` need no call.
+pub fn diagnose_rules(
+    alloc: Global,
+    rules: &[ParserRule<'_>],
+    starts: &[&str],
+) -> Result<Vec<Diagnostic>, AllocError>
+    ensures { IfOk result (λ diagnostics. AllZip ReportsWarning
+        (warnings_of (texts_of starts.now) (rule_views rules.now)) diagnostics.items) }
+{
+    let mut diagnostics = Vec::new(alloc);
+    add_code(alloc, Code::UncalledRule, rules, starts, &mut diagnostics)?;
+    add_code(alloc, Code::Unreachable, rules, starts, &mut diagnostics)?;
+    add_code(alloc, Code::ReversedRange, rules, starts, &mut diagnostics)?;
+    add_code(alloc, Code::ReversedCount, rules, starts, &mut diagnostics)?;
+    add_code(alloc, Code::IdleTest, rules, starts, &mut diagnostics)?;
+    add_code(alloc, Code::NeverMatches, rules, starts, &mut diagnostics)?;
+    Ok(diagnostics)
+}
+
+/// Adds the warnings of one code.
+fn add_code(
+    alloc: Global,
+    code: Code,
+    rules: &[ParserRule<'_>],
+    starts: &[&str],
+    diagnostics: &mut Vec<Diagnostic>,
+) -> Result<(), AllocError>
+    requires { severity_of code ≡ severity.Warning }
+    ensures { OnOk result ((earlier : List spec.Warning)
+        → AllZip ReportsWarning earlier diagnostics.old.items
+        → AllZip ReportsWarning
+        (earlier ++ spec.warnings_with (texts_of starts.now) (rule_views rules.now) code)
+        diagnostics.new.items) }
+{
+    let mut others = diagnose_code(alloc, code, rules, starts)?;
+    diagnostics.append(&mut others)?;
+    Ok(())
+}
+
+/// The warnings of one code.
+fn diagnose_code(
+    alloc: Global,
+    code: Code,
+    rules: &[ParserRule<'_>],
+    starts: &[&str],
+) -> Result<Vec<Diagnostic>, AllocError>
+    requires { severity_of code ≡ severity.Warning }
+    ensures { IfOk result (λ diagnostics. AllZip ReportsWarning
+        (spec.warnings_with (texts_of starts.now) (rule_views rules.now) code) diagnostics.items) }
+{
+    let spans = spans_of(alloc, code, rules, starts)?;
+    report_spans(alloc, code, &spans)
+}
+
+/// A warning of a code at each of these spans.
+fn report_spans(
+    alloc: Global,
+    code: Code,
+    spans: &[Span<'_>],
+) -> Result<Vec<Diagnostic>, AllocError>
+    requires { severity_of code ≡ severity.Warning }
+    ensures { IfOk result (λ diagnostics.
+        AllZip (λ span. ReportsWarning (spec.warning code (piece_of span))) spans.now diagnostics.items) }
+{
+    let mut diagnostics = Vec::new(alloc);
+    for span in spans {
+        let diagnostic = report_span(alloc, code, *span)?;
+        diagnostics.push(diagnostic)?;
+    }
+    Ok(diagnostics)
+}
+
+/// A warning of a code at a span.
+fn report_span(alloc: Global, code: Code, span: Span<'_>) -> Result<Diagnostic, AllocError>
+    requires { severity_of code ≡ severity.Warning }
+    ensures { IfOk result (ReportsWarning (spec.warning code (piece_of span.entry))) }
+{
+    let mut diagnostic = Diagnostic::new(alloc, code, span.start(), span.end(), message_of(code))?;
+    diagnostic.help = help_of(alloc, code, span.as_str())?;
+    Ok(diagnostic)
+}
+
+/// The spans at which rules have a warning of a code.
+fn spans_of<'i>(
+    alloc: Global,
+    code: Code,
+    rules: &[ParserRule<'i>],
+    starts: &[&str],
+) -> Result<Vec<Span<'i>>, AllocError>
+    ensures { IfOk result (λ spans. map piece_of spans.items
+        ≡ spec.spans_of code (texts_of starts.now) (rule_views rules.now)) }
+{
+    match code {
+        Code::UncalledRule => uncalled_rules(alloc, rules, starts),
+        Code::Unreachable => unreachable_alternatives(alloc, rules),
+        Code::ReversedRange => reversed_ranges(alloc, rules),
+        Code::ReversedCount => suspect_spans(alloc, Suspect::ReversedCount, rules),
+        Code::IdleTest => suspect_spans(alloc, Suspect::IdleTest, rules),
+        Code::NeverMatches => suspect_spans(alloc, Suspect::Unmatchable, rules),
+        _ => Ok(Vec::new(alloc)),
+    }
+}
+
+/// The message of a warning.
+fn message_of(code: Code) -> &'static str
+    ensures { result.now ≡ spec.message_of code }
+{
+    match code {
+        Code::UncalledRule => "no other rule calls this one",
+        Code::Unreachable => {
+            "this alternative is never taken: a literal before it begins all that it matches"
+        }
+        Code::ReversedRange => "this range matches nothing: its first character is above its last",
+        Code::ReversedCount => "the first number is above the last, which alone counts",
+        Code::IdleTest => "this changes nothing, since what it holds cannot fail",
+        Code::NeverMatches => "this never matches",
+        _ => "",
+    }
+}
+
+/// The help for a warning about a part of the text.
+fn help_of(alloc: Global, code: Code, part: &str) -> Result<Option<Help>, AllocError> {
+    let message = match code {
+        Code::UncalledRule => "where matching starts with it, name it by `--start`",
+        Code::Unreachable => "put the longer alternative first",
+        Code::IdleTest => "no repetition is lazy: write `(!end ~ ANY)*` for what is before an end",
+        Code::NeverMatches if part.starts_with('!') => "what `!` refuses cannot fail",
+        Code::NeverMatches => {
+            "`ANY*` takes the whole rest of the text: write `(!end ~ ANY)*` for what is before an end"
+        }
+        _ => return Ok(None),
+    };
+    Ok(Some(Help::new(alloc, message)?))
+}

@@ -1,0 +1,86 @@
+//! The diagnostics of a grammar's text: errors, or else warnings.
+#![tactic(auto)]
+
+ghost use Rattle.std.specs.Prelude.{◌≡◌, IfOk, Ok, false};
+ghost use Rattle.std.specs.List.{AllZip, list_any};
+ghost use Rattle.diagnostic_data.specs.Reports.{ReportsError, is_error};
+ghost use Rattle.meta_diagnostics.specs.Diagnosis.{IsDiagnosis, ReportWarnings};
+ghost use Rattle.meta_warnings.specs.Lists.{texts_of};
+ghost use Rattle.pest_meta.specs.Spelling.{HasAnswer};
+
+pub use diagnostic_data::{ALL_CODES, Code, Diagnostic, Fix, Help, Options, Related, Severity};
+use diagnostic_data::{diagnose_errors, diagnose_rules};
+use meta_ast::deep::Deep;
+use meta_ast::optimized::release;
+use meta_base::grammar::Rule;
+use meta_base::runtime::{Error, Fault};
+use pest_meta::parse_and_optimize;
+use pest_meta::parser::{PestParser, common_name, consume_rules_with_spans, parse};
+use std::alloc::{AllocError, Global};
+
+/// The diagnostics of a text: the errors with which `parse_and_optimize` refuses it, in their order, or else
+/// its warnings. The only error is an allocation failure.
+pub fn diagnose(
+    alloc: Global,
+    text: &str,
+    options: Options<'_>,
+) -> Result<Vec<Diagnostic>, AllocError>
+    ensures diagnosis { IfOk result (λ diagnostics. IsDiagnosis (texts_of options.entry.starts.now) text.now
+        diagnostics.items) }
+    ensures accepted { IfOk result (λ diagnostics.
+        list_any is_error diagnostics.items ≡ false → HasAnswer text.now) }
+{
+    match parse_and_optimize(alloc, text) {
+        Ok((_, rules)) => {
+            release(rules);
+            memory_only(diagnose_accepted(alloc, text, options.starts))
+        }
+        Err(Fault::Grammar(errors)) => diagnose_refused(alloc, text, &errors),
+        Err(Fault::Memory(error)) => Err(error),
+    }
+}
+
+/// The diagnostics of the errors with which a text is refused.
+fn diagnose_refused(
+    alloc: Global,
+    text: &str,
+    errors: &[Error<Rule>],
+) -> Result<Vec<Diagnostic>, AllocError>
+    ensures { IfOk result (λ diagnostics. AllZip ReportsError errors.now diagnostics.items) }
+{
+    let expected = expected_names(alloc, text)?;
+    diagnose_errors(alloc, text, errors, &expected)
+}
+
+/// The expected set of a text's syntax error, by name, in the order of the meta-grammar.
+fn expected_names(alloc: Global, text: &str) -> Result<Vec<&'static str>, AllocError> {
+    let rules = PestParser::expected_set(alloc, Rule::grammar_rules, text)?;
+    let mut names = Vec::new(alloc);
+    for rule in &rules {
+        names.push(common_name(*rule))?;
+    }
+    Ok(names)
+}
+
+/// The warnings of a text, or why it is refused.
+fn diagnose_accepted(alloc: Global, text: &str, starts: &[&str]) -> Result<Vec<Diagnostic>, Fault>
+    ensures { IfOk result
+        (λ diagnostics. ReportWarnings (texts_of starts.now) text.now diagnostics.items) }
+{
+    let pairs = parse(alloc, Rule::grammar_rules, text)?;
+    let rules = consume_rules_with_spans(alloc, pairs)?;
+    let rules = Deep { value: rules };
+    let diagnostics = diagnose_rules(alloc, &rules.value, starts)?;
+    Ok(diagnostics)
+}
+
+/// A result whose only fault can be an allocation failure.
+fn memory_only(outcome: Result<Vec<Diagnostic>, Fault>) -> Result<Vec<Diagnostic>, AllocError>
+    ensures { IfOk result (λ diagnostics. outcome ≡ Ok diagnostics) }
+{
+    match outcome {
+        Ok(diagnostics) => Ok(diagnostics),
+        Err(Fault::Memory(error)) => Err(error),
+        Err(Fault::Grammar(_)) => Err(AllocError),
+    }
+}
