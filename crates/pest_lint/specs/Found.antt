@@ -1,4 +1,4 @@
--- What is found in the text of a grammar.
+-- Errors and warnings of the text of a grammar.
 use Rattle.std.specs.Prelude.{◌≡◌, ℕ, List, [], ◌∷◌, ◌++◌, Bool, None, codes, if◌then◌else◌, map, ⊤}
 use Rattle.meta_base.specs.Pieces.Saying.{Complaint, Span}
 use Rattle.meta_spanned.specs.Spanned.{SpannedRule}

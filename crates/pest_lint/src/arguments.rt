@@ -2,7 +2,7 @@
 use clap::{Arg, ArgAction, ArgMatches, Command};
 use std::alloc::{AllocError, Global};
 
-/// What is asked for beside the files.
+/// The options of a command line.
 #[derive(Clone, Copy)]
 pub struct LintOptions {
     /// A line of JSON for each finding, in place of text.
@@ -48,7 +48,7 @@ pub fn command<'a>(alloc: Global) -> Result<Command<'a>, AllocError> {
         .arg(files)
 }
 
-/// What a command line asks for.
+/// Returns the options of a command line.
 pub fn options_of(matches: &ArgMatches<'_>, colours: bool) -> LintOptions {
     let json = match matches.get_str("format") {
         Some(format) => format == "json",

@@ -1,4 +1,4 @@
-//! What was expected at the place of a syntax error.
+//! The expected set at the position of a syntax error.
 use meta_base::grammar::Rule;
 use pest_meta::parser::{PestParser, common_name};
 use std::alloc::{AllocError, Global};

@@ -1,4 +1,4 @@
-//! What is found in the text of a grammar.
+//! Errors and warnings of the text of a grammar.
 ghost use Rattle.std.specs.Prelude.{◌≡◌, ◌++◌, IfOk, map};
 ghost use Rattle.meta_base.specs.Pieces.Saying.{IsErrorAt, AreErrorsFor};
 ghost use Rattle.meta_spanned.specs.Nodes.{piece_of, rule_views};
@@ -14,7 +14,7 @@ use pest_meta::parse_and_optimize;
 use pest_meta::parser::{consume_rules_with_spans, parse};
 use std::alloc::{AllocError, Global};
 
-/// What pest-check finds in a text.
+/// The verdict of `parse_and_optimize` on a text.
 #[derive(Drop)]
 pub enum Verdict {
     Accepted,
@@ -22,7 +22,7 @@ pub enum Verdict {
     Memory,
 }
 
-/// What pest-check finds in a text.
+/// Returns the verdict of `parse_and_optimize` on a text.
 pub fn verdict_of(alloc: Global, text: &str) -> Verdict
     ensures { IsVerdict text.now result }
 {

@@ -1,4 +1,4 @@
-//! What the program does once its files are read.
+//! The program after its files are read.
 ghost use Rattle.std.specs.Prelude.{◌≡◌, ◌≤◌, ◌⊎◌, All, true};
 ghost use Rattle.pest_lint.specs.Found.{IsClean};
 ghost use Rattle.pest_meta.specs.Spelling.{HasAnswer, HasRefusal};

@@ -4,7 +4,7 @@ use meta_base::runtime::{Error, InputLocation, LineColLocation};
 use serde_json::{Value, json};
 use std::alloc::{AllocError, Global};
 
-/// What is found.
+/// An error or a warning.
 #[derive(Clone, Copy)]
 pub enum Kind {
     Error,

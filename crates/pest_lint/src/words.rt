@@ -1,4 +1,4 @@
-//! What is said of a finding, in words.
+//! Messages.
 use meta_base::grammar::Rule;
 use meta_base::runtime::{Error, ErrorVariant, InputLocation};
 use std::alloc::{AllocError, Global};
