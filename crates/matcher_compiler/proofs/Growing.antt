@@ -1,10 +1,9 @@
 -- Plans that grow.
-use Rattle.std.proofs.Common.{◌≡◌, refl, sym, ◌∙◌, ap, subst, ℕ, zero, suc, ◌+◌, ◌-◌, ◌<◌, ◌≤◌, List, [], ◌∷◌, ◌++◌, inl, inr, Option, Some, None, length, get_or, map, arith, append-nil}
+use Rattle.std.proofs.Common.{◌≡◌, sym, ◌∙◌, ap, subst, ℕ, zero, suc, ◌+◌, ◌-◌, ◌<◌, ◌≤◌, List, [], ◌∷◌, ◌++◌, inl, inr, Option, Some, None, length, get_or, map, arith, append-nil}
 use Rattle.std.proofs.Math.ListN.{get_or-append}
 use Rattle.std.proofs.Math.Seq.{get_or-append_right, get_or-append_seam}
 use Rattle.std.proofs.lemmas.Bool.{cases_lt}
 use Rattle.std.proofs.lemmas.List.{length-append, length-map, map-append}
-use Rattle.matcher_code.specs.declared.code.Code.{Code}
 use Rattle.matcher_code.specs.Sets.{KeepsSets}
 use Rattle.meta_base.specs.Language.Meaning.{Task}
 use Rattle.matcher_layout.specs.Laid as lay
@@ -13,7 +12,7 @@ use Rattle.matcher_program.specs.declared.form.Program.{Program}
 use Rattle.matcher_compiler.specs.declared.plan.Plan.{Plan}
 use Rattle.matcher_compiler.specs.declared.points.Demand.{Demand}
 use Rattle.matcher_compiler.specs.declared.points.Point.{Point}
-use Rattle.matcher_compiler.specs.Plans.{AreBound, IsBoundPart, IsLater, IsMet, IsPointOf, IsReady, Meets, SkipsAs}
+use Rattle.matcher_compiler.specs.Plans.{IsBoundPart, IsLater, IsMet, IsPointOf, SkipsAs}
 
 pub later_twice : (p : Program) (a b c : Plan) → IsLater p a b → IsLater p b c → IsLater p a c
 later_twice p a b c x y = record {

@@ -1,5 +1,5 @@
 -- The last row of a name, by a search from the end.
-use Rattle.std.proofs.Common.{◌≡◌, ◌∙◌, ap, refl, sym, subst, Bool, Option, if◌then◌else◌, ℕ, zero, ◌+◌, ◌<◌, suc, List, [], ◌∷◌, None, Some, arith, bytes_eq, drop, false, get_or, length, map, true}
+use Rattle.std.proofs.Common.{◌≡◌, ◌∙◌, ap, refl, sym, subst, Bool, Option, if◌then◌else◌, ℕ, zero, ◌+◌, ◌<◌, suc, List, [], ◌∷◌, None, Some, arith, bytes_eq, drop, false, get_or, length, true}
 use Rattle.std.proofs.lemmas.List.{get_or-map, length-map}
 use Rattle.std.proofs.lemmas.Slice.Eq.{bytes_eq-Decides}
 use Rattle.meta_ast.specs.Ast.{text_of}

@@ -1,9 +1,9 @@
 -- What the implicit skipping takes.
-use Rattle.std.proofs.Common.{◌≡◌, refl, sym, ◌∙◌, ap, ap₂, subst, ℕ, ◌<◌, ◌||◌, Bool, true, false, List, None, Option, Some, bytes_eq, get_or, length, arith, if◌then◌else◌}
+use Rattle.std.proofs.Common.{◌≡◌, refl, sym, ◌∙◌, ap, ap₂, subst, ℕ, ◌<◌, ◌||◌, Bool, true, false, None, Some, bytes_eq, get_or, length, if◌then◌else◌}
 use Rattle.std.specs.Prelude.{max}
 use Rattle.meta_ast.specs.Ast.{rule_type_of}
-use Rattle.meta_base.specs.Language.Expression.{Grammar, Ident, Rule, Silent, comment, rule_of, whitespace}
-use Rattle.meta_base.specs.Language.FurthestFailure.{furthest, is_eoi}
+use Rattle.meta_base.specs.Language.Expression.{Grammar, Ident, Silent, comment, rule_of, whitespace}
+use Rattle.meta_base.specs.Language.FurthestFailure.{is_eoi}
 use Rattle.meta_base.specs.Language.Matching.{character_outcome}
 use Rattle.meta_base.specs.Language.Meaning as by
 use Rattle.meta_base.specs.Language.Meaning.{Does, Run, Skipping, body_mode, inherited, mode_in}
@@ -11,7 +11,6 @@ use Rattle.meta_base.specs.Language.State.{AtomicMode, Between, Classes, Compoun
 use Rattle.matcher_layout.specs.Laid.{HasOutcome, IsTight, skip_set, span_of}
 use Rattle.matcher_layout.proofs.Characters.{silent_call_of_set, span_of_set}
 use Rattle.matcher_program.specs.declared.form.Form.{Form}
-use Rattle.matcher_program.specs.declared.form.Form.TheVariants as form
 use Rattle.matcher_program.specs.declared.form.Program.{Program}
 use Rattle.matcher_program.specs.declared.form.Row.{Row}
 use Rattle.matcher_program.specs.Programs.{IsSkippedRule, characters_of, is_set}
@@ -20,7 +19,7 @@ use Rattle.matcher_compiler.specs.declared.modes.Atomicity.TheVariants as mode
 use Rattle.matcher_compiler.specs.Modes.{mode_of}
 use Rattle.matcher_compiler.specs.Compiled.{SkipsForm}
 use Rattle.matcher_compiler.specs.Plans.{IsBoundIn, IsSoundProgram, grammar_in, no_rule, said}
-use Rattle.matcher_compiler.proofs.Calling.{made, row_bound, same}
+use Rattle.matcher_compiler.proofs.Calling.{made, same}
 use Rattle.matcher_compiler.proofs.Leaves.{set_outcome}
 
 white_is_no_end : is_eoi whitespace ≡ false

@@ -1,7 +1,5 @@
-use Rattle.std.proofs.Common.{◌≡◌, ◌<◌, arith, get_or, length, map, true, inl, inr, subst}
+use Rattle.std.proofs.Common.{◌≡◌, arith, true}
 use Rattle.std.proofs.lemmas.Grind.{common_steps}
-use Rattle.std.proofs.lemmas.Bool.{cases_lt}
-use Rattle.matcher_compiler.specs.Plans.{IsMet, laid_point}
 use Rattle.matcher_compiler.proofs.Finishing.{one_demand}
 use Rattle.matcher_compiler.proofs.check.meets_all.Goals as goal
 

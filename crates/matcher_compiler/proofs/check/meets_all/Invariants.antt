@@ -1,4 +1,4 @@
-use Rattle.std.proofs.Common.{ℕ, ◌<◌, get_or, length, map}
+use Rattle.std.proofs.Common.{ℕ, ◌<◌, get_or, map}
 use Rattle.matcher_program.specs.declared.form.Program.{Program}
 use Rattle.matcher_compiler.specs.declared.points.Demand.{Demand}
 use Rattle.matcher_compiler.specs.Plans.{IsMet, laid_point}

@@ -1,4 +1,4 @@
-use Rattle.std.proofs.Common.{◌≡◌, subst, sym}
+use Rattle.std.proofs.Common.{subst, sym}
 use Rattle.meta_base.specs.Language.Expression.{comment, whitespace}
 use Rattle.matcher_program.specs.Programs.{IsSkippedRule}
 use Rattle.matcher_compiler.specs.Plans.{SkipsAs, grammar_in}

@@ -1,4 +1,3 @@
-use Rattle.std.proofs.Common.{◌≤◌}
 use Rattle.matcher_compiler.specs.Compiled.{HasEntries}
 use Rattle.matcher_compiler.specs.Plans.{IsLater}
 use Rattle.matcher_compiler.proofs.compile.plan_entries.Given as goal

@@ -1,4 +1,4 @@
-use Rattle.std.proofs.Common.{◌≡◌, ◌<◌, ◌^◌, arith, length, subst, sym}
+use Rattle.std.proofs.Common.{◌<◌, arith, length, subst, sym}
 use Rattle.std.proofs.lemmas.Grind.{common_steps}
 use Rattle.matcher_program.specs.Programs.{characters_of}
 use Rattle.matcher_compiler.specs.Plans.{IsBlankSet, SkipsAs}

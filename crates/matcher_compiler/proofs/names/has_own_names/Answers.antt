@@ -1,4 +1,4 @@
-use Rattle.std.proofs.Common.{◌≡◌, ◌<◌, arith, below_more, length, subst, true}
+use Rattle.std.proofs.Common.{◌≡◌, ◌<◌, arith, below_more, subst, true}
 use Rattle.std.proofs.lemmas.Grind.{common_steps}
 use Rattle.matcher_compiler.specs.Names.{IsLast}
 use Rattle.matcher_compiler.proofs.names.has_own_names.Goals as goal

@@ -1,4 +1,4 @@
-use Rattle.std.proofs.Common.{◌≡◌, ◌∙◌, ap, sym, ◌||◌, false}
+use Rattle.std.proofs.Common.{◌∙◌, ap, sym, ◌||◌}
 use Rattle.matcher_code.specs.Reading.{is_covered}
 use Rattle.matcher_compiler.proofs.Ranging.{between_same, or_none}
 use Rattle.matcher_compiler.proofs.ranges.push_first.Goals as goal

@@ -1,4 +1,3 @@
-use Rattle.std.proofs.Common.{◌≡◌}
 use Rattle.matcher_layout.specs.Laid as lay
 use Rattle.matcher_layout.proofs.Ends.{bare_end_performs}
 use Rattle.meta_base.specs.Language.Matching.{end_outcome}

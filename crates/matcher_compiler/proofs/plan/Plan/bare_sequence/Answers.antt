@@ -1,4 +1,4 @@
-use Rattle.std.proofs.Common.{◌≡◌, sym, subst}
+use Rattle.std.proofs.Common.{sym, subst}
 use Rattle.matcher_layout.specs.Laid as lay
 use Rattle.meta_base.specs.Language.Expression.{Seq}
 use Rattle.meta_base.specs.Language.Meaning.{Run}

@@ -1,9 +1,8 @@
-use Rattle.std.proofs.Common.{◌≡◌, ◌∙◌, sym, subst}
+use Rattle.std.proofs.Common.{◌∙◌, sym, subst}
 use Rattle.matcher_layout.specs.Laid as lay
 use Rattle.meta_base.specs.Language.Meaning.{Skipping}
 use Rattle.matcher_layout.specs.Laid.{HasOutcome, skip_set}
 use Rattle.matcher_compiler.proofs.Leaves.{all_as}
-use Rattle.matcher_compiler.specs.Modes.{mode_of}
 use Rattle.matcher_compiler.specs.Names.{number_in}
 use Rattle.matcher_compiler.specs.Plans.{grammar_in, IsBlankSet, SkipsAs}
 use Rattle.matcher_compiler.proofs.plan.Plan.blanks.Goals as goal

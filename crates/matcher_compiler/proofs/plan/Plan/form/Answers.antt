@@ -1,4 +1,4 @@
-use Rattle.std.proofs.Common.{◌≡◌, chars, subst, sym}
+use Rattle.std.proofs.Common.{chars, subst, sym}
 use Rattle.std.specs.Prelude.{OnOk}
 use Rattle.meta_base.specs.Language.Expression.{Choice, NegPred, NodeTag, Opt, PosPred, Rep, RepOnce, RestoreOnErr, Seq, Str}
 use Rattle.meta_base.specs.Language.Meaning.{Run}

@@ -1,5 +1,4 @@
-use Rattle.std.proofs.Common.{◌≡◌, subst, sym}
-use Rattle.meta_base.specs.Language.State.{NonAtomicMode}
+use Rattle.std.proofs.Common.{subst, sym}
 use Rattle.matcher_layout.specs.Laid.{IsTight}
 use Rattle.matcher_compiler.specs.Modes.{mode_of}
 use Rattle.matcher_compiler.specs.Plans.{SkipsAs, grammar_in}

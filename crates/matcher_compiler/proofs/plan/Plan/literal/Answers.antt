@@ -1,4 +1,4 @@
-use Rattle.std.proofs.Common.{◌≡◌, chars, nat_eq, refl}
+use Rattle.std.proofs.Common.{chars, nat_eq, refl}
 use Rattle.matcher_compiler.proofs.Growing.{later_twice}
 use Rattle.matcher_layout.specs.Laid as lay
 use Rattle.matcher_layout.proofs.Leaves.{text_performs}

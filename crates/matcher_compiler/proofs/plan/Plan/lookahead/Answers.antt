@@ -1,4 +1,4 @@
-use Rattle.std.proofs.Common.{◌≡◌, ◌∙◌, ap}
+use Rattle.std.proofs.Common.{◌∙◌, ap}
 use Rattle.matcher_compiler.proofs.Growing.{later_twice}
 use Rattle.matcher_layout.specs.Laid as lay
 use Rattle.matcher_code.specs.declared.code.Op.TheVariants as op

@@ -1,4 +1,4 @@
-use Rattle.std.proofs.Common.{◌≡◌, ◌<◌, ◌≤◌, arith, get_or, length}
+use Rattle.std.proofs.Common.{◌≡◌, ◌<◌, arith, get_or, length}
 use Rattle.std.proofs.lemmas.Grind.{common_steps}
 use Rattle.matcher_compiler.proofs.Finishing.{laid_more}
 use Rattle.matcher_compiler.proofs.Growing.{later_twice}

@@ -1,4 +1,4 @@
-use Rattle.std.proofs.Common.{◌≡◌, ◌<◌, ◌≤◌, ℕ, get_or, length}
+use Rattle.std.proofs.Common.{◌<◌, ℕ, get_or, length}
 use Rattle.matcher_compiler.specs.declared.points.Point.{Point}
 use Rattle.matcher_compiler.specs.Plans.{AreBound, IsLater, IsReady, LaysPoint}
 use Rattle.matcher_compiler.proofs.plan.Plan.plan.Given as goal

@@ -1,4 +1,4 @@
-use Rattle.std.proofs.Common.{◌≡◌, [], refl, arith}
+use Rattle.std.proofs.Common.{[], refl, arith}
 use Rattle.matcher_compiler.proofs.Growing.{grown, no_more, none}
 use Rattle.matcher_compiler.proofs.plan.Plan.remember.Goals as goal
 

@@ -1,4 +1,3 @@
-use Rattle.std.proofs.Common.{◌≡◌}
 use Rattle.matcher_layout.specs.Laid as lay
 use Rattle.matcher_compiler.proofs.plan.Plan.restore.Goals as goal
 

@@ -1,4 +1,3 @@
-use Rattle.std.proofs.Common.{◌≡◌}
 use Rattle.matcher_compiler.proofs.Growing.{later_twice}
 use Rattle.matcher_layout.specs.Laid as lay
 use Rattle.matcher_compiler.proofs.Calling.{body_point, made, meant_is}

@@ -1,4 +1,4 @@
-use Rattle.std.proofs.Common.{◌≡◌, ◌==◌, if◌then◌else◌}
+use Rattle.std.proofs.Common.{◌==◌, if◌then◌else◌}
 use Rattle.matcher_layout.specs.Laid as lay
 use Rattle.matcher_layout.proofs.Ends.{start_performs}
 use Rattle.meta_base.specs.Language.State.{Failure, None', Success}

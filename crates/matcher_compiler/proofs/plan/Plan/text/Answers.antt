@@ -1,4 +1,4 @@
-use Rattle.std.proofs.Common.{◌≡◌, ◌∙◌, ◌++◌, ◌∷◌, [], refl, ap, sym, arith, length, get_or, map, ◌<◌}
+use Rattle.std.proofs.Common.{◌≡◌, ◌∙◌, ◌++◌, ◌∷◌, [], refl, ap, arith, length, get_or, map, ◌<◌}
 use Rattle.std.proofs.lemmas.Grind.{common_steps}
 use Rattle.matcher_compiler.proofs.Growing.{grown, last_of, no_more, none, texts_front, texts_last}
 use Rattle.matcher_compiler.proofs.plan.Plan.text.Goals as goal
