@@ -58,16 +58,19 @@ none_counts deny (d ∷ ds) h =
     let p = one_clean deny (is_error d) (list_any (counts deny) ds) h in
     rw (p.0) (none_counts deny ds p.1)
 
-zero_none : (b : Bool) → (if b then 1 else 0) ≡ 0 → b ≡ false
+zero_none : (b : Bool) → ◌≡◌ {A = ℕ} (if b then 1 else 0) 0 → b ≡ false
 zero_none true h = absurd (omega arith)
 zero_none false h = refl
 
 pub no_errors : (deny : Bool) (ds : List Diagnostic) → status_of deny ds ≡ 0 → list_any is_error ds ≡ false
 no_errors deny ds h = none_counts deny ds (zero_none (list_any (counts deny) ds) h)
 
-pub known_status : (b : Bool) → ((if b then 1 else 0) ≡ 0) ⊎ ((if b then 1 else 0) ≡ 1)
-known_status true = inr refl
-known_status false = inl refl
+-- the status by whether one counts
+pub found_status : (deny : Bool) (ds : List Diagnostic) (b : Bool) → b ≡ list_any (counts deny) ds → b ≡ true → ◌≡◌ {A = ℕ} 1 (status_of deny ds)
+found_status deny ds b e h = subst (λ (x : Bool). ◌≡◌ {A = ℕ} 1 (if x then 1 else 0)) (sym h ∙ e) refl
+
+pub clean_status : (deny : Bool) (ds : List Diagnostic) (b : Bool) → b ≡ list_any (counts deny) ds → b ≡ false → ◌≡◌ {A = ℕ} 0 (status_of deny ds)
+clean_status deny ds b e h = subst (λ (x : Bool). ◌≡◌ {A = ℕ} 0 (if x then 1 else 0)) (sym h ∙ e) refl
 
 -- a file's text is shown, and of one that can't be read nothing
 pub shown_text : (starts : List Text) (deny : Bool) (style : Style) (source : Source) (text : List ℕ) (status : ℕ) (old new : Option (List ℕ)) → IsReadable source → text ≡ source.bytes.items
@@ -76,7 +79,7 @@ shown_text starts deny style source text status old new readable same h =
     (h.0, read h.0 status readable (subst (λ t. ShowsText starts deny style t h.0 status) same h.1), h.2)
 
 pub shown_unread : (starts : List Text) (deny : Bool) (style : Style) (source : Source) (old : Option (List ℕ)) → (IsReadable source → ⊥) → Gains starts deny style source 3 old old
-shown_unread starts deny style source old no = ([], unread no, no_gain old)
+shown_unread starts deny style source old refuse = ([], unread refuse, no_gain old)
 
 -- the diagnostics of a text are printed, all of them
 pub text_shown : (starts : List Text) (deny : Bool) (style : Style) (text : List ℕ) (ds : List Diagnostic) (status : ℕ) (old new : Option (List ℕ)) → IsDiagnosis starts text ds → status ≡ status_of deny ds

@@ -4,7 +4,6 @@ ghost use Rattle.clap.specs.Matches.{first_value, found_of, one_text};
 
 use clap::{Arg, ArgAction, ArgMatches, Command};
 use lint_output::Style;
-use meta_diagnostics::Options;
 use std::alloc::{AllocError, Global};
 
 /// The form in which diagnostics are printed.
@@ -24,15 +23,6 @@ pub struct Settings<'a> {
     pub deny_warnings: bool,
     /// Rules with which matching starts.
     pub starts: &'a [&'a str],
-}
-
-impl<'a> Settings<'a> {
-    /// The warnings that are asked for.
-    pub fn options(self) -> Options<'a> {
-        Options {
-            starts: self.starts,
-        }
-    }
 }
 
 /// The exit statuses, as `--help` shows them.

@@ -1,6 +1,7 @@
 //! Diagnosing files, and printing what is found.
 ghost use Rattle.std.specs.Prelude.{◌≡◌, ◌≢◌, ◌≤◌, ◌⊎◌, ◌↔◌, ℕ, List, All, IfSome, IsSome, true};
 ghost use Rattle.std.specs.Io.KnownBytes.{Appends};
+ghost use Rattle.std.specs.List.{list_any};
 ghost use Rattle.meta_diagnostics.specs.Diagnosis.{IsDiagnosis};
 ghost use Rattle.meta_warnings.specs.Lists.{texts_of};
 ghost use Rattle.pest_lint.specs.Shows as spec;
@@ -9,7 +10,7 @@ ghost use Rattle.pest_meta.specs.Spelling.{HasAnswer};
 
 use crate::arguments::{Format, Settings};
 use lint_output::{LineIndex, Origin, Style, print_diagnostic, to_visible};
-use meta_diagnostics::{Diagnostic, Severity, diagnose};
+use meta_diagnostics::{Diagnostic, Options, Severity, diagnose};
 use std::alloc::Global;
 use std::io::Write;
 use tool_support::output::Output;
@@ -141,7 +142,10 @@ fn print_text<W: Write>(
     ensures taken { result ≢ 4 → out.new.refused ≡ out.old.refused }
     ensures refused_write { result ≡ 4 → out.new.refused ≡ true }
 {
-    let Ok(diagnostics) = diagnose(alloc, text, settings.options()) else {
+    let options = Options {
+        starts: settings.starts,
+    };
+    let Ok(diagnostics) = diagnose(alloc, text, options) else {
         return MEMORY;
     };
     let Ok(lines) = LineIndex::new(alloc, text) else {
@@ -163,10 +167,17 @@ fn print_text<W: Write>(
 pub fn status_of(diagnostics: &[Diagnostic], deny_warnings: bool) -> u8
     ensures { result ≡ spec.status_of deny_warnings diagnostics.now }
 {
-    let is_found = diagnostics
-        .iter()
-        .any(|diagnostic| is_counted(diagnostic, deny_warnings));
+    let is_found = has_counted(diagnostics, deny_warnings);
     if is_found { FOUND } else { CLEAN }
+}
+
+/// Whether one of these counts.
+fn has_counted(diagnostics: &[Diagnostic], deny_warnings: bool) -> bool
+    ensures { result ≡ list_any (spec.counts deny_warnings) diagnostics.now }
+{
+    diagnostics
+        .iter()
+        .any(|diagnostic| is_counted(diagnostic, deny_warnings))
 }
 
 /// Whether a diagnostic is an error, or warnings are denied.

@@ -7,7 +7,7 @@ use crate::lint::{
     CLEAN, MEMORY, Source, UNWRITABLE, report_memory, report_unreadable, status_of, text_of,
 };
 use lint_output::{LineIndex, Origin, sarif_log, sarif_result};
-use meta_diagnostics::{Diagnostic, diagnose};
+use meta_diagnostics::{Diagnostic, Options, diagnose};
 use serde_json::Value;
 use std::alloc::{AllocError, Global};
 use std::io::Write;
@@ -56,7 +56,10 @@ fn log_file<E: Write>(
     let Some(text) = text_of(source) else {
         return report_unreadable(alloc, source, err);
     };
-    let Ok(diagnostics) = diagnose(alloc, text, settings.options()) else {
+    let options = Options {
+        starts: settings.starts,
+    };
+    let Ok(diagnostics) = diagnose(alloc, text, options) else {
         report_memory(alloc, source, err);
         return MEMORY;
     };

@@ -15,3 +15,6 @@ loop-source-preserved g c =
           let o : c.log_file-one.result ≡ 0 = omega arith in
           all_more IsClean c.args.sources.now c.loop-source.source-index c.source-item.result c.loop-source-test.true c.source-item.is (c.loop-source.invariant.clean s) (c.log_file-one.ensures.clean o);
     }
+
+pub returns-then-printed-eq-CLEAN-clause-clean : goal.returns-then-printed-eq-CLEAN-clause-clean
+returns-then-printed-eq-CLEAN-clause-clean g c = λ zero. all_of IsClean c.args.sources.now c.loop-source.source-index c.loop-source-test.false (c.loop-source.invariant.clean zero)
