@@ -1,63 +1,128 @@
 //! The command line.
+ghost use Rattle.std.specs.Prelude.{◌≡◌, None, Some, codes, false, true};
+ghost use Rattle.clap.specs.Matches.{first_value, found_of, one_text};
+
 use clap::{Arg, ArgAction, ArgMatches, Command};
+use lint_output::Style;
 use std::alloc::{AllocError, Global};
+
+/// The form in which diagnostics are printed.
+#[derive(Clone, Copy, Debug, PartialEq, Eq)]
+pub enum Format {
+    /// One after another.
+    Stream(Style),
+    /// One log of SARIF 2.1.0.
+    Log,
+}
 
 /// The options of a command line.
 #[derive(Clone, Copy)]
-pub struct LintOptions {
-    /// A line of JSON for each finding, in place of text.
-    pub json: bool,
-    /// Warnings count as what is found.
+pub struct Settings<'a> {
+    pub format: Format,
+    /// The status counts warnings, too.
     pub deny_warnings: bool,
-    /// Rules that no other rule calls are not told.
-    pub all_rules: bool,
-    /// Text is shown in colours.
-    pub colours: bool,
+    /// Rules with which matching starts.
+    pub starts: &'a [&'a str],
 }
+
+/// The exit statuses, as `--help` shows them.
+const STATUSES: &str =
+    "status: 0 nothing found, 1 errors (or warnings that are denied), 2 out of memory, \
+     3 a file or the command line can't be read, 4 output refused";
 
 /// The arguments that the program takes.
 pub fn command<'a>(alloc: Global) -> Result<Command<'a>, AllocError> {
-    let format = Arg::new(alloc, "format")
-        .long("format")
-        .value_parser(["text", "json"].as_slice())
-        .default_value("text")
-        .help("How findings are written: as text, or a line of JSON for each");
-    let deny = Arg::new(alloc, "deny-warnings")
-        .long("deny-warnings")
-        .action(ArgAction::SetTrue)
-        .help("End with status 1 where there are warnings");
-    let all = Arg::new(alloc, "all-rules")
-        .long("all-rules")
-        .action(ArgAction::SetTrue)
-        .help("Say nothing of rules that no other rule calls");
     let files = Arg::new(alloc, "FILE")
-        .required(true)
         .action(ArgAction::Append)
         .num_args(1..)
-        .help("A grammar; - is standard input");
+        .help("A grammar, a folder with grammars (*.pest), or - for standard input");
     Command::new(alloc, "pest-lint")
+        .bin_name("pest-lint")?
         .version("2.9.5")
-        .about("Tells what is wrong with pest grammars")
-        .after_help(
-            "status: 0 nothing found, 1 something found, 2 out of memory, \
-             3 a file or the command line can't be read, 4 output refused",
-        )
-        .arg(format)?
-        .arg(deny)?
-        .arg(all)?
+        .about("Reports what is wrong with pest grammars, and how to mend it")
+        .after_help(STATUSES)
+        .arg(format_argument(alloc))?
+        .arg(colour_argument(alloc))?
+        .arg(flag(alloc, "deny-warnings", "Let warnings end with status 1"))?
+        .arg(start_argument(alloc))?
+        .arg(explain_argument(alloc))?
         .arg(files)
 }
 
-/// Returns the options of a command line.
-pub fn options_of(matches: &ArgMatches<'_>, colours: bool) -> LintOptions {
-    let json = match matches.get_str("format") {
-        Some(format) => format == "json",
-        None => false,
-    };
-    LintOptions {
-        json,
+/// `--format`.
+fn format_argument<'a>(alloc: Global) -> Arg<'a> {
+    Arg::new(alloc, "format")
+        .long("format")
+        .value_parser(["text", "json", "sarif", "github"].as_slice())
+        .default_value("text")
+        .help("How diagnostics are printed")
+}
+
+/// `--color`.
+fn colour_argument<'a>(alloc: Global) -> Arg<'a> {
+    Arg::new(alloc, "color")
+        .long("color")
+        .value_parser(["auto", "always", "never"].as_slice())
+        .default_value("auto")
+        .help("Colours: on a terminal, always or never")
+}
+
+/// `--start`.
+fn start_argument<'a>(alloc: Global) -> Arg<'a> {
+    Arg::new(alloc, "start")
+        .long("start")
+        .value_name("NAME")
+        .action(ArgAction::Append)
+        .help("A rule with which matching starts, so that it needs no call")
+}
+
+/// `--explain`.
+fn explain_argument<'a>(alloc: Global) -> Arg<'a> {
+    Arg::new(alloc, "explain")
+        .long("explain")
+        .value_name("CODE")
+        .help("Explain a diagnostic, as pest::left_recursion, and end")
+}
+
+/// A flag of this name.
+fn flag<'a>(alloc: Global, name: &'static str, help: &'static str) -> Arg<'a> {
+    Arg::new(alloc, name)
+        .long(name)
+        .action(ArgAction::SetTrue)
+        .help(help)
+}
+
+/// The settings of a command line, where colours are asked for or not.
+pub fn settings_of<'a>(matches: &'a ArgMatches<'_>, has_colour: bool) -> Settings<'a>
+    ensures denied { one_text (found_of matches.entry.now) (codes "deny-warnings") ≡ Some (codes "true")
+        → result.deny_warnings ≡ true }
+    ensures accepted { one_text (found_of matches.entry.now) (codes "deny-warnings") ≡ None
+        → result.deny_warnings ≡ false }
+    ensures log { first_value (found_of matches.entry.now) (codes "format") ≡ Some (codes "sarif")
+        → result.format ≡ Format.Log }
+    ensures json { first_value (found_of matches.entry.now) (codes "format") ≡ Some (codes "json")
+        → result.format ≡ Format.Stream Style.Json }
+{
+    Settings {
+        format: format_of(matches, has_colour),
         deny_warnings: matches.get_flag("deny-warnings"),
-        all_rules: matches.get_flag("all-rules"),
-        colours: colours && !json,
+        starts: matches.get_strs("start").unwrap_or(&[]),
+    }
+}
+
+/// The form in which diagnostics are asked for.
+fn format_of(matches: &ArgMatches<'_>, has_colour: bool) -> Format
+    ensures json { first_value (found_of matches.now) (codes "format") ≡ Some (codes "json")
+        → result ≡ Format.Stream Style.Json }
+    ensures github { first_value (found_of matches.now) (codes "format") ≡ Some (codes "github")
+        → result ≡ Format.Stream Style.Github }
+    ensures log { first_value (found_of matches.now) (codes "format") ≡ Some (codes "sarif")
+        → result ≡ Format.Log }
+{
+    match matches.get_str("format") {
+        Some("json") => Format::Stream(Style::Json),
+        Some("github") => Format::Stream(Style::Github),
+        Some("sarif") => Format::Log,
+        _ => Format::Stream(Style::Text(has_colour)),
     }
 }

@@ -1,23 +1,25 @@
-//! The program after its files are read.
-ghost use Rattle.std.specs.Prelude.{◌≡◌, ◌≤◌, ◌⊎◌, All, true};
-ghost use Rattle.pest_lint.specs.Found.{IsClean};
-ghost use Rattle.pest_meta.specs.Spelling.{HasAnswer, HasRefusal};
+//! Diagnosing files, and printing what is found.
+ghost use Rattle.std.specs.Prelude.{◌≡◌, ◌≢◌, ◌≤◌, ◌⊎◌, ◌↔◌, ℕ, List, All, IfSome, IsSome, true};
+ghost use Rattle.std.specs.Io.KnownBytes.{Appends};
+ghost use Rattle.std.specs.List.{list_any};
+ghost use Rattle.meta_diagnostics.specs.Diagnosis.{IsDiagnosis};
+ghost use Rattle.meta_warnings.specs.Lists.{texts_of};
+ghost use Rattle.pest_lint.specs.Shows as spec;
+ghost use Rattle.pest_lint.specs.Shows.{ArePrinted, Gains, GainsAll, GainsIn, IsClean, IsReadable, ShowsText};
+ghost use Rattle.pest_meta.specs.Spelling.{HasAnswer};
 
-use crate::arguments::LintOptions;
-use crate::expected::expected;
-use crate::findings::{Verdict, verdict_of, warnings};
-use crate::shown::{Finding, Kind, block, line};
-use crate::words::message;
-use meta_base::grammar::Rule;
-use meta_base::runtime::{Error, ErrorVariant};
-use std::alloc::{AllocError, Global};
+use crate::arguments::{Format, Settings};
+use lint_output::{LineIndex, Origin, Style, print_diagnostic, to_visible};
+use meta_diagnostics::{Diagnostic, Options, Severity, diagnose};
+use std::alloc::Global;
 use std::io::Write;
+use tool_support::output::Output;
 
-/// Nothing was found.
+/// No error was found, and no warning that is denied.
 pub const CLEAN: u8 = 0;
-/// Something was found.
+/// An error or a denied warning was found.
 pub const FOUND: u8 = 1;
-/// Want of memory.
+/// An allocation failed.
 pub const MEMORY: u8 = 2;
 /// A file can't be read.
 pub const UNREADABLE: u8 = 3;
@@ -26,175 +28,186 @@ pub const UNWRITABLE: u8 = 4;
 
 /// A file: its name, its bytes, and why they can't be read, if so.
 #[derive(Drop)]
-pub struct Source<'a> {
-    pub name: &'a str,
+pub struct Source {
+    pub name: String,
     pub bytes: Vec<u8>,
     pub why: Option<String>,
 }
 
-/// What errors or warnings are told of: a file and its text.
-#[derive(Clone, Copy)]
-struct Told<'a> {
-    kind: Kind,
-    file: &'a str,
-    text: &'a str,
-}
-
-/// How a run ends.
-#[derive(Drop)]
-pub struct Exit {
-    /// The status that the program ends with.
-    pub status: u8,
-}
-
-/// Writes what is found in each file to `out`, errors as pest-check finds them, and warnings where there are
-/// none. Answers 0 where nothing was found, and 1 where something was; warnings count where they are denied.
+/// Diagnoses each file, and prints what is found to `out`, in order. The status is the highest of theirs: 1
+/// where there are errors, or warnings that are denied.
 ///
-/// A file that can't be read is told on `err` with its name and why, and the others are looked at all the
-/// same (3). Where memory is wanting (2) or `out` refuses a write (4), the run ends there.
-pub fn run<W: Write, E: Write>(
+/// A file that can't be read is reported on `err`, and the others are diagnosed all the same (3). Where an
+/// allocation fails (2) or `out` refuses a write (4), the run ends.
+pub fn print_files<W: Write, E: Write>(
     alloc: Global,
-    sources: &[Source<'_>],
-    options: LintOptions,
-    out: &mut W,
-    err: &mut E,
-) -> Exit
-    ensures known { result.status ≤ 4 }
-    ensures clean { result.status ≡ 0 → All IsClean sources.now }
+    sources: &[Source],
+    settings: Settings<'_>,
+    style: Style,
+    out: &mut Output<W>,
+    err: &mut Output<E>,
+) -> u8
+    ensures known { result ≤ 4 }
+    ensures clean { result ≡ 0 → All IsClean sources.now }
+    ensures shows { result ≢ 2 → result ≢ 4
+        → GainsAll (texts_of settings.entry.starts.now) settings.entry.deny_warnings style sources.now result
+        (W.contents out.old.writer) (W.contents out.new.writer) }
+    ensures taken { result ≢ 4 → out.new.refused ≡ out.old.refused }
+    ensures refused_write { result ≡ 4 → out.new.refused ≡ true }
 {
     let mut status = CLEAN;
     for source in sources {
-        let one = look_at(alloc, source, options, out, err);
+        let one = print_file(alloc, source, settings, style, out, err);
         status = status.max(one);
         if one == MEMORY || one == UNWRITABLE {
-            return Exit { status: one };
+            return one;
         }
     }
-    Exit { status }
+    status
 }
 
-/// Looks at one file, and answers a status for it.
-fn look_at<W: Write, E: Write>(
+/// Diagnoses a file, prints what is found, and answers its status.
+fn print_file<W: Write, E: Write>(
     alloc: Global,
-    source: &Source<'_>,
-    options: LintOptions,
-    out: &mut W,
-    err: &mut E,
+    source: &Source,
+    settings: Settings<'_>,
+    style: Style,
+    out: &mut Output<W>,
+    err: &mut Output<E>,
 ) -> u8
     ensures known { result ≤ 4 }
     ensures clean { result ≡ 0 → IsClean source.now }
+    ensures shows { result ≢ 2 → result ≢ 4
+        → Gains (texts_of settings.entry.starts.now) settings.entry.deny_warnings style source.now result
+        (W.contents out.old.writer) (W.contents out.new.writer) }
+    ensures taken { result ≢ 4 → out.new.refused ≡ out.old.refused }
+    ensures refused_write { result ≡ 4 → out.new.refused ≡ true }
 {
-    if let Some(why) = &source.why {
-        return unreadable(source.name, why.as_str(), err);
+    let Some(text) = text_of(source) else {
+        return report_unreadable(alloc, source, err);
+    };
+    let status = print_text(alloc, source.name.as_str(), text, settings, style, out);
+    if status == MEMORY {
+        report_memory(alloc, source, err);
     }
-    match str::from_utf8(&source.bytes) {
-        Err(_) => unreadable(source.name, "it is not UTF-8", err),
-        Ok(text) => {
-            let status = tell(alloc, source.name, text, options, out);
-            if status == MEMORY {
-                let _ = writeln!(err, "out of memory at {}", source.name);
-            }
-            status
-        }
+    status
+}
+
+/// The text of a file, if it can be read and is UTF-8.
+pub fn text_of(source: &Source) -> Option<&str>
+    ensures readable { IsSome result ↔ IsReadable source.entry.now }
+    ensures text { IfSome result (λ text. text.now ≡ source.entry.now.bytes.items) }
+{
+    match source.why {
+        Some(_) => None,
+        None => str::from_utf8(&source.bytes).ok(),
     }
 }
 
-/// Tells of a file that can't be read.
-fn unreadable<E: Write>(name: &str, why: &str, err: &mut E) -> u8
+/// Reports a file that can't be read, and answers its status.
+pub fn report_unreadable<E: Write>(alloc: Global, source: &Source, err: &mut Output<E>) -> u8
     ensures { result ≡ 3 }
 {
-    let _ = writeln!(err, "cannot read {name}: {why}");
+    let why = match &source.why {
+        Some(why) => why.as_str(),
+        None => "it is not UTF-8",
+    };
+    if let Ok(name) = to_visible(alloc, source.name.as_str()) {
+        let _ = err.write_line(&["cannot read ", name.as_str(), ": ", why]);
+    }
     UNREADABLE
 }
 
-/// Tells what is found in a text.
-fn tell<W: Write>(alloc: Global, file: &str, text: &str, options: LintOptions, out: &mut W) -> u8
-    ensures known { result ≤ 4 }
-    ensures clean { result ≡ 0 → HasAnswer text.now }
-    ensures found { result ≡ 1 → HasRefusal text.now ⊎ (options.deny_warnings ≡ true) }
-{
-    match verdict_of(alloc, text) {
-        Verdict::Memory => MEMORY,
-        Verdict::Refused(errors) => {
-            let kind = Kind::Error;
-            let told = Told { kind, file, text };
-            let status = tell_all(alloc, told, &errors, options, out);
-            status.max(FOUND)
-        }
-        Verdict::Accepted => tell_warnings(alloc, file, text, options, out),
+/// Reports that an allocation failed at a file.
+pub fn report_memory<E: Write>(alloc: Global, source: &Source, err: &mut Output<E>) {
+    if let Ok(name) = to_visible(alloc, source.name.as_str()) {
+        let _ = err.write_line(&["out of memory at ", name.as_str()]);
     }
 }
 
-/// Tells the warnings for a text that is accepted.
-fn tell_warnings<W: Write>(
+/// Diagnoses a text, prints what is found, and answers its status.
+fn print_text<W: Write>(
     alloc: Global,
-    file: &str,
+    name: &str,
     text: &str,
-    options: LintOptions,
-    out: &mut W,
+    settings: Settings<'_>,
+    style: Style,
+    out: &mut Output<W>,
 ) -> u8
-    ensures known { result ≤ 4 }
-    ensures denied { result ≡ 1 → options.deny_warnings ≡ true }
+    ensures known { (result ≡ 0) ⊎ ((result ≡ 1) ⊎ ((result ≡ 2) ⊎ (result ≡ 4))) }
+    ensures clean { result ≡ 0 → HasAnswer text.now }
+    ensures shows { result ≢ 2 → result ≢ 4 → (bytes : List ℕ)
+        × ShowsText (texts_of settings.entry.starts.now) settings.entry.deny_warnings style text.now bytes
+        result × Appends (W.contents out.old.writer) (W.contents out.new.writer) bytes }
+    ensures taken { result ≢ 4 → out.new.refused ≡ out.old.refused }
+    ensures refused_write { result ≡ 4 → out.new.refused ≡ true }
 {
-    let Ok(warnings) = warnings(alloc, text, options.all_rules) else {
+    let options = Options {
+        starts: settings.starts,
+    };
+    let Ok(diagnostics) = diagnose(alloc, text, options) else {
         return MEMORY;
     };
-    let kind = Kind::Warning;
-    let told = Told { kind, file, text };
-    let status = tell_all(alloc, told, &warnings, options, out);
-    if status == CLEAN && options.deny_warnings && !warnings.is_empty() {
-        FOUND
-    } else {
-        status
+    let Ok(lines) = LineIndex::new(alloc, text) else {
+        return MEMORY;
+    };
+    let origin = Origin {
+        name,
+        text,
+        lines: &lines,
+    };
+    let status = print_all(alloc, origin, &diagnostics, style, out);
+    if status != CLEAN {
+        return status;
     }
+    status_of(&diagnostics, settings.deny_warnings)
 }
 
-/// Tells errors or warnings, in order. Answers 0, or why it ended before.
-fn tell_all<W: Write>(
-    alloc: Global,
-    told: Told<'_>,
-    errors: &[Error<Rule>],
-    options: LintOptions,
-    out: &mut W,
-) -> u8
-    ensures { (result ≡ 0) ⊎ ((result ≡ 2) ⊎ (result ≡ 4)) }
+/// The status of diagnostics: 1 where one is an error, or where warnings are denied and there are some.
+pub fn status_of(diagnostics: &[Diagnostic], deny_warnings: bool) -> u8
+    ensures { result ≡ spec.status_of deny_warnings diagnostics.now }
 {
-    for error in errors {
-        let Ok(text) = shown(alloc, told, error, options) else {
+    let is_found = has_counted(diagnostics, deny_warnings);
+    if is_found { FOUND } else { CLEAN }
+}
+
+/// Whether one of these counts.
+fn has_counted(diagnostics: &[Diagnostic], deny_warnings: bool) -> bool
+    ensures { result ≡ list_any (spec.counts deny_warnings) diagnostics.now }
+{
+    diagnostics
+        .iter()
+        .any(|diagnostic| is_counted(diagnostic, deny_warnings))
+}
+
+/// Whether a diagnostic is an error, or warnings are denied.
+fn is_counted(diagnostic: &Diagnostic, deny_warnings: bool) -> bool
+    ensures { result ≡ spec.counts deny_warnings diagnostic.now }
+{
+    deny_warnings || matches!(diagnostic.severity, Severity::Error)
+}
+
+/// Prints diagnostics, in order. Answers 0, or why it ended before.
+fn print_all<W: Write>(
+    alloc: Global,
+    origin: Origin<'_>,
+    diagnostics: &[Diagnostic],
+    style: Style,
+    out: &mut Output<W>,
+) -> u8
+    ensures known { (result ≡ 0) ⊎ ((result ≡ 2) ⊎ (result ≡ 4)) }
+    ensures shows { result ≡ 0 → (bytes : List ℕ) × ArePrinted style diagnostics.now bytes
+        × Appends (W.contents out.old.writer) (W.contents out.new.writer) bytes }
+    ensures taken { result ≢ 4 → out.new.refused ≡ out.old.refused }
+    ensures refused_write { result ≡ 4 → out.new.refused ≡ true }
+{
+    for diagnostic in diagnostics {
+        let Ok(text) = print_diagnostic(alloc, origin, diagnostic, style) else {
             return MEMORY;
         };
-        if out.write_all(text.as_bytes()).is_err() {
+        let Ok(()) = out.write_text(text.as_str()) else {
             return UNWRITABLE;
-        }
+        };
     }
-    match out.flush() {
-        Ok(()) => CLEAN,
-        Err(_) => UNWRITABLE,
-    }
-}
-
-/// An error or a warning as it is written.
-fn shown(
-    alloc: Global,
-    told: Told<'_>,
-    error: &Error<Rule>,
-    options: LintOptions,
-) -> Result<String, AllocError> {
-    let names = match error.variant {
-        ErrorVariant::ParsingError => expected(alloc, told.text)?,
-        ErrorVariant::CustomError { .. } => Vec::new(alloc),
-    };
-    let message = message(alloc, told.text, error, &names)?;
-    let finding = Finding {
-        kind: told.kind,
-        file: told.file,
-        message: message.as_str(),
-        error,
-        expected: &names,
-    };
-    if options.json {
-        line(alloc, &finding)
-    } else {
-        block(alloc, &finding, options.colours)
-    }
+    CLEAN
 }

@@ -1,65 +1,103 @@
-//! Looks for what is wrong with grammars, and tells it.
+//! Reports what is wrong with pest grammars.
 #![tactic(auto)]
 
+ghost use Rattle.std.specs.Prelude.{◌≡◌, ◌≢◌, ◌≤◌, All, None};
+ghost use Rattle.meta_warnings.specs.Lists.{texts_of};
+ghost use Rattle.pest_lint.specs.Shows.{GainsIn, IsClean};
+
 mod arguments;
-mod expected;
-mod findings;
+mod explain;
 mod lint;
-mod shown;
-mod words;
+mod log;
+mod sources;
 
-use arguments::{LintOptions, command, options_of};
-use lint::{MEMORY, Source, UNREADABLE, run};
+use arguments::{Format, Settings, command, settings_of};
+use clap::ArgMatches;
+use explain::explanation;
+use lint::{CLEAN, MEMORY, Source, UNREADABLE, UNWRITABLE, print_files};
+use log::log_files;
+use meta_diagnostics::Code;
+use sources::read_sources;
 use std::alloc::AllocError;
-use std::io::{IsTerminal, Read};
+use std::env;
+use std::io::IsTerminal;
 use std::process::ExitCode;
-use std::{env, fs};
+use tool_support::output::Output;
 
-/// The bytes of the file of a name, or of standard input for `-`; or why they can't be read.
-fn source<'a>(rt: &HostRuntime, name: &'a str) -> Result<Source<'a>, AllocError> {
-    let alloc = rt.alloc();
-    let mut bytes = Vec::new(alloc);
-    let read = if name == "-" {
-        rt.stdin().read_to_end(&mut bytes)
-    } else {
-        fs::File::open(rt, name).and_then(|mut file| file.read_to_end(&mut bytes))
-    };
-    let why = match read {
-        Ok(_) => None,
-        Err(error) => Some(format!(in alloc; "{error}")?),
-    };
-    Ok(Source { name, bytes, why })
+/// Whether text is in colours: as the command line says, or on a terminal, unless the variable NO_COLOR has a
+/// value or TERM is `dumb`.
+fn has_colour(rt: &HostRuntime, choice: Option<&str>) -> bool {
+    match choice {
+        Some("always") => true,
+        Some("never") => false,
+        _ => rt.stdout().is_terminal() && !is_colour_refused(rt),
+    }
 }
 
-/// Whether findings are shown in colours: on a terminal, unless the variable NO_COLOR has a value.
-fn shows_colours(rt: &HostRuntime) -> bool {
-    let refused = match env::var(rt, "NO_COLOR") {
-        Ok(value) => !value.is_empty(),
+/// Whether the environment refuses colours.
+fn is_colour_refused(rt: &HostRuntime) -> bool {
+    let is_dumb = match env::var(rt, "TERM") {
+        Ok(value) => value.as_str() == "dumb",
         Err(_) => false,
     };
-    rt.stdout().is_terminal() && !refused
+    match env::var(rt, "NO_COLOR") {
+        Ok(value) => is_dumb || !value.is_empty(),
+        Err(_) => is_dumb,
+    }
 }
 
-/// Reads the files of these names, and looks at each.
-fn looked_at(rt: &HostRuntime, names: &[&str], options: LintOptions) -> Result<u8, AllocError> {
-    let mut sources = Vec::new(rt.alloc());
-    for name in names {
-        sources.push(source(rt, name)?)?;
+/// Diagnoses files, over the process's own output, and answers the status.
+fn lint_files(rt: &HostRuntime, sources: &[Source], settings: Settings<'_>) -> u8
+    ensures known { result ≤ 4 }
+    ensures clean { result ≡ 0 → All IsClean sources.now }
+    ensures shows { result ≢ 2 → result ≢ 4
+        → GainsIn settings.entry.format (texts_of settings.entry.starts.now) settings.entry.deny_warnings
+        sources.now result None None }
+{
+    let mut out = Output::new(rt.stdout());
+    let mut err = Output::new(rt.stderr());
+    match settings.format {
+        Format::Stream(style) => {
+            print_files(rt.alloc(), sources, settings, style, &mut out, &mut err)
+        }
+        Format::Log => log_files(rt.alloc(), sources, settings, &mut out, &mut err),
     }
-    let exit = run(
-        rt.alloc(),
-        &sources,
-        options,
-        &mut rt.stdout(),
-        &mut rt.stderr(),
-    );
-    Ok(exit.status)
+}
+
+/// Prints the page of a code, and answers the status.
+fn print_page(rt: &HostRuntime, name: &str) -> u8 {
+    let Some(code) = Code::from_name(name) else {
+        let _ = eprintln!(rt; "no diagnostic has this code; one is pest::left_recursion");
+        return UNREADABLE;
+    };
+    let name = code.name();
+    let severity = code.severity().name();
+    match println!(rt; "{name} ({severity})\n\n{}", explanation(code)) {
+        Ok(()) => CLEAN,
+        Err(_) => UNWRITABLE,
+    }
+}
+
+/// The status for a command line that was parsed.
+fn run(rt: &HostRuntime, matches: &ArgMatches<'_>) -> Result<u8, AllocError> {
+    if let Some(name) = matches.get_str("explain") {
+        return Ok(print_page(rt, name));
+    }
+    let names = matches.get_strs("FILE").unwrap_or(&[]);
+    if names.is_empty() {
+        let _ = eprintln!(rt; "no file is named; pest-lint --help shows the usage");
+        return Ok(UNREADABLE);
+    }
+    let settings = settings_of(matches, has_colour(rt, matches.get_str("color")));
+    let sources = read_sources(rt, names)?;
+    Ok(lint_files(rt, &sources, settings))
 }
 
 /// The status for the words of the command line.
 fn answer(rt: &HostRuntime) -> Result<u8, clap::Error> {
     let alloc = rt.alloc();
     let Ok(words) = env::args(rt) else {
+        let _ = eprintln!(rt; "the command line is not UTF-8");
         return Ok(UNREADABLE);
     };
     let words: Vec<String> = words.collect(alloc)?;
@@ -70,9 +108,7 @@ fn answer(rt: &HostRuntime) -> Result<u8, clap::Error> {
             return Ok(if error.use_stderr() { UNREADABLE } else { 0 });
         }
     };
-    let options = options_of(&matches, shows_colours(rt));
-    let names = matches.get_strs("FILE").unwrap_or(&[]);
-    Ok(looked_at(rt, names, options)?)
+    Ok(run(rt, &matches)?)
 }
 
 fn main(rt: HostRuntime) -> ExitCode {

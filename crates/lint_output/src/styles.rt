@@ -1,0 +1,26 @@
+//! Diagnostics in a style.
+ghost use Rattle.std.specs.Prelude.{IfOk, string_bytes};
+ghost use Rattle.lint_output.specs.Prints.{IsPrinted};
+
+use crate::github::to_annotation;
+use crate::json::to_json_line;
+use crate::text::to_text;
+use crate::{Origin, Style};
+use diagnostic_data::Diagnostic;
+use std::alloc::{AllocError, Global};
+
+/// A diagnostic as it is printed. The only error is an allocation failure.
+pub fn print_diagnostic(
+    alloc: Global,
+    origin: Origin<'_>,
+    diagnostic: &Diagnostic,
+    style: Style,
+) -> Result<String, AllocError>
+    ensures { IfOk result (λ text. IsPrinted style diagnostic.now (string_bytes text)) }
+{
+    match style {
+        Style::Text(has_colour) => to_text(alloc, origin, diagnostic, has_colour),
+        Style::Json => to_json_line(alloc, origin, diagnostic),
+        Style::Github => to_annotation(alloc, origin, diagnostic),
+    }
+}

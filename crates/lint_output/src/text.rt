@@ -1,0 +1,131 @@
+//! Blocks of text.
+ghost use Rattle.std.specs.Prelude.{◌≡◌, IfOk, string_bytes};
+ghost use Rattle.lint_output.specs.Prints.{IsBlock, heading};
+
+use crate::Origin;
+use crate::excerpts::{excerpt_at, part, push_excerpt};
+use crate::visible::push_visible;
+use diagnostic_data::{Diagnostic, Fix, Help, Related, Severity};
+use std::alloc::{AllocError, Global};
+
+/// A diagnostic as text: severity, code and message; file, line and column; the line with a mark; the other
+/// parts of the text that matter; the help; an empty line. No character of the grammar or of the file's name
+/// reaches a terminal that could change it.
+pub fn to_text(
+    alloc: Global,
+    origin: Origin<'_>,
+    diagnostic: &Diagnostic,
+    has_colour: bool,
+) -> Result<String, AllocError>
+    ensures { IfOk result (λ text. IsBlock has_colour diagnostic.now (string_bytes text)) }
+{
+    let heading = heading_of(diagnostic.severity, has_colour);
+    let code = diagnostic.code.name();
+    let rest = details(alloc, origin, diagnostic, has_colour)?;
+    format!(in alloc; "{heading}[{code}]: {rest}\n")
+}
+
+/// The message of a diagnostic, and what is printed below it.
+fn details(
+    alloc: Global,
+    origin: Origin<'_>,
+    diagnostic: &Diagnostic,
+    has_colour: bool,
+) -> Result<String, AllocError> {
+    let mut out = String::new(alloc);
+    push_visible(diagnostic.message.as_str(), &mut out)?;
+    out.push('\n')?;
+    push_place(alloc, origin, diagnostic.start, diagnostic.end, &mut out)?;
+    push_related(alloc, origin, &diagnostic.related, &mut out)?;
+    if let Some(help) = &diagnostic.help {
+        push_help(alloc, origin, help, has_colour, &mut out)?;
+    }
+    Ok(out)
+}
+
+/// A severity's name, in its colour where that is asked for.
+fn heading_of(severity: Severity, has_colour: bool) -> &'static str
+    ensures { result.now ≡ heading has_colour severity }
+{
+    match (severity, has_colour) {
+        (Severity::Error, true) => "\x1b[1;31merror\x1b[0m",
+        (Severity::Error, false) => "error",
+        (Severity::Warning, true) => "\x1b[1;33mwarning\x1b[0m",
+        (Severity::Warning, false) => "warning",
+    }
+}
+
+/// Adds the file, line and column of a span, and its line with a mark.
+fn push_place(
+    alloc: Global,
+    origin: Origin<'_>,
+    start: usize,
+    end: usize,
+    out: &mut String,
+) -> Result<(), AllocError> {
+    let location = origin.lines.locate(origin.text, start);
+    let number = location.line.to_string(alloc)?;
+    let margin = " ".repeat(alloc, number.len())?;
+    out.push_str(margin.as_str())?;
+    out.push_str("--> ")?;
+    push_visible(origin.name, out)?;
+    let position = format!(in alloc; ":{}:{}\n", location.line, location.column)?;
+    out.push_str(position.as_str())?;
+    push_excerpt(alloc, origin, start, end, out)
+}
+
+/// Adds the parts of the text that matter to a diagnostic, each with its message.
+fn push_related(
+    alloc: Global,
+    origin: Origin<'_>,
+    related: &[Related],
+    out: &mut String,
+) -> Result<(), AllocError> {
+    for item in related {
+        out.push_str("note: ")?;
+        push_visible(item.message.as_str(), out)?;
+        out.push('\n')?;
+        push_place(alloc, origin, item.start, item.end, out)?;
+    }
+    Ok(())
+}
+
+/// Adds a help, and the line as its fix mends it.
+fn push_help(
+    alloc: Global,
+    origin: Origin<'_>,
+    help: &Help,
+    has_colour: bool,
+    out: &mut String,
+) -> Result<(), AllocError> {
+    out.push_str(if has_colour {
+        "\x1b[1;36mhelp\x1b[0m: "
+    } else {
+        "help: "
+    })?;
+    push_visible(help.message.as_str(), out)?;
+    out.push('\n')?;
+    match &help.fix {
+        Some(fix) => push_fix(alloc, origin, fix, out),
+        None => Ok(()),
+    }
+}
+
+/// Adds the line of a fix as it is after it.
+fn push_fix(
+    alloc: Global,
+    origin: Origin<'_>,
+    fix: &Fix,
+    out: &mut String,
+) -> Result<(), AllocError> {
+    let location = origin.lines.locate(origin.text, fix.start);
+    let number = location.line.to_string(alloc)?;
+    let excerpt = excerpt_at(origin.text, location.line_start, fix.start);
+    out.push_str(number.as_str())?;
+    out.push_str(" + ")?;
+    push_visible(part(origin.text, excerpt.start, fix.start), out)?;
+    push_visible(fix.replacement.as_str(), out)?;
+    push_visible(part(origin.text, fix.end, excerpt.end), out)?;
+    out.push('\n')?;
+    Ok(())
+}

@@ -1,0 +1,58 @@
+//! Pictures of control characters.
+use std::alloc::{AllocError, Global};
+use unicode_width::UnicodeWidthChar;
+
+/// The columns of a tab.
+const TAB: &str = "    ";
+
+/// A text with a picture of each control character in its place, and blanks for tabs.
+pub fn to_visible(alloc: Global, text: &str) -> Result<String, AllocError> {
+    let mut visible = String::new(alloc);
+    push_visible(text, &mut visible)?;
+    Ok(visible)
+}
+
+/// Adds a text, with a picture of each control character in its place, and blanks for tabs.
+pub(crate) fn push_visible(text: &str, out: &mut String) -> Result<(), AllocError> {
+    for c in text.chars() {
+        if c == '\t' {
+            out.push_str(TAB)?;
+        } else {
+            out.push(picture(c))?;
+        }
+    }
+    Ok(())
+}
+
+/// The columns that a text takes where it is printed so.
+pub(crate) fn visible_width(text: &str) -> usize {
+    let mut width = 0usize;
+    for c in text.chars() {
+        let columns = if c == '\t' {
+            TAB.len()
+        } else {
+            picture(c).width().unwrap_or(1)
+        };
+        width = width.saturating_add(columns);
+    }
+    width
+}
+
+/// A character, or a picture of one that might change how the others are shown.
+fn picture(c: char) -> char {
+    match c {
+        '\0'..='\x1f' => control_picture(c),
+        '\x7f' => '\u{2421}',
+        '\u{80}'..='\u{9f}' => '\u{fffd}',
+        '\u{200b}'..='\u{200f}' => '\u{fffd}',
+        '\u{2028}'..='\u{202e}' => '\u{fffd}',
+        '\u{2066}'..='\u{2069}' => '\u{fffd}',
+        '\u{feff}' => '\u{fffd}',
+        _ => c,
+    }
+}
+
+/// The picture of an ASCII control character.
+fn control_picture(c: char) -> char {
+    char::from_u32(u32::from(c).saturating_add(0x2400)).unwrap_or('\u{fffd}')
+}

@@ -1,0 +1,87 @@
+-- What is printed of diagnostics and of files, one after another.
+use Rattle.std.proofs.Common.{◌≡◌, ◌≢◌, ◌⊎◌, inl, inr, ℕ, zero, suc, ◌+◌, ◌<◌, ◌≤◌, List, [], ◌∷◌, ◌++◌, All, Bool, true, false, ◌||◌, Option, Some, None, if◌then◌else◌, length, drop, take, get_or, max, sym, ap, ◌∙◌, add-one, append_assoc, append-nil, drop-cons, subst, arith, refl}
+use Rattle.std.proofs.lemmas.List.{drop_all, take_all, take_more}
+use Rattle.std.proofs.lemmas.List.Elements.{All-append}
+use Rattle.std.specs.List.{AllZip, list_any}
+use Rattle.std.specs.Io.KnownBytes.{Appends}
+use Rattle.diagnostic_data.specs.Reports.{is_error}
+use Rattle.diagnostic_data.specs.declared.diagnostic.Diagnostic.{Diagnostic}
+use Rattle.lint_output.specs.declared.Style.{Style}
+use Rattle.meta_base.specs.Language.Text.{Text}
+use Rattle.meta_diagnostics.specs.Diagnosis.{IsDiagnosis}
+use Rattle.pest_lint.specs.Shows.{ArePrinted, Gains, IsReadable, ShowsText, counts, read, status_of, unread}
+use Rattle.pest_lint.specs.declared.lint.Source.{Source}
+
+-- two gains in turn, and none
+pub both_gains : (a b c : Option (List ℕ)) (xs ys : List ℕ) → Appends a b xs → Appends b c ys → Appends a c (xs ++ ys)
+both_gains None b c xs ys h k = tt
+both_gains (Some a) None c xs ys h k = absurd h
+both_gains (Some a) (Some b) None xs ys h k = absurd k
+both_gains (Some a) (Some b) (Some c) xs ys h k = k ∙ (ap (λ t. t ++ ys) h ∙ append_assoc a xs ys)
+
+pub no_gain : (a : Option (List ℕ)) → Appends a a []
+no_gain None = tt
+no_gain (Some a) = sym (append-nil a)
+
+-- one more of a list, and none
+pub zip_next : {X Y : Type 0} (R : X → Y → Type 0) (xs : List X) (i : ℕ) (x : X) (y : Y) (ys : List Y) → x ≡ get_or xs i x → i < length xs → R x y → AllZip R (drop (i + 1) xs) ys
+    → AllZip R (drop i xs) (y ∷ ys)
+zip_next R xs i x y ys e h r rest =
+    let next : drop i xs ≡ x ∷ drop (i + 1) xs = rw add-one (drop-cons xs i x h ∙ ap (λ z. z ∷ drop (suc i) xs) (sym e)) in
+    subst (λ zs. AllZip R zs (y ∷ ys)) (sym next) (r, rest)
+
+pub zip_end : {X Y : Type 0} (R : X → Y → Type 0) (xs : List X) (i : ℕ) → length xs ≤ i → AllZip R (drop i xs) []
+zip_end R xs i h = subst (λ zs. AllZip R zs []) (sym (drop_all i xs h)) tt
+
+-- what holds of each of the first, and of the next
+single : {X : Type 0} (P : X → Type 0) (x : X) → P x → (k : ℕ) (d : X) → k < length (x ∷ []) → P (get_or (x ∷ []) k d)
+single P x p zero d h = p
+single P x p (suc k) d h = absurd (omega arith)
+
+pub all_more : {X : Type 0} (P : X → Type 0) (xs : List X) (i : ℕ) (x : X) → i < length xs → x ≡ get_or xs i x → All P (take i xs) → P x → All P (take (i + 1) xs)
+all_more P xs i x h at k p =
+    let more : take (i + 1) xs ≡ take i xs ++ x ∷ [] = take_more xs i x h ∙ ap (λ y. take i xs ++ y ∷ []) (sym at) in
+    subst (λ ys. All P ys) (sym more) (All-append P (take i xs) (x ∷ []) k (single P x p))
+
+pub all_of : {X : Type 0} (P : X → Type 0) (xs : List X) (i : ℕ) → length xs ≤ i → All P (take i xs) → All P xs
+all_of P xs i h k = subst (λ ys. All P ys) (take_all i xs h) k
+
+-- a status of 0 is that of no error
+one_clean : (deny e more : Bool) → ((deny || e) || more) ≡ false → (e ≡ false) × (more ≡ false)
+one_clean true e more h = cc
+one_clean false true more h = cc
+one_clean false false more h = (refl, h)
+
+none_counts : (deny : Bool) (ds : List Diagnostic) → list_any (counts deny) ds ≡ false → list_any is_error ds ≡ false
+none_counts deny [] h = refl
+none_counts deny (d ∷ ds) h =
+    let p = one_clean deny (is_error d) (list_any (counts deny) ds) h in
+    rw (p.0) (none_counts deny ds p.1)
+
+zero_none : (b : Bool) → ◌≡◌ {A = ℕ} (if b then 1 else 0) 0 → b ≡ false
+zero_none true h = absurd (omega arith)
+zero_none false h = refl
+
+pub no_errors : (deny : Bool) (ds : List Diagnostic) → status_of deny ds ≡ 0 → list_any is_error ds ≡ false
+no_errors deny ds h = none_counts deny ds (zero_none (list_any (counts deny) ds) h)
+
+-- the status by whether one counts
+pub found_status : (deny : Bool) (ds : List Diagnostic) (b : Bool) → b ≡ list_any (counts deny) ds → b ≡ true → ◌≡◌ {A = ℕ} 1 (status_of deny ds)
+found_status deny ds b e h = subst (λ (x : Bool). ◌≡◌ {A = ℕ} 1 (if x then 1 else 0)) (sym h ∙ e) refl
+
+pub clean_status : (deny : Bool) (ds : List Diagnostic) (b : Bool) → b ≡ list_any (counts deny) ds → b ≡ false → ◌≡◌ {A = ℕ} 0 (status_of deny ds)
+clean_status deny ds b e h = subst (λ (x : Bool). ◌≡◌ {A = ℕ} 0 (if x then 1 else 0)) (sym h ∙ e) refl
+
+-- a file's text is shown, and of one that can't be read nothing
+pub shown_text : (starts : List Text) (deny : Bool) (style : Style) (source : Source) (text : List ℕ) (status : ℕ) (old new : Option (List ℕ)) → IsReadable source → text ≡ source.bytes.items
+    → (bytes : List ℕ) × ShowsText starts deny style text bytes status × Appends old new bytes → Gains starts deny style source status old new
+shown_text starts deny style source text status old new readable same h =
+    (h.0, read h.0 status readable (subst (λ t. ShowsText starts deny style t h.0 status) same h.1), h.2)
+
+pub shown_unread : (starts : List Text) (deny : Bool) (style : Style) (source : Source) (old : Option (List ℕ)) → (IsReadable source → ⊥) → Gains starts deny style source 3 old old
+shown_unread starts deny style source old refuse = ([], unread refuse, no_gain old)
+
+-- the diagnostics of a text are printed, all of them
+pub text_shown : (starts : List Text) (deny : Bool) (style : Style) (text : List ℕ) (ds : List Diagnostic) (status : ℕ) (old new : Option (List ℕ)) → IsDiagnosis starts text ds → status ≡ status_of deny ds
+    → (bytes : List ℕ) × ArePrinted style ds bytes × Appends old new bytes → (bytes : List ℕ) × ShowsText starts deny style text bytes status × Appends old new bytes
+text_shown starts deny style text ds status old new d whole h = (h.0, record { diagnostics = ds; diagnosis = d; printed = h.1; whole = whole }, h.2)

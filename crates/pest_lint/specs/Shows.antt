@@ -1,0 +1,87 @@
+-- The bytes that the program writes of files, and its status.
+use Rattle.std.specs.Prelude.{◌≡◌, ℕ, List, [], ◌∷◌, ◌++◌, Bool, ◌||◌, None, Option, IsUtf8, if◌then◌else◌, max, string_bytes, ⊤}
+use Rattle.std.specs.List.{AllZip, list_any}
+use Rattle.std.specs.Io.KnownBytes.{Appends}
+use Rattle.diagnostic_data.specs.Reports.{is_error}
+use Rattle.diagnostic_data.specs.declared.diagnostic.Diagnostic.{Diagnostic}
+use Rattle.lint_output.specs.Prints.{IsPrinted}
+use Rattle.lint_output.specs.declared.Style.{Style}
+use Rattle.meta_base.specs.Language.Text.{Text}
+use Rattle.meta_diagnostics.specs.Diagnosis.{IsDiagnosis}
+use Rattle.pest_lint.specs.declared.arguments.Format.{Format}
+use Rattle.pest_lint.specs.declared.arguments.Format.TheVariants as format
+use Rattle.pest_lint.specs.declared.lint.Source.{Source}
+use Rattle.pest_meta.specs.Spelling.{HasAnswer}
+
+-- the file could be read, and is text
+abbrev pub IsReadable : Source → Type 0
+IsReadable source = (source.why ≡ None) × IsUtf8 source.bytes.items
+
+-- the file could be read, and its text is accepted
+abbrev pub IsClean : Source → Type 0
+IsClean source = (source.why ≡ None) × HasAnswer source.bytes.items
+
+-- 1 where one is an error, or warnings are denied and there are some
+abbrev pub counts : Bool → Diagnostic → Bool
+counts deny d = deny || is_error d
+
+abbrev pub status_of : Bool → List Diagnostic → ℕ
+status_of deny diagnostics = if list_any (counts deny) diagnostics then 1 else 0
+
+-- all of these, one after another
+abbrev pub joined : List (List ℕ) → List ℕ
+joined [] = []
+joined (text ∷ texts) = text ++ joined texts
+
+-- all diagnostics are printed, in order
+abbrev pub ArePrinted : Style → List Diagnostic → List ℕ → Type 0
+ArePrinted style diagnostics bytes = (texts : List (List ℕ))
+    × AllZip (IsPrinted style) diagnostics texts × (bytes ≡ joined texts)
+
+-- a text's diagnostics are written, and the status is theirs
+pub record ShowsText (starts : List Text) (deny : Bool) (style : Style) (text bytes : List ℕ) (status : ℕ)
+    : Type 0 where
+  pub diagnostics : List Diagnostic
+  pub diagnosis : IsDiagnosis starts text diagnostics
+  pub printed : ArePrinted style diagnostics bytes
+  pub whole : status ≡ status_of deny diagnostics
+
+-- of a file: nothing is written of one that can't be read or is not UTF-8 (3)
+pub data Shows (starts : List Text) (deny : Bool) (style : Style) (source : Source)
+    : List ℕ → ℕ → Type 0 where
+  unread : (IsReadable source → ⊥) → Shows starts deny style source [] 3
+  read : (bytes : List ℕ) (status : ℕ) → IsReadable source
+      → ShowsText starts deny style source.bytes.items bytes status
+      → Shows starts deny style source bytes status
+
+-- a writer gained what is shown of a file
+abbrev pub Gains : List Text → Bool → Style → Source → ℕ → Option (List ℕ) → Option (List ℕ) → Type 0
+Gains starts deny style source status old new = (bytes : List ℕ) × Shows starts deny style source bytes status
+    × Appends old new bytes
+
+-- the bytes that were written of a file, and its status
+pub record Look : Type 0 where
+  pub bytes : List ℕ
+  pub status : ℕ
+
+abbrev pub bytes_of : List Look → List ℕ
+bytes_of [] = []
+bytes_of (look ∷ looks) = look.bytes ++ bytes_of looks
+
+abbrev pub highest : List Look → ℕ
+highest [] = 0
+highest (look ∷ looks) = max look.status (highest looks)
+
+-- a writer gained what is shown of each file, in order, and the status is the highest of theirs
+pub record GainsAll (starts : List Text) (deny : Bool) (style : Style) (sources : List Source) (status : ℕ)
+    (old new : Option (List ℕ)) : Type 0 where
+  pub looks : List Look
+  pub each : AllZip (λ source look. Shows starts deny style source look.bytes look.status) sources looks
+  pub whole : status ≡ highest looks
+  pub gained : Appends old new (bytes_of looks)
+
+-- a writer gained all of that where diagnostics are printed one after another; of a log nothing is said
+abbrev pub GainsIn : Format → List Text → Bool → List Source → ℕ → Option (List ℕ) → Option (List ℕ) → Type 0
+GainsIn (format.Stream style) starts deny sources status old new =
+    GainsAll starts deny style sources status old new
+GainsIn format.Log starts deny sources status old new = ⊤

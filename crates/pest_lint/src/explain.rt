@@ -1,0 +1,82 @@
+//! Pages that explain the codes of diagnostics.
+use meta_diagnostics::Code;
+
+/// The page of a code: when it is reported, an example, and how to mend it.
+pub fn explanation(code: Code) -> &'static str {
+    match code {
+        Code::Syntax => {
+            "The text is no grammar. The position is where reading came furthest; the expected names are \
+             those of pest's own grammar. A help shows how known mistakes are mended."
+        }
+        Code::EscapeValue => {
+            "An escape names no character.\n\n    a = { \"\\u{D800}\" }\n\n\
+             Surrogates and values above 10FFFF are no characters."
+        }
+        Code::NumberRange => "A number does not fit 32 bits.\n\n    a = { \"x\"{5000000000} }",
+        Code::ZeroRepetition => {
+            "An expression is repeated zero times, which would take nothing.\n\n    a = { \"x\"{0} }\n\n\
+             What takes nothing is written \"\"."
+        }
+        Code::ReservedName =>
+            "A rule has a name that pest keeps for itself.\n\n    ANY = { \"x\" }",
+        Code::DuplicateRule => "Two rules have one name.\n\n    a = { \"x\" }\n    a = { \"y\" }",
+        Code::UndefinedRule => {
+            "A name is called that is no rule and no builtin.\n\n    a = { asci_digit+ }\n\n\
+             Names of builtins are in capitals, as ASCII_DIGIT."
+        }
+        _ => explanation_of_rules(code),
+    }
+}
+
+/// The page of a code that is about the meaning of rules.
+fn explanation_of_rules(code: Code) -> &'static str {
+    match code {
+        Code::LeftRecursion => {
+            "A rule calls itself before it takes a character, and would never end.\n\n    \
+             sum = { sum ~ \"+\" ~ number | number }\n\n\
+             Write the operand first, and repeat the rest:\n\n    sum = { number ~ (\"+\" ~ number)* }"
+        }
+        Code::EndlessRepetition => {
+            "A repetition may go on without taking a character, and would never end.\n\n    \
+             a = { (\"x\"?)* }\n\nEach turn has to take a character: ANY, but not EOI or \"x\"*."
+        }
+        Code::UnreachableChoice => {
+            "An alternative that cannot fail is before others.\n\n    a = { \"x\"? | \"y\" }\n\nPut it last."
+        }
+        Code::TagWithoutToken => {
+            "A tag is given to what makes no token: a silent rule or a builtin.\n\n    a = { #t = ANY }"
+        }
+        _ => explanation_of_warnings(code),
+    }
+}
+
+/// The page of the code of a warning.
+fn explanation_of_warnings(code: Code) -> &'static str {
+    match code {
+        Code::UncalledRule => {
+            "A rule is not needed. It is needed if another rule calls it, if it calls SOI or EOI, if --start \
+             names it, or if it is WHITESPACE or COMMENT. Where no rule calls SOI or EOI, the first rule is \
+             taken for the start, and where that one is called, nothing is reported."
+        }
+        Code::Unreachable => {
+            "A literal before an alternative begins all that it matches, so it is never taken.\n\n    \
+             a = { \"<\" | \"<=\" }\n\nPut the longer one first."
+        }
+        Code::ReversedRange =>
+            "The first character of a range is above its last.\n\n    a = { 'z'..'a' }",
+        Code::ReversedCount => {
+            "The first number of a count is above its last, which alone counts.\n\n    a = { \"x\"{3,1} }\n\n\
+             This takes one \"x\"."
+        }
+        Code::IdleTest => {
+            "A test or an option holds what cannot fail, and changes nothing.\n\n    \
+             a = { ANY*? ~ \"x\" }\n\n\
+             No repetition is lazy: write (!\"x\" ~ ANY)* for what is before an \"x\"."
+        }
+        _ => {
+            "An expression succeeds on no text.\n\n    a = { ANY* ~ \"x\" }\n\n\
+             ANY* takes the whole rest of the text: write (!\"x\" ~ ANY)* ~ \"x\". And !(e*) always fails, \
+             since e* cannot."
+        }
+    }
+}

@@ -1,0 +1,105 @@
+//! One log of all files, as SARIF.
+ghost use Rattle.std.specs.Prelude.{◌≡◌, ◌≢◌, ◌≤◌, All, OnOk, true};
+ghost use Rattle.pest_lint.specs.Shows.{IsClean};
+
+use crate::arguments::Settings;
+use crate::lint::{
+    CLEAN, MEMORY, Source, UNWRITABLE, report_memory, report_unreadable, status_of, text_of,
+};
+use lint_output::{LineIndex, Origin, sarif_log, sarif_result};
+use meta_diagnostics::{Diagnostic, Options, diagnose};
+use serde_json::Value;
+use std::alloc::{AllocError, Global};
+use std::io::Write;
+use tool_support::output::Output;
+
+/// Diagnoses each file, and prints one log of all that is found. The status is the highest of theirs.
+///
+/// A file that can't be read is reported on `err`, and is not in the log (3). Where an allocation fails (2),
+/// no log is printed.
+pub fn log_files<W: Write, E: Write>(
+    alloc: Global,
+    sources: &[Source],
+    settings: Settings<'_>,
+    out: &mut Output<W>,
+    err: &mut Output<E>,
+) -> u8
+    ensures known { result ≤ 4 }
+    ensures clean { result ≡ 0 → All IsClean sources.now }
+    ensures taken { result ≢ 4 → out.new.refused ≡ out.old.refused }
+    ensures refused_write { result ≡ 4 → out.new.refused ≡ true }
+{
+    let mut results = Vec::new(alloc);
+    let mut status = CLEAN;
+    for source in sources {
+        let one = log_file(alloc, source, settings, &mut results, err);
+        status = status.max(one);
+        if one == MEMORY {
+            return MEMORY;
+        }
+    }
+    let printed = print_log(alloc, results, out);
+    if printed == CLEAN { status } else { printed }
+}
+
+/// Adds what is found in a file to the results, and answers its status.
+fn log_file<E: Write>(
+    alloc: Global,
+    source: &Source,
+    settings: Settings<'_>,
+    results: &mut Vec<Value>,
+    err: &mut Output<E>,
+) -> u8
+    ensures known { result ≤ 3 }
+    ensures clean { result ≡ 0 → IsClean source.now }
+{
+    let Some(text) = text_of(source) else {
+        return report_unreadable(alloc, source, err);
+    };
+    let options = Options {
+        starts: settings.starts,
+    };
+    let Ok(diagnostics) = diagnose(alloc, text, options) else {
+        report_memory(alloc, source, err);
+        return MEMORY;
+    };
+    match add_results(alloc, source.name.as_str(), text, &diagnostics, results) {
+        Ok(()) => status_of(&diagnostics, settings.deny_warnings),
+        Err(_) => MEMORY,
+    }
+}
+
+/// Adds the diagnostics of a text to the results.
+fn add_results(
+    alloc: Global,
+    name: &str,
+    text: &str,
+    diagnostics: &[Diagnostic],
+    results: &mut Vec<Value>,
+) -> Result<(), AllocError> {
+    let lines = LineIndex::new(alloc, text)?;
+    let origin = Origin {
+        name,
+        text,
+        lines: &lines,
+    };
+    for diagnostic in diagnostics {
+        results.push(sarif_result(alloc, origin, diagnostic)?)?;
+    }
+    Ok(())
+}
+
+/// Prints the log of these results. Answers 0, or why it was not printed.
+fn print_log<W: Write>(alloc: Global, results: Vec<Value>, out: &mut Output<W>) -> u8
+    ensures known { result ≤ 4 }
+    ensures taken { result ≢ 4 → out.new.refused ≡ out.old.refused }
+    ensures refused_write { result ≡ 4 → out.new.refused ≡ true }
+{
+    let Ok(text) = sarif_log(alloc, results) else {
+        return MEMORY;
+    };
+    let Ok(()) = out.write_text(text.as_str()) else {
+        return UNWRITABLE;
+    };
+    CLEAN
+}
