@@ -159,7 +159,7 @@ fn warnings_in(alloc: Global, text: &str) -> Result<Vec<Problem>, Fault> {
 /// Returns the warnings of rules.
 fn warnings_for(alloc: Global, rules: &[ParserRule<'_>]) -> Result<Vec<Problem>, AllocError> {
     let mut findings = Vec::new(alloc);
-    let spans = uncalled_rules(alloc, rules, &[])?;
+    let spans = uncalled_rules(alloc, &*rules, &[])?;
     push_all(alloc, ProblemClass::UncalledRule, &spans, &mut findings)?;
     let spans = unreachable_alternatives(alloc, rules)?;
     push_all(alloc, ProblemClass::Unreachable, &spans, &mut findings)?;
