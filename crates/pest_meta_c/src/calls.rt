@@ -19,6 +19,7 @@ use meta_json::{
     optimized_rules_text, read_rules, refusal_text, rule_named, rules_text, tokens_text,
     version_text,
 };
+use meta_names::collect_builtins;
 use pest_meta::optimizer;
 use pest_meta::parser::{PestParser, consume_rules, consume_rules_with_spans, release};
 use pest_meta::validator::{validate_pairs, validate_rust_keywords};
@@ -174,8 +175,7 @@ fn grammar_bytes(alloc: Global, text: &str) -> Result<Vec<u8>, Fault>
     ensures refused { IfErr result (IsRefusal text.now) }
 {
     let pairs = PestParser::parse(alloc, Rule::grammar_rules, text)?;
-    let copy = pairs.clone()?;
-    let builtins = validate_pairs(alloc, copy)?;
+    let builtins = collect_builtins(alloc, &pairs)?;
     let rules = Deep {
         value: consume_rules(alloc, pairs)?,
     };

@@ -1,0 +1,79 @@
+-- Calls of rules by their numbers.
+use Rattle.std.proofs.Common.{◌≡◌, refl, sym, ◌∙◌, ap, ap₂, subst, ℕ, ◌<◌, ◌||◌, Bool, true, false, List, [], ◌∷◌, Some, None, Option, codes, if◌then◌else◌, bytes_eq, get_or, length}
+use Rattle.std.proofs.lemmas.List.{get_or-map, length-map}
+use Rattle.meta_ast.specs.Ast.{rule_type_of, text_of}
+use Rattle.meta_base.specs.Language.Expression.{Grammar, Rule, comment, last_place, or_else, rule_of, whitespace}
+use Rattle.meta_base.specs.Language.FurthestFailure.{is_eoi}
+use Rattle.meta_base.specs.Language.Meaning.{Run, body_mode, mode_in}
+use Rattle.meta_base.specs.Language.State.{Mode}
+use Rattle.meta_base.specs.Language.Text.{Text}
+use Rattle.matcher_code.specs.declared.code.Code.{Code}
+use Rattle.matcher_code.specs.declared.code.Op.TheVariants as op
+use Rattle.matcher_layout.specs.Laid as lay
+use Rattle.matcher_layout.specs.Laid.{IsPoint, at_label}
+use Rattle.matcher_program.specs.declared.form.Program.{Program}
+use Rattle.matcher_program.specs.declared.form.Row.{Row}
+use Rattle.matcher_program.specs.Programs.{IsRuleOf, name_at, names_of, rule_of_row}
+use Rattle.matcher_compiler.specs.Names.{HasOwnNames, number_in, or_end}
+use Rattle.matcher_compiler.specs.Plans.{IsBoundIn, IsSoundProgram, body_in, grammar_in, no_rule, said}
+
+no_place : (g : Grammar) (n : Text) → rule_of g n ≡ None → last_place g n ≡ None
+no_place [] n h = refl
+no_place (r ∷ g) n h = go (no_place g n) (rule_of g n) refl (bytes_eq r.name n) refl
+  where
+    go : (rule_of g n ≡ None → last_place g n ≡ None) → (o : Option Rule) → rule_of g n ≡ o → (b : Bool) → bytes_eq r.name n ≡ b → last_place (r ∷ g) n ≡ None
+    go ih (Some q) e b f = let z : Some q ≡ None = sym (ap (λ x. or_else x (if bytes_eq r.name n then Some r else None)) e) ∙ h in cc
+    go ih None e true f = let z : Some r ≡ None = sym (ap₂ (λ x y. or_else x (if y then Some r else None)) e f) ∙ h in cc
+    go ih None e false f = rw (ih e, f) refl
+
+pub open_row : (code : Code) (l : ℕ) {a b close : ℕ} → a ≡ b → at_label code l ≡ op.Open a close → at_label code l ≡ op.Open b close
+open_row code l {close = close} e h = h ∙ ap (λ k. op.Open k close) e
+
+pub call_row : (code : Code) (l : ℕ) {first a b next fail : ℕ} {counts : Bool} → a ≡ b → at_label code l ≡ op.Call first a next fail counts
+    → at_label code l ≡ op.Call first b next fail counts
+call_row code l {first = first} {next = next} {fail = fail} {counts = counts} e h = h ∙ ap (λ k. op.Call first k next fail counts) e
+
+-- the number of `EOI`, if no rule has that name
+pub end_number : (p : Program) (k : ℕ) → rule_of (grammar_in p) (codes "EOI") ≡ None → k ≡ length p.rows.items
+    → k ≡ number_in (grammar_in p) (codes "EOI")
+end_number p k h e =
+    e ∙ (sym (length-map p.rows.items (rule_of_row (names_of p.rows.items)))
+    ∙ ap (λ o. or_end o true (length (grammar_in p))) (sym (no_place (grammar_in p) (codes "EOI") h)))
+
+module _ (p : Program) (rule : ℕ) (row : Row) (within : rule < length p.rows.items) (is : row ≡ get_or p.rows.items rule row) where
+  abbrev pub made : Rule
+  made = rule_of_row (names_of p.rows.items) row
+
+  pub same : get_or (grammar_in p) rule no_rule ≡ made
+  same = get_or-map (rule_of_row (names_of p.rows.items)) p.rows.items rule row no_rule within ∙ ap (rule_of_row (names_of p.rows.items)) (sym is)
+
+  pub named : name_at (names_of p.rows.items) rule ≡ text_of row.name
+  named = get_or-map (λ r. text_of r.name) p.rows.items rule row [] within ∙ ap (λ r. text_of r.name) (sym is)
+
+  pub body_said : body_in p rule ≡ said p row.body
+  body_said = ap (λ r. r.body) same
+
+  pub row_bound : IsSoundProgram p → IsBoundIn p row.body
+  row_bound sound = subst (λ r. IsBoundIn p r.body) (sym is) ((sound.rows rule row within).bound)
+
+  pub number_is : HasOwnNames p → number_in (grammar_in p) made.name ≡ rule
+  number_is own =
+      ap (λ n. number_in (grammar_in p) n) (sym named)
+      ∙ ap (λ o. or_end o (is_eoi (name_at (names_of p.rows.items) rule)) (length (grammar_in p))) (own rule within)
+
+  pub meant_is : IsRuleOf (grammar_in p) (name_at (names_of p.rows.items) rule) rule
+      → rule_of (grammar_in p) (name_at (names_of p.rows.items) rule) ≡ Some made
+  meant_is meant = meant.meant no_rule ∙ ap Some same
+
+  pub in_mode : IsSoundProgram p → (m inner : Mode) → inner ≡ mode_in (rule_type_of row.kind) row.blank m → inner ≡ body_mode made m
+  in_mode sound m inner e =
+      let b : row.blank ≡ (bytes_eq (text_of row.name) whitespace || bytes_eq (text_of row.name) comment) =
+      subst (λ r. r.blank ≡ (bytes_eq (text_of r.name) whitespace || bytes_eq (text_of r.name) comment)) (sym is) ((sound.rows rule row within).blank) in
+      e ∙ ap (λ x. mode_in (rule_type_of row.kind) x m) b
+
+  pub body_point : IsSoundProgram p → (laid : List lay.Point) (m inner : Mode) (first last : ℕ)
+      → inner ≡ mode_in (rule_type_of row.kind) row.blank m → IsPoint laid (Run inner (body_in p rule)) first last 0
+      → IsPoint laid (Run (body_mode made m) made.body) first last 0
+  body_point sound laid m inner first last e x =
+      subst (λ k. IsPoint laid (Run k made.body) first last 0) (in_mode sound m inner e)
+      (subst (λ b. IsPoint laid (Run inner b) first last 0) body_said x)

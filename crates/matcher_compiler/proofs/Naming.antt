@@ -1,0 +1,80 @@
+-- The last row of a name, by a search from the end.
+use Rattle.std.proofs.Common.{◌≡◌, ◌∙◌, ap, refl, sym, subst, Bool, Option, if◌then◌else◌, ℕ, zero, ◌+◌, ◌<◌, suc, List, [], ◌∷◌, None, Some, arith, bytes_eq, drop, false, get_or, length, true}
+use Rattle.std.proofs.lemmas.List.{get_or-map, length-map}
+use Rattle.std.proofs.lemmas.Slice.Eq.{bytes_eq-Decides}
+use Rattle.meta_ast.specs.Ast.{text_of}
+use Rattle.meta_base.specs.Language.Expression.{Grammar, Rule, last_place, rule_of}
+use Rattle.meta_base.specs.Language.Text.{Text}
+use Rattle.matcher_program.specs.declared.form.Row.{Row}
+use Rattle.matcher_program.specs.Programs.{IsRuleOf, grammar_of, names_of, rule_of_row}
+
+last_found : (g : Grammar) (i : ℕ) (d : Rule) (n : Text) → i < length g → last_place (drop (suc i) g) n ≡ None → bytes_eq (get_or g i d).name n ≡ true → last_place g n ≡ Some i
+last_found [] i d n l u h = absurd (omega (arith, l))
+last_found (r ∷ g) zero d n l u h = rw (u, h) refl
+last_found (r ∷ g) (suc i) d n l u h =
+    let x = last_found g i d n (omega (arith, l)) u h in
+    rw x refl
+
+none_yet : (g : Grammar) (i : ℕ) (d : Rule) (n : Text) → i < length g → last_place (drop (suc i) g) n ≡ None → bytes_eq (get_or g i d).name n ≡ false → last_place (drop i g) n ≡ None
+none_yet [] i d n l u h = absurd (omega (arith, l))
+none_yet (r ∷ g) zero d n l u h = rw (u, h) refl
+none_yet (r ∷ g) (suc i) d n l u h = none_yet g i d n (omega (arith, l)) u h
+
+drop_all : (g : Grammar) → drop (length g) g ≡ []
+drop_all [] = refl
+drop_all (r ∷ g) = drop_all g
+
+pub none_at_end : (rows : List Row) (k : ℕ) (n : Text) → k ≡ length rows → last_place (drop k (grammar_of rows)) n ≡ None
+none_at_end rows k n e =
+    let l : k ≡ length (grammar_of rows) = e ∙ sym (length-map rows (rule_of_row (names_of rows))) in
+    rw (l, drop_all (grammar_of rows)) refl
+
+-- one row more was looked at
+module _ (rows : List Row) (below next : ℕ) (row : Row) (n : Text) (e : next + 1 ≡ below) (l : next < length rows) (is : row ≡ get_or rows next row) (u : last_place (drop below (grammar_of rows)) n ≡ None) where
+  within : next < length (grammar_of rows)
+  within = omega (arith, l, length-map rows (rule_of_row (names_of rows)))
+
+  at_next : get_or (grammar_of rows) next (rule_of_row (names_of rows) row) ≡ rule_of_row (names_of rows) row
+  at_next = get_or-map (rule_of_row (names_of rows)) rows next row (rule_of_row (names_of rows) row) l ∙ ap (rule_of_row (names_of rows)) (sym is)
+
+  after : last_place (drop (suc next) (grammar_of rows)) n ≡ None
+  after = let k : suc next ≡ below = omega (arith, e) in rw k u
+
+  pub not_that_name : bytes_eq (text_of row.name) n ≡ false → last_place (drop next (grammar_of rows)) n ≡ None
+  not_that_name h = none_yet (grammar_of rows) next (rule_of_row (names_of rows) row) n within after (ap (λ r. bytes_eq r.name n) at_next ∙ h)
+
+  pub that_name : bytes_eq (text_of row.name) n ≡ true → last_place (grammar_of rows) n ≡ Some next
+  that_name h = last_found (grammar_of rows) next (rule_of_row (names_of rows) row) n within after (ap (λ r. bytes_eq r.name n) at_next ∙ h)
+
+-- what the place of a name says of the rule of the name
+pub record IsPlaceOf (g : Grammar) (n : Text) (i : ℕ) : Type 0 where
+  pub within : i < length g
+  pub meant : (d : Rule) → rule_of g n ≡ Some (get_or g i d)
+  pub named : (d : Rule) → (get_or g i d).name ≡ n
+
+abbrev Says : Grammar → Text → Option ℕ → Type 0
+Says g n None = rule_of g n ≡ None
+Says g n (Some i) = IsPlaceOf g n i
+
+first_says : (r : Rule) (g : Grammar) (n : Text) → rule_of g n ≡ None → (b : Bool) → bytes_eq r.name n ≡ b
+    → Says (r ∷ g) n (if b then Some 0 else None)
+first_says r g n u true e =
+    record { within = omega arith; meant = λ d. rw (u, e) refl; named = λ d. (bytes_eq-Decides r.name n).0 e }
+first_says r g n u false e = rw (u, e) refl
+
+more_says : (r : Rule) (g : Grammar) (n : Text) (o : Option ℕ) → Says g n o
+    → Says (r ∷ g) n (elim o [ Some k ↦ Some (suc k) | None ↦ (if bytes_eq r.name n then Some 0 else None) ])
+more_says r g n (Some k) h =
+    record { within = omega (arith, h.within); meant = λ d. rw (h.meant d) refl; named = λ d. h.named d }
+more_says r g n None h = first_says r g n h (bytes_eq r.name n) refl
+
+places_say : (g : Grammar) (n : Text) → Says g n (last_place g n)
+places_say [] n = refl
+places_say (r ∷ g) n = more_says r g n (last_place g n) (places_say g n)
+
+pub place_of_last : (g : Grammar) (n : Text) (i : ℕ) → last_place g n ≡ Some i → IsPlaceOf g n i
+place_of_last g n i e = subst (Says g n) e (places_say g n)
+
+pub meant_of : (g : Grammar) (n : Text) (i : ℕ) → last_place g n ≡ Some i → IsRuleOf g n i
+meant_of g n i e =
+    let x = place_of_last g n i e in record { within = x.within; meant = x.meant; named = x.named }

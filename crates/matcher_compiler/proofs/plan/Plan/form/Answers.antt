@@ -1,0 +1,74 @@
+use Rattle.std.proofs.Common.{chars, subst, sym}
+use Rattle.std.specs.Prelude.{OnOk}
+use Rattle.meta_base.specs.Language.Expression.{Choice, NegPred, NodeTag, Opt, PosPred, Rep, RepOnce, RestoreOnErr, Seq, Str}
+use Rattle.meta_base.specs.Language.Meaning.{Run}
+use Rattle.matcher_compiler.specs.Modes.{mode_of}
+use Rattle.matcher_compiler.specs.Plans.{LaysAt, said}
+use Rattle.matcher_compiler.proofs.plan.Plan.form.Goals as goal
+
+pub returns-in-Str-clause-lays : goal.returns-in-Str-clause-lays
+returns-in-Str-clause-lays c =
+    subst (λ x. OnOk c.literal.result (LaysAt c.args.program.now c.literal.new.self (Run (mode_of c.args.at.mode) (said c.args.program.now x)) c.args.at)) (sym c.in-Str.is)
+    (subst (λ x. OnOk c.literal.result (LaysAt c.args.program.now c.literal.new.self (Run (mode_of c.args.at.mode) (Str (chars x))) c.args.at)) c.as_str.ensures.value c.literal.ensures.lays)
+
+pub returns-in-Set-clause-lays : goal.returns-in-Set-clause-lays
+returns-in-Set-clause-lays c =
+    subst (λ x. OnOk c.character.result (LaysAt c.args.program.now c.character.new.self (Run (mode_of c.args.at.mode) (said c.args.program.now x)) c.args.at)) (sym c.in-Set.is)
+    (subst (λ x. OnOk c.character.result (LaysAt c.args.program.now c.character.new.self (Run (mode_of c.args.at.mode) (said c.args.program.now x)) c.args.at)) c.deref.ensures c.character.ensures.lays)
+
+pub returns-in-Start-clause-lays : goal.returns-in-Start-clause-lays
+returns-in-Start-clause-lays c =
+    subst (λ x. OnOk c.start.result (LaysAt c.args.program.now c.start.new.self (Run (mode_of c.args.at.mode) (said c.args.program.now x)) c.args.at)) (sym c.in-Start.is) c.start.ensures.lays
+
+pub returns-in-End-clause-lays : goal.returns-in-End-clause-lays
+returns-in-End-clause-lays c =
+    subst (λ x. OnOk c.end_of_text.result (LaysAt c.args.program.now c.end_of_text.new.self (Run (mode_of c.args.at.mode) (said c.args.program.now x)) c.args.at)) (sym c.in-End.is) c.end_of_text.ensures.lays
+
+pub returns-in-Call-clause-lays : goal.returns-in-Call-clause-lays
+returns-in-Call-clause-lays c =
+    subst (λ x. OnOk c.call.result (LaysAt c.args.program.now c.call.new.self (Run (mode_of c.args.at.mode) (said c.args.program.now x)) c.args.at)) (sym c.in-Call.is) c.call.ensures.lays
+
+pub returns-in-PosPred-clause-lays : goal.returns-in-PosPred-clause-lays
+returns-in-PosPred-clause-lays c =
+    subst (λ x. OnOk c.ahead.result (LaysAt c.args.program.now c.ahead.new.self (Run (mode_of c.args.at.mode) (said c.args.program.now x)) c.args.at)) (sym c.in-PosPred.is)
+    (subst (λ x. OnOk c.ahead.result (LaysAt c.args.program.now c.ahead.new.self (Run (mode_of c.args.at.mode) (PosPred (said c.args.program.now x))) c.args.at)) c.deref-in-PosPred.ensures c.ahead.ensures.lays)
+
+pub returns-in-NegPred-clause-lays : goal.returns-in-NegPred-clause-lays
+returns-in-NegPred-clause-lays c =
+    subst (λ x. OnOk c.not_ahead.result (LaysAt c.args.program.now c.not_ahead.new.self (Run (mode_of c.args.at.mode) (said c.args.program.now x)) c.args.at)) (sym c.in-NegPred.is)
+    (subst (λ x. OnOk c.not_ahead.result (LaysAt c.args.program.now c.not_ahead.new.self (Run (mode_of c.args.at.mode) (NegPred (said c.args.program.now x))) c.args.at)) c.deref-in-NegPred.ensures c.not_ahead.ensures.lays)
+
+pub returns-in-Seq-clause-lays : goal.returns-in-Seq-clause-lays
+returns-in-Seq-clause-lays c =
+    subst (λ x. OnOk c.both.result (LaysAt c.args.program.now c.both.new.self (Run (mode_of c.args.at.mode) (said c.args.program.now x)) c.args.at)) (sym c.in-Seq.is)
+    (subst (λ x. OnOk c.both.result (LaysAt c.args.program.now c.both.new.self (Run (mode_of c.args.at.mode) (Seq (said c.args.program.now c.in-Seq.first.value) (said c.args.program.now x))) c.args.at)) c.deref-in-Seq-2.ensures (subst (λ x. OnOk c.both.result (LaysAt c.args.program.now c.both.new.self (Run (mode_of c.args.at.mode) (Seq (said c.args.program.now x) (said c.args.program.now c.deref-in-Seq-2.result.now))) c.args.at)) c.deref-in-Seq.ensures c.both.ensures.lays))
+
+pub returns-in-Choice-clause-lays : goal.returns-in-Choice-clause-lays
+returns-in-Choice-clause-lays c =
+    subst (λ x. OnOk c.choice.result (LaysAt c.args.program.now c.choice.new.self (Run (mode_of c.args.at.mode) (said c.args.program.now x)) c.args.at)) (sym c.in-Choice.is)
+    (subst (λ x. OnOk c.choice.result (LaysAt c.args.program.now c.choice.new.self (Run (mode_of c.args.at.mode) (Choice (said c.args.program.now c.in-Choice.left.value) (said c.args.program.now x))) c.args.at)) c.deref-in-Choice-2.ensures (subst (λ x. OnOk c.choice.result (LaysAt c.args.program.now c.choice.new.self (Run (mode_of c.args.at.mode) (Choice (said c.args.program.now x) (said c.args.program.now c.deref-in-Choice-2.result.now))) c.args.at)) c.deref-in-Choice.ensures c.choice.ensures.lays))
+
+pub returns-in-Opt-clause-lays : goal.returns-in-Opt-clause-lays
+returns-in-Opt-clause-lays c =
+    subst (λ x. OnOk c.option.result (LaysAt c.args.program.now c.option.new.self (Run (mode_of c.args.at.mode) (said c.args.program.now x)) c.args.at)) (sym c.in-Opt.is)
+    (subst (λ x. OnOk c.option.result (LaysAt c.args.program.now c.option.new.self (Run (mode_of c.args.at.mode) (Opt (said c.args.program.now x))) c.args.at)) c.deref-in-Opt.ensures c.option.ensures.lays)
+
+pub returns-in-Rep-clause-lays : goal.returns-in-Rep-clause-lays
+returns-in-Rep-clause-lays c =
+    subst (λ x. OnOk c.turns.result (LaysAt c.args.program.now c.turns.new.self (Run (mode_of c.args.at.mode) (said c.args.program.now x)) c.args.at)) (sym c.in-Rep.is)
+    (subst (λ x. OnOk c.turns.result (LaysAt c.args.program.now c.turns.new.self (Run (mode_of c.args.at.mode) (Rep (said c.args.program.now x))) c.args.at)) c.deref-in-Rep.ensures c.turns.ensures.lays)
+
+pub returns-in-RepOnce-clause-lays : goal.returns-in-RepOnce-clause-lays
+returns-in-RepOnce-clause-lays c =
+    subst (λ x. OnOk c.once_or_more.result (LaysAt c.args.program.now c.once_or_more.new.self (Run (mode_of c.args.at.mode) (said c.args.program.now x)) c.args.at)) (sym c.in-RepOnce.is)
+    (subst (λ x. OnOk c.once_or_more.result (LaysAt c.args.program.now c.once_or_more.new.self (Run (mode_of c.args.at.mode) (RepOnce (said c.args.program.now x))) c.args.at)) c.deref-in-RepOnce.ensures c.once_or_more.ensures.lays)
+
+pub returns-in-Tag-clause-lays : goal.returns-in-Tag-clause-lays
+returns-in-Tag-clause-lays c =
+    subst (λ x. OnOk c.tag.result (LaysAt c.args.program.now c.tag.new.self (Run (mode_of c.args.at.mode) (said c.args.program.now x)) c.args.at)) (sym c.in-Tag.is)
+    (subst (λ x. OnOk c.tag.result (LaysAt c.args.program.now c.tag.new.self (Run (mode_of c.args.at.mode) (NodeTag (said c.args.program.now c.in-Tag.body.value) (chars x))) c.args.at)) c.as_str-in-Tag.ensures.value (subst (λ x. OnOk c.tag.result (LaysAt c.args.program.now c.tag.new.self (Run (mode_of c.args.at.mode) (NodeTag (said c.args.program.now x) (chars c.as_str-in-Tag.result.now))) c.args.at)) c.deref-in-Tag.ensures c.tag.ensures.lays))
+
+pub returns-in-Restore-clause-lays : goal.returns-in-Restore-clause-lays
+returns-in-Restore-clause-lays c =
+    subst (λ x. OnOk c.restore.result (LaysAt c.args.program.now c.restore.new.self (Run (mode_of c.args.at.mode) (said c.args.program.now x)) c.args.at)) (sym c.in-Restore.is)
+    (subst (λ x. OnOk c.restore.result (LaysAt c.args.program.now c.restore.new.self (Run (mode_of c.args.at.mode) (RestoreOnErr (said c.args.program.now x))) c.args.at)) c.deref-in-Restore.ensures c.restore.ensures.lays)

@@ -1,0 +1,16 @@
+use Rattle.std.proofs.Common.{◌==◌, if◌then◌else◌}
+use Rattle.matcher_layout.specs.Laid as lay
+use Rattle.matcher_layout.proofs.Ends.{start_performs}
+use Rattle.meta_base.specs.Language.State.{Failure, None', Success}
+use Rattle.matcher_compiler.proofs.Leaves.{start_outcome}
+use Rattle.matcher_compiler.specs.Names.{number_in}
+use Rattle.matcher_compiler.specs.Plans.{grammar_in}
+use Rattle.matcher_compiler.proofs.plan.Plan.start.Goals as goal
+
+pub returns-clause-later : goal.returns-clause-later
+returns-clause-later c = c.in_ok-operation.ensures.later c.args.program.now
+
+pub returns-clause-lays : goal.returns-clause-lays
+returns-clause-lays c = λ classes fits code laid m.
+    lay.leaf (λ s. if s.position == 0 then Success s None' else Failure) (λ s. 0) (start_outcome c.args.program.now classes c.args.at.mode c.requires.bound)
+    (start_performs code (number_in (grammar_in c.args.program.now)) m.fail c.args.at.label c.args.at.next c.args.at.way (c.in_ok-operation.ensures.met c.args.program.now code laid m))

@@ -1,0 +1,243 @@
+//! The comparison of a program with what is demanded of it.
+ghost use Rattle.std.specs.Prelude.{◌≡◌, map, true};
+ghost use Rattle.meta_base.specs.Language.Meaning.{Run};
+ghost use Rattle.matcher_layout.specs.Laid.{IsEnd, IsPoint, at_label};
+ghost use Rattle.matcher_program.specs.declared.form.Program.{Program};
+ghost use Rattle.matcher_compiler.specs.Compiled.{AreMet, HasEnds};
+ghost use Rattle.matcher_compiler.specs.Modes.{mode_of};
+ghost use Rattle.matcher_compiler.specs.Plans.{IsMet, body_in, laid_point};
+
+use crate::modes::Atomicity;
+use crate::points::{Demand, Part, Point};
+use matcher_code::code::{Code, Op};
+
+/// Returns whether two modes are the same.
+fn is_mode(one: Atomicity, other: Atomicity) -> bool
+    ensures { result ≡ true → one ≡ other }
+{
+    match one {
+        Atomicity::NonAtomic => matches!(other, Atomicity::NonAtomic),
+        Atomicity::Atomic => matches!(other, Atomicity::Atomic),
+        Atomicity::CompoundAtomic => matches!(other, Atomicity::CompoundAtomic),
+    }
+}
+
+/// Returns whether two calls are the same operation.
+fn is_same_call(one: Op, other: Op) -> bool
+    ensures { result ≡ true → one ≡ other }
+{
+    match one {
+        Op::Call {
+            to,
+            row,
+            next,
+            fail,
+            counts,
+        } => match other {
+            Op::Call {
+                to: to2,
+                row: row2,
+                next: next2,
+                fail: fail2,
+                counts: counts2,
+            } => { to == to2 && row == row2 && next == next2 && fail == fail2 && counts == counts2 }
+            _ => false,
+        },
+        Op::Sub { to, next, fail } => match other {
+            Op::Sub {
+                to: to2,
+                next: next2,
+                fail: fail2,
+            } => to == to2 && next == next2 && fail == fail2,
+            _ => false,
+        },
+        _ => false,
+    }
+}
+
+/// Returns whether two operations are the same one of those that take characters.
+fn is_same_leaf(one: Op, other: Op) -> bool
+    ensures { result ≡ true → one ≡ other }
+{
+    match one {
+        Op::One { set, next, fail } => match other {
+            Op::One {
+                set: set2,
+                next: next2,
+                fail: fail2,
+            } => set == set2 && next == next2 && fail == fail2,
+            _ => false,
+        },
+        Op::All { set, next } => match other {
+            Op::All {
+                set: set2,
+                next: next2,
+            } => set == set2 && next == next2,
+            _ => false,
+        },
+        Op::Text { text, next, fail } => match other {
+            Op::Text {
+                text: text2,
+                next: next2,
+                fail: fail2,
+            } => text == text2 && next == next2 && fail == fail2,
+            _ => false,
+        },
+        Op::Start { next, fail } => match other {
+            Op::Start {
+                next: next2,
+                fail: fail2,
+            } => next == next2 && fail == fail2,
+            _ => false,
+        },
+        Op::End { next, fail } => match other {
+            Op::End {
+                next: next2,
+                fail: fail2,
+            } => next == next2 && fail == fail2,
+            _ => false,
+        },
+        _ => is_same_call(one, other),
+    }
+}
+
+/// Returns whether two operations are the same. The answer is no for those that no plan demands.
+fn is_same(one: Op, other: Op) -> bool
+    ensures { result ≡ true → one ≡ other }
+{
+    match one {
+        Op::Fail => matches!(other, Op::Fail),
+        Op::Return => matches!(other, Op::Return),
+        Op::Back => matches!(other, Op::Back),
+        Op::Halt => matches!(other, Op::Halt),
+        Op::Lose => matches!(other, Op::Lose),
+        Op::Try { back, next, fail } => match other {
+            Op::Try {
+                back: back2,
+                next: next2,
+                fail: fail2,
+            } => back == back2 && next == next2 && fail == fail2,
+            _ => false,
+        },
+        Op::Commit { next } => match other {
+            Op::Commit { next: next2 } => next == next2,
+            _ => false,
+        },
+        Op::Ahead { next } => match other {
+            Op::Ahead { next: next2 } => next == next2,
+            _ => false,
+        },
+        Op::Note { next } => match other {
+            Op::Note { next: next2 } => next == next2,
+            _ => false,
+        },
+        Op::Open { row, next } => match other {
+            Op::Open {
+                row: row2,
+                next: next2,
+            } => row == row2 && next == next2,
+            _ => false,
+        },
+        Op::Close { next } => match other {
+            Op::Close { next: next2 } => next == next2,
+            _ => false,
+        },
+        _ => is_same_leaf(one, other),
+    }
+}
+
+/// Returns whether a label has an operation.
+fn has_operation(code: &Code, label: u32, op: Op) -> bool
+    ensures { result ≡ true → at_label code.now label ≡ op }
+{
+    match code.ops.get(label as usize) {
+        Some(here) => is_same(*here, op),
+        None => false,
+    }
+}
+
+/// Returns whether the operation of a label does not end a run.
+fn goes_on(code: &Code, label: u32) -> bool
+    ensures { result ≡ true → IsEnd code.now label → ⊥ }
+{
+    match code.ops.get(label as usize) {
+        Some(op) => !matches!(op, Op::Halt | Op::Lose),
+        None => false,
+    }
+}
+
+/// Returns whether the point of a number is the body of a rule in a mode, with these labels.
+fn has_body(
+    points: &[Point<'_>],
+    number: usize,
+    rule: usize,
+    mode: Atomicity,
+    first: u32,
+    last: u32,
+) -> bool
+    ensures { result ≡ true → (p : Program)
+        → IsPoint (map (laid_point p) points.now) (Run (mode_of mode) (body_in p rule)) first last 0 }
+{
+    let point = match points.get(number) {
+        Some(point) => *point,
+        None => return false,
+    };
+    let known = match point.part {
+        Part::Body(known) => known,
+        _ => return false,
+    };
+    if !is_mode(point.at.mode, mode) {
+        return false;
+    }
+    if known != rule {
+        return false;
+    }
+    if point.at.label != first {
+        return false;
+    }
+    if point.at.next != last {
+        return false;
+    }
+    if point.at.way != 0 {
+        return false;
+    }
+    true
+}
+
+/// Returns whether a program has what is demanded.
+fn meets(code: &Code, points: &[Point<'_>], demand: Demand) -> bool
+    ensures { result ≡ true → (p : Program) → IsMet p code.now (map (laid_point p) points.now) demand }
+{
+    match demand {
+        Demand::Operation { label, op } => has_operation(code, label, op),
+        Demand::Body {
+            rule,
+            mode,
+            first,
+            last,
+            point,
+        } => has_body(points, point, rule, mode, first, last),
+        Demand::GoesOn { label } => goes_on(code, label),
+    }
+}
+
+/// Returns whether a program has all that is demanded.
+pub(crate) fn meets_all(code: &Code, points: &[Point<'_>], demands: &[Demand]) -> bool
+    ensures { result ≡ true → AreMet code.now points.now demands.now }
+{
+    for demand in demands {
+        if !meets(code, points, *demand) {
+            return false;
+        }
+    }
+    true
+}
+
+/// Returns whether a program begins with the operations that fail and that end a run.
+pub(crate) fn has_ends(code: &Code) -> bool
+    ensures { result ≡ true → HasEnds code.now }
+{
+    has_operation(code, 0, Op::Fail)
+        && has_operation(code, 1, Op::Halt)
+        && has_operation(code, 2, Op::Lose)
+}
