@@ -1,5 +1,10 @@
 -- Neovim 0.7 or later: in init.lua, `dofile("PATH/neovim.lua")`.
-vim.filetype.add({ extension = { pest = "pest" } })
+vim.api.nvim_create_autocmd({ "BufRead", "BufNewFile" }, {
+  pattern = "*.pest",
+  callback = function(args)
+    vim.bo[args.buf].filetype = "pest"
+  end,
+})
 
 -- `vim.lsp.start` came with 0.8; one client serves all buffers.
 local client
