@@ -1,11 +1,15 @@
 -- The builtins that count as changing the stack, by their names.
 use Rattle.std.proofs.Common.{◌≡◌, List, [], ◌∷◌, Option, Some, None, Bool, true, false, ◌&&◌, ◌||◌, if◌then◌else◌, bytes_eq, codes, refl, sym, ◌∙◌, ap, inl, inr}
 use Rattle.std.proofs.lemmas.Slice.Eq.{bytes_eq-Decides}
-use Rattle.std.proofs.lemmas.Bool.{and_parts, or_cases}
+use Rattle.std.proofs.lemmas.Bool.{and_parts, false_from_ne_true, or_cases}
 use Rattle.meta_base.specs.Language.Text.{Text}
 use Rattle.meta_base.specs.Language.Builtins.{Builtin, Property, Pop, Drop, PopAll, Named, builtins, property_names, is_one_of, looked_up, builtin_of}
 use Rattle.meta_base.specs.Language.Expression.{Ident, Grammar}
 use Rattle.meta_base.specs.Rewritings.Wrapping.{ChangesStack, changes_pop, changes_pop_all, changes_drop}
+use Rattle.meta_builtins.specs.Builtins.{builtin_names, changes_stack, meaning_of, name_of}
+use Rattle.meta_builtins.specs.declared.builtin.Builtin as code
+use Rattle.meta_builtins.specs.declared.builtin.Builtin.TheVariants as builtin
+use Rattle.meta_builtins.specs.declared.char_set.CharSet.TheVariants as set
 use Rattle.meta_restorer.specs.Changing.{is_changer}
 
 -- a builtin that changes the stack has its name
@@ -71,6 +75,59 @@ pop_all_found = refl
 drop_found : builtin_of (codes "DROP") ≡ Some Drop
 unfolding builtins
 drop_found = refl
+
+-- the name of a builtin of code counts where the builtin changes the stack
+changer_of : (b : code.Builtin) → changes_stack (meaning_of b) ≡ is_changer (name_of b)
+changer_of (builtin.Set set.Any) = refl
+changer_of (builtin.Set set.AsciiDigit) = refl
+changer_of (builtin.Set set.AsciiNonzeroDigit) = refl
+changer_of (builtin.Set set.AsciiBinDigit) = refl
+changer_of (builtin.Set set.AsciiOctDigit) = refl
+changer_of (builtin.Set set.AsciiHexDigit) = refl
+changer_of (builtin.Set set.AsciiAlphaLower) = refl
+changer_of (builtin.Set set.AsciiAlphaUpper) = refl
+changer_of (builtin.Set set.AsciiAlpha) = refl
+changer_of (builtin.Set set.AsciiAlphanumeric) = refl
+changer_of (builtin.Set set.Ascii) = refl
+changer_of builtin.Soi = refl
+changer_of builtin.Eoi = refl
+changer_of builtin.Newline = refl
+changer_of builtin.Peek = refl
+changer_of builtin.Pop = refl
+changer_of builtin.Drop = refl
+changer_of builtin.PeekAll = refl
+changer_of builtin.PopAll = refl
+
+pub listed_changer : (b : code.Builtin) (n : Text) (r : Bool) → n ≡ name_of b → r ≡ changes_stack (meaning_of b) → r ≡ is_changer n
+listed_changer b n r e h = h ∙ (changer_of b ∙ sym (ap is_changer e))
+
+pop_listed : is_one_of builtin_names (codes "POP") ≡ true
+unfolding builtins
+pop_listed = refl
+
+pop_all_listed : is_one_of builtin_names (codes "POP_ALL") ≡ true
+unfolding builtins
+pop_all_listed = refl
+
+drop_listed : is_one_of builtin_names (codes "DROP") ≡ true
+unfolding builtins
+drop_listed = refl
+
+changer_listed : (n : Text) → is_changer n ≡ true → is_one_of builtin_names n ≡ true
+changer_listed n h = elim (or_cases (bytes_eq n (codes "POP")) (bytes_eq n (codes "POP_ALL") || bytes_eq n (codes "DROP")) h) [
+  | inl e ↦ ap (is_one_of builtin_names) ((bytes_eq-Decides n (codes "POP")).0 e) ∙ pop_listed
+  | inr k ↦ elim (or_cases (bytes_eq n (codes "POP_ALL")) (bytes_eq n (codes "DROP")) k) [
+    | inl e ↦ ap (is_one_of builtin_names) ((bytes_eq-Decides n (codes "POP_ALL")).0 e) ∙ pop_all_listed
+    | inr e ↦ ap (is_one_of builtin_names) ((bytes_eq-Decides n (codes "DROP")).0 e) ∙ drop_listed
+  ]
+]
+
+true_is_false : true ≡ false → ⊥
+true_is_false f = cc
+
+-- no other name counts
+pub other_changer : (n : Text) → is_one_of builtin_names n ≡ false → false ≡ is_changer n
+other_changer n h = sym (false_from_ne_true (is_changer n) (λ k. true_is_false (sym (changer_listed n k) ∙ h)))
 
 -- a name that counts changes the stack, whatever the rules are
 pub changer_changes : (g : Grammar) (n : Text) → is_changer n ≡ true → ChangesStack g (Ident n)

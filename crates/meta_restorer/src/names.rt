@@ -1,13 +1,12 @@
 //! Names, resolved to the numbers of rules.
 ghost use Rattle.std.specs.Prelude.{◌≡◌, IfOk, map};
-ghost use Rattle.std.specs.Str.{IsAscii};
-ghost use Rattle.std.specs.Prelude.{bytes_eq};
 ghost use Rattle.meta_ast.specs.Ast.{text_of};
 ghost use Rattle.meta_restorer.specs.Bodies.{said_by, grammar_with};
 ghost use Rattle.meta_restorer.specs.Changing.{is_changer};
 ghost use Rattle.meta_restorer.specs.Names.{number_of, KnowsNames};
 
 use crate::bodies::Body;
+use meta_builtins::Builtin;
 use std::alloc::{AllocError, Global};
 use std::collections::HashMap;
 
@@ -36,17 +35,12 @@ pub(crate) fn number_of_name(names: &Names, name: &String) -> Option<usize>
     names.numbers.get(name.as_str()).copied()
 }
 
-/// Reports whether a name is a literal's text.
-fn is_literal(name: &String, literal: &str) -> bool
-    requires { IsAscii literal.now }
-    ensures { result ≡ bytes_eq (text_of name.now) literal.now }
-{
-    name.as_str() == literal
-}
-
 /// Reports whether a name is that of a builtin that counts as changing the stack.
 pub(crate) fn is_changer_name(name: &String) -> bool
     ensures { result ≡ is_changer (text_of name.now) }
 {
-    is_literal(name, "POP") || is_literal(name, "POP_ALL") || is_literal(name, "DROP")
+    match Builtin::from_name(name.as_str()) {
+        Some(builtin) => builtin.changes_stack(),
+        None => false,
+    }
 }

@@ -6,6 +6,7 @@ ghost use Rattle.meta_ast.specs.Optimized.{optimized_rules_of};
 ghost use Rattle.pest_check.specs.Written.{PrintsAnswer, ReportsRefusal, WritesLine};
 ghost use Rattle.pest_meta.specs.Spelling.{HasAnswer};
 ghost use Rattle.meta_roundtrip.specs.ReadsBack.{grammar_text, modifier};
+ghost use Rattle.tool_support.specs.Statuses.{status_code};
 
 use meta_ast::optimized::release;
 use pest_meta::ast::RuleType;
@@ -14,17 +15,7 @@ use pest_meta::{Report, parse_and_optimize, unwrap_or_report};
 use std::alloc::{AllocError, Global};
 use std::io::Write;
 use tool_support::output::{Output, RefusedWrite};
-
-/// The grammar was read, and its rules were printed.
-const PRINTED: u8 = 0;
-/// The text is no grammar, or one that is refused.
-const REFUSED: u8 = 1;
-/// An allocation failed.
-const OUT_OF_MEMORY: u8 = 2;
-/// There is no text.
-const UNREADABLE: u8 = 3;
-/// Standard output refused a write.
-const UNWRITABLE: u8 = 4;
+use tool_support::status::Status;
 
 /// The end of a run.
 #[derive(Drop)]
@@ -77,15 +68,15 @@ pub fn run<W: Write, E: Write>(
     ensures refused_line { IsErr result.write_result → err.new.refused ≡ true }
 {
     let Some(bytes) = input else {
-        return exit_with(err, "cannot read", UNREADABLE);
+        return exit_with(err, "cannot read", Status::Unreadable);
     };
     let Ok(grammar) = str::from_utf8(bytes) else {
-        return exit_with(err, "cannot read", UNREADABLE);
+        return exit_with(err, "cannot read", Status::Unreadable);
     };
     match unwrap_or_report(alloc, parse_and_optimize(alloc, grammar)) {
         Ok((_, rules)) => print_rules(alloc, rules, out, err),
-        Err(Report::Memory) => exit_with(err, "out of memory", OUT_OF_MEMORY),
-        Err(Report::Text(text)) => exit_with(err, text.as_str(), REFUSED),
+        Err(Report::Memory) => exit_with(err, "out of memory", Status::OutOfMemory),
+        Err(Report::Text(text)) => exit_with(err, text.as_str(), Status::Found),
     }
 }
 
@@ -114,7 +105,7 @@ fn print_rules<W: Write, E: Write>(
 {
     match rules_text(alloc, rules) {
         Ok(text) => exit_after_write(err, out.write_text(text.as_str())),
-        Err(_) => exit_with(err, "out of memory", OUT_OF_MEMORY),
+        Err(_) => exit_with(err, "out of memory", Status::OutOfMemory),
     }
 }
 
@@ -132,16 +123,16 @@ fn exit_after_write<E: Write>(err: &mut Output<E>, outcome: Result<(), RefusedWr
 {
     match outcome {
         Ok(()) => Exit {
-            status: PRINTED,
+            status: Status::Done.code(),
             write_result: Ok(()),
         },
-        Err(_) => exit_with(err, "cannot write", UNWRITABLE),
+        Err(_) => exit_with(err, "cannot write", Status::Unwritable),
     }
 }
 
 /// Ends a run with this status, after writing a message and a line break to `err`.
-fn exit_with<E: Write>(err: &mut Output<E>, message: &str, status: u8) -> Exit
-    ensures status { result.status ≡ status }
+fn exit_with<E: Write>(err: &mut Output<E>, message: &str, status: Status) -> Exit
+    ensures status { result.status ≡ status_code status }
     ensures tells { WritesLine message.now result.write_result
         (E.contents err.old.writer) (E.contents err.new.writer) }
     ensures told { IsOk result.write_result → err.new.refused ≡ err.old.refused }
@@ -149,7 +140,7 @@ fn exit_with<E: Write>(err: &mut Output<E>, message: &str, status: u8) -> Exit
 {
     let write_result = err.write_line(&[message]);
     Exit {
-        status,
+        status: status.code(),
         write_result,
     }
 }

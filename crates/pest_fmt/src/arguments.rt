@@ -5,6 +5,7 @@ ghost use Rattle.clap.specs.Matches.{found_of, one_text};
 use clap::{Arg, ArgAction, ArgMatches, Command};
 use meta_format::{LineEnds, Options};
 use std::alloc::{AllocError, Global};
+use tool_support::version::VERSION;
 
 /// The destination of a formatted text.
 #[derive(Clone, Copy)]
@@ -63,7 +64,7 @@ pub fn command<'a>(alloc: Global) -> Result<Command<'a>, AllocError> {
         .num_args(1..)
         .help("A grammar; - or none is standard input, which goes to standard output");
     Command::new(alloc, "pest-fmt")
-        .version("2.9.5")
+        .version(VERSION)
         .about("Formats pest grammars")
         .after_help(
             "status: 0 done, 1 something would change or is no grammar, 2 out of memory, \

@@ -8,14 +8,13 @@ mod outcomes;
 mod processing;
 mod replacing;
 mod run;
-mod statuses;
 
 use arguments::{command, delivery_of, options_of};
 use run::format_files;
-use statuses::Status;
 use std::env;
 use std::io::{IsTerminal, Write};
 use std::process::ExitCode;
+use tool_support::status::Status;
 
 /// Returns the status for the words of the command line.
 fn answer(rt: &HostRuntime) -> Result<Status, clap::Error> {

@@ -5,54 +5,10 @@ use meta_reader::rules::common_name;
 use meta_syntax::grammar::PestParser;
 use std::alloc::{AllocError, Global};
 use std::io;
+use tool_support::escape::{escape, escape_lines};
 
 /// The greatest number of expected rules that a message names.
 const NAMED: usize = 5;
-
-/// Returns whether a character is shown as an escape: a control character, or one that is invisible or turns
-/// the direction of a line.
-fn is_hidden(c: char) -> bool {
-    c.is_control()
-        || matches!(
-            c,
-            '\u{ad}' | '\u{61c}' | '\u{200b}'..='\u{200f}' | '\u{2028}'..='\u{202e}'
-                | '\u{2060}'..='\u{206f}' | '\u{feff}'
-        )
-}
-
-/// Returns a text with each hidden character as an escape.
-pub fn escape(alloc: Global, text: &str) -> Result<String, AllocError> {
-    let mut escaped = String::new(alloc);
-    for c in text.chars() {
-        push_escaped(alloc, &mut escaped, c, is_hidden(c))?;
-    }
-    Ok(escaped)
-}
-
-/// Returns a text with each hidden character as an escape, but for tabs and line feeds.
-pub fn escape_lines(alloc: Global, text: &str) -> Result<String, AllocError> {
-    let mut escaped = String::new(alloc);
-    for c in text.chars() {
-        let is_escaped = is_hidden(c) && c != '\t' && c != '\n';
-        push_escaped(alloc, &mut escaped, c, is_escaped)?;
-    }
-    Ok(escaped)
-}
-
-/// Adds a character, or its escape.
-fn push_escaped(
-    alloc: Global,
-    text: &mut String,
-    c: char,
-    is_escaped: bool,
-) -> Result<(), AllocError> {
-    if is_escaped {
-        let escape = format!(in alloc; "\\u{{{:x}}}", u32::from(c))?;
-        text.push_str(escape.as_str())
-    } else {
-        text.push(c)
-    }
-}
 
 /// Returns the message that a file can't be read, and why.
 pub fn cannot_read(alloc: Global, name: &str, why: &io::Error) -> Result<String, AllocError> {

@@ -6,13 +6,14 @@ ghost use Rattle.pest_fmt.specs.Processing.{IsReplacement, PrintsFormatted};
 
 use crate::arguments::{Delivery, Target};
 use crate::diff::diff;
-use crate::messages::{cannot_format, escape, escape_lines, refusal_message};
+use crate::messages::{cannot_format, refusal_message};
 use crate::outcomes::{FileChange, outcome_of};
-use crate::statuses::Status;
 use meta_format::Options;
 use std::alloc::{AllocError, Global};
 use std::io::Write;
+use tool_support::escape::{escape, escape_lines};
 use tool_support::output::Output;
+use tool_support::status::Status;
 
 /// A file that was read.
 #[derive(Clone, Copy)]

@@ -5,12 +5,12 @@ use crate::arguments::{Delivery, Target};
 use crate::messages::{cannot_read, cannot_write, is_not_utf8};
 use crate::processing::{Processed, TextFile, process};
 use crate::replacing::replace;
-use crate::statuses::Status;
 use meta_format::Options;
 use std::alloc::AllocError;
-use std::fs;
-use std::io::{self, Read, Write};
+use std::io::Write;
+use tool_support::input::read_input;
 use tool_support::output::Output;
+use tool_support::status::Status;
 
 /// Formats the files of these names, `-` being standard input, and returns the status with the highest
 /// number. Stops where standard output refuses a write. The only error is an allocation failure.
@@ -33,17 +33,6 @@ pub fn format_files(
     Ok(status)
 }
 
-/// Reads the file of a name, or standard input for `-`.
-fn read(rt: &HostRuntime, name: &str) -> io::Result<Vec<u8>> {
-    let mut bytes = Vec::new(rt.alloc());
-    if name == "-" {
-        rt.stdin().read_to_end(&mut bytes)?;
-    } else {
-        fs::File::open(rt, name)?.read_to_end(&mut bytes)?;
-    }
-    Ok(bytes)
-}
-
 /// Formats the file of a name.
 fn format_file(
     rt: &HostRuntime,
@@ -52,7 +41,7 @@ fn format_file(
     options: Options,
 ) -> Result<Status, AllocError> {
     let alloc = rt.alloc();
-    let bytes = match read(rt, name) {
+    let bytes = match read_input(rt, name) {
         Ok(bytes) => bytes,
         Err(error) => {
             let message = cannot_read(alloc, name, &error)?;

@@ -1,4 +1,8 @@
-//! Output of the programs.
+//! What the programs share: exit statuses, inputs, output, escaped messages, the version.
 #![tactic(auto)]
 
+pub mod escape;
+pub mod input;
 pub mod output;
+pub mod status;
+pub mod version;

@@ -1,20 +1,22 @@
-//! The statuses that the program ends with.
+//! The statuses that the programs end with.
 ghost use Rattle.std.specs.Prelude.{◌≡◌, max};
-ghost use Rattle.pest_fmt.specs.Statuses.{status_code};
+ghost use Rattle.tool_support.specs.Statuses.{status_code};
 
-/// The status of the work on a file, or on all.
-#[derive(Clone, Copy)]
+/// The status of a program, or of its work on one input.
+#[derive(Clone, Copy, Debug, PartialEq, Eq)]
 pub enum Status {
-    /// All is formatted.
+    /// The work is done, and nothing was found.
     Done,
-    /// Something would change, or is left alone.
+    /// An input is refused, or something was found in it.
     Found,
     /// An allocation failed.
     OutOfMemory,
-    /// A file or the command line can't be read.
+    /// An input or the command line can't be read.
     Unreadable,
     /// A file or standard output can't be written.
     Unwritable,
+    /// The work was stopped before it had an answer.
+    Stopped,
 }
 
 impl Status {
@@ -28,10 +30,11 @@ impl Status {
             Status::OutOfMemory => 2,
             Status::Unreadable => 3,
             Status::Unwritable => 4,
+            Status::Stopped => 5,
         }
     }
 
-    /// Returns the one of two statuses with the higher number.
+    /// Returns the one of two statuses with the higher number: the status of the work on both.
     pub fn worse(self, other: Status) -> Status
         ensures { status_code result ≡ max (status_code self) (status_code other) }
     {

@@ -1,0 +1,28 @@
+-- Texts as messages show them.
+use Rattle.std.specs.Prelude.{ℕ, List, [], ◌∷◌, Bool, false, ◌||◌, ◌&&◌, ◌==◌, nat_le, encode_utf8_all, if◌then◌else◌}
+use Rattle.std.specs.Char.Escape.{escape_unicode}
+use Rattle.std.specs.List.{flat_map}
+use Rattle.std.specs.Str.{chars}
+
+abbrev pub is_between : ℕ → ℕ → ℕ → Bool
+is_between low high c = nat_le low c && nat_le c high
+
+-- a control character, or one that is invisible or turns the direction of a line
+abbrev pub is_hidden : ℕ → Bool
+is_hidden c = is_between 0 0x1f c || is_between 0x7f 0x9f c || c == 0xad || c == 0x61c
+    || is_between 0x200b 0x200f c || is_between 0x2028 0x202e c || is_between 0x2060 0x206f c || c == 0xfeff
+
+-- a hidden character other than a tab and a line feed
+abbrev pub is_hidden_in_lines : ℕ → Bool
+is_hidden_in_lines c = if c == 9 || c == 10 then false else is_hidden c
+
+-- the character, or its escape
+abbrev pub shown_character : Bool → ℕ → List ℕ
+shown_character is_escaped c = if is_escaped then escape_unicode c else c ∷ []
+
+-- a text in bytes, with escapes of hidden characters
+abbrev pub escaped_bytes : List ℕ → List ℕ
+escaped_bytes text = encode_utf8_all (flat_map (λ c. shown_character (is_hidden c) c) (chars text))
+
+abbrev pub escaped_lines : List ℕ → List ℕ
+escaped_lines text = encode_utf8_all (flat_map (λ c. shown_character (is_hidden_in_lines c) c) (chars text))
