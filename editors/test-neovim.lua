@@ -34,7 +34,14 @@ local first = vim.diagnostic.get(buffer)[1]
 step("at the missing `~`", first ~= nil and first.lnum == 0 and first.col == 36, first and (first.lnum .. ":" .. first.col))
 step("its message", first ~= nil and first.message:find("expected") ~= nil, first and first.message:gsub("\n", " / "))
 
-vim.api.nvim_buf_set_text(buffer, 0, 36, 0, 36, { "~ " })
+local ask = at(0, 36)
+ask.range = { start = ask.position, ["end"] = ask.position }
+ask.context = { diagnostics = {} }
+local fixes = request("textDocument/codeAction", ask)
+step("one fix", fixes ~= nil and #fixes == 1, fixes and fixes[1] and fixes[1].title)
+if fixes and fixes[1] then
+  vim.lsp.util.apply_workspace_edit(fixes[1].edit, "utf-16")
+end
 step("mended", wait(function() return #vim.diagnostic.get(buffer) == 0 end), tostring(#vim.diagnostic.get(buffer)))
 
 local place = request("textDocument/definition", at(0, 16))
