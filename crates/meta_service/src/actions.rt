@@ -1,7 +1,7 @@
-//! Code actions: the remedies of findings.
+//! Code actions: the remedies of diagnostics.
 use crate::diagnostics::diagnostic_value;
-use crate::findings::{Problem, findings_of};
 use crate::remedies::{Remedy, remedy_of};
+use meta_diagnostics::{Diagnostic, Options, diagnose};
 use meta_requests::context::Context;
 use meta_requests::messages::{Answer, ErrorCode};
 use meta_requests::params::lists_at;
@@ -12,7 +12,7 @@ use std::alloc::{AllocError, Global};
 /// The most remedies that are answered at once.
 const MOST_ACTIONS: usize = 20;
 
-/// Returns the remedies of the findings that a range touches, at most 20.
+/// Returns the remedies of the diagnostics that a range touches, at most 20.
 pub fn code_actions(
     alloc: Global,
     context: &Context<'_>,
@@ -25,11 +25,11 @@ pub fn code_actions(
     if !is_asked_for(params) {
         return Ok(Answer::Result(Value::Array(actions)));
     }
-    let findings = findings_of(alloc, context.text)?;
-    for finding in &findings {
-        let is_touched = finding.start <= extent.end && extent.start <= finding.end;
+    let diagnostics = diagnose(alloc, context.text, Options::default())?;
+    for diagnostic in &diagnostics {
+        let is_touched = diagnostic.start <= extent.end && extent.start <= diagnostic.end;
         if is_touched && actions.len() < MOST_ACTIONS {
-            push_action(alloc, context, finding, &mut actions)?;
+            push_action(alloc, context, diagnostic, &mut actions)?;
         }
     }
     Ok(Answer::Result(Value::Array(actions)))
@@ -40,15 +40,15 @@ fn is_asked_for(params: &Value) -> bool {
     params.pointer("/context/only").is_none() || lists_at(params, "/context/only", "quickfix")
 }
 
-/// Adds the remedy of a finding, where it has one.
+/// Adds the remedy of a diagnostic, where it has one.
 fn push_action(
     alloc: Global,
     context: &Context<'_>,
-    finding: &Problem,
+    diagnostic: &Diagnostic,
     actions: &mut Vec<Value>,
 ) -> Result<(), AllocError> {
-    if let Some(remedy) = remedy_of(alloc, context, finding)? {
-        actions.push(action_value(alloc, context, finding, &remedy)?)?;
+    if let Some(remedy) = remedy_of(alloc, context, diagnostic)? {
+        actions.push(action_value(alloc, context, diagnostic, &remedy)?)?;
     }
     Ok(())
 }
@@ -57,11 +57,11 @@ fn push_action(
 fn action_value(
     alloc: Global,
     context: &Context<'_>,
-    finding: &Problem,
+    diagnostic: &Diagnostic,
     remedy: &Remedy,
 ) -> Result<Value, AllocError> {
     let edit = remedy_value(alloc, context, remedy)?;
-    let value = diagnostic_value(alloc, &context.index, finding)?;
+    let value = diagnostic_value(alloc, &context.index, context.uri, diagnostic)?;
     json!(in alloc; {
         "title": &remedy.title,
         "kind": "quickfix",

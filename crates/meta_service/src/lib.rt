@@ -5,7 +5,6 @@ mod actions;
 mod capabilities;
 mod diagnostics;
 mod facts;
-mod findings;
 mod formatting;
 mod hovers;
 mod remedies;
