@@ -1,9 +1,9 @@
 //! The document that a request is about.
-ghost use Rattle.std.specs.Prelude.{◌≡◌};
+ghost use Rattle.std.specs.Prelude.{◌≡◌, IfOk, MatchOption, None, option_map, string_bytes};
 ghost use Rattle.meta_positions.specs.Shown.{index_encoding, index_text};
 
 use crate::documents::{Document, Documents};
-use crate::params::{position_of, range_of, text_at};
+use crate::params::{asked_position, range_of, text_at};
 use meta_positions::{Encoding, PositionIndex, offset_of};
 use meta_symbols::{Definition, Extent, Token, definitions_of, name_at, tokens_of};
 use serde_json::Value;
@@ -44,14 +44,26 @@ pub struct Context<'d> {
     pub ghost encoded: { index_encoding index ≡ client.encoding },
 }
 
+/// A name in a document.
+#[derive(Clone, Copy)]
+pub struct Name<'d> {
+    pub extent: Extent,
+    pub text: &'d str,
+}
+
 impl<'d> Context<'d> {
+    ghost use Rattle.meta_requests.specs.Asked.{IsAskedOffset, asked_position};
+    ghost use Rattle.meta_requests.specs.Names.{HasNoName, IsAskedName, IsContextOf, IsNameIn};
+
     /// Returns the context of a document.
     pub fn new(
         alloc: Global,
         client: Client,
         uri: &'d str,
         document: &'d Document,
-    ) -> Result<Context<'d>, AllocError> {
+    ) -> Result<Context<'d>, AllocError>
+        ensures { IfOk result (IsContextOf client uri.now (string_bytes document.now.text)) }
+    {
         let text = document.text.as_str();
         let tokens = tokens_of(alloc, text)?;
         let definitions = definitions_of(alloc, text, &tokens)?;
@@ -83,9 +95,14 @@ impl<'d> Context<'d> {
     }
 
     /// Returns the offset of the position in parameters.
-    pub fn offset(&self, params: &Value) -> Option<usize> {
-        let position = position_of(params.get("position")?)?;
-        Some(offset_of(self.text, self.client.encoding, position))
+    pub fn offset(&self, params: &Value) -> Option<usize>
+        ensures { MatchOption result (asked_position (view params.now) ≡ None)
+            (IsAskedOffset self.now (view params.now)) }
+    {
+        match asked_position(params) {
+            Some(position) => Some(offset_of(self.text, self.client.encoding, position)),
+            None => None,
+        }
     }
 
     /// Returns the bytes of the range in parameters.
@@ -97,9 +114,35 @@ impl<'d> Context<'d> {
     }
 
     /// Returns the name at the position in parameters.
-    pub fn name(&self, params: &Value) -> Option<Extent> {
-        let offset = self.offset(params)?;
-        name_at(&self.tokens, offset)
+    pub fn name(&self, params: &Value) -> Option<Name<'d>>
+        ensures { MatchOption result (HasNoName self.now (view params.now))
+            (IsAskedName self.now (view params.now)) }
+    {
+        match self.offset(params) {
+            Some(offset) => self.name_around(offset),
+            None => None,
+        }
+    }
+
+    /// Returns the name that an offset is in, or at the end of.
+    fn name_around(&self, offset: usize) -> Option<Name<'d>>
+        ensures { MatchOption result (LacksName self.now offset) (IsNameAround self.now offset) }
+    {
+        match name_at(&self.tokens, offset) {
+            Some(extent) => self.name_of(extent),
+            None => None,
+        }
+    }
+
+    /// Returns the name of an extent, if that begins and ends between two characters.
+    fn name_of(&self, extent: Extent) -> Option<Name<'d>>
+        ensures { MatchOption result (IsNoPart self.now.text.now extent)
+            (λ name. (name.extent ≡ extent) × IsNameIn self.now.text.now name) }
+    {
+        match self.text.get(extent.start..extent.end) {
+            Some(text) => Some(Name { extent, text }),
+            None => None,
+        }
     }
 
     /// Returns the text of an extent.

@@ -2,6 +2,7 @@
 ghost use Rattle.std.specs.Prelude.{◌≡◌, ◌++◌, ◌∷◌, [], IfOk, OnOk, map};
 ghost use Rattle.meta_requests.specs.Answers.{AreDefinitions, IsRename, rename_data};
 ghost use Rattle.meta_requests.specs.Values.{edit_data};
+ghost use Rattle.meta_symbols.specs.Occurrences.{names_of};
 ghost use Rattle.serde_json.specs.View.{view};
 
 use crate::context::Context;
@@ -20,14 +21,25 @@ pub fn definition(
     context: &Context<'_>,
     params: &Value,
 ) -> Result<Answer, AllocError>
-    ensures { IfOk result (AreDefinitions context.now) }
+    ensures { IfOk result (AreDefinitions context.now (view params.now)) }
 {
-    let Some(name) = context.name(params) else {
-        return Ok(Answer::Result(Value::Null));
-    };
-    let name = context.part(name);
+    match context.name(params) {
+        Some(name) => Ok(Answer::Result(definitions_value(alloc, context, name.text)?)),
+        None => Ok(Answer::Result(Value::Null)),
+    }
+}
+
+/// Returns where the rules of a name are defined.
+fn definitions_value(
+    alloc: Global,
+    context: &Context<'_>,
+    name: &str,
+) -> Result<Value, AllocError>
+    ensures { IfOk result (λ v. view v ≡ locations_data context.now
+        (names_of context.now.text.now name.now context.now.definitions.items)) }
+{
     let extents = definitions_named(alloc, context.text, &context.definitions, name)?;
-    Ok(Answer::Result(locations_value(alloc, context, &extents)?))
+    locations_value(alloc, context, &extents)
 }
 
 /// Returns where the rule at a position is called, and defined where the parameters ask for that.
@@ -39,7 +51,7 @@ pub fn references(
     let Some(name) = context.name(params) else {
         return Ok(Answer::Result(Value::Null));
     };
-    let mut extents = occurrences_of(alloc, context.text, &context.tokens, context.part(name))?;
+    let mut extents = occurrences_of(alloc, context.text, &context.tokens, name.text)?;
     if !is_true_at(params, "/context/includeDeclaration") {
         let definitions = &context.definitions;
         extents.retain(|extent| !is_definition(definitions, *extent));
@@ -63,7 +75,7 @@ pub fn highlights(
     let Some(name) = context.name(params) else {
         return Ok(Answer::Result(Value::Null));
     };
-    let extents = occurrences_of(alloc, context.text, &context.tokens, context.part(name))?;
+    let extents = occurrences_of(alloc, context.text, &context.tokens, name.text)?;
     let mut values = Vec::new(alloc);
     for extent in &extents {
         values.push(highlight(alloc, context, *extent)?)?;
@@ -91,12 +103,11 @@ pub fn prepare_rename(
     let Some(name) = context.name(params) else {
         return Ok(Answer::Result(Value::Null));
     };
-    let placeholder = context.part(name);
-    if definitions_named(alloc, context.text, &context.definitions, placeholder)?.is_empty() {
+    if definitions_named(alloc, context.text, &context.definitions, name.text)?.is_empty() {
         return Ok(Answer::Error(ErrorCode::RequestFailed, reason_of(RenameRefusal::NoRule)));
     }
-    let range = range_value(alloc, &context.index, name)?;
-    let value = json!(in alloc; { "range": range, "placeholder": placeholder })?;
+    let range = range_value(alloc, &context.index, name.extent)?;
+    let value = json!(in alloc; { "range": range, "placeholder": name.text })?;
     Ok(Answer::Result(value))
 }
 
@@ -106,7 +117,7 @@ pub fn rename_rule(
     context: &Context<'_>,
     params: &Value,
 ) -> Result<Answer, AllocError>
-    ensures { IfOk result (IsRename context.now) }
+    ensures { IfOk result (IsRename context.now (view params.now)) }
 {
     let Some(new_name) = text_at(params, "/newName") else {
         return Ok(Answer::Error(ErrorCode::InvalidParams, "no new name"));
@@ -117,7 +128,7 @@ pub fn rename_rule(
             "there is no name at this position",
         ));
     };
-    match rename(alloc, context.text, context.part(name), new_name)? {
+    match rename(alloc, context.text, name.text, new_name)? {
         Renaming::Refused(refusal) => Ok(Answer::Error(
             ErrorCode::RequestFailed,
             reason_of(refusal),

@@ -1,25 +1,37 @@
 //! The parameters of messages.
+ghost use Rattle.std.specs.Prelude.{◌≡◌, option_map};
+ghost use Rattle.meta_requests.specs.Asked as spec;
+ghost use Rattle.serde_json.specs.View.{view};
+
 use meta_positions::{Change, Position, Range};
 use serde_json::Value;
 use std::alloc::{AllocError, Global};
 
 /// Returns the text at a path of a value.
-pub fn text_at<'v>(value: &'v Value, path: &str) -> Option<&'v str> {
-    value.pointer(path)?.as_str()
+pub fn text_at<'v>(value: &'v Value, path: &str) -> Option<&'v str>
+    ensures { option_map (λ text. text.now) result ≡ spec.text_in path.now (view value.now) }
+{
+    value.pointer(path).and_then(Value::as_str)
 }
 
 /// Returns the number at a path of a value.
-pub fn number_at(value: &Value, path: &str) -> Option<usize> {
-    let number = value.pointer(path)?.as_u64()?;
-    Some(number as usize)
+pub fn number_at(value: &Value, path: &str) -> Option<usize>
+    ensures { result ≡ spec.number_in path.now (view value.now) }
+{
+    match value.pointer(path).and_then(Value::as_u64) {
+        Some(number) => Some(number as usize),
+        None => None,
+    }
 }
 
 /// Whether there is `true` at a path of a value.
-pub fn is_true_at(value: &Value, path: &str) -> bool {
-    match value.pointer(path) {
-        Some(flag) => flag.as_bool() == Some(true),
-        None => false,
-    }
+pub fn is_true_at(value: &Value, path: &str) -> bool
+    ensures { result ≡ spec.is_true_in path.now (view value.now) }
+{
+    value
+        .pointer(path)
+        .and_then(Value::as_bool)
+        .unwrap_or(false)
 }
 
 /// Whether there is a list with this text at a path of a value.
@@ -31,10 +43,29 @@ pub fn lists_at(value: &Value, path: &str, text: &str) -> bool {
 }
 
 /// Returns a position.
-pub fn position_of(value: &Value) -> Option<Position> {
-    let line = number_at(value, "/line")?;
-    let character = number_at(value, "/character")?;
+pub fn position_of(value: &Value) -> Option<Position>
+    ensures { result ≡ spec.position_in (view value.now) }
+{
+    position_from(
+        number_at(value, "/line"),
+        number_at(value, "/character"),
+    )
+}
+
+/// Returns the position of a line and a character, if there are both.
+fn position_from(line: Option<usize>, character: Option<usize>) -> Option<Position>
+    ensures { result ≡ spec.position_from line character }
+{
+    let line = line?;
+    let character = character?;
     Some(Position { line, character })
+}
+
+/// Returns the position in the parameters of a request.
+pub fn asked_position(params: &Value) -> Option<Position>
+    ensures { result ≡ spec.asked_position (view params.now) }
+{
+    params.get("position").and_then(position_of)
 }
 
 /// Returns a range.

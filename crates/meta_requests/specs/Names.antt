@@ -1,0 +1,48 @@
+-- The name that a request is about.
+use Rattle.std.specs.Prelude.{◌≡◌, ◌⊎◌, ◌≤◌, ℕ, List, Some, None}
+use Rattle.std.specs.Str.{IsCharBoundary}
+use Rattle.serde_json.specs.Data.{Data}
+use Rattle.meta_requests.specs.Asked.{IsAskedOffset, asked_position}
+use Rattle.meta_requests.specs.declared.context.Client.{Client}
+use Rattle.meta_requests.specs.declared.context.Context.{Context}
+use Rattle.meta_requests.specs.declared.context.Name.{Name}
+use Rattle.meta_symbols.specs.Occurrences.{name_around}
+use Rattle.meta_symbols.specs.Parts.{part}
+use Rattle.meta_symbols.specs.declared.tokens.Extent.{Extent}
+
+-- what a context is of
+pub record IsContextOf (client : Client) (uri text : List ℕ) (context : Context) : Type 0 where
+  pub uri : context.uri.now ≡ uri
+  pub text : context.text.now ≡ text
+  pub client : context.client ≡ client
+
+-- an extent runs backwards, ends past the text, or cuts a character
+abbrev pub IsNoPart : List ℕ → Extent → Type 0
+IsNoPart text extent =
+    extent.start ≤ extent.end → IsCharBoundary text extent.start → ¬ (IsCharBoundary text extent.end)
+
+-- a name has the text of its bytes
+abbrev pub IsNameIn : List ℕ → Name → Type 0
+IsNameIn text name = name.text.now ≡ part text name.extent
+
+-- the first name that a byte is in, or at the end of
+pub record IsNameAround (context : Context) (offset : ℕ) (name : Name) : Type 0 where
+  pub around : name_around offset context.tokens.items ≡ Some name.extent
+  pub text : IsNameIn context.text.now name
+
+-- a byte is in no name
+abbrev pub LacksName : Context → ℕ → Type 0
+LacksName context offset = (name_around offset context.tokens.items ≡ None)
+    ⊎ ((extent : Extent) × (name_around offset context.tokens.items ≡ Some extent)
+    × IsNoPart context.text.now extent)
+
+-- the name at the position in parameters
+pub record IsAskedName (context : Context) (d : Data) (name : Name) : Type 0 where
+  pub offset : ℕ
+  pub at : IsAskedOffset context d offset
+  pub name : IsNameAround context offset name
+
+-- parameters have no position, or one at which there is no name
+abbrev pub HasNoName : Context → Data → Type 0
+HasNoName context d = (asked_position d ≡ None)
+    ⊎ ((offset : ℕ) × IsAskedOffset context d offset × LacksName context offset)
