@@ -15,22 +15,21 @@ use std::alloc::{AllocError, Global};
 
 /// Returns what is known of the name at a position.
 pub fn hover(alloc: Global, context: &Context<'_>, params: &Value) -> Result<Answer, AllocError> {
-    let Some(extent) = context.name(params) else {
+    let Some(name) = context.name(params) else {
         return Ok(Answer::Result(Value::Null));
     };
-    let name = context.part(extent);
     let found = context
         .definitions
         .iter()
-        .find(|definition| context.part(definition.name) == name);
+        .find(|definition| context.part(definition.name) == name.text);
     let text = match found {
         Some(definition) => rule_text(alloc, context, *definition)?,
-        None => builtin_text(alloc, name)?,
+        None => builtin_text(alloc, name.text)?,
     };
     if text.is_empty() {
         return Ok(Answer::Result(Value::Null));
     }
-    let value = hover_value(alloc, context, extent, text.as_str())?;
+    let value = hover_value(alloc, context, name.extent, text.as_str())?;
     Ok(Answer::Result(value))
 }
 
