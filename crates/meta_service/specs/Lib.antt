@@ -1,2 +1,4 @@
+pub mod Diagnostics
+pub mod Remedies
 pub mod Replies
 pub mod Sessions

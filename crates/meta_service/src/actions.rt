@@ -25,7 +25,7 @@ pub fn code_actions(
     if !is_asked_for(params) {
         return Ok(Answer::Result(Value::Array(actions)));
     }
-    let diagnostics = diagnose(alloc, context.text, Options::default())?;
+    let diagnostics = diagnose(alloc, context.text, Options { starts: &[] })?;
     for diagnostic in &diagnostics {
         let is_touched = diagnostic.start <= extent.end && extent.start <= diagnostic.end;
         if is_touched && actions.len() < MOST_ACTIONS {

@@ -1,5 +1,12 @@
 //! Diagnostics of a document.
-use meta_diagnostics::{Diagnostic, Options, Related, Severity, diagnose};
+ghost use Rattle.std.specs.Prelude.{◌≡◌, ◌++◌, ◌∷◌, [], IfOk, None, OnOk, codes, map, string_bytes};
+ghost use Rattle.meta_positions.specs.Shown.{index_encoding, index_text};
+ghost use Rattle.meta_service.specs.Diagnostics as spec;
+ghost use Rattle.meta_service.specs.Diagnostics.{IsPublication, Publishes};
+ghost use Rattle.serde_json.specs.Data.{array, no_items};
+ghost use Rattle.serde_json.specs.View.{items_of, view};
+
+use meta_diagnostics::{Code, Diagnostic, Help, Options, Related, Severity, diagnose};
 use meta_positions::{Encoding, PositionIndex};
 use meta_requests::documents::Document;
 use meta_requests::messages::notification;
@@ -14,17 +21,21 @@ pub fn publish(
     encoding: Encoding,
     uri: &str,
     document: &Document,
-) -> Result<String, AllocError> {
+) -> Result<String, AllocError>
+    ensures { IfOk result (λ body. Publishes encoding uri.now document.now (string_bytes body)) }
+{
     let text = document.text.as_str();
-    let diagnostics = diagnose(alloc, text, Options::default())?;
+    let diagnostics = diagnose(alloc, text, Options { starts: &[] })?;
     let index = PositionIndex::new(alloc, text, encoding)?;
     let values = diagnostic_values(alloc, &index, uri, &diagnostics)?;
     publication(alloc, uri, document.version, values)
 }
 
 /// Returns the notification that a document has no diagnostics.
-pub fn publish_none(alloc: Global, uri: &str) -> Result<String, AllocError> {
-    publication(alloc, uri, None, Vec::new(alloc))
+pub fn publish_none(alloc: Global, uri: &str) -> Result<String, AllocError>
+    ensures { IfOk result (λ body. IsPublication uri.now None (array no_items) (string_bytes body)) }
+{
+    publication(alloc, uri, None, Value::Array(Vec::new(alloc)))
 }
 
 /// Returns a notification of diagnostics.
@@ -32,41 +43,81 @@ fn publication(
     alloc: Global,
     uri: &str,
     version: Option<i64>,
-    values: Vec<Value>,
-) -> Result<String, AllocError> {
-    let diagnostics = Value::Array(values);
-    let params = match version {
+    diagnostics: Value,
+) -> Result<String, AllocError>
+    ensures { IfOk result (λ body.
+        IsPublication uri.now version (view diagnostics) (string_bytes body)) }
+{
+    let params = publication_params(alloc, uri, version, diagnostics)?;
+    notification(alloc, "textDocument/publishDiagnostics", params)
+}
+
+/// Returns the parameters of a notification of diagnostics.
+fn publication_params(
+    alloc: Global,
+    uri: &str,
+    version: Option<i64>,
+    diagnostics: Value,
+) -> Result<Value, AllocError>
+    ensures { IfOk result (λ v.
+        view v ≡ spec.publication_data uri.now version (view diagnostics)) }
+{
+    match version {
         Some(version) => json!(in alloc; {
             "uri": uri,
             "version": version,
             "diagnostics": diagnostics,
-        })?,
-        None => json!(in alloc; { "uri": uri, "diagnostics": diagnostics })?,
-    };
-    notification(alloc, "textDocument/publishDiagnostics", params)
+        }),
+        None => json!(in alloc; { "uri": uri, "diagnostics": diagnostics }),
+    }
 }
 
-/// Returns diagnostics as values.
+/// Returns diagnostics as a value.
 fn diagnostic_values(
     alloc: Global,
     index: &PositionIndex<'_>,
     uri: &str,
     diagnostics: &[Diagnostic],
-) -> Result<Vec<Value>, AllocError> {
+) -> Result<Value, AllocError>
+    ensures { IfOk result (λ v. view v ≡ array (items_of (map (spec.diagnostic_data
+        (index_encoding index.now) (index_text index.now) uri.now) diagnostics.now))) }
+{
     let mut values = Vec::new(alloc);
-    for diagnostic in diagnostics {
-        values.push(diagnostic_value(alloc, index, uri, diagnostic)?)?;
+    let mut rest = diagnostics;
+    while let Some((diagnostic, after)) = rest.split_first() {
+        push_diagnostic(alloc, index, uri, diagnostic, &mut values)?;
+        rest = after;
     }
-    Ok(values)
+    Ok(Value::Array(values))
 }
 
-/// Returns a diagnostic as a value. Its message ends with the help, where there is one.
+/// Adds a diagnostic.
+fn push_diagnostic(
+    alloc: Global,
+    index: &PositionIndex<'_>,
+    uri: &str,
+    diagnostic: &Diagnostic,
+    values: &mut Vec<Value>,
+) -> Result<(), AllocError>
+    ensures { OnOk result (map view values.new.items ≡ map view values.old.items
+        ++ spec.diagnostic_data (index_encoding index.now) (index_text index.now) uri.now diagnostic.now
+        ∷ []) }
+{
+    let value = diagnostic_value(alloc, index, uri, diagnostic)?;
+    values.push(value)?;
+    Ok(())
+}
+
+/// Returns a diagnostic as a value.
 pub fn diagnostic_value(
     alloc: Global,
     index: &PositionIndex<'_>,
     uri: &str,
     diagnostic: &Diagnostic,
-) -> Result<Value, AllocError> {
+) -> Result<Value, AllocError>
+    ensures { IfOk result (λ v. view v ≡ spec.diagnostic_data (index_encoding index.now)
+        (index_text index.now) uri.now diagnostic.now) }
+{
     let extent = Extent {
         start: diagnostic.start,
         end: diagnostic.end,
@@ -79,13 +130,15 @@ pub fn diagnostic_value(
         "severity": severity_number(diagnostic.severity),
         "code": diagnostic.code.name(),
         "source": "pest",
-        "message": &message,
-        "relatedInformation": Value::Array(related),
+        "message": message.as_str(),
+        "relatedInformation": related,
     })
 }
 
 /// Returns the protocol's number of a severity.
-fn severity_number(severity: Severity) -> u64 {
+fn severity_number(severity: Severity) -> u64
+    ensures { result ≡ spec.severity_number severity }
+{
     match severity {
         Severity::Error => 1,
         Severity::Warning => 2,
@@ -93,25 +146,85 @@ fn severity_number(severity: Severity) -> u64 {
 }
 
 /// Returns the message of a diagnostic, with its help in a line of its own.
-fn message_of(alloc: Global, diagnostic: &Diagnostic) -> Result<String, AllocError> {
-    match &diagnostic.help {
-        Some(help) => format!(in alloc; "{}\n{}", diagnostic.message, help.message),
-        None => diagnostic.message.clone(),
+fn message_of(alloc: Global, diagnostic: &Diagnostic) -> Result<String, AllocError>
+    ensures { IfOk result (λ message. string_bytes message ≡ spec.message_of diagnostic.now) }
+{
+    let mut message = String::from_str(alloc, diagnostic.message.as_str())?;
+    push_help(has_help(diagnostic.code), &diagnostic.help, &mut message)?;
+    Ok(message)
+}
+
+/// Whether the help for a code is of use in an editor.
+fn has_help(code: Code) -> bool
+    ensures { result ≡ spec.has_help code }
+{
+    match code {
+        Code::UncalledRule => false,
+        _ => true,
     }
 }
 
-/// Returns the other parts of the text that matter to a diagnostic, as values.
+/// Adds a line with a help, where there is one and it is to be shown.
+fn push_help(
+    is_shown: bool,
+    help: &Option<Help>,
+    message: &mut String,
+) -> Result<(), AllocError>
+    ensures { OnOk result (string_bytes message.new
+        ≡ string_bytes message.old ++ spec.help_line is_shown help.now) }
+{
+    if !is_shown {
+        return Ok(());
+    }
+    match help {
+        Some(help) => push_line(help.message.as_str(), message),
+        None => Ok(()),
+    }
+}
+
+/// Adds a line.
+fn push_line(line: &str, message: &mut String) -> Result<(), AllocError>
+    ensures { OnOk result (string_bytes message.new
+        ≡ string_bytes message.old ++ (codes "\n" ++ line.now)) }
+{
+    message.push_str("\n")?;
+    message.push_str(line)?;
+    Ok(())
+}
+
+/// Returns the other parts of the text that matter to a diagnostic, as a value.
 fn related_values(
     alloc: Global,
     index: &PositionIndex<'_>,
     uri: &str,
     related: &[Related],
-) -> Result<Vec<Value>, AllocError> {
+) -> Result<Value, AllocError>
+    ensures { IfOk result (λ v. view v ≡ array (items_of (map (spec.related_data
+        (index_encoding index.now) (index_text index.now) uri.now) related.now))) }
+{
     let mut values = Vec::new(alloc);
-    for part in related {
-        values.push(related_value(alloc, index, uri, part)?)?;
+    let mut rest = related;
+    while let Some((part, after)) = rest.split_first() {
+        push_related(alloc, index, uri, part, &mut values)?;
+        rest = after;
     }
-    Ok(values)
+    Ok(Value::Array(values))
+}
+
+/// Adds a part of the text that matters to a diagnostic.
+fn push_related(
+    alloc: Global,
+    index: &PositionIndex<'_>,
+    uri: &str,
+    part: &Related,
+    values: &mut Vec<Value>,
+) -> Result<(), AllocError>
+    ensures { OnOk result (map view values.new.items ≡ map view values.old.items
+        ++ spec.related_data (index_encoding index.now) (index_text index.now) uri.now part.now ∷ []) }
+{
+    let value = related_value(alloc, index, uri, part)?;
+    values.push(value)?;
+    Ok(())
 }
 
 /// Returns a part of the text that matters to a diagnostic, as a value.
@@ -120,7 +233,10 @@ fn related_value(
     index: &PositionIndex<'_>,
     uri: &str,
     part: &Related,
-) -> Result<Value, AllocError> {
+) -> Result<Value, AllocError>
+    ensures { IfOk result (λ v. view v
+        ≡ spec.related_data (index_encoding index.now) (index_text index.now) uri.now part.now) }
+{
     let extent = Extent {
         start: part.start,
         end: part.end,
@@ -128,6 +244,6 @@ fn related_value(
     let range = range_value(alloc, index, extent)?;
     json!(in alloc; {
         "location": { "uri": uri, "range": range },
-        "message": &part.message,
+        "message": part.message.as_str(),
     })
 }

@@ -1,5 +1,9 @@
-//! Remedies of diagnostics, where one is certain.
-use meta_diagnostics::{Code, Diagnostic};
+//! Remedies of diagnostics.
+ghost use Rattle.std.specs.Prelude.{IfOk};
+ghost use Rattle.meta_service.specs.Remedies.{AppliesFix, IsRemedyBy};
+ghost use Rattle.meta_service.specs.Remedies as spec;
+
+use meta_diagnostics::{Code, Diagnostic, Fix, Help};
 use meta_requests::context::Context;
 use meta_symbols::{Extent, Token};
 use std::alloc::{AllocError, Global};
@@ -17,33 +21,43 @@ pub fn remedy_of(
     alloc: Global,
     context: &Context<'_>,
     diagnostic: &Diagnostic,
-) -> Result<Option<Remedy>, AllocError> {
-    if let Some(remedy) = fix_of(diagnostic)? {
-        return Ok(Some(remedy));
+) -> Result<Option<Remedy>, AllocError>
+    ensures { IfOk result (IsRemedyBy (spec.fix_of diagnostic.now.help)) }
+{
+    match &diagnostic.help {
+        Some(Help {
+            message,
+            fix: Some(fix),
+        }) => Ok(Some(fix_remedy(alloc, fix, message.as_str())?)),
+        _ => remedy_by_code(alloc, context, diagnostic),
     }
+}
+
+/// Returns the remedy that applies a fix.
+fn fix_remedy(alloc: Global, fix: &Fix, title: &str) -> Result<Remedy, AllocError>
+    ensures { IfOk result (AppliesFix fix.now) }
+{
+    Ok(Remedy {
+        extent: Extent {
+            start: fix.start,
+            end: fix.end,
+        },
+        replacement: String::from_str(alloc, fix.replacement.as_str())?,
+        title: String::from_str(alloc, title)?,
+    })
+}
+
+/// Returns the remedy of a diagnostic without a fix.
+fn remedy_by_code(
+    alloc: Global,
+    context: &Context<'_>,
+    diagnostic: &Diagnostic,
+) -> Result<Option<Remedy>, AllocError> {
     match diagnostic.code {
         Code::UndefinedRule => definition_remedy(alloc, context, diagnostic),
         Code::Unreachable => removal_of(alloc, context, diagnostic),
         _ => Ok(None),
     }
-}
-
-/// Returns the fix of a diagnostic's help, where there is one.
-fn fix_of(diagnostic: &Diagnostic) -> Result<Option<Remedy>, AllocError> {
-    let Some(help) = &diagnostic.help else {
-        return Ok(None);
-    };
-    let Some(fix) = &help.fix else {
-        return Ok(None);
-    };
-    Ok(Some(Remedy {
-        extent: Extent {
-            start: fix.start,
-            end: fix.end,
-        },
-        replacement: fix.replacement.clone()?,
-        title: help.message.clone()?,
-    }))
 }
 
 /// Returns the remedy of a call of a rule that is not defined: a definition at the end.
