@@ -1,5 +1,7 @@
 pub mod Answers
 pub mod Asked
+pub mod Changes
+pub mod Documents
 pub mod Messages
 pub mod Names
 pub mod Values

@@ -1,6 +1,6 @@
 -- Messages of JSON-RPC.
-use Rattle.std.specs.Prelude.{◌≡◌, ◌≤◌, ◌||◌, ℕ, ℤ, negsuc, List, Option, Some, None, is_some, Bool, true, false, codes, option_and_then, option_map, if◌then◌else◌}
-use Rattle.serde_json.specs.Data.{Data, number, string, object, no_members, member, depth}
+use Rattle.std.specs.Prelude.{◌≡◌, ◌≤◌, ◌||◌, ℕ, ℤ, negsuc, List, Option, Some, None, is_some, Bool, true, false, codes, option_and_then, option_map, unwrap_or, if◌then◌else◌}
+use Rattle.serde_json.specs.Data.{Data, null, number, string, object, no_members, member, depth}
 use Rattle.serde_json.specs.Find.{as_null, as_number, as_str, get, of_integer}
 use Rattle.serde_json.specs.Read.{max_depth, read}
 use Rattle.serde_json.specs.View.{view}
@@ -87,3 +87,7 @@ IsRequestOf d method (incoming.Request id name) =
 IsRequestOf d method (incoming.Notification name) = ⊥
 IsRequestOf d method incoming.Response = ⊥
 IsRequestOf d method incoming.Invalid = is_id d ≡ false
+
+-- the parameters of a message, or null
+abbrev pub params_of : Data → Data
+params_of d = unwrap_or (get (codes "params") d) null

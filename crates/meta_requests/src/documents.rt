@@ -1,4 +1,6 @@
 //! The open documents.
+ghost use Rattle.std.specs.Prelude.{◌≡◌, None, OnErr, OnOk, Some, option_copied};
+
 use std::alloc::{AllocError, Global};
 use std::collections::BTreeMap;
 
@@ -17,6 +19,8 @@ pub struct Documents {
 }
 
 impl Documents {
+    ghost use Rattle.meta_requests.specs.Documents.{KeepsDocuments, document_in};
+
     /// Returns no documents.
     pub fn new(alloc: Global) -> Documents {
         Documents {
@@ -25,19 +29,28 @@ impl Documents {
     }
 
     /// Returns the document of a URI.
-    pub fn get(&self, uri: &str) -> Option<&Document> {
+    pub fn get(&self, uri: &str) -> Option<&Document>
+        ensures { option_copied result ≡ document_in self.now uri.now }
+    {
         self.documents.get(uri)
     }
 
     /// Opens a document, or replaces it. After a refusal the documents are as before.
-    pub fn put(&mut self, alloc: Global, uri: &str, document: Document) -> Result<(), AllocError> {
+    pub fn put(&mut self, alloc: Global, uri: &str, document: Document) -> Result<(), AllocError>
+        ensures stored { OnOk result (document_in self.new uri.now ≡ Some document) }
+        ensures others { KeepsDocuments (Some uri.now) self.old self.new }
+        ensures refused { OnErr result (KeepsDocuments None self.old self.new) }
+    {
         let uri = String::from_str(alloc, uri)?;
         let _ = self.documents.insert(uri, document)?;
         Ok(())
     }
 
     /// Closes a document.
-    pub fn remove(&mut self, uri: &str) {
+    pub fn remove(&mut self, uri: &str)
+        ensures removed { document_in self.new uri.now ≡ None }
+        ensures others { KeepsDocuments (Some uri.now) self.old self.new }
+    {
         let _ = self.documents.remove(uri);
     }
 

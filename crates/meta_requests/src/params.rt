@@ -1,6 +1,8 @@
 //! The parameters of messages.
-ghost use Rattle.std.specs.Prelude.{◌≡◌, option_map};
+ghost use Rattle.std.specs.List.{AllZip};
+ghost use Rattle.std.specs.Prelude.{◌≡◌, IfOk, IfSome, map, option_map};
 ghost use Rattle.meta_requests.specs.Asked as spec;
+ghost use Rattle.meta_requests.specs.Changes as changes;
 ghost use Rattle.serde_json.specs.View.{view};
 
 use meta_positions::{Change, Position, Range};
@@ -69,17 +71,55 @@ pub fn asked_position(params: &Value) -> Option<Position>
 }
 
 /// Returns a range.
-pub fn range_of(value: &Value) -> Option<Range> {
-    let start = position_of(value.get("start")?)?;
-    let end = position_of(value.get("end")?)?;
+pub fn range_of(value: &Value) -> Option<Range>
+    ensures { result ≡ changes.range_in (view value.now) }
+{
+    range_from(
+        value.get("start").and_then(position_of),
+        value.get("end").and_then(position_of),
+    )
+}
+
+/// Returns the range of two positions, if there are both.
+fn range_from(start: Option<Position>, end: Option<Position>) -> Option<Range>
+    ensures { result ≡ changes.range_from start end }
+{
+    let start = start?;
+    let end = end?;
     Some(Range { start, end })
 }
 
+/// Returns the version of a document.
+pub fn version_of(params: &Value) -> Option<i64>
+    ensures { result ≡ changes.version_in (view params.now) }
+{
+    params
+        .pointer("/textDocument/version")
+        .and_then(Value::as_i64)
+}
+
+/// Returns the changes in parameters, or none where one of them is no change.
+pub fn changes_in<'v>(
+    alloc: Global,
+    params: &'v Value,
+) -> Result<Option<Vec<Change<'v>>>, AllocError>
+    ensures { IfOk result (λ found. IfSome found
+        (λ list. changes.AreChangesIn (view params.now) list.items)) }
+{
+    match params.get("contentChanges").and_then(Value::as_array) {
+        Some(values) => changes_of(alloc, values),
+        None => Ok(None),
+    }
+}
+
 /// Returns the changes in a list, or none where one of them is no change.
-pub fn changes_of<'v>(
+fn changes_of<'v>(
     alloc: Global,
     values: &'v [Value],
-) -> Result<Option<Vec<Change<'v>>>, AllocError> {
+) -> Result<Option<Vec<Change<'v>>>, AllocError>
+    ensures { IfOk result (λ found. IfSome found
+        (λ list. AllZip changes.IsChangeIn (map view values.now) list.items)) }
+{
     let mut changes = Vec::new(alloc);
     for value in values {
         let Some(change) = change_of(value) else {
@@ -91,7 +131,9 @@ pub fn changes_of<'v>(
 }
 
 /// Returns a change. One without a range replaces all of the text.
-fn change_of(value: &Value) -> Option<Change<'_>> {
+fn change_of(value: &Value) -> Option<Change<'_>>
+    ensures { IfSome result (changes.IsChangeIn (view value.now)) }
+{
     let text = text_at(value, "/text")?;
     let range = match value.get("range") {
         None => None,

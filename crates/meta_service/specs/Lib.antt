@@ -1,4 +1,5 @@
 pub mod Diagnostics
+pub mod Notices
 pub mod Remedies
 pub mod Replies
 pub mod Sessions

@@ -1,18 +1,26 @@
 -- Sessions: the phases, and the replies to messages.
-use Rattle.std.specs.Prelude.{◌≡◌, ◌⊎◌, ℕ, List, Option, Some, None, MatchOption, bytes_eq, codes, if◌then◌else◌}
+use Rattle.std.specs.Prelude.{◌≡◌, ◌⊎◌, ℕ, List, Option, Some, None, IfSome, MatchOption, bytes_eq, codes, string_bytes, if◌then◌else◌}
+use Rattle.meta_requests.specs.Documents.{KeepsDocuments}
+use Rattle.meta_requests.specs.Messages.{IsMessage, notification_of, params_of, request_of, response_data}
 use Rattle.meta_requests.specs.declared.messages.Answer.{Answer}
-use Rattle.meta_requests.specs.declared.messages.Answer.TheVariants as answer
 use Rattle.meta_requests.specs.declared.messages.ErrorCode.{ErrorCode}
-use Rattle.meta_requests.specs.declared.messages.ErrorCode.TheVariants.{InvalidRequest, ServerNotInitialized}
-use Rattle.meta_service.specs.Replies.{IsOneMessage}
+use Rattle.meta_requests.specs.declared.messages.ErrorCode.TheVariants.{InternalError, InvalidRequest, ServerNotInitialized}
+use Rattle.meta_service.specs.Notices.{Announces, changed_by, notice_in}
+use Rattle.meta_service.specs.Replies.{IsError, IsOneMessage, IsRefusal}
 use Rattle.meta_service.specs.declared.server.Phase.{Phase}
 use Rattle.meta_service.specs.declared.server.Phase.TheVariants.{New, Running, ShutDown}
 use Rattle.meta_service.specs.declared.replies.Reply.{Reply}
 use Rattle.meta_service.specs.declared.server.Server.{Server}
+use Rattle.serde_json.specs.Data.{Data}
+use Rattle.serde_json.specs.Read.{read}
 
 -- how far a session has come
 abbrev pub phase_of : Server → Phase
 phase_of server = server.phase
+
+-- neither the phase nor what is known of the client changes
+abbrev pub SameSession : Server → Server → Type 0
+SameSession old new = (phase_of new ≡ phase_of old) × (new.client ≡ old.client)
 
 -- the phase after a request of a method
 abbrev pub after_request : Phase → List ℕ → Phase
@@ -26,11 +34,6 @@ refused_in New method = if bytes_eq method (codes "initialize") then None else S
 refused_in Running method = if bytes_eq method (codes "shutdown") then None
     else (if bytes_eq method (codes "initialize") then Some InvalidRequest else None)
 refused_in ShutDown method = Some InvalidRequest
-
--- an answer is this error
-abbrev pub IsError : ErrorCode → Answer → Type 0
-IsError code (answer.Result value) = ⊥
-IsError code (answer.Error other reason) = other ≡ code
 
 -- an answer to a request of a method in a phase: the error with which it is refused, if it is
 abbrev pub AnswersIn : Phase → List ℕ → Answer → Type 0
@@ -46,16 +49,28 @@ status_in ShutDown = 0
 abbrev pub exit_at : Phase → List ℕ → Option ℕ
 exit_at phase method = if bytes_eq method (codes "exit") then Some (status_in phase) else None
 
+-- the response to a request: its id, and an answer in the phase, or the error that there is no memory
+pub record IsResponseIn (phase : Phase) (id : Data) (method body : List ℕ) : Type 0 where
+  pub answer : Answer
+  pub answers : AnswersIn phase method answer ⊎ IsError InternalError answer
+  pub message : IsMessage (response_data id answer) body
+
 -- a request is answered, and changes no document
-pub record AnswersRequest (old new : Server) (method : List ℕ) (reply : Reply) : Type 0 where
+pub record AnswersRequest (old new : Server) (id : Data) (method : List ℕ) (reply : Reply) : Type 0 where
   pub phase : phase_of new ≡ after_request (phase_of old) method
   pub documents : new.documents ≡ old.documents
-  pub message : IsOneMessage reply
+  pub message : IsOneMessage (IsResponseIn (phase_of old) id method) reply
 
--- a notification is taken
-pub record TakesNotification (old new : Server) (method : List ℕ) (reply : Reply) : Type 0 where
-  pub phase : phase_of new ≡ phase_of old
+-- a notification is taken: to documents it does no more than its method says, and a message that it gives
+-- rise to says what became of them
+pub record TakesNotification (old new : Server) (method : List ℕ) (params : Data) (reply : Reply)
+    : Type 0 where
+  pub session : SameSession old new
   pub exit : reply.exit ≡ exit_at (phase_of old) method
+  pub documents : KeepsDocuments (changed_by (notice_in (phase_of old) method) params)
+      old.documents new.documents
+  pub sent : IfSome reply.body (λ body.
+      Announces (notice_in (phase_of old) method) old new params (string_bytes body))
 
 -- a message is refused or ignored
 pub record ChangesNothing (old new : Server) (reply : Reply) : Type 0 where
@@ -63,6 +78,18 @@ pub record ChangesNothing (old new : Server) (reply : Reply) : Type 0 where
   pub exit : reply.exit ≡ None
 
 -- a message is answered as a request, taken as a notification, or changes nothing
-abbrev pub RepliesTo : Server → Server → Reply → Type 0
-RepliesTo old new reply = ((method : List ℕ) × AnswersRequest old new method reply)
-    ⊎ (((method : List ℕ) × TakesNotification old new method reply) ⊎ ChangesNothing old new reply)
+abbrev pub HandlesMessage : Server → Server → Data → Reply → Type 0
+HandlesMessage old new message reply = MatchOption (request_of message)
+    (MatchOption (notification_of message) (ChangesNothing old new reply)
+    (λ method. TakesNotification old new method (params_of message) reply))
+    (λ request. AnswersRequest old new request.0 request.1 reply)
+
+-- what is no JSON, or for which there is no memory, is refused
+pub record RefusesBody (old new : Server) (reply : Reply) : Type 0 where
+  pub same : new ≡ old
+  pub message : IsRefusal reply
+
+-- a body that reads as JSON is handled as that
+abbrev pub RepliesTo : Server → Server → List ℕ → Reply → Type 0
+RepliesTo old new body reply = ((message : Data) × (read body ≡ Some message)
+    × HandlesMessage old new message reply) ⊎ RefusesBody old new reply

@@ -1,6 +1,9 @@
 //! Replies: the messages that answer others.
-ghost use Rattle.std.specs.Prelude.{IfOk};
-ghost use Rattle.meta_service.specs.Replies.{IsOneMessage};
+ghost use Rattle.std.specs.Prelude.{◌≡◌, IfOk, string_bytes};
+ghost use Rattle.meta_requests.specs.Messages.{IsMessage, error_data};
+ghost use Rattle.meta_service.specs.Replies.{IsOneMessage, IsRefusal, IsResponseBy};
+ghost use Rattle.serde_json.specs.Data.{Data};
+ghost use Rattle.serde_json.specs.View.{view};
 
 use meta_requests::messages::{Answer, ErrorCode, error_response, response};
 use serde_json::{Error, Value};
@@ -20,7 +23,8 @@ pub(crate) const OUT_OF_MEMORY: &str = "out of memory";
 
 /// Returns a reply of one message.
 fn reply_of(body: String) -> Reply
-    ensures { IsOneMessage result }
+    ensures { (message : Data) → IsMessage message (string_bytes body)
+        → IsOneMessage (IsMessage message) result }
 {
     Reply {
         body: Some(body),
@@ -30,14 +34,14 @@ fn reply_of(body: String) -> Reply
 
 /// Returns the reply that refuses a message that has no id, or none that can be read.
 pub(crate) fn refusal(alloc: Global, code: ErrorCode, reason: &str) -> Result<Reply, AllocError>
-    ensures { IfOk result IsOneMessage }
+    ensures { IfOk result IsRefusal }
 {
     error_reply(alloc, &Value::Null, code, reason)
 }
 
 /// Returns the reply to bytes that cannot be read as JSON, or for which there was no memory.
 pub(crate) fn refuse_unread(alloc: Global, error: &Error) -> Result<Reply, AllocError>
-    ensures { IfOk result IsOneMessage }
+    ensures { IfOk result IsRefusal }
 {
     if error.is_memory() {
         refusal(alloc, ErrorCode::InternalError, OUT_OF_MEMORY)
@@ -53,7 +57,7 @@ fn error_reply(
     code: ErrorCode,
     reason: &str,
 ) -> Result<Reply, AllocError>
-    ensures { IfOk result IsOneMessage }
+    ensures { IfOk result (IsOneMessage (IsMessage (error_data (view id.now) code reason.now))) }
 {
     let body = error_response(alloc, id, code, reason)?;
     Ok(reply_of(body))
@@ -65,7 +69,7 @@ pub(crate) fn respond(
     id: &Value,
     outcome: Result<Answer, AllocError>,
 ) -> Result<Reply, AllocError>
-    ensures { IfOk result IsOneMessage }
+    ensures { IfOk result (IsOneMessage (IsResponseBy (view id.now) outcome)) }
 {
     match outcome {
         Ok(answer) => respond_by(alloc, id, answer),
@@ -75,7 +79,7 @@ pub(crate) fn respond(
 
 /// Returns the response to a request by an answer, also where there was no memory for that.
 fn respond_by(alloc: Global, id: &Value, answer: Answer) -> Result<Reply, AllocError>
-    ensures { IfOk result IsOneMessage }
+    ensures { IfOk result (IsOneMessage (IsResponseBy (view id.now) (Ok answer))) }
 {
     match response(alloc, id, answer) {
         Ok(body) => Ok(reply_of(body)),
@@ -85,7 +89,8 @@ fn respond_by(alloc: Global, id: &Value, answer: Answer) -> Result<Reply, AllocE
 
 /// Returns the response to a request for which there was no memory.
 fn internal_error(alloc: Global, id: &Value) -> Result<Reply, AllocError>
-    ensures { IfOk result IsOneMessage }
+    ensures { IfOk result (IsOneMessage (IsMessage
+        (error_data (view id.now) ErrorCode.InternalError (codes "out of memory")))) }
 {
     error_reply(alloc, id, ErrorCode::InternalError, OUT_OF_MEMORY)
 }

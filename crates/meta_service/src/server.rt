@@ -1,7 +1,13 @@
 //! A server: its state, and its replies.
-ghost use Rattle.std.specs.Prelude.{◌≡◌, IfOk, bytes_eq, codes};
-ghost use Rattle.meta_service.specs.Replies.{IsOneMessage};
-ghost use Rattle.meta_service.specs.Sessions.{AnswersIn, AnswersRequest, RepliesTo, TakesNotification, after_request, exit_at, phase_of, status_in};
+ghost use Rattle.std.specs.Prelude.{◌≡◌, IfOk, IfSome, OnOk, Some, bytes_eq, codes, string_bytes};
+ghost use Rattle.meta_requests.specs.Documents.{KeepsDocuments, document_in};
+ghost use Rattle.meta_requests.specs.Messages.{params_of};
+ghost use Rattle.meta_service.specs.Diagnostics.{Publishes};
+ghost use Rattle.meta_service.specs.Notices as spec;
+ghost use Rattle.meta_service.specs.Notices.{Announces, AnnouncesAt, AnnouncesChange, AnnouncesClosing, AnnouncesOpening, PublishesAt, changed_at, changed_by, notice_in};
+ghost use Rattle.meta_service.specs.Replies.{IsRefusal};
+ghost use Rattle.meta_service.specs.Sessions.{AnswersIn, AnswersRequest, HandlesMessage, RepliesTo, SameSession, TakesNotification, after_request, exit_at, phase_of, status_in};
+ghost use Rattle.serde_json.specs.View.{view};
 
 use crate::capabilities::{client_of, initialize_result};
 use crate::diagnostics::{publish, publish_none};
@@ -11,7 +17,7 @@ use meta_positions::apply_changes;
 use meta_requests::context::{Client, Context};
 use meta_requests::documents::{Document, Documents};
 use meta_requests::messages::{Answer, ErrorCode, Incoming, classify};
-use meta_requests::params::{changes_of, text_at};
+use meta_requests::params::{changes_in, text_at, version_of};
 use meta_requests::structure::workspace_symbols;
 use serde_json::Value;
 use std::alloc::{AllocError, Global};
@@ -24,6 +30,16 @@ pub enum Phase {
     Running,
     /// `shutdown` has come.
     ShutDown,
+}
+
+/// What a notification is about.
+#[derive(Clone, Copy, Debug, PartialEq, Eq)]
+enum Notice {
+    /// A document is opened.
+    Open,
+    Change,
+    Save,
+    Close,
 }
 
 /// A server: its session, and the open documents.
@@ -49,7 +65,7 @@ impl Server {
     /// Takes the body of a message, and returns the reply. Fails where there is no memory even for an error;
     /// the documents are then as before, or have taken the change.
     pub fn handle(&mut self, alloc: Global, body: &[u8]) -> Result<Reply, AllocError>
-        ensures { IfOk result (RepliesTo self.old self.new) }
+        ensures { IfOk result (RepliesTo self.old self.new body.now) }
     {
         match Value::from_slice(alloc, body) {
             Ok(message) => self.handle_message(alloc, &message),
@@ -59,21 +75,21 @@ impl Server {
 
     /// Returns the reply to a frame without a length.
     pub fn refuse_frame(&self, alloc: Global) -> Result<Reply, AllocError>
-        ensures { IfOk result IsOneMessage }
+        ensures { IfOk result IsRefusal }
     {
         refusal(alloc, ErrorCode::InvalidRequest, "the frame has no length")
     }
 
     /// Returns the reply to a message for which there was no memory.
     pub fn refuse_body(&self, alloc: Global) -> Result<Reply, AllocError>
-        ensures { IfOk result IsOneMessage }
+        ensures { IfOk result IsRefusal }
     {
         refusal(alloc, ErrorCode::InternalError, OUT_OF_MEMORY)
     }
 
     /// Takes a message, and returns the reply.
     fn handle_message(&mut self, alloc: Global, message: &Value) -> Result<Reply, AllocError>
-        ensures { IfOk result (RepliesTo self.old self.new) }
+        ensures { IfOk result (HandlesMessage self.old self.new (view message.now)) }
     {
         match classify(message) {
             Incoming::Response => Ok(Reply {
@@ -100,7 +116,7 @@ impl Server {
         method: &str,
         message: &Value,
     ) -> Result<Reply, AllocError>
-        ensures { IfOk result (AnswersRequest self.old self.new method.now) }
+        ensures { IfOk result (AnswersRequest self.old self.new (view id.now) method.now) }
     {
         let null = Value::Null;
         let params = message.get("params").unwrap_or(&null);
@@ -110,7 +126,7 @@ impl Server {
 
     /// Takes a notification. A failure has no answer.
     fn handle_notification(&mut self, alloc: Global, method: &str, message: &Value) -> Reply
-        ensures { TakesNotification self.old self.new method.now result }
+        ensures { TakesNotification self.old self.new method.now (params_of (view message.now)) result }
     {
         let null = Value::Null;
         let params = message.get("params").unwrap_or(&null);
@@ -143,38 +159,62 @@ impl Server {
     /// Takes a notification, if the session runs. Returns the notification of diagnostics
     /// that it gives rise to.
     fn take_notification(&mut self, alloc: Global, method: &str, params: &Value) -> Option<String>
-        ensures { phase_of self.new ≡ phase_of self.old }
+        ensures session { SameSession self.old self.new }
+        ensures documents { KeepsDocuments
+            (changed_by (notice_in (phase_of self.old) method.now) (view params.now))
+            self.old.documents self.new.documents }
+        ensures sent { IfSome result (λ body. Announces (notice_in (phase_of self.old) method.now)
+            self.old self.new (view params.now) (string_bytes body)) }
     {
-        if self.phase != Phase::Running {
-            return None;
+        match self.notice(method) {
+            Some(notice) => self.take_notice(alloc, notice, params),
+            None => None,
         }
-        match self.synchronize(alloc, method, params) {
+    }
+
+    /// Returns what a notification of this method is about, if the session runs.
+    fn notice(&self, method: &str) -> Option<Notice>
+        ensures { result ≡ notice_in (phase_of self.now) method.now }
+    {
+        match self.phase {
+            Phase::Running => notice_of(method),
+            Phase::New | Phase::ShutDown => None,
+        }
+    }
+
+    /// Takes a notification about a document. Returns the notification of its diagnostics.
+    fn take_notice(&mut self, alloc: Global, notice: Notice, params: &Value) -> Option<String>
+        ensures session { SameSession self.old self.new }
+        ensures documents { KeepsDocuments (changed_by (Some notice) (view params.now))
+            self.old.documents self.new.documents }
+        ensures sent { IfSome result (λ body.
+            Announces (Some notice) self.old self.new (view params.now) (string_bytes body)) }
+    {
+        let uri = text_at(params, "/textDocument/uri")?;
+        match self.synchronize(alloc, notice, uri, params) {
             Ok(body) => body,
             Err(_) => None,
         }
     }
 
-    /// Opens, changes or closes a document. Returns the notification of its diagnostics.
+    /// Opens, changes, saves or closes a document. Returns the notification of its diagnostics.
     fn synchronize(
         &mut self,
         alloc: Global,
-        method: &str,
+        notice: Notice,
+        uri: &str,
         params: &Value,
     ) -> Result<Option<String>, AllocError>
-        ensures { phase_of self.new ≡ phase_of self.old }
+        ensures session { SameSession self.old self.new }
+        ensures documents { KeepsDocuments (changed_at notice uri.now) self.old.documents self.new.documents }
+        ensures sent { IfOk result (λ sent. IfSome sent (λ body.
+            AnnouncesAt notice uri.now self.old self.new (view params.now) (string_bytes body))) }
     {
-        let Some(uri) = text_at(params, "/textDocument/uri") else {
-            return Ok(None);
-        };
-        match method {
-            "textDocument/didOpen" => self.open(alloc, uri, params),
-            "textDocument/didChange" => self.change(alloc, uri, params),
-            "textDocument/didSave" => self.publish(alloc, uri),
-            "textDocument/didClose" => {
-                self.documents.remove(uri);
-                Ok(Some(publish_none(alloc, uri)?))
-            }
-            _ => Ok(None),
+        match notice {
+            Notice::Open => self.open(alloc, uri, params),
+            Notice::Change => self.change(alloc, uri, params),
+            Notice::Save => self.publish(alloc, uri),
+            Notice::Close => self.close(alloc, uri),
         }
     }
 
@@ -185,13 +225,17 @@ impl Server {
         uri: &str,
         params: &Value,
     ) -> Result<Option<String>, AllocError>
-        ensures { phase_of self.new ≡ phase_of self.old }
+        ensures session { SameSession self.old self.new }
+        ensures documents { KeepsDocuments (Some uri.now) self.old.documents self.new.documents }
+        ensures sent { IfOk result (λ sent. IfSome sent (λ body.
+            AnnouncesOpening uri.now self.old self.new (view params.now) (string_bytes body))) }
     {
         let Some(text) = text_at(params, "/textDocument/text") else {
             return Ok(None);
         };
         let text = String::from_str(alloc, text)?;
-        self.put(alloc, uri, text, params)
+        let version = version_of(params);
+        self.put(alloc, uri, Document { text, version })
     }
 
     /// Changes a document.
@@ -201,24 +245,32 @@ impl Server {
         uri: &str,
         params: &Value,
     ) -> Result<Option<String>, AllocError>
-        ensures { phase_of self.new ≡ phase_of self.old }
+        ensures session { SameSession self.old self.new }
+        ensures documents { KeepsDocuments (Some uri.now) self.old.documents self.new.documents }
+        ensures sent { IfOk result (λ sent. IfSome sent (λ body.
+            AnnouncesChange uri.now self.old self.new (view params.now) (string_bytes body))) }
     {
-        let Some(values) = params.get("contentChanges").and_then(Value::as_array) else {
-            return Ok(None);
-        };
-        let Some(changes) = changes_of(alloc, values)? else {
+        let Some(changes) = changes_in(alloc, params)? else {
             return Ok(None);
         };
         let Some(document) = self.documents.get(uri) else {
             return Ok(None);
         };
-        let text = apply_changes(
-            alloc,
-            document.text.as_str(),
-            self.client.encoding,
-            &changes,
-        )?;
-        self.put(alloc, uri, text, params)
+        let encoding = self.client.encoding;
+        let text = apply_changes(alloc, document.text.as_str(), encoding, &changes)?;
+        let version = version_of(params);
+        self.put(alloc, uri, Document { text, version })
+    }
+
+    /// Closes a document. Returns the notification that it has no diagnostics.
+    fn close(&mut self, alloc: Global, uri: &str) -> Result<Option<String>, AllocError>
+        ensures session { SameSession self.old self.new }
+        ensures documents { KeepsDocuments (Some uri.now) self.old.documents self.new.documents }
+        ensures sent { IfOk result (λ sent. IfSome sent (λ body.
+            AnnouncesClosing uri.now self.new (string_bytes body))) }
+    {
+        self.documents.remove(uri);
+        Ok(Some(publish_none(alloc, uri)?))
     }
 
     /// Gives a document its text, and returns the notification of its diagnostics.
@@ -226,20 +278,23 @@ impl Server {
         &mut self,
         alloc: Global,
         uri: &str,
-        text: String,
-        params: &Value,
+        document: Document,
     ) -> Result<Option<String>, AllocError>
-        ensures { phase_of self.new ≡ phase_of self.old }
+        ensures session { SameSession self.old self.new }
+        ensures documents { KeepsDocuments (Some uri.now) self.old.documents self.new.documents }
+        ensures stored { OnOk result (document_in self.new.documents uri.now ≡ Some document) }
+        ensures sent { IfOk result (λ sent. IfSome sent (λ body.
+            Publishes self.old.client.encoding uri.now document (string_bytes body))) }
     {
-        let version = params
-            .pointer("/textDocument/version")
-            .and_then(Value::as_i64);
-        self.documents.put(alloc, uri, Document { text, version })?;
+        self.documents.put(alloc, uri, document)?;
         self.publish(alloc, uri)
     }
 
     /// Returns the notification of a document's diagnostics, if it is open.
-    fn publish(&self, alloc: Global, uri: &str) -> Result<Option<String>, AllocError> {
+    fn publish(&self, alloc: Global, uri: &str) -> Result<Option<String>, AllocError>
+        ensures { IfOk result (λ sent. IfSome sent (λ body.
+            PublishesAt self.now uri.now (string_bytes body))) }
+    {
         match self.documents.get(uri) {
             Some(document) => Ok(Some(publish(alloc, self.client.encoding, uri, document)?)),
             None => Ok(None),
@@ -330,6 +385,23 @@ impl Server {
             Some(context) => answer_in(alloc, context, request, params),
             None => Ok(Answer::Error(ErrorCode::InvalidParams, "no such document is open")),
         }
+    }
+}
+
+/// Returns what a notification of this method is about.
+fn notice_of(method: &str) -> Option<Notice>
+    ensures { result ≡ spec.notice_of method.now }
+{
+    if method == "textDocument/didOpen" {
+        Some(Notice::Open)
+    } else if method == "textDocument/didChange" {
+        Some(Notice::Change)
+    } else if method == "textDocument/didSave" {
+        Some(Notice::Save)
+    } else if method == "textDocument/didClose" {
+        Some(Notice::Close)
+    } else {
+        None
     }
 }
 
