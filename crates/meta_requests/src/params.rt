@@ -121,11 +121,13 @@ fn changes_of<'v>(
         (λ list. AllZip changes.IsChangeIn (map view values.now) list.items)) }
 {
     let mut changes = Vec::new(alloc);
-    for value in values {
+    let mut rest = values;
+    while let Some((value, after)) = rest.split_first() {
         let Some(change) = change_of(value) else {
             return Ok(None);
         };
         changes.push(change)?;
+        rest = after;
     }
     Ok(Some(changes))
 }

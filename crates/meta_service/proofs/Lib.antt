@@ -1,1 +1,3 @@
+mod Answering
+mod Handling
 mod Phases

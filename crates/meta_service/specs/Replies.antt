@@ -1,6 +1,5 @@
 -- Replies.
-use Rattle.std.specs.Prelude.{◌≡◌, ◌⊎◌, ℕ, List, Result, Ok, None, IsSomeAnd, string_bytes}
-use Rattle.std.specs.declared.alloc.AllocError.{AllocError}
+use Rattle.std.specs.Prelude.{◌≡◌, ◌⊎◌, ℕ, List, None, IsSomeAnd, codes, string_bytes}
 use Rattle.meta_requests.specs.Messages.{IsMessage, error_data, response_data}
 use Rattle.meta_requests.specs.declared.messages.Answer.{Answer}
 use Rattle.meta_requests.specs.declared.messages.Answer.TheVariants as answer
@@ -26,8 +25,12 @@ abbrev pub IsError : ErrorCode → Answer → Type 0
 IsError code (answer.Result value) = ⊥
 IsError code (answer.Error other reason) = other ≡ code
 
--- the response to the request of an id by its outcome, or by the error that there is no memory
-pub record IsResponseBy (id : Data) (outcome : Result Answer AllocError) (body : List ℕ) : Type 0 where
-  pub answer : Answer
-  pub made : (outcome ≡ Ok answer) ⊎ IsError InternalError answer
-  pub message : IsMessage (response_data id answer) body
+-- the error that there is no memory for the answer to the request of an id
+abbrev pub IsOutOfMemory : Data → List ℕ → Type 0
+IsOutOfMemory id body = IsMessage (error_data id InternalError (codes "out of memory")) body
+
+-- the response to the request of an id, with an answer of which this is so, or the error that there is no
+-- memory for it
+abbrev pub IsResponse : (Answer → Type 0) → Data → List ℕ → Type 0
+IsResponse P id body = ((answer : Answer) × P answer × IsMessage (response_data id answer) body)
+    ⊎ IsOutOfMemory id body

@@ -1,12 +1,12 @@
 -- Sessions: the phases, and the replies to messages.
 use Rattle.std.specs.Prelude.{◌≡◌, ◌⊎◌, ℕ, List, Option, Some, None, IfSome, MatchOption, bytes_eq, codes, string_bytes, if◌then◌else◌}
 use Rattle.meta_requests.specs.Documents.{KeepsDocuments}
-use Rattle.meta_requests.specs.Messages.{IsMessage, notification_of, params_of, request_of, response_data}
+use Rattle.meta_requests.specs.Messages.{notification_of, params_of, request_of}
 use Rattle.meta_requests.specs.declared.messages.Answer.{Answer}
 use Rattle.meta_requests.specs.declared.messages.ErrorCode.{ErrorCode}
-use Rattle.meta_requests.specs.declared.messages.ErrorCode.TheVariants.{InternalError, InvalidRequest, ServerNotInitialized}
+use Rattle.meta_requests.specs.declared.messages.ErrorCode.TheVariants.{InvalidRequest, ServerNotInitialized}
 use Rattle.meta_service.specs.Notices.{Announces, changed_by, notice_in}
-use Rattle.meta_service.specs.Replies.{IsError, IsOneMessage, IsRefusal}
+use Rattle.meta_service.specs.Replies.{IsError, IsOneMessage, IsRefusal, IsResponse}
 use Rattle.meta_service.specs.declared.server.Phase.{Phase}
 use Rattle.meta_service.specs.declared.server.Phase.TheVariants.{New, Running, ShutDown}
 use Rattle.meta_service.specs.declared.replies.Reply.{Reply}
@@ -49,17 +49,11 @@ status_in ShutDown = 0
 abbrev pub exit_at : Phase → List ℕ → Option ℕ
 exit_at phase method = if bytes_eq method (codes "exit") then Some (status_in phase) else None
 
--- the response to a request: its id, and an answer in the phase, or the error that there is no memory
-pub record IsResponseIn (phase : Phase) (id : Data) (method body : List ℕ) : Type 0 where
-  pub answer : Answer
-  pub answers : AnswersIn phase method answer ⊎ IsError InternalError answer
-  pub message : IsMessage (response_data id answer) body
-
--- a request is answered, and changes no document
+-- a request is answered in a message with its id, and changes no document
 pub record AnswersRequest (old new : Server) (id : Data) (method : List ℕ) (reply : Reply) : Type 0 where
   pub phase : phase_of new ≡ after_request (phase_of old) method
   pub documents : new.documents ≡ old.documents
-  pub message : IsOneMessage (IsResponseIn (phase_of old) id method) reply
+  pub message : IsOneMessage (IsResponse (AnswersIn (phase_of old) method) id) reply
 
 -- a notification is taken: to documents it does no more than its method says, and a message that it gives
 -- rise to says what became of them

@@ -1,8 +1,7 @@
 //! Replies: the messages that answer others.
-ghost use Rattle.std.specs.Prelude.{◌≡◌, IfOk, string_bytes};
+ghost use Rattle.std.specs.Prelude.{◌≡◌, IfOk, None, Ok, Some};
 ghost use Rattle.meta_requests.specs.Messages.{IsMessage, error_data};
-ghost use Rattle.meta_service.specs.Replies.{IsOneMessage, IsRefusal, IsResponseBy};
-ghost use Rattle.serde_json.specs.Data.{Data};
+ghost use Rattle.meta_service.specs.Replies.{IsOneMessage, IsRefusal, IsOutOfMemory, IsResponse};
 ghost use Rattle.serde_json.specs.View.{view};
 
 use meta_requests::messages::{Answer, ErrorCode, error_response, response};
@@ -23,8 +22,8 @@ pub(crate) const OUT_OF_MEMORY: &str = "out of memory";
 
 /// Returns a reply of one message.
 fn reply_of(body: String) -> Reply
-    ensures { (message : Data) → IsMessage message (string_bytes body)
-        → IsOneMessage (IsMessage message) result }
+    ensures body { result.body ≡ Some body }
+    ensures exit { result.exit ≡ None }
 {
     Reply {
         body: Some(body),
@@ -69,7 +68,7 @@ pub(crate) fn respond(
     id: &Value,
     outcome: Result<Answer, AllocError>,
 ) -> Result<Reply, AllocError>
-    ensures { IfOk result (IsOneMessage (IsResponseBy (view id.now) outcome)) }
+    ensures { IfOk result (IsOneMessage (IsResponse (λ answer. outcome ≡ Ok answer) (view id.now))) }
 {
     match outcome {
         Ok(answer) => respond_by(alloc, id, answer),
@@ -79,7 +78,7 @@ pub(crate) fn respond(
 
 /// Returns the response to a request by an answer, also where there was no memory for that.
 fn respond_by(alloc: Global, id: &Value, answer: Answer) -> Result<Reply, AllocError>
-    ensures { IfOk result (IsOneMessage (IsResponseBy (view id.now) (Ok answer))) }
+    ensures { IfOk result (IsOneMessage (IsResponse (λ given. given ≡ answer) (view id.now))) }
 {
     match response(alloc, id, answer) {
         Ok(body) => Ok(reply_of(body)),
@@ -89,8 +88,7 @@ fn respond_by(alloc: Global, id: &Value, answer: Answer) -> Result<Reply, AllocE
 
 /// Returns the response to a request for which there was no memory.
 fn internal_error(alloc: Global, id: &Value) -> Result<Reply, AllocError>
-    ensures { IfOk result (IsOneMessage (IsMessage
-        (error_data (view id.now) ErrorCode.InternalError (codes "out of memory")))) }
+    ensures { IfOk result (IsOneMessage (IsOutOfMemory (view id.now))) }
 {
     error_reply(alloc, id, ErrorCode::InternalError, OUT_OF_MEMORY)
 }

@@ -1,7 +1,10 @@
-use Rattle.std.proofs.Common.{inr, refl}
+use Rattle.std.proofs.Common.{inl, inr, refl}
 use Rattle.std.proofs.lemmas.Result.{IfOk-weaker}
-use Rattle.meta_service.specs.Replies.{IsOneMessage}
+use Rattle.serde_json.specs.View.{view}
 use Rattle.meta_service.proofs.server.Server.handle.Goals as goal
 
+pub returns-in-Ok : goal.returns-in-Ok
+returns-in-Ok c = IfOk-weaker c.handle_message.result _ _ (λ reply h. inl (view c.in-Ok.message, c.in-Ok.ensures.ok.1, h)) c.handle_message.ensures
+
 pub returns-in-Err : goal.returns-in-Err
-returns-in-Err c = IfOk-weaker c.refuse_unread.result IsOneMessage _ (λ reply h. inr (inr (record { same = refl; exit = h.exit }))) c.refuse_unread.ensures
+returns-in-Err c = IfOk-weaker c.refuse_unread.result _ _ (λ reply h. inr (record { same = refl; message = h })) c.refuse_unread.ensures
