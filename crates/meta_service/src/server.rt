@@ -1,12 +1,13 @@
 //! A server: its state, and its replies.
 ghost use Rattle.std.specs.Prelude.{◌≡◌, IfOk, IfSome, OnOk, Some, bytes_eq, codes, string_bytes};
 ghost use Rattle.meta_requests.specs.Documents.{KeepsDocuments, document_in};
-ghost use Rattle.meta_requests.specs.Messages.{params_of};
+ghost use Rattle.meta_requests.specs.Messages as messages;
 ghost use Rattle.meta_service.specs.Diagnostics.{Publishes};
 ghost use Rattle.meta_service.specs.Notices as spec;
 ghost use Rattle.meta_service.specs.Notices.{Announces, AnnouncesAt, AnnouncesChange, AnnouncesClosing, AnnouncesOpening, PublishesAt, changed_at, changed_by, notice_in};
 ghost use Rattle.meta_service.specs.Replies.{IsRefusal};
 ghost use Rattle.meta_service.specs.Sessions.{AnswersIn, AnswersRequest, HandlesMessage, RepliesTo, SameSession, TakesNotification, after_request, exit_at, phase_of, status_in};
+ghost use Rattle.serde_json.specs.Data as json_data;
 ghost use Rattle.serde_json.specs.View.{view};
 
 use crate::capabilities::{client_of, initialize_result};
@@ -119,17 +120,18 @@ impl Server {
         ensures { IfOk result (AnswersRequest self.old self.new (view id.now) method.now) }
     {
         let null = Value::Null;
-        let params = message.get("params").unwrap_or(&null);
+        let params = params_of(message, &null);
         let outcome = self.answer(alloc, method, params);
         respond(alloc, id, outcome)
     }
 
     /// Takes a notification. A failure has no answer.
     fn handle_notification(&mut self, alloc: Global, method: &str, message: &Value) -> Reply
-        ensures { TakesNotification self.old self.new method.now (params_of (view message.now)) result }
+        ensures { TakesNotification self.old self.new method.now 
+            (messages.params_of (view message.now)) result }
     {
         let null = Value::Null;
-        let params = message.get("params").unwrap_or(&null);
+        let params = params_of(message, &null);
         let exit = self.exit_for(method);
         let body = self.take_notification(alloc, method, params);
         Reply { body, exit }
@@ -385,6 +387,17 @@ impl Server {
             Some(context) => answer_in(alloc, context, request, params),
             None => Ok(Answer::Error(ErrorCode::InvalidParams, "no such document is open")),
         }
+    }
+}
+
+/// Returns the parameters of a message, or null.
+fn params_of<'m>(message: &'m Value, null: &'m Value) -> &'m Value
+    requires { view null.now ≡ json_data.null }
+    ensures { view result.now ≡ messages.params_of (view message.now) }
+{
+    match message.get("params") {
+        Some(params) => params,
+        None => null,
     }
 }
 
