@@ -172,11 +172,7 @@ pub fn notification(alloc: Global, method: &str, params: Value) -> Result<String
 }
 
 /// Returns a notification as a value.
-fn notification_message(
-    alloc: Global,
-    method: &str,
-    params: Value,
-) -> Result<Value, AllocError>
+fn notification_message(alloc: Global, method: &str, params: Value) -> Result<Value, AllocError>
     ensures { IfOk result (λ message. view message ≡ spec.notification_data method.now (view params)) }
 {
     json!(in alloc; { "jsonrpc": "2.0", "method": method, "params": params })

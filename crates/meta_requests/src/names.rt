@@ -30,11 +30,7 @@ pub fn definition(
 }
 
 /// Returns where the rules of a name are defined.
-fn definitions_value(
-    alloc: Global,
-    context: &Context<'_>,
-    name: &str,
-) -> Result<Value, AllocError>
+fn definitions_value(alloc: Global, context: &Context<'_>, name: &str) -> Result<Value, AllocError>
     ensures { IfOk result (λ v. view v ≡ locations_data context.now
         (names_of context.now.text.now name.now context.now.definitions.items)) }
 {

@@ -48,10 +48,7 @@ pub fn lists_at(value: &Value, path: &str, text: &str) -> bool {
 pub fn position_of(value: &Value) -> Option<Position>
     ensures { result ≡ spec.position_in (view value.now) }
 {
-    position_from(
-        number_at(value, "/line"),
-        number_at(value, "/character"),
-    )
+    position_from(number_at(value, "/line"), number_at(value, "/character"))
 }
 
 /// Returns the position of a line and a character, if there are both.
@@ -113,10 +110,7 @@ pub fn changes_in<'v>(
 }
 
 /// Returns the changes in a list, or none where one of them is no change.
-fn changes_of<'v>(
-    alloc: Global,
-    values: &'v [Value],
-) -> Result<Option<Vec<Change<'v>>>, AllocError>
+fn changes_of<'v>(alloc: Global, values: &'v [Value]) -> Result<Option<Vec<Change<'v>>>, AllocError>
     ensures { IfOk result (λ found. IfSome found
         (λ list. AllZip changes.IsChangeIn (map view values.now) list.items)) }
 {

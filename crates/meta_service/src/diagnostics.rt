@@ -165,11 +165,7 @@ fn has_help(code: Code) -> bool
 }
 
 /// Adds a line with a help, where there is one and it is to be shown.
-fn push_help(
-    is_shown: bool,
-    help: &Option<Help>,
-    message: &mut String,
-) -> Result<(), AllocError>
+fn push_help(is_shown: bool, help: &Option<Help>, message: &mut String) -> Result<(), AllocError>
     ensures { OnOk result (string_bytes message.new
         ≡ string_bytes message.old ++ spec.help_line is_shown help.now) }
 {

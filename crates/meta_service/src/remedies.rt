@@ -25,10 +25,12 @@ pub fn remedy_of(
     ensures { IfOk result (IsRemedyBy (spec.fix_of diagnostic.now.help)) }
 {
     match &diagnostic.help {
-        Some(Help {
-            message,
-            fix: Some(fix),
-        }) => Ok(Some(fix_remedy(alloc, fix, message.as_str())?)),
+        Some(
+            Help {
+                message,
+                fix: Some(fix),
+            },
+        ) => Ok(Some(fix_remedy(alloc, fix, message.as_str())?)),
         _ => remedy_by_code(alloc, context, diagnostic),
     }
 }

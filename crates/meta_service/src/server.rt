@@ -127,7 +127,7 @@ impl Server {
 
     /// Takes a notification. A failure has no answer.
     fn handle_notification(&mut self, alloc: Global, method: &str, message: &Value) -> Reply
-        ensures { TakesNotification self.old self.new method.now 
+        ensures { TakesNotification self.old self.new method.now
             (messages.params_of (view message.now)) result }
     {
         let null = Value::Null;
