@@ -1,15 +1,16 @@
 -- What requests by name answer.
-use Rattle.std.specs.Prelude.{◌≡◌, ◌⊎◌, ℕ, List, Some, map, codes}
+use Rattle.std.specs.Prelude.{◌≡◌, ◌⊎◌, ℕ, List, Bool, true, false, Some, filter, map, codes}
 use Rattle.serde_json.specs.Data.{Data, null, array}
 use Rattle.serde_json.specs.View.{view, items_of}
-use Rattle.meta_requests.specs.Asked.{text_in}
+use Rattle.meta_requests.specs.Asked.{is_true_in, text_in}
+use Rattle.meta_requests.specs.Calls.{is_call}
 use Rattle.meta_requests.specs.Names.{HasNoName, IsAskedName}
 use Rattle.meta_requests.specs.Values.{edit_data, location_data, workspace_edit_data}
 use Rattle.meta_requests.specs.declared.context.Context.{Context}
 use Rattle.meta_requests.specs.declared.context.Name.{Name}
 use Rattle.meta_requests.specs.declared.messages.Answer.{Answer}
 use Rattle.meta_requests.specs.declared.messages.Answer.TheVariants as answer
-use Rattle.meta_symbols.specs.Occurrences.{names_of}
+use Rattle.meta_symbols.specs.Occurrences.{names_of, occurrences}
 use Rattle.meta_symbols.specs.Renaming.{Renames}
 use Rattle.meta_symbols.specs.declared.tokens.Extent.{Extent}
 
@@ -24,6 +25,20 @@ AreDefinitions context d (answer.Result v) = (HasNoName context d × (view v ≡
     ⊎ ((name : Name) × IsAskedName context d name × (view v ≡ locations_data context
     (names_of context.text.now name.text.now context.definitions.items)))
 AreDefinitions context d (answer.Error code reason) = ⊥
+
+-- where a name occurs, with its definitions or without
+abbrev pub references_to : Context → List ℕ → Bool → List Extent
+references_to context name true = occurrences context.text.now name context.tokens.items
+references_to context name false =
+    filter (is_call context.definitions.items) (occurrences context.text.now name context.tokens.items)
+
+-- where the name at the position in parameters occurs, with its definitions if they ask for these, or null
+-- where there is none
+abbrev pub AreReferences : Context → Data → Answer → Type 0
+AreReferences context d (answer.Result v) = (HasNoName context d × (view v ≡ null))
+    ⊎ ((name : Name) × IsAskedName context d name × (view v ≡ locations_data context
+    (references_to context name.text.now (is_true_in (codes "/context/includeDeclaration") d))))
+AreReferences context d (answer.Error code reason) = ⊥
 
 -- edits that write a new name
 abbrev pub rename_data : Context → List ℕ → List Extent → Data

@@ -1,5 +1,6 @@
 pub mod Answers
 pub mod Asked
+pub mod Calls
 pub mod Changes
 pub mod Documents
 pub mod Messages

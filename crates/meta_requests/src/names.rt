@@ -1,6 +1,8 @@
 //! Definitions, references and renames.
-ghost use Rattle.std.specs.Prelude.{◌≡◌, ◌++◌, ◌∷◌, [], IfOk, OnOk, map};
-ghost use Rattle.meta_requests.specs.Answers.{AreDefinitions, IsRename, rename_data};
+ghost use Rattle.std.specs.Prelude.{◌≡◌, ◌++◌, ◌∷◌, [], IfOk, OnOk, filter, map};
+ghost use Rattle.meta_requests.specs.Answers.{AreDefinitions, AreReferences, IsRename, locations_data, references_to, rename_data};
+ghost use Rattle.meta_requests.specs.Calls as spec;
+ghost use Rattle.meta_requests.specs.Calls.{AreStarts, is_call};
 ghost use Rattle.meta_requests.specs.Values.{edit_data};
 ghost use Rattle.meta_symbols.specs.Occurrences.{names_of};
 ghost use Rattle.serde_json.specs.View.{view};
@@ -14,6 +16,7 @@ use meta_symbols::{
 };
 use serde_json::{Value, json};
 use std::alloc::{AllocError, Global};
+use std::collections::HashSet;
 
 /// Returns where the rule at a position is defined.
 pub fn definition(
@@ -43,16 +46,82 @@ pub fn references(
     alloc: Global,
     context: &Context<'_>,
     params: &Value,
-) -> Result<Answer, AllocError> {
-    let Some(name) = context.name(params) else {
-        return Ok(Answer::Result(Value::Null));
-    };
-    let mut extents = occurrences_of(alloc, context.text, &context.tokens, name.text)?;
-    if !is_true_at(params, "/context/includeDeclaration") {
-        let definitions = &context.definitions;
-        extents.retain(|extent| !is_definition(definitions, *extent));
+) -> Result<Answer, AllocError>
+    ensures { IfOk result (AreReferences context.now (view params.now)) }
+{
+    let has_definitions = is_true_at(params, "/context/includeDeclaration");
+    match context.name(params) {
+        Some(name) => {
+            let value = references_value(alloc, context, name.text, has_definitions)?;
+            Ok(Answer::Result(value))
+        }
+        None => Ok(Answer::Result(Value::Null)),
     }
-    Ok(Answer::Result(locations_value(alloc, context, &extents)?))
+}
+
+/// Returns where the rules of a name are called, and defined where that is asked for.
+fn references_value(
+    alloc: Global,
+    context: &Context<'_>,
+    name: &str,
+    has_definitions: bool,
+) -> Result<Value, AllocError>
+    ensures { IfOk result (λ v. view v ≡ locations_data context.now
+        (references_to context.now name.now has_definitions)) }
+{
+    let extents = occurrences_of(alloc, context.text, &context.tokens, name)?;
+    if has_definitions {
+        return locations_value(alloc, context, &extents);
+    }
+    let calls = calls_among(alloc, &context.definitions, &extents)?;
+    locations_value(alloc, context, &calls)
+}
+
+/// Returns those of some names that are no definition's.
+fn calls_among(
+    alloc: Global,
+    definitions: &[Definition],
+    extents: &[Extent],
+) -> Result<Vec<Extent>, AllocError>
+    ensures { IfOk result (λ calls. calls.items ≡ filter (is_call definitions.now) extents.now) }
+{
+    let starts = starts_of(alloc, definitions)?;
+    extents_outside(alloc, &starts, extents)
+}
+
+/// Returns the bytes at which the names of definitions begin.
+fn starts_of(alloc: Global, definitions: &[Definition]) -> Result<HashSet<usize>, AllocError>
+    ensures { IfOk result (AreStarts definitions.now) }
+{
+    let mut starts = HashSet::new(alloc);
+    let mut rest = definitions;
+    while let Some((definition, after)) = rest.split_first() {
+        starts.insert(definition.name.start)?;
+        rest = after;
+    }
+    Ok(starts)
+}
+
+/// Returns the extents that begin at none of these bytes.
+fn extents_outside(
+    alloc: Global,
+    starts: &HashSet<usize>,
+    extents: &[Extent],
+) -> Result<Vec<Extent>, AllocError>
+    ensures { IfOk result (λ found. found.items ≡ filter (spec.is_outside starts.now) extents.now) }
+{
+    extents
+        .iter()
+        .copied()
+        .filter(|extent| is_outside(starts, *extent))
+        .collect(alloc)
+}
+
+/// Whether an extent begins at none of these bytes.
+fn is_outside(starts: &HashSet<usize>, extent: Extent) -> bool
+    ensures { result ≡ spec.is_outside starts.now extent }
+{
+    !starts.contains(&extent.start)
 }
 
 /// Whether a name is that of a definition.
