@@ -1,4 +1,5 @@
 pub mod Answers
+pub mod Around
 pub mod Asked
 pub mod Calls
 pub mod Changes

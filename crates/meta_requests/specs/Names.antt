@@ -2,11 +2,11 @@
 use Rattle.std.specs.Prelude.{◌≡◌, ◌⊎◌, ◌≤◌, ℕ, List, Some, None}
 use Rattle.std.specs.Str.{IsCharBoundary}
 use Rattle.serde_json.specs.Data.{Data}
+use Rattle.meta_requests.specs.Around.{name_around}
 use Rattle.meta_requests.specs.Asked.{IsAskedOffset, asked_position}
 use Rattle.meta_requests.specs.declared.context.Client.{Client}
 use Rattle.meta_requests.specs.declared.context.Context.{Context}
 use Rattle.meta_requests.specs.declared.context.Name.{Name}
-use Rattle.meta_symbols.specs.Occurrences.{name_around}
 use Rattle.meta_symbols.specs.Parts.{part}
 use Rattle.meta_symbols.specs.declared.tokens.Extent.{Extent}
 

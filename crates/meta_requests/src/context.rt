@@ -1,11 +1,13 @@
 //! The document that a request is about.
 ghost use Rattle.std.specs.Prelude.{◌≡◌, IfOk, MatchOption, None, option_map, string_bytes};
 ghost use Rattle.meta_positions.specs.Shown.{index_encoding, index_text};
+ghost use Rattle.meta_requests.specs.Around as names;
+ghost use Rattle.meta_symbols.specs.Occurrences as spec;
 
 use crate::documents::{Document, Documents};
 use crate::params::{asked_position, range_of, text_at};
 use meta_positions::{Encoding, PositionIndex, offset_of};
-use meta_symbols::{Definition, Extent, Token, definitions_of, name_at, tokens_of};
+use meta_symbols::{Definition, Extent, Token, TokenClass, definitions_of, tokens_of};
 use serde_json::Value;
 use std::alloc::{AllocError, Global};
 
@@ -149,4 +151,32 @@ impl<'d> Context<'d> {
     pub fn part(&self, extent: Extent) -> &'d str {
         self.text.get(extent.start..extent.end).unwrap_or("")
     }
+}
+
+/// Returns the first name that an offset is in, or at the end of.
+fn name_at(tokens: &[Token], offset: usize) -> Option<Extent>
+    ensures { result ≡ names.name_around offset tokens.now }
+{
+    let mut rest = tokens;
+    while let Some((token, after)) = rest.split_first() {
+        if is_name_around(offset, *token) {
+            return Some(token.extent());
+        }
+        rest = after;
+    }
+    None
+}
+
+/// Whether a token is a name that an offset is in, or at the end of.
+fn is_name_around(offset: usize, token: Token) -> bool
+    ensures { result ≡ names.is_name_around offset token }
+{
+    is_name(token.class) && token.start <= offset && offset <= token.end
+}
+
+/// Whether a class is that of names.
+fn is_name(class: TokenClass) -> bool
+    ensures { result ≡ spec.is_name class }
+{
+    matches!(class, TokenClass::Name)
 }

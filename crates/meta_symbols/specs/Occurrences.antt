@@ -1,5 +1,5 @@
 -- Where names occur.
-use Rattle.std.specs.Prelude.{ℕ, List, [], ◌∷◌, Bool, true, false, ◌&&◌, nat_le, bytes_eq, flat_map, find, Option, option_map, if◌then◌else◌}
+use Rattle.std.specs.Prelude.{ℕ, List, [], ◌∷◌, Bool, true, false, ◌&&◌, bytes_eq, flat_map, if◌then◌else◌}
 use Rattle.meta_symbols.specs.Parts.{part}
 use Rattle.meta_symbols.specs.declared.outline.Definition.{Definition}
 use Rattle.meta_symbols.specs.declared.tokens.Extent.{Extent}
@@ -26,14 +26,6 @@ occurrence_at text name token = if is_occurrence text name token then extent_of 
 -- where a name occurs among tokens
 abbrev pub occurrences : List ℕ → List ℕ → List Token → List Extent
 occurrences text name tokens = flat_map (occurrence_at text name) tokens
-
--- whether a token is a name that a byte is in, or at the end of
-abbrev pub is_name_around : ℕ → Token → Bool
-is_name_around k token = is_name token.class && nat_le token.start k && nat_le k token.end
-
--- the first name that a byte is in, or at the end of
-abbrev pub name_around : ℕ → List Token → Option Extent
-name_around k tokens = option_map extent_of (find (is_name_around k) tokens)
 
 -- an extent, if its bytes are this name
 abbrev pub extent_named : List ℕ → List ℕ → Extent → List Extent

@@ -1,5 +1,5 @@
 //! Where names occur in a text.
-ghost use Rattle.std.specs.Prelude.{◌≡◌, ◌++◌, IfOk, OnOk};
+ghost use Rattle.std.specs.Prelude.{◌≡◌, ◌≤◌, ◌++◌, IfOk, IfSome, OnOk};
 ghost use Rattle.meta_symbols.specs.Occurrences as spec;
 
 use crate::outline::is_named;
@@ -47,23 +47,15 @@ fn is_name(class: TokenClass) -> bool
     matches!(class, TokenClass::Name)
 }
 
-/// Returns the first name that an offset is in, or at the end of.
+/// Returns the name that an offset is in, or at the end of.
 pub fn name_at(tokens: &[Token], offset: usize) -> Option<Extent>
-    ensures { result ≡ spec.name_around offset tokens.now }
+    ensures start { IfSome result (λ extent. extent.start ≤ offset) }
+    ensures end { IfSome result (λ extent. offset ≤ extent.end) }
 {
-    let mut rest = tokens;
-    while let Some((token, after)) = rest.split_first() {
-        if is_name_around(offset, *token) {
+    for token in tokens {
+        if is_name(token.class) && token.start <= offset && offset <= token.end {
             return Some(token.extent());
         }
-        rest = after;
     }
     None
-}
-
-/// Whether a token is a name that an offset is in, or at the end of.
-fn is_name_around(offset: usize, token: Token) -> bool
-    ensures { result ≡ spec.is_name_around offset token }
-{
-    is_name(token.class) && token.start <= offset && offset <= token.end
 }

@@ -1,6 +1,6 @@
 use Rattle.std.proofs.Common.{◌≡◌, length}
-use Rattle.meta_symbols.specs.Occurrences.{name_around}
-use Rattle.meta_symbols.proofs.occurrences.name_at.Given as goal
+use Rattle.meta_requests.specs.Around.{name_around}
+use Rattle.meta_requests.proofs.context.name_at.Given as goal
 
 abbrev pub invariant-loop-token : goal.invariant-loop-token
 invariant-loop-token l = name_around l.offset l.rest ≡ name_around l.offset l.tokens
