@@ -1,1 +1,2 @@
 mod Incoming
+mod Starts
