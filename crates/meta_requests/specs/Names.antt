@@ -12,9 +12,9 @@ use Rattle.meta_symbols.specs.declared.tokens.Extent.{Extent}
 
 -- what a context is of
 pub record IsContextOf (client : Client) (uri text : List ℕ) (context : Context) : Type 0 where
-  pub uri : context.uri.now ≡ uri
-  pub text : context.text.now ≡ text
-  pub client : context.client ≡ client
+  pub same_uri : context.uri.now ≡ uri
+  pub same_text : context.text.now ≡ text
+  pub same_client : context.client ≡ client
 
 -- an extent runs backwards, ends past the text, or cuts a character
 abbrev pub IsNoPart : List ℕ → Extent → Type 0
@@ -40,7 +40,7 @@ LacksName context offset = (name_around offset context.tokens.items ≡ None)
 pub record IsAskedName (context : Context) (d : Data) (name : Name) : Type 0 where
   pub offset : ℕ
   pub at : IsAskedOffset context d offset
-  pub name : IsNameAround context offset name
+  pub around : IsNameAround context offset name
 
 -- parameters have no position, or one at which there is no name
 abbrev pub HasNoName : Context → Data → Type 0

@@ -55,7 +55,8 @@ pub struct Name<'d> {
 
 impl<'d> Context<'d> {
     ghost use Rattle.meta_requests.specs.Asked.{IsAskedOffset, asked_position};
-    ghost use Rattle.meta_requests.specs.Names.{HasNoName, IsAskedName, IsContextOf, IsNameIn};
+    ghost use Rattle.meta_requests.specs.Names.{HasNoName, IsAskedName, IsContextOf, IsNameAround, IsNameIn, IsNoPart, LacksName};
+    ghost use Rattle.serde_json.specs.View.{view};
 
     /// Returns the context of a document.
     pub fn new(
