@@ -1,2 +1,3 @@
 mod Incoming
 mod Starts
+mod Zips

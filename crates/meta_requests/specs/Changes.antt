@@ -33,7 +33,10 @@ pub record AreChangesIn (params : Data) (changes : List Change) : Type 0 where
   pub listed : option_and_then as_array (get (codes "contentChanges") params) ≡ Some (items_of values)
   pub each : AllZip IsChangeIn values changes
 
+-- an integer
+abbrev pub integer_in : Data → Option ℤ
+integer_in d = option_and_then as_i64 (as_number d)
+
 -- the version in parameters
 abbrev pub version_in : Data → Option ℤ
-version_in params =
-    option_and_then as_i64 (option_and_then as_number (pointer (codes "/textDocument/version") params))
+version_in params = option_and_then integer_in (pointer (codes "/textDocument/version") params)

@@ -90,9 +90,8 @@ fn range_from(start: Option<Position>, end: Option<Position>) -> Option<Range>
 pub fn version_of(params: &Value) -> Option<i64>
     ensures { result ≡ changes.version_in (view params.now) }
 {
-    params
-        .pointer("/textDocument/version")
-        .and_then(Value::as_i64)
+    let version = params.pointer("/textDocument/version")?;
+    version.as_i64()
 }
 
 /// Returns the changes in parameters, or none where one of them is no change.
