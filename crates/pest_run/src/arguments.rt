@@ -4,6 +4,7 @@ ghost use Rattle.clap.specs.Matches.{first_value, found_of};
 
 use clap::{Arg, ArgAction, ArgMatches, Command};
 use std::alloc::{AllocError, Global};
+use tool_support::version::VERSION;
 
 /// The format of printed trees.
 #[derive(Clone, Copy)]
@@ -46,7 +47,7 @@ pub fn command<'a>(alloc: Global) -> Result<Command<'a>, AllocError> {
         .default_value("-")
         .help("The file of the text; - is standard input");
     Command::new(alloc, "pest-run")
-        .version("2.9.5")
+        .version(VERSION)
         .about("Matches a text by a rule of a pest grammar, and prints the trees")
         .after_help(
             "status: 0 the trees were printed, 1 the grammar is refused, has no such rule, or does not \
