@@ -3,7 +3,7 @@ use Rattle.std.proofs.Common.{◌≡◌, refl, sym, ◌∙◌, ap, ap₂, subst,
 use Rattle.std.proofs.lemmas.List.{get_or-map, length-map}
 use Rattle.std.proofs.lemmas.Slice.Eq.{bytes_eq-Decides}
 use Rattle.meta_ast.specs.Ast.{text_of}
-use Rattle.meta_base.specs.Language.Expression.{Grammar, Normal, Rule, Str, last_place}
+use Rattle.meta_base.specs.Language.Expression.{Grammar, Normal, Rule, Str, last_place, or_else, rule_of}
 use Rattle.meta_base.specs.Language.FurthestFailure.{is_eoi}
 use Rattle.meta_base.specs.Language.Text.{Text}
 use Rattle.matcher_program.specs.declared.form.Row.{Row}
@@ -12,38 +12,52 @@ use Rattle.matcher_compiler.specs.Names.{number_in, or_end}
 use Rattle.matcher_engine.specs.Entries.{name_in}
 
 -- the rule of a place has the name
-pub placed : (g : Grammar) (n : Text) (i : ℕ) → last_place g n ≡ Some i → (i < length g) × ((d : Rule) → (get_or g i d).name ≡ n)
-placed [] n i h = cc
-placed (r ∷ g) n i h = go (last_place g n) refl h
-  where
-    first : (b : Bool) → bytes_eq r.name n ≡ b → (if b then Some 0 else None) ≡ Some i → (i < suc (length g)) × ((d : Rule) → (get_or (r ∷ g) i d).name ≡ n)
-    first true e f =
-        let z : 0 ≡ i = cc in
-        let same : r.name ≡ n = (bytes_eq-Decides r.name n).0 e in
-        subst (λ k. (k < suc (length g)) × ((d : Rule) → (get_or (r ∷ g) k d).name ≡ n)) z (omega arith, λ d. same)
-    first false e f = cc
+abbrev pub IsNamed : Grammar → Text → ℕ → Type 0
+IsNamed g n i = (i < length g) × ((d : Rule) → (get_or g i d).name ≡ n)
 
-    go : (o : Option ℕ) → last_place g n ≡ o → (elim o [ Some k ↦ Some (suc k) | None ↦ (if bytes_eq r.name n then Some 0 else None) ]) ≡ Some i
-        → (i < suc (length g)) × ((d : Rule) → (get_or (r ∷ g) i d).name ≡ n)
-    go (Some k) e f =
-        let x = placed g n k e in
-        let z : suc k ≡ i = cc in
-        let l : suc k < suc (length g) = omega (arith, x.0) in
-        subst (λ j. (j < suc (length g)) × ((d : Rule) → (get_or (r ∷ g) j d).name ≡ n)) z (l, λ d. x.1 d)
-    go None e f = first (bytes_eq r.name n) refl f
+placed_first : (r : Rule) (g : Grammar) (n : Text) (i : ℕ) (b : Bool) → bytes_eq r.name n ≡ b → (if b then Some 0 else None) ≡ Some i → IsNamed (r ∷ g) n i
+placed_first r g n i true e f =
+    let z : 0 ≡ i = cc in
+    let same : r.name ≡ n = (bytes_eq-Decides r.name n).0 e in
+    subst (λ k. IsNamed (r ∷ g) n k) z (omega arith, λ d. same)
+placed_first r g n i false e f = cc
+
+placed_more : (r : Rule) (g : Grammar) (n : Text) (i : ℕ) (o : Option ℕ) → ((k : ℕ) → o ≡ Some k → IsNamed g n k)
+    → (elim o [ Some k ↦ Some (suc k) | None ↦ (if bytes_eq r.name n then Some 0 else None) ]) ≡ Some i → IsNamed (r ∷ g) n i
+placed_more r g n i (Some k) h f =
+    let x = h k refl in
+    let z : suc k ≡ i = cc in
+    let l : suc k < suc (length g) = omega (arith, x.0) in
+    subst (λ j. IsNamed (r ∷ g) n j) z (l, λ d. x.1 d)
+placed_more r g n i None h f = placed_first r g n i (bytes_eq r.name n) refl f
+
+pub placed : (g : Grammar) (n : Text) (i : ℕ) → last_place g n ≡ Some i → IsNamed g n i
+placed [] n i h = cc
+placed (r ∷ g) n i h = placed_more r g n i (last_place g n) (λ k e. placed g n k e) h
+
+-- a name without a place is that of no rule
+unnamed_more : (r : Rule) (g : Grammar) (n : Text) (o : Option ℕ) → (o ≡ None → rule_of g n ≡ None) → (b : Bool) → bytes_eq r.name n ≡ b
+    → ◌≡◌ {A = Option ℕ} (elim o [ Some k ↦ Some (suc k) | None ↦ (if b then Some 0 else None) ]) None → or_else (rule_of g n) (if bytes_eq r.name n then Some r else None) ≡ None
+unnamed_more r g n (Some k) h b f e = cc
+unnamed_more r g n None h true f e = cc
+unnamed_more r g n None h false f e = rw (h refl, f) refl
+
+pub unnamed : (g : Grammar) (n : Text) → last_place g n ≡ None → rule_of g n ≡ None
+unnamed [] n h = refl
+unnamed (r ∷ g) n h = unnamed_more r g n (last_place g n) (λ e. unnamed g n e) (bytes_eq r.name n) refl h
 
 past : (xs : List Text) (i : ℕ) (d : Text) → length xs ≤ i → get_or xs i d ≡ d
 past [] i d h = refl
 past (x ∷ xs) zero d h = absurd (omega (arith, h))
 past (x ∷ xs) (suc i) d h = past xs i d (omega (arith, h))
 
-named_map : {A : Type 0} (f : A → Rule) (h : A → Text) → ((x : A) → (f x).name ≡ h x) → (xs : List A) (i : ℕ) (d : Rule) (e : Text)
+pub named_map : {A : Type 0} (f : A → Rule) (h : A → Text) → ((x : A) → (f x).name ≡ h x) → (xs : List A) (i : ℕ) (d : Rule) (e : Text)
     → i < length xs → get_or (map h xs) i e ≡ (get_or (map f xs) i d).name
 named_map f h same [] i d e l = absurd (omega (arith, l))
 named_map f h same (x ∷ xs) zero d e l = sym (same x)
 named_map f h same (x ∷ xs) (suc i) d e l = named_map f h same xs i d e (omega (arith, l))
 
-no_rule : Rule
+pub no_rule : Rule
 no_rule = record { name = []; type_of = Normal; body = Str [] }
 
 -- the name of a known number

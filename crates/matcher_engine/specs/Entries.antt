@@ -1,7 +1,9 @@
 -- Entries of trees that are given in preorder.
-use Rattle.std.specs.Prelude.{◌≡◌, ◌≤◌, ℕ, suc, ◌+◌, ◌-◌, ◌*◌, List, [], ◌∷◌, ◌++◌, codes, get_or, length, nat_le, if◌then◌else◌, ⊤}
+use Rattle.std.specs.Prelude.{◌≡◌, ◌<◌, ◌≤◌, ℕ, suc, ◌+◌, ◌-◌, ◌*◌, List, [], ◌∷◌, ◌++◌, codes, get_or, length, nat_le, if◌then◌else◌}
 use Rattle.meta_base.specs.Language.Text.{Text}
 use Rattle.matcher_code.specs.declared.state.TreeNode.{TreeNode}
+use Rattle.matcher_program.specs.declared.form.Row.{Row}
+use Rattle.matcher_program.specs.Programs.{names_of}
 use Rattle.meta_syntax.specs.Entries.{Entry, Ends, Starts}
 use Rattle.matcher_engine.specs.declared.entries.OpenTree.{OpenTree}
 
@@ -15,25 +17,21 @@ abbrev pub left_open : ℕ → List OpenTree → List OpenTree
 left_open i [] = []
 left_open i (o ∷ os) = if nat_le o.after i then left_open i os else o ∷ os
 
--- the rules of all trees are known
-abbrev pub AreKnown : ℕ → List TreeNode → Type 0
-AreKnown n [] = ⊤
-AreKnown n (t ∷ ts) = (t.row ≤ n) × AreKnown n ts
-
 -- the name of a number, and `EOI` after all others
 abbrev pub name_in : List Text → ℕ → Text
 name_in names k = get_or names k (codes "EOI")
 
--- a tree from a number and an index of an entry on
+-- a tree whose start has an index
 abbrev pub opened : TreeNode → ℕ → OpenTree
 opened t k = record { end = t.end; after = t.after; start = k }
 
--- the entries of the remaining trees, of which the first has the number `i`, and the ends of the open ones; the
--- first entry has the index `k`
-abbrev pub written : List Text → List TreeNode → ℕ → ℕ → List OpenTree → List Entry
-written names [] i k os = closed i os
-written names (t ∷ ts) i k os =
-    let n = k + length (closed i os) in
-    closed i os
-    ++ Starts (name_in names t.row) t.start (n + 2 * (t.after - i) - 1)
-    ∷ written names ts (suc i) (suc n) (opened t n ∷ left_open i os)
+-- the start of the tree of a number, as the entry of an index
+abbrev pub start_entry : List Text → TreeNode → ℕ → ℕ → Entry
+start_entry names t number k = Starts (name_in names t.row) t.start (k + 2 * (t.after - number) - 1)
+
+-- the tree of a number was started
+pub record HasStarted (rows : List Row) (t : TreeNode) (number : ℕ) (old new : List Entry)
+    (old_open new_open : List OpenTree) : Type 0 where
+  pub known : t.row ≤ length rows
+  pub entries : new ≡ old ++ start_entry (names_of rows) t number (length old) ∷ []
+  pub pending : new_open ≡ old_open ++ opened t (length old) ∷ []
