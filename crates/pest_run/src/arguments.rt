@@ -1,6 +1,6 @@
 //! The command line.
-ghost use Rattle.std.specs.Prelude.{◌≡◌, Some, codes};
-ghost use Rattle.clap.specs.Matches.{first_value, found_of};
+ghost use Rattle.std.specs.Prelude.{◌≡◌, None, Some, codes};
+ghost use Rattle.clap.specs.Matches.{first_value, found_of, one_text};
 
 use clap::{Arg, ArgAction, ArgMatches, Command};
 use std::alloc::{AllocError, Global};
@@ -80,7 +80,12 @@ pub fn format_of(matches: &ArgMatches<'_>) -> Format
 }
 
 /// Returns the form of the rules that a command line asks for.
-pub fn form_of(matches: &ArgMatches<'_>) -> RuleForm {
+pub fn form_of(matches: &ArgMatches<'_>) -> RuleForm
+    ensures optimized { one_text (found_of matches.now) (codes "optimized") ≡ Some (codes "true")
+        → result ≡ RuleForm.Optimized }
+    ensures written { one_text (found_of matches.now) (codes "optimized") ≡ None
+        → result ≡ RuleForm.Written }
+{
     if matches.get_flag("optimized") {
         RuleForm::Optimized
     } else {
