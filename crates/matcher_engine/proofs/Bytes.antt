@@ -1,5 +1,5 @@
 -- The bytes of a text are bytes.
-use Rattle.std.proofs.Common.{◌≡◌, refl, sym, subst, ap, ℕ, zero, suc, ◌+◌, ◌/◌, ◌%◌, ◌<◌, List, [], ◌∷◌, ◌++◌, Bool, true, false, ◌&&◌, cond, get_or, inl, inr, arith}
+use Rattle.std.proofs.Common.{◌≡◌, refl, subst, ℕ, zero, suc, ◌+◌, ◌/◌, ◌<◌, List, [], ◌∷◌, ◌++◌, Bool, true, false, cond, get_or, inl, inr, arith}
 use Rattle.std.specs.Prelude.{IsUtf8, encode_utf8, encode_utf8_all, ⊤}
 use Rattle.std.proofs.Math.Utf8.{encode, next, scalar, scalar_cases, scalars}
 use Rattle.std.proofs.Math.Dec.{ltb}

@@ -1,25 +1,24 @@
 -- What a run of compiled rules says of a rule on a text.
-use Rattle.std.proofs.Common.{◌≡◌, refl, sym, ◌∙◌, ap, subst, ℕ, ◌+◌, ◌*◌, ◌<◌, ◌≤◌, List, [], ◌∷◌, ◌++◌, Some, None, get_or, length, map, inl, inr, arith, if◌then◌else◌}
+use Rattle.std.proofs.Common.{◌≡◌, refl, sym, ◌∙◌, ap, subst, ℕ, ◌+◌, ◌*◌, ◌<◌, ◌≤◌, List, [], Some, length, inl, inr, arith}
 use Rattle.std.specs.Prelude.{IsUtf8}
 use Rattle.std.proofs.lemmas.List.{length-map}
-use Rattle.meta_base.specs.Language.Expression.{Grammar, Ident, last_place}
-use Rattle.meta_base.specs.Language.FurthestFailure.{furthest}
+use Rattle.meta_base.specs.Language.Expression.{Ident, last_place}
 use Rattle.meta_base.specs.Language.Meaning.{Does, Run, Task}
 use Rattle.meta_base.specs.Language.State.{Classes, NonAtomicMode, Outcome, Success, Trees}
 use Rattle.meta_base.specs.Language.Text.{Text}
 use Rattle.matcher_code.specs.declared.code.Code.{Code}
 use Rattle.matcher_code.specs.declared.code.Op.TheVariants as op
 use Rattle.matcher_code.specs.Steps.{Config, op_at, steps}
-use Rattle.matcher_layout.specs.Laid.{IsEnd, IsPoint, at_label}
+use Rattle.matcher_layout.specs.Laid.{IsEnd, IsPoint}
 use Rattle.matcher_layout.specs.Reached.{nodes_of}
-use Rattle.matcher_layout.specs.Results.{HasFailed, HasSucceeded, start_config, start_of}
+use Rattle.matcher_layout.specs.Results.{HasSucceeded, start_config, start_of}
 use Rattle.matcher_layout.specs.Sizes.{size}
 use Rattle.matcher_layout.proofs.Runs.{fails, goes_on, succeeds}
 use Rattle.matcher_machine.specs.declared.machine.Machine.{Machine}
 use Rattle.matcher_machine.specs.declared.machine.RunEnd.TheVariants as ended
 use Rattle.matcher_machine.specs.Machines.{Ends, config}
 use Rattle.matcher_program.specs.declared.form.Program.{Program}
-use Rattle.matcher_program.specs.Programs.{Fits, grammar_of, name_at, names_of, rule_of_row}
+use Rattle.matcher_program.specs.Programs.{Fits, name_at, names_of, rule_of_row}
 use Rattle.meta_syntax.specs.Entries.{entries_of}
 use Rattle.meta_matcher.specs.declared.entries.Entry.{Entry}
 use Rattle.meta_matcher.specs.declared.machine.Stop.TheVariants as stop

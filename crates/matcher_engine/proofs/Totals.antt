@@ -1,5 +1,5 @@
 -- Both matchers count the rules of a derivation.
-use Rattle.std.proofs.Common.{◌≡◌, refl, ℕ, ◌+◌, arith}
+use Rattle.std.proofs.Common.{◌≡◌, refl, arith}
 use Rattle.meta_base.specs.Language.Expression.{Grammar}
 use Rattle.meta_base.specs.Language.State.{State, Outcome, Classes}
 use Rattle.meta_base.specs.Language.Meaning.{Does, Task, str, insens, range, slice, skip, call, other, pos_pred, neg_pred, push, restore, seq, seq_first, seq_second, left, right, opt, opt_none, rep_none, turn, turn_none, rep_exact, rep_max, rep_min_max, skips, atomic, compound_atomic, between, rep, rep_once, rep_min, push_literal, tag}

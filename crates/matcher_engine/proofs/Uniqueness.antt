@@ -1,9 +1,8 @@
 -- The entries of trees tell the trees.
-use Rattle.std.proofs.Common.{◌≡◌, refl, sym, ◌∙◌, ap, ap₂, subst, ℕ, suc, ◌+◌, List, [], ◌∷◌, ◌++◌, length, take, drop, arith}
+use Rattle.std.proofs.Common.{◌≡◌, refl, sym, ◌∙◌, ap, ℕ, ◌+◌, List, ◌∷◌, ◌++◌, length, take, drop, arith}
 use Rattle.std.proofs.Math.Seq.{drop-append_seam, take-append_seam}
-use Rattle.meta_base.specs.Language.Text.{Text}
 use Rattle.meta_base.specs.Language.State.{Trees, None', Tree}
-use Rattle.meta_syntax.specs.Entries.{Entry, Ends, Starts, entries_of, entry_count}
+use Rattle.meta_syntax.specs.Entries.{Entry, Ends, entries_of, entry_count}
 use Rattle.meta_syntax.proofs.EntryLists.{length-entries}
 
 -- lists of the same length in front of others

@@ -1,5 +1,5 @@
 -- Entries of trees that are given in preorder.
-use Rattle.std.specs.Prelude.{◌≡◌, ◌<◌, ◌≤◌, ℕ, suc, ◌+◌, ◌-◌, ◌*◌, List, [], ◌∷◌, ◌++◌, codes, get_or, length, nat_le, if◌then◌else◌}
+use Rattle.std.specs.Prelude.{◌≡◌, ◌≤◌, ℕ, ◌+◌, ◌-◌, ◌*◌, List, [], ◌∷◌, ◌++◌, codes, get_or, length, nat_le, if◌then◌else◌}
 use Rattle.meta_base.specs.Language.Text.{Text}
 use Rattle.matcher_code.specs.declared.state.TreeNode.{TreeNode}
 use Rattle.matcher_program.specs.declared.form.Row.{Row}
