@@ -4,7 +4,10 @@ use meta_base::runtime::{Error, InputLocation, LineColLocation};
 use std::alloc::AllocError;
 
 /// Writes the errors of a refusal in place of what was written before.
-pub(crate) fn replace_by_errors(out: &mut String, errors: &[Error<Rule>]) -> Result<(), AllocError> {
+pub(crate) fn replace_by_errors(
+    out: &mut String,
+    errors: &[Error<Rule>],
+) -> Result<(), AllocError> {
     out.clear();
     write_errors(out, "refused: ", errors)
 }
