@@ -1,18 +1,29 @@
 //! Sets of characters without those of other sets.
-ghost use Rattle.std.specs.Prelude.{◌≡◌, ◌&&◌, IfOk, IfSome, OnOk, not, true};
+ghost use Rattle.std.specs.Prelude.{◌≡◌, ◌==◌, ◌&&◌, IfOk, IfSome, OnOk, chars, length, not, true};
 ghost use Rattle.meta_base.specs.Language.Builtins.{is_between};
 ghost use Rattle.matcher_code.specs.Reading.{is_covered};
+ghost use Rattle.matcher_program.specs.Programs.{is_set};
 ghost use Rattle.matcher_compiler.specs.Differences.{AddsForm, HasRanges, IsExcluded, IsIncluded, is_above, is_below};
 ghost use Rattle.matcher_compiler.specs.Names.{Adds, Covers};
 ghost use Rattle.matcher_compiler.specs.Plans.{IsBoundIn};
 
 use crate::ranges::{push_range, ranges_of};
+use crate::skips::is_single;
 use matcher_code::code::Ranges;
 use matcher_program::form::{Form, Program};
 use std::alloc::{AllocError, Global};
 
 /// The largest number of ranges that are left out of a set.
 pub(crate) const MOST_RANGES: usize = 256;
+
+/// Returns the form of a literal, if that is one character.
+fn single_form<'f>(form: &'f Form, text: &str) -> Option<&'f Form>
+    requires is { is_set form.now ≡ (length (chars text.now) == 1) }
+    ensures one { IfSome result (λ set. is_set set.now ≡ true) }
+    ensures same { IfSome result (λ set. set.now ≡ form.entry.now) }
+{
+    if is_single(text) { Some(form) } else { None }
+}
 
 /// Returns the form of a set of characters.
 pub(crate) fn included_set(form: &Form) -> Option<&Form>
@@ -21,6 +32,7 @@ pub(crate) fn included_set(form: &Form) -> Option<&Form>
     match form {
         Form::Set(_, set) => Some(set),
         Form::Range(_, _) | Form::One(_) => Some(form),
+        Form::Str(text) => single_form(form, text.as_str()),
         _ => None,
     }
 }

@@ -18,7 +18,7 @@ use matcher_program::form::Program;
 use std::alloc::{AllocError, Global};
 
 /// Returns whether a text is one character.
-fn is_single(text: &str) -> bool
+pub(crate) fn is_single(text: &str) -> bool
     ensures { result ≡ true → (length (chars text.now) == 1) ≡ true }
 {
     let mut characters = text.chars();
