@@ -1,3 +1,4 @@
+mod Announcing
 mod Answering
 mod Handling
 mod Phases

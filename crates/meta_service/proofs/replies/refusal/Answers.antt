@@ -1,7 +1,14 @@
+use Rattle.std.proofs.Common.{◌≡◌, rules, subst}
 use Rattle.std.proofs.lemmas.Result.{IfOk-weaker}
+use Rattle.meta_requests.specs.Messages.{IsMessage, error_data}
 use Rattle.meta_service.specs.Replies.{IsErrorAlone}
 use Rattle.meta_service.proofs.Answering.{IsOneMessage-weaker}
 use Rattle.meta_service.proofs.replies.refusal.Goals as goal
+use Rattle.serde_json.specs.Data.{Data, null}
+use Rattle.serde_json.specs.View.{view}
+use Rattle.serde_json.specs.declared.value.Value.TheVariants as value
 
 pub returns : goal.returns
-returns c = IfOk-weaker c.error_reply.result _ _ (λ reply h. IsOneMessage-weaker _ IsErrorAlone reply (λ s m. (c.args.code, c.args.reason.now, m)) h) c.error_reply.ensures
+returns c =
+    let e : view value.Null ≡ null = search rules in
+    IfOk-weaker c.error_reply.result _ _ (λ reply h. IsOneMessage-weaker _ IsErrorAlone reply (λ s m. (c.args.code, c.args.reason.now, subst (λ (d : Data). IsMessage (error_data d c.args.code c.args.reason.now) s) e m)) h) c.error_reply.ensures

@@ -5,13 +5,13 @@ use Rattle.meta_service.proofs.Handling.{handles_nothing, handles_notification, 
 use Rattle.meta_service.proofs.server.Server.handle_message.Goals as goal
 
 pub returns-in-Response : goal.returns-in-Response
-returns-in-Response c = handles_nothing _ _ _ _ c.classify.ensures.0 c.classify.ensures.1 (record { same = refl; exit = refl })
+returns-in-Response c = handles_nothing _ _ _ _ c.in-Response.ensures.0 c.in-Response.ensures.1 (record { same = refl; exit = refl })
 
 pub returns-in-Invalid : goal.returns-in-Invalid
-returns-in-Invalid c = IfOk-weaker c.refusal.result IsRefusal _ (λ reply h. handles_nothing _ _ _ reply c.classify.ensures.0 c.classify.ensures.1 (record { same = refl; exit = h.exit })) c.refusal.ensures
+returns-in-Invalid c = IfOk-weaker c.refusal.result IsRefusal _ (λ reply h. handles_nothing _ _ _ reply c.in-Invalid.ensures.0 c.in-Invalid.ensures.1 (record { same = refl; exit = h.exit })) c.refusal.ensures
 
 pub returns-in-Notification : goal.returns-in-Notification
-returns-in-Notification c = handles_notification _ _ _ _ _ c.classify.ensures.0 c.classify.ensures.1 c.handle_notification.ensures
+returns-in-Notification c = handles_notification _ _ _ _ _ c.in-Notification.ensures.0 c.in-Notification.ensures.1 c.handle_notification.ensures
 
 pub returns-in-Request : goal.returns-in-Request
-returns-in-Request c = IfOk-weaker c.handle_request.result _ _ (λ reply h. handles_request _ _ _ _ _ reply c.classify.ensures h) c.handle_request.ensures
+returns-in-Request c = IfOk-weaker c.handle_request.result _ _ (λ reply h. handles_request _ _ _ _ _ reply c.in-Request.ensures h) c.handle_request.ensures
