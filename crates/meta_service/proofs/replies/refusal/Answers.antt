@@ -6,9 +6,9 @@ use Rattle.meta_service.proofs.Answering.{IsOneMessage-weaker}
 use Rattle.meta_service.proofs.replies.refusal.Goals as goal
 use Rattle.serde_json.specs.Data.{Data, null}
 use Rattle.serde_json.specs.View.{view}
-use Rattle.serde_json.specs.declared.value.Value.TheVariants as value
+use Rattle.serde_json.specs.declared.value.Value.{Null, the_lemmas}
 
 pub returns : goal.returns
 returns c =
-    let e : view value.Null ≡ null = search rules in
+    let e : view Null ≡ null = search (rules, the_lemmas) in
     IfOk-weaker c.error_reply.result _ _ (λ reply h. IsOneMessage-weaker _ IsErrorAlone reply (λ s m. (c.args.code, c.args.reason.now, subst (λ (d : Data). IsMessage (error_data d c.args.code c.args.reason.now) s) e m)) h) c.error_reply.ensures
