@@ -46,13 +46,13 @@ pub record IsDiagramOf (number_of : List ℕ → Option ℕ) (e : Expr) (drawing
   pub shown : marks_of tokens ≡ diagram_marks number_of e
 
 -- a diagram of the rule that is asked for
-pub record IsDiagramOfRule (asked : Option (Bor (List ℕ))) (rules : Grammar) (drawing : String Global) : Type 0 where
+pub record IsDiagramOfRule (name : Option (Bor (List ℕ))) (rules : Grammar) (d : String Global) : Type 0 where
   pub rule : AnyRule
-  pub asked_for : IsAskedFor asked rules rule
+  pub asked_for : IsAskedFor name rules rule
   pub expression : Expr
   pub body : expression_of expression ≡ rule.body
   pub number_of : List ℕ → Option ℕ
-  pub diagram : IsDiagramOf number_of expression drawing
+  pub diagram : IsDiagramOf number_of expression d
 
 -- a page that has gained the sections of rules
 abbrev pub EndsWithSections : List (Bor (List ℕ)) → Grammar → List ℕ → List ℕ → Type 0

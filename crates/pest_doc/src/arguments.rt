@@ -55,7 +55,8 @@ pub fn format_of<'m>(matches: &'m ArgMatches<'_>) -> Option<DocumentFormat<'m>>
     ensures format { IfSome result (IsNamed (first_value (found_of matches.entry.now) (codes "format"))) }
     ensures rule { IfSome result
         (λ format. asked_rule format ≡ first_value (found_of matches.entry.now) (codes "rule")) }
-    ensures stray { IfNone result (first_value (found_of matches.entry.now) (codes "format") ≢ Some (codes "svg")) }
+    ensures stray { IfNone result
+        (first_value (found_of matches.entry.now) (codes "format") ≢ Some (codes "svg")) }
     ensures named { IfNone result (is_some (first_value (found_of matches.entry.now) (codes "rule")) ≡ true) }
 {
     let rule = matches.get_str("rule");
