@@ -68,23 +68,46 @@ pub(crate) fn runs(alloc: Global, words: &str, out: &mut String) -> Result<(), F
 /// Wraps the name `e` as signs say, the innermost first: `&` and `!`, `?`, `*` and `+`, `P` for a push, `~`
 /// for a sequence `x ~ e`, `|` for a choice `e | x`, and `R` for a wrapper that restores the stack.
 fn wrap_name(alloc: Global, signs: &str) -> Result<OptimizedExpr, AllocError> {
-    let mut expr = OptimizedExpr::Ident(String::from_str(alloc, "e")?);
+    let mut expr = name_of(alloc, "e")?;
     for sign in signs.chars() {
-        let inner = Box::new(alloc, expr)?;
-        let x = Box::new(alloc, OptimizedExpr::Ident(String::from_str(alloc, "x")?))?;
-        expr = match sign {
-            '&' => OptimizedExpr::PosPred(inner),
-            '!' => OptimizedExpr::NegPred(inner),
-            '?' => OptimizedExpr::Opt(inner),
-            '*' => OptimizedExpr::Rep(inner),
-            '+' => OptimizedExpr::RepOnce(inner),
-            'P' => OptimizedExpr::Push(inner),
-            '~' => OptimizedExpr::Seq(x, inner),
-            '|' => OptimizedExpr::Choice(inner, x),
-            _ => OptimizedExpr::RestoreOnErr(inner),
-        };
+        expr = wrap(alloc, sign, Box::new(alloc, expr)?)?;
     }
     Ok(expr)
+}
+
+/// Returns a name as an optimized expression.
+fn name_of(alloc: Global, name: &str) -> Result<OptimizedExpr, AllocError> {
+    Ok(OptimizedExpr::Ident(String::from_str(alloc, name)?))
+}
+
+/// Wraps an expression as a sign says.
+fn wrap(alloc: Global, sign: char, inner: Box<OptimizedExpr>) -> Result<OptimizedExpr, AllocError> {
+    match sign {
+        '~' | '|' => Ok(join(sign, Box::new(alloc, name_of(alloc, "x")?)?, inner)),
+        _ => Ok(wrap_alone(sign, inner)),
+    }
+}
+
+/// Returns the sequence `x ~ e`, or the choice `e | x`.
+fn join(sign: char, x: Box<OptimizedExpr>, inner: Box<OptimizedExpr>) -> OptimizedExpr {
+    if sign == '~' {
+        OptimizedExpr::Seq(x, inner)
+    } else {
+        OptimizedExpr::Choice(inner, x)
+    }
+}
+
+/// Wraps an expression as a sign says that takes no other one.
+fn wrap_alone(sign: char, inner: Box<OptimizedExpr>) -> OptimizedExpr {
+    match sign {
+        '&' => OptimizedExpr::PosPred(inner),
+        '!' => OptimizedExpr::NegPred(inner),
+        '?' => OptimizedExpr::Opt(inner),
+        '*' => OptimizedExpr::Rep(inner),
+        '+' => OptimizedExpr::RepOnce(inner),
+        'P' => OptimizedExpr::Push(inner),
+        _ => OptimizedExpr::RestoreOnErr(inner),
+    }
 }
 
 /// Writes such wrapped names, as they are printed.

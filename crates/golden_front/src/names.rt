@@ -50,8 +50,18 @@ fn write_found(out: &mut String, found: Result<Vec<Error<Rule>>, Fault>) -> Resu
 pub(crate) fn complaints(alloc: Global, text: &str, out: &mut String) -> Result<(), Fault> {
     let defined = places_of(alloc, text, true)?;
     let called = places_of(alloc, text, false)?;
-    write_found(out, validate_rust_keywords(alloc, &defined))?;
-    write_found(out, validate_pest_keywords(alloc, &defined))?;
-    write_found(out, validate_already_defined(alloc, &defined))?;
-    write_found(out, validate_undefined(alloc, &defined, &called))
+    write_complaints(alloc, &defined, &called, out)
+}
+
+/// Writes the errors for names that are defined and called, one kind after the other.
+fn write_complaints(
+    alloc: Global,
+    defined: &Vec<Span<'_>>,
+    called: &Vec<Span<'_>>,
+    out: &mut String,
+) -> Result<(), Fault> {
+    write_found(out, validate_rust_keywords(alloc, defined))?;
+    write_found(out, validate_pest_keywords(alloc, defined))?;
+    write_found(out, validate_already_defined(alloc, defined))?;
+    write_found(out, validate_undefined(alloc, defined, called))
 }

@@ -80,25 +80,43 @@ fn write_node(node: &ParserNode<'_>, out: &mut String) -> Result<(), AllocError>
 
 /// Writes the variant of an expression, and its fields other than operands.
 fn write_sign(expr: &ParserExpr<'_>, out: &mut String) -> Result<(), AllocError> {
+    write!(out, " {}", variant_name(expr))?;
     match expr {
-        ParserExpr::Str(text) => write!(out, " Str {text:?}"),
-        ParserExpr::Insens(text) => write!(out, " Insens {text:?}"),
-        ParserExpr::Range(low, high) => write!(out, " Range {low:?} {high:?}"),
-        ParserExpr::Ident(name) => write!(out, " Ident {name}"),
-        ParserExpr::PeekSlice(from, to) => write!(out, " PeekSlice {from} {to:?}"),
-        ParserExpr::Seq(_, _) => out.push_str(" Seq"),
-        ParserExpr::Choice(_, _) => out.push_str(" Choice"),
-        ParserExpr::PosPred(_) => out.push_str(" PosPred"),
-        ParserExpr::NegPred(_) => out.push_str(" NegPred"),
-        ParserExpr::Opt(_) => out.push_str(" Opt"),
-        ParserExpr::Rep(_) => out.push_str(" Rep"),
-        ParserExpr::RepOnce(_) => out.push_str(" RepOnce"),
-        ParserExpr::RepExact(_, times) => write!(out, " RepExact {times}"),
-        ParserExpr::RepMin(_, least) => write!(out, " RepMin {least}"),
-        ParserExpr::RepMax(_, most) => write!(out, " RepMax {most}"),
-        ParserExpr::RepMinMax(_, least, most) => write!(out, " RepMinMax {least} {most}"),
-        ParserExpr::Push(_) => out.push_str(" Push"),
-        ParserExpr::PushLiteral(text) => write!(out, " PushLiteral {text:?}"),
-        ParserExpr::NodeTag(_, tag) => write!(out, " NodeTag {tag}"),
+        ParserExpr::Str(text) | ParserExpr::Insens(text) | ParserExpr::PushLiteral(text) => {
+            write!(out, " {text:?}")
+        }
+        ParserExpr::Range(low, high) => write!(out, " {low:?} {high:?}"),
+        ParserExpr::Ident(name) | ParserExpr::NodeTag(_, name) => write!(out, " {name}"),
+        ParserExpr::PeekSlice(from, to) => write!(out, " {from} {to:?}"),
+        ParserExpr::RepExact(_, count)
+        | ParserExpr::RepMin(_, count)
+        | ParserExpr::RepMax(_, count) => write!(out, " {count}"),
+        ParserExpr::RepMinMax(_, least, most) => write!(out, " {least} {most}"),
+        _ => Ok(()),
+    }
+}
+
+/// Returns the name of an expression's variant.
+fn variant_name(expr: &ParserExpr<'_>) -> &'static str {
+    match expr {
+        ParserExpr::Str(_) => "Str",
+        ParserExpr::Insens(_) => "Insens",
+        ParserExpr::Range(_, _) => "Range",
+        ParserExpr::Ident(_) => "Ident",
+        ParserExpr::PeekSlice(_, _) => "PeekSlice",
+        ParserExpr::Seq(_, _) => "Seq",
+        ParserExpr::Choice(_, _) => "Choice",
+        ParserExpr::PosPred(_) => "PosPred",
+        ParserExpr::NegPred(_) => "NegPred",
+        ParserExpr::Opt(_) => "Opt",
+        ParserExpr::Rep(_) => "Rep",
+        ParserExpr::RepOnce(_) => "RepOnce",
+        ParserExpr::RepExact(_, _) => "RepExact",
+        ParserExpr::RepMin(_, _) => "RepMin",
+        ParserExpr::RepMax(_, _) => "RepMax",
+        ParserExpr::RepMinMax(_, _, _) => "RepMinMax",
+        ParserExpr::Push(_) => "Push",
+        ParserExpr::PushLiteral(_) => "PushLiteral",
+        ParserExpr::NodeTag(_, _) => "NodeTag",
     }
 }

@@ -1,13 +1,15 @@
 //! Errors as the golden cases show them.
 use meta_base::grammar::Rule;
 use meta_base::runtime::{Error, InputLocation, LineColLocation};
-use std::alloc::{AllocError, Global};
+use std::alloc::AllocError;
 
-/// Returns the lines for the errors of a refusal.
-pub(crate) fn refusal(alloc: Global, errors: &[Error<Rule>]) -> Result<String, AllocError> {
-    let mut out = String::new(alloc);
-    write_errors(&mut out, "refused: ", errors)?;
-    Ok(out)
+/// Writes the errors of a refusal in place of what was written before.
+pub(crate) fn replace_by_errors(
+    out: &mut String,
+    errors: &[Error<Rule>],
+) -> Result<(), AllocError> {
+    out.clear();
+    write_errors(out, "refused: ", errors)
 }
 
 /// Writes each error as `write_error` does, after a word.

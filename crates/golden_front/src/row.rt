@@ -1,24 +1,31 @@
 //! A golden case: its call, and the text that it spells.
 use crate::calls::{call_of, write_answer};
-use crate::refusals::refusal;
+use crate::refusals::replace_by_errors;
 use meta_base::runtime::Fault;
 use std::alloc::{AllocError, Global};
 
 /// Returns the answer to a case, `CALL ARGUMENT | TEXT`.
 pub(crate) fn answer(alloc: Global, row: &str) -> Result<String, AllocError> {
+    let mut out = String::new(alloc);
+    write_row(alloc, row, &mut out)?;
+    Ok(out)
+}
+
+/// Writes the answer to a case into an empty text.
+fn write_row(alloc: Global, row: &str, out: &mut String) -> Result<(), AllocError> {
     let Some((head, written)) = row.split_once('|') else {
-        return String::from_str(alloc, "no row: there is no bar");
+        return out.push_str("no row: there is no bar");
     };
     let head = head.trim();
     let (name, argument) = head.split_once(' ').unwrap_or((head, ""));
     let Some(call) = call_of(name) else {
-        return String::from_str(alloc, "no row: there is no such call");
+        return out.push_str("no row: there is no such call");
     };
     let text = text_of(alloc, written.strip_prefix(' ').unwrap_or(written))?;
-    let mut out = String::new(alloc);
-    match write_answer(alloc, call, argument, text.as_str(), &mut out) {
-        Ok(()) => Ok(out),
-        Err(Fault::Grammar(errors)) => refusal(alloc, &errors),
+    let answered = write_answer(alloc, call, argument, text.as_str(), out);
+    match answered {
+        Ok(()) => Ok(()),
+        Err(Fault::Grammar(errors)) => replace_by_errors(out, &errors),
         Err(Fault::Memory(error)) => Err(error),
     }
 }

@@ -3,7 +3,7 @@ use crate::reading::rules_of;
 use crate::refusals::write_errors;
 use meta_base::grammar::Rule;
 use meta_base::runtime::{Error, Fault};
-use meta_spanned::release;
+use meta_spanned::{ParserRule, release};
 use meta_stack_loops::validate_stack_repetition;
 use meta_validator::validator::{is_non_failing, is_non_progressing};
 use std::alloc::{AllocError, Global};
@@ -51,13 +51,23 @@ pub(crate) fn rule_number(
 pub(crate) fn questions(alloc: Global, text: &str, out: &mut String) -> Result<(), Fault> {
     let rules = rules_of(alloc, text)?;
     for rule in &rules {
-        let is_nullable = is_non_progressing(alloc, &rule.node.expr, &rules)?;
-        let is_sure = is_non_failing(alloc, &rule.node.expr, &rules)?;
-        write!(
-            out,
-            "{}: may take nothing {is_nullable}, cannot fail {is_sure}\n",
-            rule.name
-        )?;
+        write_question(alloc, rule, &rules, out)?;
     }
     Ok(())
+}
+
+/// Writes the line of `questions` for a rule.
+fn write_question<'i>(
+    alloc: Global,
+    rule: &ParserRule<'i>,
+    rules: &Vec<ParserRule<'i>>,
+    out: &mut String,
+) -> Result<(), Fault> {
+    let is_nullable = is_non_progressing(alloc, &rule.node.expr, rules)?;
+    let is_sure = is_non_failing(alloc, &rule.node.expr, rules)?;
+    let name = &rule.name;
+    Ok(write!(
+        out,
+        "{name}: may take nothing {is_nullable}, cannot fail {is_sure}\n"
+    )?)
 }

@@ -48,12 +48,14 @@ fn write_optimized_items(
 
 /// Returns whether a map from the top down with the identity returns an equal expression.
 fn is_kept_down(alloc: Global, expr: &Expr) -> Result<bool, Fault> {
-    Ok(expr.clone()?.map_top_down(alloc, |e| Ok(e))? == *expr)
+    let (mapped, _) = refuse_down(alloc, expr.clone()?, 0);
+    Ok(mapped? == *expr)
 }
 
 /// Returns whether a map from the bottom up with the identity returns an equal expression.
 fn is_kept_up(alloc: Global, expr: &Expr) -> Result<bool, Fault> {
-    Ok(expr.clone()?.map_bottom_up(alloc, |e| Ok(e))? == *expr)
+    let (mapped, _) = refuse_up(alloc, expr.clone()?, 0);
+    Ok(mapped? == *expr)
 }
 
 /// Returns whether a map from the top down with the identity returns an equal optimized expression.
@@ -142,8 +144,8 @@ pub(crate) fn write_optimized_maps(
     Ok(())
 }
 
-/// Maps an expression from the top down with a closure that refuses its call number `last`. Returns the
-/// answer, and the number of calls.
+/// Maps an expression from the top down with the identity, which refuses its call number `last`; no call is
+/// number 0. Returns the answer, and the number of calls.
 fn refuse_down(alloc: Global, expr: Expr, last: u32) -> (Result<Expr, Fault>, u32) {
     let mut calls = 0u32;
     let mapped = expr.map_top_down(

@@ -1,5 +1,5 @@
 //! The calls that golden cases name.
-use crate::{front, matching, round_trip};
+use crate::{front, matching};
 use meta_base::runtime::Fault;
 use std::alloc::Global;
 
@@ -16,9 +16,6 @@ pub(crate) fn write_answer(
         "found" => front::write_ast_errors(alloc, text, out),
         "rules" => front::rules(alloc, text, out),
         "answer" => front::answer(alloc, text, out),
-        "report" => front::report(alloc, text, out),
-        "beginnings" => front::beginnings(alloc, text, out),
-        "again" => round_trip::write_round_trip(alloc, text, out),
         _ => Ok(out.push_str("no row: there is no such call")?),
     }
 }

@@ -9,7 +9,6 @@ mod calls;
 mod front;
 mod matching;
 mod refusals;
-mod round_trip;
 mod row;
 
 use std::io;

@@ -65,32 +65,47 @@ pub(crate) fn push_excerpt(
     out: &mut String,
 ) -> Result<(), AllocError> {
     let location = origin.lines.locate(origin.text, start);
-    let number = location.line.to_string(alloc)?;
-    let margin = " ".repeat(alloc, number.len())?;
     let excerpt = excerpt_at(origin.text, location.line_start, start);
-    out.push_str(margin.as_str())?;
-    out.push_str(" |\n")?;
-    out.push_str(number.as_str())?;
-    out.push_str(" | ")?;
+    push_margin(alloc, location.line, out)?;
+    write!(out, " |\n{} | ", location.line)?;
     push_cut(origin.text, excerpt, out)?;
     out.push('\n')?;
-    out.push_str(margin.as_str())?;
+    push_margin(alloc, location.line, out)?;
     out.push_str(" | ")?;
     push_mark(alloc, origin.text, excerpt, start, end, out)?;
-    out.push('\n')?;
-    Ok(())
+    out.push('\n')
+}
+
+/// Adds as many blanks as a number has digits.
+pub(crate) fn push_margin(
+    alloc: Global,
+    number: usize,
+    out: &mut String,
+) -> Result<(), AllocError> {
+    let digits = number.to_string(alloc)?;
+    push_repeated(alloc, " ", digits.len(), out)
+}
+
+/// Adds a text so many times.
+fn push_repeated(
+    alloc: Global,
+    text: &str,
+    count: usize,
+    out: &mut String,
+) -> Result<(), AllocError> {
+    out.push_str(text.repeat(alloc, count)?.as_str())
 }
 
 /// Adds the text of an excerpt, with dots where it is cut.
 fn push_cut(text: &str, excerpt: Excerpt, out: &mut String) -> Result<(), AllocError> {
-    if excerpt.is_cut_before {
-        out.push_str("...")?;
-    }
+    out.push_str(dots(excerpt.is_cut_before))?;
     push_visible(part(text, excerpt.start, excerpt.end), out)?;
-    if excerpt.is_cut_after {
-        out.push_str("...")?;
-    }
-    Ok(())
+    out.push_str(dots(excerpt.is_cut_after))
+}
+
+/// Dots where a line is cut, or nothing.
+fn dots(is_cut: bool) -> &'static str {
+    if is_cut { "..." } else { "" }
 }
 
 /// Adds a mark below the bytes `start..end` of an excerpt, at least one column wide.
@@ -103,13 +118,10 @@ fn push_mark(
     out: &mut String,
 ) -> Result<(), AllocError> {
     let before = visible_width(part(text, excerpt.start, start));
-    let dots = if excerpt.is_cut_before { 3 } else { 0 };
-    let blanks = " ".repeat(alloc, before.saturating_add(dots))?;
+    let blanks = before.saturating_add(dots(excerpt.is_cut_before).len());
     let width = visible_width(part(text, start, end.min(excerpt.end))).max(1);
-    let mark = "^".repeat(alloc, width)?;
-    out.push_str(blanks.as_str())?;
-    out.push_str(mark.as_str())?;
-    Ok(())
+    push_repeated(alloc, " ", blanks, out)?;
+    push_repeated(alloc, "^", width, out)
 }
 
 /// The bytes `start..end` of a text; nothing where these are not characters.

@@ -26,15 +26,34 @@ fn properties(
     origin: Origin<'_>,
     diagnostic: &Diagnostic,
 ) -> Result<String, AllocError> {
+    let mut out = String::new(alloc);
+    push_properties(alloc, origin, diagnostic, &mut out)?;
+    Ok(out)
+}
+
+/// Adds the properties of a command, from the file's name on, and its message.
+fn push_properties(
+    alloc: Global,
+    origin: Origin<'_>,
+    diagnostic: &Diagnostic,
+    out: &mut String,
+) -> Result<(), AllocError> {
     let start = origin.lines.locate(origin.text, diagnostic.start);
     let end = origin.lines.locate(origin.text, diagnostic.end);
-    let file = escape_property(alloc, origin.name)?;
-    let message = escape_message(alloc, diagnostic)?;
-    let title = escape_property(alloc, diagnostic.code.name())?;
-    format!(in alloc;
-        "{file},line={},col={},endLine={},endColumn={},title={title}::{message}",
+    push_text(escape_property(alloc, origin.name), out)?;
+    write!(
+        out,
+        ",line={},col={},endLine={},endColumn={},title=",
         start.line, start.column, end.line, end.column
-    )
+    )?;
+    push_text(escape_property(alloc, diagnostic.code.name()), out)?;
+    out.push_str("::")?;
+    push_text(escape_message(alloc, diagnostic), out)
+}
+
+/// Adds a text, unless it was refused memory.
+fn push_text(text: Result<String, AllocError>, out: &mut String) -> Result<(), AllocError> {
+    out.push_str(text?.as_str())
 }
 
 /// The message of a diagnostic and of its help, with what a command may not have written as `%XX`.

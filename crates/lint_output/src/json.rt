@@ -3,8 +3,9 @@ ghost use Rattle.std.specs.Prelude.{IfOk, string_bytes};
 ghost use Rattle.lint_output.specs.Prints.{IsLine};
 
 use crate::Origin;
+use crate::objects::{put_numbers, put_texts, put_value};
 use diagnostic_data::{Diagnostic, Fix, Help, Related};
-use serde_json::{Value, json};
+use serde_json::{Map, Value};
 use std::alloc::{AllocError, Global};
 
 /// A diagnostic as a line of JSON.
@@ -26,28 +27,58 @@ fn diagnostic_value(
     origin: Origin<'_>,
     diagnostic: &Diagnostic,
 ) -> Result<Value, AllocError> {
+    let mut object = Map::new(alloc);
+    put_heading(alloc, origin, diagnostic, &mut object)?;
+    put_places(alloc, origin, diagnostic, &mut object)?;
+    let expected = names_value(alloc, &diagnostic.expected);
+    put_value(alloc, &mut object, "expected", expected)?;
+    let related = related_value(alloc, origin, &diagnostic.related);
+    put_value(alloc, &mut object, "related", related)?;
+    let help = help_value(alloc, &diagnostic.help);
+    put_value(alloc, &mut object, "help", help)?;
+    put_value(
+        alloc,
+        &mut object,
+        "fix",
+        fix_value(alloc, &diagnostic.help),
+    )?;
+    Ok(Value::Object(object))
+}
+
+/// Puts the file, severity, code and message of a diagnostic into an object.
+fn put_heading(
+    alloc: Global,
+    origin: Origin<'_>,
+    diagnostic: &Diagnostic,
+    object: &mut Map<String, Value>,
+) -> Result<(), AllocError> {
+    let texts = [
+        ("file", origin.name),
+        ("kind", diagnostic.severity.name()),
+        ("code", diagnostic.code.name()),
+        ("message", diagnostic.message.as_str()),
+    ];
+    put_texts(alloc, object, &texts)
+}
+
+/// Puts the bytes, lines and columns of a diagnostic into an object.
+fn put_places(
+    alloc: Global,
+    origin: Origin<'_>,
+    diagnostic: &Diagnostic,
+    object: &mut Map<String, Value>,
+) -> Result<(), AllocError> {
     let start = origin.lines.locate(origin.text, diagnostic.start);
     let end = origin.lines.locate(origin.text, diagnostic.end);
-    let expected = names_value(alloc, &diagnostic.expected)?;
-    let related = related_value(alloc, origin, &diagnostic.related)?;
-    let help = help_value(alloc, &diagnostic.help)?;
-    let fix = fix_value(alloc, &diagnostic.help)?;
-    json!(in alloc; {
-        "file": origin.name,
-        "kind": diagnostic.severity.name(),
-        "code": diagnostic.code.name(),
-        "message": diagnostic.message.as_str(),
-        "start": diagnostic.start,
-        "end": diagnostic.end,
-        "line": start.line,
-        "column": start.column,
-        "end_line": end.line,
-        "end_column": end.column,
-        "expected": expected,
-        "related": related,
-        "help": help,
-        "fix": fix
-    })
+    let numbers = [
+        ("start", diagnostic.start),
+        ("end", diagnostic.end),
+        ("line", start.line),
+        ("column", start.column),
+        ("end_line", end.line),
+        ("end_column", end.column),
+    ];
+    put_numbers(alloc, object, &numbers)
 }
 
 /// Names as an array.
@@ -67,17 +98,24 @@ fn related_value(
 ) -> Result<Value, AllocError> {
     let mut values = Vec::new(alloc);
     for item in related {
-        let location = origin.lines.locate(origin.text, item.start);
-        let value = json!(in alloc; {
-            "message": item.message.as_str(),
-            "start": item.start,
-            "end": item.end,
-            "line": location.line,
-            "column": location.column
-        })?;
-        values.push(value)?;
+        values.push(part_value(alloc, origin, item)?)?;
     }
     Ok(Value::Array(values))
+}
+
+/// A part of a text as an object.
+fn part_value(alloc: Global, origin: Origin<'_>, item: &Related) -> Result<Value, AllocError> {
+    let location = origin.lines.locate(origin.text, item.start);
+    let numbers = [
+        ("start", item.start),
+        ("end", item.end),
+        ("line", location.line),
+        ("column", location.column),
+    ];
+    let mut object = Map::new(alloc);
+    put_numbers(alloc, &mut object, &numbers)?;
+    put_texts(alloc, &mut object, &[("message", item.message.as_str())])?;
+    Ok(Value::Object(object))
 }
 
 /// The message of a help, or null.
@@ -98,9 +136,16 @@ fn fix_value(alloc: Global, help: &Option<Help>) -> Result<Value, AllocError> {
 
 /// A fix as an object.
 fn value_of_fix(alloc: Global, fix: &Fix) -> Result<Value, AllocError> {
-    json!(in alloc; {
-        "start": fix.start,
-        "end": fix.end,
-        "replacement": fix.replacement.as_str()
-    })
+    let mut object = Map::new(alloc);
+    put_numbers(
+        alloc,
+        &mut object,
+        &[("start", fix.start), ("end", fix.end)],
+    )?;
+    put_texts(
+        alloc,
+        &mut object,
+        &[("replacement", fix.replacement.as_str())],
+    )?;
+    Ok(Value::Object(object))
 }

@@ -5,6 +5,7 @@ mod excerpts;
 mod github;
 mod json;
 mod lines;
+mod objects;
 mod sarif;
 mod styles;
 mod text;

@@ -3,7 +3,7 @@ ghost use Rattle.std.specs.Prelude.{◌≡◌, IfOk, string_bytes};
 ghost use Rattle.lint_output.specs.Prints.{IsBlock, heading};
 
 use crate::Origin;
-use crate::excerpts::{excerpt_at, part, push_excerpt};
+use crate::excerpts::{excerpt_at, part, push_excerpt, push_margin};
 use crate::visible::push_visible;
 use diagnostic_data::{Diagnostic, Fix, Help, Related, Severity};
 use std::alloc::{AllocError, Global};
@@ -33,14 +33,26 @@ fn details(
     has_colour: bool,
 ) -> Result<String, AllocError> {
     let mut out = String::new(alloc);
-    push_visible(diagnostic.message.as_str(), &mut out)?;
-    out.push('\n')?;
-    push_place(alloc, origin, diagnostic.start, diagnostic.end, &mut out)?;
-    push_related(alloc, origin, &diagnostic.related, &mut out)?;
-    if let Some(help) = &diagnostic.help {
-        push_help(alloc, origin, help, has_colour, &mut out)?;
-    }
+    push_details(alloc, origin, diagnostic, has_colour, &mut out)?;
     Ok(out)
+}
+
+/// Adds the message of a diagnostic, and what is printed below it.
+fn push_details(
+    alloc: Global,
+    origin: Origin<'_>,
+    diagnostic: &Diagnostic,
+    has_colour: bool,
+    out: &mut String,
+) -> Result<(), AllocError> {
+    push_visible(diagnostic.message.as_str(), out)?;
+    out.push('\n')?;
+    push_place(alloc, origin, diagnostic.start, diagnostic.end, out)?;
+    push_related(alloc, origin, &diagnostic.related, out)?;
+    match &diagnostic.help {
+        Some(help) => push_help(origin, help, has_colour, out),
+        None => Ok(()),
+    }
 }
 
 /// A severity's name, in its colour where that is asked for.
@@ -64,13 +76,10 @@ fn push_place(
     out: &mut String,
 ) -> Result<(), AllocError> {
     let location = origin.lines.locate(origin.text, start);
-    let number = location.line.to_string(alloc)?;
-    let margin = " ".repeat(alloc, number.len())?;
-    out.push_str(margin.as_str())?;
+    push_margin(alloc, location.line, out)?;
     out.push_str("--> ")?;
     push_visible(origin.name, out)?;
-    let position = format!(in alloc; ":{}:{}\n", location.line, location.column)?;
-    out.push_str(position.as_str())?;
+    write!(out, ":{}:{}\n", location.line, location.column)?;
     push_excerpt(alloc, origin, start, end, out)
 }
 
@@ -92,40 +101,36 @@ fn push_related(
 
 /// Adds a help, and the line as its fix mends it.
 fn push_help(
-    alloc: Global,
     origin: Origin<'_>,
     help: &Help,
     has_colour: bool,
     out: &mut String,
 ) -> Result<(), AllocError> {
-    out.push_str(if has_colour {
-        "\x1b[1;36mhelp\x1b[0m: "
-    } else {
-        "help: "
-    })?;
+    out.push_str(help_heading(has_colour))?;
     push_visible(help.message.as_str(), out)?;
     out.push('\n')?;
     match &help.fix {
-        Some(fix) => push_fix(alloc, origin, fix, out),
+        Some(fix) => push_fix(origin, fix, out),
         None => Ok(()),
     }
 }
 
+/// What stands before a help, in colour where that is asked for.
+fn help_heading(has_colour: bool) -> &'static str {
+    if has_colour {
+        "\x1b[1;36mhelp\x1b[0m: "
+    } else {
+        "help: "
+    }
+}
+
 /// Adds the line of a fix as it is after it.
-fn push_fix(
-    alloc: Global,
-    origin: Origin<'_>,
-    fix: &Fix,
-    out: &mut String,
-) -> Result<(), AllocError> {
+fn push_fix(origin: Origin<'_>, fix: &Fix, out: &mut String) -> Result<(), AllocError> {
     let location = origin.lines.locate(origin.text, fix.start);
-    let number = location.line.to_string(alloc)?;
     let excerpt = excerpt_at(origin.text, location.line_start, fix.start);
-    out.push_str(number.as_str())?;
-    out.push_str(" + ")?;
+    write!(out, "{} + ", location.line)?;
     push_visible(part(origin.text, excerpt.start, fix.start), out)?;
     push_visible(fix.replacement.as_str(), out)?;
     push_visible(part(origin.text, fix.end, excerpt.end), out)?;
-    out.push('\n')?;
-    Ok(())
+    out.push('\n')
 }

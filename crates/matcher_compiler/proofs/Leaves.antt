@@ -34,7 +34,7 @@ use Rattle.matcher_compiler.specs.Names.{Covers}
 use Rattle.matcher_compiler.specs.Plans.{IsBoundIn, grammar_in, said}
 
 -- characters that ranges cover, of a text
-below : (c : ℕ) → scalar c ≡ true → c < 1114112
+pub below : (c : ℕ) → scalar c ≡ true → c < 1114112
 below c h = elim (scalar_cases c h) [ inl a ↦ omega (arith, a) | inr b ↦ b.1 ]
 
 module _ (ranges : List (ℕ × ℕ)) (set : ℕ → Bool) (covers : Covers ranges set) where
@@ -48,7 +48,7 @@ module _ (ranges : List (ℕ × ℕ)) (set : ℕ → Bool) (covers : Covers rang
       let k = and_parts (scalar c) (scalars cs) u in
       ap₂ (λ b n. if b then suc n else 0) (covers c (below c k.0)) (covered_span cs k.1)
 
-  rest_scalars : (text : List ℕ) (s : State) (at : ℕ) → IsAt text s at → scalars s.rest ≡ true
+  pub rest_scalars : (text : List ℕ) (s : State) (at : ℕ) → IsAt text s at → scalars s.rest ≡ true
   rest_scalars text s at h = ap scalars h.rest ∙ scalars-chars (drop at text) h.valid
 
   module _ (code : Code) (number : Text → ℕ) (fail : at_label code 0 ≡ op.Fail) (i : ℕ) (is : IsSetOf code i ranges) where

@@ -1,7 +1,11 @@
 pub mod Calling
+pub mod Choosing
+pub mod Excluding
 pub mod Finishing
 pub mod Growing
 pub mod Leaves
 pub mod Naming
 pub mod Ranging
 pub mod Skipping
+pub mod Searching
+pub mod Outside

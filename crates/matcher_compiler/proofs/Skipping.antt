@@ -10,17 +10,15 @@ use Rattle.meta_base.specs.Language.Meaning.{Does, Run, Skipping, body_mode, inh
 use Rattle.meta_base.specs.Language.State.{AtomicMode, Between, Classes, CompoundAtomicMode, NonAtomicMode, moved}
 use Rattle.matcher_layout.specs.Laid.{HasOutcome, IsTight, skip_set, span_of}
 use Rattle.matcher_layout.proofs.Characters.{silent_call_of_set, span_of_set}
-use Rattle.matcher_program.specs.declared.form.Form.{Form}
 use Rattle.matcher_program.specs.declared.form.Program.{Program}
 use Rattle.matcher_program.specs.declared.form.Row.{Row}
-use Rattle.matcher_program.specs.Programs.{IsSkippedRule, characters_of, is_set}
+use Rattle.matcher_program.specs.Programs.{IsSkippedRule}
 use Rattle.matcher_compiler.specs.declared.modes.Atomicity as code
 use Rattle.matcher_compiler.specs.declared.modes.Atomicity.TheVariants as mode
 use Rattle.matcher_compiler.specs.Modes.{mode_of}
-use Rattle.matcher_compiler.specs.Compiled.{SkipsForm}
-use Rattle.matcher_compiler.specs.Plans.{IsBoundIn, IsSoundProgram, grammar_in, no_rule, said}
+use Rattle.matcher_compiler.specs.Differences.{MatchesOne}
+use Rattle.matcher_compiler.specs.Plans.{IsSoundProgram, grammar_in, no_rule, said}
 use Rattle.matcher_compiler.proofs.Calling.{made, same}
-use Rattle.matcher_compiler.proofs.Leaves.{set_outcome}
 
 white_is_no_end : is_eoi whitespace ≡ false
 unfolding whitespace
@@ -58,18 +56,17 @@ blanks_taken g classes set m one s =
       ap₂ (λ a b. max a (max 0 (if b then (moved (span_of set s.rest) s).position else 0))) x.1 comment_is_no_end,
     )
 
-pub skips_form : (p : Program) (i : ℕ) (row : Row) (inner : Form) → IsSoundProgram p → p.whitespace ≡ Some i → p.comment ≡ None
+-- the characters that the body of the rule matches are skipped
+pub skips_any : (p : Program) (i : ℕ) (row : Row) (set : ℕ → Bool) → IsSoundProgram p → p.whitespace ≡ Some i → p.comment ≡ None
     → (within : i < length p.rows.items) → (is : row ≡ get_or p.rows.items i row) → rule_type_of row.kind ≡ Silent
-    → said p row.body ≡ said p inner → is_set inner ≡ true → IsBoundIn p inner → SkipsForm p inner
-skips_form p i row inner sound white note within is silent body one bound classes =
+    → MatchesOne p row.body set → (classes : Classes) → HasOutcome (grammar_in p) classes (Skipping NonAtomicMode) (skip_set set) (λ s. 0)
+skips_any p i row set sound white note within is silent matches classes =
     let r = made p i row within is in
     let w = subst (IsSkippedRule (grammar_in p) whitespace) white sound.whitespace_is in
     let n : rule_of (grammar_in p) comment ≡ None = subst (IsSkippedRule (grammar_in p) comment) note sound.comment_is in
     let meant : rule_of (grammar_in p) whitespace ≡ Some r = w.meant no_rule ∙ ap Some (same p i row within is) in
     let k = blank_mode (bytes_eq r.name whitespace || bytes_eq r.name comment) in
     let m : mode_of k.0 ≡ body_mode r Between = k.1 ∙ ap (λ y. mode_in y (bytes_eq r.name whitespace || bytes_eq r.name comment) Between) (sym silent) in
-    let x = set_outcome p classes k.0 inner one bound in
-    let y = subst (λ z. HasOutcome (grammar_in p) classes (Run z (said p inner)) (character_outcome (characters_of inner)) (λ s. 0)) m x in
-    let z = subst (λ e. HasOutcome (grammar_in p) classes (Run (body_mode r Between) e) (character_outcome (characters_of inner)) (λ s. 0)) (sym body) y in
-    blanks_taken (grammar_in p) classes (characters_of inner) n
-    (silent_call_of_set (grammar_in p) classes Between whitespace r (characters_of inner) meant (ap (λ t. by.gives_token t Between) silent) z)
+    let z = subst (λ z. HasOutcome (grammar_in p) classes (Run z (said p row.body)) (character_outcome set) (λ s. 0)) m (matches classes k.0) in
+    blanks_taken (grammar_in p) classes set n
+    (silent_call_of_set (grammar_in p) classes Between whitespace r set meant (ap (λ t. by.gives_token t Between) silent) z)

@@ -3,18 +3,17 @@ ghost use Rattle.std.specs.Prelude.{◌≡◌, ◌<◌, ◌≤◌, IfOk, None, O
 ghost use Rattle.meta_ast.specs.Ast.{rule_type_of};
 ghost use Rattle.meta_base.specs.Language.Expression.{Silent};
 ghost use Rattle.matcher_code.specs.Sets.{IsAligned};
-ghost use Rattle.matcher_program.specs.Programs.{is_set};
 ghost use Rattle.matcher_program.specs.declared.form.Program.{Program};
-ghost use Rattle.matcher_compiler.specs.Compiled.{AreMet, HasEnds, HasEntries, IsCodeOf, IsEmpty, SkipsForm};
+ghost use Rattle.matcher_compiler.specs.Compiled.{AreMet, AreSkipped, HasEnds, HasEntries, IsCodeOf, IsEmpty};
 ghost use Rattle.matcher_compiler.specs.Plans.{IsLater, IsReady, IsSoundProgram, Meets, laid_point};
 
 use crate::check::{has_ends, meets_all};
+use crate::difference::choice_ranges;
 use crate::modes::Atomicity;
 use crate::names::has_own_names;
 use crate::plan::Plan;
 use crate::points::{Demand, NotCompiled, Part, Place, Point};
-use crate::ranges::ranges_of;
-use matcher_code::code::{Code, Op};
+use matcher_code::code::{Code, Op, Ranges};
 use matcher_code::sets::add_set;
 use matcher_program::form::{Form, Program, Row};
 use meta_ast::ast::RuleType;
@@ -66,19 +65,17 @@ fn fresh_plan<'p>(
     })
 }
 
-/// Returns a plan where the characters of a form are skipped.
+/// Returns a plan where the characters in ranges are skipped.
 fn plan_of_blanks<'p>(
     alloc: Global,
     program: &Program,
-    form: &Form,
+    ranges: Ranges,
 ) -> Result<Plan<'p>, NotCompiled>
-    requires one { is_set form.now ≡ true }
-    requires skips { SkipsForm program.now form.now }
+    requires skips { AreSkipped program.now ranges.items }
     ensures empty { IfOk result IsEmpty }
     ensures ready { IfOk result (IsReady program.now) }
 {
     let mut sets = empty_code(alloc);
-    let ranges = ranges_of(alloc, form)?;
     let set = add_set(&mut sets, ranges)?;
     if set as usize >= sets.ranges.len() {
         return Err(NotCompiled::Unsupported);
@@ -105,9 +102,10 @@ fn body_plan<'p>(
     ensures empty { IfOk result IsEmpty }
     ensures ready { IfOk result (IsReady program.now) }
 {
-    match body {
-        Form::Set(_, inner) => plan_of_blanks(alloc, program, inner),
-        _ => Err(NotCompiled::Unsupported),
+    let made = choice_ranges(alloc, program, body)?;
+    match made {
+        Some(ranges) => plan_of_blanks(alloc, program, ranges),
+        None => Err(NotCompiled::Unsupported),
     }
 }
 

@@ -1,12 +1,15 @@
 //! The operations and the demands of expressions without operands.
-ghost use Rattle.std.specs.Prelude.{◌≡◌, ◌≤◌, None, OnOk, chars, codes, length, true};
-ghost use Rattle.meta_base.specs.Language.Expression.{Ident, Rep, Str, rule_of};
+ghost use Rattle.std.specs.Prelude.{◌≡◌, ◌≤◌, IfOk, None, OnOk, chars, codes, length, true};
+ghost use Rattle.meta_base.specs.Language.Expression.{Ident, NegPred, Rep, Seq, Str, rule_of};
 ghost use Rattle.meta_base.specs.Language.Meaning.{Run, seen_from};
 ghost use Rattle.meta_base.specs.Language.State.{AtomicMode};
 ghost use Rattle.matcher_program.specs.Programs.{is_set};
+ghost use Rattle.matcher_program.specs.declared.form.Program.{Program};
+ghost use Rattle.matcher_compiler.specs.Differences.{HasDifference};
 ghost use Rattle.matcher_compiler.specs.Modes.{mode_of};
 ghost use Rattle.matcher_compiler.specs.Plans.{IsBoundIn, IsLater, IsTightIn, LaysAt, grammar_in, said};
 
+use crate::difference::{MOST_RANGES, outside_ranges};
 use crate::plan::Plan;
 use crate::points::{NotCompiled, Place};
 use crate::ranges::ranges_of;
@@ -70,6 +73,81 @@ impl<'p> Plan<'p> {
     {
         let ranges = ranges_of(alloc, form)?;
         let set = self.set(ranges)?;
+        self.operation(at.label, Op::All { set, next: at.next })?;
+        Ok(())
+    }
+
+    /// Adds the set of the characters of a form that another does not match, and returns its number.
+    fn difference(
+        &mut self,
+        alloc: Global,
+        excluded: &Form,
+        included: &Form,
+    ) -> Result<u32, NotCompiled>
+        requires excluded_one { is_set excluded.now ≡ true }
+        requires included_one { is_set included.now ≡ true }
+        ensures later { OnOk result ((p : Program) → IsLater p self.old self.new) }
+        ensures means { IfOk result (HasDifference self.new excluded.now included.now) }
+    {
+        let others = ranges_of(alloc, excluded)?;
+        if others.len() > MOST_RANGES {
+            return Err(NotCompiled::Unsupported);
+        }
+        let ranges = ranges_of(alloc, included)?;
+        let rest = outside_ranges(alloc, ranges, &others)?;
+        let set = self.set(rest)?;
+        Ok(set)
+    }
+
+    /// Plans one character of a set that another does not have, where nothing is skipped.
+    pub(crate) fn other_character(
+        &mut self,
+        alloc: Global,
+        program: &Program,
+        excluded: &Form,
+        included: &Form,
+        at: Place,
+    ) -> Result<(), NotCompiled>
+        requires excluded_one { is_set excluded.now ≡ true }
+        requires excluded_bound { IsBoundIn program.now excluded.now }
+        requires included_one { is_set included.now ≡ true }
+        requires included_bound { IsBoundIn program.now included.now }
+        requires tight { IsTightIn program.now at.mode }
+        ensures later { OnOk result (IsLater program.now self.old self.new) }
+        ensures lays { OnOk result (LaysAt program.now self.new (Run (mode_of at.mode)
+            (Seq (NegPred (said program.now excluded.now)) (said program.now included.now))) at) }
+    {
+        let set = self.difference(alloc, excluded, included)?;
+        self.operation(
+            at.label,
+            Op::One {
+                set,
+                next: at.next,
+                fail: at.way,
+            },
+        )?;
+        Ok(())
+    }
+
+    /// Plans a repetition of one character of a set that another does not have, where nothing is skipped.
+    pub(crate) fn other_span(
+        &mut self,
+        alloc: Global,
+        program: &Program,
+        excluded: &Form,
+        included: &Form,
+        at: Place,
+    ) -> Result<(), NotCompiled>
+        requires excluded_one { is_set excluded.now ≡ true }
+        requires excluded_bound { IsBoundIn program.now excluded.now }
+        requires included_one { is_set included.now ≡ true }
+        requires included_bound { IsBoundIn program.now included.now }
+        requires tight { IsTightIn program.now at.mode }
+        ensures later { OnOk result (IsLater program.now self.old self.new) }
+        ensures lays { OnOk result (LaysAt program.now self.new (Run (mode_of at.mode)
+            (Rep (Seq (NegPred (said program.now excluded.now)) (said program.now included.now)))) at) }
+    {
+        let set = self.difference(alloc, excluded, included)?;
         self.operation(at.label, Op::All { set, next: at.next })?;
         Ok(())
     }

@@ -1,13 +1,14 @@
 //! The loop that plans each point.
-ghost use Rattle.std.specs.Prelude.{◌<◌, ◌≤◌, ℕ, OnOk, chars, get_or, length};
+ghost use Rattle.std.specs.Prelude.{◌≡◌, ◌<◌, ◌≤◌, ℕ, OnOk, chars, get_or, length};
 ghost use Rattle.meta_base.specs.Language.Expression.{NegPred, NodeTag, PosPred, Rep, RepOnce, RestoreOnErr, Seq};
 ghost use Rattle.meta_base.specs.Language.Meaning.{Run, once_or_more};
 ghost use Rattle.matcher_program.specs.declared.form.Form.TheVariants as form;
 ghost use Rattle.matcher_compiler.specs.Modes.{mode_of};
 ghost use Rattle.matcher_compiler.specs.Names.{HasOwnNames};
-ghost use Rattle.matcher_compiler.specs.Plans.{AreBound, IsBoundIn, IsBoundPart, IsLater, IsReady, IsSoundProgram, LaysAt, LaysPoint, said, task_in};
+ghost use Rattle.matcher_compiler.specs.Plans.{AreBound, IsBoundIn, IsBoundPart, IsLater, IsReady, IsSoundProgram, IsTightIn, LaysAt, LaysPoint, said, task_in};
 ghost use Rattle.matcher_compiler.specs.declared.points.Point.{Point};
 
+use crate::difference::{excluded_set, included_set};
 use crate::modes::Atomicity;
 use crate::plan::Plan;
 use crate::points::{NotCompiled, Part, Place, Point};
@@ -38,6 +39,35 @@ impl<'p> Plan<'p> {
         }
     }
 
+    /// Plans a repetition of a sequence, where nothing is skipped.
+    fn tight_turns(
+        &mut self,
+        alloc: Global,
+        program: &Program,
+        body: &'p Form,
+        first: &Form,
+        second: &Form,
+        at: Place,
+    ) -> Result<(), NotCompiled>
+        requires bound { IsBoundIn program.now body.now }
+        requires first_bound { IsBoundIn program.now first.now }
+        requires second_bound { IsBoundIn program.now second.now }
+        requires same { said program.now body.now
+            ≡ Seq (said program.now first.now) (said program.now second.now) }
+        requires tight { IsTightIn program.now at.mode }
+        ensures later { OnOk result (IsLater program.now self.old self.new) }
+        ensures lays { OnOk result (LaysAt program.now self.new (Run (mode_of at.mode)
+            (Rep (said program.now body.entry.now))) at) }
+    {
+        match excluded_set(first) {
+            Some(excluded) => match included_set(second) {
+                Some(included) => self.other_span(alloc, program, excluded, included, at),
+                None => self.tight_repetition(program, body, at),
+            },
+            None => self.tight_repetition(program, body, at),
+        }
+    }
+
     /// Plans a repetition.
     fn turns(
         &mut self,
@@ -56,6 +86,9 @@ impl<'p> Plan<'p> {
         if self.is_tight(at.mode) {
             match body {
                 Form::Set(_, inner) => self.span(alloc, program, inner, at),
+                Form::Seq(first, second) => {
+                    self.tight_turns(alloc, program, body, first, second, at)
+                }
                 _ => self.tight_repetition(program, body, at),
             }
         } else {
@@ -141,6 +174,56 @@ impl<'p> Plan<'p> {
         Ok(())
     }
 
+    /// Plans two expressions, one right after the other.
+    fn tight_both(
+        &mut self,
+        alloc: Global,
+        program: &Program,
+        first: &'p Form,
+        second: &'p Form,
+        at: Place,
+        own: u32,
+    ) -> Result<(), NotCompiled>
+        requires first_bound { IsBoundIn program.now first.now }
+        requires second_bound { IsBoundIn program.now second.now }
+        requires tight { IsTightIn program.now at.mode }
+        ensures later { OnOk result (IsLater program.now self.old self.new) }
+        ensures lays { OnOk result (LaysAt program.now self.new (Run (mode_of at.mode)
+            (Seq (said program.now first.entry.now) (said program.now second.entry.now))) at) }
+    {
+        match excluded_set(first) {
+            Some(excluded) => match included_set(second) {
+                Some(included) => { self.other_character(alloc, program, excluded, included, at) }
+                None => self.both(program, first, second, at, own),
+            },
+            None => self.both(program, first, second, at, own),
+        }
+    }
+
+    /// Plans a sequence of two expressions.
+    fn two(
+        &mut self,
+        alloc: Global,
+        program: &Program,
+        first: &'p Form,
+        second: &'p Form,
+        at: Place,
+        own: u32,
+    ) -> Result<(), NotCompiled>
+        requires first_bound { IsBoundIn program.now first.now }
+        requires second_bound { IsBoundIn program.now second.now }
+        requires ready { IsReady program.now self.old }
+        ensures later { OnOk result (IsLater program.now self.old self.new) }
+        ensures lays { OnOk result (LaysAt program.now self.new (Run (mode_of at.mode)
+            (Seq (said program.now first.entry.now) (said program.now second.entry.now))) at) }
+    {
+        if self.is_tight(at.mode) {
+            self.tight_both(alloc, program, first, second, at, own)
+        } else {
+            self.both(program, first, second, at, own)
+        }
+    }
+
     /// Plans two expressions, one after the other.
     fn both(
         &mut self,
@@ -204,13 +287,14 @@ impl<'p> Plan<'p> {
             Form::Call(rule) => self.call(program, *rule, at),
             Form::PosPred(body) => self.ahead(program, body, at, own),
             Form::NegPred(body) => self.not_ahead(program, body, at, own),
-            Form::Seq(first, second) => { self.both(program, first, second, at, own) }
+            Form::Seq(first, second) => { self.two(alloc, program, first, second, at, own) }
             Form::Choice(left, right) => self.choice(program, left, right, at, own),
             Form::Opt(body) => self.option(program, body, at),
             Form::Rep(body) => self.turns(alloc, program, body, at, own),
             Form::RepOnce(body) => self.once_or_more(program, body, at),
             Form::Tag(body, tag) => self.tag(program, body, tag.as_str(), at),
             Form::Restore(body) => self.restore(program, body, at),
+            Form::Skip(texts, _) => self.search(alloc, program, texts, at),
             _ => Err(NotCompiled::Unsupported),
         }
     }

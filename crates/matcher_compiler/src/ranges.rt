@@ -38,7 +38,7 @@ fn first_character(text: &str) -> Option<char>
 }
 
 /// Appends a range.
-fn push_range(ranges: &mut Ranges, low: u32, high: u32) -> Result<(), AllocError>
+pub(crate) fn push_range(ranges: &mut Ranges, low: u32, high: u32) -> Result<(), AllocError>
     ensures { OnOk result (Adds ranges.old.items ranges.new.items (is_between low high)) }
 {
     ranges.push((low, high))?;
@@ -54,7 +54,7 @@ fn push_class(ranges: &mut Ranges, class: Class) -> Result<(), AllocError>
 }
 
 /// Appends the first character of a text.
-fn push_first(ranges: &mut Ranges, text: &str) -> Result<(), AllocError>
+pub(crate) fn push_first(ranges: &mut Ranges, text: &str) -> Result<(), AllocError>
     ensures { OnOk result (Adds ranges.old.items ranges.new.items
         (λ c. starts_in (λ d. nat_eq d c) (chars text.now))) }
 {

@@ -6,13 +6,14 @@ ghost use Rattle.matcher_tokens.specs.Outcomes.{IsFailureOutcome, IsMatchOutcome
 
 use crate::numbers::{failure_numbers, match_numbers};
 use crate::outcome::MatchOutcome;
+use matcher_engine::matcher::Matcher;
 use matcher_program::compile::Unfit;
 use matcher_support::unicode_properties::UnicodeProperties;
 use meta_ast::deep::Deep;
 use meta_ast::optimized::OptimizedRule;
 use meta_json::{Refusal as Unread, read_optimized_rules};
 use meta_matcher::machine::Stop;
-use meta_matcher::matcher::{Matcher, Refusal};
+use meta_matcher::matcher::Refusal;
 use std::alloc::Global;
 
 /// Runs the rule of a name from the start of a text, in at most `steps` steps. The rules are optimized rules
@@ -43,7 +44,10 @@ fn run(alloc: Global, rules: &[OptimizedRule], rule: &str, text: &str, steps: u6
         },
         Err(Refusal::UnknownRule(_)) => MatchOutcome::NoRule,
         Err(Refusal::NoMatch(place)) => {
-            match matcher.expected_at(alloc, rule, text, place, steps) {
+            match matcher
+                .interpreter
+                .expected_at(alloc, rule, text, place, steps)
+            {
                 Ok(names) => failed_outcome(alloc, rules, place, &names),
                 Err(Refusal::UnknownRule(_)) => MatchOutcome::NoRule,
                 Err(Refusal::NoMatch(_)) => unreachable!(),

@@ -1,8 +1,8 @@
 //! First sets: the terminals that may begin a rule, through the rules that it calls.
 use meta_analysis::{Analysis, Joint, Shape, UnaryOperator};
-use meta_ast::ast::Expr;
+use meta_ast::ast::{Expr, RuleType};
 use meta_diagram::leaf_label;
-use meta_spanned::ParserExpr;
+use meta_spanned::{ParserExpr, ParserRule};
 use std::alloc::{AllocError, Global};
 
 /// The number of terminals that are shown.
@@ -19,33 +19,52 @@ pub struct FirstSet {
     pub has_more: bool,
 }
 
+/// A node or a rule, and whether it is in atomic mode, without implicit whitespace.
+#[derive(Clone, Copy, PartialEq, Eq)]
+struct Visit {
+    number: usize,
+    is_atomic: bool,
+}
+
 /// A search for the terminals that may begin a rule.
 #[derive(Drop)]
 struct FirstSearch<'s, 'n, 'i> {
     alloc: Global,
     analysis: &'s Analysis<'n, 'i>,
+    rules: &'s [ParserRule<'i>],
     /// The rules whose bodies were added to `waiting`.
-    called: Vec<usize>,
+    called: Vec<Visit>,
     /// The nodes that are still to be visited, the next one last.
-    waiting: Vec<usize>,
+    waiting: Vec<Visit>,
     labels: Vec<String>,
 }
 
-/// Finds the terminals and builtins that may begin a rule, at most twelve, within 400 nodes. The only error
-/// is an allocation failure.
-pub fn find_first_set(
+/// Whether the rule of a name is called implicitly.
+pub fn is_implicit(name: &str) -> bool {
+    name == "WHITESPACE" || name == "COMMENT"
+}
+
+/// Finds the terminals and builtins that may begin a rule in non-atomic mode, at most twelve, within 400
+/// nodes. Implicit whitespace may follow an item that matches nothing, and comes last. The only error is an
+/// allocation failure.
+pub fn find_first_set<'s, 'i>(
     alloc: Global,
-    analysis: &Analysis<'_, '_>,
+    analysis: &'s Analysis<'_, 'i>,
+    rules: &'s [ParserRule<'i>],
     rule: usize,
 ) -> Result<FirstSet, AllocError> {
     let mut search = FirstSearch {
         alloc,
         analysis,
+        rules,
         called: Vec::new(alloc),
         waiting: Vec::new(alloc),
         labels: Vec::new(alloc),
     };
-    search.enter_rule(rule)?;
+    search.enter_rule(Visit {
+        number: rule,
+        is_atomic: false,
+    })?;
     let mut has_more = true;
     for _ in 0..VISITED {
         let Some(node) = search.waiting.pop() else {
@@ -74,46 +93,112 @@ fn is_node_nullable(analysis: &Analysis<'_, '_>, node: usize) -> bool {
     analysis.facts.nullable.get(node).copied().unwrap_or(false)
 }
 
+/// Whether an operator may match its operand twice in a row.
+fn may_repeat(operator: UnaryOperator) -> bool {
+    match operator {
+        UnaryOperator::Rep
+        | UnaryOperator::RepOnce
+        | UnaryOperator::RepExact(_)
+        | UnaryOperator::RepMin(_)
+        | UnaryOperator::RepMax(_)
+        | UnaryOperator::RepMinMax(_, _) => true,
+        UnaryOperator::PosPred
+        | UnaryOperator::NegPred
+        | UnaryOperator::Opt
+        | UnaryOperator::Push
+        | UnaryOperator::NodeTag => false,
+    }
+}
+
 impl FirstSearch<'_, '_, '_> {
     /// Adds the body of a rule to the nodes that are still to be visited, unless it was added before.
-    fn enter_rule(&mut self, rule: usize) -> Result<(), AllocError> {
-        if self.called.contains(&rule) {
+    fn enter_rule(&mut self, call: Visit) -> Result<(), AllocError> {
+        let call = Visit {
+            is_atomic: self.is_body_atomic(call),
+            ..call
+        };
+        if self.called.contains(&call) {
             return Ok(());
         }
-        self.called.push(rule)?;
-        if let Some(root) = self.analysis.table.roots.get(rule) {
-            self.waiting.push(*root)?;
+        self.called.push(call)?;
+        if let Some(root) = self.analysis.table.roots.get(call.number) {
+            self.waiting.push(Visit {
+                number: *root,
+                ..call
+            })?;
         }
         Ok(())
     }
 
+    /// Whether the body of a rule that is called is in atomic mode.
+    fn is_body_atomic(&self, call: Visit) -> bool {
+        let Some(rule) = self.rules.get(call.number) else {
+            return call.is_atomic;
+        };
+        match rule.ty {
+            RuleType::Atomic | RuleType::CompoundAtomic => true,
+            _ if is_implicit(rule.name.as_str()) => true,
+            RuleType::NonAtomic => false,
+            RuleType::Normal | RuleType::Silent => call.is_atomic,
+        }
+    }
+
+    /// Adds the body of the rule of a name, if there is one.
+    fn enter_name(&mut self, name: &str, is_atomic: bool) -> Result<(), AllocError> {
+        match self.analysis.names.place_of(name) {
+            Some(number) => self.enter_rule(Visit { number, is_atomic }),
+            None => Ok(()),
+        }
+    }
+
     /// Visits a node: adds its label, or the nodes inside it that may begin it.
-    fn visit(&mut self, number: usize) -> Result<(), AllocError> {
-        let Some(node) = self.analysis.table.nodes.get(number) else {
+    fn visit(&mut self, visit: Visit) -> Result<(), AllocError> {
+        let Some(node) = self.analysis.table.nodes.get(visit.number) else {
             return Ok(());
         };
         match node.shape {
-            Shape::Leaf => self.visit_leaf(node.expr),
+            Shape::Leaf => self.visit_leaf(node.expr, visit.is_atomic),
             Shape::One(UnaryOperator::NegPred, _) => Ok(()),
-            Shape::One(_, inner) => Ok(self.waiting.push(inner)?),
+            Shape::One(operator, inner) => {
+                if may_repeat(operator) && is_node_nullable(self.analysis, inner) {
+                    self.add_implicit(visit.is_atomic)?;
+                }
+                self.add_node(inner, visit)
+            }
             Shape::Two(Joint::Sequence, first, second) => {
                 if is_node_nullable(self.analysis, first) {
-                    self.waiting.push(second)?;
+                    self.add_implicit(visit.is_atomic)?;
+                    self.add_node(second, visit)?;
                 }
-                Ok(self.waiting.push(first)?)
+                self.add_node(first, visit)
             }
             Shape::Two(Joint::Choice, first, second) => {
-                self.waiting.push(second)?;
-                Ok(self.waiting.push(first)?)
+                self.add_node(second, visit)?;
+                self.add_node(first, visit)
             }
         }
     }
 
+    /// Adds a node inside of one that is visited.
+    fn add_node(&mut self, number: usize, outer: Visit) -> Result<(), AllocError> {
+        self.waiting.push(Visit { number, ..outer })?;
+        Ok(())
+    }
+
+    /// Adds the rules that are called implicitly, in non-atomic mode.
+    fn add_implicit(&mut self, is_atomic: bool) -> Result<(), AllocError> {
+        if is_atomic {
+            return Ok(());
+        }
+        self.enter_name("COMMENT", false)?;
+        self.enter_name("WHITESPACE", false)
+    }
+
     /// Visits a node without operands.
-    fn visit_leaf(&mut self, expr: &ParserExpr<'_>) -> Result<(), AllocError> {
+    fn visit_leaf(&mut self, expr: &ParserExpr<'_>, is_atomic: bool) -> Result<(), AllocError> {
         if let ParserExpr::Ident(name) = expr {
-            if let Some(rule) = self.analysis.names.place_of(name.as_str()) {
-                return self.enter_rule(rule);
+            if self.analysis.names.place_of(name.as_str()).is_some() {
+                return self.enter_name(name.as_str(), is_atomic);
             }
         }
         match to_leaf(expr)? {

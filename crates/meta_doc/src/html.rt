@@ -1,8 +1,9 @@
 //! Pages of HTML, and single diagrams.
-ghost use Rattle.std.specs.Prelude.{IfOk, IfSome, OnOk, string_bytes};
-ghost use Rattle.meta_ast.specs.Ast.{rules_of};
+ghost use Rattle.std.specs.Prelude.{IfOk, MatchOption, OnOk, string_bytes};
+ghost use Rattle.std.specs.HashMap.{get_by_text};
+ghost use Rattle.meta_ast.specs.Ast.{rule_of_code, rules_of};
 ghost use Rattle.meta_markup.specs.Pages.{IsPage};
-ghost use Rattle.meta_doc.specs.Documents.{EndsWithSections, IsDiagram};
+ghost use Rattle.meta_doc.specs.Documents.{EndsWithSections, HasNoRule, HasNoneNamed, IsAskedFor, IsDiagramOf, IsDiagramOfRule, IsOneNamed};
 
 use crate::facts::RuleFacts;
 use crate::first_sets::FirstSet;
@@ -38,19 +39,38 @@ pub fn svg_diagram(
     doc: &GrammarDoc<'_>,
     rule: Option<&str>,
 ) -> Result<Option<String>, AllocError>
-    ensures { IfOk result (λ diagram. IfSome diagram IsDiagram) }
+    ensures { IfOk result (λ diagram. MatchOption diagram
+        (HasNoRule rule.entry (rules_of doc.now.rules.value.items))
+        (IsDiagramOfRule rule.entry (rules_of doc.now.rules.value.items))) }
 {
-    let number = match rule {
-        Some(name) => doc.numbers.get(name).copied(),
-        None => Some(0),
-    };
-    let Some(number) = number else {
-        return Ok(None);
-    };
-    match doc.rules.value.get(number) {
-        Some(rule) => Ok(Some(render_diagram(alloc, rule, &doc.numbers)?)),
+    match find_rule(&doc.rules.value, rule) {
+        Some(found) => Ok(Some(render_diagram(alloc, found, &doc.numbers)?)),
         None => Ok(None),
     }
+}
+
+/// The first rule of a name, or the first of all where no name is given.
+fn find_rule<'r>(rules: &'r [ast::Rule], name: Option<&str>) -> Option<&'r ast::Rule>
+    ensures { MatchOption result (HasNoRule name.entry (rules_of rules.entry.now))
+        (λ rule. IsAskedFor name.entry (rules_of rules.entry.now) (rule_of_code rule.now)) }
+{
+    match name {
+        Some(name) => find_named(rules, name),
+        None => rules.first(),
+    }
+}
+
+/// The first rule of a name.
+fn find_named<'r>(rules: &'r [ast::Rule], name: &str) -> Option<&'r ast::Rule>
+    ensures { MatchOption result (HasNoneNamed name.now (rules_of rules.entry.now))
+        (λ rule. IsOneNamed name.now (rules_of rules.entry.now) (rule_of_code rule.now)) }
+{
+    for rule in rules {
+        if rule.name.as_str() == name {
+            return Some(rule);
+        }
+    }
+    None
 }
 
 /// The diagram of a rule. Since no page is around it, it has no links.
@@ -59,7 +79,7 @@ fn render_diagram(
     rule: &ast::Rule,
     numbers: &HashMap<String, usize>,
 ) -> Result<String, AllocError>
-    ensures { IfOk result IsDiagram }
+    ensures { IfOk result (IsDiagramOf (get_by_text numbers.now) rule.now.expr) }
 {
     let markup = draw_diagram(alloc, &rule.expr, numbers, DiagramStyle::Own)?;
     let mut drawing = String::new(alloc);

@@ -1,6 +1,6 @@
 //! The text of a grammar by rules: their comments, and the names in them.
 use meta_base::grammar::Rule;
-use meta_base::runtime::{Fault, Pair, Pairs, Span};
+use meta_base::runtime::{FirstTree, Pairs, first_tree};
 use std::alloc::{AllocError, Global};
 use std::mem;
 
@@ -52,7 +52,7 @@ struct SourceReader<'i> {
 /// Reads the comments and the texts of a grammar's rules. The only error is an allocation failure.
 pub fn read_source<'i>(
     alloc: Global,
-    pairs: Pairs<'i, Rule>,
+    pairs: &Pairs<'i, Rule>,
 ) -> Result<GrammarSource<'i>, AllocError> {
     let mut reader = SourceReader {
         alloc,
@@ -66,14 +66,12 @@ pub fn read_source<'i>(
         end: 0,
         is_named: false,
     };
-    let pairs = match pairs.flatten(alloc) {
-        Ok(pairs) => pairs,
-        Err(fault) => return Err(to_alloc_error(fault)),
-    };
-    for pair in pairs {
-        match pair {
-            Ok(pair) => reader.read(pair)?,
-            Err(fault) => return Err(to_alloc_error(fault)),
+    let mut waiting = vec![in alloc; pairs.trees()]?;
+    while let Some(trees) = waiting.pop() {
+        if let Some(tree) = first_tree(trees) {
+            reader.read(tree)?;
+            waiting.push(tree.others)?;
+            waiting.push(tree.inner)?;
         }
     }
     reader.finish_rule()?;
@@ -81,59 +79,57 @@ pub fn read_source<'i>(
     Ok(source)
 }
 
-/// The error of a walk over pairs, of which each is an allocation failure.
-fn to_alloc_error(fault: Fault) -> AllocError {
-    match fault {
-        Fault::Memory(error) => error,
-        Fault::Grammar(_) => AllocError,
-    }
-}
-
 impl<'i> SourceReader<'i> {
-    /// Reads a pair.
-    fn read(&mut self, pair: Pair<'i, Rule>) -> Result<(), AllocError> {
-        let span = pair.as_span();
-        match pair.as_rule() {
+    /// Reads a tree, without the trees inside it.
+    fn read(&mut self, tree: FirstTree<'_, Rule>) -> Result<(), AllocError> {
+        match tree.rule {
             Rule::grammar_doc => {
-                self.source
-                    .comment
-                    .push(strip_marker(span.as_str(), "//!"))?;
+                let line = self.text_between(tree.start, tree.end);
+                self.source.comment.push(strip_marker(line, "//!"))?;
             }
-            Rule::line_doc => self.comment.push(strip_marker(span.as_str(), "///"))?,
+            Rule::line_doc => {
+                let line = self.text_between(tree.start, tree.end);
+                self.comment.push(strip_marker(line, "///"))?;
+            }
             Rule::grammar_rule => {
                 self.finish_rule()?;
-                self.start = span.start();
-                self.end = span.end();
+                self.start = tree.start;
+                self.end = tree.end;
             }
-            Rule::identifier => self.add_name(span)?,
+            Rule::identifier => self.add_name(tree.start, tree.end)?,
             _ => {}
         }
         Ok(())
     }
 
-    /// Adds a name, which is that of a rule or of a call, to the current rule.
-    fn add_name(&mut self, span: Span<'i>) -> Result<(), AllocError> {
+    /// The text between two positions.
+    fn text_between(&self, start: usize, end: usize) -> &'i str {
+        self.text.get(start..end).unwrap_or("")
+    }
+
+    /// Adds the name between two positions, which is that of a rule or of a call, to the current rule.
+    fn add_name(&mut self, start: usize, end: usize) -> Result<(), AllocError> {
         if !self.is_named {
             self.is_named = true;
             let comment = mem::replace(&mut self.comment, Vec::new(self.alloc));
             self.source.rules.push(RuleSource {
                 comment,
                 parts: Vec::new(self.alloc),
-                start: span.start(),
+                start,
             })?;
         }
-        self.add_text(span.start())?;
-        self.add_part(SourcePart::Name(span.as_str()))?;
-        self.start = span.end();
+        self.add_text(start)?;
+        let name = self.text_between(start, end);
+        self.add_part(SourcePart::Name(name))?;
+        self.start = end;
         Ok(())
     }
 
     /// Adds the text up to a position.
     fn add_text(&mut self, end: usize) -> Result<(), AllocError> {
-        match self.text.get(self.start..end) {
-            Some(text) => self.add_part(SourcePart::Other(text)),
-            None => Ok(()),
-        }
+        let start = self.start;
+        let text = self.text_between(start, end);
+        self.add_part(SourcePart::Other(text))
     }
 
     /// Adds a part to the current rule.

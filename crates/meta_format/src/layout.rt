@@ -1,5 +1,5 @@
 //! Printing: which groups fit on their lines, and the text of the pieces.
-use crate::pieces::{Item, Piece};
+use crate::pieces::{Item, Piece, PrintedItem};
 use crate::spacing::space_items;
 use std::alloc::{AllocError, Global};
 
@@ -12,20 +12,24 @@ struct Measures {
     line_ends: Vec<usize>,
     /// The number of the end of a group, for its start.
     closing: Vec<usize>,
-    /// The number of columns from a piece on up to the next possible line end.
+    /// The number of columns before the next possible line end from a piece on, or before the next comment.
     next_line: Vec<usize>,
 }
 
-/// Returns the number of columns of a piece in one line.
-fn columns_of(text: &str, piece: Piece) -> usize {
+/// Returns the number of columns of the word of a piece.
+fn columns_of_word(text: &str, piece: Piece) -> usize {
     match piece {
         Piece::Text { start, end } | Piece::Comment { start, end } => {
             text.get(start..end).map_or(0, |part| part.chars().count())
         }
         Piece::Word(word) => word.len(),
-        Piece::Blank | Piece::Line { is_blank: true, .. } => 1,
         _ => 0,
     }
+}
+
+/// Returns whether a piece is a blank in one line. Several of them between two words are printed as one.
+fn is_blank(piece: Piece) -> bool {
+    matches!(piece, Piece::Blank | Piece::Line { is_blank: true, .. })
 }
 
 /// Measures all pieces.
@@ -35,12 +39,16 @@ fn measure(alloc: Global, text: &str, pieces: &[Piece]) -> Result<Measures, Allo
     let mut closing = vec![in alloc; 0usize; pieces.len()]?;
     let mut open: Vec<usize> = Vec::new(alloc);
     let mut all = 0usize;
+    let mut has_blank = false;
     let mut ends = 0usize;
     for i in 0..pieces.len() {
         columns.push(all)?;
         line_ends.push(ends)?;
         let piece = pieces[i];
-        all = all.saturating_add(columns_of(text, piece));
+        let word = columns_of_word(text, piece);
+        let blank = usize::from(is_blank(piece) && !has_blank);
+        all = all.saturating_add(word).saturating_add(blank);
+        has_blank = word == 0 && (has_blank || is_blank(piece));
         match piece {
             Piece::LineEnd { .. } | Piece::CommentLineEnd => ends = ends.saturating_add(1),
             Piece::Open => open.push(i)?,
@@ -68,7 +76,8 @@ fn close(open: &mut Vec<usize>, closing: &mut [usize], last: usize) {
     }
 }
 
-/// Computes the number of columns from each piece on up to the next possible line end.
+/// Computes the number of columns up to the next possible line end, or the next comment and its blank, for
+/// each piece.
 fn find_next_lines(
     alloc: Global,
     pieces: &[Piece],
@@ -81,7 +90,8 @@ fn find_next_lines(
             Piece::Line { .. }
             | Piece::LineEnd { .. }
             | Piece::CommentLineEnd
-            | Piece::Comment { .. } => next = columns.get(i).copied().unwrap_or(0),
+            | Piece::Comment { .. } => next = at(columns, i),
+            Piece::Blank if is_comment(pieces, i.saturating_add(1)) => next = at(columns, i),
             _ => {}
         }
         if let Some(slot) = next_line.get_mut(i) {
@@ -89,6 +99,11 @@ fn find_next_lines(
         }
     }
     Ok(next_line)
+}
+
+/// Returns whether a comment is the piece of a number.
+fn is_comment(pieces: &[Piece], i: usize) -> bool {
+    matches!(pieces.get(i), Some(Piece::Comment { .. }))
 }
 
 /// Returns the number at an index of a list, or 0.
@@ -111,12 +126,6 @@ impl Measures {
     /// the next possible line end.
     fn columns_of_group(&self, first: usize) -> usize {
         at(&self.next_line, at(&self.closing, first)).saturating_sub(at(&self.columns, first))
-    }
-
-    /// Returns whether an item takes more than one line of a width.
-    fn is_broken(&self, item: &Item, width: usize) -> bool {
-        let columns = at(&self.columns, item.end).saturating_sub(at(&self.columns, item.first));
-        self.has_line_end(item.first, item.end) || columns > width
     }
 }
 
@@ -155,9 +164,7 @@ impl<'t> Printer<'t> {
             return Ok(());
         }
         if self.line_ends > 0 {
-            if !self.out.is_empty() {
-                self.line_feeds()?;
-            }
+            self.line_feeds()?;
             for _ in 0..self.start_column {
                 self.out.push(' ')?;
             }
@@ -266,6 +273,49 @@ impl<'t> Printer<'t> {
         }
         Ok(())
     }
+
+    /// Prints the pieces `first..end`.
+    fn pieces(
+        &mut self,
+        measures: &Measures,
+        pieces: &[Piece],
+        first: usize,
+        end: usize,
+    ) -> Result<(), AllocError> {
+        for i in first..end {
+            if let Some(piece) = pieces.get(i) {
+                self.piece(measures, i, *piece)?;
+            }
+        }
+        Ok(())
+    }
+
+    /// Prints an item from the first column on, and the comments before the piece `next`, which follow on its
+    /// last line.
+    fn item(
+        &mut self,
+        measures: &Measures,
+        pieces: &[Piece],
+        item: Item,
+        next: usize,
+    ) -> Result<PrintedItem, AllocError> {
+        self.column = 0;
+        self.line_ends = 0;
+        self.has_blank = false;
+        let start = self.out.len();
+        self.pieces(measures, pieces, item.first, item.end)?;
+        let has_lines = has_line_feed(self.out.as_str(), start);
+        self.pieces(measures, pieces, item.end, next)?;
+        Ok(PrintedItem {
+            end: self.out.len(),
+            has_lines,
+        })
+    }
+}
+
+/// Returns whether a line feed is in a text from a byte on.
+fn has_line_feed(text: &str, from: usize) -> bool {
+    text.get(from..).is_some_and(|rest| rest.contains('\n'))
 }
 
 /// Prints items and their pieces.
@@ -277,11 +327,6 @@ pub fn print(
     style: Style,
 ) -> Result<String, AllocError> {
     let measures = measure(alloc, text, pieces)?;
-    let mut broken = Vec::new(alloc);
-    for item in items.iter() {
-        broken.push(measures.is_broken(item, style.width))?;
-    }
-    space_items(items, &broken);
     let mut printer = Printer {
         text,
         out: String::new(alloc),
@@ -293,34 +338,36 @@ pub fn print(
         has_blank: false,
         groups: Vec::new(alloc),
     };
+    let mut printed = Vec::new(alloc);
     for k in 0..items.len() {
-        let item = items[k];
-        printer.end_line(if item.after_empty_line { 2 } else { 1 }, 0);
-        let end = match items.get(k + 1) {
+        let next = match items.get(k + 1) {
             Some(next) => next.first,
             None => pieces.len(),
         };
-        print_pieces(&mut printer, &measures, pieces, item.first, end)?;
+        printed.push(printer.item(&measures, pieces, items[k], next)?)?;
     }
-    let Printer { mut out, .. } = printer;
-    if !out.is_empty() {
-        out.push_str(style.line_end)?;
-    }
-    Ok(out)
+    space_items(items, &printed);
+    let Printer { out, .. } = printer;
+    join_items(alloc, out.as_str(), items, &printed, style.line_end)
 }
 
-/// Prints the pieces of an item.
-fn print_pieces(
-    printer: &mut Printer<'_>,
-    measures: &Measures,
-    pieces: &[Piece],
-    first: usize,
-    end: usize,
-) -> Result<(), AllocError> {
-    for i in first..end {
-        if let Some(piece) = pieces.get(i) {
-            printer.piece(measures, i, *piece)?;
+/// Joins printed items by line ends and empty lines.
+fn join_items(
+    alloc: Global,
+    text: &str,
+    items: &[Item],
+    printed: &[PrintedItem],
+    line_end: &str,
+) -> Result<String, AllocError> {
+    let mut out = String::new(alloc);
+    let mut start = 0usize;
+    for (item, printed) in items.iter().zip(printed) {
+        if !out.is_empty() && item.after_empty_line {
+            out.push_str(line_end)?;
         }
+        out.push_str(text.get(start..printed.end).unwrap_or(""))?;
+        out.push_str(line_end)?;
+        start = printed.end;
     }
-    Ok(())
+    Ok(out)
 }

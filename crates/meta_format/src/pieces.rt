@@ -52,6 +52,15 @@ pub struct Item {
     pub after_empty_line: bool,
 }
 
+/// The printed text of an item.
+#[derive(Clone, Copy)]
+pub struct PrintedItem {
+    /// The byte of the whole printed text before which this one ends.
+    pub end: usize,
+    /// Whether the item takes more than one line, without the comments that follow on its last one.
+    pub has_lines: bool,
+}
+
 /// The separator of two words without comments between them.
 #[derive(Clone, Copy)]
 pub enum Separator {

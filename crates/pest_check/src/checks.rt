@@ -180,6 +180,3 @@ fn sign_of(ty: RuleType) -> &'static str
         RuleType::NonAtomic => "!",
     }
 }
-
-#[cfg(test)]
-mod tests;

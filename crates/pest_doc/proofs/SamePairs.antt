@@ -1,6 +1,6 @@
 -- A copy of pairs is pairs of the same text.
 use Rattle.std.proofs.Common.{◌≡◌, ℕ, List, ◌∙◌}
-use Rattle.meta_base.specs.Pieces.Pairs.{IsSamePairs, pairs_text, pairs_trees}
+use Rattle.meta_base.specs.Pieces.Pairs.{IsSamePairs, pairs_text}
 use Rattle.meta_base.specs.declared.grammar.Rule.{Rule}
 use Rattle.meta_base.specs.declared.runtime.tokens.Pairs.{Pairs}
 use Rattle.meta_syntax.specs.Parses.{AreOfAGrammar}

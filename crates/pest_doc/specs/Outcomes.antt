@@ -12,7 +12,7 @@ use Rattle.meta_base.specs.declared.runtime.faults.Fault.{Fault}
 use Rattle.meta_base.specs.declared.runtime.faults.Fault.TheVariants as fault
 use Rattle.meta_base.specs.declared.runtime.tokens.Pairs.{Pairs}
 use Rattle.std.specs.declared.vec.Vec.{Vec}
-use Rattle.meta_doc.specs.Documents.{AreRulesOf, IsDiagram}
+use Rattle.meta_doc.specs.Documents.{AreRulesOf, HasNoRule, IsDiagramOfRule}
 use Rattle.meta_markup.specs.Pages.{AreDefinitions, IsMarkdownPage, IsPage}
 use Rattle.meta_names.specs.GrammarNames.{IsNameRefusal, complaints_of}
 use Rattle.meta_reader.specs.Refusals.{IsReadRefusal, first_flaw_of}
@@ -46,21 +46,28 @@ pub data RefusesText (text : List ℕ) (f : Fault) : Type 0 where
 -- a document of rules, in a format, under a title
 abbrev pub IsDocumentOf : DocumentFormat → List ℕ → Grammar → String Global → Type 0
 IsDocumentOf format.Html title rules d = IsPage title rules (string_bytes d)
-IsDocumentOf format.Svg title rules d = IsDiagram d
+IsDocumentOf (format.Svg name) title rules d = IsDiagramOfRule name rules d
 IsDocumentOf format.Markdown title rules d = IsMarkdownPage title rules (string_bytes d)
 IsDocumentOf format.Ebnf title rules d = AreDefinitions rules (string_bytes d)
 
--- a document of the rules that a text spells
-abbrev pub IsDocument : DocumentFormat → List ℕ → List ℕ → String Global → Type 0
-IsDocument f title text d = (rules : Grammar) × SpellsRules text rules × IsDocumentOf f title rules d
+-- rules among which the one that a diagram is asked for is not
+abbrev pub LacksRule : DocumentFormat → Grammar → Type 0
+LacksRule (format.Svg name) rules = HasNoRule name rules
+LacksRule _ rules = ⊥
 
--- why there is no document of the bytes of a file
-pub data IsRefused (f : DocumentFormat) (bytes : List ℕ) : Type 0 where
-  not_utf8 : (IsUtf8 bytes → ⊥) → IsRefused f bytes
-  refused : (errors : Vec (Error Rule) Global) → RefusesText bytes (fault.Grammar errors) → IsRefused f bytes
-  no_such_rule : f ≡ format.Svg → IsRefused f bytes
+-- a document of rules, or a message that they lack one
+abbrev pub IsMadeOf : DocumentFormat → Grammar → DocumentOutcome → Type 0
+IsMadeOf f rules (outcome.Document d) = (title : List ℕ) × IsDocumentOf f title rules d
+IsMadeOf f rules (outcome.Refused message) = LacksRule f rules
+IsMadeOf f rules outcome.NotUtf8 = ⊥
 
--- a document of the rules that the bytes of a file spell, or a reason why there is none
-abbrev pub IsOutcome : DocumentFormat → List ℕ → DocumentOutcome → Type 0
-IsOutcome f bytes (outcome.Document d) = (title : List ℕ) × IsDocument f title bytes d
-IsOutcome f bytes (outcome.Refused message) = IsRefused f bytes
+-- the same of the rules that a text spells
+abbrev pub IsAnswerOf : DocumentFormat → List ℕ → DocumentOutcome → Type 0
+IsAnswerOf f text o = (rules : Grammar) × SpellsRules text rules × IsMadeOf f rules o
+
+-- the answer to a request for a document of a file with these bytes
+pub data IsOutcome (f : DocumentFormat) (bytes : List ℕ) : DocumentOutcome → Type 0 where
+  answered : {o : DocumentOutcome} → IsAnswerOf f bytes o → IsOutcome f bytes o
+  refused : (errors : Vec (Error Rule) Global) (message : String Global)
+      → RefusesText bytes (fault.Grammar errors) → IsOutcome f bytes (outcome.Refused message)
+  not_utf8 : (IsUtf8 bytes → ⊥) → IsOutcome f bytes outcome.NotUtf8

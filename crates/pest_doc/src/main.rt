@@ -2,87 +2,100 @@
 #![tactic(auto)]
 
 mod arguments;
+mod messages;
 mod run;
 
 use arguments::{command, format_of};
-use run::{DocumentOutcome, MEMORY, PRINTED, REFUSED, Request, UNREADABLE, UNWRITABLE, outcome_of};
+use messages::{NO_DIAGRAM, cannot_read, cannot_write, is_not_utf8};
+use run::{DocumentOutcome, Request, outcome_of};
 use std::alloc::AllocError;
-use std::io::{self, Read, Write};
+use std::io::{self, Write};
 use std::process::ExitCode;
 use std::{env, fs};
+use tool_support::input::read_input;
+use tool_support::status::Status;
 
-/// Reads the file of a name, or standard input for `-`.
-fn read(rt: &HostRuntime, name: &str) -> io::Result<Vec<u8>> {
-    let mut bytes = Vec::new(rt.alloc());
-    if name == "-" {
-        rt.stdin().read_to_end(&mut bytes)?;
-    } else {
-        fs::File::open(rt, name)?.read_to_end(&mut bytes)?;
+/// Writes a text to the file of a name, or to standard output where none is given.
+fn write(rt: &HostRuntime, text: &str, out: Option<&str>) -> io::Result<()> {
+    match out {
+        Some(name) => fs::File::create(rt, name)?.write_all(text.as_bytes()),
+        None => {
+            let mut stdout = rt.stdout();
+            stdout.write_all(text.as_bytes())?;
+            stdout.flush()
+        }
     }
-    Ok(bytes)
 }
 
-/// Writes a file.
-fn write(rt: &HostRuntime, name: &str, text: &str) -> io::Result<()> {
-    let mut file = fs::File::create(rt, name)?;
-    file.write_all(text.as_bytes())
+/// Writes a message to standard error, and returns a status.
+fn report(rt: &HostRuntime, message: &str, status: Status) -> Status {
+    let _ = rt.stderr().write_all(message.as_bytes());
+    status
 }
 
 /// Prints a document to standard output, or to the file of a name, and returns the status.
-fn print(rt: &HostRuntime, request: Request<'_>, out: Option<&str>) -> Result<u8, AllocError> {
-    let bytes = match read(rt, request.name) {
+fn print(rt: &HostRuntime, request: Request<'_>, out: Option<&str>) -> Result<Status, AllocError> {
+    let alloc = rt.alloc();
+    let bytes = match read_input(rt, request.name) {
         Ok(bytes) => bytes,
         Err(error) => {
-            let _ = eprintln!(rt; "pest-doc: cannot read {}: {error}", request.name);
-            return Ok(UNREADABLE);
+            let message = cannot_read(alloc, request.name, &error)?;
+            return Ok(report(rt, message.as_str(), Status::Unreadable));
         }
     };
-    match outcome_of(rt.alloc(), &bytes, request)? {
-        DocumentOutcome::Refused(why) => {
-            let _ = eprintln!(rt; "pest-doc: {}: {why}", request.name);
-            Ok(REFUSED)
+    match outcome_of(alloc, &bytes, request)? {
+        DocumentOutcome::Document(document) => deliver(rt, document.as_str(), out),
+        DocumentOutcome::Refused(message) => Ok(report(rt, message.as_str(), Status::Found)),
+        DocumentOutcome::NotUtf8 => {
+            let message = is_not_utf8(alloc, request.name)?;
+            Ok(report(rt, message.as_str(), Status::Unreadable))
         }
-        DocumentOutcome::Document(document) => Ok(deliver(rt, document.as_str(), out)),
     }
 }
 
 /// Writes a document to standard output, or to the file of a name, and returns the status.
-fn deliver(rt: &HostRuntime, document: &str, out: Option<&str>) -> u8 {
-    let written = match out {
-        Some(file) => write(rt, file, document),
-        None => rt.stdout().write_all(document.as_bytes()),
-    };
-    match written {
-        Ok(()) => PRINTED,
-        Err(_) => UNWRITABLE,
+fn deliver(rt: &HostRuntime, document: &str, out: Option<&str>) -> Result<Status, AllocError> {
+    match write(rt, document, out) {
+        Ok(()) => Ok(Status::Done),
+        Err(error) => {
+            let name = out.unwrap_or("standard output");
+            let message = cannot_write(rt.alloc(), name, &error)?;
+            Ok(report(rt, message.as_str(), Status::Unwritable))
+        }
     }
 }
 
 /// Runs the program for the words of the command line, and returns the status.
-fn answer(rt: &HostRuntime) -> Result<u8, clap::Error> {
+fn answer(rt: &HostRuntime) -> Result<Status, clap::Error> {
     let alloc = rt.alloc();
     let Ok(words) = env::args(rt) else {
-        return Ok(UNREADABLE);
+        let message = "cannot read the command line: it is not UTF-8\n";
+        return Ok(report(rt, message, Status::Unreadable));
     };
     let words: Vec<String> = words.collect(alloc)?;
     let matches = match command(alloc)?.try_get_matches_from(words.as_slice()) {
         Ok(matches) => matches,
         Err(error) => {
             let _ = error.print(rt);
-            return Ok(if error.use_stderr() { UNREADABLE } else { 0 });
+            return Ok(if error.use_stderr() {
+                Status::Unreadable
+            } else {
+                Status::Done
+            });
         }
     };
-    let request = Request {
-        name: matches.get_str("GRAMMAR").unwrap_or("-"),
-        format: format_of(&matches),
-        rule: matches.get_str("rule"),
+    let Some(format) = format_of(&matches) else {
+        return Ok(report(rt, NO_DIAGRAM, Status::Unreadable));
     };
+    let name = matches.get_str("GRAMMAR").unwrap_or("-");
+    let request = Request { name, format };
     Ok(print(rt, request, matches.get_str("out"))?)
 }
 
 fn main(rt: HostRuntime) -> ExitCode {
-    match answer(&rt) {
-        Ok(status) => ExitCode::from(status),
-        Err(_) => ExitCode::from(MEMORY),
-    }
+    let status = match answer(&rt) {
+        Ok(status) => status,
+        Err(_) => report(&rt, "out of memory\n", Status::OutOfMemory),
+    };
+    ExitCode::from(status.code())
 }

@@ -1,37 +1,23 @@
 //! From the bytes of a grammar to a document, or to the reason why there is none.
-ghost use Rattle.std.specs.Prelude.{◌≡◌, IfErr, IfNone, IfOk, IfSome};
+ghost use Rattle.std.specs.Prelude.{IfErr, IfOk};
 ghost use Rattle.meta_ast.specs.Ast.{rules_of};
-ghost use Rattle.pest_doc.specs.Outcomes.{IsDocument, IsOutcome, RefusesText, SpellsRules};
-ghost use Rattle.pest_doc.specs.declared.arguments.DocumentFormat.TheVariants.{Svg};
+ghost use Rattle.pest_doc.specs.Outcomes.{IsAnswerOf, IsMadeOf, IsOutcome, RefusesText, SpellsRules};
 
 use crate::arguments::DocumentFormat;
+use crate::messages::{has_no_rule, refusal_message};
 use meta_base::grammar::Rule;
-use meta_base::runtime::{Error, Fault};
+use meta_base::runtime::Fault;
 use meta_doc::{GrammarDoc, ebnf_text, html_page, markdown_page, read_grammar, svg_diagram};
-use meta_markup::push_visible;
 use meta_names::validate_pairs;
 use meta_syntax::grammar::PestParser;
 use std::alloc::{AllocError, Global};
-
-/// The document was printed.
-pub const PRINTED: u8 = 0;
-/// The grammar is refused, or has no such rule.
-pub const REFUSED: u8 = 1;
-/// An allocation failed.
-pub const MEMORY: u8 = 2;
-/// A file or the command line can't be read.
-pub const UNREADABLE: u8 = 3;
-/// A file or standard output can't be written.
-pub const UNWRITABLE: u8 = 4;
 
 /// A request for a document.
 #[derive(Clone, Copy)]
 pub struct Request<'a> {
     /// The name of the grammar's file.
     pub name: &'a str,
-    pub format: DocumentFormat,
-    /// The name of the rule of which a diagram is asked for; the first one if there is none.
-    pub rule: Option<&'a str>,
+    pub format: DocumentFormat<'a>,
 }
 
 /// The answer to a request.
@@ -39,12 +25,14 @@ pub struct Request<'a> {
 pub enum DocumentOutcome {
     /// A document.
     Document(String),
-    /// The reason why there is none, for a terminal.
+    /// The message that there is none, for a terminal.
     Refused(String),
+    /// The grammar is not UTF-8.
+    NotUtf8,
 }
 
-/// Returns the document of a grammar's bytes, or the reason why there is none: they are not UTF-8, the
-/// grammar is refused, or it has no such rule. The only error is an allocation failure.
+/// Returns the document of a grammar's bytes, or why there is none: they are not UTF-8, the grammar is
+/// refused, or it has no such rule. The only error is an allocation failure.
 pub fn outcome_of(
     alloc: Global,
     bytes: &[u8],
@@ -53,43 +41,52 @@ pub fn outcome_of(
     ensures { IfOk result (IsOutcome request.entry.format bytes.now) }
 {
     let Ok(text) = str::from_utf8(bytes) else {
-        let message = String::from_str(alloc, "the grammar is not UTF-8")?;
-        return Ok(DocumentOutcome::Refused(message));
+        return Ok(DocumentOutcome::NotUtf8);
     };
-    let title = file_name(request.name);
-    match document_of(alloc, title, text, request.format, request.rule) {
-        Ok(Some(document)) => Ok(DocumentOutcome::Document(document)),
-        Ok(None) => {
-            let message = String::from_str(alloc, "the grammar has no such rule")?;
-            Ok(DocumentOutcome::Refused(message))
-        }
+    match answer_to(alloc, text, request) {
+        Ok(outcome) => Ok(outcome),
         Err(Fault::Grammar(errors)) => {
-            let message = messages(alloc, &errors)?;
+            let message = refusal_message(alloc, request.name, text, &errors)?;
             Ok(DocumentOutcome::Refused(message))
         }
         Err(Fault::Memory(error)) => Err(error),
     }
 }
 
-/// The document of a grammar's text, under a title; `None` where the grammar has no such rule. Refused as by
+/// The document of a grammar's text, or the message that the grammar has no such rule. Refused as by
 /// `read_named_grammar`.
-fn document_of(
-    alloc: Global,
-    title: &str,
-    text: &str,
-    format: DocumentFormat,
-    rule: Option<&str>,
-) -> Result<Option<String>, Fault>
-    ensures document { IfOk result (λ document. IfSome document (IsDocument format title.now text.now)) }
-    ensures no_rule { IfOk result (λ document. IfNone document (format ≡ Svg)) }
+fn answer_to(alloc: Global, text: &str, request: Request<'_>) -> Result<DocumentOutcome, Fault>
+    ensures answer { IfOk result (IsAnswerOf request.entry.format text.now) }
     ensures refused { IfErr result (RefusesText text.now) }
 {
     let doc = read_named_grammar(alloc, text)?;
-    match format {
-        DocumentFormat::Html => Ok(Some(html_page(alloc, title, &doc)?)),
-        DocumentFormat::Markdown => Ok(Some(markdown_page(alloc, title, &doc)?)),
-        DocumentFormat::Ebnf => Ok(Some(ebnf_text(alloc, &doc)?)),
-        DocumentFormat::Svg => Ok(svg_diagram(alloc, &doc, rule)?),
+    Ok(answer_of(alloc, &doc, request)?)
+}
+
+/// The document of a grammar, or the message that the grammar has no such rule. The only error is an
+/// allocation failure.
+fn answer_of(
+    alloc: Global,
+    doc: &GrammarDoc<'_>,
+    request: Request<'_>,
+) -> Result<DocumentOutcome, AllocError>
+    ensures { IfOk result (IsMadeOf request.entry.format (rules_of doc.now.rules.value.items)) }
+{
+    let title = file_name(request.name);
+    match request.format {
+        DocumentFormat::Html => Ok(DocumentOutcome::Document(html_page(alloc, title, doc)?)),
+        DocumentFormat::Markdown => Ok(DocumentOutcome::Document(markdown_page(
+            alloc, title, doc,
+        )?)),
+        DocumentFormat::Ebnf => Ok(DocumentOutcome::Document(ebnf_text(alloc, doc)?)),
+        DocumentFormat::Svg(rule) => match svg_diagram(alloc, doc, rule)? {
+            Some(diagram) => Ok(DocumentOutcome::Document(diagram)),
+            None => {
+                let names = doc.names(alloc)?;
+                let message = has_no_rule(alloc, request.name, rule, &names)?;
+                Ok(DocumentOutcome::Refused(message))
+            }
+        },
     }
 }
 
@@ -113,14 +110,4 @@ fn file_name(path: &str) -> &str {
         Some((_, name)) => name,
         None => path,
     }
-}
-
-/// Errors as they are printed, without characters that a terminal obeys.
-fn messages(alloc: Global, errors: &[Error<Rule>]) -> Result<String, AllocError> {
-    let mut text = String::from_str(alloc, "grammar error")?;
-    for error in errors {
-        let message = format!(in alloc; "\n\n{error}")?;
-        push_visible(message.as_str(), &mut text)?;
-    }
-    Ok(text)
 }

@@ -6,7 +6,6 @@ mod diff;
 mod messages;
 mod outcomes;
 mod processing;
-mod replacing;
 mod run;
 
 use arguments::{command, delivery_of, options_of};

@@ -4,12 +4,12 @@ ghost use Rattle.std.specs.Prelude.{◌≡◌};
 use crate::arguments::{Delivery, Target};
 use crate::messages::{cannot_read, cannot_write, is_not_utf8};
 use crate::processing::{Processed, TextFile, process};
-use crate::replacing::replace;
 use meta_format::Options;
 use std::alloc::AllocError;
 use std::io::Write;
 use tool_support::input::read_input;
 use tool_support::output::Output;
+use tool_support::replacement::replace;
 use tool_support::status::Status;
 
 /// Formats the files of these names, `-` being standard input, and returns the status with the highest

@@ -28,7 +28,7 @@ pub struct Settings<'a> {
 /// The exit statuses, as `--help` shows them.
 const STATUSES: &str =
     "status: 0 nothing found, 1 errors (or warnings that are denied), 2 out of memory, \
-     3 a file or the command line can't be read, 4 output refused";
+     3 a file or the command line can't be read, 4 a file or standard output can't be written";
 
 /// The arguments that the program takes.
 pub fn command<'a>(alloc: Global) -> Result<Command<'a>, AllocError> {
@@ -44,6 +44,11 @@ pub fn command<'a>(alloc: Global) -> Result<Command<'a>, AllocError> {
         .arg(format_argument(alloc))?
         .arg(colour_argument(alloc))?
         .arg(flag(alloc, "deny-warnings", "Let warnings end with status 1"))?
+        .arg(flag(
+            alloc,
+            "fix",
+            "Fix syntax errors whose help shows how, replace the files, and report the rest",
+        ))?
         .arg(start_argument(alloc))?
         .arg(explain_argument(alloc))?
         .arg(files)

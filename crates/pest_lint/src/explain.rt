@@ -1,4 +1,4 @@
-//! Pages that explain the codes of diagnostics.
+//! Pages of codes.
 use meta_diagnostics::Code;
 
 /// The page of a code: when it is reported, an example, and how to mend it.

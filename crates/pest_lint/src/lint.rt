@@ -1,4 +1,4 @@
-//! Diagnosing files, and printing what is found.
+//! Diagnosing files.
 ghost use Rattle.std.specs.Prelude.{◌≡◌, ◌≢◌, ◌≤◌, ◌⊎◌, ◌↔◌, ℕ, List, All, IfSome, IsSome, true};
 ghost use Rattle.std.specs.Io.KnownBytes.{Appends};
 ghost use Rattle.std.specs.List.{list_any};
@@ -23,7 +23,7 @@ pub const FOUND: u8 = 1;
 pub const MEMORY: u8 = 2;
 /// A file can't be read.
 pub const UNREADABLE: u8 = 3;
-/// Standard output refused a write.
+/// Standard output refused a write, or a file can't be replaced.
 pub const UNWRITABLE: u8 = 4;
 
 /// A file: its name, its bytes, and why they can't be read, if so.

@@ -7,6 +7,7 @@ ghost use Rattle.pest_lint.specs.Shows.{GainsIn, IsClean};
 
 mod arguments;
 mod explain;
+mod fixes;
 mod lint;
 mod log;
 mod sources;
@@ -14,6 +15,7 @@ mod sources;
 use arguments::{Format, Settings, command, settings_of};
 use clap::ArgMatches;
 use explain::explanation;
+use fixes::fix_files;
 use lint::{CLEAN, MEMORY, Source, UNREADABLE, UNWRITABLE, print_files};
 use log::log_files;
 use meta_diagnostics::Code;
@@ -89,8 +91,13 @@ fn run(rt: &HostRuntime, matches: &ArgMatches<'_>) -> Result<u8, AllocError> {
         return Ok(UNREADABLE);
     }
     let settings = settings_of(matches, has_colour(rt, matches.get_str("color")));
-    let sources = read_sources(rt, names)?;
-    Ok(lint_files(rt, &sources, settings))
+    let mut sources = read_sources(rt, names)?;
+    let fixed = if matches.get_flag("fix") {
+        fix_files(rt, &mut sources)?
+    } else {
+        CLEAN
+    };
+    Ok(fixed.max(lint_files(rt, &sources, settings)))
 }
 
 /// The status for the words of the command line.

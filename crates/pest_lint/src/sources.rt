@@ -2,7 +2,8 @@
 use crate::lint::Source;
 use std::alloc::AllocError;
 use std::fs;
-use std::io::Read;
+use std::io::{self, ErrorKind};
+use tool_support::input::read_input;
 
 /// The files of these names: of a folder all below it whose names end with `.pest`, in order.
 pub fn read_sources(rt: &HostRuntime, names: &[&str]) -> Result<Vec<Source>, AllocError> {
@@ -25,24 +26,33 @@ fn is_folder(rt: &HostRuntime, name: &str) -> bool {
     }
 }
 
-/// The bytes of the file of a name, or of standard input for `-`; or why they can't be read.
+/// The file of a name, or standard input for `-`.
 fn read_source(rt: &HostRuntime, name: &str) -> Result<Source, AllocError> {
-    let alloc = rt.alloc();
-    let mut bytes = Vec::new(alloc);
-    let read = if name == "-" {
-        rt.stdin().read_to_end(&mut bytes)
-    } else {
-        fs::File::open(rt, name).and_then(|mut file| file.read_to_end(&mut bytes))
-    };
-    let why = match read {
-        Ok(_) => None,
-        Err(error) => Some(format!(in alloc; "{error}")?),
-    };
-    let name = String::from_str(alloc, name)?;
-    Ok(Source { name, bytes, why })
+    match read_input(rt, name) {
+        Ok(bytes) => Ok(Source {
+            name: String::from_str(rt.alloc(), name)?,
+            bytes,
+            why: None,
+        }),
+        Err(error) => unread(rt, name, &error),
+    }
 }
 
-/// Adds the grammars of a folder and of those below it.
+/// A file or a folder that can't be read, for an error.
+fn unread(rt: &HostRuntime, name: &str, error: &io::Error) -> Result<Source, AllocError> {
+    let alloc = rt.alloc();
+    let why = match error.kind() {
+        ErrorKind::InvalidFilename => String::from_str(alloc, "a name in it is not UTF-8")?,
+        _ => format!(in alloc; "{error}")?,
+    };
+    Ok(Source {
+        name: String::from_str(alloc, name)?,
+        bytes: Vec::new(alloc),
+        why: Some(why),
+    })
+}
+
+/// Adds the grammars of a folder and of those below it, and the folders that can't be read.
 fn read_folder(rt: &HostRuntime, name: &str, sources: &mut Vec<Source>) -> Result<(), AllocError> {
     let alloc = rt.alloc();
     let mut folders = Vec::new(alloc);
@@ -52,7 +62,9 @@ fn read_folder(rt: &HostRuntime, name: &str, sources: &mut Vec<Source>) -> Resul
         let Some(folder) = folders.pop() else {
             break;
         };
-        list_folder(rt, folder.as_str(), &mut folders, &mut files)?;
+        if let Err(error) = list_folder(rt, folder.as_str(), &mut folders, &mut files) {
+            sources.push(unread(rt, folder.as_str(), &error)?)?;
+        }
     }
     files.sort()?;
     for file in &files {
@@ -61,19 +73,22 @@ fn read_folder(rt: &HostRuntime, name: &str, sources: &mut Vec<Source>) -> Resul
     Ok(())
 }
 
-/// Adds the folders in a folder, and its grammars.
+/// Adds the folders in a folder, and its grammars. The error is that of the last entry that can't be read, or
+/// an allocation failure.
 fn list_folder(
     rt: &HostRuntime,
     folder: &str,
     folders: &mut Vec<String>,
     files: &mut Vec<String>,
-) -> Result<(), AllocError> {
-    let Ok(entries) = fs::read_dir(rt, folder) else {
-        return Ok(());
-    };
-    for entry in entries {
-        let Ok(entry) = entry else {
-            continue;
+) -> io::Result<()> {
+    let mut outcome = Ok(());
+    for entry in fs::read_dir(rt, folder)? {
+        let entry = match entry {
+            Ok(entry) => entry,
+            Err(error) => {
+                outcome = Err(error);
+                continue;
+            }
         };
         let path = String::from_str(rt.alloc(), entry.path().as_str())?;
         match entry.file_type() {
@@ -82,5 +97,5 @@ fn list_folder(
             _ => {}
         }
     }
-    Ok(())
+    outcome
 }

@@ -1,9 +1,10 @@
 //! The command line.
-ghost use Rattle.std.specs.Prelude.{◌≡◌, Some, codes};
-ghost use Rattle.clap.specs.Matches.{first_value, found_of};
+ghost use Rattle.std.specs.Prelude.{◌≡◌, None, Some, codes};
+ghost use Rattle.clap.specs.Matches.{first_value, found_of, one_text};
 
 use clap::{Arg, ArgAction, ArgMatches, Command};
 use std::alloc::{AllocError, Global};
+use tool_support::version::VERSION;
 
 /// The format of printed trees.
 #[derive(Clone, Copy)]
@@ -46,7 +47,7 @@ pub fn command<'a>(alloc: Global) -> Result<Command<'a>, AllocError> {
         .default_value("-")
         .help("The file of the text; - is standard input");
     Command::new(alloc, "pest-run")
-        .version("2.9.5")
+        .version(VERSION)
         .about("Matches a text by a rule of a pest grammar, and prints the trees")
         .after_help(
             "status: 0 the trees were printed, 1 the grammar is refused, has no such rule, or does not \
@@ -79,7 +80,12 @@ pub fn format_of(matches: &ArgMatches<'_>) -> Format
 }
 
 /// Returns the form of the rules that a command line asks for.
-pub fn form_of(matches: &ArgMatches<'_>) -> RuleForm {
+pub fn form_of(matches: &ArgMatches<'_>) -> RuleForm
+    ensures optimized { one_text (found_of matches.now) (codes "optimized") ≡ Some (codes "true")
+        → result ≡ RuleForm.Optimized }
+    ensures written { one_text (found_of matches.now) (codes "optimized") ≡ None
+        → result ≡ RuleForm.Written }
+{
     if matches.get_flag("optimized") {
         RuleForm::Optimized
     } else {

@@ -10,26 +10,21 @@ mod outcomes;
 mod run;
 
 use arguments::{command, form_of, format_of};
-use run::{MEMORY, Request, Source, UNREADABLE, run_files};
+use run::{Request, Source, run_files};
 use std::alloc::AllocError;
-use std::io::Read;
+use std::env;
 use std::process::ExitCode;
-use std::{env, fs};
+use tool_support::input::read_input;
 use tool_support::output::Output;
+use tool_support::status::Status;
 
 /// Reads the file of that name, or standard input for `-`. The source has the bytes, or the reason why they
 /// can't be read.
 fn source<'a>(rt: &HostRuntime, name: &'a str) -> Result<Source<'a>, AllocError> {
     let alloc = rt.alloc();
-    let mut bytes = Vec::new(alloc);
-    let read = if name == "-" {
-        rt.stdin().read_to_end(&mut bytes)
-    } else {
-        fs::File::open(rt, name).and_then(|mut file| file.read_to_end(&mut bytes))
-    };
-    let why = match read {
-        Ok(_) => None,
-        Err(error) => Some(format!(in alloc; "{error}")?),
+    let (bytes, why) = match read_input(rt, name) {
+        Ok(bytes) => (bytes, None),
+        Err(error) => (Vec::new(alloc), Some(format!(in alloc; "{error}")?)),
     };
     Ok(Source { name, bytes, why })
 }
@@ -58,14 +53,19 @@ fn match_files(
 fn answer(rt: &HostRuntime) -> Result<u8, clap::Error> {
     let alloc = rt.alloc();
     let Ok(words) = env::args(rt) else {
-        return Ok(UNREADABLE);
+        return Ok(Status::Unreadable.code());
     };
     let words: Vec<String> = words.collect(alloc)?;
     let matches = match command(alloc)?.try_get_matches_from(words.as_slice()) {
         Ok(matches) => matches,
         Err(error) => {
             let _ = error.print(rt);
-            return Ok(if error.use_stderr() { UNREADABLE } else { 0 });
+            let status = if error.use_stderr() {
+                Status::Unreadable
+            } else {
+                Status::Done
+            };
+            return Ok(status.code());
         }
     };
     let grammar = source(rt, matches.get_str("GRAMMAR").unwrap_or(""))?;
@@ -81,6 +81,6 @@ fn answer(rt: &HostRuntime) -> Result<u8, clap::Error> {
 fn main(rt: HostRuntime) -> ExitCode {
     match answer(&rt) {
         Ok(status) => ExitCode::from(status),
-        Err(_) => ExitCode::from(MEMORY),
+        Err(_) => ExitCode::from(Status::OutOfMemory.code()),
     }
 }

@@ -11,6 +11,7 @@ ghost use Rattle.pest_run.specs.Outcomes.{IsFailureReport, IsOutcome, failure_te
 
 use crate::arguments::Format;
 use crate::messages::failure_message;
+use matcher_engine::matcher::Matcher;
 use matcher_program::compile::Unfit;
 use matcher_support::json::tree_json;
 use matcher_support::lines::tree_lines;
@@ -20,7 +21,7 @@ use meta_base::grammar::Rule;
 use meta_base::runtime::{Error, ErrorVariant, Fault, Position};
 use meta_matcher::entries::Entry;
 use meta_matcher::machine::Stop;
-use meta_matcher::matcher::{Found, Matcher, Refusal};
+use meta_matcher::matcher::{Found, Refusal};
 use pest_meta::optimizer::OptimizedRule;
 use std::alloc::{AllocError, Global};
 
@@ -69,7 +70,10 @@ pub fn outcome_of(
         },
         Err(Refusal::UnknownRule(_)) => Outcome::NoRule,
         Err(Refusal::NoMatch(place)) => {
-            match matcher.expected_at(alloc, rule, text, place, STEPS) {
+            match matcher
+                .interpreter
+                .expected_at(alloc, rule, text, place, STEPS)
+            {
                 Ok(names) => failed_outcome(alloc, text, place, &names),
                 Err(Refusal::UnknownRule(_)) => Outcome::NoRule,
                 Err(Refusal::NoMatch(_)) => unreachable!(),

@@ -4,6 +4,7 @@ ghost use Rattle.meta_ast.specs.Optimized.{optimized_rules_of};
 ghost use Rattle.pest_meta.specs.Spelling.{IsRefusal};
 ghost use Rattle.pest_run.specs.Ends.{EndsAs, IsStatus};
 ghost use Rattle.pest_run.specs.Written.{AreRun, IsReadable, PrintsTrees, ReportsReason, ReportsStop, WritesLine};
+ghost use Rattle.tool_support.specs.Statuses.{status_code};
 
 use crate::arguments::{Format, RuleForm};
 use crate::outcomes::{Outcome, outcome_of};
@@ -13,19 +14,7 @@ use pest_meta::{Report, parse_and_optimize, parse_as_written, unwrap_or_report};
 use std::alloc::Global;
 use std::io::Write;
 use tool_support::output::{Output, RefusedWrite};
-
-/// The trees were printed.
-const PRINTED: u8 = 0;
-/// The grammar is refused, has no such rule, or does not match the text.
-const REFUSED: u8 = 1;
-/// An allocation failed.
-pub const MEMORY: u8 = 2;
-/// A file can't be read.
-pub const UNREADABLE: u8 = 3;
-/// Standard output refused a write.
-const UNWRITABLE: u8 = 4;
-/// The run was stopped.
-const STOPPED: u8 = 5;
+use tool_support::status::Status;
 
 /// A file: its name, its bytes, and the reason if they can't be read.
 #[derive(Drop)]
@@ -146,8 +135,8 @@ pub fn run<W: Write, E: Write>(
             release(rules);
             print_outcome(outcome, request.rule, out, err)
         }
-        Err(Report::Memory) => exit_with(err, "out of memory", MEMORY),
-        Err(Report::Text(report)) => exit_with(err, report.as_str(), REFUSED),
+        Err(Report::Memory) => exit_with(err, "out of memory", Status::OutOfMemory),
+        Err(Report::Text(report)) => exit_with(err, report.as_str(), Status::Found),
     }
 }
 
@@ -188,7 +177,7 @@ fn unreadable<E: Write>(source: &Source<'_>, err: &mut Output<E>) -> RunExit
     };
     let write_result = write_unread(err, source.name, why);
     RunExit {
-        status: UNREADABLE,
+        status: Status::Unreadable.code(),
         write_result,
     }
 }
@@ -231,21 +220,25 @@ fn print_outcome<W: Write, E: Write>(
 {
     match outcome {
         Outcome::Shown(lines) => exit_after_write(err, out.write_text(lines.as_str())),
-        Outcome::Failed(report) => exit_with(err, report.as_str(), REFUSED),
+        Outcome::Failed(report) => exit_with(err, report.as_str(), Status::Found),
         Outcome::NoRule => no_rule(err, rule),
-        Outcome::OutOfSteps => exit_with(err, "the text takes too many steps", STOPPED),
-        Outcome::EmptyStack => exit_with(err, "PEEK or POP found nothing on the stack", STOPPED),
+        Outcome::OutOfSteps => exit_with(err, "the text takes too many steps", Status::Stopped),
+        Outcome::EmptyStack => exit_with(
+            err,
+            "PEEK or POP found nothing on the stack",
+            Status::Stopped,
+        ),
         Outcome::UnknownName => exit_with(
             err,
             "the grammar calls a rule that is not known",
-            STOPPED,
+            Status::Stopped,
         ),
         Outcome::Bound => exit_with(
             err,
             "a range of the grammar has a bound that is no character",
-            STOPPED,
+            Status::Stopped,
         ),
-        Outcome::Memory => exit_with(err, "out of memory", MEMORY),
+        Outcome::Memory => exit_with(err, "out of memory", Status::OutOfMemory),
     }
 }
 
@@ -263,10 +256,10 @@ fn exit_after_write<E: Write>(err: &mut Output<E>, outcome: Result<(), RefusedWr
 {
     match outcome {
         Ok(()) => RunExit {
-            status: PRINTED,
+            status: Status::Done.code(),
             write_result: Ok(()),
         },
-        Err(_) => exit_with(err, "cannot write", UNWRITABLE),
+        Err(_) => exit_with(err, "cannot write", Status::Unwritable),
     }
 }
 
@@ -280,14 +273,14 @@ fn no_rule<E: Write>(err: &mut Output<E>, rule: &str) -> RunExit
 {
     let write_result = err.write_line(&["the grammar has no rule ", rule]);
     RunExit {
-        status: REFUSED,
+        status: Status::Found.code(),
         write_result,
     }
 }
 
 /// Ends a run with this status, after writing a message and a line break to `err`.
-fn exit_with<E: Write>(err: &mut Output<E>, message: &str, status: u8) -> RunExit
-    ensures status { result.status ≡ status }
+fn exit_with<E: Write>(err: &mut Output<E>, message: &str, status: Status) -> RunExit
+    ensures status { result.status ≡ status_code status }
     ensures tells { WritesLine message.now result.write_result
         (E.contents err.old.writer) (E.contents err.new.writer) }
     ensures told { IsOk result.write_result → err.new.refused ≡ err.old.refused }
@@ -295,7 +288,7 @@ fn exit_with<E: Write>(err: &mut Output<E>, message: &str, status: u8) -> RunExi
 {
     let write_result = err.write_line(&[message]);
     RunExit {
-        status,
+        status: status.code(),
         write_result,
     }
 }

@@ -1,16 +1,11 @@
-//! From a text to its rules.
+//! What a reader says of a text.
 ghost use Rattle.std.specs.Prelude.{IfOk, MatchResult, alloc_error, string_bytes, ◌≡◌};
-ghost use Rattle.meta_ast.specs.Ast.{rules_of};
 ghost use Rattle.meta_reader.specs.ShownNames.{shown_name};
-ghost use Rattle.meta_spanned.specs.Erasure.{rules_without_spans};
-ghost use Rattle.meta_spanned.specs.Nodes.{rule_views};
 ghost use Rattle.meta_syntax.specs.ExpectedRules.{AreExpected, ExpectsNothing};
 
-use meta_ast::ast::Rule as PlainRule;
 use meta_base::grammar::Rule;
 use meta_base::runtime::Fault;
 use meta_reader::rules::PestParser;
-use meta_spanned::ParserRule;
 use std::alloc::{AllocError, Global};
 
 /// Returns the rules that are expected where a text fails.
@@ -28,12 +23,4 @@ pub fn rename_meta_rule(alloc: Global, rule: &Rule) -> Result<String, Fault>
         (λ fault. fault ≡ Fault.Memory alloc_error) }
 {
     meta_reader::rules::rename_meta_rule(alloc, rule)
-}
-
-/// Returns rules without their spans.
-pub fn erase_spans(alloc: Global, rules: Vec<ParserRule<'_>>) -> Result<Vec<PlainRule>, AllocError>
-    ensures { IfOk result
-        (λ erased. rules_of erased.items ≡ rules_without_spans (rule_views rules.entry.items)) }
-{
-    meta_spanned::erase_spans(alloc, rules)
 }

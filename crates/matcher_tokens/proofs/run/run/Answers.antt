@@ -10,7 +10,7 @@ use Rattle.matcher_tokens.proofs.run.run.Goals as goal
 
 pub returns-in-Ok-expected_at : goal.returns-in-Ok-expected_at
 returns-in-Ok-expected_at c =
-    let program = c.in-Ok.matcher.program in
+    let program = c.in-Ok.matcher.interpreter.program in
     let refused = rw c.in-Err-NoMatch.field-0-is at c.in-Err-NoMatch.ensures.refused in
     let names = c.in-Ok-expected_at.ensures.expected in
     let told = rw c.deref-in-Ok-expected_at.ensures.value at c.failed_outcome.ensures in
@@ -22,7 +22,7 @@ returns-in-Ok-expected_at c =
 -- a run that was stopped while names were looked for
 pub returns-in-Err-NoMatch : goal.returns-in-Err-NoMatch
 returns-in-Err-NoMatch c =
-    let program = c.in-Ok.matcher.program in
+    let program = c.in-Ok.matcher.interpreter.program in
     let why = c.in-Err-Stopped-expected_at.stop in
     let says = rw c.in-Err-Stopped-expected_at.field-0-is at c.in-Err-Stopped-expected_at.ensures.refused in
     let same : c.stopped_outcome.result ≡ stopped_outcome why = rw c.in-Err-Stopped-expected_at.field-0-is at c.stopped_outcome.ensures in
@@ -33,7 +33,7 @@ returns-in-Err-NoMatch c =
 -- the same of the match
 pub returns : goal.returns
 returns c =
-    let program = c.in-Ok.matcher.program in
+    let program = c.in-Ok.matcher.interpreter.program in
     let why = c.in-Err-Stopped.stop in
     let says = rw c.in-Err-Stopped.field-0-is at c.in-Err-Stopped.ensures.refused in
     let same : c.stopped_outcome-in-Err-Stopped.result ≡ stopped_outcome why = c.stopped_outcome-in-Err-Stopped.ensures in

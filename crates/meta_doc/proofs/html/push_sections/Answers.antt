@@ -1,4 +1,4 @@
-use Rattle.std.proofs.Common.{◌≡◌, ◌<◌, ◌∙◌, ap, arith, get_or, length, string_bytes}
+use Rattle.std.proofs.Common.{◌<◌, ◌∙◌, ap, arith, get_or, length, string_bytes}
 use Rattle.meta_doc.proofs.Gaining.{one_section_more, no_sections_yet, rules_more}
 use Rattle.meta_doc.proofs.html.push_sections.Goals as goal
 

@@ -1,4 +1,4 @@
-use Rattle.std.proofs.Common.{◌≡◌, ◌<◌, ◌∙◌, ap, arith, get_or, length, string_bytes}
+use Rattle.std.proofs.Common.{◌<◌, ◌∙◌, ap, arith, get_or, length, string_bytes}
 use Rattle.meta_doc.proofs.Gaining.{one_markdown_more, no_markdown_yet, rules_more}
 use Rattle.meta_doc.proofs.markdown.push_sections.Goals as goal
 

@@ -1,7 +1,5 @@
-use Rattle.std.proofs.Common.{◌≡◌, [], subst, sym, ◌∙◌}
 use Rattle.std.proofs.lemmas.Result.{err_from_is_err_and}
-use Rattle.meta_names.specs.GrammarNames.{complaints_of}
-use Rattle.pest_doc.specs.Outcomes.{ArePairsOf, flawed, misnamed, no_grammar}
+use Rattle.pest_doc.specs.Outcomes.{flawed, misnamed, no_grammar}
 use Rattle.pest_doc.proofs.SamePairs.{pairs_of_copy}
 use Rattle.pest_doc.proofs.run.read_named_grammar.Goals as goal
 

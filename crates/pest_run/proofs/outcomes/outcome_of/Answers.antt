@@ -9,7 +9,7 @@ use Rattle.pest_run.proofs.outcomes.outcome_of.Goals as goal
 
 pub returns-in-Ok-expected_at : goal.returns-in-Ok-expected_at
 returns-in-Ok-expected_at c =
-    let program = c.in-Ok.matcher.program in
+    let program = c.in-Ok.matcher.interpreter.program in
     let refused = rw c.in-Err-NoMatch.field-0-is at c.in-Err-NoMatch.ensures.refused in
     let names = rw c.in-Err-NoMatch.field-0-is at c.in-Ok-expected_at.ensures.expected in
     let told = rw (c.deref.ensures.value, c.in-Err-NoMatch.field-0-is) at c.failed_outcome.ensures in
@@ -19,7 +19,7 @@ returns-in-Ok-expected_at c =
 
 pub failed_outcome-requires : goal.failed_outcome-requires
 failed_outcome-requires c =
-    let program = c.in-Ok.matcher.program in
+    let program = c.in-Ok.matcher.interpreter.program in
     let refused = rw c.in-Err-NoMatch.field-0-is at c.in-Err-NoMatch.ensures.refused in
     let here = at_character (grammar_of program.rows.items) program.properties.items _ c.args.text.now c.in-Err-NoMatch.place c.utf8.text c.in-Ok.ensures.fits refused in
     rw c.in-Err-NoMatch.field-0-is here
@@ -27,7 +27,7 @@ failed_outcome-requires c =
 -- a run that was stopped while names were looked for
 pub returns-in-Err-NoMatch : goal.returns-in-Err-NoMatch
 returns-in-Err-NoMatch c =
-    let program = c.in-Ok.matcher.program in
+    let program = c.in-Ok.matcher.interpreter.program in
     let why = c.in-Err-Stopped-expected_at.stop in
     let says = rw c.in-Err-Stopped-expected_at.field-0-is at c.in-Err-Stopped-expected_at.ensures.refused in
     let same : c.stopped_outcome.result ≡ stopped_outcome why = rw c.in-Err-Stopped-expected_at.field-0-is at c.stopped_outcome.ensures in
@@ -38,7 +38,7 @@ returns-in-Err-NoMatch c =
 -- the same of the match
 pub returns : goal.returns
 returns c =
-    let program = c.in-Ok.matcher.program in
+    let program = c.in-Ok.matcher.interpreter.program in
     let why = c.in-Err-Stopped.stop in
     let says = rw c.in-Err-Stopped.field-0-is at c.in-Err-Stopped.ensures.refused in
     let same : c.stopped_outcome-in-Err-Stopped.result ≡ stopped_outcome why = rw c.in-Err-Stopped.field-0-is at c.stopped_outcome-in-Err-Stopped.ensures in

@@ -40,8 +40,8 @@ returns-in-NegPred-clause-lays c =
 
 pub returns-in-Seq-clause-lays : goal.returns-in-Seq-clause-lays
 returns-in-Seq-clause-lays c =
-    subst (λ x. OnOk c.both.result (LaysAt c.args.program.now c.both.new.self (Run (mode_of c.args.at.mode) (said c.args.program.now x)) c.args.at)) (sym c.in-Seq.is)
-    (subst (λ x. OnOk c.both.result (LaysAt c.args.program.now c.both.new.self (Run (mode_of c.args.at.mode) (Seq (said c.args.program.now c.in-Seq.first.value) (said c.args.program.now x))) c.args.at)) c.deref-in-Seq-2.ensures (subst (λ x. OnOk c.both.result (LaysAt c.args.program.now c.both.new.self (Run (mode_of c.args.at.mode) (Seq (said c.args.program.now x) (said c.args.program.now c.deref-in-Seq-2.result.now))) c.args.at)) c.deref-in-Seq.ensures c.both.ensures.lays))
+    subst (λ x. OnOk c.two.result (LaysAt c.args.program.now c.two.new.self (Run (mode_of c.args.at.mode) (said c.args.program.now x)) c.args.at)) (sym c.in-Seq.is)
+    (subst (λ x. OnOk c.two.result (LaysAt c.args.program.now c.two.new.self (Run (mode_of c.args.at.mode) (Seq (said c.args.program.now c.in-Seq.first.value) (said c.args.program.now x))) c.args.at)) c.deref-in-Seq-2.ensures (subst (λ x. OnOk c.two.result (LaysAt c.args.program.now c.two.new.self (Run (mode_of c.args.at.mode) (Seq (said c.args.program.now x) (said c.args.program.now c.deref-in-Seq-2.result.now))) c.args.at)) c.deref-in-Seq.ensures c.two.ensures.lays))
 
 pub returns-in-Choice-clause-lays : goal.returns-in-Choice-clause-lays
 returns-in-Choice-clause-lays c =
@@ -72,3 +72,7 @@ pub returns-in-Restore-clause-lays : goal.returns-in-Restore-clause-lays
 returns-in-Restore-clause-lays c =
     subst (λ x. OnOk c.restore.result (LaysAt c.args.program.now c.restore.new.self (Run (mode_of c.args.at.mode) (said c.args.program.now x)) c.args.at)) (sym c.in-Restore.is)
     (subst (λ x. OnOk c.restore.result (LaysAt c.args.program.now c.restore.new.self (Run (mode_of c.args.at.mode) (RestoreOnErr (said c.args.program.now x))) c.args.at)) c.deref-in-Restore.ensures c.restore.ensures.lays)
+
+pub returns-in-Skip-clause-lays : goal.returns-in-Skip-clause-lays
+returns-in-Skip-clause-lays c =
+    subst (λ x. OnOk c.search.result (LaysAt c.args.program.now c.search.new.self (Run (mode_of c.args.at.mode) (said c.args.program.now x)) c.args.at)) (sym c.in-Skip.is) c.search.ensures.lays

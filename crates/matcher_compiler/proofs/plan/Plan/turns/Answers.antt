@@ -21,3 +21,8 @@ pub tight_repetition-requires : goal.tight_repetition-requires
 tight_repetition-requires c =
     let t : c.is_tight.result ≡ true = grind (arith, common_steps) in
     record { bound = c.requires.bound; tight = c.is_tight.ensures.tight t c.args.program.now c.requires.ready }
+
+pub tight_turns-requires-clause-tight : goal.tight_turns-requires-clause-tight
+tight_turns-requires-clause-tight c =
+    let t : c.is_tight.result ≡ true = grind (arith, common_steps) in
+    c.is_tight.ensures.tight t c.args.program.now c.requires.ready

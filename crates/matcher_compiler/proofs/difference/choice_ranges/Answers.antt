@@ -1,0 +1,31 @@
+use Rattle.std.proofs.Common.{◌≡◌, ◌∙◌, ap, ap₂, arith, subst, sym, true}
+use Rattle.std.proofs.lemmas.Grind.{common_steps}
+use Rattle.meta_base.specs.Language.Expression.{Choice}
+use Rattle.matcher_compiler.specs.Plans.{IsBoundIn, said}
+use Rattle.matcher_compiler.proofs.Choosing.{IsRest, last_one, no_rest, one_less}
+use Rattle.matcher_compiler.proofs.difference.choice_ranges.Goals as goal
+
+pub alternatives-init : goal.alternatives-init
+alternatives-init c =
+    subst (λ xs. IsRest c.args.program.now c.args.form.now c.args.form.now xs) (sym c.new-ranges.ensures.items) (no_rest c.args.program.now c.args.form.now c.requires.bound)
+
+pub push_set-requires : goal.push_set-requires
+push_set-requires c =
+    let p = c.args.program.now in
+    let b = subst (λ f. IsBoundIn p f) c.in-Choice.is c.alternatives.invariant.bound in
+    record { bound = subst (λ f. IsBoundIn p f) (sym c.deref.ensures) b.1 }
+
+pub alternatives-preserved : goal.alternatives-preserved
+alternatives-preserved c =
+    let p = c.args.program.now in
+    let b = subst (λ f. IsBoundIn p f) c.in-Choice.is c.alternatives.invariant.bound in
+    let t : c.in_ok-push_set.field-0 ≡ true = grind (arith, common_steps) in
+    one_less p c.args.form.now c.alternatives.rest.now c.alternatives.ranges.items c.push_set.new.ranges.items c.alternatives.invariant
+    c.deref-rest.result.now c.deref.result.now (c.in_ok-push_set.ensures t) (subst (λ f. IsBoundIn p f) (sym c.deref-rest.ensures) b.0)
+    (ap (said p) c.in-Choice.is ∙ ap₂ (λ a e. Choice (said p a) (said p e)) (sym c.deref-rest.ensures) (sym c.deref.ensures))
+
+pub returns : goal.returns
+returns c =
+    let t : c.in_ok-push_set-2.field-0 ≡ true = grind (arith, common_steps) in
+    last_one c.args.program.now c.args.form.now c.alternatives.rest.now c.alternatives.ranges.items c.push_set-2.new.ranges.items c.alternatives.invariant
+    (c.in_ok-push_set-2.ensures t)

@@ -1,0 +1,99 @@
+//! Searches for the first of some characters.
+ghost use Rattle.std.specs.Prelude.{◌≡◌, ◌<◌, ◌∷◌, ◌==◌, ℕ, IfOk, IfSome, OnOk, chars, length, map, true};
+ghost use Rattle.meta_ast.specs.Ast.{text_of};
+ghost use Rattle.meta_base.specs.Language.Expression.{Skip};
+ghost use Rattle.meta_base.specs.Language.Matching.{any_begins};
+ghost use Rattle.meta_base.specs.Language.Meaning.{Run};
+ghost use Rattle.meta_base.specs.Language.Text.{Text};
+ghost use Rattle.matcher_code.specs.Reading.{is_covered};
+ghost use Rattle.matcher_compiler.specs.Modes.{mode_of};
+ghost use Rattle.matcher_compiler.specs.Plans.{IsLater, LaysAt};
+
+use crate::difference::{MOST_RANGES, outside_ranges};
+use crate::plan::Plan;
+use crate::points::{NotCompiled, Place};
+use crate::ranges::{push_first, push_range};
+use matcher_code::code::{Op, Ranges};
+use matcher_program::form::Program;
+use std::alloc::{AllocError, Global};
+
+/// Returns whether a text is one character.
+pub(crate) fn is_single(text: &str) -> bool
+    ensures { result ≡ true → (length (chars text.now) == 1) ≡ true }
+{
+    let mut characters = text.chars();
+    match characters.next() {
+        Some(_) => characters.as_str().is_empty(),
+        None => false,
+    }
+}
+
+/// Returns the ranges of texts of one character, or `None` if there is another text.
+fn single_characters(alloc: Global, texts: &Vec<String>) -> Result<Option<Ranges>, AllocError>
+    ensures { IfOk result (λ made. IfSome made (λ ranges. (c : ℕ) (u : Text) → c < 1114112
+        → any_begins (map text_of texts.now.items) (c ∷ u) ≡ is_covered ranges.items c)) }
+{
+    let mut ranges = Vec::new(alloc);
+    for text in texts {
+        if !is_single(text.as_str()) {
+            return Ok(None);
+        }
+        push_first(&mut ranges, text.as_str())?;
+    }
+    Ok(Some(ranges))
+}
+
+/// Returns the ranges of all characters.
+fn all_characters(alloc: Global) -> Result<Ranges, AllocError>
+    ensures { IfOk result (λ ranges. (c : ℕ) → c < 1114112 → is_covered ranges.items c ≡ true) }
+{
+    let mut ranges = Vec::new(alloc);
+    push_range(&mut ranges, 0, 0x10_ffff)?;
+    Ok(ranges)
+}
+
+impl<'p> Plan<'p> {
+    /// Plans a search for the first of the characters in some ranges, which are those of texts.
+    fn search_for(
+        &mut self,
+        alloc: Global,
+        program: &Program,
+        texts: &Vec<String>,
+        others: &Ranges,
+        at: Place,
+    ) -> Result<(), NotCompiled>
+        requires same { (c : ℕ) (u : Text) → c < 1114112
+            → any_begins (map text_of texts.now.items) (c ∷ u) ≡ is_covered others.now.items c }
+        ensures later { OnOk result (IsLater program.now self.old self.new) }
+        ensures lays { OnOk result (LaysAt program.now self.new
+            (Run (mode_of at.mode) (Skip (map text_of texts.now.items))) at) }
+    {
+        if others.len() > MOST_RANGES {
+            return Err(NotCompiled::Unsupported);
+        }
+        let ranges = all_characters(alloc)?;
+        let rest = outside_ranges(alloc, ranges, others)?;
+        let set = self.set(rest)?;
+        self.operation(at.label, Op::All { set, next: at.next })?;
+        Ok(())
+    }
+
+    /// Plans a search for the first of some texts, which are of one character each.
+    pub(crate) fn search(
+        &mut self,
+        alloc: Global,
+        program: &Program,
+        texts: &Vec<String>,
+        at: Place,
+    ) -> Result<(), NotCompiled>
+        ensures later { OnOk result (IsLater program.now self.old self.new) }
+        ensures lays { OnOk result (LaysAt program.now self.new
+            (Run (mode_of at.mode) (Skip (map text_of texts.now.items))) at) }
+    {
+        let made = single_characters(alloc, texts)?;
+        match made {
+            Some(others) => self.search_for(alloc, program, texts, &others, at),
+            None => Err(NotCompiled::Unsupported),
+        }
+    }
+}

@@ -1,0 +1,136 @@
+//! The matcher.
+ghost use Rattle.std.specs.Prelude.{◌≡◌, IfErr, IfOk, IfSome, chars};
+ghost use Rattle.meta_ast.specs.Optimized.{optimized_rules_of};
+ghost use Rattle.matcher_program.specs.Programs.{Fits};
+ghost use Rattle.matcher_program.specs.Refusals.{IsReason};
+
+use crate::entries::entries_of;
+use matcher_code::code::Code;
+use matcher_compiler::compile::compile;
+use matcher_compiler::names::last_index;
+use matcher_compiler::points::NotCompiled;
+use matcher_machine::machine::{Machine, RunEnd};
+use matcher_program::compile::Unfit;
+use matcher_program::properties::Properties;
+use meta_ast::optimized::OptimizedRule;
+use meta_matcher::machine::Stop;
+use meta_matcher::matcher::{Found, Matcher as Interpreter, Refusal};
+use std::alloc::Global;
+
+/// The largest number of rules that are compiled.
+const MOST_RULES: usize = 4096;
+
+/// How many operations of a program are run for each step that is allowed.
+const OPERATIONS: u64 = 4;
+
+/// Rules whose names are resolved, with their program if they are compiled.
+#[derive(Drop)]
+pub struct Matcher {
+    pub interpreter: Interpreter,
+    pub code: Option<Code>,
+}
+
+/// The result of a compiled rule; `None` if the interpreter has to answer.
+type Answer<'a> = Option<Result<Found<'a>, Refusal<'a>>>;
+
+impl Matcher {
+    ghost use Rattle.matcher_compiler.specs.Compiled.{IsCodeOf};
+    ghost use Rattle.meta_matcher.specs.Answers.{IsMatched, IsRefused};
+    ghost use Rattle.matcher_engine.specs.Matchers.{IsAnswer, IsSoundMatcher, grammar_in, properties_in};
+
+    /// Compiles rules, and resolves every name once, to the last rule of that name, or to a builtin if no
+    /// rule has it. Errors: a name in a body that is neither, or a property's that `properties` does not
+    /// know; a bound of a range that is not one character; an allocation failure.
+    pub fn new<P: Properties>(
+        alloc: Global,
+        rules: &[OptimizedRule],
+        properties: &P,
+    ) -> Result<Matcher, Unfit>
+        ensures sound { IfOk result IsSoundMatcher }
+        ensures means { IfOk result (λ matcher. grammar_in matcher ≡ optimized_rules_of rules.now) }
+        ensures fits { IfOk result (λ matcher. Fits (properties_in matcher) P.classes) }
+        ensures refused { IfErr result (IsReason P.knows (optimized_rules_of rules.now)) }
+    {
+        let interpreter = Interpreter::new(alloc, rules, properties)?;
+        match compile(alloc, &interpreter.program) {
+            Ok(code) => Ok(Matcher {
+                interpreter,
+                code: Some(code),
+            }),
+            Err(NotCompiled::Unsupported) => Ok(Matcher {
+                interpreter,
+                code: None,
+            }),
+            Err(NotCompiled::Memory) => Err(Unfit::Memory),
+        }
+    }
+
+    /// Runs a compiled rule.
+    fn run<'a>(
+        &'a self,
+        alloc: Global,
+        code: &Code,
+        rule: &'a str,
+        text: &'a str,
+        steps: u64,
+    ) -> Answer<'a>
+        requires sound { IsSoundMatcher self.now }
+        requires code { IsCodeOf self.now.interpreter.program code.now }
+        ensures { IfSome result (IsAnswer self.entry.now (chars rule.entry.now) text.entry.now steps) }
+    {
+        let rows = self.interpreter.program.rows.as_slice();
+        let Some(number) = last_index(rows, rule) else {
+            return Some(Err(Refusal::UnknownRule(rule)));
+        };
+        if number >= MOST_RULES {
+            return None;
+        }
+        let mut machine = Machine::new(alloc);
+        let most = steps.saturating_mul(OPERATIONS);
+        match machine.run(code, text, number as u32 + 3, most) {
+            Ok(RunEnd::Found(end)) => match entries_of(alloc, rows, &machine.trees) {
+                Ok(Some(entries)) => Some(Ok(Found { entries, end })),
+                Ok(None) => None,
+                Err(_) => Some(Err(Refusal::Stopped(Stop::Memory))),
+            },
+            Ok(RunEnd::Failed) => Some(Err(Refusal::NoMatch(machine.furthest))),
+            Ok(RunEnd::OutOfSteps) => {
+                if most / OPERATIONS == steps {
+                    Some(Err(Refusal::Stopped(Stop::OutOfSteps)))
+                } else {
+                    None
+                }
+            }
+            Ok(RunEnd::Stuck) => None,
+            Err(_) => Some(Err(Refusal::Stopped(Stop::Memory))),
+        }
+    }
+
+    /// Matches the rule of a name in NonAtomic from the start of a text, with the empty stack, in at most
+    /// `steps` steps. Errors: a name that no rule has, a text on which the rule fails, and a stopped run.
+    ///
+    /// If the rule has an outcome on the text, the run finds it, unless an allocation fails, in two steps
+    /// for each application of a rule of the matching relation in a derivation of the outcome. `PEEK` or
+    /// `POP` on the empty stack is met only where there is no outcome.
+    pub fn parse<'a>(
+        &'a self,
+        alloc: Global,
+        rule: &'a str,
+        text: &'a str,
+        steps: u64,
+    ) -> Result<Found<'a>, Refusal<'a>>
+        requires sound { IsSoundMatcher self.now }
+        ensures matched { IfOk result (λ found. IsMatched (grammar_in self.entry.now)
+            (properties_in self.entry.now) (chars rule.entry.now) text.entry.now
+            found.end found.entries.items) }
+        ensures refused { IfErr result (IsRefused (grammar_in self.entry.now)
+            (properties_in self.entry.now) (chars rule.entry.now) text.entry.now steps) }
+    {
+        if let Some(code) = &self.code {
+            if let Some(answer) = self.run(alloc, code, rule, text, steps) {
+                return answer;
+            }
+        }
+        self.interpreter.parse(alloc, rule, text, steps)
+    }
+}

@@ -1,0 +1,5 @@
+use Rattle.meta_doc.proofs.Waiting.{waiting_count}
+use Rattle.meta_doc.proofs.source.read_source.Given as goal
+
+abbrev pub decreases-loop-trees : goal.decreases-loop-trees
+decreases-loop-trees l = waiting_count l.waiting.items

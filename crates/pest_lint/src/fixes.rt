@@ -1,0 +1,75 @@
+//! Fixing files.
+use crate::lint::{CLEAN, Source, UNWRITABLE, text_of};
+use lint_fixes::mend;
+use lint_output::to_visible;
+use std::alloc::AllocError;
+use std::io;
+use tool_support::replacement::replace;
+
+/// How many mistakes were fixed, in how many files, and how many files can't be replaced.
+#[derive(Clone, Copy)]
+struct Tally {
+    fixes: usize,
+    files: usize,
+    refused: usize,
+}
+
+/// Fixes files, and replaces those that change. Standard error gets how many mistakes were fixed, and which
+/// files can't be replaced; these stay as they were, and the status is 4, else 0. Standard input is left
+/// alone. The only error is an allocation failure.
+pub fn fix_files(rt: &HostRuntime, sources: &mut Vec<Source>) -> Result<u8, AllocError> {
+    let mut tally = Tally {
+        fixes: 0,
+        files: 0,
+        refused: 0,
+    };
+    for source in sources.iter_mut() {
+        fix_file(rt, source, &mut tally)?;
+    }
+    report_tally(rt, tally);
+    Ok(if tally.refused == 0 {
+        CLEAN
+    } else {
+        UNWRITABLE
+    })
+}
+
+/// Fixes a file, and replaces it if it changes.
+fn fix_file(rt: &HostRuntime, source: &mut Source, tally: &mut Tally) -> Result<(), AllocError> {
+    let alloc = rt.alloc();
+    if source.name.as_str() == "-" {
+        let _ = eprintln!(rt; "standard input is not fixed");
+        return Ok(());
+    }
+    let Some(text) = text_of(source) else {
+        return Ok(());
+    };
+    let mended = mend(alloc, text)?;
+    if mended.count == 0 {
+        return Ok(());
+    }
+    let bytes = mended.text.as_bytes().to_vec(alloc)?;
+    if let Err(error) = replace(rt, source.name.as_str(), &bytes) {
+        tally.refused = tally.refused.saturating_add(1);
+        return report_refusal(rt, source.name.as_str(), &error);
+    }
+    source.bytes = bytes;
+    tally.fixes = tally.fixes.saturating_add(mended.count);
+    tally.files = tally.files.saturating_add(1);
+    Ok(())
+}
+
+/// Reports that a file can't be replaced.
+fn report_refusal(rt: &HostRuntime, name: &str, error: &io::Error) -> Result<(), AllocError> {
+    let name = to_visible(rt.alloc(), name)?;
+    let _ = eprintln!(rt; "cannot write {name}: {error}");
+    Ok(())
+}
+
+/// Reports how many mistakes were fixed.
+fn report_tally(rt: &HostRuntime, tally: Tally) {
+    let Tally { fixes, files, .. } = tally;
+    let mistakes = if fixes == 1 { "mistake" } else { "mistakes" };
+    let of_files = if files == 1 { "file" } else { "files" };
+    let _ = eprintln!(rt; "fixed {fixes} {mistakes} in {files} {of_files}");
+}
