@@ -11,6 +11,7 @@ use Rattle.meta_warnings.specs.Choices.{unreachable_alternatives}
 use Rattle.meta_warnings.specs.Ranges.{reversed_ranges}
 use Rattle.meta_warnings.specs.Rules.{uncalled_rules}
 use Rattle.meta_warnings.specs.Suspects.{suspects}
+use Rattle.meta_warnings.specs.Tokens.{blanks_in_tokens}
 use Rattle.meta_warnings.specs.declared.suspects.Suspect.TheVariants as suspect
 
 -- warnings are those of an accepted text
@@ -21,6 +22,7 @@ severity_of code.ReversedRange = severity.Warning
 severity_of code.ReversedCount = severity.Warning
 severity_of code.IdleTest = severity.Warning
 severity_of code.NeverMatches = severity.Warning
+severity_of code.BlanksInToken = severity.Warning
 severity_of _ = severity.Error
 
 -- a warning's code, and its span
@@ -39,6 +41,7 @@ spans_of code.ReversedRange starts rules = reversed_ranges rules
 spans_of code.ReversedCount starts rules = suspects suspect.ReversedCount rules
 spans_of code.IdleTest starts rules = suspects suspect.IdleTest rules
 spans_of code.NeverMatches starts rules = suspects suspect.Unmatchable rules
+spans_of code.BlanksInToken starts rules = blanks_in_tokens rules
 spans_of _ starts rules = []
 
 abbrev pub warnings_with : List Text → List SpannedRule → Code → List Warning
@@ -47,7 +50,7 @@ warnings_with starts rules c = map (warning c) (spans_of c starts rules)
 -- the codes of warnings, in the order in which a text's are listed
 abbrev pub warning_codes : List Code
 warning_codes = code.UncalledRule ∷ code.Unreachable ∷ code.ReversedRange ∷ code.ReversedCount ∷ code.IdleTest
-    ∷ code.NeverMatches ∷ []
+    ∷ code.NeverMatches ∷ code.BlanksInToken ∷ []
 
 -- the warnings of rules, of which those of some names are starts
 abbrev pub warnings_of : List Text → List SpannedRule → List Warning
@@ -57,12 +60,13 @@ warnings_of starts rules = flat_map (warnings_with starts rules) warning_codes
 abbrev pub message_of : Code → List ℕ
 message_of code.UncalledRule = codes "no other rule calls this one"
 message_of code.Unreachable =
-    codes "this alternative is never taken: a literal before it begins all that it matches"
+    codes "this alternative is never taken: one before it begins all that it matches"
 message_of code.ReversedRange =
     codes "this range matches nothing: its first character is above its last"
 message_of code.ReversedCount = codes "the first number is above the last, which alone counts"
 message_of code.IdleTest = codes "this changes nothing, since what it holds cannot fail"
 message_of code.NeverMatches = codes "this never matches"
+message_of code.BlanksInToken = codes "blanks are skipped between these characters"
 message_of _ = []
 
 -- names of codes and severities
@@ -84,6 +88,7 @@ code_name code.ReversedRange = codes "pest::reversed_range"
 code_name code.ReversedCount = codes "pest::reversed_count"
 code_name code.IdleTest = codes "pest::idle_test"
 code_name code.NeverMatches = codes "pest::never_matches"
+code_name code.BlanksInToken = codes "pest::blanks_in_token"
 
 abbrev pub severity_name : Severity → List ℕ
 severity_name severity.Error = codes "error"

@@ -50,7 +50,7 @@ pub enum Code {
     TagWithoutToken,
     /// No other rule calls a rule.
     UncalledRule,
-    /// A literal before an alternative begins all that it matches.
+    /// A literal or a call before an alternative begins all that it matches.
     Unreachable,
     /// A range matches nothing.
     ReversedRange,
@@ -60,10 +60,12 @@ pub enum Code {
     IdleTest,
     /// An expression matches nowhere.
     NeverMatches,
+    /// Blanks are skipped between the characters of a repetition.
+    BlanksInToken,
 }
 
 /// All codes.
-pub const ALL_CODES: [Code; 17] = [
+pub const ALL_CODES: [Code; 18] = [
     Code::Syntax,
     Code::EscapeValue,
     Code::NumberRange,
@@ -81,6 +83,7 @@ pub const ALL_CODES: [Code; 17] = [
     Code::ReversedCount,
     Code::IdleTest,
     Code::NeverMatches,
+    Code::BlanksInToken,
 ];
 
 impl Code {
@@ -106,6 +109,7 @@ impl Code {
             Code::ReversedCount => "pest::reversed_count",
             Code::IdleTest => "pest::idle_test",
             Code::NeverMatches => "pest::never_matches",
+            Code::BlanksInToken => "pest::blanks_in_token",
         }
     }
 
@@ -127,6 +131,7 @@ impl Code {
         match self {
             Code::UncalledRule | Code::Unreachable | Code::ReversedRange => Severity::Warning,
             Code::ReversedCount | Code::IdleTest | Code::NeverMatches => Severity::Warning,
+            Code::BlanksInToken => Severity::Warning,
             _ => Severity::Error,
         }
     }

@@ -14,7 +14,8 @@ use meta_base::runtime::Span;
 use meta_hints::Help;
 use meta_spanned::ParserRule;
 use meta_warnings::{
-    Suspect, reversed_ranges, suspect_spans, uncalled_rules, unreachable_alternatives,
+    Suspect, blanks_in_tokens, reversed_ranges, suspect_spans, uncalled_rules,
+    unreachable_alternatives,
 };
 use std::alloc::{AllocError, Global};
 
@@ -34,6 +35,7 @@ pub fn diagnose_rules(
     add_code(alloc, Code::ReversedCount, rules, starts, &mut diagnostics)?;
     add_code(alloc, Code::IdleTest, rules, starts, &mut diagnostics)?;
     add_code(alloc, Code::NeverMatches, rules, starts, &mut diagnostics)?;
+    add_code(alloc, Code::BlanksInToken, rules, starts, &mut diagnostics)?;
     Ok(diagnostics)
 }
 
@@ -117,6 +119,7 @@ fn spans_of<'i>(
         Code::ReversedCount => suspect_spans(alloc, Suspect::ReversedCount, rules),
         Code::IdleTest => suspect_spans(alloc, Suspect::IdleTest, rules),
         Code::NeverMatches => suspect_spans(alloc, Suspect::Unmatchable, rules),
+        Code::BlanksInToken => blanks_in_tokens(alloc, rules),
         _ => Ok(Vec::new(alloc)),
     }
 }
@@ -128,12 +131,13 @@ fn message_of(code: Code) -> &'static str
     match code {
         Code::UncalledRule => "no other rule calls this one",
         Code::Unreachable => {
-            "this alternative is never taken: a literal before it begins all that it matches"
+            "this alternative is never taken: one before it begins all that it matches"
         }
         Code::ReversedRange => "this range matches nothing: its first character is above its last",
         Code::ReversedCount => "the first number is above the last, which alone counts",
         Code::IdleTest => "this changes nothing, since what it holds cannot fail",
         Code::NeverMatches => "this never matches",
+        Code::BlanksInToken => "blanks are skipped between these characters",
         _ => "",
     }
 }
@@ -148,6 +152,7 @@ fn help_of(alloc: Global, code: Code, part: &str) -> Result<Option<Help>, AllocE
         Code::NeverMatches => {
             "`ANY*` takes the whole rest of the text: write `(!end ~ ANY)*` for what is before an end"
         }
+        Code::BlanksInToken => "a rule with `@` before its brace skips none",
         _ => return Ok(None),
     };
     Ok(Some(Help::new(alloc, message)?))

@@ -25,7 +25,7 @@ pub fn find_warnings<'i>(
         warnings.push(Vec::new(alloc))?;
     }
     let unreachable = unreachable_alternatives(alloc, rules)?;
-    let message = "this alternative is never taken: a literal before it begins all that it matches";
+    let message = "this alternative is never taken: one before it begins all that it matches";
     add_warnings(sources, message, &unreachable, &mut warnings)?;
     let reversed = reversed_ranges(alloc, rules)?;
     let message = "this range matches nothing: its first character is above its last";

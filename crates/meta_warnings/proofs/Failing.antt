@@ -1,11 +1,13 @@
 -- What fails where literals and alternatives before it fail.
-use Rattle.std.proofs.Common.{◌≡◌, ℕ, List, [], ◌∷◌, ◌++◌, Bool, true, false, inl, inr, Option, Some, None, option_to_list, if◌then◌else◌, refl, subst, map, nat_eq, eq-eqb, eqb-true, leb-true, ltb-true, ◌<◌, ◌≤◌, arith}
+use Rattle.std.proofs.Common.{◌≡◌, ℕ, List, [], ◌∷◌, ◌++◌, Bool, true, false, inl, inr, Option, Some, None, option_to_list, if◌then◌else◌, refl, sym, ◌∙◌, bytes_eq, subst, map, nat_eq, eq-eqb, eqb-true, leb-true, ltb-true, ◌<◌, ◌≤◌, arith}
 use Rattle.std.specs.Prelude.{◌↔◌, nat_lt, nat_le}
-use Rattle.meta_base.specs.Language.Builtins.{is_between}
+use Rattle.meta_base.specs.Language.Builtins.{is_between, is_one_of}
 use Rattle.std.specs.List.{AllByRecursion}
 use Rattle.std.proofs.lemmas.Bool.{and_parts, false_from_ne_true, or_cases}
+use Rattle.std.proofs.lemmas.Slice.Eq.{bytes_eq-Decides}
+use Rattle.meta_warnings.proofs.Called.{is_one_of-append}
 use Rattle.meta_base.specs.Language.Text.{Text}
-use Rattle.meta_base.specs.Language.Expression.{Expression, Str, Range, Grammar}
+use Rattle.meta_base.specs.Language.Expression.{Expression, Str, Range, Ident, Grammar}
 use Rattle.meta_base.specs.Language.Expression as bare
 use Rattle.meta_base.specs.Language.Matching.{any_begins, begins, text_outcome, character_outcome, range_set, starts_in}
 use Rattle.meta_base.specs.Language.Meaning.{Does, Run, Matches, str, range, seq_first, left, right}
@@ -13,7 +15,7 @@ use Rattle.meta_base.specs.Language.State.{Classes, Mode, State, None', Outcome,
 use Rattle.meta_base.proofs.OneOutcome.{same}
 use Rattle.meta_spanned.specs.Erasure.{without_spans}
 use Rattle.meta_spanned.specs.Spanned.{Spanned, Span, Leaf, One, Two, Seq, Choice}
-use Rattle.meta_warnings.specs.Choices.{alternatives, begins_so, beginning_of, is_begun, literal_of, literals, own_literal}
+use Rattle.meta_warnings.specs.Choices.{alternatives, begins_so, beginning_of, call_of, calls, first_call_of, is_begun, is_call_of, literal_of, literals, own_literal}
 use Rattle.meta_warnings.specs.Laws.{FailsAlone}
 use Rattle.meta_warnings.specs.Ranges.{is_above, is_reversed, is_reversed_range}
 
@@ -43,6 +45,10 @@ refuted (u ∷ ts) t r h k = elim (or_cases (begins nat_eq u t) (any_begins ts t
 begun : (ts : List Text) (o : Option Text) → begins_so ts o ≡ true → (t : Text) × (o ≡ Some t) × (any_begins ts t ≡ true)
 begun ts None h = cc
 begun ts (Some t) h = (t, refl, h)
+
+called_first : (ns : List Text) (o : Option Text) → is_call_of ns o ≡ true → (n : Text) × (o ≡ Some n) × (is_one_of ns n ≡ true)
+called_first ns None h = cc
+called_first ns (Some n) h = (n, refl, h)
 
 -- a text failed, so it was not there
 text_missing : (b : Bool) (s : State) → Failure ≡ (if b then Success s None' else Failure) → b ≡ false
@@ -78,11 +84,47 @@ module _ (g : Grammar) (classes : Classes) (m : Mode) where
   literals_fail [] s h = tt
   literals_fail (x ∷ xs) s h = all_append (λ u. begins nat_eq u s.rest ≡ false) (own_literal x) (literals xs) (own_fails (without_spans x) s h.0) (literals_fail xs s h.1)
 
-  pub never_taken : (earlier : List Spanned) (x : Spanned) (s : State) → is_begun (literals earlier) x ≡ true
+  -- where the name that it calls first fails, an expression fails
+  first_call_fails : (e : Expression) (n : Text) (s : State) → first_call_of e ≡ Some n → Matches g classes (Ident n) m s Failure → Matches g classes e m s Failure
+  first_call_fails (Ident k) n s h d =
+      let e : n ≡ k = cc in
+      subst (λ t. Matches g classes (Ident t) m s Failure) e d
+  first_call_fails (bare.Seq a b) n s h d = seq_first (first_call_fails a n s h d)
+  first_call_fails _ n s h d = cc
+
+  -- a name among those that failed expressions call
+  own_call_failed : (e : Expression) (n : Text) (s : State) → is_one_of (option_to_list (call_of e)) n ≡ true → Matches g classes e m s Failure → Matches g classes (Ident n) m s Failure
+  own_call_failed (Ident k) n s h d = elim (or_cases (bytes_eq k n) false h) [
+    | inl a ↦ subst (λ t. Matches g classes (Ident t) m s Failure) ((bytes_eq-Decides k n).0 a) d
+    | inr a ↦ cc
+  ]
+  own_call_failed _ n s h d = cc
+
+  call_failed : (xs : List Spanned) (n : Text) (s : State) → is_one_of (calls xs) n ≡ true → AllByRecursion (λ x. Matches g classes x m s Failure) (map without_spans xs) → Matches g classes (Ident n) m s Failure
+  call_failed [] n s h k = cc
+  call_failed (x ∷ xs) n s h k = elim (or_cases (is_one_of (option_to_list (call_of (without_spans x))) n) (is_one_of (calls xs) n) (sym (is_one_of-append (option_to_list (call_of (without_spans x))) (calls xs) n) ∙ h)) [
+    | inl a ↦ own_call_failed (without_spans x) n s a k.0
+    | inr a ↦ call_failed xs n s a k.1
+  ]
+
+  literal_begins : (earlier : List Spanned) (x : Spanned) (s : State) → begins_so (literals earlier) (beginning_of (without_spans x)) ≡ true
       → AllByRecursion (λ y. Matches g classes y m s Failure) (map without_spans earlier) → Matches g classes (without_spans x) m s Failure
-  never_taken earlier x s h k =
+  literal_begins earlier x s h k =
       let b = begun (literals earlier) (beginning_of (without_spans x)) h in
       beginning_fails (without_spans x) b.0 s b.1 (refuted (literals earlier) b.0 s.rest b.2 (literals_fail earlier s k))
+
+  call_begins : (earlier : List Spanned) (x : Spanned) (s : State) → is_call_of (calls earlier) (first_call_of (without_spans x)) ≡ true
+      → AllByRecursion (λ y. Matches g classes y m s Failure) (map without_spans earlier) → Matches g classes (without_spans x) m s Failure
+  call_begins earlier x s h k =
+      let b = called_first (calls earlier) (first_call_of (without_spans x)) h in
+      first_call_fails (without_spans x) b.0 s b.1 (call_failed earlier b.0 s b.2 k)
+
+  pub never_taken : (earlier : List Spanned) (x : Spanned) (s : State) → is_begun (literals earlier) (calls earlier) x ≡ true
+      → AllByRecursion (λ y. Matches g classes y m s Failure) (map without_spans earlier) → Matches g classes (without_spans x) m s Failure
+  never_taken earlier x s h k = elim (or_cases (begins_so (literals earlier) (beginning_of (without_spans x))) (is_call_of (calls earlier) (first_call_of (without_spans x))) h) [
+    | inl a ↦ literal_begins earlier x s a k
+    | inr a ↦ call_begins earlier x s a k
+  ]
 
   -- where a choice fails, its alternatives do
   map_without_append : (P : Expression → Type 0) (xs ys : List Spanned) → AllByRecursion P (map without_spans xs) → AllByRecursion P (map without_spans ys) → AllByRecursion P (map without_spans (xs ++ ys))
@@ -109,7 +151,7 @@ module _ (g : Grammar) (classes : Classes) (m : Mode) where
   drop_back a b s (Success t us) f c = left c
   drop_back a b s Failure f c = right c (f c)
 
-  pub changes_nothing : (p : Span) (x y : Spanned) (s : State) (o : Outcome) → is_begun (literals (alternatives x)) y ≡ true
+  pub changes_nothing : (p : Span) (x y : Spanned) (s : State) (o : Outcome) → is_begun (literals (alternatives x)) (calls (alternatives x)) y ≡ true
       → Matches g classes (without_spans (Two p Choice x y)) m s o ↔ Matches g classes (without_spans x) m s o
   changes_nothing p x y s o h =
       let f : Matches g classes (without_spans x) m s Failure → Matches g classes (without_spans y) m s Failure = λ d. never_taken (alternatives x) y s h (alternatives_fail x s d) in

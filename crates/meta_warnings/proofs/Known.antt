@@ -108,6 +108,10 @@ begins_missing texts l text utf8 k none = false_from_ne_true (any_begins texts (
     let missing : IsKnown l (take (length u) text) ≡ false = subst (λ m. IsCharBoundary text m → IsKnown l (take m text) ≡ false) index.2 (none index.0 index.1) bound in
     absurd (let e : true ≡ false = sym there ∙ missing in cc))
 
+pub ok_map : {X Y : Type 0} (r : Result X Y) (A B : Type 0) → OnOk r A → (A → B) → OnOk r B
+ok_map (Ok x) A B a f = f a
+ok_map (Err e) A B a f = tt
+
 pub both_ok : {X Y : Type 0} (r : Result X Y) (A B C : Type 0) → OnOk r A → OnOk r B → (A → B → C) → OnOk r C
 both_ok (Ok x) A B C a b f = f a b
 both_ok (Err e) A B C a b f = tt

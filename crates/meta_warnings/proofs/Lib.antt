@@ -1,6 +1,10 @@
 pub mod Called
+pub mod Classes
 pub mod Failing
 pub mod Known
+pub mod Modes
 pub mod Names
+pub mod Reached
+pub mod Sets
 pub mod Steps
 pub mod Suspicious

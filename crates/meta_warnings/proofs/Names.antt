@@ -141,7 +141,7 @@ no_end_met x w v all h e i = sym (ap (λ b. b || names_end (flat_map name_called
 pub end_met : (x : Spanned) (w v : List Spanned) (all : Bool) → w ≡ x ∷ v → names_end (name_called x) ≡ true → names_end (flat_map name_called w) ≡ all → all ≡ true
 end_met x w v all h e i = sym i ∙ (ap (λ l. names_end (flat_map name_called l)) h ∙ (end_among (name_called x) (flat_map name_called v) ∙ ap (λ b. b || names_end (flat_map name_called v)) e))
 
-first_of : (v : Spanned) → (rest : List Spanned) × (preorder v ≡ v ∷ rest)
+pub first_of : (v : Spanned) → (rest : List Spanned) × (preorder v ≡ v ∷ rest)
 first_of (Leaf s e) = ([], refl)
 first_of (One s f x) = (preorder x, refl)
 first_of (Two s f x y) = (preorder x ++ preorder y, refl)
@@ -150,3 +150,10 @@ pub end_popped : (ss ps : List (Bor ParserNode)) (n : Bor ParserNode) (all : Boo
 end_popped ss ps n all e h i =
     let p = first_of (view n.now) in
     end_met (view n.now) (waiting ss) (p.0 ++ waiting ps) all (ap waiting e ∙ (waiting_push ps n ∙ ap (λ l. l ++ waiting ps) p.1)) h i
+
+-- one more name at the end of a list
+pub name_at_end : (names : List Text) (key : Text) (n : Text) (old new : Bool) → new ≡ (old || bytes_eq key n) → old ≡ is_one_of names n → new ≡ is_one_of (names ++ key ∷ []) n
+name_at_end names key n old new e o =
+    e ∙ (ap (λ b. b || bytes_eq key n) o
+    ∙ (ap (λ b. is_one_of names n || b) (sym (or-false (bytes_eq key n)))
+    ∙ sym (is_one_of-append names (key ∷ []) n)))

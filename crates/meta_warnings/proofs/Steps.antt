@@ -13,8 +13,9 @@ use Rattle.meta_spanned.specs.declared.node.ParserNode.{ParserNode}
 use Rattle.meta_spanned.proofs.Walks.{operands_wait}
 use Rattle.meta_spanned.proofs.Places.{span_of-view}
 use Rattle.meta_base.specs.declared.runtime.places.Span as code
-use Rattle.meta_warnings.specs.Choices.{alternatives, beginning_of, literal_of, literals, own_literal, span_if_begun, unreachable_after}
-use Rattle.meta_warnings.specs.Lists.{AreOperands, CollectsUnreachable, Knows, left_over}
+use Rattle.meta_base.specs.Language.Builtins.{is_one_of}
+use Rattle.meta_warnings.specs.Choices.{alternatives, beginning_of, call_of, calls, first_call_of, literal_of, literals, own_call, own_literal, span_if_begun, unreachable_after}
+use Rattle.meta_warnings.specs.Lists.{AreOperands, CollectsUnreachable, HasNames, Knows, TextSet, left_over}
 use Rattle.meta_warnings.specs.declared.literals.Literals.{Literals}
 use Rattle.meta_warnings.specs.declared.nodes.Operands.{Operands}
 use Rattle.meta_warnings.specs.declared.nodes.Operands.TheVariants as operands
@@ -59,20 +60,32 @@ no_sequence t (is.Str s) h = refl
 no_sequence t (is.Seq' p e s q f u) h = absurd (h _ _ refl)
 no_sequence t _ h = refl
 
+-- nor calls another first
+pub no_first_call : (t : Span) (e : ParserExpr) → ((x y : _) → e ≡ expr.Seq x y → ⊥) → first_call_of (without_spans (view_at t e)) ≡ call_of (without_spans (view_at t e))
+no_first_call t (is.Ident s) h = refl
+no_first_call t (is.Seq' p e s q f u) h = absurd (h _ _ refl)
+no_first_call t _ h = refl
+
+calls_more : (earlier : List Spanned) (x : Spanned) → calls (earlier ++ x ∷ []) ≡ calls earlier ++ own_call x
+calls_more earlier x = flat_map-append own_call earlier (x ∷ []) ∙ ap (λ l. calls earlier ++ l) (append-nil (own_call x))
+
 pub literals_more : (earlier : List Spanned) (x : Spanned) → literals (earlier ++ x ∷ []) ≡ literals earlier ++ own_literal x
 literals_more earlier x = flat_map-append own_literal earlier (x ∷ []) ∙ ap (λ l. literals earlier ++ l) (append-nil (own_literal x))
 
 -- the next alternative was looked at
-pub spans_more : (all : List Span) (earlier left : List Spanned) (x : Spanned) (old new : Literals) (found after : List Span) → CollectsUnreachable all earlier (x ∷ left) old found
-    → (Knows (literals earlier) old → after ≡ found ++ span_if_begun (literals earlier) x)
-    → (Knows (literals earlier) old → Knows (literals earlier ++ own_literal x) new) → CollectsUnreachable all (earlier ++ x ∷ []) left new after
-spans_more all earlier left x old new found after h span_added adds = record {
+pub spans_more : (all : List Span) (earlier left : List Spanned) (x : Spanned) (old new : Literals) (had has : TextSet) (found after : List Span) → CollectsUnreachable all earlier (x ∷ left) old had found
+    → (Knows (literals earlier) old → HasNames (is_one_of (calls earlier)) had → after ≡ found ++ span_if_begun (literals earlier) (calls earlier) x)
+    → (Knows (literals earlier) old → Knows (literals earlier ++ own_literal x) new)
+    → (HasNames (is_one_of (calls earlier)) had → HasNames (is_one_of (calls earlier ++ own_call x)) has) → CollectsUnreachable all (earlier ++ x ∷ []) left new has after
+spans_more all earlier left x old new had has found after h span_added adds calls_added = record {
   knows = rw (literals_more earlier x) (adds h.knows);
-  spans = h.spans ∙ (sym (append_assoc found (span_if_begun (literals earlier) x) (unreachable_after (earlier ++ x ∷ []) left)) ∙ ap (λ l. l ++ unreachable_after (earlier ++ x ∷ []) left) (sym (span_added h.knows)));
+  names = rw (calls_more earlier x) (calls_added h.names);
+  spans = h.spans ∙ (sym (append_assoc found (span_if_begun (literals earlier) (calls earlier) x) (unreachable_after (earlier ++ x ∷ []) left)) ∙ ap (λ l. l ++ unreachable_after (earlier ++ x ∷ []) left) (sym (span_added h.knows h.names)));
 }
 
-pub spans_along : (all : List Span) (earlier left right : List Spanned) (known : Literals) (found : List Span) → left ≡ right → CollectsUnreachable all earlier left known found → CollectsUnreachable all earlier right known found
-spans_along all earlier left right known found e h = record {
+pub spans_along : (all : List Span) (earlier left right : List Spanned) (known : Literals) (called : TextSet) (found : List Span) → left ≡ right → CollectsUnreachable all earlier left known called found → CollectsUnreachable all earlier right known called found
+spans_along all earlier left right known called found e h = record {
   knows = h.knows;
+  names = h.names;
   spans = h.spans ∙ ap (λ l. found ++ unreachable_after earlier l) e;
 }

@@ -1,7 +1,8 @@
 -- Alternatives that are never taken.
-use Rattle.std.specs.Prelude.{List, [], ◌∷◌, ◌++◌, Option, Some, None, Bool, false, if◌then◌else◌, flat_map, option_to_list}
+use Rattle.std.specs.Prelude.{List, [], ◌∷◌, ◌++◌, Option, Some, None, Bool, false, ◌||◌, if◌then◌else◌, flat_map, option_to_list}
 use Rattle.meta_base.specs.Language.Text.{Text}
-use Rattle.meta_base.specs.Language.Expression.{Expression, Str}
+use Rattle.meta_base.specs.Language.Builtins.{is_one_of}
+use Rattle.meta_base.specs.Language.Expression.{Expression, Str, Ident}
 use Rattle.meta_base.specs.Language.Expression as bare
 use Rattle.meta_base.specs.Language.Matching.{any_begins}
 use Rattle.meta_spanned.specs.Erasure.{without_spans}
@@ -33,30 +34,52 @@ beginning_of (Str t) = Some t
 beginning_of (bare.Seq a b) = beginning_of a
 beginning_of _ = None
 
+-- the name that an expression calls
+abbrev pub call_of : Expression → Option Text
+call_of (Ident n) = Some n
+call_of _ = None
+
+-- the name that an expression calls first: its own, or that of a sequence's first part
+abbrev pub first_call_of : Expression → Option Text
+first_call_of (Ident n) = Some n
+first_call_of (bare.Seq a b) = first_call_of a
+first_call_of _ = None
+
 abbrev pub own_literal : Spanned → List Text
 own_literal x = option_to_list (literal_of (without_spans x))
 
--- the literals among some alternatives
+abbrev pub own_call : Spanned → List Text
+own_call x = option_to_list (call_of (without_spans x))
+
+-- the literals among some alternatives, and the names that some of them call
 abbrev pub literals : List Spanned → List Text
 literals xs = flat_map own_literal xs
+
+abbrev pub calls : List Spanned → List Text
+calls xs = flat_map own_call xs
 
 abbrev pub begins_so : List Text → Option Text → Bool
 begins_so texts None = false
 begins_so texts (Some t) = any_begins texts t
 
--- one of these texts begins all that the expression matches
-abbrev pub is_begun : List Text → Spanned → Bool
-is_begun texts x = begins_so texts (beginning_of (without_spans x))
+abbrev pub is_call_of : List Text → Option Text → Bool
+is_call_of names None = false
+is_call_of names (Some n) = is_one_of names n
 
--- the span of an alternative after these literals, where one of them begins it
-abbrev pub span_if_begun : List Text → Spanned → List Span
-span_if_begun texts x = if is_begun texts x then span_of x ∷ [] else []
+-- one of these texts begins all that the expression matches, or it calls one of these names first
+abbrev pub is_begun : List Text → List Text → Spanned → Bool
+is_begun texts names x =
+    begins_so texts (beginning_of (without_spans x)) || is_call_of names (first_call_of (without_spans x))
 
--- the spans of those among alternatives that a literal before them begins
+-- the span of an alternative after these literals and calls, where one of them begins it
+abbrev pub span_if_begun : List Text → List Text → Spanned → List Span
+span_if_begun texts names x = if is_begun texts names x then span_of x ∷ [] else []
+
+-- the spans of those among alternatives that a literal or a call before them begins
 abbrev pub unreachable_after : List Spanned → List Spanned → List Span
 unreachable_after earlier [] = []
 unreachable_after earlier (x ∷ xs) =
-    span_if_begun (literals earlier) x ++ unreachable_after (earlier ++ x ∷ []) xs
+    span_if_begun (literals earlier) (calls earlier) x ++ unreachable_after (earlier ++ x ∷ []) xs
 
 -- of an expression as a choice; one alternative has none
 abbrev pub unreachable_at : Spanned → List Span

@@ -7,7 +7,7 @@ use Rattle.meta_base.specs.Language.Meaning.{Matches}
 use Rattle.meta_base.specs.Language.State.{Classes, Mode, State, Outcome, Failure}
 use Rattle.meta_spanned.specs.Erasure.{without_spans}
 use Rattle.meta_spanned.specs.Spanned.{Span, Spanned, SpannedRule, Leaf, One, Two, Choice}
-use Rattle.meta_warnings.specs.Choices.{alternatives, is_begun, literals}
+use Rattle.meta_warnings.specs.Choices.{alternatives, calls, is_begun, literals}
 use Rattle.meta_warnings.specs.Ranges.{is_reversed}
 use Rattle.meta_warnings.specs.Rules.{is_called}
 
@@ -26,14 +26,16 @@ abbrev pub IsSameEverywhere : Expression → Expression → Type 0
 IsSameEverywhere e f = (g : Grammar) (classes : Classes) (m : Mode) (s : State) (o : Outcome)
     → Matches g classes e m s o ↔ Matches g classes f m s o
 
--- an alternative that a literal before it begins is never taken
+-- an alternative that a literal or a call before it begins is never taken
 abbrev pub BegunIsNeverTaken : Type 0
-BegunIsNeverTaken = (earlier : List Spanned) (x : Spanned) → is_begun (literals earlier) x ≡ true
+BegunIsNeverTaken = (earlier : List Spanned) (x : Spanned)
+    → is_begun (literals earlier) (calls earlier) x ≡ true
     → IsNeverTaken (map without_spans earlier) (without_spans x)
 
 -- a choice does what it does without such an alternative at its end
 abbrev pub BegunChangesNothing : Type 0
-BegunChangesNothing = (span : Span) (x y : Spanned) → is_begun (literals (alternatives x)) y ≡ true
+BegunChangesNothing = (span : Span) (x y : Spanned)
+    → is_begun (literals (alternatives x)) (calls (alternatives x)) y ≡ true
     → IsSameEverywhere (without_spans (Two span Choice x y)) (without_spans x)
 
 -- a range whose first bound is above its last fails everywhere

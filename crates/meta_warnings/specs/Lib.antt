@@ -3,5 +3,8 @@ pub mod Laws
 pub mod Lists
 pub mod Ranges
 pub mod Rules
+pub mod Skipping
+pub mod SkippingLaws
 pub mod SuspectLaws
 pub mod Suspects
+pub mod Tokens

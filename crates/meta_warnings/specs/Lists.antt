@@ -13,7 +13,7 @@ use Rattle.meta_spanned.specs.Nodes.{view}
 use Rattle.meta_spanned.specs.Spanned as spanned
 use Rattle.meta_spanned.specs.Spanned.{Span, Spanned, Leaf, One, Two, Unary}
 use Rattle.meta_spanned.specs.declared.node.ParserNode.{ParserNode}
-use Rattle.meta_warnings.specs.Choices.{alternatives, literals, unreachable_after}
+use Rattle.meta_warnings.specs.Choices.{alternatives, calls, literals, unreachable_after}
 use Rattle.meta_warnings.specs.declared.nodes.Operands.{Operands}
 use Rattle.meta_warnings.specs.declared.nodes.Operands.TheVariants as is
 use Rattle.meta_warnings.specs.declared.literals.Literals.{Literals}
@@ -55,8 +55,9 @@ pub record Knows (texts : List Text) (literals : Literals) : Type 0 where
       → list_any (λ n. n == length text) literals.lengths.items ≡ true
 
 -- the spans found so far, and those still to be found among the alternatives left after the earlier ones,
--- whose literals are known, are all
+-- whose literals and calls are known, are all
 pub record CollectsUnreachable (all : List Span) (earlier left : List Spanned) (known : Literals)
-    (found : List Span) : Type 0 where
+    (called : TextSet) (found : List Span) : Type 0 where
   pub knows : Knows (literals earlier) known
+  pub names : HasNames (is_one_of (calls earlier)) called
   pub spans : all ≡ found ++ unreachable_after earlier left

@@ -1,22 +1,27 @@
 //! Alternatives that are never taken.
 ghost use Rattle.std.specs.Prelude.{◌≡◌, ◌++◌, ◌+◌, ◌<◌, IfOk, OnOk, List, length, map};
+ghost use Rattle.meta_base.specs.Language.Builtins.{is_one_of};
 ghost use Rattle.meta_base.specs.Language.Text.{Text};
+ghost use Rattle.meta_spanned.specs.Erasure.{without_spans};
 ghost use Rattle.meta_spanned.specs.Nodes.{piece_of, rule_views, view};
 ghost use Rattle.meta_spanned.specs.Spanned.{Span as Piece, Spanned};
 ghost use Rattle.meta_spanned.specs.Walk.{preorder, waiting};
 ghost use Rattle.meta_warnings.specs.Choices as spec;
-ghost use Rattle.meta_warnings.specs.Choices.{alternatives};
-ghost use Rattle.meta_warnings.specs.Lists.{CollectsUnreachable, Knows, left_over};
+ghost use Rattle.meta_warnings.specs.Choices.{alternatives, beginning_of, first_call_of};
+ghost use Rattle.meta_warnings.specs.Lists.{CollectsUnreachable, HasNames, Knows, left_over};
 
-use crate::literals::{Literals, beginning, literal};
+use crate::literals::{Literals, beginning, call, first_call, literal};
 use crate::nodes::{Operands, operands_of, push_both};
+use crate::rules::add_name;
 use meta_base::runtime::Span;
 use meta_spanned::{ParserNode, ParserRule, push_operands};
 use std::alloc::{AllocError, Global};
+use std::collections::HashSet;
 
-/// The spans of alternatives that are never taken, since one before them in their choice is a literal with
-/// which all that they match begins, as `"ab"` and `"a" ~ b` after `"a"`: rule by rule, and in a body choice
-/// by choice. A choice inside a choice is part of it. The only error is an allocation failure.
+/// The spans of alternatives that are never taken, since one before them in their choice is a literal or a
+/// call with which all that they match begins, as `"ab"` and `"a" ~ b` after `"a"`, and `a` and `a ~ b` after
+/// `a`: rule by rule, and in a body choice by choice. A choice inside a choice is part of it. The only error
+/// is an allocation failure.
 ///
 /// For each alternative there is a look-up for each length that a literal of its choice has, so the time is
 /// at most the text's length times the square root of that.
@@ -82,10 +87,11 @@ fn add_of_choice<'i>(
         ≡ map piece_of found.old.items ++ spec.unreachable_at (view whole.now)) }
 {
     let mut literals = Literals::new(alloc);
+    let mut calls = HashSet::new(alloc);
     let mut stack = Vec::new(alloc);
     stack.push(whole)?;
     while let Some(next) = stack.pop() {
-        take_alternative(next, &mut stack, &mut literals, found)?;
+        take_alternative(next, &mut stack, &mut literals, &mut calls, found)?;
     }
     Ok(())
 }
@@ -95,41 +101,73 @@ fn take_alternative<'n, 'i>(
     node: &'n ParserNode<'i>,
     stack: &mut Vec<&'n ParserNode<'i>>,
     literals: &mut Literals<'n>,
+    calls: &mut HashSet<&'n str>,
     found: &mut Vec<Span<'i>>,
 ) -> Result<(), AllocError>
     ensures collected { OnOk result ((all : List Piece) (earlier : List Spanned)
         → CollectsUnreachable all earlier (alternatives (view node.entry.now) ++ left_over stack.old.items)
-        literals.old (map piece_of found.old.items)
+        literals.old calls.old (map piece_of found.old.items)
         → (later : List Spanned) × CollectsUnreachable all later (left_over stack.new.items)
-        literals.new (map piece_of found.new.items)) }
+        literals.new calls.new (map piece_of found.new.items)) }
     ensures less { OnOk result (length (waiting stack.new.items)
         < length (preorder (view node.entry.now)) + length (waiting stack.old.items)) }
 {
     match operands_of(node) {
         Operands::Choice(left, right) => push_both(left, right, stack)?,
         _ => {
-            add_where_begun(node, literals, found)?;
+            add_where_begun(node, literals, calls, found)?;
             add_literal(node, literals)?;
+            add_own_call(node, calls)?;
         }
     }
     Ok(())
 }
 
-/// Adds the span of an alternative that one of these literals begins.
+/// Adds the span of an alternative that one of these literals or calls begins.
 fn add_where_begun<'i>(
     alternative: &ParserNode<'i>,
     literals: &Literals<'_>,
+    calls: &HashSet<&str>,
     found: &mut Vec<Span<'i>>,
 ) -> Result<(), AllocError>
-    ensures { OnOk result ((texts : List Text) → Knows texts literals.now → map piece_of found.new.items
-        ≡ map piece_of found.old.items ++ spec.span_if_begun texts (view alternative.now)) }
+    ensures { OnOk result ((texts names : List Text) → Knows texts literals.now
+        → HasNames (is_one_of names) calls.now → map piece_of found.new.items
+        ≡ map piece_of found.old.items ++ spec.span_if_begun texts names (view alternative.now)) }
 {
-    if let Some(text) = beginning(alternative) {
-        if literals.begin(text) {
-            found.push(alternative.span)?;
-        }
+    if is_begun(alternative, literals, calls) {
+        found.push(alternative.span)?;
     }
     Ok(())
+}
+
+/// Whether one of these literals or calls begins all that an alternative matches.
+fn is_begun(alternative: &ParserNode<'_>, literals: &Literals<'_>, calls: &HashSet<&str>) -> bool
+    ensures { (texts names : List Text) → Knows texts literals.now → HasNames (is_one_of names) calls.now
+        → result ≡ spec.is_begun texts names (view alternative.now) }
+{
+    is_begun_by_literal(alternative, literals) || is_called_first(alternative, calls)
+}
+
+/// Whether one of these literals begins all that an alternative matches.
+fn is_begun_by_literal(alternative: &ParserNode<'_>, literals: &Literals<'_>) -> bool
+    ensures { (texts : List Text) → Knows texts literals.now
+        → result ≡ spec.begins_so texts (beginning_of (without_spans (view alternative.now))) }
+{
+    match beginning(alternative) {
+        Some(text) => literals.begin(text),
+        None => false,
+    }
+}
+
+/// Whether an alternative calls one of these names first.
+fn is_called_first(alternative: &ParserNode<'_>, calls: &HashSet<&str>) -> bool
+    ensures { (names : List Text) → HasNames (is_one_of names) calls.now
+        → result ≡ spec.is_call_of names (first_call_of (without_spans (view alternative.now))) }
+{
+    match first_call(alternative) {
+        Some(name) => calls.contains(&name),
+        None => false,
+    }
 }
 
 /// Adds the literal that an alternative is, where it is one.
@@ -142,6 +180,20 @@ fn add_literal<'n, 'i>(
 {
     match literal(alternative) {
         Some(text) => literals.add(text),
+        None => Ok(()),
+    }
+}
+
+/// Adds the name that an alternative calls, where it is a call.
+fn add_own_call<'n, 'i>(
+    alternative: &'n ParserNode<'i>,
+    calls: &mut HashSet<&'n str>,
+) -> Result<(), AllocError>
+    ensures { OnOk result ((names : List Text) → HasNames (is_one_of names) calls.old
+        → HasNames (is_one_of (names ++ spec.own_call (view alternative.entry.now))) calls.new) }
+{
+    match call(alternative) {
+        Some(name) => add_name(name, calls),
         None => Ok(()),
     }
 }

@@ -1,10 +1,11 @@
 //! The warnings are true: laws over the definitions alone.
 ghost use Rattle.meta_warnings.specs.Laws.{BegunChangesNothing, BegunIsNeverTaken, CalledIsCalled, ReversedFails};
+ghost use Rattle.meta_warnings.specs.SkippingLaws.{AtomicRulesSkipNothing, SkippingRuleIsNonAtomic, TurnsSkipBlanks};
 ghost use Rattle.meta_warnings.specs.SuspectLaws.{IdleOptionChangesNothing, IdleTestNeverFails};
 ghost use Rattle.meta_warnings.specs.SuspectLaws.{ReversedCountIsExact, UnmatchableNeverSucceeds};
 
-/// An alternative that a literal before it begins fails wherever all alternatives before it fail, over every
-/// grammar, and a choice does what it does without such an alternative at its end.
+/// An alternative that a literal or a call before it begins fails wherever all alternatives before it fail,
+/// over every grammar, and a choice does what it does without such an alternative at its end.
 pub fn begun_alternatives_are_never_taken()
     ensures never { BegunIsNeverTaken }
     ensures nothing { BegunChangesNothing }
@@ -35,4 +36,12 @@ pub fn idle_tests_do_nothing()
 /// without a rule `ANY`.
 pub fn unmatchable_nodes_match_nothing()
     ensures { UnmatchableNeverSucceeds }
+{}
+
+/// A rule that skips blanks runs in the mode that skips them; there each turn of a repetition begins where
+/// the blanks after the turn before it end, and in an atomic rule where that turn ends, over every grammar.
+pub fn skipping_rules_skip_blanks()
+    ensures modes { SkippingRuleIsNonAtomic }
+    ensures turns { TurnsSkipBlanks }
+    ensures atomic { AtomicRulesSkipNothing }
 {}

@@ -8,9 +8,12 @@ mod literals;
 mod nodes;
 mod ranges;
 mod rules;
+mod skipping;
 mod suspects;
+mod tokens;
 
 pub use crate::choices::unreachable_alternatives;
 pub use crate::ranges::reversed_ranges;
 pub use crate::rules::uncalled_rules;
 pub use crate::suspects::{Suspect, suspect_spans};
+pub use crate::tokens::blanks_in_tokens;

@@ -1,4 +1,4 @@
-//! Literals, and the texts that one of them begins.
+//! Literals and the texts that one of them begins, and calls.
 ghost use Rattle.std.specs.Prelude.{◌≡◌, ◌++◌, ◌∷◌, ◌==◌, [], List, ℕ, IsTrue, OnOk, false, true, take, option_map};
 ghost use Rattle.std.specs.List.{list_any};
 ghost use Rattle.std.specs.Str.{IsCharBoundary, chars};
@@ -6,7 +6,7 @@ ghost use Rattle.meta_base.specs.Language.Matching.{any_begins};
 ghost use Rattle.meta_base.specs.Language.Text.{Text};
 ghost use Rattle.meta_spanned.specs.Erasure.{without_spans};
 ghost use Rattle.meta_spanned.specs.Nodes.{view};
-ghost use Rattle.meta_warnings.specs.Choices.{beginning_of, literal_of};
+ghost use Rattle.meta_warnings.specs.Choices.{beginning_of, call_of, first_call_of, literal_of};
 ghost use Rattle.meta_warnings.specs.Lists.{IsKnown, Knows};
 
 use meta_spanned::{ParserExpr, ParserNode};
@@ -96,6 +96,30 @@ pub(crate) fn beginning<'n, 'i>(node: &'n ParserNode<'i>) -> Option<&'n str>
         match &first.expr {
             ParserExpr::Seq(left, _) => first = left,
             _ => return literal(first),
+        }
+    }
+}
+
+/// The name that a node calls.
+pub(crate) fn call<'n, 'i>(node: &'n ParserNode<'i>) -> Option<&'n str>
+    ensures { option_map (λ name. chars name.now) result ≡ call_of (without_spans (view node.entry.now)) }
+{
+    match &node.expr {
+        ParserExpr::Ident(name) => Some(name.as_str()),
+        _ => None,
+    }
+}
+
+/// The name that a node calls first, where it is a call or a sequence that begins so.
+pub(crate) fn first_call<'n, 'i>(node: &'n ParserNode<'i>) -> Option<&'n str>
+    ensures { option_map (λ name. chars name.now) result
+        ≡ first_call_of (without_spans (view node.entry.now)) }
+{
+    let mut first = node;
+    'parts: loop {
+        match &first.expr {
+            ParserExpr::Seq(left, _) => first = left,
+            _ => return call(first),
         }
     }
 }

@@ -93,7 +93,7 @@ fn uncalled_among<'i>(
 }
 
 /// The needed names. These are the starts, and the names that a rule of another name calls.
-fn needed_names<'n, 'i>(
+pub(crate) fn needed_names<'n, 'i>(
     alloc: Global,
     rules: &'n [ParserRule<'i>],
     starts: &'n [&'n str],
@@ -109,7 +109,10 @@ fn needed_names<'n, 'i>(
 }
 
 /// The set of some names.
-fn names_of<'n>(alloc: Global, names: &'n [&'n str]) -> Result<HashSet<&'n str>, AllocError>
+pub(crate) fn names_of<'n>(
+    alloc: Global,
+    names: &'n [&'n str],
+) -> Result<HashSet<&'n str>, AllocError>
     ensures { IfOk result (HasNames (is_one_of (texts_of names.entry.now))) }
 {
     let mut set = HashSet::new(alloc);
@@ -120,7 +123,7 @@ fn names_of<'n>(alloc: Global, names: &'n [&'n str]) -> Result<HashSet<&'n str>,
 }
 
 /// Adds a name to a set.
-fn add_name<'n>(name: &'n str, set: &mut HashSet<&'n str>) -> Result<(), AllocError>
+pub(crate) fn add_name<'n>(name: &'n str, set: &mut HashSet<&'n str>) -> Result<(), AllocError>
     ensures { OnOk result ((other : List ℕ) → IsUtf8 other → has_name set.new other
         ≡ (has_name set.old other || bytes_eq (chars name.entry.now) (chars other))) }
 {
@@ -129,7 +132,7 @@ fn add_name<'n>(name: &'n str, set: &mut HashSet<&'n str>) -> Result<(), AllocEr
 }
 
 /// Adds the names that a rule calls, but for its own.
-fn add_calls<'n, 'i>(
+pub(crate) fn add_calls<'n, 'i>(
     alloc: Global,
     rule: &'n ParserRule<'i>,
     called: &mut HashSet<&'n str>,
@@ -197,7 +200,7 @@ fn is_uncalled(
 }
 
 /// Whether a rule calls `SOI` or `EOI`.
-fn is_start(alloc: Global, rule: &ParserRule<'_>) -> Result<bool, AllocError>
+pub(crate) fn is_start(alloc: Global, rule: &ParserRule<'_>) -> Result<bool, AllocError>
     ensures { IfOk result (λ answer. answer ≡ spec.is_start (rule_view rule.now)) }
 {
     let mut stack = Vec::new(alloc);
@@ -222,7 +225,7 @@ fn is_end(node: &ParserNode<'_>) -> bool
 }
 
 /// Whether a name is that of a rule which is skipped between others, without a call.
-fn needs_no_call(name: &String) -> bool
+pub(crate) fn needs_no_call(name: &String) -> bool
     ensures { result ≡ spec.needs_no_call (text_of name.now) }
 {
     is_literal(name, "WHITESPACE") || is_literal(name, "COMMENT")

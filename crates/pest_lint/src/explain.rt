@@ -59,8 +59,9 @@ fn explanation_of_warnings(code: Code) -> &'static str {
              taken for the start, and where that one is called, nothing is reported."
         }
         Code::Unreachable => {
-            "A literal before an alternative begins all that it matches, so it is never taken.\n\n    \
-             a = { \"<\" | \"<=\" }\n\nPut the longer one first."
+            "A literal or a call before an alternative begins all that it matches, so it is never \
+             taken.\n\n    \
+             a = { \"<\" | \"<=\" }\n    b = { name | name ~ \"(\" ~ \")\" }\n\nPut the longer one first."
         }
         Code::ReversedRange =>
             "The first character of a range is above its last.\n\n    a = { 'z'..'a' }",
@@ -72,6 +73,13 @@ fn explanation_of_warnings(code: Code) -> &'static str {
             "A test or an option holds what cannot fail, and changes nothing.\n\n    \
              a = { ANY*? ~ \"x\" }\n\n\
              No repetition is lazy: write (!\"x\" ~ ANY)* for what is before an \"x\"."
+        }
+        Code::BlanksInToken => {
+            "Where WHITESPACE or COMMENT is defined, it is skipped between the parts of a rule, also between \
+             the characters of a repetition.\n\n    \
+             WHITESPACE = _{ \" \" }\n    word = { ASCII_ALPHA+ }\n\n\
+             This takes a b c as one word. A rule with @ or $ before its brace skips nothing, @ without the \
+             tokens of the rules that it calls:\n\n    word = @{ ASCII_ALPHA+ }"
         }
         _ => {
             "An expression succeeds on no text.\n\n    a = { ANY* ~ \"x\" }\n\n\

@@ -1,4 +1,4 @@
-use Rattle.std.proofs.Common.{ap, length, ◌∙◌, arith}
+use Rattle.std.proofs.Common.{ap, length, ◌∙◌, arith, rules, []}
 use Rattle.meta_spanned.specs.Walk.{waiting}
 use Rattle.meta_spanned.proofs.Walks.{waiting_push}
 use Rattle.std.proofs.lemmas.List.{length-append}
@@ -17,4 +17,7 @@ loop-next-smaller c =
 pub loop-next-preserved : goal.loop-next-preserved
 loop-next-preserved c =
     let before = c.loop-next.invariant in
-    c.in_ok-take_alternative.ensures.collected _ before.0 (spans_along _ before.0 _ _ _ _ (ap left_over c.in-Some.ensures.items ∙ left_over_push c.pop.new.self.items c.in-Some.next) before.1)
+    c.in_ok-take_alternative.ensures.collected _ before.0 (spans_along _ before.0 _ _ _ _ _ (ap left_over c.in-Some.ensures.items ∙ left_over_push c.pop.new.self.items c.in-Some.next) before.1)
+
+pub loop-next-init : goal.loop-next-init
+loop-next-init c = ([], record { knows = search rules; names = search rules; spans = search rules })

@@ -9,7 +9,7 @@ use Rattle.meta_warnings.proofs.choices.add_of_choice.Given as goal
 abbrev pub invariant-loop-next : goal.invariant-loop-next
 invariant-loop-next l =
     (earlier : List Spanned) × CollectsUnreachable (map piece_of l.fn.found.items ++ unreachable_at (view l.fn.whole)) earlier
-    (left_over l.stack.items) l.literals (map piece_of l.found.items)
+    (left_over l.stack.items) l.literals l.calls (map piece_of l.found.items)
 
 abbrev pub decreases-loop-next : goal.decreases-loop-next
 decreases-loop-next l = length (waiting l.stack.items)

@@ -2,11 +2,11 @@ use Rattle.std.proofs.Common.{◌≡◌, ◌∙◌, [], ◌∷◌, ◌++◌, map
 use Rattle.meta_spanned.specs.Nodes.{piece_of, view}
 use Rattle.meta_spanned.specs.Spanned.{span_of}
 use Rattle.meta_warnings.proofs.Steps.{push_piece}
-use Rattle.meta_warnings.specs.Choices.{begins_so, is_begun}
+use Rattle.meta_warnings.specs.Choices.{is_begun}
 use Rattle.meta_warnings.proofs.choices.add_where_begun.Goals as goal
 
 pub returns-in_ok-push : goal.returns-in_ok-push
-returns-in_ok-push c = λ texts known.
+returns-in_ok-push c = λ texts names known called.
     let x = view c.args.alternative.now in
-    let yes : is_begun texts x ≡ true = ap (begins_so texts) (sym c.in-Some.ensures) ∙ (sym (c.begin.ensures texts known) ∙ c.if-begin.true) in
+    let yes : is_begun texts names x ≡ true = sym (c.is_begun.ensures texts names known called) ∙ c.if-is_begun.true in
     ap (map piece_of) c.in_ok-push.ensures.items ∙ (push_piece c.args.found.now.items c.args.alternative.now ∙ ap (λ b. map piece_of c.args.found.now.items ++ (if b then span_of x ∷ [] else [])) (sym yes))
