@@ -1,3 +1,1 @@
-mod Incoming
 mod Starts
-mod Zips

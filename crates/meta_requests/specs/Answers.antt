@@ -1,28 +1,24 @@
 -- What requests by name answer.
 use Rattle.std.specs.Prelude.{◌≡◌, ◌⊎◌, ℕ, List, Bool, true, false, Some, filter, map, codes}
-use Rattle.serde_json.specs.Data.{Data, null, array}
+use Rattle.serde_json.specs.Data.{Data, null}
 use Rattle.serde_json.specs.View.{view, items_of}
-use Rattle.meta_requests.specs.Asked.{is_true_in, text_in}
+use Rattle.language_protocol.specs.Asked.{is_true_in, text_in}
 use Rattle.meta_requests.specs.Calls.{is_call}
+use Rattle.meta_requests.specs.Locations.{edit_at, locations_at}
 use Rattle.meta_requests.specs.Names.{HasNoName, IsAskedName}
-use Rattle.meta_requests.specs.Values.{edit_data, location_data, workspace_edit_data}
+use Rattle.language_protocol.specs.Values.{workspace_edit_data}
 use Rattle.meta_requests.specs.declared.context.Context.{Context}
 use Rattle.meta_requests.specs.declared.context.Name.{Name}
-use Rattle.meta_requests.specs.declared.messages.Answer.{Answer}
-use Rattle.meta_requests.specs.declared.messages.Answer.TheVariants as answer
+use Rattle.language_protocol.specs.declared.messages.Answer.{Answer}
+use Rattle.language_protocol.specs.declared.messages.Answer.TheVariants as answer
 use Rattle.meta_symbols.specs.Occurrences.{names_of, occurrences}
 use Rattle.meta_symbols.specs.Renaming.{Renames}
 use Rattle.meta_symbols.specs.declared.tokens.Extent.{Extent}
 
--- locations in a document
-abbrev pub locations_data : Context → List Extent → Data
-locations_data context extents = array (items_of
-    (map (location_data context.uri.now context.client.encoding context.text.now) extents))
-
 -- the definitions of the name at the position in parameters, or null where there is none
 abbrev pub AreDefinitions : Context → Data → Answer → Type 0
 AreDefinitions context d (answer.Result v) = (HasNoName context d × (view v ≡ null))
-    ⊎ ((name : Name) × IsAskedName context d name × (view v ≡ locations_data context
+    ⊎ ((name : Name) × IsAskedName context d name × (view v ≡ locations_at context
     (names_of context.text.now name.text.now context.definitions.items)))
 AreDefinitions context d (answer.Error code reason) = ⊥
 
@@ -36,14 +32,14 @@ references_to context name false =
 -- where there is none
 abbrev pub AreReferences : Context → Data → Answer → Type 0
 AreReferences context d (answer.Result v) = (HasNoName context d × (view v ≡ null))
-    ⊎ ((name : Name) × IsAskedName context d name × (view v ≡ locations_data context
+    ⊎ ((name : Name) × IsAskedName context d name × (view v ≡ locations_at context
     (references_to context name.text.now (is_true_in (codes "/context/includeDeclaration") d))))
 AreReferences context d (answer.Error code reason) = ⊥
 
 -- edits that write a new name
 abbrev pub rename_data : Context → List ℕ → List Extent → Data
 rename_data context new extents = workspace_edit_data context.uri.now (items_of
-    (map (edit_data context.client.encoding context.text.now new) extents))
+    (map (edit_at context new) extents))
 
 -- the edits that give the rule at the position in parameters the new name in them
 pub record IsRenameTo (context : Context) (d v : Data) : Type 0 where

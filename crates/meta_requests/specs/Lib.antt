@@ -1,9 +1,5 @@
 pub mod Answers
 pub mod Around
-pub mod Asked
 pub mod Calls
-pub mod Changes
-pub mod Documents
-pub mod Messages
+pub mod Locations
 pub mod Names
-pub mod Values

@@ -3,10 +3,12 @@ use Rattle.std.specs.Prelude.{◌≡◌, ◌⊎◌, ◌≤◌, ℕ, List, Some, 
 use Rattle.std.specs.Str.{IsCharBoundary}
 use Rattle.serde_json.specs.Data.{Data}
 use Rattle.meta_requests.specs.Around.{name_around}
-use Rattle.meta_requests.specs.Asked.{IsAskedOffset, asked_position}
-use Rattle.meta_requests.specs.declared.context.Client.{Client}
+use Rattle.language_protocol.specs.Asked.{asked_position}
+use Rattle.language_protocol.specs.declared.client.Client.{Client}
 use Rattle.meta_requests.specs.declared.context.Context.{Context}
 use Rattle.meta_requests.specs.declared.context.Name.{Name}
+use Rattle.meta_positions.specs.Positions.{IsOffset}
+use Rattle.meta_positions.specs.declared.positions.Position.{Position}
 use Rattle.meta_symbols.specs.Parts.{part}
 use Rattle.meta_symbols.specs.declared.tokens.Extent.{Extent}
 
@@ -15,6 +17,12 @@ pub record IsContextOf (client : Client) (uri text : List ℕ) (context : Contex
   pub same_uri : context.uri.now ≡ uri
   pub same_text : context.text.now ≡ text
   pub same_client : context.client ≡ client
+
+-- the byte at the position in parameters
+pub record IsAskedOffset (context : Context) (d : Data) (offset : ℕ) : Type 0 where
+  pub position : Position
+  pub asked : asked_position d ≡ Some position
+  pub named : IsOffset context.client.encoding context.text.now position offset
 
 -- an extent runs backwards, ends past the text, or cuts a character
 abbrev pub IsNoPart : List ℕ → Extent → Type 0

@@ -1,7 +1,7 @@
 //! Completions.
 use crate::builtins::builtin_docs;
 use crate::context::Context;
-use crate::messages::Answer;
+use language_protocol::messages::Answer;
 use meta_names::unicode_property_names;
 use serde_json::{Value, json};
 use std::alloc::{AllocError, Global};

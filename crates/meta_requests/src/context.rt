@@ -4,34 +4,13 @@ ghost use Rattle.meta_positions.specs.Shown.{index_encoding, index_text};
 ghost use Rattle.meta_requests.specs.Around as names;
 ghost use Rattle.meta_symbols.specs.Occurrences as spec;
 
-use crate::documents::{Document, Documents};
-use crate::params::{asked_position, range_of, text_at};
-use meta_positions::{Encoding, PositionIndex, offset_of};
+use language_protocol::client::Client;
+use language_protocol::documents::{Document, Documents};
+use language_protocol::params::{asked_position, range_of, text_at};
+use meta_positions::{PositionIndex, offset_of};
 use meta_symbols::{Definition, Extent, Token, TokenClass, definitions_of, tokens_of};
 use serde_json::Value;
 use std::alloc::{AllocError, Global};
-
-/// What a client can show, as it said when it was initialized.
-#[derive(Clone, Copy, Debug)]
-pub struct Client {
-    /// The code units in which characters are counted.
-    pub encoding: Encoding,
-    pub has_snippets: bool,
-    pub has_markdown: bool,
-    pub has_nested_symbols: bool,
-}
-
-impl Default for Client {
-    /// A client that said nothing.
-    fn default() -> Client {
-        Client {
-            encoding: Encoding::Utf16,
-            has_snippets: false,
-            has_markdown: false,
-            has_nested_symbols: false,
-        }
-    }
-}
 
 /// A document that a request is about, with its tokens and definitions.
 #[derive(Drop)]
@@ -54,8 +33,8 @@ pub struct Name<'d> {
 }
 
 impl<'d> Context<'d> {
-    ghost use Rattle.meta_requests.specs.Asked.{IsAskedOffset, asked_position};
-    ghost use Rattle.meta_requests.specs.Names.{HasNoName, IsAskedName, IsContextOf, IsNameAround, IsNameIn, IsNoPart, LacksName};
+    ghost use Rattle.language_protocol.specs.Asked.{asked_position};
+    ghost use Rattle.meta_requests.specs.Names.{HasNoName, IsAskedName, IsAskedOffset, IsContextOf, IsNameAround, IsNameIn, IsNoPart, LacksName};
     ghost use Rattle.serde_json.specs.View.{view};
 
     /// Returns the context of a document.

@@ -1,16 +1,17 @@
 //! Definitions, references and renames.
 ghost use Rattle.std.specs.Prelude.{◌≡◌, ◌++◌, ◌∷◌, [], IfOk, OnOk, filter, map};
-ghost use Rattle.meta_requests.specs.Answers.{AreDefinitions, AreReferences, IsRename, locations_data, references_to, rename_data};
+ghost use Rattle.meta_requests.specs.Answers.{AreDefinitions, AreReferences, IsRename, references_to, rename_data};
 ghost use Rattle.meta_requests.specs.Calls as spec;
 ghost use Rattle.meta_requests.specs.Calls.{AreStarts, is_call};
-ghost use Rattle.meta_requests.specs.Values.{edit_data};
+ghost use Rattle.meta_requests.specs.Locations as places;
 ghost use Rattle.meta_symbols.specs.Occurrences.{names_of};
 ghost use Rattle.serde_json.specs.View.{view};
 
 use crate::context::Context;
-use crate::messages::{Answer, ErrorCode};
-use crate::params::{is_true_at, text_at};
-use crate::values::{document_edit_value, locations_value, range_value, workspace_edit_value};
+use crate::locations::{edit_at, locations_at, range_at};
+use language_protocol::messages::{Answer, ErrorCode};
+use language_protocol::params::{is_true_at, text_at};
+use language_protocol::values::workspace_edit_value;
 use meta_symbols::{
     Definition, Extent, RenameRefusal, Renaming, definitions_named, occurrences_of, rename,
 };
@@ -34,11 +35,11 @@ pub fn definition(
 
 /// Returns where the rules of a name are defined.
 fn definitions_value(alloc: Global, context: &Context<'_>, name: &str) -> Result<Value, AllocError>
-    ensures { IfOk result (λ v. view v ≡ locations_data context.now
+    ensures { IfOk result (λ v. view v ≡ places.locations_at context.now
         (names_of context.now.text.now name.now context.now.definitions.items)) }
 {
     let extents = definitions_named(alloc, context.text, &context.definitions, name)?;
-    locations_value(alloc, context, &extents)
+    locations_at(alloc, context, &extents)
 }
 
 /// Returns where the rule at a position is called, and defined where the parameters ask for that.
@@ -66,15 +67,15 @@ fn references_value(
     name: &str,
     has_definitions: bool,
 ) -> Result<Value, AllocError>
-    ensures { IfOk result (λ v. view v ≡ locations_data context.now
+    ensures { IfOk result (λ v. view v ≡ places.locations_at context.now
         (references_to context.now name.now has_definitions)) }
 {
     let extents = occurrences_of(alloc, context.text, &context.tokens, name)?;
     if has_definitions {
-        return locations_value(alloc, context, &extents);
+        return locations_at(alloc, context, &extents);
     }
     let calls = calls_among(alloc, &context.definitions, &extents)?;
-    locations_value(alloc, context, &calls)
+    locations_at(alloc, context, &calls)
 }
 
 /// Returns those of some names that are no definition's.
@@ -155,7 +156,7 @@ fn highlight(alloc: Global, context: &Context<'_>, extent: Extent) -> Result<Val
     } else {
         2u64
     };
-    let range = range_value(alloc, &context.index, extent)?;
+    let range = range_at(alloc, context, extent)?;
     json!(in alloc; { "range": range, "kind": kind })
 }
 
@@ -171,7 +172,7 @@ pub fn prepare_rename(
     if definitions_named(alloc, context.text, &context.definitions, name.text)?.is_empty() {
         return Ok(Answer::Error(ErrorCode::RequestFailed, reason_of(RenameRefusal::NoRule)));
     }
-    let range = range_value(alloc, &context.index, name.extent)?;
+    let range = range_at(alloc, context, name.extent)?;
     let value = json!(in alloc; { "range": range, "placeholder": name.text })?;
     Ok(Answer::Result(value))
 }
@@ -232,9 +233,9 @@ fn push_edit(
     edits: &mut Vec<Value>,
 ) -> Result<(), AllocError>
     ensures { OnOk result (map view edits.new.items ≡ map view edits.old.items
-        ++ edit_data context.now.client.encoding context.now.text.now new_name.now extent ∷ []) }
+        ++ places.edit_at context.now new_name.now extent ∷ []) }
 {
-    let edit = document_edit_value(alloc, context, extent, new_name)?;
+    let edit = edit_at(alloc, context, extent, new_name)?;
     edits.push(edit)?;
     Ok(())
 }

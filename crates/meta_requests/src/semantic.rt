@@ -1,6 +1,6 @@
 //! Semantic tokens.
 use crate::context::Context;
-use crate::messages::Answer;
+use language_protocol::messages::Answer;
 use meta_names::is_builtin;
 use meta_positions::Position;
 use meta_symbols::{Token, TokenClass};

@@ -1,9 +1,10 @@
 //! Symbols, folds and selections.
-use crate::context::{Client, Context};
-use crate::documents::Documents;
-use crate::messages::{Answer, ErrorCode};
-use crate::params::position_of;
-use crate::values::{location_value, range_value};
+use crate::context::Context;
+use crate::locations::{location_at, range_at};
+use language_protocol::client::Client;
+use language_protocol::documents::Documents;
+use language_protocol::messages::{Answer, ErrorCode};
+use language_protocol::params::position_of;
 use meta_positions::offset_of;
 use meta_symbols::{Definition, Extent, Fold, folds_of, selections_at};
 use serde_json::{Value, json};
@@ -32,8 +33,8 @@ fn nested_symbol(
     context: &Context<'_>,
     definition: &Definition,
 ) -> Result<Value, AllocError> {
-    let range = range_value(alloc, &context.index, definition.whole)?;
-    let selection = range_value(alloc, &context.index, definition.name)?;
+    let range = range_at(alloc, context, definition.whole)?;
+    let selection = range_at(alloc, context, definition.name)?;
     json!(in alloc; {
         "name": context.part(definition.name),
         "detail": modifier_name(definition.modifier),
@@ -49,7 +50,7 @@ fn flat_symbol(
     context: &Context<'_>,
     definition: &Definition,
 ) -> Result<Value, AllocError> {
-    let location = location_value(alloc, context, definition.name)?;
+    let location = location_at(alloc, context, definition.name)?;
     json!(in alloc; {
         "name": context.part(definition.name),
         "kind": FUNCTION,
@@ -180,10 +181,10 @@ fn selection_value(
         start: 0,
         end: context.text.len(),
     };
-    let range = range_value(alloc, &context.index, extents.pop().unwrap_or(all))?;
+    let range = range_at(alloc, context, extents.pop().unwrap_or(all))?;
     let mut value = json!(in alloc; { "range": range })?;
     for extent in extents.iter().rev() {
-        let range = range_value(alloc, &context.index, *extent)?;
+        let range = range_at(alloc, context, *extent)?;
         value = json!(in alloc; { "range": range, "parent": value })?;
     }
     Ok(value)

@@ -2,7 +2,7 @@
 use Rattle.std.proofs.Common.{◌≡◌, ◌∙◌, List, ℕ, Option, Some, None, Result, Ok, Err, IfOk, String, IsSomeAnd, inl, inr, refl, string_bytes, subst, sym}
 use Rattle.std.specs.declared.alloc.AllocError.{AllocError}
 use Rattle.std.specs.declared.alloc.Global.{Global}
-use Rattle.meta_requests.specs.declared.messages.Answer.{Answer}
+use Rattle.language_protocol.specs.declared.messages.Answer.{Answer}
 use Rattle.meta_service.specs.Replies.{IsOneMessage, IsResponse}
 use Rattle.meta_service.specs.declared.replies.Reply.{Reply}
 use Rattle.serde_json.specs.Data.{Data}

@@ -1,6 +1,6 @@
 -- Messages, by their class.
 use Rattle.std.proofs.Common.{◌≡◌, List, ℕ, Some, None}
-use Rattle.meta_requests.specs.Messages.{notification_of, params_of, request_of}
+use Rattle.language_protocol.specs.Messages.{notification_of, params_of, request_of}
 use Rattle.meta_service.specs.Sessions.{AnswersRequest, ChangesNothing, HandlesMessage, TakesNotification}
 use Rattle.meta_service.specs.declared.replies.Reply.{Reply}
 use Rattle.meta_service.specs.declared.server.Server.{Server}

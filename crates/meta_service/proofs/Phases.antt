@@ -1,7 +1,7 @@
 -- Answers in the phases of a session.
 use Rattle.std.proofs.Common.{◌≡◌, List, ℕ, Bool, true, false, Result, Ok, Err, IfOk, bytes_eq, codes}
 use Rattle.std.specs.declared.alloc.AllocError.{AllocError}
-use Rattle.meta_requests.specs.declared.messages.Answer.{Answer}
+use Rattle.language_protocol.specs.declared.messages.Answer.{Answer}
 use Rattle.meta_service.specs.Sessions.{AnswersIn}
 use Rattle.meta_service.specs.declared.server.Phase.TheVariants.{New, Running}
 

@@ -1,5 +1,3 @@
-pub mod Diagnostics
 pub mod Notices
-pub mod Remedies
 pub mod Replies
 pub mod Sessions

@@ -1,10 +1,10 @@
 -- Replies.
 use Rattle.std.specs.Prelude.{◌≡◌, ◌⊎◌, ℕ, List, None, IsSomeAnd, codes, string_bytes}
-use Rattle.meta_requests.specs.Messages.{IsMessage, error_data, response_data}
-use Rattle.meta_requests.specs.declared.messages.Answer.{Answer}
-use Rattle.meta_requests.specs.declared.messages.Answer.TheVariants as answer
-use Rattle.meta_requests.specs.declared.messages.ErrorCode.{ErrorCode}
-use Rattle.meta_requests.specs.declared.messages.ErrorCode.TheVariants.{InternalError}
+use Rattle.language_protocol.specs.Messages.{IsMessage, error_data, response_data}
+use Rattle.language_protocol.specs.declared.messages.Answer.{Answer}
+use Rattle.language_protocol.specs.declared.messages.Answer.TheVariants as answer
+use Rattle.language_protocol.specs.declared.messages.ErrorCode.{ErrorCode}
+use Rattle.language_protocol.specs.declared.messages.ErrorCode.TheVariants.{InternalError}
 use Rattle.meta_service.specs.declared.replies.Reply.{Reply}
 use Rattle.serde_json.specs.Data.{Data, null}
 

@@ -1,10 +1,10 @@
 -- Sessions: the phases, and the replies to messages.
 use Rattle.std.specs.Prelude.{◌≡◌, ◌⊎◌, ℕ, List, Option, Some, None, IfSome, MatchOption, bytes_eq, codes, string_bytes, if◌then◌else◌}
-use Rattle.meta_requests.specs.Documents.{KeepsDocuments}
-use Rattle.meta_requests.specs.Messages.{notification_of, params_of, request_of}
-use Rattle.meta_requests.specs.declared.messages.Answer.{Answer}
-use Rattle.meta_requests.specs.declared.messages.ErrorCode.{ErrorCode}
-use Rattle.meta_requests.specs.declared.messages.ErrorCode.TheVariants.{InvalidRequest, ServerNotInitialized}
+use Rattle.language_protocol.specs.Documents.{KeepsDocuments}
+use Rattle.language_protocol.specs.Messages.{notification_of, params_of, request_of}
+use Rattle.language_protocol.specs.declared.messages.Answer.{Answer}
+use Rattle.language_protocol.specs.declared.messages.ErrorCode.{ErrorCode}
+use Rattle.language_protocol.specs.declared.messages.ErrorCode.TheVariants.{InvalidRequest, ServerNotInitialized}
 use Rattle.meta_service.specs.Notices.{Announces, changed_by, notice_in}
 use Rattle.meta_service.specs.Replies.{IsError, IsOneMessage, IsRefusal, IsResponse}
 use Rattle.meta_service.specs.declared.server.Phase.{Phase}

@@ -1,39 +1,9 @@
-//! The capabilities of clients and of the server.
+//! The capabilities of the server.
+use language_protocol::client::Client;
 use meta_positions::Encoding;
-use meta_requests::context::Client;
-use meta_requests::params::{is_true_at, lists_at};
 use meta_requests::semantic::{modifiers, types};
 use serde_json::{Value, json};
 use std::alloc::{AllocError, Global};
-
-/// Returns what a client can do, by the parameters of `initialize`.
-pub fn client_of(params: &Value) -> Client {
-    Client {
-        encoding: encoding_of(params),
-        has_snippets: is_true_at(
-            params,
-            "/capabilities/textDocument/completion/completionItem/snippetSupport",
-        ),
-        has_markdown: lists_at(
-            params,
-            "/capabilities/textDocument/hover/contentFormat",
-            "markdown",
-        ),
-        has_nested_symbols: is_true_at(
-            params,
-            "/capabilities/textDocument/documentSymbol/hierarchicalDocumentSymbolSupport",
-        ),
-    }
-}
-
-/// Returns the encoding of positions: UTF-8 where the client offers it.
-fn encoding_of(params: &Value) -> Encoding {
-    if lists_at(params, "/capabilities/general/positionEncodings", "utf-8") {
-        Encoding::Utf8
-    } else {
-        Encoding::Utf16
-    }
-}
 
 /// Returns the answer to `initialize`.
 pub fn initialize_result(alloc: Global, client: Client) -> Result<Value, AllocError> {

@@ -1,13 +1,7 @@
-//! The requests of the Language Server Protocol 3.17 for pest grammars: a server's state, and its messages.
+//! A language server for pest grammars: its state, and its replies.
 #![tactic(auto)]
 
-mod actions;
 mod capabilities;
-mod diagnostics;
-mod facts;
-mod formatting;
-mod hovers;
-mod remedies;
 mod replies;
 mod requests;
 mod server;

@@ -1,10 +1,10 @@
 //! Replies: the messages that answer others.
 ghost use Rattle.std.specs.Prelude.{◌≡◌, IfOk, None, Ok, Some};
-ghost use Rattle.meta_requests.specs.Messages.{IsMessage, error_data};
+ghost use Rattle.language_protocol.specs.Messages.{IsMessage, error_data};
 ghost use Rattle.meta_service.specs.Replies.{IsOneMessage, IsRefusal, IsOutOfMemory, IsResponse};
 ghost use Rattle.serde_json.specs.View.{view};
 
-use meta_requests::messages::{Answer, ErrorCode, error_response, response};
+use language_protocol::messages::{Answer, ErrorCode, error_response, response};
 use serde_json::{Error, Value};
 use std::alloc::{AllocError, Global};
 

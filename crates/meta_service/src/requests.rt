@@ -1,10 +1,10 @@
 //! The requests about documents.
-use crate::actions::code_actions;
-use crate::formatting::{format_document, format_range};
-use crate::hovers::hover;
+use language_features::actions::code_actions;
+use language_features::formatting::{format_document, format_range};
+use language_features::hovers::hover;
+use language_protocol::messages::Answer;
 use meta_requests::completions::completions;
 use meta_requests::context::Context;
-use meta_requests::messages::Answer;
 use meta_requests::names::{definition, highlights, prepare_rename, references, rename_rule};
 use meta_requests::semantic::semantic_tokens;
 use meta_requests::structure::{document_symbols, folding_ranges, selection_ranges};

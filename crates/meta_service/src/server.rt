@@ -1,8 +1,8 @@
 //! A server: its state, and its replies.
 ghost use Rattle.std.specs.Prelude.{◌≡◌, IfOk, IfSome, OnOk, Some, bytes_eq, codes, string_bytes};
-ghost use Rattle.meta_requests.specs.Documents.{KeepsDocuments, document_in};
-ghost use Rattle.meta_requests.specs.Messages as messages;
-ghost use Rattle.meta_service.specs.Diagnostics.{Publishes};
+ghost use Rattle.language_protocol.specs.Documents.{KeepsDocuments, document_in};
+ghost use Rattle.language_protocol.specs.Messages as messages;
+ghost use Rattle.language_features.specs.Diagnostics.{Publishes};
 ghost use Rattle.meta_service.specs.Notices as spec;
 ghost use Rattle.meta_service.specs.Notices.{Announces, AnnouncesAt, AnnouncesChange, AnnouncesClosing, AnnouncesOpening, PublishesAt, changed_at, changed_by, notice_in};
 ghost use Rattle.meta_service.specs.Replies.{IsRefusal};
@@ -10,15 +10,16 @@ ghost use Rattle.meta_service.specs.Sessions.{AnswersIn, AnswersRequest, Handles
 ghost use Rattle.serde_json.specs.Data as json_data;
 ghost use Rattle.serde_json.specs.View.{view};
 
-use crate::capabilities::{client_of, initialize_result};
-use crate::diagnostics::{publish, publish_none};
+use crate::capabilities::initialize_result;
 use crate::replies::{OUT_OF_MEMORY, Reply, refusal, refuse_unread, respond};
 use crate::requests::{answer_in, request_of};
+use language_features::diagnostics::{publish, publish_none};
+use language_protocol::client::{Client, client_of};
+use language_protocol::documents::{Document, Documents};
+use language_protocol::messages::{Answer, ErrorCode, Incoming, classify};
+use language_protocol::params::{changes_in, text_at, version_of};
 use meta_positions::apply_changes;
-use meta_requests::context::{Client, Context};
-use meta_requests::documents::{Document, Documents};
-use meta_requests::messages::{Answer, ErrorCode, Incoming, classify};
-use meta_requests::params::{changes_in, text_at, version_of};
+use meta_requests::context::Context;
 use meta_requests::structure::workspace_symbols;
 use serde_json::Value;
 use std::alloc::{AllocError, Global};
@@ -286,7 +287,7 @@ impl Server {
         ensures documents { KeepsDocuments (Some uri.now) self.old.documents self.new.documents }
         ensures stored { OnOk result (document_in self.new.documents uri.now ≡ Some document) }
         ensures sent { IfOk result (λ sent. IfSome sent (λ body.
-            Publishes self.old.client.encoding uri.now document (string_bytes body))) }
+            Publishes self.old.client uri.now document (string_bytes body))) }
     {
         self.documents.put(alloc, uri, document)?;
         self.publish(alloc, uri)
@@ -298,7 +299,7 @@ impl Server {
             PublishesAt self.now uri.now (string_bytes body))) }
     {
         match self.documents.get(uri) {
-            Some(document) => Ok(Some(publish(alloc, self.client.encoding, uri, document)?)),
+            Some(document) => Ok(Some(publish(alloc, self.client, uri, document)?)),
             None => Ok(None),
         }
     }

@@ -15,7 +15,7 @@ mod tokens;
 
 pub use edits::{Edit, edits_between};
 pub use folding::{Fold, folds_of};
-pub use occurrences::{name_at, occurrences_of};
+pub use occurrences::occurrences_of;
 pub use outline::{Definition, definitions_named, definitions_of};
 pub use renaming::{RenameRefusal, Renaming, rename};
 pub use selection::selections_at;

@@ -1,5 +1,5 @@
 //! Where names occur in a text.
-ghost use Rattle.std.specs.Prelude.{◌≡◌, ◌≤◌, ◌++◌, IfOk, IfSome, OnOk};
+ghost use Rattle.std.specs.Prelude.{◌≡◌, ◌++◌, IfOk, OnOk};
 ghost use Rattle.meta_symbols.specs.Occurrences as spec;
 
 use crate::outline::is_named;
@@ -45,17 +45,4 @@ fn is_name(class: TokenClass) -> bool
     ensures { result ≡ spec.is_name class }
 {
     matches!(class, TokenClass::Name)
-}
-
-/// Returns the name that an offset is in, or at the end of.
-pub fn name_at(tokens: &[Token], offset: usize) -> Option<Extent>
-    ensures start { IfSome result (λ extent. extent.start ≤ offset) }
-    ensures end { IfSome result (λ extent. offset ≤ extent.end) }
-{
-    for token in tokens {
-        if is_name(token.class) && token.start <= offset && offset <= token.end {
-            return Some(token.extent());
-        }
-    }
-    None
 }

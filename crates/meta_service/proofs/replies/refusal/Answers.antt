@@ -1,6 +1,6 @@
 use Rattle.std.proofs.Common.{◌≡◌, rules, subst}
 use Rattle.std.proofs.lemmas.Result.{IfOk-weaker}
-use Rattle.meta_requests.specs.Messages.{IsMessage, error_data}
+use Rattle.language_protocol.specs.Messages.{IsMessage, error_data}
 use Rattle.meta_service.specs.Replies.{IsErrorAlone}
 use Rattle.meta_service.proofs.Answering.{IsOneMessage-weaker}
 use Rattle.meta_service.proofs.replies.refusal.Goals as goal

@@ -1,0 +1,2 @@
+pub mod Diagnostics
+pub mod Remedies

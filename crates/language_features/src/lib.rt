@@ -1,0 +1,9 @@
+//! The requests of the Language Server Protocol that the front end answers, and the diagnostics of documents.
+#![tactic(auto)]
+
+pub mod actions;
+pub mod diagnostics;
+mod facts;
+pub mod formatting;
+pub mod hovers;
+pub mod remedies;

@@ -1,0 +1,2 @@
+mod Incoming
+mod Zips
