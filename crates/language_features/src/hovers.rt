@@ -7,7 +7,7 @@ use meta_names::is_builtin;
 use meta_requests::builtins::builtin_doc;
 use meta_requests::context::Context;
 use meta_requests::locations::range_at;
-use meta_requests::structure::modifier_name;
+use meta_requests::symbols::modifier_name;
 use meta_symbols::{Definition, Extent, TokenClass};
 use pest_meta::parse_and_optimize;
 use serde_json::{Value, json};

@@ -22,10 +22,14 @@ abbrev pub range_in : Data → Option Range
 range_in d = range_from (option_and_then position_in (get (codes "start") d))
     (option_and_then position_in (get (codes "end") d))
 
+-- the range in parameters
+abbrev pub asked_range : Data → Option Range
+asked_range d = option_and_then range_in (get (codes "range") d)
+
 -- a change has the text of an object, and its range where it has one
 pub record IsChangeIn (d : Data) (change : Change) : Type 0 where
   pub text : text_in (codes "/text") d ≡ Some change.text.now
-  pub range : change.range ≡ option_and_then range_in (get (codes "range") d)
+  pub range : change.range ≡ asked_range d
 
 -- the changes in parameters
 pub record AreChangesIn (params : Data) (changes : List Change) : Type 0 where

@@ -1,5 +1,5 @@
 //! The open documents.
-ghost use Rattle.std.specs.Prelude.{◌≡◌, None, OnErr, OnOk, Some, option_copied};
+ghost use Rattle.std.specs.Prelude.{◌≡◌, [], IfOk, None, OnErr, OnOk, Some, map, option_copied};
 
 use std::alloc::{AllocError, Global};
 use std::collections::BTreeMap;
@@ -12,6 +12,13 @@ pub struct Document {
     pub version: Option<i64>,
 }
 
+/// An open document with its URI.
+#[derive(Clone, Copy)]
+pub struct OpenDocument<'d> {
+    pub uri: &'d str,
+    pub document: &'d Document,
+}
+
 /// The open documents, by their URIs.
 #[derive(Drop)]
 pub struct Documents {
@@ -19,10 +26,12 @@ pub struct Documents {
 }
 
 impl Documents {
-    ghost use Rattle.language_protocol.specs.Documents.{KeepsDocuments, document_in};
+    ghost use Rattle.language_protocol.specs.Documents.{KeepsDocuments, document_in, entry_of, open_documents};
 
     /// Returns no documents.
-    pub fn new(alloc: Global) -> Documents {
+    pub fn new(alloc: Global) -> Documents
+        ensures { open_documents result ≡ [] }
+    {
         Documents {
             documents: BTreeMap::new(alloc),
         }
@@ -55,7 +64,15 @@ impl Documents {
     }
 
     /// Returns all documents with their URIs, in the order of these.
-    pub fn all(&self) -> &BTreeMap<String, Document> {
-        &self.documents
+    pub fn entries(&self, alloc: Global) -> Result<Vec<OpenDocument<'_>>, AllocError>
+        ensures { IfOk result (λ entries. map entry_of entries.items ≡ open_documents self.now) }
+    {
+        self.documents
+            .iter()
+            .map(|entry| OpenDocument {
+                uri: entry.0.as_str(),
+                document: entry.1,
+            })
+            .collect(alloc)
     }
 }

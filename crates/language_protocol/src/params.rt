@@ -93,6 +93,13 @@ pub fn asked_position(params: &Value) -> Option<Position>
     params.get("position").and_then(position_of)
 }
 
+/// Returns the range in the parameters of a request.
+pub fn asked_range(params: &Value) -> Option<Range>
+    ensures { result ≡ changes.asked_range (view params.now) }
+{
+    params.get("range").and_then(range_of)
+}
+
 /// Returns a range.
 pub fn range_of(value: &Value) -> Option<Range>
     ensures { result ≡ changes.range_in (view value.now) }

@@ -1,16 +1,18 @@
 -- What requests by name answer.
-use Rattle.std.specs.Prelude.{◌≡◌, ◌⊎◌, ℕ, List, Bool, true, false, Some, filter, map, codes}
+use Rattle.std.specs.Prelude.{◌≡◌, ◌⊎◌, ℕ, List, Bool, true, false, Some, None, filter, map, codes}
 use Rattle.serde_json.specs.Data.{Data, null}
 use Rattle.serde_json.specs.View.{view, items_of}
 use Rattle.language_protocol.specs.Asked.{is_true_in, text_in}
 use Rattle.meta_requests.specs.Calls.{is_call}
 use Rattle.meta_requests.specs.Locations.{edit_at, locations_at}
 use Rattle.meta_requests.specs.Names.{HasNoName, IsAskedName}
+use Rattle.meta_requests.specs.Refusals.{IsRefused}
 use Rattle.language_protocol.specs.Values.{workspace_edit_data}
 use Rattle.meta_requests.specs.declared.context.Context.{Context}
 use Rattle.meta_requests.specs.declared.context.Name.{Name}
 use Rattle.language_protocol.specs.declared.messages.Answer.{Answer}
 use Rattle.language_protocol.specs.declared.messages.Answer.TheVariants as answer
+use Rattle.language_protocol.specs.declared.messages.ErrorCode.TheVariants.{InvalidParams, RequestFailed}
 use Rattle.meta_symbols.specs.Occurrences.{names_of, occurrences}
 use Rattle.meta_symbols.specs.Renaming.{Renames}
 use Rattle.meta_symbols.specs.declared.tokens.Extent.{Extent}
@@ -51,7 +53,10 @@ pub record IsRenameTo (context : Context) (d v : Data) : Type 0 where
   pub renames : Renames context.text.now name.text.now new edits
   pub value : v ≡ rename_data context new edits
 
--- the edits of a rename, or the reason of a refusal
+-- the edits of a rename, or the reason of a refusal: there is no new name, no name at the position, or that
+-- rule is not given the new name
 abbrev pub IsRename : Context → Data → Answer → Type 0
 IsRename context d (answer.Result v) = IsRenameTo context d (view v)
-IsRename context d (answer.Error code reason) = Unit {0}
+IsRename context d (answer.Error code reason) =
+    ((text_in (codes "/newName") d ≡ None) × (code ≡ InvalidParams))
+    ⊎ ((HasNoName context d ⊎ IsRefused context d reason.now) × (code ≡ RequestFailed))

@@ -1,5 +1,9 @@
 pub mod Answers
 pub mod Around
 pub mod Calls
+pub mod Highlights
 pub mod Locations
 pub mod Names
+pub mod Refusals
+pub mod Shown
+pub mod Symbols

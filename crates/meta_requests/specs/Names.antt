@@ -1,15 +1,21 @@
 -- The name that a request is about.
-use Rattle.std.specs.Prelude.{◌≡◌, ◌⊎◌, ◌≤◌, ℕ, List, Some, None}
+use Rattle.std.specs.Prelude.{◌≡◌, ◌⊎◌, ◌≤◌, ℕ, List, Some, None, codes, map, option_and_then, string_bytes}
 use Rattle.std.specs.Str.{IsCharBoundary}
 use Rattle.serde_json.specs.Data.{Data}
 use Rattle.meta_requests.specs.Around.{name_around}
-use Rattle.language_protocol.specs.Asked.{asked_position}
+use Rattle.language_protocol.specs.Asked.{asked_position, text_in}
+use Rattle.language_protocol.specs.Changes.{asked_range}
+use Rattle.language_protocol.specs.Documents.{document_in}
 use Rattle.language_protocol.specs.declared.client.Client.{Client}
+use Rattle.language_protocol.specs.declared.documents.Document.{Document}
+use Rattle.language_protocol.specs.declared.documents.Documents.{Documents}
 use Rattle.meta_requests.specs.declared.context.Context.{Context}
 use Rattle.meta_requests.specs.declared.context.Name.{Name}
 use Rattle.meta_positions.specs.Positions.{IsOffset}
 use Rattle.meta_positions.specs.declared.positions.Position.{Position}
+use Rattle.meta_positions.specs.declared.positions.Range.{Range}
 use Rattle.meta_symbols.specs.Parts.{part}
+use Rattle.meta_symbols.specs.Tokens.{defined_names, name_of}
 use Rattle.meta_symbols.specs.declared.tokens.Extent.{Extent}
 
 -- what a context is of
@@ -17,12 +23,33 @@ pub record IsContextOf (client : Client) (uri text : List ℕ) (context : Contex
   pub same_uri : context.uri.now ≡ uri
   pub same_text : context.text.now ≡ text
   pub same_client : context.client ≡ client
+  pub defined : map name_of context.definitions.items ≡ defined_names context.tokens.items
+
+-- the context of the open document that parameters name
+pub record IsContextIn (client : Client) (documents : Documents) (params : Data) (context : Context)
+    : Type 0 where
+  pub document : Document
+  pub named : text_in (codes "/textDocument/uri") params ≡ Some context.uri.now
+  pub is_open : document_in documents context.uri.now ≡ Some document
+  pub of_document : IsContextOf client context.uri.now (string_bytes document.text) context
+
+-- parameters name no document, or one that is not open
+abbrev pub LacksDocument : Documents → Data → Type 0
+LacksDocument documents params =
+    option_and_then (document_in documents) (text_in (codes "/textDocument/uri") params) ≡ None
 
 -- the byte at the position in parameters
 pub record IsAskedOffset (context : Context) (d : Data) (offset : ℕ) : Type 0 where
   pub position : Position
   pub asked : asked_position d ≡ Some position
   pub named : IsOffset context.client.encoding context.text.now position offset
+
+-- the bytes of the range in parameters
+pub record IsAskedExtent (context : Context) (d : Data) (extent : Extent) : Type 0 where
+  pub range : Range
+  pub asked : asked_range d ≡ Some range
+  pub start : IsOffset context.client.encoding context.text.now range.start extent.start
+  pub end : IsOffset context.client.encoding context.text.now range.end extent.end
 
 -- an extent runs backwards, ends past the text, or cuts a character
 abbrev pub IsNoPart : List ℕ → Extent → Type 0

@@ -2,11 +2,12 @@
 ghost use Rattle.std.specs.Prelude.{◌≡◌, IfOk, MatchOption, None, option_map, string_bytes};
 ghost use Rattle.meta_positions.specs.Shown.{index_encoding, index_text};
 ghost use Rattle.meta_requests.specs.Around as names;
+ghost use Rattle.meta_requests.specs.Shown as parts;
 ghost use Rattle.meta_symbols.specs.Occurrences as spec;
 
 use language_protocol::client::Client;
 use language_protocol::documents::{Document, Documents};
-use language_protocol::params::{asked_position, range_of, text_at};
+use language_protocol::params::{asked_position, asked_range, text_at};
 use meta_positions::{PositionIndex, offset_of};
 use meta_symbols::{Definition, Extent, Token, TokenClass, definitions_of, tokens_of};
 use serde_json::Value;
@@ -34,7 +35,9 @@ pub struct Name<'d> {
 
 impl<'d> Context<'d> {
     ghost use Rattle.language_protocol.specs.Asked.{asked_position};
-    ghost use Rattle.meta_requests.specs.Names.{HasNoName, IsAskedName, IsAskedOffset, IsContextOf, IsNameAround, IsNameIn, IsNoPart, LacksName};
+    ghost use Rattle.language_protocol.specs.Changes.{asked_range};
+    ghost use Rattle.meta_requests.specs.Names.{HasNoName, IsAskedExtent, IsAskedName, IsAskedOffset, IsContextIn, IsContextOf, IsNameAround, IsNameIn, IsNoPart, LacksDocument, LacksName};
+    ghost use Rattle.meta_requests.specs.Shown.{shown};
     ghost use Rattle.serde_json.specs.View.{view};
 
     /// Returns the context of a document.
@@ -66,7 +69,11 @@ impl<'d> Context<'d> {
         client: Client,
         documents: &'d Documents,
         params: &'d Value,
-    ) -> Result<Option<Context<'d>>, AllocError> {
+    ) -> Result<Option<Context<'d>>, AllocError>
+        ensures { IfOk result (λ found. MatchOption found
+            (LacksDocument documents.now (view params.now))
+            (IsContextIn client documents.now (view params.now))) }
+    {
         let Some(uri) = text_at(params, "/textDocument/uri") else {
             return Ok(None);
         };
@@ -88,11 +95,17 @@ impl<'d> Context<'d> {
     }
 
     /// Returns the bytes of the range in parameters.
-    pub fn extent(&self, params: &Value) -> Option<Extent> {
-        let range = range_of(params.get("range")?)?;
-        let start = offset_of(self.text, self.client.encoding, range.start);
-        let end = offset_of(self.text, self.client.encoding, range.end);
-        Some(Extent { start, end })
+    pub fn extent(&self, params: &Value) -> Option<Extent>
+        ensures { MatchOption result (asked_range (view params.now) ≡ None)
+            (IsAskedExtent self.now (view params.now)) }
+    {
+        match asked_range(params) {
+            Some(range) => Some(Extent {
+                start: offset_of(self.text, self.client.encoding, range.start),
+                end: offset_of(self.text, self.client.encoding, range.end),
+            }),
+            None => None,
+        }
     }
 
     /// Returns the name at the position in parameters.
@@ -127,9 +140,34 @@ impl<'d> Context<'d> {
         }
     }
 
-    /// Returns the text of an extent.
-    pub fn part(&self, extent: Extent) -> &'d str {
-        self.text.get(extent.start..extent.end).unwrap_or("")
+    /// Returns the text of an extent, or nothing where it does not have whole characters.
+    pub fn part(&self, extent: Extent) -> &'d str
+        ensures { result.now ≡ shown self.now.text.now extent }
+    {
+        if is_whole(self.text.as_bytes(), extent) {
+            &self.text[extent.start..extent.end]
+        } else {
+            ""
+        }
+    }
+}
+
+/// Whether an extent has whole characters.
+fn is_whole(text: &[u8], extent: Extent) -> bool
+    ensures { result ≡ parts.is_whole text.now extent }
+{
+    extent.start <= extent.end
+        && (is_boundary(text, extent.start) && is_boundary(text, extent.end))
+}
+
+/// Whether a character begins at a byte, or the text ends there.
+fn is_boundary(text: &[u8], offset: usize) -> bool
+    ensures { result ≡ parts.is_boundary text.now offset }
+{
+    if offset < text.len() {
+        text[offset] < 128 || 192 <= text[offset]
+    } else {
+        offset == text.len()
     }
 }
 

@@ -8,3 +8,4 @@ pub mod locations;
 pub mod names;
 pub mod semantic;
 pub mod structure;
+pub mod symbols;

@@ -1,13 +1,16 @@
 //! Definitions, references and renames.
-ghost use Rattle.std.specs.Prelude.{◌≡◌, ◌++◌, ◌∷◌, [], IfOk, OnOk, filter, map};
+ghost use Rattle.std.specs.Prelude.{◌≡◌, ◌++◌, ◌∷◌, [], IfOk, OnOk, filter, map, if◌then◌else◌};
 ghost use Rattle.meta_requests.specs.Answers.{AreDefinitions, AreReferences, IsRename, references_to, rename_data};
 ghost use Rattle.meta_requests.specs.Calls as spec;
 ghost use Rattle.meta_requests.specs.Calls.{AreStarts, is_call};
+ghost use Rattle.meta_requests.specs.Highlights.{AreHighlights, highlight_at, highlights_of};
 ghost use Rattle.meta_requests.specs.Locations as places;
-ghost use Rattle.meta_symbols.specs.Occurrences.{names_of};
+ghost use Rattle.meta_requests.specs.Refusals as reasons;
+ghost use Rattle.meta_requests.specs.Refusals.{IsPrepared, IsPreparedAt, prepared_data};
+ghost use Rattle.meta_symbols.specs.Occurrences.{names_of, occurrences};
 ghost use Rattle.serde_json.specs.View.{view};
 
-use crate::context::Context;
+use crate::context::{Context, Name};
 use crate::locations::{edit_at, locations_at, range_at};
 use language_protocol::messages::{Answer, ErrorCode};
 use language_protocol::params::{is_true_at, text_at};
@@ -125,39 +128,86 @@ fn is_outside(starts: &HashSet<usize>, extent: Extent) -> bool
     !starts.contains(&extent.start)
 }
 
-/// Whether a name is that of a definition.
-fn is_definition(definitions: &[Definition], extent: Extent) -> bool {
-    definitions
-        .binary_search_by_key(&extent.start, |definition| definition.name.start)
-        .is_ok()
-}
-
 /// Returns where the name at a position occurs.
 pub fn highlights(
     alloc: Global,
     context: &Context<'_>,
     params: &Value,
-) -> Result<Answer, AllocError> {
-    let Some(name) = context.name(params) else {
-        return Ok(Answer::Result(Value::Null));
-    };
-    let extents = occurrences_of(alloc, context.text, &context.tokens, name.text)?;
-    let mut values = Vec::new(alloc);
-    for extent in &extents {
-        values.push(highlight(alloc, context, *extent)?)?;
+) -> Result<Answer, AllocError>
+    ensures { IfOk result (AreHighlights context.now (view params.now)) }
+{
+    match context.name(params) {
+        Some(name) => Ok(Answer::Result(highlights_value(alloc, context, name.text)?)),
+        None => Ok(Answer::Result(Value::Null)),
     }
-    Ok(Answer::Result(Value::Array(values)))
+}
+
+/// Returns where a name occurs, as highlights.
+fn highlights_value(alloc: Global, context: &Context<'_>, name: &str) -> Result<Value, AllocError>
+    ensures { IfOk result (λ v. view v ≡ highlights_of context.now
+        (occurrences context.now.text.now name.now context.now.tokens.items)) }
+{
+    let extents = occurrences_of(alloc, context.text, &context.tokens, name)?;
+    let starts = starts_of(alloc, &context.definitions)?;
+    highlights_at(alloc, context, &starts, &extents)
+}
+
+/// Returns the highlights of extents, by the bytes at which the names of definitions begin.
+fn highlights_at(
+    alloc: Global,
+    context: &Context<'_>,
+    starts: &HashSet<usize>,
+    extents: &[Extent],
+) -> Result<Value, AllocError>
+    requires { AreStarts context.now.definitions.items starts.now }
+    ensures { IfOk result (λ v. view v ≡ highlights_of context.now extents.now) }
+{
+    let mut highlights = Vec::new(alloc);
+    let mut rest = extents;
+    while let Some((extent, after)) = rest.split_first() {
+        push_highlight(alloc, context, starts, *extent, &mut highlights)?;
+        rest = after;
+    }
+    Ok(Value::Array(highlights))
+}
+
+/// Adds the highlight of an extent.
+fn push_highlight(
+    alloc: Global,
+    context: &Context<'_>,
+    starts: &HashSet<usize>,
+    extent: Extent,
+    highlights: &mut Vec<Value>,
+) -> Result<(), AllocError>
+    requires { AreStarts context.now.definitions.items starts.now }
+    ensures { OnOk result (map view highlights.new.items
+        ≡ map view highlights.old.items ++ highlight_at context.now extent ∷ []) }
+{
+    let highlight = highlight(alloc, context, starts, extent)?;
+    highlights.push(highlight)?;
+    Ok(())
 }
 
 /// Returns a highlight: a write of a definition's name, a read of another.
-fn highlight(alloc: Global, context: &Context<'_>, extent: Extent) -> Result<Value, AllocError> {
-    let kind = if is_definition(&context.definitions, extent) {
-        3u64
-    } else {
-        2u64
-    };
+fn highlight(
+    alloc: Global,
+    context: &Context<'_>,
+    starts: &HashSet<usize>,
+    extent: Extent,
+) -> Result<Value, AllocError>
+    requires { AreStarts context.now.definitions.items starts.now }
+    ensures { IfOk result (λ v. view v ≡ highlight_at context.now extent) }
+{
     let range = range_at(alloc, context, extent)?;
+    let kind = highlight_kind(is_outside(starts, extent));
     json!(in alloc; { "range": range, "kind": kind })
+}
+
+/// Returns the protocol's number of a read, for a call, or of a write.
+fn highlight_kind(is_call: bool) -> u64
+    ensures { result ≡ (if is_call then 2 else 3) }
+{
+    if is_call { 2 } else { 3 }
 }
 
 /// Returns the range of the name at a position, if a rule of that name is defined.
@@ -165,16 +215,36 @@ pub fn prepare_rename(
     alloc: Global,
     context: &Context<'_>,
     params: &Value,
-) -> Result<Answer, AllocError> {
-    let Some(name) = context.name(params) else {
-        return Ok(Answer::Result(Value::Null));
-    };
-    if definitions_named(alloc, context.text, &context.definitions, name.text)?.is_empty() {
+) -> Result<Answer, AllocError>
+    ensures { IfOk result (IsPrepared context.now (view params.now)) }
+{
+    match context.name(params) {
+        Some(name) => prepare_at(alloc, context, name),
+        None => Ok(Answer::Result(Value::Null)),
+    }
+}
+
+/// Returns the range of a name, if a rule of that name is defined.
+fn prepare_at(
+    alloc: Global,
+    context: &Context<'_>,
+    name: Name<'_>,
+) -> Result<Answer, AllocError>
+    ensures { IfOk result (IsPreparedAt context.now name.entry) }
+{
+    let definitions = definitions_named(alloc, context.text, &context.definitions, name.text)?;
+    if definitions.is_empty() {
         return Ok(Answer::Error(ErrorCode::RequestFailed, reason_of(RenameRefusal::NoRule)));
     }
+    Ok(Answer::Result(name_value(alloc, context, name)?))
+}
+
+/// Returns the range of a name, and the name.
+fn name_value(alloc: Global, context: &Context<'_>, name: Name<'_>) -> Result<Value, AllocError>
+    ensures { IfOk result (λ v. view v ≡ prepared_data context.now name.entry) }
+{
     let range = range_at(alloc, context, name.extent)?;
-    let value = json!(in alloc; { "range": range, "placeholder": name.text })?;
-    Ok(Answer::Result(value))
+    json!(in alloc; { "range": range, "placeholder": name.text })
 }
 
 /// Returns the edits that rename the rule at a position.
@@ -241,7 +311,9 @@ fn push_edit(
 }
 
 /// Returns why a rename is refused, in words.
-fn reason_of(refusal: RenameRefusal) -> &'static str {
+fn reason_of(refusal: RenameRefusal) -> &'static str
+    ensures { result.now ≡ reasons.reason_of refusal }
+{
     match refusal {
         RenameRefusal::NoRule => "no rule of this name is defined here",
         RenameRefusal::NoIdentifier => {

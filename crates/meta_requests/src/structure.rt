@@ -1,112 +1,12 @@
-//! Symbols, folds and selections.
+//! Folds and selections.
 use crate::context::Context;
-use crate::locations::{location_at, range_at};
-use language_protocol::client::Client;
-use language_protocol::documents::Documents;
+use crate::locations::range_at;
 use language_protocol::messages::{Answer, ErrorCode};
 use language_protocol::params::position_of;
 use meta_positions::offset_of;
-use meta_symbols::{Definition, Extent, Fold, folds_of, selections_at};
+use meta_symbols::{Extent, Fold, folds_of, selections_at};
 use serde_json::{Value, json};
 use std::alloc::{AllocError, Global};
-
-/// The protocol's number of a function, as which rules are shown.
-const FUNCTION: u64 = 12;
-
-/// Returns the rules of a document.
-pub fn document_symbols(alloc: Global, context: &Context<'_>) -> Result<Answer, AllocError> {
-    let mut symbols = Vec::new(alloc);
-    for definition in &context.definitions {
-        let symbol = if context.client.has_nested_symbols {
-            nested_symbol(alloc, context, definition)?
-        } else {
-            flat_symbol(alloc, context, definition)?
-        };
-        symbols.push(symbol)?;
-    }
-    Ok(Answer::Result(Value::Array(symbols)))
-}
-
-/// Returns a rule as a `DocumentSymbol`.
-fn nested_symbol(
-    alloc: Global,
-    context: &Context<'_>,
-    definition: &Definition,
-) -> Result<Value, AllocError> {
-    let range = range_at(alloc, context, definition.whole)?;
-    let selection = range_at(alloc, context, definition.name)?;
-    json!(in alloc; {
-        "name": context.part(definition.name),
-        "detail": modifier_name(definition.modifier),
-        "kind": FUNCTION,
-        "range": range,
-        "selectionRange": selection,
-    })
-}
-
-/// Returns a rule as a `SymbolInformation`.
-fn flat_symbol(
-    alloc: Global,
-    context: &Context<'_>,
-    definition: &Definition,
-) -> Result<Value, AllocError> {
-    let location = location_at(alloc, context, definition.name)?;
-    json!(in alloc; {
-        "name": context.part(definition.name),
-        "kind": FUNCTION,
-        "location": location,
-    })
-}
-
-/// Returns what a modifier means.
-pub fn modifier_name(modifier: Option<u8>) -> &'static str {
-    match modifier {
-        Some(b'_') => "silent",
-        Some(b'@') => "atomic",
-        Some(b'$') => "compound-atomic",
-        Some(b'!') => "non-atomic",
-        _ => "",
-    }
-}
-
-/// Returns the rules of all documents whose names contain a text, up to the case of ASCII letters.
-pub fn workspace_symbols(
-    alloc: Global,
-    client: Client,
-    documents: &Documents,
-    query: &str,
-) -> Result<Answer, AllocError> {
-    let mut symbols = Vec::new(alloc);
-    for (uri, document) in documents.all() {
-        let context = Context::new(alloc, client, uri.as_str(), document)?;
-        push_symbols(alloc, &context, query, &mut symbols)?;
-    }
-    Ok(Answer::Result(Value::Array(symbols)))
-}
-
-/// Adds the rules of a document whose names contain a text.
-fn push_symbols(
-    alloc: Global,
-    context: &Context<'_>,
-    query: &str,
-    symbols: &mut Vec<Value>,
-) -> Result<(), AllocError> {
-    for definition in &context.definitions {
-        if contains(context.part(definition.name), query) {
-            symbols.push(flat_symbol(alloc, context, definition)?)?;
-        }
-    }
-    Ok(())
-}
-
-/// Whether a name contains a text, up to the case of ASCII letters.
-fn contains(name: &str, query: &str) -> bool {
-    query.is_empty()
-        || name
-            .as_bytes()
-            .windows(query.len())
-            .any(|window| window.eq_ignore_ascii_case(query.as_bytes()))
-}
 
 /// Returns what can be folded in a document.
 pub fn folding_ranges(alloc: Global, context: &Context<'_>) -> Result<Answer, AllocError> {

@@ -7,7 +7,8 @@ use meta_requests::completions::completions;
 use meta_requests::context::Context;
 use meta_requests::names::{definition, highlights, prepare_rename, references, rename_rule};
 use meta_requests::semantic::semantic_tokens;
-use meta_requests::structure::{document_symbols, folding_ranges, selection_ranges};
+use meta_requests::structure::{folding_ranges, selection_ranges};
+use meta_requests::symbols::document_symbols;
 use serde_json::Value;
 use std::alloc::{AllocError, Global};
 

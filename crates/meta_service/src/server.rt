@@ -20,7 +20,7 @@ use language_protocol::messages::{Answer, ErrorCode, Incoming, classify};
 use language_protocol::params::{changes_in, text_at, version_of};
 use meta_positions::apply_changes;
 use meta_requests::context::Context;
-use meta_requests::structure::workspace_symbols;
+use meta_requests::symbols::workspace_symbols;
 use serde_json::Value;
 use std::alloc::{AllocError, Global};
 

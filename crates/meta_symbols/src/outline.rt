@@ -1,7 +1,8 @@
 //! The definitions of rules in a text.
-ghost use Rattle.std.specs.Prelude.{◌≡◌, ◌++◌, IfOk, OnOk, bytes_eq};
+ghost use Rattle.std.specs.Prelude.{◌≡◌, ◌&&◌, ◌++◌, IfOk, OnOk, bytes_eq, map};
 ghost use Rattle.meta_symbols.specs.Occurrences as spec;
 ghost use Rattle.meta_symbols.specs.Parts as parts;
+ghost use Rattle.meta_symbols.specs.Tokens as classes;
 
 use crate::parts::part;
 use crate::tokens::{Extent, Token, TokenClass};
@@ -24,7 +25,9 @@ pub struct Definition {
 
 impl Definition {
     /// Returns a definition of which the name is read, with the byte at which its doc comment begins.
-    fn new(name: Token, start: usize) -> Definition {
+    fn new(name: Token, start: usize) -> Definition
+        ensures { result.name ≡ spec.extent_of name }
+    {
         Definition {
             name: name.extent(),
             whole: Extent {
@@ -38,7 +41,9 @@ impl Definition {
     }
 
     /// Adds a token. Returns how many braces are open after it.
-    fn extend(&mut self, text: &[u8], token: Token, depth: usize) -> usize {
+    fn extend(&mut self, text: &[u8], token: Token, depth: usize) -> usize
+        ensures { self.new.name ≡ self.old.name }
+    {
         if self.is_closed {
             return 0;
         }
@@ -50,7 +55,9 @@ impl Definition {
     }
 
     /// Adds a token before the body. Returns how many braces are open after it.
-    fn begin_body(&mut self, text: &[u8], token: Token) -> usize {
+    fn begin_body(&mut self, text: &[u8], token: Token) -> usize
+        ensures { self.new.name ≡ self.old.name }
+    {
         if token.is_sign(b'{') {
             self.body = Some(token.extent());
             return 1;
@@ -60,7 +67,9 @@ impl Definition {
     }
 
     /// Takes a modifier, if the token is one.
-    fn set_modifier(&mut self, text: &[u8], token: Token) {
+    fn set_modifier(&mut self, text: &[u8], token: Token)
+        ensures { self.new.name ≡ self.old.name }
+    {
         if let Some(byte) = text.get(token.start) {
             if matches!(byte, b'_' | b'@' | b'$' | b'!')
                 && token.end == token.start.saturating_add(1)
@@ -71,7 +80,9 @@ impl Definition {
     }
 
     /// Adds a token to the body. Returns how many braces are open after it.
-    fn extend_body(&mut self, start: usize, token: Token, depth: usize) -> usize {
+    fn extend_body(&mut self, start: usize, token: Token, depth: usize) -> usize
+        ensures { self.new.name ≡ self.old.name }
+    {
         self.body = Some(Extent {
             start,
             end: token.end,
@@ -93,24 +104,44 @@ pub fn definitions_of(
     alloc: Global,
     text: &str,
     tokens: &[Token],
-) -> Result<Vec<Definition>, AllocError> {
+) -> Result<Vec<Definition>, AllocError>
+    ensures { IfOk result (λ definitions.
+        map classes.name_of definitions.items ≡ classes.defined_names tokens.now) }
+{
     let mut definitions = Vec::new(alloc);
     let mut depth = 0;
     let mut doc = None;
-    for (i, token) in tokens.iter().enumerate() {
+    let mut rest = tokens;
+    while let Some((token, after)) = rest.split_first() {
         let start = doc.unwrap_or(token.start);
         doc = doc_after(*token, doc);
-        if token.is_comment() {
-            continue;
-        }
-        if is_definition(tokens, i) {
-            definitions.push(Definition::new(*token, start))?;
-            depth = 0;
-        } else {
-            depth = extend_last(&mut definitions, text, *token, depth);
-        }
+        depth = push_token(&mut definitions, text, start, *token, after, depth)?;
+        rest = after;
     }
     Ok(definitions)
+}
+
+/// Adds a token: a definition, if it is the name of one, or to the last definition. Returns how many braces
+/// are open after it.
+fn push_token(
+    definitions: &mut Vec<Definition>,
+    text: &str,
+    start: usize,
+    token: Token,
+    after: &[Token],
+    depth: usize,
+) -> Result<usize, AllocError>
+    ensures { OnOk result (map classes.name_of definitions.new.items
+        ≡ map classes.name_of definitions.old.items ++ classes.defined_at token after.now) }
+{
+    if is_definition(token, after) {
+        definitions.push(Definition::new(token, start))?;
+        return Ok(0);
+    }
+    if token.is_comment() {
+        return Ok(depth);
+    }
+    extend_last(definitions, text, token, depth)
 }
 
 /// Returns where the doc comments begin that end before the next token.
@@ -123,25 +154,42 @@ fn doc_after(token: Token, doc: Option<usize>) -> Option<usize> {
 }
 
 /// Adds a token to the last definition, where there is one. Returns how many braces are open after it.
-fn extend_last(definitions: &mut Vec<Definition>, text: &str, token: Token, depth: usize) -> usize {
-    match definitions.last_mut() {
-        Some(definition) => definition.extend(text.as_bytes(), token, depth),
-        None => 0,
-    }
+fn extend_last(
+    definitions: &mut Vec<Definition>,
+    text: &str,
+    token: Token,
+    depth: usize,
+) -> Result<usize, AllocError>
+    ensures { OnOk result (map classes.name_of definitions.new.items
+        ≡ map classes.name_of definitions.old.items) }
+{
+    let Some(mut definition) = definitions.pop() else {
+        return Ok(0);
+    };
+    let depth = definition.extend(text.as_bytes(), token, depth);
+    definitions.push(definition)?;
+    Ok(depth)
 }
 
-/// Whether the token at an index is a name before a `=`.
-fn is_definition(tokens: &[Token], index: usize) -> bool {
-    let Some((token, after)) = tokens.get(index..).and_then(|rest| rest.split_first()) else {
-        return false;
-    };
-    if token.class != TokenClass::Name {
-        return false;
+/// Whether a token is a name before a `=`.
+fn is_definition(token: Token, after: &[Token]) -> bool
+    ensures { result ≡ (spec.is_name token.class && classes.is_equals_next after.now) }
+{
+    matches!(token.class, TokenClass::Name) && is_equals_next(after)
+}
+
+/// Whether the first token that is no comment is a `=`.
+fn is_equals_next(tokens: &[Token]) -> bool
+    ensures { result ≡ classes.is_equals_next tokens.now }
+{
+    let mut rest = tokens;
+    while let Some((token, after)) = rest.split_first() {
+        if !token.is_comment() {
+            return token.is_sign(b'=');
+        }
+        rest = after;
     }
-    match after.iter().find(|next| !next.is_comment()) {
-        Some(next) => next.is_sign(b'='),
-        None => false,
-    }
+    false
 }
 
 /// Returns the names of the definitions of this name.

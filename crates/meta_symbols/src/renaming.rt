@@ -1,41 +1,22 @@
 //! Renamed rules.
-ghost use Rattle.std.specs.Prelude.{◌≡◌, ◌++◌, IfOk, MatchOption, OnOk, true};
+ghost use Rattle.std.specs.Prelude.{◌≡◌, ◌≢◌, ◌++◌, [], IfOk, MatchBool, MatchOption, OnOk, true};
 ghost use Rattle.meta_base.specs.declared.grammar.Rule.TheVariants.{grammar_rules};
 ghost use Rattle.meta_syntax.specs.Parses.{AreTokensOf};
 ghost use Rattle.meta_syntax.specs.declared.entries.Entry.TheVariants.{End};
+ghost use Rattle.meta_symbols.specs.NewNames.{IsNewName};
 ghost use Rattle.meta_symbols.specs.Renaming as spec;
 ghost use Rattle.meta_symbols.specs.Renaming.{IsRenaming};
 
-use crate::occurrences::occurrences_of;
-use crate::outline::{definitions_named, definitions_of};
 use crate::parts::{part, replace_all};
-use crate::tokens::{Extent, tokens_of};
+use crate::refusals::{RenameRefusal, is_identifier, is_keyword};
+use crate::tokens::Extent;
 use meta_base::derived::equality_of_rules;
 use meta_base::grammar::Rule;
-use meta_base::runtime::{Error, Fault, Span};
-use meta_names::{is_builtin, validate_pest_keywords, validate_rust_keywords};
+use meta_base::runtime::Fault;
+use meta_names::is_builtin;
 use meta_syntax::entries::Entry;
 use meta_syntax::grammar::PestParser;
 use std::alloc::{AllocError, Global};
-
-/// The reason for which a rule is not renamed.
-#[derive(Clone, Copy, Debug, PartialEq, Eq)]
-pub enum RenameRefusal {
-    /// No rule of the old name is defined.
-    NoRule,
-    /// The new name is no identifier.
-    NoIdentifier,
-    /// The new name is a keyword of pest or of Rust.
-    Keyword,
-    /// The new name is that of a builtin.
-    Builtin,
-    /// A rule of the new name is defined or called.
-    Taken,
-    /// The text is no grammar.
-    NoGrammar,
-    /// The edited text has other tokens than the text with the new name in place of the old one.
-    OtherTokens,
-}
 
 /// The answer to a rename.
 #[derive(Debug, Drop)]
@@ -46,18 +27,65 @@ pub enum Renaming {
 }
 
 /// Renames a rule. The edits are where its name is an identifier of the grammar, in definitions and in
-/// calls. They are given out only where the edited text is a grammar with the same tokens, but for the new
-/// name.
+/// calls. They are given out only where the new name is a free one, and the edited text is a grammar with the
+/// same tokens, but for the new name.
 pub fn rename(alloc: Global, text: &str, name: &str, new_name: &str) -> Result<Renaming, AllocError>
     ensures { IfOk result (IsRenaming text.now name.now new_name.now) }
 {
-    if let Some(refusal) = refusal_of(alloc, text, name, new_name)? {
-        return Ok(Renaming::Refused(refusal));
+    if !is_identifier(new_name.as_bytes()) {
+        return Ok(Renaming::Refused(RenameRefusal::NoIdentifier));
     }
-    let Some(entries) = entries_of(alloc, text)? else {
-        return Ok(Renaming::Refused(RenameRefusal::NoGrammar));
-    };
-    rename_in(alloc, text, &entries, name, new_name)
+    if is_builtin(new_name) {
+        return Ok(Renaming::Refused(RenameRefusal::Builtin));
+    }
+    if is_keyword(alloc, new_name)? {
+        return Ok(Renaming::Refused(RenameRefusal::Keyword));
+    }
+    match entries_of(alloc, text)? {
+        Some(entries) => rename_among(alloc, text, &entries, name, new_name),
+        None => Ok(Renaming::Refused(RenameRefusal::NoGrammar)),
+    }
+}
+
+/// Renames a rule of a grammar with these tokens, if there is such a rule and the new name is not taken.
+fn rename_among(
+    alloc: Global,
+    text: &str,
+    entries: &[Entry],
+    name: &str,
+    new_name: &str,
+) -> Result<Renaming, AllocError>
+    requires entries { AreTokensOf grammar_rules text.now entries.now }
+    requires name { IsNewName new_name.now }
+    ensures { IfOk result (IsRenaming text.now name.now new_name.now) }
+{
+    let bytes = text.as_bytes();
+    if !is_defined(bytes, name.as_bytes(), entries) {
+        return Ok(Renaming::Refused(RenameRefusal::NoRule));
+    }
+    if is_taken(alloc, bytes, name.as_bytes(), entries, new_name.as_bytes())? {
+        return Ok(Renaming::Refused(RenameRefusal::Taken));
+    }
+    rename_in(alloc, text, entries, name, new_name)
+}
+
+/// Whether a rule other than the one of this name has the new name.
+fn is_taken(
+    alloc: Global,
+    text: &[u8],
+    name: &[u8],
+    entries: &[Entry],
+    new_name: &[u8],
+) -> Result<bool, AllocError>
+    ensures { IfOk result (λ answer. MatchBool answer
+        (spec.places_after text.now new_name.now (End 0 0) entries.now ≢ [])
+        (spec.IsFree text.now name.now new_name.now entries.now)) }
+{
+    if name == new_name {
+        return Ok(false);
+    }
+    let places = places_of(alloc, text, new_name, entries)?;
+    Ok(!places.is_empty())
 }
 
 /// Renames a rule of a grammar with these tokens.
@@ -68,7 +96,10 @@ fn rename_in(
     name: &str,
     new_name: &str,
 ) -> Result<Renaming, AllocError>
-    requires { AreTokensOf grammar_rules text.now entries.now }
+    requires entries { AreTokensOf grammar_rules text.now entries.now }
+    requires name { IsNewName new_name.now }
+    requires defined { spec.is_defined text.now name.now entries.now ≡ true }
+    requires free { spec.IsFree text.now name.now new_name.now entries.now }
     ensures { IfOk result (IsRenaming text.now name.now new_name.now) }
 {
     let bytes = text.as_bytes();
@@ -81,80 +112,9 @@ fn rename_in(
     }
 }
 
-/// Returns the reason for which a name cannot be given to a rule, by the names alone.
-fn refusal_of(
-    alloc: Global,
-    text: &str,
-    name: &str,
-    new_name: &str,
-) -> Result<Option<RenameRefusal>, AllocError> {
-    if !is_identifier(new_name) {
-        return Ok(Some(RenameRefusal::NoIdentifier));
-    }
-    if is_builtin(new_name) {
-        return Ok(Some(RenameRefusal::Builtin));
-    }
-    if is_keyword(alloc, new_name)? {
-        return Ok(Some(RenameRefusal::Keyword));
-    }
-    refusal_among(alloc, text, name, new_name)
-}
-
-/// Returns the reason for which a name cannot be given to a rule, by the rules of a text.
-fn refusal_among(
-    alloc: Global,
-    text: &str,
-    name: &str,
-    new_name: &str,
-) -> Result<Option<RenameRefusal>, AllocError> {
-    let tokens = tokens_of(alloc, text)?;
-    let definitions = definitions_of(alloc, text, &tokens)?;
-    if definitions_named(alloc, text, &definitions, name)?.is_empty() {
-        return Ok(Some(RenameRefusal::NoRule));
-    }
-    if name != new_name && !occurrences_of(alloc, text, &tokens, new_name)?.is_empty() {
-        return Ok(Some(RenameRefusal::Taken));
-    }
-    Ok(None)
-}
-
-/// Whether a text is an identifier.
-fn is_identifier(name: &str) -> bool {
-    let bytes = name.as_bytes();
-    let Some((first, others)) = bytes.split_first() else {
-        return false;
-    };
-    (first.is_ascii_alphabetic() || *first == b'_')
-        && others
-            .iter()
-            .all(|byte| byte.is_ascii_alphanumeric() || *byte == b'_')
-}
-
-/// Whether a name is a keyword of pest or of Rust.
-fn is_keyword(alloc: Global, name: &str) -> Result<bool, AllocError> {
-    let Some(span) = Span::new(name, 0, name.len()) else {
-        return Ok(false);
-    };
-    let mut spans = Vec::new(alloc);
-    spans.push(span)?;
-    Ok(
-        has_errors(validate_pest_keywords(alloc, &spans))?
-            || has_errors(validate_rust_keywords(alloc, &spans))?,
-    )
-}
-
-/// Whether there are errors.
-fn has_errors(errors: Result<Vec<Error<Rule>>, Fault>) -> Result<bool, AllocError> {
-    match errors {
-        Ok(errors) => Ok(!errors.is_empty()),
-        Err(Fault::Grammar(_)) => Ok(true),
-        Err(Fault::Memory(error)) => Err(error),
-    }
-}
-
 /// Returns the starts and ends of a grammar's tokens, or none where a text is no grammar.
 fn entries_of(alloc: Global, text: &str) -> Result<Option<Vec<Entry>>, AllocError>
-    ensures { IfOk result (λ found. MatchOption found (Unit {0})
+    ensures { IfOk result (λ found. MatchOption found (spec.IsNoGrammar text.now)
         (λ entries. AreTokensOf grammar_rules text.now entries.items)) }
 {
     match PestParser::tokens(alloc, Rule::grammar_rules, text) {
@@ -177,6 +137,13 @@ fn is_identifier_rule(rule: Rule) -> bool
     ensures { result ≡ spec.is_identifier rule }
 {
     matches!(rule, Rule::identifier)
+}
+
+/// Whether a rule is that of definitions.
+fn is_definition_rule(rule: Rule) -> bool
+    ensures { result ≡ spec.is_definition_rule rule }
+{
+    matches!(rule, Rule::grammar_rule)
 }
 
 /// Whether a part of a text is an identifier of this name.
@@ -223,6 +190,36 @@ fn push_place(
         }
     }
     Ok(())
+}
+
+/// Whether a rule of this name is defined in a grammar with these tokens.
+fn is_defined(text: &[u8], name: &[u8], entries: &[Entry]) -> bool
+    ensures { result ≡ spec.is_defined text.now name.now entries.now }
+{
+    let mut before = Entry::End { pos: 0, partner: 0 };
+    let mut last = before;
+    let mut rest = entries;
+    while let Some((entry, after)) = rest.split_first() {
+        if is_definition_of(text, name, before, last, *entry) {
+            return true;
+        }
+        before = last;
+        last = *entry;
+        rest = after;
+    }
+    false
+}
+
+/// Whether three neighbouring entries are the start of a definition and its name, which is this one.
+fn is_definition_of(text: &[u8], name: &[u8], before: Entry, last: Entry, entry: Entry) -> bool
+    ensures { result ≡ spec.defines text.now name.now before last entry }
+{
+    match (before, last, entry) {
+        (Entry::Start { rule: outer, .. }, Entry::Start { rule, pos, .. }, Entry::End { pos: end, .. }) => {
+            is_definition_rule(outer) && is_place(text, rule, pos, end, name)
+        }
+        _ => false,
+    }
 }
 
 /// Whether an edited text is a grammar with the tokens of a text, but for a new name.

@@ -1,6 +1,7 @@
 //! The tokens of a text.
 ghost use Rattle.std.specs.Prelude.{◌≡◌, ◌<◌, ◌≤◌, length};
 ghost use Rattle.meta_symbols.specs.Occurrences.{extent_of};
+ghost use Rattle.meta_symbols.specs.Tokens as spec;
 
 use crate::scanning::{
     block_comment_end, character_end, line_end, name_end, number_end, string_end, wide_end,
@@ -58,7 +59,9 @@ impl Token {
     }
 
     /// Whether it is this ASCII character.
-    pub fn is_sign(self, sign: u8) -> bool {
+    pub fn is_sign(self, sign: u8) -> bool
+        ensures { result ≡ spec.is_sign sign self.class }
+    {
         match self.class {
             TokenClass::Sign(byte) => byte == sign,
             _ => false,
@@ -66,17 +69,23 @@ impl Token {
     }
 
     /// Whether it opens a bracket.
-    pub fn is_opening(self) -> bool {
+    pub fn is_opening(self) -> bool
+        ensures { result ≡ spec.is_opening self.class }
+    {
         self.is_sign(b'(') || self.is_sign(b'{') || self.is_sign(b'[')
     }
 
     /// Whether it closes a bracket.
-    pub fn is_closing(self) -> bool {
+    pub fn is_closing(self) -> bool
+        ensures { result ≡ spec.is_closing self.class }
+    {
         self.is_sign(b')') || self.is_sign(b'}') || self.is_sign(b']')
     }
 
     /// Whether it is a comment.
-    pub fn is_comment(self) -> bool {
+    pub fn is_comment(self) -> bool
+        ensures { result ≡ spec.is_comment self.class }
+    {
         matches!(
             self.class,
             TokenClass::Comment | TokenClass::Doc | TokenClass::GrammarDoc
