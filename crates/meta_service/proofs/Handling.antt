@@ -15,5 +15,5 @@ pub handles_notification : (old new : Server) (d : Data) (m : List ℕ) (r : Rep
 handles_notification old new d m r q n h = rw (q, n) h
 
 -- a request
-pub handles_request : (old new : Server) (d id : Data) (m : List ℕ) (r : Reply) → request_of d ≡ Some (id, m) → AnswersRequest old new id m r → HandlesMessage old new d r
+pub handles_request : (old new : Server) (d id : Data) (m : List ℕ) (r : Reply) → request_of d ≡ Some (id, m) → AnswersRequest old new id m (params_of d) r → HandlesMessage old new d r
 handles_request old new d id m r q h = rw q h

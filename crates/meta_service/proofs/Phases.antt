@@ -1,16 +1,34 @@
 -- Answers in the phases of a session.
-use Rattle.std.proofs.Common.{◌≡◌, List, ℕ, Bool, true, false, Result, Ok, Err, IfOk, bytes_eq, codes}
+use Rattle.std.proofs.Common.{◌≡◌, List, ℕ, Bool, true, false, Result, Ok, Err, IfOk, bytes_eq, codes, subst}
 use Rattle.std.specs.declared.alloc.AllocError.{AllocError}
+use Rattle.language_protocol.specs.Clients.{client_of}
+use Rattle.language_protocol.specs.declared.client.Client.{Client}
+use Rattle.language_protocol.specs.declared.documents.Documents.{Documents}
 use Rattle.language_protocol.specs.declared.messages.Answer.{Answer}
-use Rattle.meta_service.specs.Sessions.{AnswersIn}
+use Rattle.language_protocol.specs.declared.messages.Answer.TheVariants as answer
+use Rattle.meta_service.specs.Capabilities.{IsInitialized}
+use Rattle.meta_service.specs.Requests.{AnswersOpen}
+use Rattle.meta_service.specs.Sessions.{AnswersAsked, AnswersIn}
 use Rattle.meta_service.specs.declared.server.Phase.TheVariants.{New, Running}
+use Rattle.meta_service.specs.declared.server.Server.{Server}
+use Rattle.serde_json.specs.Data.{Data, null}
+use Rattle.serde_json.specs.View.{view}
+use Rattle.serde_json.specs.declared.value.Value.{Value}
 
--- any answer to `initialize`
-pub answers_first : (m : List ℕ) (r : Result Answer AllocError) → bytes_eq m (codes "initialize") ≡ true → IfOk r (AnswersIn New m)
-answers_first m (Ok a) e = rw e tt
-answers_first m (Err x) e = tt
+-- the answer to `initialize`
+pub answers_first : (shown client : Client) (documents : Documents) (m : List ℕ) (params : Data) (r : Result Answer AllocError) → bytes_eq m (codes "initialize") ≡ true → shown ≡ client_of params → IfOk r (IsInitialized shown) → IfOk r (AnswersIn New client documents m params)
+answers_first shown client documents m params (Ok a) e q h = rw e (subst (λ (c : Client). IsInitialized c a) q h)
+answers_first shown client documents m params (Err x) e q h = tt
 
--- any answer to a request after that
-pub answers_running : (m : List ℕ) (r : Result Answer AllocError) → bytes_eq m (codes "shutdown") ≡ false → bytes_eq m (codes "initialize") ≡ false → IfOk r (AnswersIn Running m)
-answers_running m (Ok a) e f = rw (e, f) tt
-answers_running m (Err x) e f = tt
+-- null answers `shutdown`
+pub answers_shutdown : (client : Client) (documents : Documents) (m : List ℕ) (params : Data) (v : Value) → bytes_eq m (codes "shutdown") ≡ true → view v ≡ null → AnswersIn Running client documents m params (answer.Result v)
+answers_shutdown client documents m params v e h = rw e h
+
+-- an answer to a request after that
+pub answers_running : (client : Client) (documents : Documents) (m : List ℕ) (params : Data) (r : Result Answer AllocError) → bytes_eq m (codes "shutdown") ≡ false → bytes_eq m (codes "initialize") ≡ false → IfOk r (AnswersOpen client documents m params) → IfOk r (AnswersIn Running client documents m params)
+answers_running client documents m params (Ok a) e f h = rw (e, f) h
+answers_running client documents m params (Err x) e f h = tt
+
+-- an answer by the parameters of a message
+pub asked_by : (server : Server) (m : List ℕ) (given params : Data) (a : Answer) → given ≡ params → AnswersAsked server m given a → AnswersAsked server m params a
+asked_by server m given params a q h = subst (λ (d : Data). AnswersAsked server m d a) q h

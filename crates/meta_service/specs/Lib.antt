@@ -1,3 +1,5 @@
+pub mod Capabilities
 pub mod Notices
 pub mod Replies
+pub mod Requests
 pub mod Sessions

@@ -1,12 +1,18 @@
 -- Sessions: the phases, and the replies to messages.
-use Rattle.std.specs.Prelude.{◌≡◌, ◌⊎◌, ℕ, List, Option, Some, None, IfSome, MatchOption, bytes_eq, codes, string_bytes, if◌then◌else◌}
+use Rattle.std.specs.Prelude.{◌≡◌, ◌⊎◌, ℕ, List, Option, Some, None, IfSome, MatchBool, MatchOption, bytes_eq, codes, string_bytes, if◌then◌else◌}
+use Rattle.language_protocol.specs.Clients.{client_of}
 use Rattle.language_protocol.specs.Documents.{KeepsDocuments}
 use Rattle.language_protocol.specs.Messages.{notification_of, params_of, request_of}
+use Rattle.language_protocol.specs.declared.client.Client.{Client}
+use Rattle.language_protocol.specs.declared.documents.Documents.{Documents}
 use Rattle.language_protocol.specs.declared.messages.Answer.{Answer}
 use Rattle.language_protocol.specs.declared.messages.ErrorCode.{ErrorCode}
 use Rattle.language_protocol.specs.declared.messages.ErrorCode.TheVariants.{InvalidRequest, ServerNotInitialized}
 use Rattle.meta_service.specs.Notices.{Announces, changed_by, notice_in}
+use Rattle.meta_requests.specs.Refusals.{IsNull}
+use Rattle.meta_service.specs.Capabilities.{IsInitialized}
 use Rattle.meta_service.specs.Replies.{IsError, IsOneMessage, IsRefusal, IsResponse}
+use Rattle.meta_service.specs.Requests.{AnswersOpen}
 use Rattle.meta_service.specs.declared.server.Phase.{Phase}
 use Rattle.meta_service.specs.declared.server.Phase.TheVariants.{New, Running, ShutDown}
 use Rattle.meta_service.specs.declared.replies.Reply.{Reply}
@@ -35,9 +41,22 @@ refused_in Running method = if bytes_eq method (codes "shutdown") then None
     else (if bytes_eq method (codes "initialize") then Some InvalidRequest else None)
 refused_in ShutDown method = Some InvalidRequest
 
+-- an answer to a request of a method that is not refused in a phase
+abbrev pub AnswersAllowed : Phase → Client → Documents → List ℕ → Data → Answer → Type 0
+AnswersAllowed New client documents method params a = IsInitialized (client_of params) a
+AnswersAllowed Running client documents method params a = MatchBool (bytes_eq method (codes "shutdown"))
+    (IsNull a) (AnswersOpen client documents method params a)
+AnswersAllowed ShutDown client documents method params a = ⊥
+
 -- an answer to a request of a method in a phase: the error with which it is refused, if it is
-abbrev pub AnswersIn : Phase → List ℕ → Answer → Type 0
-AnswersIn phase method a = MatchOption (refused_in phase method) (Unit {0}) (λ code. IsError code a)
+abbrev pub AnswersIn : Phase → Client → Documents → List ℕ → Data → Answer → Type 0
+AnswersIn phase client documents method params a = MatchOption (refused_in phase method)
+    (AnswersAllowed phase client documents method params a) (λ code. IsError code a)
+
+-- an answer of a server
+abbrev pub AnswersAsked : Server → List ℕ → Data → Answer → Type 0
+AnswersAsked server method params a =
+    AnswersIn (phase_of server) server.client server.documents method params a
 
 -- the status of a process that ends at `exit`
 abbrev pub status_in : Phase → ℕ
@@ -50,10 +69,11 @@ abbrev pub exit_at : Phase → List ℕ → Option ℕ
 exit_at phase method = if bytes_eq method (codes "exit") then Some (status_in phase) else None
 
 -- a request is answered in a message with its id, and changes no document
-pub record AnswersRequest (old new : Server) (id : Data) (method : List ℕ) (reply : Reply) : Type 0 where
+pub record AnswersRequest (old new : Server) (id : Data) (method : List ℕ) (params : Data) (reply : Reply)
+    : Type 0 where
   pub phase : phase_of new ≡ after_request (phase_of old) method
   pub documents : new.documents ≡ old.documents
-  pub message : IsOneMessage (IsResponse (AnswersIn (phase_of old) method) id) reply
+  pub message : IsOneMessage (IsResponse (AnswersAsked old method params) id) reply
 
 -- a notification is taken: to documents it does no more than its method says, and a message that it gives
 -- rise to says what became of them
@@ -76,7 +96,7 @@ abbrev pub HandlesMessage : Server → Server → Data → Reply → Type 0
 HandlesMessage old new message reply = MatchOption (request_of message)
     (MatchOption (notification_of message) (ChangesNothing old new reply)
     (λ method. TakesNotification old new method (params_of message) reply))
-    (λ request. AnswersRequest old new request.0 request.1 reply)
+    (λ request. AnswersRequest old new request.0 request.1 (params_of message) reply)
 
 -- what is no JSON, or for which there is no memory, is refused
 pub record RefusesBody (old new : Server) (reply : Reply) : Type 0 where

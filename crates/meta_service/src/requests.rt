@@ -1,4 +1,9 @@
 //! The requests about documents.
+ghost use Rattle.std.specs.Prelude.{◌≡◌, IfOk, map};
+ghost use Rattle.meta_service.specs.Requests as spec;
+ghost use Rattle.meta_service.specs.Requests.{IsAnswerOf};
+ghost use Rattle.serde_json.specs.View.{view};
+
 use language_features::actions::code_actions;
 use language_features::formatting::{format_document, format_range};
 use language_features::hovers::hover;
@@ -31,26 +36,99 @@ pub(crate) enum RequestMethod {
     SemanticTokens,
 }
 
+/// The name of a method.
+#[derive(Clone, Copy)]
+pub(crate) struct MethodName {
+    pub name: &'static str,
+    pub request: RequestMethod,
+}
+
+/// The names of the methods.
+static METHOD_NAMES: [MethodName; 14] = [
+    MethodName {
+        name: "textDocument/documentSymbol",
+        request: RequestMethod::DocumentSymbol,
+    },
+    MethodName {
+        name: "textDocument/foldingRange",
+        request: RequestMethod::FoldingRange,
+    },
+    MethodName {
+        name: "textDocument/selectionRange",
+        request: RequestMethod::SelectionRange,
+    },
+    MethodName {
+        name: "textDocument/definition",
+        request: RequestMethod::Definition,
+    },
+    MethodName {
+        name: "textDocument/references",
+        request: RequestMethod::References,
+    },
+    MethodName {
+        name: "textDocument/documentHighlight",
+        request: RequestMethod::DocumentHighlight,
+    },
+    MethodName {
+        name: "textDocument/prepareRename",
+        request: RequestMethod::PrepareRename,
+    },
+    MethodName {
+        name: "textDocument/rename",
+        request: RequestMethod::Rename,
+    },
+    MethodName {
+        name: "textDocument/hover",
+        request: RequestMethod::Hover,
+    },
+    MethodName {
+        name: "textDocument/completion",
+        request: RequestMethod::Completion,
+    },
+    MethodName {
+        name: "textDocument/formatting",
+        request: RequestMethod::Formatting,
+    },
+    MethodName {
+        name: "textDocument/rangeFormatting",
+        request: RequestMethod::RangeFormatting,
+    },
+    MethodName {
+        name: "textDocument/codeAction",
+        request: RequestMethod::CodeAction,
+    },
+    MethodName {
+        name: "textDocument/semanticTokens/full",
+        request: RequestMethod::SemanticTokens,
+    },
+];
+
+/// Returns the names of the methods.
+fn method_names() -> &'static [MethodName]
+    ensures { map spec.name_of result.now ≡ spec.method_names }
+{
+    &METHOD_NAMES
+}
+
 /// Returns the request of a method.
-pub(crate) fn request_of(method: &str) -> Option<RequestMethod> {
-    let request = match method {
-        "textDocument/documentSymbol" => RequestMethod::DocumentSymbol,
-        "textDocument/foldingRange" => RequestMethod::FoldingRange,
-        "textDocument/selectionRange" => RequestMethod::SelectionRange,
-        "textDocument/definition" => RequestMethod::Definition,
-        "textDocument/references" => RequestMethod::References,
-        "textDocument/documentHighlight" => RequestMethod::DocumentHighlight,
-        "textDocument/prepareRename" => RequestMethod::PrepareRename,
-        "textDocument/rename" => RequestMethod::Rename,
-        "textDocument/hover" => RequestMethod::Hover,
-        "textDocument/completion" => RequestMethod::Completion,
-        "textDocument/formatting" => RequestMethod::Formatting,
-        "textDocument/rangeFormatting" => RequestMethod::RangeFormatting,
-        "textDocument/codeAction" => RequestMethod::CodeAction,
-        "textDocument/semanticTokens/full" => RequestMethod::SemanticTokens,
-        _ => return None,
-    };
-    Some(request)
+pub(crate) fn request_of(method: &str) -> Option<RequestMethod>
+    ensures { result ≡ spec.request_of method.now }
+{
+    request_among(method_names(), method)
+}
+
+/// Returns the request of a method, if its name is among these.
+fn request_among(names: &[MethodName], method: &str) -> Option<RequestMethod>
+    ensures { result ≡ spec.request_among (map spec.name_of names.now) method.now }
+{
+    let mut rest = names;
+    while let Some((entry, after)) = rest.split_first() {
+        if entry.name == method {
+            return Some(entry.request);
+        }
+        rest = after;
+    }
+    None
 }
 
 /// Answers a request about a document.
@@ -59,7 +137,9 @@ pub(crate) fn answer_in(
     context: &Context<'_>,
     request: RequestMethod,
     params: &Value,
-) -> Result<Answer, AllocError> {
+) -> Result<Answer, AllocError>
+    ensures { IfOk result (IsAnswerOf request context.now (view params.now)) }
+{
     match request {
         RequestMethod::DocumentSymbol => document_symbols(alloc, context),
         RequestMethod::FoldingRange => folding_ranges(alloc, context),

@@ -5,14 +5,17 @@ ghost use Rattle.language_protocol.specs.Messages as messages;
 ghost use Rattle.language_features.specs.Diagnostics.{Publishes};
 ghost use Rattle.meta_service.specs.Notices as spec;
 ghost use Rattle.meta_service.specs.Notices.{Announces, AnnouncesAt, AnnouncesChange, AnnouncesClosing, AnnouncesOpening, PublishesAt, changed_at, changed_by, notice_in};
+ghost use Rattle.meta_service.specs.Capabilities.{IsInitialized};
 ghost use Rattle.meta_service.specs.Replies.{IsRefusal};
-ghost use Rattle.meta_service.specs.Sessions.{AnswersIn, AnswersRequest, HandlesMessage, RepliesTo, SameSession, TakesNotification, after_request, exit_at, phase_of, status_in};
+ghost use Rattle.meta_service.specs.Requests as requests;
+ghost use Rattle.meta_service.specs.Requests.{AnswersForDocument, AnswersOpen};
+ghost use Rattle.meta_service.specs.Sessions.{AnswersAsked, AnswersIn, AnswersRequest, HandlesMessage, RepliesTo, SameSession, TakesNotification, after_request, exit_at, phase_of, status_in};
 ghost use Rattle.serde_json.specs.Data as json_data;
 ghost use Rattle.serde_json.specs.View.{view};
 
 use crate::capabilities::initialize_result;
 use crate::replies::{OUT_OF_MEMORY, Reply, refusal, refuse_unread, respond};
-use crate::requests::{answer_in, request_of};
+use crate::requests::{RequestMethod, answer_in, request_of};
 use language_features::diagnostics::{publish, publish_none};
 use language_protocol::client::{Client, client_of};
 use language_protocol::documents::{Document, Documents};
@@ -118,7 +121,8 @@ impl Server {
         method: &str,
         message: &Value,
     ) -> Result<Reply, AllocError>
-        ensures { IfOk result (AnswersRequest self.old self.new (view id.now) method.now) }
+        ensures { IfOk result (AnswersRequest self.old self.new (view id.now) method.now
+            (messages.params_of (view message.now))) }
     {
         let null = Value::Null;
         let params = params_of(message, &null);
@@ -308,7 +312,7 @@ impl Server {
     fn answer(&mut self, alloc: Global, method: &str, params: &Value) -> Result<Answer, AllocError>
         ensures phase { phase_of self.new ≡ after_request (phase_of self.old) method.now }
         ensures documents { self.new.documents ≡ self.old.documents }
-        ensures answer { IfOk result (AnswersIn (phase_of self.old) method.now) }
+        ensures answer { IfOk result (AnswersAsked self.old method.now (view params.now)) }
     {
         match self.phase {
             Phase::New => self.answer_first(alloc, method, params),
@@ -327,7 +331,7 @@ impl Server {
         requires { phase_of self.old ≡ Phase.New }
         ensures phase { phase_of self.new ≡ after_request Phase.New method.now }
         ensures documents { self.new.documents ≡ self.old.documents }
-        ensures answer { IfOk result (AnswersIn Phase.New method.now) }
+        ensures answer { IfOk result (AnswersIn Phase.New self.old.client self.old.documents method.now (view params.now)) }
     {
         if !is_initialize(method) {
             return Ok(Answer::Error(ErrorCode::ServerNotInitialized, "`initialize` has not come"));
@@ -347,7 +351,7 @@ impl Server {
         requires { phase_of self.old ≡ Phase.Running }
         ensures phase { phase_of self.new ≡ after_request Phase.Running method.now }
         ensures documents { self.new.documents ≡ self.old.documents }
-        ensures answer { IfOk result (AnswersIn Phase.Running method.now) }
+        ensures answer { IfOk result (AnswersIn Phase.Running self.old.client self.old.documents method.now (view params.now)) }
     {
         if is_shutdown(method) {
             self.phase = Phase::ShutDown;
@@ -365,24 +369,29 @@ impl Server {
         alloc: Global,
         method: &str,
         params: &Value,
-    ) -> Result<Answer, AllocError> {
-        if method == "workspace/symbol" {
-            let query = text_at(params, "/query").unwrap_or("");
-            return workspace_symbols(alloc, self.client, &self.documents, query);
+    ) -> Result<Answer, AllocError>
+        ensures { IfOk result
+            (AnswersOpen self.now.client self.now.documents method.now (view params.now)) }
+    {
+        if is_workspace_symbol(method) {
+            return workspace_symbols(alloc, self.client, &self.documents, query_in(params));
         }
-        self.answer_for_document(alloc, method, params)
+        match request_of(method) {
+            Some(request) => self.answer_for_document(alloc, request, params),
+            None => Ok(Answer::Error(ErrorCode::MethodNotFound, "no such method")),
+        }
     }
 
     /// Answers a request that is about a document.
     fn answer_for_document(
         &self,
         alloc: Global,
-        method: &str,
+        request: RequestMethod,
         params: &Value,
-    ) -> Result<Answer, AllocError> {
-        let Some(request) = request_of(method) else {
-            return Ok(Answer::Error(ErrorCode::MethodNotFound, "no such method"));
-        };
+    ) -> Result<Answer, AllocError>
+        ensures { IfOk result
+            (AnswersForDocument self.now.client self.now.documents request (view params.now)) }
+    {
         let context = Context::of_params(alloc, self.client, &self.documents, params)?;
         match &context {
             Some(context) => answer_in(alloc, context, request, params),
@@ -440,7 +449,23 @@ fn is_exit(method: &str) -> bool
     method == "exit"
 }
 
+/// Whether a method is `workspace/symbol`.
+fn is_workspace_symbol(method: &str) -> bool
+    ensures { result ≡ bytes_eq method.now (codes "workspace/symbol") }
+{
+    method == "workspace/symbol"
+}
+
+/// Returns the text that is looked for in the names of rules.
+fn query_in(params: &Value) -> &str
+    ensures { result.now ≡ requests.query_in (view params.now) }
+{
+    text_at(params, "/query").unwrap_or("")
+}
+
 /// Returns the answer to `initialize`.
-fn initialize_answer(alloc: Global, client: Client) -> Result<Answer, AllocError> {
+fn initialize_answer(alloc: Global, client: Client) -> Result<Answer, AllocError>
+    ensures { IfOk result (IsInitialized client) }
+{
     Ok(Answer::Result(initialize_result(alloc, client)?))
 }

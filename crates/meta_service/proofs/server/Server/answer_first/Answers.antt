@@ -1,4 +1,5 @@
 use Rattle.std.proofs.Common.{◌≡◌, true, false, bytes_eq, codes, refl}
+use Rattle.serde_json.specs.View.{view}
 use Rattle.meta_service.proofs.Phases.{answers_first}
 use Rattle.meta_service.proofs.server.Server.answer_first.Goals as goal
 
@@ -12,4 +13,4 @@ pub returns-clause-phase : goal.returns-clause-phase
 returns-clause-phase c = let e : bytes_eq c.args.method.now (codes "initialize") ≡ true = cc in rw e refl
 
 pub returns-clause-answer : goal.returns-clause-answer
-returns-clause-answer c = let e : bytes_eq c.args.method.now (codes "initialize") ≡ true = cc in answers_first c.args.method.now c.initialize_answer.result e
+returns-clause-answer c = let e : bytes_eq c.args.method.now (codes "initialize") ≡ true = cc in answers_first _ _ _ c.args.method.now (view c.args.params.now) c.initialize_answer.result e c.client_of.ensures c.initialize_answer.ensures

@@ -1,12 +1,18 @@
-use Rattle.std.proofs.Common.{◌≡◌, true, false, bytes_eq, codes, refl}
-use Rattle.meta_service.proofs.Phases.{answers_running}
+use Rattle.std.proofs.Common.{◌≡◌, true, false, bytes_eq, codes, refl, rules}
+use Rattle.meta_service.proofs.Phases.{answers_running, answers_shutdown}
+use Rattle.serde_json.specs.Data.{null}
+use Rattle.serde_json.specs.View.{view}
+use Rattle.serde_json.specs.declared.value.Value.{Null, the_lemmas}
 use Rattle.meta_service.proofs.server.Server.answer_running.Goals as goal
 
 pub returns-then-is_shutdown-clause-phase : goal.returns-then-is_shutdown-clause-phase
 returns-then-is_shutdown-clause-phase c = let e : bytes_eq c.args.method.now (codes "shutdown") ≡ true = cc in rw e refl
 
 pub returns-then-is_shutdown-clause-answer : goal.returns-then-is_shutdown-clause-answer
-returns-then-is_shutdown-clause-answer c = let e : bytes_eq c.args.method.now (codes "shutdown") ≡ true = cc in rw e tt
+returns-then-is_shutdown-clause-answer c =
+    let e : bytes_eq c.args.method.now (codes "shutdown") ≡ true = cc in
+    let n : view Null ≡ null = search (rules, the_lemmas) in
+    answers_shutdown _ _ c.args.method.now (view c.args.params.now) Null e n
 
 pub returns-then-is_initialize-clause-phase : goal.returns-then-is_initialize-clause-phase
 returns-then-is_initialize-clause-phase c = let e : bytes_eq c.args.method.now (codes "shutdown") ≡ false = cc in rw e c.requires
@@ -23,4 +29,4 @@ pub returns-clause-answer : goal.returns-clause-answer
 returns-clause-answer c =
     let e : bytes_eq c.args.method.now (codes "shutdown") ≡ false = cc in
     let f : bytes_eq c.args.method.now (codes "initialize") ≡ false = cc in
-    answers_running c.args.method.now c.answer_open.result e f
+    answers_running _ _ c.args.method.now (view c.args.params.now) c.answer_open.result e f c.answer_open.ensures
