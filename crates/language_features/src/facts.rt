@@ -1,4 +1,4 @@
-//! Whether a rule may match nothing, and what can begin it: its first set.
+//! Facts about rules: whether one may match nothing, and its first set.
 use meta_analysis::{Analysis, Joint, Node, Shape, UnaryOperator, analyze};
 use meta_ast::deep::Deep;
 use meta_base::grammar::Rule;

@@ -22,5 +22,5 @@ client_of params = record {
   has_nested_symbols = is_true_in
       (codes "/capabilities/textDocument/documentSymbol/hierarchicalDocumentSymbolSupport") params;
   has_related = is_true_in
-      (codes "/capabilities/textDocument/publishDiagnostics/relatedInformation") params
+      (codes "/capabilities/textDocument/publishDiagnostics/relatedInformation") params;
 }

@@ -1,4 +1,4 @@
-//! Positions, ranges, locations and edits as values.
+//! Structures as values: positions, ranges, locations and edits.
 ghost use Rattle.std.specs.Prelude.{◌≡◌, IfOk};
 ghost use Rattle.language_protocol.specs.Values as spec;
 ghost use Rattle.meta_positions.specs.Shown.{index_encoding, index_text};

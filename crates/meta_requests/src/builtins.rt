@@ -1,4 +1,4 @@
-//! The builtins, and what they match.
+//! Meanings of builtins.
 
 /// A builtin, and what it matches.
 #[derive(Clone, Copy)]

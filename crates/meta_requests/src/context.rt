@@ -1,4 +1,4 @@
-//! The document that a request is about.
+//! Documents of requests.
 ghost use Rattle.std.specs.Prelude.{◌≡◌, IfOk, MatchOption, None, option_map, string_bytes};
 ghost use Rattle.meta_positions.specs.Shown.{index_encoding, index_text};
 ghost use Rattle.meta_requests.specs.Around as names;
@@ -156,8 +156,7 @@ impl<'d> Context<'d> {
 fn is_whole(text: &[u8], extent: Extent) -> bool
     ensures { result ≡ parts.is_whole text.now extent }
 {
-    extent.start <= extent.end
-        && (is_boundary(text, extent.start) && is_boundary(text, extent.end))
+    extent.start <= extent.end && (is_boundary(text, extent.start) && is_boundary(text, extent.end))
 }
 
 /// Whether a character begins at a byte, or the text ends there.

@@ -1,4 +1,4 @@
-//! Locations, ranges and edits in the document of a request, as values.
+//! Locations and edits: values for the document of a request.
 ghost use Rattle.std.specs.Prelude.{◌≡◌, ◌++◌, ◌∷◌, [], IfOk, OnOk, map};
 ghost use Rattle.meta_requests.specs.Locations as spec;
 ghost use Rattle.serde_json.specs.View.{view};

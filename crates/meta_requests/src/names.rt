@@ -225,11 +225,7 @@ pub fn prepare_rename(
 }
 
 /// Returns the range of a name, if a rule of that name is defined.
-fn prepare_at(
-    alloc: Global,
-    context: &Context<'_>,
-    name: Name<'_>,
-) -> Result<Answer, AllocError>
+fn prepare_at(alloc: Global, context: &Context<'_>, name: Name<'_>) -> Result<Answer, AllocError>
     ensures { IfOk result (IsPreparedAt context.now name.entry) }
 {
     let definitions = definitions_named(alloc, context.text, &context.definitions, name.text)?;

@@ -148,7 +148,14 @@ fn symbols_among(
     let mut symbols = Vec::new(alloc);
     let mut rest = entries;
     while let Some((entry, after)) = rest.split_first() {
-        push_document(alloc, client, entry.uri, entry.document, query, &mut symbols)?;
+        push_document(
+            alloc,
+            client,
+            entry.uri,
+            entry.document,
+            query,
+            &mut symbols,
+        )?;
         rest = after;
     }
     Ok(symbols)

@@ -1,4 +1,4 @@
-//! Replies: the messages that answer others.
+//! Messages that answer others.
 ghost use Rattle.std.specs.Prelude.{◌≡◌, IfOk, None, Ok, Some};
 ghost use Rattle.language_protocol.specs.Messages.{IsMessage, error_data};
 ghost use Rattle.meta_service.specs.Replies.{IsOneMessage, IsRefusal, IsOutOfMemory, IsResponse};

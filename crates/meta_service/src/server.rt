@@ -364,12 +364,7 @@ impl Server {
     }
 
     /// Answers a request about open documents.
-    fn answer_open(
-        &self,
-        alloc: Global,
-        method: &str,
-        params: &Value,
-    ) -> Result<Answer, AllocError>
+    fn answer_open(&self, alloc: Global, method: &str, params: &Value) -> Result<Answer, AllocError>
         ensures { IfOk result
             (AnswersOpen self.now.client self.now.documents method.now (view params.now)) }
     {

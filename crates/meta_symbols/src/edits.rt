@@ -1,4 +1,4 @@
-//! Few edits that make one text another.
+//! Edits between texts: few that make one the other.
 ghost use Rattle.std.specs.Prelude.{◌≡◌, IfOk, true};
 ghost use Rattle.meta_symbols.specs.Edits.{AreInOrder, Edits, edited};
 

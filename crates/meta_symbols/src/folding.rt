@@ -1,4 +1,4 @@
-//! The parts of a text that can be folded.
+//! Folds of texts: the parts that can be folded.
 use crate::outline::Definition;
 use crate::tokens::{Extent, Token, TokenClass};
 use std::alloc::{AllocError, Global};

@@ -1,4 +1,4 @@
-//! Where names occur in a text.
+//! Occurrences of names.
 ghost use Rattle.std.specs.Prelude.{◌≡◌, ◌++◌, IfOk, OnOk};
 ghost use Rattle.meta_symbols.specs.Occurrences as spec;
 

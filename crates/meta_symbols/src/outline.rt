@@ -1,4 +1,4 @@
-//! The definitions of rules in a text.
+//! Definitions of rules.
 ghost use Rattle.std.specs.Prelude.{◌≡◌, ◌&&◌, ◌++◌, IfOk, OnOk, bytes_eq, map};
 ghost use Rattle.meta_symbols.specs.Occurrences as spec;
 ghost use Rattle.meta_symbols.specs.Parts as parts;

@@ -1,4 +1,4 @@
-//! Parts of texts, and texts in which parts are replaced.
+//! Parts of texts (as they are, and replaced).
 ghost use Rattle.std.specs.Prelude.{◌≡◌, IfOk};
 ghost use Rattle.std.specs.List.{slice_range};
 ghost use Rattle.meta_symbols.specs.Parts.{replaced};

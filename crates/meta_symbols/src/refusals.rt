@@ -1,4 +1,4 @@
-//! Reasons for which a rule is not renamed.
+//! Refused renames: the reasons.
 ghost use Rattle.std.specs.List.{list_all};
 ghost use Rattle.std.specs.Prelude.{◌≡◌, ◌==◌, ◌∷◌, [], IfOk, length, map, not};
 ghost use Rattle.meta_base.specs.Language.Builtins.{is_one_of};
@@ -104,10 +104,13 @@ fn definition_of<'n>(alloc: Global, name: &'n str) -> Result<Vec<Span<'n>>, Allo
         map piece_of spans.items ≡ piece name.now 0 (length name.now) ∷ []) }
 {
     let mut spans = Vec::new(alloc);
-    if let Some(span) = Span::new(name, 0, name.len()) {
-        spans.push(span)?;
+    match Span::new(name, 0, name.len()) {
+        Some(span) => {
+            spans.push(span)?;
+            Ok(spans)
+        }
+        None => Ok(spans),
     }
-    Ok(spans)
 }
 
 /// Whether there is an error.

@@ -215,9 +215,11 @@ fn is_definition_of(text: &[u8], name: &[u8], before: Entry, last: Entry, entry:
     ensures { result ≡ spec.defines text.now name.now before last entry }
 {
     match (before, last, entry) {
-        (Entry::Start { rule: outer, .. }, Entry::Start { rule, pos, .. }, Entry::End { pos: end, .. }) => {
-            is_definition_rule(outer) && is_place(text, rule, pos, end, name)
-        }
+        (
+            Entry::Start { rule: outer, .. },
+            Entry::Start { rule, pos, .. },
+            Entry::End { pos: end, .. },
+        ) => { is_definition_rule(outer) && is_place(text, rule, pos, end, name) }
         _ => false,
     }
 }

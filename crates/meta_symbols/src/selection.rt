@@ -1,4 +1,4 @@
-//! The parts of a text around an offset, from the innermost to the outermost.
+//! Parts around an offset, from the innermost to the outermost.
 use crate::outline::Definition;
 use crate::tokens::{Extent, Token};
 use std::alloc::{AllocError, Global};

@@ -1,4 +1,4 @@
-//! Frames: a head of lines, an empty line, and as many bytes as the head says.
+//! Frames of messages: a head of lines, an empty line, and as many bytes as the head says.
 use std::alloc::Global;
 use std::io::{self, BufRead, ErrorKind, Read, Write};
 
