@@ -12,13 +12,6 @@ pub struct Document {
     pub version: Option<i64>,
 }
 
-/// An open document with its URI.
-#[derive(Clone, Copy)]
-pub struct OpenDocument<'d> {
-    pub uri: &'d str,
-    pub document: &'d Document,
-}
-
 /// The open documents, by their URIs.
 #[derive(Drop)]
 pub struct Documents {
@@ -26,7 +19,8 @@ pub struct Documents {
 }
 
 impl Documents {
-    ghost use Rattle.language_protocol.specs.Documents.{KeepsDocuments, document_in, entry_of, open_documents};
+    ghost use Rattle.language_protocol.specs.Documents.{KeepsDocuments, document_in, open_documents};
+    ghost use Rattle.std.specs.Map.Iter.{deref_pair};
 
     /// Returns no documents.
     pub fn new(alloc: Global) -> Documents
@@ -64,15 +58,9 @@ impl Documents {
     }
 
     /// Returns all documents with their URIs, in the order of these.
-    pub fn entries(&self, alloc: Global) -> Result<Vec<OpenDocument<'_>>, AllocError>
-        ensures { IfOk result (λ entries. map entry_of entries.items ≡ open_documents self.now) }
+    pub fn entries(&self, alloc: Global) -> Result<Vec<(&String, &Document)>, AllocError>
+        ensures { IfOk result (λ entries. map deref_pair entries.items ≡ open_documents self.now) }
     {
-        self.documents
-            .iter()
-            .map(|entry| OpenDocument {
-                uri: entry.0.as_str(),
-                document: entry.1,
-            })
-            .collect(alloc)
+        self.documents.iter().collect(alloc)
     }
 }

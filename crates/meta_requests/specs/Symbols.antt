@@ -1,7 +1,8 @@
 -- Symbols of documents.
-use Rattle.std.specs.Prelude.{◌≡◌, ◌==◌, ◌&&◌, ◌||◌, ℕ, List, [], ◌∷◌, ◌++◌, Bool, true, false, Option, Some, None, codes, filter, flat_map, map, string_bytes, if◌then◌else◌}
+use Rattle.std.specs.Prelude.{◌≡◌, ◌==◌, ◌&&◌, ◌||◌, ℕ, List, [], ◌∷◌, ◌++◌, Bool, true, false, Option, Some, None, codes, filter, flat_map, map, String, string_bytes, if◌then◌else◌}
 use Rattle.std.specs.Char.{eq_ignore_ascii_case}
 use Rattle.std.specs.List.{AllZip}
+use Rattle.std.specs.declared.alloc.Global.{Global}
 use Rattle.serde_json.specs.Data.{Data, array, member, no_members, number, object, string, unsigned}
 use Rattle.serde_json.specs.View.{items_of, view}
 use Rattle.language_protocol.specs.Documents.{open_documents}
@@ -71,16 +72,16 @@ matches_among query context definitions = map (flat_symbol context)
 abbrev pub matches_in : List ℕ → Context → List Data
 matches_in query context = matches_among query context context.definitions.items
 
-abbrev pub IsContextAt : Client → List ℕ × Document → Context → Type 0
-IsContextAt client entry context = IsContextOf client entry.0 (string_bytes entry.1.text) context
+abbrev pub IsContextAt : Client → String Global × Document → Context → Type 0
+IsContextAt client entry context = IsContextOf client (string_bytes entry.0) (string_bytes entry.1.text) context
 
 -- values are added for the rules of a document in whose names a text occurs
-abbrev pub AddsMatches : Client → List ℕ → List ℕ × Document → List Data → List Data → Type 0
+abbrev pub AddsMatches : Client → List ℕ → String Global × Document → List Data → List Data → Type 0
 AddsMatches client query entry old new =
     (context : Context) × IsContextAt client entry context × (new ≡ old ++ matches_in query context)
 
 -- the rules of some documents in whose names a text occurs
-abbrev pub AreMatches : Client → List ℕ → List (List ℕ × Document) → List Data → Type 0
+abbrev pub AreMatches : Client → List ℕ → List (String Global × Document) → List Data → Type 0
 AreMatches client query documents values = (contexts : List Context)
     × AllZip (IsContextAt client) documents contexts × (values ≡ flat_map (matches_in query) contexts)
 

@@ -1,6 +1,6 @@
 //! Symbols of documents.
 ghost use Rattle.std.specs.Prelude.{◌≡◌, ◌++◌, ◌∷◌, [], IfOk, OnOk, map};
-ghost use Rattle.language_protocol.specs.Documents.{entry_of};
+ghost use Rattle.std.specs.Map.Iter.{deref_pair};
 ghost use Rattle.meta_requests.specs.Symbols as spec;
 ghost use Rattle.meta_requests.specs.Symbols.{AreMatches, AreSymbols, AreWorkspaceSymbols, symbol_at};
 ghost use Rattle.serde_json.specs.View.{view};
@@ -8,7 +8,7 @@ ghost use Rattle.serde_json.specs.View.{view};
 use crate::context::Context;
 use crate::locations::{location_at, range_at};
 use language_protocol::client::Client;
-use language_protocol::documents::{Document, Documents, OpenDocument};
+use language_protocol::documents::{Document, Documents};
 use language_protocol::messages::Answer;
 use meta_symbols::Definition;
 use serde_json::{Value, json};
@@ -139,11 +139,11 @@ pub fn workspace_symbols(
 fn symbols_among(
     alloc: Global,
     client: Client,
-    entries: &[OpenDocument<'_>],
+    entries: &[(&String, &Document)],
     query: &str,
 ) -> Result<Vec<Value>, AllocError>
     ensures { IfOk result (λ symbols.
-        AreMatches client query.now (map entry_of entries.now) (map view symbols.items)) }
+        AreMatches client query.now (map deref_pair entries.now) (map view symbols.items)) }
 {
     let mut symbols = Vec::new(alloc);
     let mut rest = entries;
@@ -161,19 +161,18 @@ fn symbols_among(
     Ok(symbols)
 }
 
-/// Adds the rules of a document in whose names a text occurs.
+/// Adds the rules of a document with its URI in whose names a text occurs.
 fn push_document(
     alloc: Global,
     client: Client,
-    uri: &str,
-    document: &Document,
+    entry: (&String, &Document),
     query: &str,
     symbols: &mut Vec<Value>,
 ) -> Result<(), AllocError>
-    ensures { OnOk result (spec.AddsMatches client query.now (uri.now, document.now)
+    ensures { OnOk result (spec.AddsMatches client query.now (deref_pair entry.entry)
         (map view symbols.old.items) (map view symbols.new.items)) }
 {
-    let context = Context::new(alloc, client, uri, document)?;
+    let context = Context::new(alloc, client, entry.0.as_str(), entry.1)?;
     push_matches(alloc, &context, &context.definitions, query, symbols)
 }
 
