@@ -62,10 +62,12 @@ pub enum Code {
     NeverMatches,
     /// Blanks are skipped between the characters of a repetition.
     BlanksInToken,
+    /// Counts multiply, so that very many copies of an expression are made.
+    ManyCopies,
 }
 
 /// All codes.
-pub const ALL_CODES: [Code; 18] = [
+pub const ALL_CODES: [Code; 19] = [
     Code::Syntax,
     Code::EscapeValue,
     Code::NumberRange,
@@ -84,6 +86,7 @@ pub const ALL_CODES: [Code; 18] = [
     Code::IdleTest,
     Code::NeverMatches,
     Code::BlanksInToken,
+    Code::ManyCopies,
 ];
 
 impl Code {
@@ -110,6 +113,7 @@ impl Code {
             Code::IdleTest => "pest::idle_test",
             Code::NeverMatches => "pest::never_matches",
             Code::BlanksInToken => "pest::blanks_in_token",
+            Code::ManyCopies => "pest::many_copies",
         }
     }
 
@@ -131,7 +135,7 @@ impl Code {
         match self {
             Code::UncalledRule | Code::Unreachable | Code::ReversedRange => Severity::Warning,
             Code::ReversedCount | Code::IdleTest | Code::NeverMatches => Severity::Warning,
-            Code::BlanksInToken => Severity::Warning,
+            Code::BlanksInToken | Code::ManyCopies => Severity::Warning,
             _ => Severity::Error,
         }
     }

@@ -11,6 +11,7 @@ ghost use Rattle.meta_warnings.specs.Lists.{texts_of};
 use crate::codes::Code;
 use crate::diagnostic::Diagnostic;
 use meta_base::runtime::Span;
+use meta_copies::many_copies;
 use meta_hints::Help;
 use meta_spanned::ParserRule;
 use meta_warnings::{
@@ -36,6 +37,7 @@ pub fn diagnose_rules(
     add_code(alloc, Code::IdleTest, rules, starts, &mut diagnostics)?;
     add_code(alloc, Code::NeverMatches, rules, starts, &mut diagnostics)?;
     add_code(alloc, Code::BlanksInToken, rules, starts, &mut diagnostics)?;
+    add_code(alloc, Code::ManyCopies, rules, starts, &mut diagnostics)?;
     Ok(diagnostics)
 }
 
@@ -120,6 +122,7 @@ fn spans_of<'i>(
         Code::IdleTest => suspect_spans(alloc, Suspect::IdleTest, rules),
         Code::NeverMatches => suspect_spans(alloc, Suspect::Unmatchable, rules),
         Code::BlanksInToken => blanks_in_tokens(alloc, rules),
+        Code::ManyCopies => many_copies(alloc, rules),
         _ => Ok(Vec::new(alloc)),
     }
 }
@@ -138,6 +141,7 @@ fn message_of(code: Code) -> &'static str
         Code::IdleTest => "this changes nothing, since what it holds cannot fail",
         Code::NeverMatches => "this never matches",
         Code::BlanksInToken => "blanks are skipped between these characters",
+        Code::ManyCopies => "the optimizer makes 10,000 copies or more of what this repeats",
         _ => "",
     }
 }
@@ -153,6 +157,7 @@ fn help_of(alloc: Global, code: Code, part: &str) -> Result<Option<Help>, AllocE
             "`ANY*` takes the whole rest of the text: write `(!end ~ ANY)*` for what is before an end"
         }
         Code::BlanksInToken => "a rule with `@` before its brace skips none",
+        Code::ManyCopies => "put a part of it into a rule of its own: then calls alone are copied",
         _ => return Ok(None),
     };
     Ok(Some(Help::new(alloc, message)?))
