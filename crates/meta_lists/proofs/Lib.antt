@@ -1,0 +1,4 @@
+pub mod Changed
+pub mod Meanings
+pub mod Passing
+pub mod Walks
