@@ -2,7 +2,7 @@
 ghost use Rattle.std.specs.Prelude.{◌≡◌, ◌+◌, ◌*◌, ◌<◌, ◌++◌, IfOk, OnOk, map};
 ghost use Rattle.std.specs.Option.{SomeIff};
 ghost use Rattle.meta_copies.specs.Copies as spec;
-ghost use Rattle.meta_copies.specs.Lists.{HasOperands, left_over, nodes_left};
+ghost use Rattle.meta_copies.specs.Lists.{HasBranches, left_over, nodes_left};
 ghost use Rattle.meta_spanned.specs.Nodes.{piece_of, rule_views, view};
 ghost use Rattle.meta_spanned.specs.Spanned.{span_of};
 
@@ -13,10 +13,9 @@ use std::alloc::{AllocError, Global};
 /// Copies that are many.
 const MANY: u64 = 10_000;
 
-/// The spans of repetitions that make what they repeat be there 10,000 times or more when the optimizer has
-/// written all counts out, as the inner one of `("a"{100} ~ "b"){100}`. What such a repetition contains is not
-/// looked at. They are in the order of the text. The only error is an allocation failure. The time is linear
-/// in the rules.
+/// The spans of repetitions of whose operands the optimizer makes 10,000 copies or more, as the inner one of
+/// `("a"{100} ~ "b"){100}`, in the order of the text. Nothing is looked at inside such a repetition. The only
+/// error is an allocation failure. The time is linear in the rules.
 pub fn many_copies<'i>(alloc: Global, rules: &[ParserRule<'i>]) -> Result<Vec<Span<'i>>, AllocError>
     ensures { IfOk result (λ found.
         map piece_of found.items ≡ spec.many_copies (rule_views rules.now)) }
@@ -68,13 +67,13 @@ fn look_at<'n, 'i>(
     ensures less { OnOk result (nodes_left stack.new.items
         < nodes_left stack.old.items + spec.size (view next.entry.node.now)) }
 {
-    match operands_of(next.node) {
-        Operands::None => {}
-        Operands::One(node, count) => match few_copies(next.copies, count) {
+    match branches_of(next.node) {
+        Branches::None => {}
+        Branches::One(node, count) => match few_copies(next.copies, count) {
             Some(copies) => stack.push(Copied { node, copies })?,
             None => found.push(next.node.span)?,
         },
-        Operands::Two(left, right) => {
+        Branches::Two(left, right) => {
             let copies = next.copies;
             stack.push(Copied {
                 node: right,
@@ -98,27 +97,27 @@ fn few_copies(around: u64, count: u64) -> Option<u64>
 
 /// The operands of a node, and of one how many copies are made.
 #[derive(Clone, Copy)]
-pub(crate) enum Operands<'n, 'i> {
+pub(crate) enum Branches<'n, 'i> {
     None,
     One(&'n ParserNode<'i>, u64),
     Two(&'n ParserNode<'i>, &'n ParserNode<'i>),
 }
 
 /// The operands of a node.
-fn operands_of<'n, 'i>(node: &'n ParserNode<'i>) -> Operands<'n, 'i>
-    ensures { HasOperands (view node.entry.now) result }
+fn branches_of<'n, 'i>(node: &'n ParserNode<'i>) -> Branches<'n, 'i>
+    ensures { HasBranches (view node.entry.now) result }
 {
     use ParserExpr as E;
     match &node.expr {
-        E::Str(_) | E::Insens(_) | E::Ident(_) => Operands::None,
-        E::Range(_, _) | E::PeekSlice(_, _) => Operands::None,
-        E::PushLiteral(_) => Operands::None,
-        E::NodeTag(inner, _) => Operands::One(inner, 1),
-        E::PosPred(inner) | E::NegPred(inner) | E::Opt(inner) => Operands::One(inner, 1),
-        E::Rep(inner) | E::RepOnce(inner) | E::Push(inner) => Operands::One(inner, 1),
-        E::RepMin(inner, least) => Operands::One(inner, u64::from(*least) + 1),
-        E::RepExact(inner, most) | E::RepMax(inner, most) => Operands::One(inner, u64::from(*most)),
-        E::RepMinMax(inner, _, most) => Operands::One(inner, u64::from(*most)),
-        E::Seq(left, right) | E::Choice(left, right) => Operands::Two(left, right),
+        E::Str(_) | E::Insens(_) | E::Ident(_) => Branches::None,
+        E::Range(_, _) | E::PeekSlice(_, _) => Branches::None,
+        E::PushLiteral(_) => Branches::None,
+        E::NodeTag(inner, _) => Branches::One(inner, 1),
+        E::PosPred(inner) | E::NegPred(inner) | E::Opt(inner) => Branches::One(inner, 1),
+        E::Rep(inner) | E::RepOnce(inner) | E::Push(inner) => Branches::One(inner, 1),
+        E::RepMin(inner, least) => Branches::One(inner, u64::from(*least) + 1),
+        E::RepExact(inner, most) | E::RepMax(inner, most) => Branches::One(inner, u64::from(*most)),
+        E::RepMinMax(inner, _, most) => Branches::One(inner, u64::from(*most)),
+        E::Seq(left, right) | E::Choice(left, right) => Branches::Two(left, right),
     }
 }

@@ -1,8 +1,8 @@
 //! The warnings are true: laws over the definitions alone.
 ghost use Rattle.meta_copies.specs.Laws.{ManyAreMade};
 
-/// What a reported repetition repeats is there at least 10,000 times when all counts in its rule's body are
-/// written out.
+/// Where all counts in a body are written out, the operand of a reported repetition is there at least 10,000
+/// times.
 pub fn many_copies_are_made()
     ensures { ManyAreMade }
 {}

@@ -46,7 +46,7 @@ KnowsKeys xs set = (e : Expression) (k : Vec ℕ Global) → k.items ≡ key e �
 
 -- the spans found so far, and those still to be found among the alternatives left after the earlier ones,
 -- whose keys are known, are all
-pub record CollectsRepeated (all : List Span) (earlier left : List Spanned) (seen : KeySet) (found : List Span)
-    : Type 0 where
+pub record CollectsRepeated (all : List Span) (earlier left : List Spanned) (seen : KeySet)
+    (found : List Span) : Type 0 where
   pub knows : KnowsKeys earlier seen
   pub spans : all ≡ found ++ repeated_after earlier left
