@@ -15,9 +15,9 @@ use meta_spanned::{ParserExpr, ParserNode, ParserRule};
 use std::alloc::{AllocError, Global};
 use std::collections::HashSet;
 
-/// The spans of alternatives that are the same as one before them in their choice, but for literals, calls and
-/// large ones: rule by rule, and in a body choice by choice. A choice inside a choice is part of it. The only
-/// error is an allocation failure. The time is linear in the rules.
+/// The spans of alternatives that are the same as one before them in their choice, but for literals, calls
+/// and large ones: rule by rule, and in a body choice by choice. A choice inside a choice is part of it. The
+/// only error is an allocation failure. The time is linear in the rules.
 pub fn repeated_alternatives<'i>(
     alloc: Global,
     rules: &[ParserRule<'i>],

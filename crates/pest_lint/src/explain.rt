@@ -83,7 +83,8 @@ fn explanation_of_warnings(code: Code) -> &'static str {
         }
         Code::ManyCopies => {
             "The optimizer writes counts out, and those of nested repetitions multiply. From 10,000 \
-             copies of an expression on this is reported.\n\n    a = { ((\"x\" ~ \"y\"){100} ~ \"z\"){100} }\n\n\
+             copies of an expression on this is reported.\n\n    \
+             a = { ((\"x\" ~ \"y\"){100} ~ \"z\"){100} }\n\n\
              A call is copied in place of the rule that it calls:\n\n    \
              a = { b{100} }\n    b = _{ (\"x\" ~ \"y\"){100} ~ \"z\" }"
         }
