@@ -64,10 +64,12 @@ pub enum Code {
     BlanksInToken,
     /// Counts multiply, so that very many copies of an expression are made.
     ManyCopies,
+    /// An alternative is the same as one before it.
+    RepeatedAlternative,
 }
 
 /// All codes.
-pub const ALL_CODES: [Code; 19] = [
+pub const ALL_CODES: [Code; 20] = [
     Code::Syntax,
     Code::EscapeValue,
     Code::NumberRange,
@@ -87,6 +89,7 @@ pub const ALL_CODES: [Code; 19] = [
     Code::NeverMatches,
     Code::BlanksInToken,
     Code::ManyCopies,
+    Code::RepeatedAlternative,
 ];
 
 impl Code {
@@ -114,6 +117,7 @@ impl Code {
             Code::NeverMatches => "pest::never_matches",
             Code::BlanksInToken => "pest::blanks_in_token",
             Code::ManyCopies => "pest::many_copies",
+            Code::RepeatedAlternative => "pest::repeated_alternative",
         }
     }
 
@@ -136,6 +140,7 @@ impl Code {
             Code::UncalledRule | Code::Unreachable | Code::ReversedRange => Severity::Warning,
             Code::ReversedCount | Code::IdleTest | Code::NeverMatches => Severity::Warning,
             Code::BlanksInToken | Code::ManyCopies => Severity::Warning,
+            Code::RepeatedAlternative => Severity::Warning,
             _ => Severity::Error,
         }
     }

@@ -12,6 +12,7 @@ use crate::codes::Code;
 use crate::diagnostic::Diagnostic;
 use meta_base::runtime::Span;
 use meta_copies::many_copies;
+use meta_duplicates::repeated_alternatives;
 use meta_hints::Help;
 use meta_spanned::ParserRule;
 use meta_warnings::{
@@ -38,6 +39,13 @@ pub fn diagnose_rules(
     add_code(alloc, Code::NeverMatches, rules, starts, &mut diagnostics)?;
     add_code(alloc, Code::BlanksInToken, rules, starts, &mut diagnostics)?;
     add_code(alloc, Code::ManyCopies, rules, starts, &mut diagnostics)?;
+    add_code(
+        alloc,
+        Code::RepeatedAlternative,
+        rules,
+        starts,
+        &mut diagnostics,
+    )?;
     Ok(diagnostics)
 }
 
@@ -123,6 +131,7 @@ fn spans_of<'i>(
         Code::NeverMatches => suspect_spans(alloc, Suspect::Unmatchable, rules),
         Code::BlanksInToken => blanks_in_tokens(alloc, rules),
         Code::ManyCopies => many_copies(alloc, rules),
+        Code::RepeatedAlternative => repeated_alternatives(alloc, rules),
         _ => Ok(Vec::new(alloc)),
     }
 }
@@ -142,6 +151,9 @@ fn message_of(code: Code) -> &'static str
         Code::NeverMatches => "this never matches",
         Code::BlanksInToken => "blanks are skipped between these characters",
         Code::ManyCopies => "the optimizer makes 10,000 copies or more of what this repeats",
+        Code::RepeatedAlternative => {
+            "this alternative is never taken: it is the same as one before it"
+        }
         _ => "",
     }
 }
@@ -158,6 +170,7 @@ fn help_of(alloc: Global, code: Code, part: &str) -> Result<Option<Help>, AllocE
         }
         Code::BlanksInToken => "a rule with `@` before its brace skips none",
         Code::ManyCopies => "put a part of it into a rule of its own: then calls alone are copied",
+        Code::RepeatedAlternative => "take it away, or write what was meant",
         _ => return Ok(None),
     };
     Ok(Some(Help::new(alloc, message)?))

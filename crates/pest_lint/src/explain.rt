@@ -88,6 +88,10 @@ fn explanation_of_warnings(code: Code) -> &'static str {
              A call is copied in place of the rule that it calls:\n\n    \
              a = { b{100} }\n    b = _{ (\"x\" ~ \"y\"){100} ~ \"z\" }"
         }
+        Code::RepeatedAlternative => {
+            "An alternative is the same as one before it, so it is never taken. Those of more than 256 \
+             signs are not compared.\n\n    a = { \"x\" ~ b | c | \"x\" ~ b }"
+        }
         _ => {
             "An expression succeeds on no text.\n\n    a = { ANY* ~ \"x\" }\n\n\
              ANY* takes the whole rest of the text: write (!\"x\" ~ ANY)* ~ \"x\". And !(e*) always fails, \
