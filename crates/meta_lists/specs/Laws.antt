@@ -1,11 +1,12 @@
 -- The warnings are true.
-use Rattle.std.specs.Prelude.{◌≡◌, ◌≢◌, true, Bool}
-use Rattle.meta_base.specs.Language.Expression.{Expression, Grammar, RuleType, Atomic, Seq, Rep}
+use Rattle.std.specs.Prelude.{◌≡◌, ◌≢◌, true, false, Bool}
+use Rattle.meta_base.specs.Language.Expression.{Expression, Grammar, RuleType, Seq, Rep}
 use Rattle.meta_base.specs.Language.Meaning.{Does, Matches, Skipping}
 use Rattle.meta_base.specs.Language.State.{Classes, Mode, State, Trees, Success, Failure}
 use Rattle.meta_base.specs.Language.Text.{Text}
 use Rattle.meta_base.specs.Rewritings.Listing.{listed}
-use Rattle.meta_lists.specs.Rewritten.{IsPassed, has_list}
+use Rattle.meta_base.specs.Rewritings.Rewriting.{IsDone, Rotates}
+use Rattle.meta_lists.specs.Rewritten.{IsPassed, has_list, is_searched}
 use Rattle.meta_optimizer.specs.Passes.{IsOptimizedBody}
 use Rattle.meta_restorer.specs.Changing.{HasNoWrappers}
 
@@ -13,10 +14,10 @@ use Rattle.meta_restorer.specs.Changing.{HasNoWrappers}
 abbrev pub ListsAreChanged : Type 0
 ListsAreChanged = (f : Text → Bool) (e : Expression) → has_list f e ≡ true → listed e ≢ e
 
--- where a rule is not Atomic, the passes before the listing are all passes before it
+-- of a body without forward searches, the listing of what these passes leave is what all passes leave
 abbrev pub PassesAreAll : Type 0
-PassesAreAll = (g : Grammar) (y : RuleType) (a b : Expression) → y ≢ Atomic → IsPassed y a b
-    → HasNoWrappers (listed b) → IsOptimizedBody g y a (listed b)
+PassesAreAll = (g : Grammar) (y : RuleType) (e a b : Expression) → IsDone Rotates e a
+    → is_searched y a ≡ false → IsPassed y a b → HasNoWrappers (listed b) → IsOptimizedBody g y e (listed b)
 
 -- where `x ~ y` matches and then no `x`, the list fails, and what is run in its place succeeds
 abbrev pub RewrittenMatchesMore : Type 0

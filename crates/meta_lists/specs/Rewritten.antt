@@ -1,10 +1,10 @@
 -- Rules with lists that the optimizer writes otherwise.
 use Rattle.std.specs.Prelude.{◌≡◌, ℕ, List, [], ◌∷◌, ◌++◌, Bool, true, false, ◌&&◌, ◌||◌, not, if◌then◌else◌, bytes_eq}
 use Rattle.std.specs.List.{list_any}
-use Rattle.meta_base.specs.Language.Expression.{Expression, Str, Ident, PosPred, NegPred, Seq, Choice, Opt, Rep, RepOnce, RepExact, RepMin, RepMax, RepMinMax, Push, NodeTag, RestoreOnErr, RuleType, Atomic}
+use Rattle.meta_base.specs.Language.Expression.{Expression, Str, Ident, PosPred, NegPred, Seq, Choice, Opt, Rep, RepOnce, RepExact, RepMin, RepMax, RepMinMax, Push, NodeTag, RestoreOnErr, RuleType, Atomic, Rule}
 use Rattle.meta_base.specs.Language.Text.{Text}
 use Rattle.meta_base.specs.Rewritings.Equality.{expression_eq}
-use Rattle.meta_base.specs.Rewritings.Rewriting.{IsDone, Rotates}
+use Rattle.meta_base.specs.Rewritings.Rewriting.{IsDone, Joins, Rotates}
 use Rattle.meta_optimizer.specs.Passes.{IsFactoring, IsUnrolling}
 use Rattle.meta_spanned.specs.Erasure.{without_spans}
 use Rattle.meta_spanned.specs.Spanned.{Span, SpannedRule}
@@ -58,22 +58,42 @@ is_list f _ = false
 abbrev pub has_list : (Text → Bool) → Expression → Bool
 has_list f e = list_any (is_list f) (parts e)
 
--- the second body is the first after the passes before the listing, in a rule of a type that is not Atomic
+-- `(!c ~ n)*`, of which the optimizer may make a forward search in an Atomic rule
+abbrev pub is_turn : Expression → Bool
+is_turn (Rep (Seq (NegPred c) (Ident n))) = true
+is_turn _ = false
+
+abbrev pub has_turn : Expression → Bool
+has_turn e = list_any is_turn (parts e)
+
+-- a rule of a type whose body has such a part
+abbrev pub is_searched : RuleType → Expression → Bool
+is_searched Atomic e = has_turn e
+is_searched _ e = false
+
+-- a rule after the first pass
+pub record IsRotatedRule (r : SpannedRule) (q : Rule) : Type 0 where
+  pub type_of : q.type_of ≡ r.type_of
+  pub rotates : IsDone Rotates (without_spans r.body) q.body
+
+-- the second body is the first after the passes from `unroll` to `factor`, in a rule of a type
 pub record IsPassed (y : RuleType) (a b : Expression) : Type 0 where
-  pub rotated : Expression
   pub unrolled : Expression
-  pub rotates : IsDone Rotates a rotated
-  pub unrolls : IsUnrolling rotated unrolled
-  pub factors : IsFactoring y unrolled b
+  pub joined : Expression
+  pub unrolls : IsUnrolling a unrolled
+  pub joins : IsDone (Joins y) unrolled joined
+  pub factors : IsFactoring y joined b
 
 abbrev pub span_if_list : (Text → Bool) → Expression → SpannedRule → List Span
 span_if_list f b r = if has_list f b then r.span ∷ [] else []
 
--- of a rule, its name's span is added where it is not Atomic and has a list that is written otherwise
+-- of a rule, its name's span is added where the body, as the passes before the listing leave it, has a list;
+-- rules with forward searches are not looked at
 pub data AddsLists (f : Text → Bool) (r : SpannedRule) (old new : List Span) : Type 0 where
-  atomic : r.type_of ≡ Atomic → new ≡ old → AddsLists f r old new
-  passed : {b : Expression} → (r.type_of ≡ Atomic → ⊥) → IsPassed r.type_of (without_spans r.body) b
-      → new ≡ old ++ span_if_list f b r → AddsLists f r old new
+  searched : {a : Expression} → IsDone Rotates (without_spans r.body) a → is_searched r.type_of a ≡ true
+      → new ≡ old → AddsLists f r old new
+  passed : {a b : Expression} → IsDone Rotates (without_spans r.body) a → is_searched r.type_of a ≡ false
+      → IsPassed r.type_of a b → new ≡ old ++ span_if_list f b r → AddsLists f r old new
 
 -- so rule by rule
 pub data FindsLists (f : Text → Bool) : List SpannedRule → List Span → Type 0 where

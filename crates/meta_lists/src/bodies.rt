@@ -1,25 +1,24 @@
 //! Bodies as the passes before the listing leave them.
 ghost use Rattle.std.specs.Prelude.{◌≡◌, IfOk};
 ghost use Rattle.meta_ast.specs.Ast.{expression_of, rule_of_code, rule_type_of};
-ghost use Rattle.meta_lists.specs.Rewritten.{IsPassed};
-ghost use Rattle.meta_spanned.specs.Erasure.{rule_without_spans, without_spans};
-ghost use Rattle.meta_spanned.specs.Nodes.{rule_view, type_of, view};
+ghost use Rattle.meta_lists.specs.Rewritten.{IsPassed, IsRotatedRule};
+ghost use Rattle.meta_spanned.specs.Erasure.{rule_without_spans};
+ghost use Rattle.meta_spanned.specs.Nodes.{rule_view};
 
 use meta_ast::ast::Rule;
 use meta_ast::deep::Deep;
 use meta_base::runtime::Fault;
-use meta_optimizer::{factor, rotate, unroll};
+use meta_optimizer::{concatenate, factor, rotate, unroll};
 use meta_spanned::{ParserRule, erase_spans};
 use std::alloc::{AllocError, Global};
 
-/// A rule as the passes before the listing leave it, where it is not Atomic.
-pub(crate) fn passed_rule(alloc: Global, rule: &ParserRule<'_>) -> Result<Deep<Rule>, AllocError>
-    ensures { IfOk result (λ passed. IsPassed (type_of rule.now.ty) (without_spans (view rule.now.node))
-        (expression_of passed.value.expr)) }
+/// A rule without spans, as the first pass leaves it.
+pub(crate) fn rotated_rule(alloc: Global, rule: &ParserRule<'_>) -> Result<Deep<Rule>, AllocError>
+    ensures { IfOk result (λ rotated. IsRotatedRule (rule_view rule.now) (rule_of_code rotated.value)) }
 {
     let plain = plain_rule(alloc, rule)?;
-    match run_passes(alloc, plain) {
-        Ok(passed) => Ok(passed),
+    match rotate(alloc, plain.into_inner()) {
+        Ok(rule) => Ok(Deep { value: rule }),
         Err(_) => Err(AllocError),
     }
 }
@@ -44,13 +43,23 @@ fn plain_rule(alloc: Global, rule: &ParserRule<'_>) -> Result<Deep<Rule>, AllocE
     }
 }
 
-/// The passes before the listing over a rule, but for those that change Atomic rules alone.
-fn run_passes(alloc: Global, rule: Deep<Rule>) -> Result<Deep<Rule>, Fault>
+/// A rule as the passes from `unroll` to `factor` leave it.
+pub(crate) fn passed_rule(alloc: Global, rule: Deep<Rule>) -> Result<Deep<Rule>, AllocError>
     ensures { IfOk result (λ passed. IsPassed (rule_type_of rule.value.ty)
         (expression_of rule.value.expr) (expression_of passed.value.expr)) }
 {
-    let rule = rotate(alloc, rule.into_inner())?;
+    match run_passes(alloc, rule.into_inner()) {
+        Ok(rule) => Ok(Deep { value: rule }),
+        Err(_) => Err(AllocError),
+    }
+}
+
+/// Runs the passes from `unroll` to `factor`.
+fn run_passes(alloc: Global, rule: Rule) -> Result<Rule, Fault>
+    ensures { IfOk result (λ passed. IsPassed (rule_type_of rule.ty) (expression_of rule.expr)
+        (expression_of passed.expr)) }
+{
     let rule = unroll(alloc, rule)?;
-    let rule = factor(alloc, rule)?;
-    Ok(Deep { value: rule })
+    let rule = concatenate(alloc, rule)?;
+    factor(alloc, rule)
 }

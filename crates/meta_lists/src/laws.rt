@@ -6,7 +6,7 @@ pub fn lists_are_changed()
     ensures { ListsAreChanged }
 {}
 
-/// Of a body that is not Atomic's, the listing of what three passes leave is what all passes leave.
+/// Of a body that is looked at, the listing of what these passes leave is what all passes leave.
 pub fn passes_are_all()
     ensures { PassesAreAll }
 {}

@@ -1,7 +1,7 @@
 //! Rules with lists that the optimizer writes otherwise.
 ghost use Rattle.std.specs.Prelude.{◌≡◌, ◌++◌, ◌∷◌, Bool, IfOk, OnOk, map};
 ghost use Rattle.std.specs.List.{list_any};
-ghost use Rattle.meta_ast.specs.Ast.{expression_of};
+ghost use Rattle.meta_ast.specs.Ast.{expression_of, rule_type_of};
 ghost use Rattle.meta_base.specs.Language.Text.{Text};
 ghost use Rattle.meta_lists.specs.Rewritten as spec;
 ghost use Rattle.meta_lists.specs.Rewritten.{AddsLists, FindsLists};
@@ -9,9 +9,9 @@ ghost use Rattle.meta_lists.specs.Stacks.{expressions_left};
 ghost use Rattle.meta_spanned.specs.Nodes.{piece_of, rule_view, rule_views};
 ghost use Rattle.meta_warnings.specs.Lists.{HasNames};
 
-use crate::bodies::passed_rule;
+use crate::bodies::{passed_rule, rotated_rule};
 use crate::names::{is_among, optional_names};
-use meta_ast::ast::{Expr, RuleType};
+use meta_ast::ast::{Expr, Rule, RuleType};
 use meta_base::runtime::Span;
 use meta_spanned::ParserRule;
 use std::alloc::{AllocError, Global};
@@ -19,7 +19,8 @@ use std::collections::HashSet;
 
 /// The spans of the names of rules in which pest runs a list `(x ~ y)* ~ x` as `x ~ (y ~ x)*`, which matches
 /// where no `x` follows the last `y`, too. Lists with an `x` that cannot fail do not count, and Atomic rules
-/// are not looked at. The only error is an allocation failure. The time is that of the optimizer.
+/// with a `(!c ~ n)*` are not looked at. The only error is an allocation failure. The time is that of the
+/// optimizer.
 pub fn rewritten_lists<'i>(
     alloc: Global,
     rules: &[ParserRule<'i>],
@@ -46,16 +47,60 @@ fn add_where_rewritten<'i>(
     ensures { OnOk result ((f : Text → Bool) → HasNames f optional.now
         → AddsLists f (rule_view rule.now) (map piece_of found.old.items) (map piece_of found.new.items)) }
 {
-    match rule.ty {
-        RuleType::Atomic => {}
-        _ => {
-            let passed = passed_rule(alloc, rule)?;
-            if has_list(alloc, &passed.value.expr, optional)? {
-                found.push(rule.span)?;
-            }
-        }
+    let rotated = rotated_rule(alloc, rule)?;
+    if is_searched(alloc, &rotated.value)? {
+        return Ok(());
+    }
+    let passed = passed_rule(alloc, rotated)?;
+    if has_list(alloc, &passed.value.expr, optional)? {
+        found.push(rule.span)?;
     }
     Ok(())
+}
+
+/// Whether a rule is Atomic, and contains what may become a forward search.
+fn is_searched(alloc: Global, rule: &Rule) -> Result<bool, AllocError>
+    ensures { IfOk result (λ answer.
+        answer ≡ spec.is_searched (rule_type_of rule.now.ty) (expression_of rule.now.expr)) }
+{
+    match rule.ty {
+        RuleType::Atomic => has_turn(alloc, &rule.expr),
+        _ => Ok(false),
+    }
+}
+
+/// Whether an expression contains `(!c ~ n)*`.
+fn has_turn(alloc: Global, body: &Expr) -> Result<bool, AllocError>
+    ensures { IfOk result (λ answer. answer ≡ spec.has_turn (expression_of body.now)) }
+{
+    let mut stack = Vec::new(alloc);
+    stack.push(body)?;
+    while let Some(next) = stack.pop() {
+        if is_turn(next) {
+            return Ok(true);
+        }
+        push_operands(next, &mut stack)?;
+    }
+    Ok(false)
+}
+
+/// Whether an expression is `(!c ~ n)*`.
+fn is_turn(expr: &Expr) -> bool
+    ensures { result ≡ spec.is_turn (expression_of expr.now) }
+{
+    match expr {
+        Expr::Rep(inner) => match &**inner {
+            Expr::Seq(left, right) => match &**left {
+                Expr::NegPred(_) => match &**right {
+                    Expr::Ident(_) => true,
+                    _ => false,
+                },
+                _ => false,
+            },
+            _ => false,
+        },
+        _ => false,
+    }
 }
 
 /// Whether an expression contains a list that is written otherwise.

@@ -2,4 +2,4 @@ use Rattle.meta_lists.proofs.Passing.{all_passes}
 use Rattle.meta_lists.proofs.laws.passes_are_all.Goals as goal
 
 pub returns : goal.returns
-returns c = λ g y a b other h bare. all_passes g y a b other h bare
+returns c = λ g y e a b rotates free h bare. all_passes g y e a b rotates free h bare
