@@ -3,7 +3,7 @@ use Rattle.std.proofs.Common.{◌≡◌, ◌≢◌, ◌∙◌, List, ◌++◌, t
 use Rattle.std.specs.List.{list_any}
 use Rattle.std.proofs.lemmas.Bool.{or_left, or_right}
 use Rattle.std.proofs.lemmas.List.Folds.{list_any-append}
-use Rattle.meta_base.specs.Language.Expression.{Expression, Grammar, RuleType, Normal, Silent, Atomic, CompoundAtomic, NonAtomic, Rep, Seq, NegPred, Ident, Part, whole, of_pos_pred, of_neg_pred, of_seq_left, of_seq_right, of_choice_left, of_choice_right, of_opt, of_rep, of_rep_once, of_rep_exact, of_rep_min, of_rep_max, of_rep_min_max, of_push, of_tag, of_restore}
+use Rattle.meta_base.specs.Language.Expression.{Expression, Grammar, RuleType, Normal, Silent, Atomic, CompoundAtomic, NonAtomic, Ident, PosPred, NegPred, Seq, Choice, Opt, Rep, RepOnce, RepExact, RepMin, RepMax, RepMinMax, Push, NodeTag, RestoreOnErr, Part, whole, of_pos_pred, of_neg_pred, of_seq_left, of_seq_right, of_choice_left, of_choice_right, of_opt, of_rep, of_rep_once, of_rep_exact, of_rep_min, of_rep_max, of_rep_min_max, of_push, of_tag, of_restore}
 use Rattle.meta_base.specs.Rewritings.Listing.{listed}
 use Rattle.meta_base.specs.Rewritings.Rewriting.{IsDone, Nowhere, Rotates, SkipsUntil, no_step, skip_until}
 use Rattle.meta_lists.specs.Rewritten.{IsPassed, has_turn, is_searched, is_turn, parts}
@@ -27,22 +27,22 @@ deeper e d h = or_right (is_turn d) (has_turn e) h
 
 turn_within : (e p : Expression) → Part e p → is_turn p ≡ true → has_turn e ≡ true
 turn_within _ _ (whole {e = e}) h = turn_here e h
-turn_within e p (of_pos_pred {e = d} k) h = deeper d e (turn_within d p k h)
-turn_within e p (of_neg_pred {e = d} k) h = deeper d e (turn_within d p k h)
-turn_within e p (of_seq_left {a = a} {b = b} k) h = or_right (is_turn e) _ (in_left (parts a) (parts b) (turn_within a p k h))
-turn_within e p (of_seq_right {a = a} {b = b} k) h = or_right (is_turn e) _ (in_right (parts a) (parts b) (turn_within b p k h))
-turn_within e p (of_choice_left {a = a} {b = b} k) h = or_right (is_turn e) _ (in_left (parts a) (parts b) (turn_within a p k h))
-turn_within e p (of_choice_right {a = a} {b = b} k) h = or_right (is_turn e) _ (in_right (parts a) (parts b) (turn_within b p k h))
-turn_within e p (of_opt {e = d} k) h = deeper d e (turn_within d p k h)
-turn_within e p (of_rep {e = d} k) h = deeper d e (turn_within d p k h)
-turn_within e p (of_rep_once {e = d} k) h = deeper d e (turn_within d p k h)
-turn_within e p (of_rep_exact {e = d} k) h = deeper d e (turn_within d p k h)
-turn_within e p (of_rep_min {e = d} k) h = deeper d e (turn_within d p k h)
-turn_within e p (of_rep_max {e = d} k) h = deeper d e (turn_within d p k h)
-turn_within e p (of_rep_min_max {e = d} k) h = deeper d e (turn_within d p k h)
-turn_within e p (of_push {e = d} k) h = deeper d e (turn_within d p k h)
-turn_within e p (of_tag {e = d} k) h = deeper d e (turn_within d p k h)
-turn_within e p (of_restore {e = d} k) h = deeper d e (turn_within d p k h)
+turn_within _ p (of_pos_pred {e = d} k) h = deeper d (PosPred d) (turn_within d p k h)
+turn_within _ p (of_neg_pred {e = d} k) h = deeper d (NegPred d) (turn_within d p k h)
+turn_within _ p (of_seq_left {a = a} {b = b} k) h = or_right (is_turn (Seq a b)) _ (in_left (parts a) (parts b) (turn_within a p k h))
+turn_within _ p (of_seq_right {a = a} {b = b} k) h = or_right (is_turn (Seq a b)) _ (in_right (parts a) (parts b) (turn_within b p k h))
+turn_within _ p (of_choice_left {a = a} {b = b} k) h = or_right (is_turn (Choice a b)) _ (in_left (parts a) (parts b) (turn_within a p k h))
+turn_within _ p (of_choice_right {a = a} {b = b} k) h = or_right (is_turn (Choice a b)) _ (in_right (parts a) (parts b) (turn_within b p k h))
+turn_within _ p (of_opt {e = d} k) h = deeper d (Opt d) (turn_within d p k h)
+turn_within _ p (of_rep {e = d} k) h = deeper d (Rep d) (turn_within d p k h)
+turn_within _ p (of_rep_once {e = d} k) h = deeper d (RepOnce d) (turn_within d p k h)
+turn_within _ p (of_rep_exact {e = d} {i = i} k) h = deeper d (RepExact d i) (turn_within d p k h)
+turn_within _ p (of_rep_min {e = d} {i = i} k) h = deeper d (RepMin d i) (turn_within d p k h)
+turn_within _ p (of_rep_max {e = d} {i = i} k) h = deeper d (RepMax d i) (turn_within d p k h)
+turn_within _ p (of_rep_min_max {e = d} {i = i} {j = j} k) h = deeper d (RepMinMax d i j) (turn_within d p k h)
+turn_within _ p (of_push {e = d} k) h = deeper d (Push d) (turn_within d p k h)
+turn_within _ p (of_tag {e = d} {t = t} k) h = deeper d (NodeTag d t) (turn_within d p k h)
+turn_within _ p (of_restore {e = d} k) h = deeper d (RestoreOnErr d) (turn_within d p k h)
 
 skips_turn : (g : Grammar) (y : RuleType) (p q : Expression) → SkipsUntil g y p q → (y ≡ Atomic) × (is_turn p ≡ true)
 skips_turn g _ _ _ (skip_until h) = (refl, refl)
