@@ -1,8 +1,9 @@
 -- Expressions on a stack.
-use Rattle.std.proofs.Common.{◌≡◌, ◌∙◌, ℕ, suc, ◌≤◌, List, [], ◌∷◌, ◌++◌, Bor, length, refl, sym, ap, append_assoc, append-nil, arith}
+use Rattle.std.proofs.Common.{◌≡◌, ◌∙◌, ℕ, suc, ◌≤◌, List, [], ◌∷◌, ◌++◌, ◌||◌, Bool, true, false, Bor, length, refl, sym, ap, append_assoc, append-nil, arith}
+use Rattle.std.specs.List.{list_any}
 use Rattle.meta_ast.specs.Ast.{expression_of}
 use Rattle.meta_ast.specs.declared.ast.Expr.{Expr}
-use Rattle.meta_base.specs.Language.Expression.{Expression, Seq, Choice}
+use Rattle.meta_base.specs.Language.Expression.{Expression, PosPred, NegPred, Seq, Choice, Opt, Rep, RepOnce, RepExact, RepMin, RepMax, RepMinMax, Push, NodeTag, RestoreOnErr}
 use Rattle.meta_lists.specs.Rewritten.{parts}
 use Rattle.meta_lists.specs.Stacks.{expressions_left}
 
@@ -22,3 +23,34 @@ left_on ss ps qs n e h = rw (e, left_push ps n) (sym h)
 
 pub left_less : (ss ps qs : List (Bor Expr)) (n : Bor Expr) → ss ≡ ps ++ (n ∷ []) → expression_of n.now ∷ expressions_left qs ≡ parts (expression_of n.now) ++ expressions_left ps → suc (length (expressions_left qs)) ≤ length (expressions_left ss)
 left_less ss ps qs n e h = rw (left_on ss ps qs n e h) (omega arith)
+
+-- an expression is the first of its parts
+first_of : (e : Expression) → (r : List Expression) × (parts e ≡ e ∷ r)
+first_of (PosPred e) = (parts e, refl)
+first_of (NegPred e) = (parts e, refl)
+first_of (Seq a b) = (parts a ++ parts b, refl)
+first_of (Choice a b) = (parts a ++ parts b, refl)
+first_of (Opt e) = (parts e, refl)
+first_of (Rep e) = (parts e, refl)
+first_of (RepOnce e) = (parts e, refl)
+first_of (RepExact e n) = (parts e, refl)
+first_of (RepMin e m) = (parts e, refl)
+first_of (RepMax e n) = (parts e, refl)
+first_of (RepMinMax e m n) = (parts e, refl)
+first_of (Push e) = (parts e, refl)
+first_of (NodeTag e t) = (parts e, refl)
+first_of (RestoreOnErr e) = (parts e, refl)
+first_of e = ([], refl)
+
+-- one that fails a test was met
+pub none_met : (p : Expression → Bool) (x : Expression) (w v : List Expression) (all : Bool) → w ≡ x ∷ v → p x ≡ false → list_any p w ≡ all → list_any p v ≡ all
+none_met p x w v all e h i = sym (ap (λ b. b || list_any p v) h) ∙ (sym (ap (list_any p) e) ∙ i)
+
+some_met : (p : Expression → Bool) (x : Expression) (w v : List Expression) (all : Bool) → w ≡ x ∷ v → p x ≡ true → list_any p w ≡ all → all ≡ true
+some_met p x w v all e h i = sym i ∙ (ap (list_any p) e ∙ ap (λ b. b || list_any p v) h)
+
+-- one on top of the stack passes a test
+pub some_popped : (p : Expression → Bool) (ss ps : List (Bor Expr)) (n : Bor Expr) (all : Bool) → ss ≡ ps ++ (n ∷ []) → p (expression_of n.now) ≡ true → list_any p (expressions_left ss) ≡ all → all ≡ true
+some_popped p ss ps n all e h i =
+    let q = first_of (expression_of n.now) in
+    some_met p (expression_of n.now) (expressions_left ss) (q.0 ++ expressions_left ps) all (ap expressions_left e ∙ (left_push ps n ∙ ap (λ l. l ++ expressions_left ps) q.1)) h i

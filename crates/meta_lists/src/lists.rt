@@ -28,7 +28,7 @@ pub fn rewritten_lists<'i>(
     ensures { IfOk result (λ found. FindsLists (spec.is_optional_name (rule_views rules.now))
         (rule_views rules.now) (map piece_of found.items)) }
 {
-    let optional = optional_names(alloc, rules)?;
+    let optional = optional_names(alloc, &*rules)?;
     let mut found = Vec::new(alloc);
     for rule in rules {
         add_where_rewritten(alloc, rule, &optional, &mut found)?;
