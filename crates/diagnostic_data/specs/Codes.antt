@@ -27,6 +27,7 @@ severity_of code.NeverMatches = severity.Warning
 severity_of code.BlanksInToken = severity.Warning
 severity_of code.ManyCopies = severity.Warning
 severity_of code.RepeatedAlternative = severity.Warning
+severity_of code.RewrittenList = severity.Warning
 severity_of _ = severity.Error
 
 -- a warning's code, and its span
@@ -76,6 +77,7 @@ message_of code.BlanksInToken = codes "blanks are skipped between these characte
 message_of code.ManyCopies = codes "the optimizer makes 10,000 copies or more of what this repeats"
 message_of code.RepeatedAlternative =
     codes "this alternative is never taken: it is the same as one before it"
+message_of code.RewrittenList = codes "pest runs a list `(x ~ y)* ~ x` of this rule as `x ~ (y ~ x)*`"
 message_of _ = []
 
 -- names of codes and severities
@@ -100,6 +102,7 @@ code_name code.NeverMatches = codes "pest::never_matches"
 code_name code.BlanksInToken = codes "pest::blanks_in_token"
 code_name code.ManyCopies = codes "pest::many_copies"
 code_name code.RepeatedAlternative = codes "pest::repeated_alternative"
+code_name code.RewrittenList = codes "pest::rewritten_list"
 
 abbrev pub severity_name : Severity → List ℕ
 severity_name severity.Error = codes "error"

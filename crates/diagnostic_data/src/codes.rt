@@ -66,10 +66,12 @@ pub enum Code {
     ManyCopies,
     /// An alternative is the same as one before it.
     RepeatedAlternative,
+    /// A list is run otherwise than it is written.
+    RewrittenList,
 }
 
 /// All codes.
-pub const ALL_CODES: [Code; 20] = [
+pub const ALL_CODES: [Code; 21] = [
     Code::Syntax,
     Code::EscapeValue,
     Code::NumberRange,
@@ -90,6 +92,7 @@ pub const ALL_CODES: [Code; 20] = [
     Code::BlanksInToken,
     Code::ManyCopies,
     Code::RepeatedAlternative,
+    Code::RewrittenList,
 ];
 
 impl Code {
@@ -118,6 +121,7 @@ impl Code {
             Code::BlanksInToken => "pest::blanks_in_token",
             Code::ManyCopies => "pest::many_copies",
             Code::RepeatedAlternative => "pest::repeated_alternative",
+            Code::RewrittenList => "pest::rewritten_list",
         }
     }
 
@@ -140,7 +144,7 @@ impl Code {
             Code::UncalledRule | Code::Unreachable | Code::ReversedRange => Severity::Warning,
             Code::ReversedCount | Code::IdleTest | Code::NeverMatches => Severity::Warning,
             Code::BlanksInToken | Code::ManyCopies => Severity::Warning,
-            Code::RepeatedAlternative => Severity::Warning,
+            Code::RepeatedAlternative | Code::RewrittenList => Severity::Warning,
             _ => Severity::Error,
         }
     }

@@ -5,6 +5,7 @@ ghost use Rattle.meta_spanned.specs.Nodes.{piece_of, rule_views};
 ghost use Rattle.diagnostic_data.specs.Codes as spec;
 ghost use Rattle.diagnostic_data.specs.Codes.{severity_of, warnings_of};
 ghost use Rattle.diagnostic_data.specs.Reports.{ReportsWarning};
+ghost use Rattle.diagnostic_data.specs.declared.codes.Code.TheVariants as code;
 ghost use Rattle.diagnostic_data.specs.declared.codes.Severity.TheVariants as severity;
 ghost use Rattle.meta_warnings.specs.Lists.{texts_of};
 
@@ -84,6 +85,14 @@ fn diagnose_code(
     report_spans(alloc, code, &spans)
 }
 
+/// The warnings of rules with these names, in which pest runs a list otherwise than it is written.
+pub fn diagnose_lists(alloc: Global, names: &[Span<'_>]) -> Result<Vec<Diagnostic>, AllocError>
+    ensures { IfOk result (λ diagnostics. AllZip ReportsWarning
+        (map (spec.warning code.RewrittenList) (map piece_of names.now)) diagnostics.items) }
+{
+    report_spans(alloc, Code::RewrittenList, names)
+}
+
 /// A warning of a code at each of these spans.
 fn report_spans(
     alloc: Global,
@@ -154,6 +163,7 @@ fn message_of(code: Code) -> &'static str
         Code::RepeatedAlternative => {
             "this alternative is never taken: it is the same as one before it"
         }
+        Code::RewrittenList => "pest runs a list `(x ~ y)* ~ x` of this rule as `x ~ (y ~ x)*`",
         _ => "",
     }
 }
@@ -171,6 +181,8 @@ fn help_of(alloc: Global, code: Code, part: &str) -> Result<Option<Help>, AllocE
         Code::BlanksInToken => "a rule with `@` before its brace skips none",
         Code::ManyCopies => "put a part of it into a rule of its own: then calls alone are copied",
         Code::RepeatedAlternative => "take it away, or write what was meant",
+        Code::RewrittenList =>
+            "so it matches before a `y` that no `x` follows; write what is meant",
         _ => return Ok(None),
     };
     Ok(Some(Help::new(alloc, message)?))
