@@ -2,7 +2,7 @@
 use Rattle.std.proofs.Common.{◌≡◌, ◌∙◌, ℕ, zero, suc, ◌+◌, ◌*◌, ◌-◌, ◌≤◌, List, [], ◌∷◌, ◌++◌, Bool, true, false, if◌then◌else◌, refl, sym, ap, ap₂, ltb-false, arith}
 use Rattle.std.specs.Prelude.{min, nat_lt, replicate}
 use Rattle.std.specs.List.{AllByRecursion}
-use Rattle.std.proofs.Math.Nat.{add-mul, mul-le-mul_left, mul-le-mul_right}
+use Rattle.std.proofs.Math.Nat.{add-mul, mul-le-mul_right, mul_assoc}
 use Rattle.meta_base.specs.Language.Expression.{Expression, Str, PosPred, NegPred, Seq, Choice, Opt, Rep, RepOnce, RepExact, RepMin, RepMax, RepMinMax, Push, NodeTag, RestoreOnErr}
 use Rattle.meta_base.specs.Language.Meaning.{at_least, at_most, exactly, from_to, in_sequence}
 use Rattle.meta_base.specs.Rewritings.Rewriting.{Many, no_step, one_step, Unrolls, unroll_exact, unroll_min, unroll_max, unroll_min_max, Within, here, in_pos_pred, in_neg_pred, in_seq_left, in_seq_right, in_choice_left, in_choice_right, in_opt, in_rep, in_rep_once, in_rep_exact, in_rep_min, in_rep_max, in_rep_min_max, in_push, in_tag, in_restore}
@@ -141,7 +141,9 @@ right_part : (n a b k : ℕ) → n * (a + b) ≤ k → n * b ≤ k
 right_part n a b k h = omega arith
 
 inside : (n c d e k : ℕ) → e ≡ c * d → n * e ≤ k → n * c * d ≤ k
-inside n c d e k h i = omega arith
+inside n c d e k h i =
+    let j : n * c * d ≡ n * e = mul_assoc n c d ∙ ap (λ z. n * z) (sym h) in
+    omega arith
 
 often_enough : (n d k : ℕ) → 10000 ≤ n → n * d ≤ k → 10000 * d ≤ k
 often_enough n d k h i = let l : 10000 * d ≤ n * d = mul-le-mul_right d h in omega arith

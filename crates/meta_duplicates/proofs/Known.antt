@@ -11,7 +11,7 @@ use Rattle.meta_base.specs.Rewritings.Equality.{expression_eq, expression_eq-Dec
 use Rattle.meta_duplicates.specs.Duplicates.{is_among, is_compared, is_plain, is_short}
 use Rattle.meta_duplicates.specs.Keys.{key}
 use Rattle.meta_duplicates.specs.Lists.{KeySet, KnowsKeys, same_key}
-use Rattle.meta_duplicates.proofs.Keys.{same_keys}
+use Rattle.meta_duplicates.proofs.Unique.{same_keys}
 use Rattle.meta_spanned.specs.Erasure.{without_spans}
 use Rattle.meta_spanned.specs.Spanned.{Spanned}
 

@@ -1,4 +1,4 @@
-pub mod Keys
 pub mod Known
 pub mod Repeated
 pub mod Stacks
+pub mod Unique

@@ -1,8 +1,9 @@
 -- Rules whose lists are written otherwise, one by one.
-use Rattle.std.proofs.Common.{◌≡◌, ◌∙◌, ℕ, suc, ◌+◌, ◌<◌, ◌≤◌, List, [], ◌∷◌, ◌++◌, Bool, length, drop, get_or, map, refl, sym, ap, subst, add-one, append_assoc, append-nil, drop-cons}
+use Rattle.std.proofs.Common.{◌≡◌, ◌∙◌, ℕ, suc, ◌+◌, ◌<◌, ◌≤◌, List, [], ◌∷◌, ◌++◌, Bool, true, false, if◌then◌else◌, length, drop, get_or, map, refl, sym, ap, subst, add-one, append_assoc, append-nil, drop-cons}
 use Rattle.std.proofs.lemmas.List.{drop_all}
+use Rattle.meta_base.specs.Language.Expression.{Expression}
 use Rattle.meta_base.specs.Language.Text.{Text}
-use Rattle.meta_lists.specs.Rewritten.{AddsLists, FindsLists, next_rule, no_rules, passed, searched, span_if_list}
+use Rattle.meta_lists.specs.Rewritten.{AddsLists, FindsLists, has_list, next_rule, no_rules, passed, searched, span_if_list}
 use Rattle.meta_spanned.specs.Nodes.{rule_view, rule_views}
 use Rattle.meta_spanned.specs.Spanned.{Span, SpannedRule}
 use Rattle.meta_spanned.specs.declared.node.ParserRule.{ParserRule}
@@ -26,3 +27,9 @@ pub found_all : (f : Text → Bool) (rules : List ParserRule) (i : ℕ) (found :
 found_all f rules i found h so_far =
     subst (λ l. FindsLists f (rule_views rules) l) (append-nil found)
     (so_far [] (subst (λ l. FindsLists f (rule_views l) []) (sym (drop_all i rules h)) no_rules))
+
+pub list_told : (f : Text → Bool) (b : Expression) (r : SpannedRule) (old new : List Span) → has_list f b ≡ true → new ≡ old ++ r.span ∷ [] → new ≡ old ++ span_if_list f b r
+list_told f b r old new h e = e ∙ ap (λ x. old ++ (if x then r.span ∷ [] else [])) (sym h)
+
+pub list_untold : (f : Text → Bool) (b : Expression) (r : SpannedRule) (old new : List Span) → has_list f b ≡ false → new ≡ old → new ≡ old ++ span_if_list f b r
+list_untold f b r old new h e = e ∙ (sym (append-nil old) ∙ ap (λ x. old ++ (if x then r.span ∷ [] else [])) (sym h))

@@ -54,3 +54,10 @@ pub some_popped : (p : Expression → Bool) (ss ps : List (Bor Expr)) (n : Bor E
 some_popped p ss ps n all e h i =
     let q = first_of (expression_of n.now) in
     some_met p (expression_of n.now) (expressions_left ss) (q.0 ++ expressions_left ps) all (ap expressions_left e ∙ (left_push ps n ∙ ap (λ l. l ++ expressions_left ps) q.1)) h i
+
+-- the operands of an expression wait in its place
+pub seq_left : (v : Expression) (ns ms ks : List (Bor Expr)) (l r : Bor Expr) → v ≡ Seq (expression_of l.now) (expression_of r.now) → ms ≡ ns ++ (r ∷ []) → ks ≡ ms ++ (l ∷ []) → v ∷ expressions_left ks ≡ parts v ++ expressions_left ns
+seq_left v ns ms ks l r e g h = rw e (ap (λ w. Seq (expression_of l.now) (expression_of r.now) ∷ w) (both_left ns ms ks l r g h))
+
+pub choice_left : (v : Expression) (ns ms ks : List (Bor Expr)) (l r : Bor Expr) → v ≡ Choice (expression_of l.now) (expression_of r.now) → ms ≡ ns ++ (r ∷ []) → ks ≡ ms ++ (l ∷ []) → v ∷ expressions_left ks ≡ parts v ++ expressions_left ns
+choice_left v ns ms ks l r e g h = rw e (ap (λ w. Choice (expression_of l.now) (expression_of r.now) ∷ w) (both_left ns ms ks l r g h))
