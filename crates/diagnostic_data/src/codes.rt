@@ -62,10 +62,16 @@ pub enum Code {
     NeverMatches,
     /// Blanks are skipped between the characters of a repetition.
     BlanksInToken,
+    /// Counts multiply, so that very many copies of an expression are made.
+    ManyCopies,
+    /// An alternative is the same as one before it.
+    RepeatedAlternative,
+    /// A list is run otherwise than it is written.
+    RewrittenList,
 }
 
 /// All codes.
-pub const ALL_CODES: [Code; 18] = [
+pub const ALL_CODES: [Code; 21] = [
     Code::Syntax,
     Code::EscapeValue,
     Code::NumberRange,
@@ -84,6 +90,9 @@ pub const ALL_CODES: [Code; 18] = [
     Code::IdleTest,
     Code::NeverMatches,
     Code::BlanksInToken,
+    Code::ManyCopies,
+    Code::RepeatedAlternative,
+    Code::RewrittenList,
 ];
 
 impl Code {
@@ -110,6 +119,9 @@ impl Code {
             Code::IdleTest => "pest::idle_test",
             Code::NeverMatches => "pest::never_matches",
             Code::BlanksInToken => "pest::blanks_in_token",
+            Code::ManyCopies => "pest::many_copies",
+            Code::RepeatedAlternative => "pest::repeated_alternative",
+            Code::RewrittenList => "pest::rewritten_list",
         }
     }
 
@@ -131,7 +143,8 @@ impl Code {
         match self {
             Code::UncalledRule | Code::Unreachable | Code::ReversedRange => Severity::Warning,
             Code::ReversedCount | Code::IdleTest | Code::NeverMatches => Severity::Warning,
-            Code::BlanksInToken => Severity::Warning,
+            Code::BlanksInToken | Code::ManyCopies => Severity::Warning,
+            Code::RepeatedAlternative | Code::RewrittenList => Severity::Warning,
             _ => Severity::Error,
         }
     }

@@ -11,5 +11,5 @@ mod warnings;
 pub use crate::codes::{ALL_CODES, Code, Severity};
 pub use crate::diagnostic::{Diagnostic, Options};
 pub use crate::errors::diagnose_errors;
-pub use crate::warnings::diagnose_rules;
+pub use crate::warnings::{diagnose_lists, diagnose_rules};
 pub use meta_hints::{Fix, Help, Related};

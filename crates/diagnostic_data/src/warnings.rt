@@ -5,12 +5,15 @@ ghost use Rattle.meta_spanned.specs.Nodes.{piece_of, rule_views};
 ghost use Rattle.diagnostic_data.specs.Codes as spec;
 ghost use Rattle.diagnostic_data.specs.Codes.{severity_of, warnings_of};
 ghost use Rattle.diagnostic_data.specs.Reports.{ReportsWarning};
+ghost use Rattle.diagnostic_data.specs.declared.codes.Code.TheVariants as code;
 ghost use Rattle.diagnostic_data.specs.declared.codes.Severity.TheVariants as severity;
 ghost use Rattle.meta_warnings.specs.Lists.{texts_of};
 
 use crate::codes::Code;
 use crate::diagnostic::Diagnostic;
 use meta_base::runtime::Span;
+use meta_copies::many_copies;
+use meta_duplicates::repeated_alternatives;
 use meta_hints::Help;
 use meta_spanned::ParserRule;
 use meta_warnings::{
@@ -36,6 +39,14 @@ pub fn diagnose_rules(
     add_code(alloc, Code::IdleTest, rules, starts, &mut diagnostics)?;
     add_code(alloc, Code::NeverMatches, rules, starts, &mut diagnostics)?;
     add_code(alloc, Code::BlanksInToken, rules, starts, &mut diagnostics)?;
+    add_code(alloc, Code::ManyCopies, rules, starts, &mut diagnostics)?;
+    add_code(
+        alloc,
+        Code::RepeatedAlternative,
+        rules,
+        starts,
+        &mut diagnostics,
+    )?;
     Ok(diagnostics)
 }
 
@@ -72,6 +83,14 @@ fn diagnose_code(
 {
     let spans = spans_of(alloc, code, rules, starts)?;
     report_spans(alloc, code, &spans)
+}
+
+/// The warnings of rules with these names, in which pest runs a list otherwise than it is written.
+pub fn diagnose_lists(alloc: Global, names: &[Span<'_>]) -> Result<Vec<Diagnostic>, AllocError>
+    ensures { IfOk result (λ diagnostics. AllZip ReportsWarning
+        (map (spec.warning code.RewrittenList) (map piece_of names.now)) diagnostics.items) }
+{
+    report_spans(alloc, Code::RewrittenList, names)
 }
 
 /// A warning of a code at each of these spans.
@@ -120,6 +139,8 @@ fn spans_of<'i>(
         Code::IdleTest => suspect_spans(alloc, Suspect::IdleTest, rules),
         Code::NeverMatches => suspect_spans(alloc, Suspect::Unmatchable, rules),
         Code::BlanksInToken => blanks_in_tokens(alloc, rules),
+        Code::ManyCopies => many_copies(alloc, rules),
+        Code::RepeatedAlternative => repeated_alternatives(alloc, rules),
         _ => Ok(Vec::new(alloc)),
     }
 }
@@ -138,6 +159,11 @@ fn message_of(code: Code) -> &'static str
         Code::IdleTest => "this changes nothing, since what it holds cannot fail",
         Code::NeverMatches => "this never matches",
         Code::BlanksInToken => "blanks are skipped between these characters",
+        Code::ManyCopies => "the optimizer makes 10,000 copies or more of what this repeats",
+        Code::RepeatedAlternative => {
+            "this alternative is never taken: it is the same as one before it"
+        }
+        Code::RewrittenList => "pest runs a list `(x ~ y)* ~ x` of this rule as `x ~ (y ~ x)*`",
         _ => "",
     }
 }
@@ -153,6 +179,10 @@ fn help_of(alloc: Global, code: Code, part: &str) -> Result<Option<Help>, AllocE
             "`ANY*` takes the whole rest of the text: write `(!end ~ ANY)*` for what is before an end"
         }
         Code::BlanksInToken => "a rule with `@` before its brace skips none",
+        Code::ManyCopies => "put a part of it into a rule of its own: then calls alone are copied",
+        Code::RepeatedAlternative => "take it away, or write what was meant",
+        Code::RewrittenList =>
+            "so it matches before a `y` that no `x` follows; write what is meant",
         _ => return Ok(None),
     };
     Ok(Some(Help::new(alloc, message)?))

@@ -1,5 +1,5 @@
 -- A text's diagnostics, by the outcome of its front end.
-use Rattle.std.proofs.Common.{◌≡◌, ◌≢◌, ◌⊎◌, inl, inr, ◌∙◌, ℕ, List, [], ◌∷◌, Bool, true, false, ◌||◌, Result, Ok, Err, IfOk, Vec, Global, refl, sym, ap, subst}
+use Rattle.std.proofs.Common.{◌≡◌, ◌≢◌, ◌⊎◌, inl, inr, ◌∙◌, ℕ, List, [], ◌∷◌, ◌++◌, map, Bool, true, false, ◌||◌, Result, Ok, Err, IfOk, Vec, Global, refl, sym, ap, subst}
 use Rattle.std.specs.List.{AllZip, list_any}
 use Rattle.diagnostic_data.specs.Reports.{ReportsError, is_error, is_severe}
 use Rattle.diagnostic_data.specs.declared.diagnostic.Diagnostic.{Diagnostic}
@@ -12,8 +12,10 @@ use Rattle.meta_base.specs.declared.runtime.tokens.Pairs.{Pairs}
 use Rattle.meta_diagnostics.specs.Diagnosis.{IsDiagnosis, ReportWarnings, accepted, refused}
 use Rattle.meta_names.proofs.Places.{tell_none}
 use Rattle.meta_reader.specs.Refusals.{AreReadAs}
-use Rattle.meta_spanned.specs.Spanned.{SpannedRule}
-use Rattle.diagnostic_data.specs.Codes.{warnings_of}
+use Rattle.meta_spanned.specs.Spanned.{Span, SpannedRule}
+use Rattle.diagnostic_data.specs.Codes.{warning, warnings_of}
+use Rattle.diagnostic_data.specs.declared.codes.Code.TheVariants as code
+use Rattle.meta_lists.specs.Rewritten.{FindsLists, is_optional_name}
 use Rattle.diagnostic_data.specs.Reports.{ReportsWarning}
 use Rattle.meta_syntax.specs.Parses.{AreOfAGrammar}
 use Rattle.pest_meta.specs.Spelling.{HasAnswer, HasWrongRules, IsRefusedGrammar, IsMisnamed, AreFlawed, HaveFindings, IsNoGrammar, IsRefusedWith, complaints_in}
@@ -72,12 +74,14 @@ answered text (Ok ds) a = λ none. a
 answered text (Err x) a = tt
 
 -- warnings of the rules that are read from the pairs of a text are those of the text
-pub of_pairs : (starts : List Text) (text : List ℕ) (pairs : Pairs Rule) (rules : List SpannedRule) (ds : Vec Diagnostic Global) → pairs_text pairs ≡ text → AreOfAGrammar pairs → AreReadAs pairs rules
-    → AllZip ReportsWarning (warnings_of starts rules) ds.items → ReportWarnings starts text ds.items
-of_pairs starts text pairs rules ds same of_text read each = subst (λ t. ReportWarnings starts t ds.items) same (record {
+pub of_pairs : (starts : List Text) (text : List ℕ) (pairs : Pairs Rule) (rules : List SpannedRule) (lists : List Span) (ds : List Diagnostic) → pairs_text pairs ≡ text → AreOfAGrammar pairs → AreReadAs pairs rules
+    → FindsLists (is_optional_name rules) rules lists → AllZip ReportsWarning (warnings_of starts rules ++ map (warning code.RewrittenList) lists) ds → ReportWarnings starts text ds
+of_pairs starts text pairs rules lists ds same of_text read found each = subst (λ t. ReportWarnings starts t ds) same (record {
   trees = named (pairs_trees pairs);
   of_text = of_text;
   rules = rules;
   read = read;
+  lists = lists;
+  found = found;
   each = each;
 })

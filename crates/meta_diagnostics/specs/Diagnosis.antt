@@ -1,15 +1,17 @@
 -- The diagnostics of a text.
-use Rattle.std.specs.Prelude.{ℕ, List}
+use Rattle.std.specs.Prelude.{ℕ, List, ◌++◌, map}
 use Rattle.std.specs.List.{AllZip}
-use Rattle.diagnostic_data.specs.Codes.{warnings_of}
+use Rattle.diagnostic_data.specs.Codes.{warning, warnings_of}
 use Rattle.diagnostic_data.specs.Reports.{ReportsError, ReportsWarning}
+use Rattle.diagnostic_data.specs.declared.codes.Code.TheVariants as code
 use Rattle.diagnostic_data.specs.declared.diagnostic.Diagnostic.{Diagnostic}
 use Rattle.meta_base.specs.Language.State.{Trees}
 use Rattle.meta_base.specs.Language.Text.{Text}
 use Rattle.meta_base.specs.declared.grammar.Rule.{Rule}
 use Rattle.meta_base.specs.declared.runtime.errors.Error.{Error}
 use Rattle.meta_reader.specs.Reading.{ReadsRules}
-use Rattle.meta_spanned.specs.Spanned.{SpannedRule}
+use Rattle.meta_lists.specs.Rewritten.{FindsLists, is_optional_name}
+use Rattle.meta_spanned.specs.Spanned.{Span, SpannedRule}
 use Rattle.pest_meta.specs.Spelling.{HasAnswer, HasTrees, IsRefusedWith}
 
 -- the diagnostics report the warnings of the rules that a text's trees are read as
@@ -18,7 +20,10 @@ pub record ReportWarnings (starts : List Text) (text : List ℕ) (diagnostics : 
   pub of_text : HasTrees text trees
   pub rules : List SpannedRule
   pub read : ReadsRules text trees rules
-  pub each : AllZip ReportsWarning (warnings_of starts rules) diagnostics
+  pub lists : List Span
+  pub found : FindsLists (is_optional_name rules) rules lists
+  pub each : AllZip ReportsWarning (warnings_of starts rules ++ map (warning code.RewrittenList) lists)
+      diagnostics
 
 -- the diagnostics of a text, where rules of some names are starts: the errors with which it is refused, or
 -- its warnings

@@ -9,11 +9,12 @@ ghost use Rattle.meta_warnings.specs.Lists.{texts_of};
 ghost use Rattle.pest_meta.specs.Spelling.{HasAnswer};
 
 pub use diagnostic_data::{ALL_CODES, Code, Diagnostic, Fix, Help, Options, Related, Severity};
-use diagnostic_data::{diagnose_errors, diagnose_rules};
+use diagnostic_data::{diagnose_errors, diagnose_lists, diagnose_rules};
 use meta_ast::deep::Deep;
 use meta_ast::optimized::release;
 use meta_base::grammar::Rule;
 use meta_base::runtime::{Error, Fault};
+use meta_lists::rewritten_lists;
 use pest_meta::parse_and_optimize;
 use pest_meta::parser::{PestParser, common_name, consume_rules_with_spans, parse};
 use std::alloc::{AllocError, Global};
@@ -70,7 +71,10 @@ fn diagnose_accepted(alloc: Global, text: &str, starts: &[&str]) -> Result<Vec<D
     let pairs = parse(alloc, Rule::grammar_rules, text)?;
     let rules = consume_rules_with_spans(alloc, pairs)?;
     let rules = Deep { value: rules };
-    let diagnostics = diagnose_rules(alloc, &rules.value, starts)?;
+    let mut diagnostics = diagnose_rules(alloc, &rules.value, starts)?;
+    let names = rewritten_lists(alloc, &rules.value)?;
+    let mut others = diagnose_lists(alloc, &names)?;
+    diagnostics.append(&mut others)?;
     Ok(diagnostics)
 }
 
