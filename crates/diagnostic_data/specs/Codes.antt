@@ -16,6 +16,7 @@ use Rattle.meta_warnings.specs.declared.suspects.Suspect.TheVariants as suspect
 
 -- warnings are those of an accepted text
 abbrev pub severity_of : Code → Severity
+severity_of code.UnusedAllowance = severity.Warning
 severity_of code.UncalledRule = severity.Warning
 severity_of code.Unreachable = severity.Warning
 severity_of code.ReversedRange = severity.Warning
@@ -58,6 +59,7 @@ warnings_of starts rules = flat_map (warnings_with starts rules) warning_codes
 
 -- the message of a warning
 abbrev pub message_of : Code → List ℕ
+message_of code.UnusedAllowance = codes "this allows nothing in the rule below"
 message_of code.UncalledRule = codes "no other rule calls this one"
 message_of code.Unreachable =
     codes "this alternative is never taken: one before it begins all that it matches"
@@ -82,6 +84,7 @@ code_name code.LeftRecursion = codes "pest::left_recursion"
 code_name code.EndlessRepetition = codes "pest::endless_repetition"
 code_name code.UnreachableChoice = codes "pest::unreachable_choice"
 code_name code.TagWithoutToken = codes "pest::tag_without_token"
+code_name code.UnusedAllowance = codes "pest::unused_allowance"
 code_name code.UncalledRule = codes "pest::uncalled_rule"
 code_name code.Unreachable = codes "pest::unreachable"
 code_name code.ReversedRange = codes "pest::reversed_range"

@@ -1,2 +1,3 @@
+pub mod Allowances
 pub mod Codes
 pub mod Reports

@@ -1,5 +1,5 @@
 -- Errors and warnings, and the diagnostics that report them.
-use Rattle.std.specs.Prelude.{◌≡◌, ℕ, List, Bool, true, false, string_bytes, ⊤}
+use Rattle.std.specs.Prelude.{◌≡◌, ◌≢◌, ℕ, List, Bool, true, false, string_bytes, ⊤}
 use Rattle.meta_base.specs.declared.grammar.Rule.{Rule}
 use Rattle.meta_base.specs.declared.runtime.errors.Error.{Error}
 use Rattle.meta_base.specs.declared.runtime.errors.ErrorVariant.{ErrorVariant}
@@ -7,6 +7,8 @@ use Rattle.meta_base.specs.declared.runtime.errors.ErrorVariant.TheVariants as v
 use Rattle.meta_base.specs.declared.runtime.errors.InputLocation.{InputLocation}
 use Rattle.meta_base.specs.declared.runtime.errors.InputLocation.TheVariants as at
 use Rattle.diagnostic_data.specs.Codes.{Warning, message_of}
+use Rattle.diagnostic_data.specs.declared.codes.Code.{Code}
+use Rattle.diagnostic_data.specs.declared.codes.Code.TheVariants as code
 use Rattle.diagnostic_data.specs.declared.codes.Severity.{Severity}
 use Rattle.diagnostic_data.specs.declared.codes.Severity.TheVariants as severity
 use Rattle.diagnostic_data.specs.declared.diagnostic.Diagnostic.{Diagnostic}
@@ -15,6 +17,11 @@ use Rattle.diagnostic_data.specs.declared.diagnostic.Diagnostic.{Diagnostic}
 abbrev pub IsMessageOf : ErrorVariant → List ℕ → Type 0
 IsMessageOf variant.ParsingError message = ⊤
 IsMessageOf (variant.CustomError own) message = message ≡ string_bytes own
+
+-- a syntax error has the code of one, and no other error has it
+abbrev pub IsCodeOf : ErrorVariant → Code → Type 0
+IsCodeOf variant.ParsingError c = c ≡ code.Syntax
+IsCodeOf (variant.CustomError own) c = c ≢ code.Syntax
 
 -- a position or a span begins and ends at these bytes
 abbrev pub IsAt : InputLocation → ℕ → ℕ → Type 0
@@ -32,6 +39,7 @@ is_error diagnostic = is_severe diagnostic.severity
 -- the diagnostic reports an error
 pub record ReportsError (error : Error Rule) (diagnostic : Diagnostic) : Type 0 where
   pub severity : diagnostic.severity ≡ severity.Error
+  pub code : IsCodeOf error.variant diagnostic.code
   pub location : IsAt error.location diagnostic.start diagnostic.end
   pub message : IsMessageOf error.variant (string_bytes diagnostic.message)
 

@@ -48,6 +48,8 @@ pub enum Code {
     UnreachableChoice,
     /// A tag is given where no token is made.
     TagWithoutToken,
+    /// A comment allows no warning.
+    UnusedAllowance,
     /// No other rule calls a rule.
     UncalledRule,
     /// A literal or a call before an alternative begins all that it matches.
@@ -77,6 +79,7 @@ pub const ALL_CODES: [Code; 18] = [
     Code::EndlessRepetition,
     Code::UnreachableChoice,
     Code::TagWithoutToken,
+    Code::UnusedAllowance,
     Code::UncalledRule,
     Code::Unreachable,
     Code::ReversedRange,
@@ -103,6 +106,7 @@ impl Code {
             Code::EndlessRepetition => "pest::endless_repetition",
             Code::UnreachableChoice => "pest::unreachable_choice",
             Code::TagWithoutToken => "pest::tag_without_token",
+            Code::UnusedAllowance => "pest::unused_allowance",
             Code::UncalledRule => "pest::uncalled_rule",
             Code::Unreachable => "pest::unreachable",
             Code::ReversedRange => "pest::reversed_range",
@@ -129,6 +133,7 @@ impl Code {
         ensures { result ≡ severity_of self }
     {
         match self {
+            Code::UnusedAllowance => Severity::Warning,
             Code::UncalledRule | Code::Unreachable | Code::ReversedRange => Severity::Warning,
             Code::ReversedCount | Code::IdleTest | Code::NeverMatches => Severity::Warning,
             Code::BlanksInToken => Severity::Warning,

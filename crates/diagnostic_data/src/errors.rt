@@ -1,7 +1,8 @@
-//! The errors of a refused text as diagnostics.
-ghost use Rattle.std.specs.Prelude.{◌≡◌, IfOk, string_bytes};
+//! Errors as diagnostics.
+ghost use Rattle.std.specs.Prelude.{◌≡◌, ◌≢◌, IfOk, string_bytes};
 ghost use Rattle.std.specs.List.{AllZip};
 ghost use Rattle.diagnostic_data.specs.Reports.{IsAt, ReportsError};
+ghost use Rattle.diagnostic_data.specs.declared.codes.Code.TheVariants as code;
 ghost use Rattle.diagnostic_data.specs.declared.codes.Severity.TheVariants as severity;
 
 use crate::codes::Code;
@@ -62,6 +63,7 @@ fn diagnose_custom(
     end: usize,
     message: &str,
 ) -> Result<Diagnostic, AllocError>
+    ensures code { IfOk result (λ diagnostic. diagnostic.code ≢ code.Syntax) }
     ensures severity { IfOk result (λ diagnostic. diagnostic.severity ≡ severity.Error) }
     ensures start { IfOk result (λ diagnostic. diagnostic.start ≡ start) }
     ensures end { IfOk result (λ diagnostic. diagnostic.end ≡ end) }
@@ -92,6 +94,7 @@ fn diagnose_syntax(
     start: usize,
     end: usize,
 ) -> Result<Diagnostic, AllocError>
+    ensures code { IfOk result (λ diagnostic. diagnostic.code ≡ code.Syntax) }
     ensures severity { IfOk result (λ diagnostic. diagnostic.severity ≡ severity.Error) }
     ensures start { IfOk result (λ diagnostic. diagnostic.start ≡ start) }
     ensures end { IfOk result (λ diagnostic. diagnostic.end ≡ end) }
@@ -116,17 +119,42 @@ fn help_for(
 ) -> Result<Option<Help>, AllocError> {
     match code {
         Code::UndefinedRule => names.help_undefined(alloc, rule_name(message), start, end),
+        Code::EndlessRepetition if is_of_blanks(message) => say(
+            alloc,
+            "it is repeated by itself: match one turn, which takes a character",
+        ),
         Code::EndlessRepetition => say(alloc, "each turn of a repetition has to take a character"),
         Code::LeftRecursion => say(
             alloc,
             "write the operand first and repeat the rest: `a = { b ~ (\"+\" ~ b)* }`",
         ),
         Code::ZeroRepetition => say(alloc, "what takes nothing is written `\"\"`"),
-        Code::UnreachableChoice => say(alloc, "put the alternative that cannot fail last"),
+        Code::UnreachableChoice => say(
+            alloc,
+            "put the alternative that cannot fail last, or take away its `?` or `*`",
+        ),
+        Code::EscapeValue => say(
+            alloc,
+            "D800 to DFFF and what is above 10FFFF are no characters",
+        ),
+        Code::NumberRange if message.ends_with("i32") => {
+            say(alloc, "a bound of `PEEK[..]` has 32 bits with its sign")
+        }
+        Code::NumberRange => {
+            say(
+                alloc,
+                "a count is at most 4294967295; `e*` and `e+` have no greatest count",
+            )
+        }
         Code::ReservedName => say(alloc, "take another name: pest has a meaning for this one"),
         Code::TagWithoutToken => say(alloc, "tag a rule that is not silent, or take the tag away"),
         _ => Ok(None),
     }
+}
+
+/// Whether an endless repetition is that of WHITESPACE or COMMENT.
+fn is_of_blanks(message: &str) -> bool {
+    message.starts_with("WHITESPACE ") || message.starts_with("COMMENT ")
 }
 
 /// A help without a fix.

@@ -1,13 +1,16 @@
 //! Diagnostics of grammars as data, made of errors and of rules.
 #![tactic(auto)]
 
+mod allowances;
 mod codes;
 mod diagnostic;
 mod errors;
 mod messages;
+mod repeats;
 mod undefined;
 mod warnings;
 
+pub use crate::allowances::{Allowance, leave_out_allowed};
 pub use crate::codes::{ALL_CODES, Code, Severity};
 pub use crate::diagnostic::{Diagnostic, Options};
 pub use crate::errors::diagnose_errors;

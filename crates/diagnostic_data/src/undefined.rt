@@ -1,4 +1,4 @@
-//! The definitions of a text by name, and the name that an undefined one may mean.
+//! Definitions, and what undefined names may mean.
 use meta_hints::{Help, Related, definitions, nearest_name};
 use meta_names::unicode_property_names;
 use std::alloc::{AllocError, Global};
@@ -111,7 +111,8 @@ fn builtin_of(name: &str) -> Option<&'static str> {
         "alnum" | "ALNUM" | "alphanumeric" => Some("ASCII_ALPHANUMERIC"),
         "xdigit" | "HEXDIG" => Some("ASCII_HEX_DIGIT"),
         "nl" | "NL" | "eol" | "EOL" | "CRLF" => Some("NEWLINE"),
-        "eof" => Some("EOI"),
+        "eof" | "EOF" | "end" => Some("EOI"),
+        "_" | "anychar" | "char" | "dot" => Some("ANY"),
         _ => None,
     }
 }

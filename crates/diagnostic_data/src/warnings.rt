@@ -1,4 +1,4 @@
-//! The warnings of an accepted text as diagnostics.
+//! Warnings as diagnostics.
 ghost use Rattle.std.specs.Prelude.{◌≡◌, IfOk, OnOk, ◌++◌, List, map};
 ghost use Rattle.std.specs.List.{AllZip};
 ghost use Rattle.meta_spanned.specs.Nodes.{piece_of, rule_views};
@@ -10,6 +10,7 @@ ghost use Rattle.meta_warnings.specs.Lists.{texts_of};
 
 use crate::codes::Code;
 use crate::diagnostic::Diagnostic;
+use crate::repeats::repeated_literals;
 use meta_base::runtime::Span;
 use meta_hints::Help;
 use meta_spanned::ParserRule;
@@ -18,6 +19,7 @@ use meta_warnings::{
     unreachable_alternatives,
 };
 use std::alloc::{AllocError, Global};
+use std::collections::HashSet;
 
 /// The warnings of rules, code by code; rules of the names `starts` need no call.
 pub fn diagnose_rules(
@@ -71,14 +73,28 @@ fn diagnose_code(
         (spec.warnings_with (texts_of starts.now) (rule_views rules.now) code) diagnostics.items) }
 {
     let spans = spans_of(alloc, code, rules, starts)?;
-    report_spans(alloc, code, &spans)
+    let repeats = repeats_for(alloc, code, rules)?;
+    report_spans(alloc, code, &spans, &repeats)
 }
 
-/// A warning of a code at each of these spans.
+/// The bytes at which there is a repeated literal, for the code of warnings that may be at one.
+fn repeats_for(
+    alloc: Global,
+    code: Code,
+    rules: &[ParserRule<'_>],
+) -> Result<HashSet<usize>, AllocError> {
+    match code {
+        Code::Unreachable => repeated_literals(alloc, rules),
+        _ => Ok(HashSet::new(alloc)),
+    }
+}
+
+/// A warning of a code at each of these spans; what begins at `repeats` is the same as what is before it.
 fn report_spans(
     alloc: Global,
     code: Code,
     spans: &[Span<'_>],
+    repeats: &HashSet<usize>,
 ) -> Result<Vec<Diagnostic>, AllocError>
     requires { severity_of code ≡ severity.Warning }
     ensures { IfOk result (λ diagnostics.
@@ -86,19 +102,24 @@ fn report_spans(
 {
     let mut diagnostics = Vec::new(alloc);
     for span in spans {
-        let diagnostic = report_span(alloc, code, *span)?;
+        let diagnostic = report_span(alloc, code, *span, repeats.contains(&span.start()))?;
         diagnostics.push(diagnostic)?;
     }
     Ok(diagnostics)
 }
 
-/// A warning of a code at a span.
-fn report_span(alloc: Global, code: Code, span: Span<'_>) -> Result<Diagnostic, AllocError>
+/// A warning of a code at a span, which may repeat what is before it.
+fn report_span(
+    alloc: Global,
+    code: Code,
+    span: Span<'_>,
+    is_repeat: bool,
+) -> Result<Diagnostic, AllocError>
     requires { severity_of code ≡ severity.Warning }
     ensures { IfOk result (ReportsWarning (spec.warning code (piece_of span.entry))) }
 {
     let mut diagnostic = Diagnostic::new(alloc, code, span.start(), span.end(), message_of(code))?;
-    diagnostic.help = help_of(alloc, code, span.as_str())?;
+    diagnostic.help = help_of(alloc, code, span.as_str(), is_repeat)?;
     Ok(diagnostic)
 }
 
@@ -125,10 +146,11 @@ fn spans_of<'i>(
 }
 
 /// The message of a warning.
-fn message_of(code: Code) -> &'static str
+pub(crate) fn message_of(code: Code) -> &'static str
     ensures { result.now ≡ spec.message_of code }
 {
     match code {
+        Code::UnusedAllowance => "this allows nothing in the rule below",
         Code::UncalledRule => "no other rule calls this one",
         Code::Unreachable => {
             "this alternative is never taken: one before it begins all that it matches"
@@ -142,11 +164,20 @@ fn message_of(code: Code) -> &'static str
     }
 }
 
-/// The help for a warning about a part of the text.
-fn help_of(alloc: Global, code: Code, part: &str) -> Result<Option<Help>, AllocError> {
+/// The help for a warning about a part of the text, which may be the same as one before it.
+fn help_of(
+    alloc: Global,
+    code: Code,
+    part: &str,
+    is_repeat: bool,
+) -> Result<Option<Help>, AllocError> {
     let message = match code {
         Code::UncalledRule => "where matching starts with it, name it by `--start`",
+        Code::Unreachable if is_repeat => "it is the same alternative twice: take this one away",
         Code::Unreachable => "put the longer alternative first",
+        Code::IdleTest if part.starts_with('&') => "what `&` tests cannot fail: write `e` or `e+`",
+        Code::IdleTest if !part.ends_with("*?") =>
+            "take this `?` away: what it holds may be left out already",
         Code::IdleTest => "no repetition is lazy: write `(!end ~ ANY)*` for what is before an end",
         Code::NeverMatches if part.starts_with('!') => "what `!` refuses cannot fail",
         Code::NeverMatches => {

@@ -13,6 +13,7 @@ use Rattle.meta_diagnostics.specs.Diagnosis.{IsDiagnosis, ReportWarnings, accept
 use Rattle.meta_names.proofs.Places.{tell_none}
 use Rattle.meta_reader.specs.Refusals.{AreReadAs}
 use Rattle.meta_spanned.specs.Spanned.{SpannedRule}
+use Rattle.diagnostic_data.specs.Allowances.{LeavesOutAllowed}
 use Rattle.diagnostic_data.specs.Codes.{warnings_of}
 use Rattle.diagnostic_data.specs.Reports.{ReportsWarning}
 use Rattle.meta_syntax.specs.Parses.{AreOfAGrammar}
@@ -72,12 +73,14 @@ answered text (Ok ds) a = λ none. a
 answered text (Err x) a = tt
 
 -- warnings of the rules that are read from the pairs of a text are those of the text
-pub of_pairs : (starts : List Text) (text : List ℕ) (pairs : Pairs Rule) (rules : List SpannedRule) (ds : Vec Diagnostic Global) → pairs_text pairs ≡ text → AreOfAGrammar pairs → AreReadAs pairs rules
-    → AllZip ReportsWarning (warnings_of starts rules) ds.items → ReportWarnings starts text ds.items
-of_pairs starts text pairs rules ds same of_text read each = subst (λ t. ReportWarnings starts t ds.items) same (record {
+pub of_pairs : (starts : List Text) (text : List ℕ) (pairs : Pairs Rule) (rules : List SpannedRule) (all ds : List Diagnostic) → pairs_text pairs ≡ text → AreOfAGrammar pairs → AreReadAs pairs rules
+    → AllZip ReportsWarning (warnings_of starts rules) all → LeavesOutAllowed text rules all ds → ReportWarnings starts text ds
+of_pairs starts text pairs rules all ds same of_text read each left = subst (λ t. LeavesOutAllowed t rules all ds → ReportWarnings starts t ds) same (λ of_pairs_text. record {
   trees = named (pairs_trees pairs);
   of_text = of_text;
   rules = rules;
   read = read;
+  all = all;
   each = each;
-})
+  left = of_pairs_text;
+}) left

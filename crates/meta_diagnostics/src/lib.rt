@@ -9,7 +9,7 @@ ghost use Rattle.meta_warnings.specs.Lists.{texts_of};
 ghost use Rattle.pest_meta.specs.Spelling.{HasAnswer};
 
 pub use diagnostic_data::{ALL_CODES, Code, Diagnostic, Fix, Help, Options, Related, Severity};
-use diagnostic_data::{diagnose_errors, diagnose_rules};
+use diagnostic_data::{diagnose_errors, diagnose_rules, leave_out_allowed};
 use meta_ast::deep::Deep;
 use meta_ast::optimized::release;
 use meta_base::grammar::Rule;
@@ -19,7 +19,7 @@ use pest_meta::parser::{PestParser, common_name, consume_rules_with_spans, parse
 use std::alloc::{AllocError, Global};
 
 /// The diagnostics of a text: the errors with which `parse_and_optimize` refuses it, in their order, or else
-/// its warnings. The only error is an allocation failure.
+/// its warnings, but for those that comments allow. The only error is an allocation failure.
 pub fn diagnose(
     alloc: Global,
     text: &str,
@@ -71,7 +71,8 @@ fn diagnose_accepted(alloc: Global, text: &str, starts: &[&str]) -> Result<Vec<D
     let rules = consume_rules_with_spans(alloc, pairs)?;
     let rules = Deep { value: rules };
     let diagnostics = diagnose_rules(alloc, &rules.value, starts)?;
-    Ok(diagnostics)
+    let left = leave_out_allowed(alloc, text, &rules.value, diagnostics)?;
+    Ok(left)
 }
 
 /// A result whose only fault can be an allocation failure.

@@ -1,4 +1,4 @@
-//! Helps, fixes and related positions of a diagnostic.
+//! Helps, fixes, related positions.
 use std::alloc::{AllocError, Global};
 
 /// A replacement of a part of the text, in bytes: `start..end` becomes `replacement`.

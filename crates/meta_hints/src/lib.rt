@@ -29,7 +29,7 @@ pub fn hint_at(alloc: Global, text: &str, position: usize) -> Result<Hint, Alloc
     Ok(Hint { help, related })
 }
 
-/// The help for the error, by the lexeme at its position.
+/// The help for the error, by where it is.
 fn help_at(alloc: Global, site: &Site<'_>) -> Result<Option<Help>, AllocError> {
     if site.is_outside() {
         return at_definition(alloc, site);
@@ -37,6 +37,17 @@ fn help_at(alloc: Global, site: &Site<'_>) -> Result<Option<Help>, AllocError> {
     if site.starts_rule() {
         return before_rule(alloc, site);
     }
+    match help_inside(alloc, site)? {
+        None if site.is_in_count() => Help::say(
+            alloc,
+            "braces in a body are a count: `{2}`, `{2,}`, `{,3}` or `{2,3}`",
+        ),
+        help => Ok(help),
+    }
+}
+
+/// The help for an error in a body, by the lexeme at its position.
+fn help_inside(alloc: Global, site: &Site<'_>) -> Result<Option<Help>, AllocError> {
     let here = site.here();
     let is_inside = here.start < site.position;
     match here.class {

@@ -1,4 +1,4 @@
-//! Hints in and at strings and characters.
+//! Hints at literals.
 use crate::help::Help;
 use crate::lexer::{Lexeme, LexemeClass};
 use crate::site::{Site, is_sign};

@@ -13,7 +13,9 @@ pub(crate) fn at_definition(alloc: Global, site: &Site<'_>) -> Result<Option<Hel
         LexemeClass::Foreign => at_foreign_name(alloc, site, here),
         LexemeClass::Digits => Help::say(alloc, "a name does not begin with a digit"),
         LexemeClass::Name => at_outer_name(alloc, site, here),
-        LexemeClass::Text | LexemeClass::Character => body_without_braces(alloc, site),
+        LexemeClass::Text | LexemeClass::Character | LexemeClass::Edge => {
+            body_without_braces(alloc, site)
+        }
         LexemeClass::OpenComment => open_comment(alloc),
         _ => Ok(None),
     }
@@ -39,7 +41,11 @@ fn at_outer_sign(
         b':' | b'-' | b'<' | b'=' | b'>' => assignment(alloc, site, here),
         b'{' if site.previous_lexeme(1).class == LexemeClass::Name => missing_equals(alloc, site),
         b'@' | b'$' | b'!' => outer_modifier(alloc, site),
+        b'(' if is_adjacent(here, site.next_lexeme(1), b'*') => {
+            Help::say(alloc, "a comment begins with `//`, or is in `/*` and `*/`")
+        }
         b'(' | b'^' | b'&' => body_without_braces(alloc, site),
+        b'.' => Help::say(alloc, "a name has ASCII letters, digits and `_`"),
         b'}' => Help::say(alloc, "no brace is open here"),
         _ => Ok(None),
     }
@@ -160,6 +166,9 @@ fn outer_modifier(alloc: Global, site: &Site<'_>) -> Result<Option<Help>, AllocE
     if is_sign(site.previous_lexeme(1), b'=') {
         return body_without_braces(alloc, site);
     }
+    if is_sign(site.previous_lexeme(2), b'=') {
+        return Help::say(alloc, "a rule has one modifier");
+    }
     Help::say(
         alloc,
         "a modifier is between `=` and `{`, as in `name = @{ .. }`",
@@ -190,6 +199,16 @@ pub(crate) fn foreign_help(
         let message = "a no-break space is no blank of a grammar";
         return Ok(Some(Help::replace(alloc, message, here.start, here.end, " ")?));
     }
+    if text == "\u{200b}" {
+        let message = "an invisible character is here";
+        return Ok(Some(Help::replace(alloc, message, here.start, here.end, "")?));
+    }
+    if text.starts_with(['\u{2013}', '\u{2014}', '\u{2212}']) {
+        return Help::say(
+            alloc,
+            "this is a dash past ASCII; a range is written `'a'..'z'`",
+        );
+    }
     if text.starts_with(['\u{201c}', '\u{201d}', '\u{2018}', '\u{2019}']) {
         return Help::say(alloc, "strings are in straight quotes: `\"`");
     }
@@ -212,6 +231,18 @@ fn at_outer_name(alloc: Global, site: &Site<'_>, here: Lexeme) -> Result<Option<
 
 /// A help for a body that is not in braces, or for a name that no rule follows.
 fn body_without_braces(alloc: Global, site: &Site<'_>) -> Result<Option<Help>, AllocError> {
+    if matches!(
+        site.text_of(site.previous_lexeme(1)),
+        "import" | "include" | "use"
+    ) {
+        return Help::say(
+            alloc,
+            "a grammar has no imports: `#[grammar = \"..\"]` may stand several times",
+        );
+    }
+    if site.here().class == LexemeClass::Text && is_sign(site.next_lexeme(1), b'=') {
+        return Help::say(alloc, "a name is written without quotes");
+    }
     if site.previous_lexeme(1).class == LexemeClass::Name {
         return Help::say(alloc, "a rule is written `name = { .. }`");
     }

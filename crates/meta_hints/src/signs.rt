@@ -25,11 +25,13 @@ pub(crate) fn at_sign(
             here,
             site.next_lexeme(1),
         ),
-        b'(' | b'^' | b'!' | b'&' => at_term(alloc, site),
-        b'=' => Help::say(
+        b'!' | b'&' if !starts_term(site.next_lexeme(1)) => Help::say(
             alloc,
-            "a tag is written `#name = e`, and a rule outside of braces",
+            "`!` and `&` are before what they test",
         ),
+        b'(' | b'^' | b'!' | b'&' => at_term(alloc, site),
+        b'=' => at_equals(alloc, site, here),
+        b'%' => Help::say(alloc, "a list is written `e ~ (\",\" ~ e)*`"),
         b'{' => at_brace(alloc, site),
         b'@' | b'$' => at_modifier(alloc, site, here, byte),
         b'/' => at_slash(alloc, site, here),
@@ -61,13 +63,22 @@ fn swap(
     Ok(None)
 }
 
-/// A help for an equals sign: a rule begins before the last one is closed, or a tag has no `#`.
-fn at_equals(alloc: Global, site: &Site<'_>) -> Result<Option<Help>, AllocError> {
-    let name = site.previous_lexeme(1);
-    if is_line_start(site.text.as_bytes(), name.start) {
-        return Help::say(alloc, "the rule before this one is not closed");
+/// A help for an equals sign: in a range, in an arrow, or of a tag without `#`.
+fn at_equals(alloc: Global, site: &Site<'_>, here: Lexeme) -> Result<Option<Help>, AllocError> {
+    if is_sign(site.previous_lexeme(1), b'.') {
+        let message = "a range has two dots, and both bounds belong to it";
+        return Ok(Some(Help::replace(alloc, message, here.start, here.end, "")?));
     }
-    Help::say(alloc, "a tag is written `#name = e`")
+    if is_sign(site.next_lexeme(1), b'>') {
+        return Help::say(
+            alloc,
+            "a grammar has no actions: it says what is matched alone",
+        );
+    }
+    Help::say(
+        alloc,
+        "a tag is written `#name = e`, and a rule outside of braces",
+    )
 }
 
 /// A help for a double ampersand.
@@ -106,8 +117,7 @@ fn at_comma(alloc: Global, site: &Site<'_>, here: Lexeme) -> Result<Option<Help>
 /// A help for a semicolon in a body.
 fn at_semicolon(alloc: Global, site: &Site<'_>, here: Lexeme) -> Result<Option<Help>, AllocError> {
     if is_sign(site.next_lexeme(1), b'}') {
-        let message = "a rule ends with its brace, without `;`";
-        return Ok(Some(Help::replace(alloc, message, here.start, here.end, "")?));
+        return remove_sign(alloc, site, here, "a rule ends with its brace, without `;`");
     }
     Ok(None)
 }
@@ -116,10 +126,14 @@ fn at_semicolon(alloc: Global, site: &Site<'_>, here: Lexeme) -> Result<Option<H
 fn at_closing(alloc: Global, site: &Site<'_>, byte: u8) -> Result<Option<Help>, AllocError> {
     let before = site.previous_lexeme(1);
     if is_sign(before, b'|') || is_sign(before, b'~') {
-        let message = "an operand is missing after this operator";
-        return Ok(Some(Help::replace(alloc, message, before.start, before.end, "")?));
+        return remove_sign(
+            alloc,
+            site,
+            before,
+            "an operand is missing after this operator",
+        );
     }
-    if is_sign(before, b'{') && byte == b'}' {
+    if is_sign(before, b'{') && byte == b'}' && !site.is_in_count() {
         return Help::say(alloc, "what takes nothing is written `\"\"`");
     }
     if site.is_within(b'(') && byte == b'}' {
@@ -134,6 +148,12 @@ fn at_closing(alloc: Global, site: &Site<'_>, byte: u8) -> Result<Option<Help>, 
 /// A help for a bracket: a class of characters, or an optional part.
 fn at_bracket(alloc: Global, site: &Site<'_>, here: Lexeme) -> Result<Option<Help>, AllocError> {
     let start = here.start.saturating_add(1);
+    if site.byte(start) == b'^' {
+        return Help::say(
+            alloc,
+            "a character that is none of some is written `!(\"a\" | \"b\") ~ ANY`",
+        );
+    }
     let end = class_end(site, start);
     if let Some(text) = class_text(alloc, site, start, end)? {
         let message = "a class of characters is a choice of ranges and strings";
@@ -205,7 +225,10 @@ fn at_dot(alloc: Global, site: &Site<'_>, here: Lexeme) -> Result<Option<Help>, 
         return at_dots(alloc, site, here, before);
     }
     if ends_term(before) {
-        return Ok(None);
+        return Help::say(
+            alloc,
+            "a name has ASCII letters, digits and `_`, and a sequence is written `a ~ b`",
+        );
     }
     let message = "any character is `ANY`";
     Ok(Some(Help::replace(alloc, message, here.start, here.end, "ANY")?))
@@ -231,17 +254,46 @@ fn at_dots(
 
 /// A help for an infix operator with nothing before it.
 fn at_infix(alloc: Global, site: &Site<'_>, here: Lexeme) -> Result<Option<Help>, AllocError> {
-    if ends_term(site.previous_lexeme(1)) {
+    let before = site.previous_lexeme(1);
+    if ends_term(before) {
         return after_character(alloc, site);
     }
+    if is_sign(before, b'^') {
+        return Help::say(
+            alloc,
+            "`^` is followed by a string; the start of the text is `SOI`",
+        );
+    }
     let message = "an operand is missing before this operator";
-    Ok(Some(Help::replace(alloc, message, here.start, here.end, "")?))
+    if before.class == here.class || is_sign(before, b'{') || is_sign(before, b'(') {
+        return remove_sign(alloc, site, here, message);
+    }
+    Help::say(alloc, message)
+}
+
+/// A help that removes a sign, and the blank after it where one is before it, too.
+fn remove_sign(
+    alloc: Global,
+    site: &Site<'_>,
+    sign: Lexeme,
+    message: &str,
+) -> Result<Option<Help>, AllocError> {
+    let is_between = site.byte(sign.start.saturating_sub(1)) == b' ' && site.byte(sign.end) == b' ';
+    let end = if is_between {
+        sign.end.saturating_add(1)
+    } else {
+        sign.end
+    };
+    Ok(Some(Help::replace(alloc, message, sign.start, end, "")?))
 }
 
 /// A help for a postfix operator with nothing before it.
 fn at_postfix(alloc: Global, site: &Site<'_>, here: Lexeme) -> Result<Option<Help>, AllocError> {
     if ends_term(site.previous_lexeme(1)) {
         return after_character(alloc, site);
+    }
+    if is_sign(site.previous_lexeme(1), b'(') && is_sign(here, b'?') {
+        return Help::say(alloc, "there are no regular expressions: a group is `(e)`");
     }
     let message = "`*`, `+` and `?` are after what they repeat";
     let operand = site.next_lexeme(1);
@@ -307,6 +359,7 @@ fn at_backslash(alloc: Global, site: &Site<'_>, here: Lexeme) -> Result<Option<H
     let replacement = match site.text_of(name) {
         "d" => "ASCII_DIGIT",
         "n" => "NEWLINE",
+        "s" => "(\" \" | \"\\t\" | NEWLINE)",
         "w" => "(ASCII_ALPHANUMERIC | \"_\")",
         _ => return Help::say(alloc, "an escape is in a string, as `\"\\n\"`"),
     };

@@ -88,6 +88,11 @@ impl<'t> Site<'t> {
         }
     }
 
+    /// Whether the error is in the braces of a count: the innermost ones, in those of a body.
+    pub(crate) fn is_in_count(&self) -> bool {
+        self.open.len() > 1 && self.is_within(b'{')
+    }
+
     /// Whether a rule begins at the error: a name and a single `=`, which is no tag.
     pub(crate) fn starts_rule(&self) -> bool {
         let here = self.here();

@@ -24,9 +24,21 @@ pub(crate) fn at_term(alloc: Global, site: &Site<'_>) -> Result<Option<Help>, Al
             "the string before this one goes over a line's end; a quote may be missing",
         );
     }
-    if is_any_case(site, before) {
+    if is_prefix(site, before, "i") {
         let message = "text in any case is written `^\"a\"`";
         return Ok(Some(Help::replace(alloc, message, before.start, before.end, "^")?));
+    }
+    if is_prefix(site, before, "r") {
+        return Help::say(
+            alloc,
+            "there are no raw strings: a backslash is written `\\\\`",
+        );
+    }
+    if is_word(site, before) || is_word(site, site.here()) {
+        return Help::say(
+            alloc,
+            "operators are signs: `a | b` for or, `a ~ b` for and, `!a` for not",
+        );
     }
     if !ends_term(before) {
         return Ok(None);
@@ -34,10 +46,15 @@ pub(crate) fn at_term(alloc: Global, site: &Site<'_>) -> Result<Option<Help>, Al
     missing_tilde(alloc, site, before)
 }
 
-/// Whether an `i` is right before a string, as in other notations.
-fn is_any_case(site: &Site<'_>, before: Lexeme) -> bool {
+/// Whether this name is right before a string, as in other notations.
+fn is_prefix(site: &Site<'_>, before: Lexeme, name: &str) -> bool {
     let here = site.here();
-    here.class == LexemeClass::Text && before.end == here.start && site.text_of(before) == "i"
+    here.class == LexemeClass::Text && before.end == here.start && site.text_of(before) == name
+}
+
+/// Whether a lexeme is a word that other notations have for an operator.
+fn is_word(site: &Site<'_>, lexeme: Lexeme) -> bool {
+    matches!(site.text_of(lexeme), "or" | "and" | "not")
 }
 
 /// Whether a text has a line's end.
@@ -134,6 +151,12 @@ pub(crate) fn at_name(
     }
     if here.class == LexemeClass::Digits {
         return Ok(None);
+    }
+    let before = site.previous_lexeme(1);
+    if site.text_of(here) == "i" && before.class == LexemeClass::Text && before.end == here.start {
+        let message = "text in any case is written `^\"a\"`";
+        let text = format!(in alloc; "^{}", site.text_of(before))?;
+        return Ok(Some(Help::replace(alloc, message, before.start, here.end, text.as_str())?));
     }
     if site.text_of(here).starts_with("PUSH") && !ends_term(site.previous_lexeme(1)) {
         return Help::say(

@@ -53,6 +53,12 @@ fn explanation_of_rules(code: Code) -> &'static str {
 /// The page of the code of a warning.
 fn explanation_of_warnings(code: Code) -> &'static str {
     match code {
+        Code::UnusedAllowance => {
+            "A comment allows a warning that is not there, or names no code.\n\n    \
+             // pest-lint: allow(pest::idle_test)\n    a = { \"x\" }\n\n\
+             Such a comment is a line right above the rule, and allows one code there; the first 256 of a \
+             text count. Errors are not allowed."
+        }
         Code::UncalledRule => {
             "A rule is not needed. It is needed if another rule calls it, if it calls SOI or EOI, if --start \
              names it, or if it is WHITESPACE or COMMENT. Where no rule calls SOI or EOI, the first rule is \
