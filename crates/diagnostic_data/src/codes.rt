@@ -67,7 +67,7 @@ pub enum Code {
 }
 
 /// All codes.
-pub const ALL_CODES: [Code; 18] = [
+pub const ALL_CODES: [Code; 19] = [
     Code::Syntax,
     Code::EscapeValue,
     Code::NumberRange,

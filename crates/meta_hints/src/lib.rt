@@ -2,22 +2,19 @@
 #![tactic(auto)]
 
 mod help;
-mod lexer;
 mod literals;
 mod names;
 mod outer;
 mod signs;
-mod site;
 mod terms;
 
 pub use crate::help::{Fix, Help, Hint, Related};
-use crate::lexer::LexemeClass;
 use crate::literals::{at_character, in_character, in_text, open_literal};
 pub use crate::names::{definitions, nearest_name};
 use crate::outer::{at_definition, before_rule, late_doc, open_comment};
 use crate::signs::at_sign;
-use crate::site::Site;
 use crate::terms::{at_end, at_name, at_term, foreign};
+use hint_lexemes::{LexemeClass, Site};
 use std::alloc::{AllocError, Global};
 
 /// A hint for the syntax error of a text at a byte. A help is only given where the lexemes around the byte

@@ -1,7 +1,6 @@
 //! Hints at literals.
 use crate::help::Help;
-use crate::lexer::{Lexeme, LexemeClass};
-use crate::site::{Site, is_sign};
+use hint_lexemes::{Lexeme, LexemeClass, Site, is_sign};
 use std::alloc::{AllocError, Global};
 
 /// The string, character or comment that is left open at the error.

@@ -1,7 +1,6 @@
 //! Hints outside of bodies: at names, assignments, braces and comments.
 use crate::help::Help;
-use crate::lexer::{Lexeme, LexemeClass, byte_at, line_end};
-use crate::site::{Site, ends_term, is_sign};
+use hint_lexemes::{Lexeme, LexemeClass, Site, byte_at, ends_term, is_sign};
 use std::alloc::{AllocError, Global};
 
 /// A help for an error outside of all brackets.

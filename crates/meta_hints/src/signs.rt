@@ -1,10 +1,9 @@
 //! Hints at signs in bodies.
 use crate::help::Help;
-use crate::lexer::{Lexeme, LexemeClass};
 use crate::literals::{after_character, range_of_strings};
 use crate::outer::is_line_start;
-use crate::site::{Site, ends_term, is_sign, starts_term};
 use crate::terms::{at_term, modifier};
+use hint_lexemes::{Lexeme, LexemeClass, Site, ends_term, is_sign, starts_term};
 use std::alloc::{AllocError, Global};
 
 /// A help for a sign in a body.

@@ -1,9 +1,8 @@
 //! Hints in bodies: missing operators, operands and closing brackets.
 use crate::help::Help;
-use crate::lexer::{Lexeme, LexemeClass};
 use crate::literals::{after_character, inner_of, range_of_strings};
 use crate::outer::foreign_help;
-use crate::site::{Site, ends_term, is_sign};
+use hint_lexemes::{Lexeme, LexemeClass, Site, ends_term, is_sign};
 use std::alloc::{AllocError, Global};
 
 /// A help for an expression where none may begin.
