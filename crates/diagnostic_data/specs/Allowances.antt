@@ -2,7 +2,8 @@
 use Rattle.std.specs.Prelude.{◌≡◌, ◌≤◌, ℕ, List, ◌++◌, All, Any, Bool, false, ◌&&◌, not, IfSome, None, Option, Some, bytes_eq, codes, filter, nat_le, nat_lt, slice_range, string_bytes}
 use Rattle.std.specs.List.{AllZip, list_any}
 use Rattle.meta_spanned.specs.Spanned.{SpannedRule, end_of}
-use Rattle.diagnostic_data.specs.Codes.{code_name, message_of}
+use Rattle.diagnostic_data.specs.Codes.{code_name, is_optional, message_of}
+use Rattle.diagnostic_data.specs.Helps.{IsListedHelp}
 use Rattle.diagnostic_data.specs.declared.allowances.Allowance.{Allowance}
 use Rattle.diagnostic_data.specs.declared.codes.Code.{Code}
 use Rattle.diagnostic_data.specs.declared.codes.Code.TheVariants as code
@@ -41,9 +42,18 @@ is_allowed allowances d = list_any (allows d) allowances
 abbrev pub is_left : List Allowance → Diagnostic → Bool
 is_left allowances d = not (is_allowed allowances d)
 
--- it allows none of these diagnostics
+-- it allows one of these diagnostics
+abbrev pub is_used : List Diagnostic → Allowance → Bool
+is_used diagnostics a = list_any (λ d. allows d a) diagnostics
+
+-- its code is one that is reported only where all are asked for
+abbrev pub is_of_option : Option Code → Bool
+is_of_option None = false
+is_of_option (Some c) = is_optional c
+
+-- it allows none of these diagnostics, which it could
 abbrev pub is_unused : List Diagnostic → Allowance → Bool
-is_unused diagnostics a = not (list_any (λ d. allows d a) diagnostics)
+is_unused diagnostics a = not (is_of_option a.code) && not (is_used diagnostics a)
 
 -- the diagnostic warns of a comment that allows nothing
 pub record WarnsOf (allowance : Allowance) (diagnostic : Diagnostic) : Type 0 where
@@ -52,6 +62,7 @@ pub record WarnsOf (allowance : Allowance) (diagnostic : Diagnostic) : Type 0 wh
   pub start : diagnostic.start ≡ allowance.start
   pub end : diagnostic.end ≡ allowance.end
   pub message : string_bytes diagnostic.message ≡ message_of diagnostic.code
+  pub help : IsListedHelp diagnostic.code diagnostic.help
 
 -- of all diagnostics those are left that nothing allows, and comments that allow nothing are warned of
 pub record LeavesOutAllowed (text : List ℕ) (rules : List SpannedRule) (all left : List Diagnostic)

@@ -6,10 +6,10 @@ ghost use Rattle.diagnostic_data.specs.Allowances.{IsAbove, IsAllowance, IsWritt
 ghost use Rattle.meta_spanned.specs.Nodes.{rule_view, rule_views};
 ghost use Rattle.meta_spanned.specs.Spanned.{SpannedRule};
 
-use crate::codes::{ALL_CODES, Code, Severity};
+use crate::codes::{ALL_CODES, Code};
 use crate::diagnostic::Diagnostic;
+use crate::helps::allowance_help;
 use crate::warnings::message_of;
-use meta_hints::Help;
 use meta_spanned::ParserRule;
 use std::alloc::{AllocError, Global};
 
@@ -203,13 +203,31 @@ fn unused_among(
         .collect(alloc)
 }
 
-/// Whether an allowance allows none of these diagnostics.
+/// Whether an allowance allows none of these diagnostics, and its code is not one that is reported only where
+/// it is asked for.
 fn is_unused(diagnostics: &[Diagnostic], allowance: Allowance) -> bool
     ensures { result ≡ spec.is_unused diagnostics.now allowance }
 {
-    !diagnostics
+    !is_of_option(allowance) && !is_used(diagnostics, allowance)
+}
+
+/// Whether an allowance allows one of these diagnostics.
+fn is_used(diagnostics: &[Diagnostic], allowance: Allowance) -> bool
+    ensures { result ≡ spec.is_used diagnostics.now allowance }
+{
+    diagnostics
         .iter()
         .any(|diagnostic| is_allowed_by(diagnostic, allowance))
+}
+
+/// Whether the code of an allowance is reported only where it is asked for.
+fn is_of_option(allowance: Allowance) -> bool
+    ensures { result ≡ spec.is_of_option allowance.code }
+{
+    match allowance.code {
+        Some(code) => code.is_optional(),
+        None => false,
+    }
 }
 
 /// Whether an allowance allows a diagnostic.
@@ -258,16 +276,6 @@ fn warning_of(alloc: Global, allowance: Allowance) -> Result<Diagnostic, AllocEr
     let code = Code::UnusedAllowance;
     let message = message_of(code);
     let mut warning = Diagnostic::new(alloc, code, allowance.start, allowance.end, message)?;
-    warning.help = help_of(alloc, allowance.code)?;
+    warning.help = allowance_help(alloc, allowance.code)?;
     Ok(warning)
-}
-
-/// The help for an allowance of a code that allows nothing.
-fn help_of(alloc: Global, code: Option<Code>) -> Result<Option<Help>, AllocError> {
-    let message = match code.map(|code| code.severity()) {
-        Some(Severity::Warning) => "take the comment away",
-        Some(Severity::Error) => "an error is mended, and not allowed",
-        None => "name the code of a warning, as `// pest-lint: allow(pest::idle_test)`",
-    };
-    Ok(Some(Help::new(alloc, message)?))
 }

@@ -1,6 +1,6 @@
 //! The codes of diagnostics.
 ghost use Rattle.std.specs.Prelude.{◌≡◌};
-ghost use Rattle.diagnostic_data.specs.Codes.{code_name, severity_name, severity_of};
+ghost use Rattle.diagnostic_data.specs.Codes.{code_name, is_optional, severity_name, severity_of};
 
 /// How much a diagnostic weighs.
 #[derive(Clone, Copy, Debug, PartialEq, Eq)]
@@ -64,10 +64,14 @@ pub enum Code {
     NeverMatches,
     /// Blanks are skipped between the characters of a repetition.
     BlanksInToken,
+    /// A rule has the name of a keyword of Rust.
+    KeywordName,
+    /// A rule has the name of a builtin.
+    BuiltinName,
 }
 
 /// All codes.
-pub const ALL_CODES: [Code; 19] = [
+pub const ALL_CODES: [Code; 21] = [
     Code::Syntax,
     Code::EscapeValue,
     Code::NumberRange,
@@ -87,6 +91,8 @@ pub const ALL_CODES: [Code; 19] = [
     Code::IdleTest,
     Code::NeverMatches,
     Code::BlanksInToken,
+    Code::KeywordName,
+    Code::BuiltinName,
 ];
 
 impl Code {
@@ -114,6 +120,8 @@ impl Code {
             Code::IdleTest => "pest::idle_test",
             Code::NeverMatches => "pest::never_matches",
             Code::BlanksInToken => "pest::blanks_in_token",
+            Code::KeywordName => "pest::keyword_name",
+            Code::BuiltinName => "pest::builtin_name",
         }
     }
 
@@ -128,6 +136,13 @@ impl Code {
         None
     }
 
+    /// Whether warnings of it are reported only where all are asked for.
+    pub fn is_optional(self) -> bool
+        ensures { result ≡ is_optional self }
+    {
+        matches!(self, Code::KeywordName | Code::BuiltinName)
+    }
+
     /// Whether a text with such a diagnostic is refused.
     pub fn severity(self) -> Severity
         ensures { result ≡ severity_of self }
@@ -136,7 +151,7 @@ impl Code {
             Code::UnusedAllowance => Severity::Warning,
             Code::UncalledRule | Code::Unreachable | Code::ReversedRange => Severity::Warning,
             Code::ReversedCount | Code::IdleTest | Code::NeverMatches => Severity::Warning,
-            Code::BlanksInToken => Severity::Warning,
+            Code::BlanksInToken | Code::KeywordName | Code::BuiltinName => Severity::Warning,
             _ => Severity::Error,
         }
     }

@@ -3,9 +3,9 @@ use meta_spanned::{ParserExpr, ParserNode, ParserRule, push_operands};
 use std::alloc::{AllocError, Global};
 use std::collections::HashSet;
 
-/// The bytes at which literals begin that are alternatives of a choice and equal one before them. The time is
-/// linear in the rules. The only error is an allocation failure.
-pub(crate) fn repeated_literals(
+/// The bytes at which literals and calls begin that are alternatives of a choice and equal one before them. The
+/// time is linear in the rules. The only error is an allocation failure.
+pub(crate) fn repeated_leaves(
     alloc: Global,
     rules: &[ParserRule<'_>],
 ) -> Result<HashSet<usize>, AllocError> {
@@ -44,6 +44,7 @@ fn add_of_choice<'n, 'i>(
     repeats: &mut HashSet<usize>,
 ) -> Result<(), AllocError> {
     let mut literals = HashSet::new(alloc);
+    let mut calls = HashSet::new(alloc);
     let mut alternatives = Vec::new(alloc);
     alternatives.push(choice)?;
     for _ in 0..u64::MAX {
@@ -54,6 +55,11 @@ fn add_of_choice<'n, 'i>(
             ParserExpr::Choice(_, _) => push_operands(node, &mut alternatives)?,
             ParserExpr::Str(text) => {
                 if !literals.insert(text.as_str())? {
+                    repeats.insert(node.span.start())?;
+                }
+            }
+            ParserExpr::Ident(name) => {
+                if !calls.insert(name.as_str())? {
                     repeats.insert(node.span.start())?;
                 }
             }

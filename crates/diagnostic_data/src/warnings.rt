@@ -3,16 +3,17 @@ ghost use Rattle.std.specs.Prelude.{◌≡◌, IfOk, OnOk, ◌++◌, List, map};
 ghost use Rattle.std.specs.List.{AllZip};
 ghost use Rattle.meta_spanned.specs.Nodes.{piece_of, rule_views};
 ghost use Rattle.diagnostic_data.specs.Codes as spec;
-ghost use Rattle.diagnostic_data.specs.Codes.{severity_of, warnings_of};
+ghost use Rattle.diagnostic_data.specs.Codes.{all_warnings_of, severity_of, warnings_of};
 ghost use Rattle.diagnostic_data.specs.Reports.{ReportsWarning};
 ghost use Rattle.diagnostic_data.specs.declared.codes.Severity.TheVariants as severity;
 ghost use Rattle.meta_warnings.specs.Lists.{texts_of};
 
 use crate::codes::Code;
 use crate::diagnostic::Diagnostic;
-use crate::repeats::repeated_literals;
+use crate::helps::listed_help;
+use crate::names::{builtin_names, keyword_names};
+use crate::repeats::repeated_leaves;
 use meta_base::runtime::Span;
-use meta_hints::Help;
 use meta_spanned::ParserRule;
 use meta_warnings::{
     Suspect, blanks_in_tokens, reversed_ranges, suspect_spans, uncalled_rules,
@@ -38,6 +39,21 @@ pub fn diagnose_rules(
     add_code(alloc, Code::IdleTest, rules, starts, &mut diagnostics)?;
     add_code(alloc, Code::NeverMatches, rules, starts, &mut diagnostics)?;
     add_code(alloc, Code::BlanksInToken, rules, starts, &mut diagnostics)?;
+    Ok(diagnostics)
+}
+
+/// All warnings of rules, those that are reported only where they are asked for, too.
+pub fn diagnose_all_rules(
+    alloc: Global,
+    rules: &[ParserRule<'_>],
+    starts: &[&str],
+) -> Result<Vec<Diagnostic>, AllocError>
+    ensures { IfOk result (λ diagnostics. AllZip ReportsWarning
+        (all_warnings_of (texts_of starts.now) (rule_views rules.now)) diagnostics.items) }
+{
+    let mut diagnostics = diagnose_rules(alloc, rules, starts)?;
+    add_code(alloc, Code::KeywordName, rules, starts, &mut diagnostics)?;
+    add_code(alloc, Code::BuiltinName, rules, starts, &mut diagnostics)?;
     Ok(diagnostics)
 }
 
@@ -84,7 +100,7 @@ fn repeats_for(
     rules: &[ParserRule<'_>],
 ) -> Result<HashSet<usize>, AllocError> {
     match code {
-        Code::Unreachable => repeated_literals(alloc, rules),
+        Code::Unreachable => repeated_leaves(alloc, rules),
         _ => Ok(HashSet::new(alloc)),
     }
 }
@@ -119,7 +135,7 @@ fn report_span(
     ensures { IfOk result (ReportsWarning (spec.warning code (piece_of span.entry))) }
 {
     let mut diagnostic = Diagnostic::new(alloc, code, span.start(), span.end(), message_of(code))?;
-    diagnostic.help = help_of(alloc, code, span.as_str(), is_repeat)?;
+    diagnostic.help = listed_help(alloc, code, span.as_str(), is_repeat)?;
     Ok(diagnostic)
 }
 
@@ -141,6 +157,8 @@ fn spans_of<'i>(
         Code::IdleTest => suspect_spans(alloc, Suspect::IdleTest, rules),
         Code::NeverMatches => suspect_spans(alloc, Suspect::Unmatchable, rules),
         Code::BlanksInToken => blanks_in_tokens(alloc, rules),
+        Code::KeywordName => keyword_names(alloc, rules),
+        Code::BuiltinName => builtin_names(alloc, rules),
         _ => Ok(Vec::new(alloc)),
     }
 }
@@ -160,31 +178,8 @@ pub(crate) fn message_of(code: Code) -> &'static str
         Code::IdleTest => "this changes nothing, since what it holds cannot fail",
         Code::NeverMatches => "this never matches",
         Code::BlanksInToken => "blanks are skipped between these characters",
+        Code::KeywordName => "Rust keeps this name for itself",
+        Code::BuiltinName => "this name is that of a builtin",
         _ => "",
     }
-}
-
-/// The help for a warning about a part of the text, which may be the same as one before it.
-fn help_of(
-    alloc: Global,
-    code: Code,
-    part: &str,
-    is_repeat: bool,
-) -> Result<Option<Help>, AllocError> {
-    let message = match code {
-        Code::UncalledRule => "where matching starts with it, name it by `--start`",
-        Code::Unreachable if is_repeat => "it is the same alternative twice: take this one away",
-        Code::Unreachable => "put the longer alternative first",
-        Code::IdleTest if part.starts_with('&') => "what `&` tests cannot fail: write `e` or `e+`",
-        Code::IdleTest if !part.ends_with("*?") =>
-            "take this `?` away: what it holds may be left out already",
-        Code::IdleTest => "no repetition is lazy: write `(!end ~ ANY)*` for what is before an end",
-        Code::NeverMatches if part.starts_with('!') => "what `!` refuses cannot fail",
-        Code::NeverMatches => {
-            "`ANY*` takes the whole rest of the text: write `(!end ~ ANY)*` for what is before an end"
-        }
-        Code::BlanksInToken => "a rule with `@` before its brace skips none",
-        _ => return Ok(None),
-    };
-    Ok(Some(Help::new(alloc, message)?))
 }

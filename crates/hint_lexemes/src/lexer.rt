@@ -1,5 +1,5 @@
 //! A lexer of texts that need not be grammars.
-ghost use Rattle.std.specs.Prelude.{◌≡◌, ◌<◌, ◌≤◌, IfOk, length, slice_index_or};
+ghost use Rattle.std.specs.Prelude.{◌≡◌, ◌≢◌, ◌<◌, ◌≤◌, IfOk, length, slice_index_or};
 ghost use Rattle.hint_lexemes.specs.Lexemes.{AreInOrder};
 
 use std::alloc::{AllocError, Global};
@@ -81,7 +81,8 @@ fn scan(bytes: &[u8], start: usize) -> (Option<LexemeClass>, usize)
 
 /// The byte at a position, or 0 after the last.
 pub fn byte_at(bytes: &[u8], at: usize) -> u8
-    ensures { result ≡ slice_index_or bytes.now at 0 }
+    ensures byte { result ≡ slice_index_or bytes.now at 0 }
+    ensures inside { result ≢ 0 → at < length bytes.now }
 {
     bytes.get(at).copied().unwrap_or(0)
 }

@@ -1,5 +1,5 @@
 //! Names of a grammar: where they are defined, and which is nearest to another.
-use hint_lexemes::{Lexeme, LexemeClass, lexemes};
+use crate::lexer::{Lexeme, LexemeClass, lexemes};
 use std::alloc::{AllocError, Global};
 use strsim::osa_distance;
 
