@@ -1,10 +1,14 @@
 //! The lexemes around an error.
+ghost use Rattle.std.specs.Prelude.{◌≡◌, ◌↔◌, IfOk, IsTrue, length};
+ghost use Rattle.hint_lexemes.specs.Lexemes.{AreInOrder, lexeme_at};
+ghost use Rattle.hint_lexemes.specs.declared.lexer.LexemeClass.TheVariants as class;
+
 use crate::lexer::{Lexeme, LexemeClass, byte_at, lexemes};
 use std::alloc::{AllocError, Global};
 
 /// The position of an error in a text, among its lexemes.
 #[derive(Drop)]
-pub(crate) struct Site<'t> {
+pub struct Site<'t> {
     pub text: &'t str,
     /// The byte of the error.
     pub position: usize,
@@ -17,11 +21,11 @@ pub(crate) struct Site<'t> {
 
 impl<'t> Site<'t> {
     /// The position of a byte of a text.
-    pub(crate) fn new(
-        alloc: Global,
-        text: &'t str,
-        position: usize,
-    ) -> Result<Site<'t>, AllocError> {
+    pub fn new(alloc: Global, text: &'t str, position: usize) -> Result<Site<'t>, AllocError>
+        ensures text { IfOk result (λ site. site.text.now ≡ text.entry.now) }
+        ensures position { IfOk result (λ site. site.position ≡ position) }
+        ensures ordered { IfOk result (λ site. AreInOrder 0 site.lexemes.items (length text.entry.now)) }
+    {
         let lexemes = lexemes(alloc, text)?;
         let index = index_at(&lexemes, position);
         let open = open_brackets(alloc, &lexemes, index)?;
@@ -35,17 +39,19 @@ impl<'t> Site<'t> {
     }
 
     /// The lexeme of the error.
-    pub(crate) fn here(&self) -> Lexeme {
+    pub fn here(&self) -> Lexeme
+        ensures { result ≡ lexeme_at self.now.lexemes.items self.now.index (length self.now.text.now) }
+    {
         self.lexeme(self.index)
     }
 
     /// The `count`th lexeme after that of the error.
-    pub(crate) fn next_lexeme(&self, count: usize) -> Lexeme {
+    pub fn next_lexeme(&self, count: usize) -> Lexeme {
         self.lexeme(self.index.saturating_add(count))
     }
 
     /// The `count`th lexeme before that of the error.
-    pub(crate) fn previous_lexeme(&self, count: usize) -> Lexeme {
+    pub fn previous_lexeme(&self, count: usize) -> Lexeme {
         if count > self.index {
             return edge(0);
         }
@@ -53,7 +59,9 @@ impl<'t> Site<'t> {
     }
 
     /// The lexeme of an index, or the edge at the text's end.
-    fn lexeme(&self, index: usize) -> Lexeme {
+    fn lexeme(&self, index: usize) -> Lexeme
+        ensures { result ≡ lexeme_at self.now.lexemes.items index (length self.now.text.now) }
+    {
         match self.lexemes.get(index) {
             Some(lexeme) => *lexeme,
             None => edge(self.text.len()),
@@ -61,35 +69,40 @@ impl<'t> Site<'t> {
     }
 
     /// The text of a lexeme.
-    pub(crate) fn text_of(&self, lexeme: Lexeme) -> &'t str {
+    pub fn text_of(&self, lexeme: Lexeme) -> &'t str {
         self.part(lexeme.start, lexeme.end)
     }
 
     /// The bytes `start..end` of the text; nothing where these are not characters.
-    pub(crate) fn part(&self, start: usize, end: usize) -> &'t str {
+    pub fn part(&self, start: usize, end: usize) -> &'t str {
         self.text.get(start..end).unwrap_or("")
     }
 
     /// The byte at a position, or 0 after the last.
-    pub(crate) fn byte(&self, at: usize) -> u8 {
+    pub fn byte(&self, at: usize) -> u8 {
         byte_at(self.text.as_bytes(), at)
     }
 
     /// The innermost bracket that is open before the error.
-    pub(crate) fn innermost(&self) -> Option<Lexeme> {
+    pub fn innermost(&self) -> Option<Lexeme> {
         self.open.last().copied()
     }
 
     /// Whether the innermost open bracket is this one.
-    pub(crate) fn is_within(&self, bracket: u8) -> bool {
+    pub fn is_within(&self, bracket: u8) -> bool {
         match self.innermost() {
             Some(lexeme) => lexeme.class == LexemeClass::Sign(bracket),
             None => false,
         }
     }
 
+    /// Whether the error is in the braces of a count: the innermost ones, in those of a body.
+    pub fn is_in_count(&self) -> bool {
+        self.open.len() > 1 && self.is_within(b'{')
+    }
+
     /// Whether a rule begins at the error: a name and a single `=`, which is no tag.
-    pub(crate) fn starts_rule(&self) -> bool {
+    pub fn starts_rule(&self) -> bool {
         let here = self.here();
         here.class == LexemeClass::Name
             && is_sign(self.next_lexeme(1), b'=')
@@ -98,7 +111,7 @@ impl<'t> Site<'t> {
 
     /// The innermost bracket that the error shows to be unclosed: a rule begins, the text ends, or another
     /// bracket is closed.
-    pub(crate) fn unclosed_bracket(&self) -> Option<Lexeme> {
+    pub fn unclosed_bracket(&self) -> Option<Lexeme> {
         let open = self.innermost()?;
         match self.here().class {
             LexemeClass::Edge | LexemeClass::Sign(b'=') => Some(open),
@@ -109,7 +122,7 @@ impl<'t> Site<'t> {
     }
 
     /// Whether the error is outside of all brackets.
-    pub(crate) fn is_outside(&self) -> bool {
+    pub fn is_outside(&self) -> bool {
         self.open.is_empty()
     }
 }
@@ -163,7 +176,7 @@ fn is_closing(byte: u8) -> bool {
 }
 
 /// Whether an expression may end with a lexeme.
-pub(crate) fn ends_term(lexeme: Lexeme) -> bool {
+pub fn ends_term(lexeme: Lexeme) -> bool {
     match lexeme.class {
         LexemeClass::Name | LexemeClass::Text | LexemeClass::Character => true,
         LexemeClass::Sign(byte) => matches!(byte, b')' | b']' | b'}' | b'*' | b'+' | b'?'),
@@ -172,7 +185,7 @@ pub(crate) fn ends_term(lexeme: Lexeme) -> bool {
 }
 
 /// Whether an expression may begin with a lexeme.
-pub(crate) fn starts_term(lexeme: Lexeme) -> bool {
+pub fn starts_term(lexeme: Lexeme) -> bool {
     match lexeme.class {
         LexemeClass::Name | LexemeClass::Text | LexemeClass::OpenText => true,
         LexemeClass::Character => true,
@@ -182,6 +195,8 @@ pub(crate) fn starts_term(lexeme: Lexeme) -> bool {
 }
 
 /// Whether a lexeme is this ASCII character.
-pub(crate) fn is_sign(lexeme: Lexeme, byte: u8) -> bool {
+pub fn is_sign(lexeme: Lexeme, byte: u8) -> bool
+    ensures { IsTrue result ↔ (lexeme.class ≡ class.Sign byte) }
+{
     lexeme.class == LexemeClass::Sign(byte)
 }

@@ -1,4 +1,7 @@
 //! A lexer of texts that need not be grammars.
+ghost use Rattle.std.specs.Prelude.{◌≡◌, ◌≢◌, ◌<◌, ◌≤◌, IfOk, length, slice_index_or};
+ghost use Rattle.hint_lexemes.specs.Lexemes.{AreInOrder};
+
 use std::alloc::{AllocError, Global};
 
 /// The class of a lexeme.
@@ -38,7 +41,9 @@ pub struct Lexeme {
 
 /// The lexemes of a text, in order; blanks, line comments and closed block comments are left out. The time is
 /// linear in the text.
-pub fn lexemes(alloc: Global, text: &str) -> Result<Vec<Lexeme>, AllocError> {
+pub fn lexemes(alloc: Global, text: &str) -> Result<Vec<Lexeme>, AllocError>
+    ensures { IfOk result (λ lexemes. AreInOrder 0 lexemes.items (length text.now)) }
+{
     let bytes = text.as_bytes();
     let mut lexemes = Vec::new(alloc);
     let mut next = 0usize;
@@ -56,32 +61,43 @@ pub fn lexemes(alloc: Global, text: &str) -> Result<Vec<Lexeme>, AllocError> {
 }
 
 /// The class of the lexeme at a byte and the byte after it; no class for a blank or a comment.
-fn scan(bytes: &[u8], start: usize) -> (Option<LexemeClass>, usize) {
+fn scan(bytes: &[u8], start: usize) -> (Option<LexemeClass>, usize)
+    requires { start < length bytes.now }
+    ensures after { start < result.1 }
+    ensures within { result.1 ≤ length bytes.now }
+{
     let after = start.saturating_add(1);
     match byte_at(bytes, start) {
         b' ' | b'\t' | b'\r' | b'\n' => (None, after),
         b'"' => scan_text(bytes, start),
         b'\'' => scan_character(bytes, start),
         b'/' => scan_slash(bytes, start),
-        byte if byte.is_ascii_digit() => (Some(LexemeClass::Digits), digits_end(bytes, start)),
-        byte if is_name_byte(byte) => (Some(LexemeClass::Name), name_end(bytes, start)),
-        byte if byte >= 128 => (Some(LexemeClass::Foreign), foreign_end(bytes, start)),
+        byte if byte.is_ascii_digit() => (Some(LexemeClass::Digits), digits_end(bytes, after)),
+        byte if is_name_byte(byte) => (Some(LexemeClass::Name), name_end(bytes, after)),
+        byte if byte >= 128 => (Some(LexemeClass::Foreign), foreign_end(bytes, after)),
         byte => (Some(LexemeClass::Sign(byte)), after),
     }
 }
 
 /// The byte at a position, or 0 after the last.
-pub(crate) fn byte_at(bytes: &[u8], at: usize) -> u8 {
+pub fn byte_at(bytes: &[u8], at: usize) -> u8
+    ensures byte { result ≡ slice_index_or bytes.now at 0 }
+    ensures inside { result ≢ 0 → at < length bytes.now }
+{
     bytes.get(at).copied().unwrap_or(0)
 }
 
 /// Whether a byte may be part of a name.
-pub(crate) fn is_name_byte(byte: u8) -> bool {
+fn is_name_byte(byte: u8) -> bool {
     byte.is_ascii_alphanumeric() || byte == b'_'
 }
 
-/// The byte after the name that begins at a byte.
-fn name_end(bytes: &[u8], start: usize) -> usize {
+/// The byte after those of a name that are from a byte on.
+fn name_end(bytes: &[u8], start: usize) -> usize
+    requires { start ≤ length bytes.now }
+    ensures from { start ≤ result }
+    ensures within { result ≤ length bytes.now }
+{
     for at in start..bytes.len() {
         if !is_name_byte(byte_at(bytes, at)) {
             return at;
@@ -90,8 +106,12 @@ fn name_end(bytes: &[u8], start: usize) -> usize {
     bytes.len()
 }
 
-/// The byte after the digits that begin at a byte.
-fn digits_end(bytes: &[u8], start: usize) -> usize {
+/// The byte after the digits that are from a byte on.
+fn digits_end(bytes: &[u8], start: usize) -> usize
+    requires { start ≤ length bytes.now }
+    ensures from { start ≤ result }
+    ensures within { result ≤ length bytes.now }
+{
     for at in start..bytes.len() {
         if !byte_at(bytes, at).is_ascii_digit() {
             return at;
@@ -100,8 +120,12 @@ fn digits_end(bytes: &[u8], start: usize) -> usize {
     bytes.len()
 }
 
-/// The byte after the characters beyond ASCII that begin at a byte.
-fn foreign_end(bytes: &[u8], start: usize) -> usize {
+/// The byte after the characters beyond ASCII that are from a byte on.
+fn foreign_end(bytes: &[u8], start: usize) -> usize
+    requires { start ≤ length bytes.now }
+    ensures from { start ≤ result }
+    ensures within { result ≤ length bytes.now }
+{
     for at in start..bytes.len() {
         if byte_at(bytes, at) < 128 {
             return at;
@@ -111,7 +135,12 @@ fn foreign_end(bytes: &[u8], start: usize) -> usize {
 }
 
 /// The end of the line in which a byte is: its line feed, or the text's end.
-pub(crate) fn line_end(bytes: &[u8], start: usize) -> usize {
+fn line_end(bytes: &[u8], start: usize) -> usize
+    requires { start ≤ length bytes.now }
+    ensures from { start ≤ result }
+    ensures within { result ≤ length bytes.now }
+    ensures end { result < length bytes.now → slice_index_or bytes.now result 0 ≡ 10 }
+{
     for at in start..bytes.len() {
         if byte_at(bytes, at) == b'\n' {
             return at;
@@ -121,7 +150,11 @@ pub(crate) fn line_end(bytes: &[u8], start: usize) -> usize {
 }
 
 /// A string in double quotes, closed or not.
-fn scan_text(bytes: &[u8], start: usize) -> (Option<LexemeClass>, usize) {
+fn scan_text(bytes: &[u8], start: usize) -> (Option<LexemeClass>, usize)
+    requires { start < length bytes.now }
+    ensures after { start < result.1 }
+    ensures within { result.1 ≤ length bytes.now }
+{
     let mut escaped = false;
     for at in start.saturating_add(1)..bytes.len() {
         let byte = byte_at(bytes, at);
@@ -137,14 +170,18 @@ fn scan_text(bytes: &[u8], start: usize) -> (Option<LexemeClass>, usize) {
 }
 
 /// A text in single quotes, or the quote alone where none closes it in its line.
-fn scan_character(bytes: &[u8], start: usize) -> (Option<LexemeClass>, usize) {
+fn scan_character(bytes: &[u8], start: usize) -> (Option<LexemeClass>, usize)
+    requires { start < length bytes.now }
+    ensures after { start < result.1 }
+    ensures within { result.1 ≤ length bytes.now }
+{
     let first = start.saturating_add(1);
     let second = first.saturating_add(1);
     if byte_at(bytes, first) == b'\'' && byte_at(bytes, second) == b'\'' {
         return (Some(LexemeClass::Character), second.saturating_add(1));
     }
     let mut escaped = false;
-    for at in first..line_end(bytes, start) {
+    for at in first..line_end(bytes, first) {
         let byte = byte_at(bytes, at);
         if escaped {
             escaped = false;
@@ -158,19 +195,27 @@ fn scan_character(bytes: &[u8], start: usize) -> (Option<LexemeClass>, usize) {
 }
 
 /// A comment, or a slash.
-fn scan_slash(bytes: &[u8], start: usize) -> (Option<LexemeClass>, usize) {
+fn scan_slash(bytes: &[u8], start: usize) -> (Option<LexemeClass>, usize)
+    requires { start < length bytes.now }
+    ensures after { start < result.1 }
+    ensures within { result.1 ≤ length bytes.now }
+{
     let second = start.saturating_add(1);
     let third = second.saturating_add(1);
     match (byte_at(bytes, second), byte_at(bytes, third)) {
-        (b'/', b'!') => (Some(LexemeClass::GrammarDoc), line_end(bytes, start)),
-        (b'/', _) => (None, line_end(bytes, start)),
+        (b'/', b'!') => (Some(LexemeClass::GrammarDoc), line_end(bytes, second)),
+        (b'/', _) => (None, line_end(bytes, second)),
         (b'*', _) => scan_block(bytes, start),
         _ => (Some(LexemeClass::Sign(b'/')), second),
     }
 }
 
 /// A block comment, in which others may be.
-fn scan_block(bytes: &[u8], start: usize) -> (Option<LexemeClass>, usize) {
+fn scan_block(bytes: &[u8], start: usize) -> (Option<LexemeClass>, usize)
+    requires { start < length bytes.now }
+    ensures after { start < result.1 }
+    ensures within { result.1 ≤ length bytes.now }
+{
     let mut depth = 0usize;
     let mut next = start;
     for at in start..bytes.len() {
