@@ -146,17 +146,8 @@ fn symbols_among(
         AreMatches client query.now (map deref_pair entries.now) (map view symbols.items)) }
 {
     let mut symbols = Vec::new(alloc);
-    let mut rest = entries;
-    while let Some((entry, after)) = rest.split_first() {
-        push_document(
-            alloc,
-            client,
-            entry.uri,
-            entry.document,
-            query,
-            &mut symbols,
-        )?;
-        rest = after;
+    for entry in entries {
+        push_document(alloc, client, entry, query, &mut symbols)?;
     }
     Ok(symbols)
 }
@@ -165,11 +156,11 @@ fn symbols_among(
 fn push_document(
     alloc: Global,
     client: Client,
-    entry: (&String, &Document),
+    entry: &(&String, &Document),
     query: &str,
     symbols: &mut Vec<Value>,
 ) -> Result<(), AllocError>
-    ensures { OnOk result (spec.AddsMatches client query.now (deref_pair entry.entry)
+    ensures { OnOk result (spec.AddsMatches client query.now (deref_pair entry.now)
         (map view symbols.old.items) (map view symbols.new.items)) }
 {
     let context = Context::new(alloc, client, entry.0.as_str(), entry.1)?;
@@ -225,7 +216,7 @@ fn occurs(query: &[u8], name: &[u8]) -> bool
         }
         rest = after;
     }
-    query.is_empty()
+    begins(query, rest)
 }
 
 /// Whether a text begins with another one, up to the case of ASCII letters.

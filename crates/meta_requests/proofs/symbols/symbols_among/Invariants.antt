@@ -1,13 +1,10 @@
-use Rattle.std.proofs.Common.{◌++◌, List, flat_map, length, map}
+use Rattle.std.proofs.Common.{◌++◌, List, drop, flat_map, map}
 use Rattle.std.specs.List.{AllZip}
 use Rattle.std.specs.Map.Iter.{deref_pair}
+use Rattle.meta_requests.specs.Symbols.{AreMatches, IsContextAt, matches_in}
 use Rattle.meta_requests.specs.declared.context.Context.{Context}
 use Rattle.serde_json.specs.View.{view}
-use Rattle.meta_requests.specs.Symbols.{AreMatches, IsContextAt, matches_in}
 use Rattle.meta_requests.proofs.symbols.symbols_among.Given as goal
 
 abbrev pub invariant-loop-entry : goal.invariant-loop-entry
-invariant-loop-entry l = (contexts : List Context) → AllZip (IsContextAt l.client) (map deref_pair l.rest) contexts → AreMatches l.client l.query (map deref_pair l.entries) (map view l.symbols.items ++ flat_map (matches_in l.query) contexts)
-
-abbrev pub decreases-loop-entry : goal.decreases-loop-entry
-decreases-loop-entry l = length l.rest
+invariant-loop-entry l = (contexts : List Context) → AllZip (IsContextAt l.client) (map deref_pair (drop l.entry-index l.entries)) contexts → AreMatches l.client l.query (map deref_pair l.entries) (map view l.symbols.items ++ flat_map (matches_in l.query) contexts)
