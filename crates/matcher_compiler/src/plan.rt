@@ -7,6 +7,16 @@ use matcher_code::code::{Code, Op, Ranges};
 use matcher_code::sets::add_set;
 use std::alloc::Global;
 
+/// What the implicit skipping takes.
+#[derive(Clone, Copy)]
+pub enum Skips {
+    Nothing,
+    /// The characters of a set.
+    Blanks(u32),
+    /// Comments, and the characters of a set.
+    Comments(u32),
+}
+
 /// The points and the demands of a program, its sets and its texts.
 #[derive(Drop)]
 pub struct Plan<'p> {
@@ -15,8 +25,7 @@ pub struct Plan<'p> {
     /// A program that has the sets alone.
     pub(crate) sets: Code,
     pub(crate) texts: Vec<Vec<u8>>,
-    /// The set of blanks, if such characters are what is skipped implicitly, or `None` if nothing is.
-    pub(crate) blanks: Option<u32>,
+    pub(crate) skips: Skips,
     /// The number of the point of each rule's body by its mode, and by whether it gives a token.
     pub(crate) bodies: Vec<Option<usize>>,
     ghost aligned: { IsAligned sets },
@@ -40,9 +49,10 @@ impl<'p> Plan<'p> {
         ensures loose { result ≡ false → mode_of mode ≡ NonAtomicMode }
     {
         match mode {
-            Atomicity::NonAtomic => match self.blanks {
-                None => true,
-                Some(_) => false,
+            Atomicity::NonAtomic => match self.skips {
+                Skips::Nothing => true,
+                Skips::Blanks(_) => false,
+                Skips::Comments(_) => false,
             },
             Atomicity::Atomic => true,
             Atomicity::CompoundAtomic => true,

@@ -329,6 +329,12 @@ impl<'p> Plan<'p> {
             },
             Part::Rule(rule) => self.call(program, rule, at),
             Part::Gap => self.gap(program, at),
+            Part::Skipped => self.skipped(program, at, own),
+            Part::Blanks => self.blanks(program, at),
+            Part::Comments => self.comments(program, at),
+            Part::Comment => self.comment(program, at, own),
+            Part::CommentCall => self.comment_call(program, at),
+            Part::Stay => self.stay_between(program, at),
         }
     }
 
