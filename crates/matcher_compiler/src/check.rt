@@ -76,6 +76,14 @@ fn is_same_text(one: Op, other: Op) -> bool
             } => text == text2 && next == next2 && fail == fail2,
             _ => false,
         },
+        Op::Until { firsts, list, next } => match other {
+            Op::Until {
+                firsts: firsts2,
+                list: list2,
+                next: next2,
+            } => firsts == firsts2 && list == list2 && next == next2,
+            _ => false,
+        },
         _ => is_same_call(one, other),
     }
 }

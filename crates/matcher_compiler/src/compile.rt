@@ -60,6 +60,7 @@ fn fresh_plan<'p>(
         demands: Vec::new(alloc),
         sets,
         texts: Vec::new(alloc),
+        lists: Vec::new(alloc),
         skips,
         bodies,
     })
@@ -243,6 +244,7 @@ fn finish(alloc: Global, plan: Plan<'_>) -> Result<Code, NotCompiled>
         demands,
         sets,
         texts,
+        lists,
         skips: _,
         bodies: _,
     } = plan;
@@ -253,7 +255,7 @@ fn finish(alloc: Global, plan: Plan<'_>) -> Result<Code, NotCompiled>
         ranges,
         tables,
         texts: _,
-        lists,
+        lists: _,
     } = sets;
     let code = Code {
         ops,

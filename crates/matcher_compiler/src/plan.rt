@@ -25,6 +25,8 @@ pub struct Plan<'p> {
     /// A program that has the sets alone.
     pub(crate) sets: Code,
     pub(crate) texts: Vec<Vec<u8>>,
+    /// Lists of numbers of texts.
+    pub(crate) lists: Vec<Vec<u32>>,
     pub(crate) skips: Skips,
     /// The number of the point of each rule's body by its mode, and by whether it gives a token.
     pub(crate) bodies: Vec<Option<usize>>,
@@ -127,5 +129,47 @@ impl<'p> Plan<'p> {
             return Err(NotCompiled::Memory);
         }
         Ok(number as u32)
+    }
+
+    /// Adds a list of numbers of texts, and returns its number.
+    fn list(&mut self, numbers: Vec<u32>) -> Result<u32, NotCompiled>
+        ensures later { OnOk result ((p : Program) → IsLater p self.old self.new) }
+        ensures means { IfOk result (λ number. (p : Program) (code : Code) (laid : List lay.Point)
+            → Meets p self.new code laid → list_of code number ≡ numbers.items) }
+    {
+        let number = self.lists.len();
+        if number >= 0xffff_ffff {
+            return Err(NotCompiled::Unsupported);
+        }
+        if self.lists.push(numbers).is_err() {
+            return Err(NotCompiled::Memory);
+        }
+        Ok(number as u32)
+    }
+
+    /// Adds some texts, and returns their numbers.
+    fn text_numbers(&mut self, alloc: Global, texts: &[String]) -> Result<Vec<u32>, NotCompiled>
+        ensures later { OnOk result ((p : Program) → IsLater p self.old self.new) }
+        ensures means { IfOk result (λ numbers. (p : Program) (code : Code) (laid : List lay.Point)
+            → Meets p self.new code laid → map (text_of code) numbers.items ≡ map (λ t. t.bytes) texts.now) }
+    {
+        let mut numbers = Vec::new(alloc);
+        for text in texts {
+            let number = self.text(alloc, text.as_str())?;
+            if numbers.push(number).is_err() {
+                return Err(NotCompiled::Memory);
+            }
+        }
+        Ok(numbers)
+    }
+
+    /// Adds a list of texts, and returns its number.
+    pub(crate) fn text_list(&mut self, alloc: Global, texts: &[String]) -> Result<u32, NotCompiled>
+        ensures later { OnOk result ((p : Program) → IsLater p self.old self.new) }
+        ensures means { IfOk result (λ number. (p : Program) (code : Code) (laid : List lay.Point)
+            → Meets p self.new code laid → map (text_of code) (list_of code number) ≡ map (λ t. t.bytes) texts.now) }
+    {
+        let numbers = self.text_numbers(alloc, texts)?;
+        self.list(numbers)
     }
 }

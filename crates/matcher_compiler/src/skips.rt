@@ -52,6 +52,20 @@ fn all_characters(alloc: Global) -> Result<Ranges, AllocError>
     Ok(ranges)
 }
 
+/// Returns the ranges of the first characters of texts, or `None` if one of them is empty.
+fn first_characters(alloc: Global, texts: &[String]) -> Result<Option<Ranges>, AllocError>
+    ensures some { IfOk result (λ made. IfSome made (λ ranges. StartIn ranges.items (map text_of texts.now))) }
+{
+    let mut ranges = Vec::new(alloc);
+    for text in texts {
+        if text.is_empty() {
+            return Ok(None);
+        }
+        push_first(&mut ranges, text.as_str())?;
+    }
+    Ok(Some(ranges))
+}
+
 impl<'p> Plan<'p> {
     /// Plans a search for the first of the characters in some ranges, which are those of texts.
     fn search_for(
@@ -78,7 +92,53 @@ impl<'p> Plan<'p> {
         Ok(())
     }
 
-    /// Plans a search for the first of some texts, which are of one character each.
+    /// Plans a search for the first of some texts that are not empty.
+    fn search_texts(
+        &mut self,
+        alloc: Global,
+        program: &Program,
+        texts: &Vec<String>,
+        at: Place,
+    ) -> Result<(), NotCompiled>
+        ensures later { OnOk result (IsLater program.now self.old self.new) }
+        ensures lays { OnOk result (LaysAt program.now self.new
+            (Run (mode_of at.mode) (Skip (map text_of texts.now.items))) at) }
+    {
+        let made = first_characters(alloc, texts)?;
+        match made {
+            Some(ranges) => self.search_from(alloc, program, texts, ranges, at),
+            None => Err(NotCompiled::Unsupported),
+        }
+    }
+
+    /// Plans a search for the first of some texts, which begin with characters of some ranges.
+    fn search_from(
+        &mut self,
+        alloc: Global,
+        program: &Program,
+        texts: &Vec<String>,
+        ranges: Ranges,
+        at: Place,
+    ) -> Result<(), NotCompiled>
+        requires starts { StartIn ranges.items (map text_of texts.now.items) }
+        ensures later { OnOk result (IsLater program.now self.old self.new) }
+        ensures lays { OnOk result (LaysAt program.now self.new
+            (Run (mode_of at.mode) (Skip (map text_of texts.now.items))) at) }
+    {
+        let firsts = self.set(ranges)?;
+        let list = self.text_list(alloc, texts)?;
+        self.operation(
+            at.label,
+            Op::Until {
+                firsts,
+                list,
+                next: at.next,
+            },
+        )?;
+        Ok(())
+    }
+
+    /// Plans a search for the first of some texts.
     pub(crate) fn search(
         &mut self,
         alloc: Global,
@@ -93,7 +153,7 @@ impl<'p> Plan<'p> {
         let made = single_characters(alloc, texts)?;
         match made {
             Some(others) => self.search_for(alloc, program, texts, &others, at),
-            None => Err(NotCompiled::Unsupported),
+            None => self.search_texts(alloc, program, texts, at),
         }
     }
 }
