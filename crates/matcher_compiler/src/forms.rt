@@ -1,13 +1,16 @@
 //! The operations and the demands of expressions without operands.
-ghost use Rattle.std.specs.Prelude.{◌≡◌, ◌≤◌, IfOk, None, OnOk, chars, codes, length, true};
+ghost use Rattle.std.specs.Prelude.{◌≡◌, ◌≤◌, ℕ, IfOk, List, None, OnOk, chars, codes, length, true};
 ghost use Rattle.meta_base.specs.Language.Expression.{Ident, Insens, NegPred, Rep, Seq, Str, rule_of};
 ghost use Rattle.meta_base.specs.Language.Meaning.{Run, seen_from};
 ghost use Rattle.meta_base.specs.Language.State.{AtomicMode};
+ghost use Rattle.matcher_code.specs.declared.code.Code.{Code};
+ghost use Rattle.matcher_layout.specs.Laid as lay;
+ghost use Rattle.matcher_layout.specs.Laid.{MatchesText};
 ghost use Rattle.matcher_program.specs.Programs.{is_set};
 ghost use Rattle.matcher_program.specs.declared.form.Program.{Program};
 ghost use Rattle.matcher_compiler.specs.Differences.{HasDifference};
 ghost use Rattle.matcher_compiler.specs.Modes.{mode_of};
-ghost use Rattle.matcher_compiler.specs.Plans.{IsBoundIn, IsLater, IsTightIn, LaysAt, grammar_in, said};
+ghost use Rattle.matcher_compiler.specs.Plans.{IsBoundIn, IsLater, IsTightIn, LaysAt, Meets, grammar_in, said};
 
 use crate::difference::{MOST_RANGES, outside_ranges};
 use crate::plan::Plan;

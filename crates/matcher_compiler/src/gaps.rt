@@ -1,12 +1,11 @@
 //! The implicit skipping.
-ghost use Rattle.std.specs.Prelude.{◌≡◌, OnOk};
-ghost use Rattle.meta_base.specs.Language.Expression.{Ident, Rep, Seq, comment, whitespace};
+ghost use Rattle.std.specs.Prelude.{◌≡◌, ◌≤◌, None, OnOk, length};
+ghost use Rattle.meta_base.specs.Language.Expression.{Ident, Rep, comment, rule_of};
 ghost use Rattle.meta_base.specs.Language.Meaning.{Run, Skipping, skipped};
 ghost use Rattle.meta_base.specs.Language.State.{Between, NonAtomicMode};
-ghost use Rattle.matcher_compiler.specs.declared.plan.Skips.TheVariants as skips;
 ghost use Rattle.matcher_compiler.specs.Modes.{mode_of};
 ghost use Rattle.matcher_compiler.specs.Names.{HasOwnNames};
-ghost use Rattle.matcher_compiler.specs.Plans.{IsLater, IsReady, IsSoundProgram, IsTightIn, LaysAt};
+ghost use Rattle.matcher_compiler.specs.Plans.{IsBlankSet, IsLater, IsReady, IsSoundProgram, IsTightIn, LaysAt, blanks, grammar_in, one_comment};
 
 use crate::forms::FAIL;
 use crate::modes::Atomicity;
@@ -41,8 +40,8 @@ impl<'p> Plan<'p> {
 
     /// Plans the skipping of blanks, where there are no comments.
     fn skip_blanks(&mut self, program: &Program, set: u32, at: Place) -> Result<(), NotCompiled>
-        requires ready { IsReady program.now self.old }
-        requires is { self.old.skips ≡ skips.Blanks set }
+        requires none { rule_of (grammar_in program.now) comment ≡ None }
+        requires set { IsBlankSet program.now self.old.sets set }
         requires mode { mode_of at.mode ≡ NonAtomicMode }
         ensures later { OnOk result (IsLater program.now self.old self.new) }
         ensures lays { OnOk result (LaysAt program.now self.new (Skipping (mode_of at.mode)) at) }
@@ -104,17 +103,26 @@ impl<'p> Plan<'p> {
         Ok(())
     }
 
+    /// Plans as many blanks as there are, which are the characters of a set.
+    fn blanks_of(&mut self, program: &Program, set: u32, at: Place) -> Result<(), NotCompiled>
+        requires set { IsBlankSet program.now self.old.sets set }
+        ensures later { OnOk result (IsLater program.now self.old self.new) }
+        ensures lays { OnOk result (LaysAt program.now self.new (Run Between blanks) at) }
+    {
+        self.operation(at.label, Op::All { set, next: at.next })?;
+        Ok(())
+    }
+
     /// Plans as many blanks as there are.
     pub(crate) fn blanks(&mut self, program: &Program, at: Place) -> Result<(), NotCompiled>
         requires ready { IsReady program.now self.old }
         ensures later { OnOk result (IsLater program.now self.old self.new) }
-        ensures lays { OnOk result (LaysAt program.now self.new (Run Between (Rep (Ident whitespace))) at) }
+        ensures lays { OnOk result (LaysAt program.now self.new (Run Between blanks) at) }
     {
         match self.skips {
             Skips::Nothing => Err(NotCompiled::Unsupported),
-            Skips::Blanks(set) | Skips::Comments(set) => {
-                self.operation(at.label, Op::All { set, next: at.next })
-            }
+            Skips::Blanks(set) => self.blanks_of(program, set, at),
+            Skips::Comments(set) => self.blanks_of(program, set, at),
         }
     }
 
@@ -122,7 +130,7 @@ impl<'p> Plan<'p> {
     pub(crate) fn comments(&mut self, program: &Program, at: Place) -> Result<(), NotCompiled>
         ensures later { OnOk result (IsLater program.now self.old self.new) }
         ensures lays { OnOk result (LaysAt program.now self.new
-            (Run Between (Rep (Seq (Ident comment) (Rep (Ident whitespace))))) at) }
+            (Run Between (Rep one_comment)) at) }
     {
         if at.next == FAIL {
             return Err(NotCompiled::Unsupported);
@@ -148,7 +156,7 @@ impl<'p> Plan<'p> {
     ) -> Result<(), NotCompiled>
         ensures later { OnOk result (IsLater program.now self.old self.new) }
         ensures lays { OnOk result (LaysAt program.now self.new
-            (Run Between (Seq (Ident comment) (Rep (Ident whitespace)))) at) }
+            (Run Between one_comment) at) }
     {
         let last = own.saturating_add(1);
         let start = own.saturating_add(2);
@@ -200,16 +208,15 @@ impl<'p> Plan<'p> {
         ensures later { OnOk result (IsLater program.now self.old self.new) }
         ensures lays { OnOk result (LaysAt program.now self.new (Run Between (Ident comment)) at) }
     {
-        match program.comment {
-            Some(rule) => self.call(
-                program,
-                rule,
-                Place {
-                    mode: Atomicity::NonAtomic,
-                    ..at
-                },
-            ),
-            None => Err(NotCompiled::Unsupported),
-        }
+        let rule = match program.comment {
+            Some(rule) => rule,
+            None => return Err(NotCompiled::Unsupported),
+        };
+        let place = Place {
+            mode: Atomicity::NonAtomic,
+            ..at
+        };
+        self.call(program, rule, place)?;
+        Ok(())
     }
 }
