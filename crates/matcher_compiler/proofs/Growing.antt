@@ -1,5 +1,5 @@
 -- Plans that grow.
-use Rattle.std.proofs.Common.{◌≡◌, sym, ◌∙◌, ap, subst, ℕ, zero, suc, ◌+◌, ◌-◌, ◌<◌, ◌≤◌, List, [], ◌∷◌, ◌++◌, inl, inr, Option, Some, None, length, get_or, map, arith, append-nil}
+use Rattle.std.proofs.Common.{◌≡◌, refl, sym, ◌∙◌, ap, subst, ℕ, zero, suc, ◌+◌, ◌-◌, ◌<◌, ◌≤◌, List, [], ◌∷◌, ◌++◌, inl, inr, Option, Some, None, length, get_or, map, arith, append-nil}
 use Rattle.std.proofs.Math.ListN.{get_or-append}
 use Rattle.std.proofs.Math.Seq.{get_or-append_right, get_or-append_seam}
 use Rattle.std.proofs.lemmas.Bool.{cases_lt}
@@ -23,6 +23,9 @@ later_twice p a b c x y = record {
   bound = λ h. y.bound (x.bound h);
   ready = λ h. y.ready (x.ready h);
 }
+
+pub later_same : (p : Program) (a : Plan) → IsLater p a a
+later_same p a = record { kept = λ i d h. (h, refl); met = λ code laid m. m; bound = λ h. h; ready = λ h. h }
 
 pub point_as : (laid : List lay.Point) {k q : Task} {l n w : ℕ} → k ≡ q → IsPoint laid k l n w → IsPoint laid q l n w
 point_as laid {l = l} {n = n} {w = w} e x = subst (λ t. IsPoint laid t l n w) e x

@@ -1,7 +1,8 @@
 -- What the implicit skipping takes.
-use Rattle.std.proofs.Common.{◌≡◌, refl, sym, ◌∙◌, ap, ap₂, subst, ℕ, ◌+◌, ◌<◌, ◌||◌, ◌&&◌, List, [], ◌∷◌, Bool, true, false, None, Some, add-zero, bytes_eq, get_or, length, if◌then◌else◌}
+use Rattle.std.proofs.Common.{◌≡◌, refl, sym, ◌∙◌, ap, ap₂, subst, ℕ, zero, suc, ◌+◌, ◌<◌, ◌||◌, ◌&&◌, List, [], ◌∷◌, Bool, true, false, None, Some, add-zero, bytes_eq, get_or, length, map, arith, if◌then◌else◌}
 use Rattle.std.specs.Prelude.{max}
-use Rattle.meta_ast.specs.Ast.{rule_type_of}
+use Rattle.std.proofs.lemmas.List.{length-map}
+use Rattle.meta_ast.specs.Ast.{rule_type_of, text_of}
 use Rattle.meta_base.specs.Language.Expression.{Atomic, CompoundAtomic, Grammar, Ident, NonAtomic, Normal, Rule, RuleType, Silent, comment, rule_of, whitespace}
 use Rattle.meta_base.specs.Language.FurthestFailure.{furthest, is_eoi, place_of}
 use Rattle.meta_base.specs.Language.Matching.{character_outcome}
@@ -16,12 +17,13 @@ use Rattle.matcher_layout.specs.Laid.{HasOutcome, IsPoint, IsTight, skip_set, sp
 use Rattle.matcher_layout.proofs.Characters.{silent_call_of_set, span_of_set}
 use Rattle.matcher_program.specs.declared.form.Program.{Program}
 use Rattle.matcher_program.specs.declared.form.Row.{Row}
-use Rattle.matcher_program.specs.Programs.{IsSkippedRule}
+use Rattle.matcher_program.specs.Programs.{IsRuleOf, IsSkippedRule, grammar_of, name_at, names_of, rule_of_row}
 use Rattle.matcher_compiler.specs.declared.modes.Atomicity as code
+use Rattle.matcher_compiler.specs.declared.plan.Skips.TheVariants as skips
 use Rattle.matcher_compiler.specs.declared.modes.Atomicity.TheVariants as mode
 use Rattle.matcher_compiler.specs.Modes.{mode_of}
 use Rattle.matcher_compiler.specs.Differences.{MatchesOne}
-use Rattle.matcher_compiler.specs.Plans.{IsSoundProgram, blanks, grammar_in, no_rule, said}
+use Rattle.matcher_compiler.specs.Plans.{IsBlankSet, IsSoundProgram, SkipsAs, blanks, grammar_in, no_rule, said}
 use Rattle.matcher_compiler.proofs.Calling.{made, same}
 
 white_is_no_end : is_eoi whitespace ≡ false
@@ -33,14 +35,15 @@ unfolding comment
 comment_is_no_end = refl
 
 comment_is_blank : (bytes_eq comment whitespace || bytes_eq comment comment) ≡ true
-unfolding whitespace, comment
+unfolding whitespace comment
 comment_is_blank = refl
 
-name_of_rule : (rows : List Row) (i : ℕ) → i < length rows → ((d : Rule) → (get_or (grammar_of rows) i d).name ≡ comment) → name_at (names_of rows) i ≡ comment
-name_of_rule rows i l named =
-    let d = get_or rows i no_row in
-    get_or-map (λ r. text_of r.name) rows i d [] l
-    ∙ (ap (λ r. r.name) (sym (get_or-map (rule_of_row (names_of rows)) rows i d no_rule l)) ∙ named no_rule)
+-- the name of a row, and that of its rule
+row_name : (names : List Text) (rows : List Row) (i : ℕ) (d : Rule) → i < length rows
+    → get_or (map (λ r. text_of r.name) rows) i [] ≡ (get_or (map (rule_of_row names) rows) i d).name
+row_name names [] i d l = absurd (omega (arith, l))
+row_name names (r ∷ rows) zero d l = refl
+row_name names (r ∷ rows) (suc i) d l = row_name names rows i d (omega (arith, l))
 
 -- neither name is a rule's
 pub tight_nowhere : (g : Grammar) (classes : Classes) → rule_of g whitespace ≡ None → rule_of g comment ≡ None → IsTight g classes NonAtomicMode
@@ -103,6 +106,12 @@ no_blanks g classes w s =
     let e : moved (span_of (λ c. false) s.rest) s ≡ s = ap (λ n. moved n s) (span_none s.rest) ∙ moved_none s in
     subst (λ t. (d : Does g classes (Run Between blanks) s (Success t None')) × (furthest d ≡ 0)) (sym e)
     (by.rep_none (by.other w refl), ap (λ a. if a then s.position else 0) white_is_no_end)
+
+-- blanks, with comments or without
+pub skips_ready : (p : Program) (sets : Code) (set : ℕ) (b : Bool) → (b ≡ false → rule_of (grammar_in p) comment ≡ None) → IsBlankSet p sets set
+    → SkipsAs p sets (if b then skips.Comments set else skips.Blanks set)
+skips_ready p sets set true none is = is
+skips_ready p sets set false none is = (none refl, is)
 
 -- a call of `COMMENT` in the implicit skipping is as one in NonAtomic
 same_body : (t : RuleType) (b : Bool) → b ≡ true → mode_in t b NonAtomicMode ≡ mode_in t b Between
@@ -171,10 +180,12 @@ module _ (p : Program) (i : ℕ) (sound : IsSoundProgram p) (is : p.comment ≡ 
   comment_meant = subst (IsSkippedRule (grammar_in p) comment) is sound.comment_is
 
   pub comment_within : i < length p.rows.items
-  comment_within = omega (arith, comment_meant.within, length-map p.rows.items (rule_of_row (names_of p.rows.items)))
+  comment_within =
+      let l = comment_meant.within in
+      omega (arith, l, length-map p.rows.items (rule_of_row (names_of p.rows.items)))
 
   comment_named : name_at (names_of p.rows.items) i ≡ comment
-  comment_named = name_of_rule p.rows.items i comment_within comment_meant.named
+  comment_named = row_name (names_of p.rows.items) p.rows.items i no_rule comment_within ∙ comment_meant.named no_rule
 
   pub comment_is_rule : IsRuleOf (grammar_in p) (name_at (names_of p.rows.items) i) i
   comment_is_rule = subst (λ n. IsRuleOf (grammar_in p) n i) (sym comment_named) comment_meant

@@ -1,12 +1,13 @@
 -- Plans of programs: points and demands, and what a program does that meets them.
-use Rattle.std.specs.Prelude.{◌≡◌, ◌<◌, ℕ, Bool, List, [], ◌∷◌, Option, Some, None, get_or, length, map, ⊤}
+use Rattle.std.specs.Prelude.{◌≡◌, ◌<◌, ℕ, Bool, List, [], ◌∷◌, Option, Some, None, get_or, length, map, All, IsUtf8, chars, ⊤}
 use Rattle.meta_base.specs.Language.Expression.{Expression, Grammar, Ident, Normal, Rep, Rule, Seq, Str, comment, rule_of, whitespace}
 use Rattle.meta_base.specs.Language.Meaning.{Run, Skipping, Task, once_or_more, skipped}
 use Rattle.meta_base.specs.Language.State as language
+use Rattle.meta_base.specs.Language.Text.{Text}
 use Rattle.meta_base.specs.Language.State.{Between, Classes, NonAtomicMode}
 use Rattle.matcher_code.specs.declared.code.Code.{Code}
 use Rattle.matcher_code.specs.declared.code.Op.TheVariants as op
-use Rattle.matcher_code.specs.Reading.{char_len}
+use Rattle.matcher_code.specs.Reading.{char_len, text_of}
 use Rattle.matcher_code.specs.Sets.{IsSetOf}
 use Rattle.matcher_program.specs.declared.form.Form.{Form}
 use Rattle.matcher_program.specs.declared.form.Program.{Program}
@@ -117,6 +118,11 @@ pub record Meets (p : Program) (plan : Plan) (code : Code) (laid : List lay.Poin
       → get_or (map (λ v. v.items) code.texts.items) i [] ≡ get_or (map (λ v. v.items) plan.texts.items) i []
   pub lists : (i : ℕ) → i < length plan.lists.items
       → get_or (map (λ v. v.items) code.lists.items) i [] ≡ get_or (map (λ v. v.items) plan.lists.items) i []
+
+-- the texts of some numbers, as characters
+pub record AreTexts (code : Code) (numbers : List ℕ) (ts : List Text) : Type 0 where
+  pub valid : All IsUtf8 (map (text_of code) numbers)
+  pub same : map chars (map (text_of code) numbers) ≡ ts
 
 -- the characters of a set are what the blanks of the implicit skipping take
 pub record IsBlankSet (p : Program) (sets : Code) (set : ℕ) : Type 0 where

@@ -1,10 +1,11 @@
 //! The compiler.
-ghost use Rattle.std.specs.Prelude.{◌≡◌, ◌<◌, ◌≤◌, IfOk, None, OnOk, Some, [], get_or, length, map, true};
+ghost use Rattle.std.specs.Prelude.{◌≡◌, ◌<◌, ◌≤◌, IfOk, None, OnOk, Some, [], false, get_or, if◌then◌else◌, length, map, true};
 ghost use Rattle.meta_ast.specs.Ast.{rule_type_of};
 ghost use Rattle.meta_base.specs.Language.Expression.{Silent};
 ghost use Rattle.matcher_code.specs.Sets.{IsAligned};
 ghost use Rattle.matcher_program.specs.declared.form.Program.{Program};
 ghost use Rattle.matcher_compiler.specs.Compiled.{AreBlanks, AreMet, HasEnds, HasEntries, IsCodeOf, IsEmpty};
+ghost use Rattle.matcher_compiler.specs.declared.plan.Skips.TheVariants as skips;
 ghost use Rattle.matcher_compiler.specs.Plans.{IsLater, IsReady, IsSoundProgram, Meets, laid_point};
 
 use crate::check::{has_ends, meets_all};
@@ -122,6 +123,17 @@ fn blank_ranges(alloc: Global, program: &Program) -> Result<Ranges, NotCompiled>
     }
 }
 
+/// Returns what is skipped: the characters of a set, and comments, if there are such.
+fn skips_with(comments: bool, set: u32) -> Skips
+    ensures { result ≡ (if comments then skips.Comments set else skips.Blanks set) }
+{
+    if comments {
+        Skips::Comments(set)
+    } else {
+        Skips::Blanks(set)
+    }
+}
+
 /// Returns a plan without points where blanks are skipped, and comments, if there are such.
 fn blank_plan<'p>(alloc: Global, program: &Program, comments: bool) -> Result<Plan<'p>, NotCompiled>
     requires sound { IsSoundProgram program.now }
@@ -135,11 +147,7 @@ fn blank_plan<'p>(alloc: Global, program: &Program, comments: bool) -> Result<Pl
     if set as usize >= sets.ranges.len() {
         return Err(NotCompiled::Unsupported);
     }
-    let skips = if comments {
-        Skips::Comments(set)
-    } else {
-        Skips::Blanks(set)
-    };
+    let skips = skips_with(comments, set);
     let plan = fresh_plan(alloc, program.rows.len(), sets, skips)?;
     Ok(plan)
 }

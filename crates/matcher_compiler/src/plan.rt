@@ -34,16 +34,17 @@ pub struct Plan<'p> {
 }
 
 impl<'p> Plan<'p> {
-    ghost use Rattle.std.specs.Prelude.{◌≡◌, IfOk, List, OnOk, false, true};
+    ghost use Rattle.std.specs.Prelude.{◌≡◌, IfOk, List, OnOk, false, map, true};
+    ghost use Rattle.meta_ast.specs.Ast.{text_of as characters_of};
     ghost use Rattle.meta_base.specs.Language.State.{NonAtomicMode};
     ghost use Rattle.matcher_code.specs.declared.code.Code.{Code};
-    ghost use Rattle.matcher_code.specs.Reading.{text_of};
+    ghost use Rattle.matcher_code.specs.Reading.{list_of, text_of};
     ghost use Rattle.matcher_code.specs.Sets.{IsSetOf};
     ghost use Rattle.matcher_layout.specs.Laid as lay;
     ghost use Rattle.matcher_layout.specs.Laid.{IsPoint, at_label};
     ghost use Rattle.matcher_program.specs.declared.form.Program.{Program};
     ghost use Rattle.matcher_compiler.specs.Modes.{mode_of};
-    ghost use Rattle.matcher_compiler.specs.Plans.{IsBoundPart, IsLater, IsMet, IsReady, IsTightIn, Meets, task_in};
+    ghost use Rattle.matcher_compiler.specs.Plans.{AreTexts, IsBoundPart, IsLater, IsMet, IsReady, IsTightIn, Meets, task_in};
 
     /// Returns whether nothing is skipped in a mode.
     pub(crate) fn is_tight(&self, mode: Atomicity) -> bool
@@ -148,10 +149,11 @@ impl<'p> Plan<'p> {
     }
 
     /// Adds some texts, and returns their numbers.
-    fn text_numbers(&mut self, alloc: Global, texts: &[String]) -> Result<Vec<u32>, NotCompiled>
+    fn text_numbers(&mut self, alloc: Global, texts: &Vec<String>) -> Result<Vec<u32>, NotCompiled>
         ensures later { OnOk result ((p : Program) → IsLater p self.old self.new) }
         ensures means { IfOk result (λ numbers. (p : Program) (code : Code) (laid : List lay.Point)
-            → Meets p self.new code laid → map (text_of code) numbers.items ≡ map (λ t. t.bytes) texts.now) }
+            → Meets p self.new code laid
+            → AreTexts code numbers.items (map characters_of texts.now.items)) }
     {
         let mut numbers = Vec::new(alloc);
         for text in texts {
@@ -164,12 +166,18 @@ impl<'p> Plan<'p> {
     }
 
     /// Adds a list of texts, and returns its number.
-    pub(crate) fn text_list(&mut self, alloc: Global, texts: &[String]) -> Result<u32, NotCompiled>
+    pub(crate) fn text_list(
+        &mut self,
+        alloc: Global,
+        texts: &Vec<String>,
+    ) -> Result<u32, NotCompiled>
         ensures later { OnOk result ((p : Program) → IsLater p self.old self.new) }
         ensures means { IfOk result (λ number. (p : Program) (code : Code) (laid : List lay.Point)
-            → Meets p self.new code laid → map (text_of code) (list_of code number) ≡ map (λ t. t.bytes) texts.now) }
+            → Meets p self.new code laid
+            → AreTexts code (list_of code number) (map characters_of texts.now.items)) }
     {
         let numbers = self.text_numbers(alloc, texts)?;
-        self.list(numbers)
+        let list = self.list(numbers)?;
+        Ok(list)
     }
 }

@@ -6,13 +6,14 @@ ghost use Rattle.meta_base.specs.Language.Matching.{any_begins};
 ghost use Rattle.meta_base.specs.Language.Meaning.{Run};
 ghost use Rattle.meta_base.specs.Language.Text.{Text};
 ghost use Rattle.matcher_code.specs.Reading.{is_covered};
+ghost use Rattle.matcher_layout.specs.Laid.{StartIn};
 ghost use Rattle.matcher_compiler.specs.Modes.{mode_of};
 ghost use Rattle.matcher_compiler.specs.Plans.{IsLater, LaysAt};
 
 use crate::difference::{MOST_RANGES, outside_ranges};
 use crate::plan::Plan;
 use crate::points::{NotCompiled, Place};
-use crate::ranges::{push_first, push_range};
+use crate::ranges::{first_character, push_first, push_range};
 use matcher_code::code::{Op, Ranges};
 use matcher_program::form::Program;
 use std::alloc::{AllocError, Global};
@@ -53,15 +54,17 @@ fn all_characters(alloc: Global) -> Result<Ranges, AllocError>
 }
 
 /// Returns the ranges of the first characters of texts, or `None` if one of them is empty.
-fn first_characters(alloc: Global, texts: &[String]) -> Result<Option<Ranges>, AllocError>
-    ensures some { IfOk result (λ made. IfSome made (λ ranges. StartIn ranges.items (map text_of texts.now))) }
+fn first_characters(alloc: Global, texts: &Vec<String>) -> Result<Option<Ranges>, AllocError>
+    ensures { IfOk result (λ made. IfSome made (λ ranges.
+        StartIn ranges.items (map text_of texts.now.items))) }
 {
     let mut ranges = Vec::new(alloc);
     for text in texts {
-        if text.is_empty() {
-            return Ok(None);
-        }
-        push_first(&mut ranges, text.as_str())?;
+        let c = match first_character(text.as_str()) {
+            Some(c) => c,
+            None => return Ok(None),
+        };
+        push_range(&mut ranges, c as u32, c as u32)?;
     }
     Ok(Some(ranges))
 }
