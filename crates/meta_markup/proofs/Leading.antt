@@ -53,7 +53,7 @@ section_begins names text r before after =
 has_section : (names : List (Bor (List ℕ))) (rules : Grammar) (text : List ℕ) (r : Rule)
     → AreSections names rules text → Contains rules r → HasSection (escaped_text r.name) text
 has_section names rules text r no_sections h = absurd (let l = h.1 in omega (arith, l))
-has_section names rules text r (more_sections {others} {fewer} q before after sections) h =
+has_section names rules text r (more_sections {others} {fewer} q before after p s sections) h =
     elim (Contains-push_cases others q r h) [
       | inl k ↦ before_and_after (escaped_text r.name) fewer [] (section_bytes names q before after)
         (has_section names others fewer r sections k)
