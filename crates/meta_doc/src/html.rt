@@ -1,5 +1,5 @@
 //! Pages of HTML, and single diagrams.
-ghost use Rattle.std.specs.Prelude.{◌≡◌, ◌++◌, IfOk, MatchOption, OnOk, string_bytes, vec_len};
+ghost use Rattle.std.specs.Prelude.{◌≡◌, ◌++◌, IfOk, MatchOption, OnOk, length, string_bytes};
 ghost use Rattle.std.specs.HashMap.{get_by_text};
 ghost use Rattle.std.specs.List.{range_with_len};
 ghost use Rattle.meta_ast.specs.Ast.{rule_of_code, rules_of};
@@ -112,7 +112,7 @@ fn push_sections(
 /// The comment of a grammar, and the list of its rules.
 fn introduce<'i>(alloc: Global, doc: &GrammarDoc<'i>) -> Result<MarkupBuilder<'i>, AllocError>
     ensures { IfOk result (λ markup. links_of markup.tokens.items
-        ≡ range_with_len 0 (vec_len doc.now.rules.value)) }
+        ≡ range_with_len 0 (length doc.now.rules.value.items)) }
 {
     let mut markup = MarkupBuilder::new(alloc);
     push_comment(&mut markup, &doc.source.comment)?;
@@ -166,9 +166,9 @@ fn describe<'i>(
     rule: &ast::Rule,
 ) -> Result<SectionContents<'i>, AllocError>
     ensures before { IfOk result
-        (λ contents. AreLinksWithin (vec_len doc.now.rules.value) contents.before.items) }
+        (λ contents. AreLinksWithin (length doc.now.rules.value.items) contents.before.items) }
     ensures after { IfOk result
-        (λ contents. AreLinksWithin (vec_len doc.now.rules.value) contents.after.items) }
+        (λ contents. AreLinksWithin (length doc.now.rules.value.items) contents.after.items) }
 {
     let before = show_rule(alloc, doc, number, rule)?;
     let after = show_facts(alloc, doc, number)?;
@@ -185,7 +185,7 @@ fn show_rule<'i>(
     number: usize,
     rule: &ast::Rule,
 ) -> Result<MarkupBuilder<'i>, AllocError>
-    ensures { IfOk result (λ markup. AreLinksWithin (vec_len doc.now.rules.value) markup.tokens.items) }
+    ensures { IfOk result (λ markup. AreLinksWithin (length doc.now.rules.value.items) markup.tokens.items) }
 {
     let mut markup = MarkupBuilder::new(alloc);
     push_modifier(&mut markup, rule.ty)?;
@@ -206,7 +206,7 @@ fn show_facts<'i>(
     doc: &GrammarDoc<'i>,
     number: usize,
 ) -> Result<MarkupBuilder<'i>, AllocError>
-    ensures { IfOk result (λ markup. AreLinksWithin (vec_len doc.now.rules.value) markup.tokens.items) }
+    ensures { IfOk result (λ markup. AreLinksWithin (length doc.now.rules.value.items) markup.tokens.items) }
 {
     let mut markup = MarkupBuilder::new(alloc);
     if let Some(facts) = doc.facts.get(number) {

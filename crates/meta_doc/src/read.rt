@@ -1,5 +1,5 @@
 //! From the pairs of a grammar's text to what its documents are made of.
-ghost use Rattle.std.specs.Prelude.{◌≡◌, IfErr, IfOk, None, OnOk, vec_len};
+ghost use Rattle.std.specs.Prelude.{◌≡◌, IfErr, IfOk, None, OnOk, length};
 ghost use Rattle.std.specs.HashMap.{get_by_text};
 ghost use Rattle.meta_ast.specs.Ast.{rules_of};
 ghost use Rattle.meta_doc.specs.Documents.{AreRulesOf};
@@ -31,8 +31,8 @@ pub struct GrammarDoc<'i> {
     pub facts: Vec<RuleFacts<'i>>,
     /// The numbers of rules by their names.
     pub numbers: HashMap<String, usize>,
-    ghost called: { AreFactsBelow (vec_len rules.value) facts.items },
-    ghost numbered: { AreNumbersBelow (vec_len rules.value) (get_by_text numbers) },
+    ghost called: { AreFactsBelow (length rules.value.items) facts.items },
+    ghost numbered: { AreNumbersBelow (length rules.value.items) (get_by_text numbers) },
 }
 
 /// Reads a grammar from all pairs of a parse of its text by `grammar_rules`. Refused with the one error of
