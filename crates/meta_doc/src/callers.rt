@@ -6,8 +6,8 @@ use crate::source::{RuleSource, SourcePart};
 use std::alloc::{AllocError, Global};
 use std::collections::HashMap;
 
-/// Finds for each of the first `count` rules those of them that call it, each once, in order, where `numbers` has
-/// the numbers of rules by their names.
+/// Finds for each of the first `count` rules those of them that call it, each once, in order, where
+/// `numbers` has the numbers of rules by their names.
 pub fn find_callers(
     alloc: Global,
     count: usize,

@@ -77,7 +77,8 @@ markdown_start title names introduction =
 pub data AreSections (names : List (Bor (List ℕ))) : Grammar → List ℕ → Type 0 where
   no_sections : AreSections names [] []
   more_sections : {rules : Grammar} {bytes : List ℕ} (r : Rule) (before after : List Markup)
-      → AreLinksWithin (length names) before → AreLinksWithin (length names) after → AreSections names rules bytes
+      → AreLinksWithin (length names) before → AreLinksWithin (length names) after
+      → AreSections names rules bytes
       → AreSections names (rules ++ r ∷ []) (bytes ++ section_bytes names r before after)
 
 pub data AreMarkdownSections (names : List (Bor (List ℕ))) : Grammar → List ℕ → Type 0 where

@@ -19,8 +19,7 @@ pub fn ebnf_texts_are_inert()
     ensures comments { CommentsAreInert }
 {}
 
-/// Links of a page: to one of its rules, each leads to a section that is on the page; to anything else, none is
-/// written.
+/// Links of a page: one to a rule of the page leads to a section that is on the page; no other is written.
 pub fn links_lead_to_sections()
     ensures lead { LinksLead }
     ensures nowhere_else { NoLinksElsewhere }
