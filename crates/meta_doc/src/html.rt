@@ -189,15 +189,27 @@ fn show_rule<'i>(
 {
     let mut markup = MarkupBuilder::new(alloc);
     push_modifier(&mut markup, rule.ty)?;
-    match doc.source.rules.get(number) {
-        Some(source) => {
-            push_comment(&mut markup, &source.comment)?;
-            push_diagram(alloc, &mut markup, &rule.expr, &doc.numbers)?;
-            push_source(&mut markup, source, number, &doc.numbers)?;
-        }
-        None => push_diagram(alloc, &mut markup, &rule.expr, &doc.numbers)?,
-    }
+    push_rule(alloc, &mut markup, doc, number, &rule.expr)?;
     Ok(markup)
+}
+
+/// Adds the comment, the diagram and the text of the rule of a number.
+fn push_rule<'i>(
+    alloc: Global,
+    markup: &mut MarkupBuilder<'i>,
+    doc: &GrammarDoc<'i>,
+    number: usize,
+    expr: &Expr,
+) -> Result<(), AllocError>
+    ensures { OnOk result (AreLinksWithin (length doc.now.rules.value.items) markup.old.tokens.items
+        → AreLinksWithin (length doc.now.rules.value.items) markup.new.tokens.items) }
+{
+    let Some(source) = doc.source.rules.get(number) else {
+        return push_diagram(alloc, markup, expr, &doc.numbers);
+    };
+    push_comment(markup, &source.comment)?;
+    push_diagram(alloc, markup, expr, &doc.numbers)?;
+    push_source(markup, source, number, &doc.numbers)
 }
 
 /// The facts of a rule.
@@ -209,10 +221,13 @@ fn show_facts<'i>(
     ensures { IfOk result (λ markup. AreLinksWithin (length doc.now.rules.value.items) markup.tokens.items) }
 {
     let mut markup = MarkupBuilder::new(alloc);
-    if let Some(facts) = doc.facts.get(number) {
-        push_facts(&mut markup, facts)?;
+    match doc.facts.get(number) {
+        Some(facts) => {
+            push_facts(&mut markup, facts)?;
+            Ok(markup)
+        }
+        None => Ok(markup),
     }
-    Ok(markup)
 }
 
 /// Adds the diagram of an expression.
