@@ -21,39 +21,52 @@ pub record HasSection (id text : List ℕ) : Type 0 where
   pub after : List ℕ
   pub is : text ≡ before ++ codes "<section id=\"" ++ id ++ codes "\">" ++ after
 
--- five texts and one more
-five_and : (x s i e a q : List ℕ) → (x ++ s ++ i ++ e ++ a) ++ q ≡ x ++ s ++ i ++ e ++ a ++ q
-five_and x s i e a q =
-    append_assoc x (s ++ i ++ e ++ a) q
-    ∙ ap (λ t. x ++ t) (append_assoc s (i ++ e ++ a) q
-    ∙ ap (λ t. s ++ t) (append_assoc i (e ++ a) q ∙ ap (λ t. i ++ t) (append_assoc e a q)))
+-- a text before and a text after
+longer : (p b s i e a q : List ℕ) → p ++ (b ++ s ++ i ++ e ++ a) ++ q ≡ p ++ b ++ s ++ i ++ e ++ (a ++ q)
+longer p b s i e a q =
+    ap (λ t. t ++ q) (sym (append_assoc p (b ++ s ++ i ++ e) a)) ∙ append_assoc (p ++ (b ++ s ++ i ++ e)) a q
+    ∙ ap (λ t. t ++ (a ++ q)) (sym (append_assoc p (b ++ s ++ i) e)
+    ∙ ap (λ t. t ++ e) (sym (append_assoc p (b ++ s) i) ∙ ap (λ t. t ++ i) (sym (append_assoc p b s))))
 
--- a longer text
 before_and_after : (id text p q : List ℕ) → HasSection id text → HasSection id (p ++ text ++ q)
-before_and_after id text p q h =
-    let rest = codes "<section id=\"" ++ id ++ codes "\">" ++ h.after ++ q in record {
-      before = p ++ h.before;
-      after = h.after ++ q;
-      is = ap (λ t. p ++ t) (ap (λ t. t ++ q) h.is
-          ∙ five_and h.before (codes "<section id=\"") id (codes "\">") h.after q) ∙ sym (append_assoc p h.before rest);
-    }
+before_and_after id text p q h = record {
+  before = p ++ h.before;
+  after = h.after ++ q;
+  is = ap (λ t. p ++ t ++ q) h.is ∙ longer p h.before (codes "<section id=\"") id (codes "\">") h.after q;
+}
 
 -- a section begins with its id
+from_third : (a b c d e f g h : List ℕ) → a ++ b ++ c ++ d ++ e ++ f ++ g ++ h ≡ a ++ b ++ (c ++ (d ++ (e ++ (f ++ (g ++ h)))))
+from_third a b c d e f g h =
+    append_assoc (a ++ b ++ c ++ d ++ e ++ f) g h ∙ append_assoc (a ++ b ++ c ++ d ++ e) f (g ++ h)
+    ∙ append_assoc (a ++ b ++ c ++ d) e (f ++ (g ++ h)) ∙ append_assoc (a ++ b ++ c) d (e ++ (f ++ (g ++ h)))
+    ∙ append_assoc (a ++ b) c (d ++ (e ++ (f ++ (g ++ h))))
+
+after_text : (text s i e r : List ℕ) → text ++ (s ++ i ++ (e ++ r)) ≡ text ++ s ++ i ++ e ++ r
+after_text text s i e r =
+    sym (append_assoc text (s ++ i) (e ++ r)) ∙ ap (λ t. t ++ (e ++ r)) (sym (append_assoc text s i))
+    ∙ sym (append_assoc (text ++ s ++ i) e r)
+
 section_begins : (names : List (Bor (List ℕ))) (text : List ℕ) (r : Rule) (before after : List Markup)
     → HasSection (escaped_text r.name) (text ++ section_bytes names r before after)
 section_begins names text r before after =
     let id = escaped_text r.name in
-    let rest = markup_bytes names before ++ expression_bytes r ++ markup_bytes names after ++ codes "</section>\n" in record {
+    let b = markup_bytes names before in
+    let a = markup_bytes names after in
+    let rest = id ++ (codes "</h2>\n" ++ (b ++ (expression_bytes r ++ (a ++ codes "</section>\n")))) in record {
       before = text;
-      after = codes "\n<h2>" ++ id ++ codes "</h2>\n" ++ rest;
-      is = ap (λ t. text ++ t) (five_and (codes "<section id=\"") id (codes "\">\n<h2>") id (codes "</h2>\n") rest);
+      after = codes "\n<h2>" ++ rest;
+      is = ap (λ t. text ++ t) (from_third (codes "<section id=\"" ++ id) (codes "\">\n<h2>") id (codes "</h2>\n") b (expression_bytes r) a (codes "</section>\n")
+          ∙ append_assoc (codes "<section id=\"" ++ id) (codes "\">\n<h2>") rest
+          ∙ ap (λ t. codes "<section id=\"" ++ id ++ t) (append_assoc (codes "\">") (codes "\n<h2>") rest))
+          ∙ after_text text (codes "<section id=\"") id (codes "\">") (codes "\n<h2>" ++ rest);
     }
 
 -- each rule has its section
 has_section : (names : List (Bor (List ℕ))) (rules : Grammar) (text : List ℕ) (r : Rule)
     → AreSections names rules text → Contains rules r → HasSection (escaped_text r.name) text
 has_section names rules text r no_sections h = absurd (let l = h.1 in omega (arith, l))
-has_section names rules text r (more_sections {others} {fewer} q before after p s sections) h =
+has_section names rules text r (more_sections {rules = others} {bytes = fewer} q before after p s sections) h =
     elim (Contains-push_cases others q r h) [
       | inl k ↦ before_and_after (escaped_text r.name) fewer [] (section_bytes names q before after)
         (has_section names others fewer r sections k)
