@@ -15,7 +15,8 @@ use Rattle.meta_lists.specs.Rewritten.{FindsLists, is_optional_name}
 use Rattle.meta_spanned.specs.Spanned.{Span, SpannedRule}
 use Rattle.pest_meta.specs.Spelling.{HasAnswer, HasTrees, IsRefusedWith}
 
--- the diagnostics report the warnings of rules, all of them or not, and those of lists that pest runs otherwise
+-- the diagnostics report the warnings of rules, all of them or not, and those of lists that pest runs
+-- otherwise
 pub record ReportRules (has_all : Bool) (starts : List Text) (rules : List SpannedRule)
     (diagnostics : List Diagnostic) : Type 0 where
   pub lists : List Span
