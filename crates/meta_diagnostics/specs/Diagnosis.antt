@@ -26,8 +26,8 @@ pub record ReportRules (has_all : Bool) (starts : List Text) (rules : List Spann
 
 -- the diagnostics report the warnings of the rules that a text's trees are read as, all of them or not, but
 -- for those that its comments allow
-pub record ReportWarnings (has_all : Bool) (starts : List Text) (text : List ℕ) (diagnostics : List Diagnostic)
-    : Type 0 where
+pub record ReportWarnings (has_all : Bool) (starts : List Text) (text : List ℕ)
+    (diagnostics : List Diagnostic) : Type 0 where
   pub trees : Trees
   pub of_text : HasTrees text trees
   pub rules : List SpannedRule
