@@ -7,6 +7,8 @@ use Rattle.diagnostic_data.specs.declared.codes.Code.{Code}
 use Rattle.diagnostic_data.specs.declared.codes.Code.TheVariants as code
 use Rattle.diagnostic_data.specs.declared.codes.Severity.{Severity}
 use Rattle.diagnostic_data.specs.declared.codes.Severity.TheVariants as severity
+use Rattle.meta_copies.specs.Copies.{many_copies}
+use Rattle.meta_duplicates.specs.Duplicates.{repeated_alternatives}
 use Rattle.diagnostic_data.specs.Names.{is_builtin_name, is_keyword, named_rules}
 use Rattle.meta_warnings.specs.Choices.{unreachable_alternatives}
 use Rattle.meta_warnings.specs.Ranges.{reversed_ranges}
@@ -25,6 +27,9 @@ severity_of code.ReversedCount = severity.Warning
 severity_of code.IdleTest = severity.Warning
 severity_of code.NeverMatches = severity.Warning
 severity_of code.BlanksInToken = severity.Warning
+severity_of code.ManyCopies = severity.Warning
+severity_of code.RepeatedAlternative = severity.Warning
+severity_of code.RewrittenList = severity.Warning
 severity_of code.KeywordName = severity.Warning
 severity_of code.BuiltinName = severity.Warning
 severity_of _ = severity.Error
@@ -46,6 +51,8 @@ spans_of code.ReversedCount starts rules = suspects suspect.ReversedCount rules
 spans_of code.IdleTest starts rules = suspects suspect.IdleTest rules
 spans_of code.NeverMatches starts rules = suspects suspect.Unmatchable rules
 spans_of code.BlanksInToken starts rules = blanks_in_tokens rules
+spans_of code.ManyCopies starts rules = many_copies rules
+spans_of code.RepeatedAlternative starts rules = repeated_alternatives rules
 spans_of code.KeywordName starts rules = named_rules is_keyword rules
 spans_of code.BuiltinName starts rules = named_rules is_builtin_name rules
 spans_of _ starts rules = []
@@ -56,7 +63,7 @@ warnings_with starts rules c = map (warning c) (spans_of c starts rules)
 -- the codes of warnings, in the order in which a text's are listed
 abbrev pub warning_codes : List Code
 warning_codes = code.UncalledRule ∷ code.Unreachable ∷ code.ReversedRange ∷ code.ReversedCount ∷ code.IdleTest
-    ∷ code.NeverMatches ∷ code.BlanksInToken ∷ []
+    ∷ code.NeverMatches ∷ code.BlanksInToken ∷ code.ManyCopies ∷ code.RepeatedAlternative ∷ []
 
 -- the warnings of rules, of which those of some names are starts
 abbrev pub warnings_of : List Text → List SpannedRule → List Warning
@@ -90,6 +97,10 @@ message_of code.ReversedCount = codes "the first number is above the last, which
 message_of code.IdleTest = codes "this changes nothing, since what it holds cannot fail"
 message_of code.NeverMatches = codes "this never matches"
 message_of code.BlanksInToken = codes "blanks are skipped between these characters"
+message_of code.ManyCopies = codes "the optimizer makes 10,000 copies or more of what this repeats"
+message_of code.RepeatedAlternative =
+    codes "this alternative is never taken: it is the same as one before it"
+message_of code.RewrittenList = codes "pest runs a list `(x ~ y)* ~ x` of this rule as `x ~ (y ~ x)*`"
 message_of code.KeywordName = codes "Rust keeps this name for itself"
 message_of code.BuiltinName = codes "this name is that of a builtin"
 message_of _ = []
@@ -115,6 +126,9 @@ code_name code.ReversedCount = codes "pest::reversed_count"
 code_name code.IdleTest = codes "pest::idle_test"
 code_name code.NeverMatches = codes "pest::never_matches"
 code_name code.BlanksInToken = codes "pest::blanks_in_token"
+code_name code.ManyCopies = codes "pest::many_copies"
+code_name code.RepeatedAlternative = codes "pest::repeated_alternative"
+code_name code.RewrittenList = codes "pest::rewritten_list"
 code_name code.KeywordName = codes "pest::keyword_name"
 code_name code.BuiltinName = codes "pest::builtin_name"
 

@@ -37,6 +37,10 @@ helps_of code.IdleTest = codes "what `&` tests cannot fail: test one turn, as `&
 helps_of code.NeverMatches = codes "what `!` refuses cannot fail"
     ∷ codes "`ANY*` takes the whole rest of the text: write `(!end ~ ANY)*` for what is before an end" ∷ []
 helps_of code.BlanksInToken = codes "a rule with `@` before its brace skips none" ∷ []
+helps_of code.ManyCopies = codes "put a part of it into a rule of its own: then calls alone are copied" ∷ []
+helps_of code.RepeatedAlternative = codes "take it away, or write what was meant" ∷ []
+helps_of code.RewrittenList =
+    codes "so it matches before a `y` that no `x` follows; write what is meant" ∷ []
 helps_of code.KeywordName =
     codes "in Rust it is written `r#name`, which `self`, `Self`, `super` and `crate` can't be" ∷ []
 helps_of code.BuiltinName = codes "the rule takes the builtin's place"

@@ -64,6 +64,12 @@ pub enum Code {
     NeverMatches,
     /// Blanks are skipped between the characters of a repetition.
     BlanksInToken,
+    /// Counts multiply, so that very many copies of an expression are made.
+    ManyCopies,
+    /// An alternative is the same as one before it.
+    RepeatedAlternative,
+    /// A list is run otherwise than it is written.
+    RewrittenList,
     /// A rule has the name of a keyword of Rust.
     KeywordName,
     /// A rule has the name of a builtin.
@@ -71,7 +77,7 @@ pub enum Code {
 }
 
 /// All codes.
-pub const ALL_CODES: [Code; 21] = [
+pub const ALL_CODES: [Code; 24] = [
     Code::Syntax,
     Code::EscapeValue,
     Code::NumberRange,
@@ -91,6 +97,9 @@ pub const ALL_CODES: [Code; 21] = [
     Code::IdleTest,
     Code::NeverMatches,
     Code::BlanksInToken,
+    Code::ManyCopies,
+    Code::RepeatedAlternative,
+    Code::RewrittenList,
     Code::KeywordName,
     Code::BuiltinName,
 ];
@@ -120,6 +129,9 @@ impl Code {
             Code::IdleTest => "pest::idle_test",
             Code::NeverMatches => "pest::never_matches",
             Code::BlanksInToken => "pest::blanks_in_token",
+            Code::ManyCopies => "pest::many_copies",
+            Code::RepeatedAlternative => "pest::repeated_alternative",
+            Code::RewrittenList => "pest::rewritten_list",
             Code::KeywordName => "pest::keyword_name",
             Code::BuiltinName => "pest::builtin_name",
         }
@@ -151,7 +163,9 @@ impl Code {
             Code::UnusedAllowance => Severity::Warning,
             Code::UncalledRule | Code::Unreachable | Code::ReversedRange => Severity::Warning,
             Code::ReversedCount | Code::IdleTest | Code::NeverMatches => Severity::Warning,
-            Code::BlanksInToken | Code::KeywordName | Code::BuiltinName => Severity::Warning,
+            Code::BlanksInToken | Code::ManyCopies => Severity::Warning,
+            Code::RepeatedAlternative | Code::RewrittenList => Severity::Warning,
+            Code::KeywordName | Code::BuiltinName => Severity::Warning,
             _ => Severity::Error,
         }
     }

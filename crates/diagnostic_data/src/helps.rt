@@ -77,6 +77,13 @@ fn help_text(code: Code, about: &str, is_repeat: bool) -> Option<&'static str>
             "`ANY*` takes the whole rest of the text: write `(!end ~ ANY)*` for what is before an end",
         ),
         Code::BlanksInToken => Some("a rule with `@` before its brace skips none"),
+        Code::ManyCopies => {
+            Some("put a part of it into a rule of its own: then calls alone are copied")
+        }
+        Code::RepeatedAlternative => Some("take it away, or write what was meant"),
+        Code::RewrittenList => {
+            Some("so it matches before a `y` that no `x` follows; write what is meant")
+        }
         Code::KeywordName => Some(
             "in Rust it is written `r#name`, which `self`, `Self`, `super` and `crate` can't be",
         ),

@@ -5,6 +5,7 @@ ghost use Rattle.meta_spanned.specs.Nodes.{piece_of, rule_views};
 ghost use Rattle.diagnostic_data.specs.Codes as spec;
 ghost use Rattle.diagnostic_data.specs.Codes.{all_warnings_of, severity_of, warnings_of};
 ghost use Rattle.diagnostic_data.specs.Reports.{ReportsWarning};
+ghost use Rattle.diagnostic_data.specs.declared.codes.Code.TheVariants as code;
 ghost use Rattle.diagnostic_data.specs.declared.codes.Severity.TheVariants as severity;
 ghost use Rattle.meta_warnings.specs.Lists.{texts_of};
 
@@ -14,6 +15,8 @@ use crate::helps::listed_help;
 use crate::names::{builtin_names, keyword_names};
 use crate::repeats::repeated_leaves;
 use meta_base::runtime::Span;
+use meta_copies::many_copies;
+use meta_duplicates::repeated_alternatives;
 use meta_spanned::ParserRule;
 use meta_warnings::{
     Suspect, blanks_in_tokens, reversed_ranges, suspect_spans, uncalled_rules,
@@ -39,6 +42,14 @@ pub fn diagnose_rules(
     add_code(alloc, Code::IdleTest, rules, starts, &mut diagnostics)?;
     add_code(alloc, Code::NeverMatches, rules, starts, &mut diagnostics)?;
     add_code(alloc, Code::BlanksInToken, rules, starts, &mut diagnostics)?;
+    add_code(alloc, Code::ManyCopies, rules, starts, &mut diagnostics)?;
+    add_code(
+        alloc,
+        Code::RepeatedAlternative,
+        rules,
+        starts,
+        &mut diagnostics,
+    )?;
     Ok(diagnostics)
 }
 
@@ -91,6 +102,14 @@ fn diagnose_code(
     let spans = spans_of(alloc, code, rules, starts)?;
     let repeats = repeats_for(alloc, code, rules)?;
     report_spans(alloc, code, &spans, &repeats)
+}
+
+/// The warnings of rules with these names, in which pest runs a list otherwise than it is written.
+pub fn diagnose_lists(alloc: Global, names: &[Span<'_>]) -> Result<Vec<Diagnostic>, AllocError>
+    ensures { IfOk result (λ diagnostics. AllZip ReportsWarning
+        (map (spec.warning code.RewrittenList) (map piece_of names.now)) diagnostics.items) }
+{
+    report_spans(alloc, Code::RewrittenList, names, &HashSet::new(alloc))
 }
 
 /// The bytes at which there is a repeated literal, for the code of warnings that may be at one.
@@ -157,6 +176,8 @@ fn spans_of<'i>(
         Code::IdleTest => suspect_spans(alloc, Suspect::IdleTest, rules),
         Code::NeverMatches => suspect_spans(alloc, Suspect::Unmatchable, rules),
         Code::BlanksInToken => blanks_in_tokens(alloc, rules),
+        Code::ManyCopies => many_copies(alloc, rules),
+        Code::RepeatedAlternative => repeated_alternatives(alloc, rules),
         Code::KeywordName => keyword_names(alloc, rules),
         Code::BuiltinName => builtin_names(alloc, rules),
         _ => Ok(Vec::new(alloc)),
@@ -178,6 +199,11 @@ pub(crate) fn message_of(code: Code) -> &'static str
         Code::IdleTest => "this changes nothing, since what it holds cannot fail",
         Code::NeverMatches => "this never matches",
         Code::BlanksInToken => "blanks are skipped between these characters",
+        Code::ManyCopies => "the optimizer makes 10,000 copies or more of what this repeats",
+        Code::RepeatedAlternative => {
+            "this alternative is never taken: it is the same as one before it"
+        }
+        Code::RewrittenList => "pest runs a list `(x ~ y)* ~ x` of this rule as `x ~ (y ~ x)*`",
         Code::KeywordName => "Rust keeps this name for itself",
         Code::BuiltinName => "this name is that of a builtin",
         _ => "",

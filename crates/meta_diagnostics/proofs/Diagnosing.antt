@@ -1,5 +1,5 @@
 -- A text's diagnostics, by the outcome of its front end.
-use Rattle.std.proofs.Common.{◌≡◌, ◌≢◌, ◌⊎◌, inl, inr, ◌∙◌, ℕ, List, [], ◌∷◌, Bool, true, false, ◌||◌, Result, Ok, Err, IfOk, Vec, Global, refl, sym, ap, subst}
+use Rattle.std.proofs.Common.{◌≡◌, ◌≢◌, ◌⊎◌, inl, inr, ◌∙◌, ℕ, List, [], ◌∷◌, ◌++◌, map, Bool, true, false, ◌||◌, Result, Ok, Err, IfOk, Vec, Global, refl, sym, ap, subst}
 use Rattle.std.specs.List.{AllZip, list_any}
 use Rattle.diagnostic_data.specs.Reports.{ReportsError, is_error, is_severe}
 use Rattle.diagnostic_data.specs.declared.diagnostic.Diagnostic.{Diagnostic}
@@ -9,13 +9,11 @@ use Rattle.meta_base.specs.Pieces.Pairs.{pairs_text, pairs_trees}
 use Rattle.meta_base.specs.declared.grammar.Rule.{Rule}
 use Rattle.meta_base.specs.declared.runtime.errors.Error.{Error}
 use Rattle.meta_base.specs.declared.runtime.tokens.Pairs.{Pairs}
-use Rattle.meta_diagnostics.specs.Diagnosis.{IsDiagnosisWith, ReportWarnings, accepted, refused}
+use Rattle.meta_diagnostics.specs.Diagnosis.{IsDiagnosisWith, ReportRules, ReportWarnings, accepted, refused}
 use Rattle.meta_names.proofs.Places.{tell_none}
 use Rattle.meta_reader.specs.Refusals.{AreReadAs}
 use Rattle.meta_spanned.specs.Spanned.{SpannedRule}
 use Rattle.diagnostic_data.specs.Allowances.{LeavesOutAllowed}
-use Rattle.diagnostic_data.specs.Codes.{chosen_warnings}
-use Rattle.diagnostic_data.specs.Reports.{ReportsWarning}
 use Rattle.meta_syntax.specs.Parses.{AreOfAGrammar}
 use Rattle.pest_meta.specs.Spelling.{HasAnswer, HasWrongRules, IsRefusedGrammar, IsMisnamed, AreFlawed, HaveFindings, IsNoGrammar, IsRefusedWith, complaints_in}
 
@@ -74,7 +72,7 @@ answered text (Err x) a = tt
 
 -- warnings of the rules that are read from the pairs of a text are those of the text
 pub of_pairs : (has_all : Bool) (starts : List Text) (text : List ℕ) (pairs : Pairs Rule) (rules : List SpannedRule) (all ds : List Diagnostic) → pairs_text pairs ≡ text → AreOfAGrammar pairs → AreReadAs pairs rules
-    → AllZip ReportsWarning (chosen_warnings has_all starts rules) all → LeavesOutAllowed text rules all ds → ReportWarnings has_all starts text ds
+    → ReportRules has_all starts rules all → LeavesOutAllowed text rules all ds → ReportWarnings has_all starts text ds
 of_pairs has_all starts text pairs rules all ds same of_text read each left = subst (λ t. LeavesOutAllowed t rules all ds → ReportWarnings has_all starts t ds) same (λ of_pairs_text. record {
   trees = named (pairs_trees pairs);
   of_text = of_text;

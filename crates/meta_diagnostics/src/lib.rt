@@ -5,17 +5,21 @@ ghost use Rattle.std.specs.Prelude.{◌≡◌, Bool, IfOk, Ok, false, true};
 ghost use Rattle.std.specs.List.{AllZip, list_any};
 ghost use Rattle.diagnostic_data.specs.Codes.{chosen_warnings};
 ghost use Rattle.diagnostic_data.specs.Reports.{ReportsError, ReportsWarning, is_error};
-ghost use Rattle.meta_diagnostics.specs.Diagnosis.{IsDiagnosis, IsDiagnosisWith, IsFullDiagnosis, ReportWarnings};
+ghost use Rattle.meta_diagnostics.specs.Diagnosis.{IsDiagnosis, IsDiagnosisWith, IsFullDiagnosis};
+ghost use Rattle.meta_diagnostics.specs.Diagnosis.{ReportRules, ReportWarnings};
 ghost use Rattle.meta_spanned.specs.Nodes.{rule_views};
 ghost use Rattle.meta_warnings.specs.Lists.{texts_of};
 ghost use Rattle.pest_meta.specs.Spelling.{HasAnswer};
 
 pub use diagnostic_data::{ALL_CODES, Code, Diagnostic, Fix, Help, Options, Related, Severity};
-use diagnostic_data::{diagnose_all_rules, diagnose_errors, diagnose_rules, leave_out_allowed};
+use diagnostic_data::{
+    diagnose_all_rules, diagnose_errors, diagnose_lists, diagnose_rules, leave_out_allowed,
+};
 use meta_ast::deep::Deep;
 use meta_ast::optimized::release;
 use meta_base::grammar::Rule;
 use meta_base::runtime::{Error, Fault};
+use meta_lists::rewritten_lists;
 use meta_spanned::ParserRule;
 use pest_meta::parse_and_optimize;
 use pest_meta::parser::{PestParser, common_name, consume_rules_with_spans, parse};
@@ -115,6 +119,23 @@ fn diagnose_accepted(
 
 /// The warnings of rules, all of them or not.
 fn warn_of(
+    alloc: Global,
+    rules: &[ParserRule<'_>],
+    starts: &[&str],
+    has_all: bool,
+) -> Result<Vec<Diagnostic>, AllocError>
+    ensures { IfOk result (λ diagnostics.
+        ReportRules has_all (texts_of starts.now) (rule_views rules.now) diagnostics.items) }
+{
+    let mut diagnostics = warn_of_codes(alloc, rules, starts, has_all)?;
+    let names = rewritten_lists(alloc, rules)?;
+    let mut others = diagnose_lists(alloc, &names)?;
+    diagnostics.append(&mut others)?;
+    Ok(diagnostics)
+}
+
+/// The warnings of rules but for those of lists.
+fn warn_of_codes(
     alloc: Global,
     rules: &[ParserRule<'_>],
     starts: &[&str],

@@ -95,6 +95,23 @@ fn explanation_of_tokens(code: Code) -> &'static str {
              This takes a b c as one word. A rule with @ or $ before its brace skips nothing, @ without the \
              tokens of the rules that it calls:\n\n    word = @{ ASCII_ALPHA+ }"
         }
+        Code::ManyCopies => {
+            "The optimizer writes counts out, and those of nested repetitions multiply. From 10,000 \
+             copies of an expression on this is reported.\n\n    \
+             a = { ((\"x\" ~ \"y\"){100} ~ \"z\"){100} }\n\n\
+             A call is copied in place of the rule that it calls:\n\n    \
+             a = { b{100} }\n    b = _{ (\"x\" ~ \"y\"){100} ~ \"z\" }"
+        }
+        Code::RepeatedAlternative => {
+            "An alternative is the same as one before it, so it is never taken. Those of more than 256 \
+             signs are not compared.\n\n    a = { \"x\" ~ b | c | \"x\" ~ b }"
+        }
+        Code::RewrittenList => {
+            "The optimizer turns (x ~ y)* ~ x into x ~ (y ~ x)*, which matches more.\n\n    \
+             a = { (b ~ \",\")* ~ b }\n    b = { \"x\" }\n\n\
+             As it is written this fails on x, with a comma, and as pest runs it takes the x. An x that \
+             cannot fail is not told, nor is an Atomic rule with (!c ~ n)*."
+        }
         Code::KeywordName => {
             "A rule is named as a keyword of Rust. Reported only with --warn all.\n\n    \
              match = { \"x\" }\n\n\
