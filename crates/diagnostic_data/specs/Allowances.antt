@@ -57,12 +57,12 @@ is_unused diagnostics a = not (is_of_option a.code) && not (is_used diagnostics 
 
 -- the diagnostic warns of a comment that allows nothing
 pub record WarnsOf (allowance : Allowance) (diagnostic : Diagnostic) : Type 0 where
+  pub help : IsListedHelp code.UnusedAllowance diagnostic.help
   pub severity : diagnostic.severity ≡ severity.Warning
   pub code : diagnostic.code ≡ code.UnusedAllowance
   pub start : diagnostic.start ≡ allowance.start
   pub end : diagnostic.end ≡ allowance.end
   pub message : string_bytes diagnostic.message ≡ message_of diagnostic.code
-  pub help : IsListedHelp diagnostic.code diagnostic.help
 
 -- of all diagnostics those are left that nothing allows, and comments that allow nothing are warned of
 pub record LeavesOutAllowed (text : List ℕ) (rules : List SpannedRule) (all left : List Diagnostic)

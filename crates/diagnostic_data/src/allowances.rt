@@ -152,7 +152,9 @@ fn allowance_at(
         IsAbove allowance (rule_view rule.now))) }
 {
     let first = rule.span.start();
-    let comment = text.get(start..end).unwrap_or("");
+    let Some(comment) = text.get(start..end) else {
+        return Ok(None);
+    };
     if end > first || !comment.starts_with(PREFIX) {
         return Ok(None);
     }
