@@ -9,9 +9,11 @@ use Rattle.meta_duplicates.proofs.alternatives.take_alternative.Goals as goal
 
 pub returns-in_ok-push-in-Choice-2-clause-collected : goal.returns-in_ok-push-in-Choice-2-clause-collected
 returns-in_ok-push-in-Choice-2-clause-collected c = λ all earlier before.
-    let place = piece_of c.args.node.now.span in
-    (earlier, spans_along all earlier _ _ _ _ (sides_left place (view c.args.node.now) c.args.stack.now.items c.push.new.self.items c.push-in-Choice.new.self.items c.deref-in-Choice.result c.deref.result
-    (rw (c.deref-in-Choice.ensures, c.deref.ensures) (ap (view_at place) c.in-Choice.is)) c.in_ok-push-in-Choice.ensures.items c.in_ok-push-in-Choice-2.ensures.items) before)
+    let place = piece_of c.args.node.now.span in (
+      earlier,
+      spans_along all earlier _ _ _ _ (sides_left place (view c.args.node.now) c.args.stack.now.items c.push.new.self.items c.push-in-Choice.new.self.items c.deref-in-Choice.result c.deref.result
+          (rw (c.deref-in-Choice.ensures, c.deref.ensures) (ap (view_at place) c.in-Choice.is)) c.in_ok-push-in-Choice.ensures.items c.in_ok-push-in-Choice-2.ensures.items) before,
+    )
 
 pub returns-in_ok-push-in-Choice-2-clause-less : goal.returns-in_ok-push-in-Choice-2-clause-less
 returns-in_ok-push-in-Choice-2-clause-less c =

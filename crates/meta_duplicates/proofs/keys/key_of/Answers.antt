@@ -32,7 +32,7 @@ returns c =
     let none_left : c.pop.new.self.items ≡ [] = c.in_default.ensures.rest ∙ rw c.in_default.ensures.cases.0 refl in
     let none : c.loop-next.stack.items ≡ [] = c.in_default.ensures.items ∙ (append-nil c.pop.new.self.items ∙ none_left) in
     let same : c.loop-next.key.items ≡ key (without_spans (view c.args.node.now)) =
-        sym (append-nil c.loop-next.key.items)
-        ∙ (ap (λ l. c.loop-next.key.items ++ flat_map sign (waiting l)) (sym none) ∙ (c.loop-next.invariant.numbers ∙ signs_are_key (view c.args.node.now)))
+    sym (append-nil c.loop-next.key.items)
+    ∙ (ap (λ l. c.loop-next.key.items ++ flat_map sign (waiting l)) (sym none) ∙ (c.loop-next.invariant.numbers ∙ signs_are_key (view c.args.node.now)))
     in
     (same, not_longer c.loop-next.key.items (key (without_spans (view c.args.node.now))) same c.loop-next.invariant.few)
