@@ -13,13 +13,13 @@ loop-start-preserved c =
     record {
       within = ends;
       rest = λ more o. elim c.match-class.branch [
-          in-Some+in_ok-push w ↦
-              let x : Lexeme = record { class = w.in-Some.class; start = c.loop-start.start; end = c.scan-class.result.1 } in
-              let e : c.match-class.lexemes.items ≡ c.loop-start.lexemes.items ++ x ∷ [] = cc (w.in_ok-push.ensures.items) in
-              subst (λ l. AreInOrder 0 (l ++ more) n) (sym e) (one_more c.loop-start.next n c.loop-start.lexemes.items more x c.loop-start.invariant.rest c.if-start-next.false c.scan-class.ensures.after o)
+        | in-Some+in_ok-push w ↦
+            let x : Lexeme = record { class = w.in-Some.class; start = c.loop-start.start; end = c.scan-class.result.1 } in
+            let e : c.match-class.lexemes.items ≡ c.loop-start.lexemes.items ++ x ∷ [] = cc (w.in_ok-push.ensures.items) in
+            subst (λ l. AreInOrder 0 (l ++ more) n) (sym e) (one_more c.loop-start.next n c.loop-start.lexemes.items more x c.loop-start.invariant.rest c.if-start-next.false c.scan-class.ensures.after o)
         | in_default w ↦
-              let e : c.match-class.lexemes.items ≡ c.loop-start.lexemes.items = cc in
-              subst (λ l. AreInOrder 0 (l ++ more) n) (sym e) (c.loop-start.invariant.rest more (lower c.scan-class.result.1 c.loop-start.next more n (omega arith) o))
+            let e : c.match-class.lexemes.items ≡ c.loop-start.lexemes.items = cc in
+            subst (λ l. AreInOrder 0 (l ++ more) n) (sym e) (c.loop-start.invariant.rest more (lower c.scan-class.result.1 c.loop-start.next more n (omega arith) o))
       ];
     }
 
