@@ -1,8 +1,10 @@
 -- Allowances among those of all rules.
-use Rattle.std.proofs.Common.{◌≡◌, ℕ, ◌<◌, List, All, Any, Option, Some, None, IfSome, get_or, length, map, sym, ◌∙◌, refl, ap, subst}
+use Rattle.std.proofs.Common.{◌≡◌, ℕ, ◌<◌, List, ◌++◌, All, Any, filter, Option, Some, None, IfSome, get_or, length, map, sym, ◌∙◌, refl, ap, subst}
 use Rattle.std.proofs.lemmas.List.{get_or-map, length-map}
-use Rattle.diagnostic_data.specs.Allowances.{IsAbove, IsAllowance, IsWritten}
+use Rattle.diagnostic_data.specs.Allowances.{IsAbove, IsAllowance, IsWritten, LeavesOutAllowed, WarnsOf, is_left, is_unused}
 use Rattle.diagnostic_data.specs.declared.allowances.Allowance.{Allowance}
+use Rattle.diagnostic_data.specs.declared.diagnostic.Diagnostic.{Diagnostic}
+use Rattle.std.specs.List.{AllZip}
 use Rattle.meta_spanned.specs.Nodes.{rule_view, rule_views}
 use Rattle.meta_spanned.specs.Spanned.{SpannedRule}
 use Rattle.meta_spanned.specs.declared.node.ParserRule.{ParserRule}
@@ -19,4 +21,15 @@ allowed_in text rules rule None h w a = tt
 allowed_in text rules rule (Some allowance) (k, other, lt, at, same) w a = record {
   written = w;
   above = (k, other, lt, at, subst (IsAbove allowance) (sym same) a);
+}
+
+-- what is left, from its parts
+pub left_out : (text : List ℕ) (rules : List SpannedRule) (all left : List Diagnostic) (allowances useless : List Allowance) (kept unused : List Diagnostic) → All (IsAllowance text rules) allowances
+    → useless ≡ filter (is_unused all) allowances → AllZip WarnsOf useless unused → kept ≡ filter (is_left allowances) all → left ≡ kept ++ unused → LeavesOutAllowed text rules all left
+left_out text rules all left allowances useless kept unused each same warned others whole = record {
+  allowances = allowances;
+  each = each;
+  unused = unused;
+  warned = subst (λ us. AllZip WarnsOf us unused) same warned;
+  rest = whole ∙ ap (λ ds. ds ++ unused) others;
 }

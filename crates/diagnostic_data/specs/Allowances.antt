@@ -14,11 +14,11 @@ use Rattle.diagnostic_data.specs.declared.diagnostic.Diagnostic.{Diagnostic}
 abbrev pub comment_of : Code → List ℕ
 comment_of c = codes "// pest-lint: allow(" ++ (code_name c ++ codes ")")
 
--- it is written in the text, where it allows a code at all
+-- an allowance of a code is written in the text
 abbrev pub IsWritten : List ℕ → Allowance → Type 0
 IsWritten text a = IfSome a.code (λ c. slice_range text a.start a.end ≡ comment_of c)
 
--- it is above the rule, and goes for the bytes from its name to its body's end
+-- an allowance is above the rule, and goes for the bytes from its name to its body's end
 pub record IsAbove (allowance : Allowance) (rule : SpannedRule) : Type 0 where
   pub above : allowance.end ≤ allowance.first
   pub first : allowance.first ≡ rule.span.start
@@ -28,7 +28,7 @@ pub record IsAllowance (text : List ℕ) (rules : List SpannedRule) (allowance :
   pub written : IsWritten text allowance
   pub above : Any (IsAbove allowance) rules
 
--- it allows a diagnostic that has its code and begins in the rule
+-- a diagnostic is allowed that has the code and begins in the rule
 abbrev pub has_code : Option Code → Code → Bool
 has_code None c = false
 has_code (Some b) c = bytes_eq (code_name b) (code_name c)
@@ -42,7 +42,7 @@ is_allowed allowances d = list_any (allows d) allowances
 abbrev pub is_left : List Allowance → Diagnostic → Bool
 is_left allowances d = not (is_allowed allowances d)
 
--- it allows one of these diagnostics
+-- one of these diagnostics is allowed
 abbrev pub is_used : List Diagnostic → Allowance → Bool
 is_used diagnostics a = list_any (λ d. allows d a) diagnostics
 
@@ -51,18 +51,18 @@ abbrev pub is_of_option : Option Code → Bool
 is_of_option None = false
 is_of_option (Some c) = is_optional c
 
--- it allows none of these diagnostics, which it could
+-- none of these diagnostics is allowed, though the code is reported
 abbrev pub is_unused : List Diagnostic → Allowance → Bool
 is_unused diagnostics a = not (is_of_option a.code) && not (is_used diagnostics a)
 
 -- the diagnostic warns of a comment that allows nothing
 pub record WarnsOf (allowance : Allowance) (diagnostic : Diagnostic) : Type 0 where
+  pub help : IsListedHelp code.UnusedAllowance diagnostic.help
   pub severity : diagnostic.severity ≡ severity.Warning
   pub code : diagnostic.code ≡ code.UnusedAllowance
   pub start : diagnostic.start ≡ allowance.start
   pub end : diagnostic.end ≡ allowance.end
   pub message : string_bytes diagnostic.message ≡ message_of diagnostic.code
-  pub help : IsListedHelp diagnostic.code diagnostic.help
 
 -- of all diagnostics those are left that nothing allows, and comments that allow nothing are warned of
 pub record LeavesOutAllowed (text : List ℕ) (rules : List SpannedRule) (all left : List Diagnostic)

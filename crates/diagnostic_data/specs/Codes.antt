@@ -80,7 +80,8 @@ optional_codes = code.KeywordName ∷ code.BuiltinName ∷ []
 
 -- where all are asked for, these too
 abbrev pub all_warnings_of : List Text → List SpannedRule → List Warning
-all_warnings_of starts rules = warnings_of starts rules ++ flat_map (warnings_with starts rules) optional_codes
+all_warnings_of starts rules =
+    warnings_of starts rules ++ flat_map (warnings_with starts rules) optional_codes
 
 abbrev pub chosen_warnings : Bool → List Text → List SpannedRule → List Warning
 chosen_warnings all starts rules = if all then all_warnings_of starts rules else warnings_of starts rules

@@ -36,8 +36,8 @@ pub struct Allowance {
 
 /// Leaves out the warnings that comments in a text of these rules allow, and adds one for each such comment
 /// that allows nothing. A comment `// pest-lint: allow(CODE)` allows the warnings of a code that begin in a
-/// rule. It is a line of those right above the line of the rule's name, each of which begins with `//`. The
-/// first 256 of a text count. The only error is an allocation failure.
+/// rule. Only the lines that begin with `//` right above the line of the rule's name count, and the first 256
+/// such comments of a text. The only error is an allocation failure.
 pub fn leave_out_allowed(
     alloc: Global,
     text: &str,
@@ -152,7 +152,9 @@ fn allowance_at(
         IsAbove allowance (rule_view rule.now))) }
 {
     let first = rule.span.start();
-    let comment = text.get(start..end).unwrap_or("");
+    let Some(comment) = text.get(start..end) else {
+        return Ok(None);
+    };
     if end > first || !comment.starts_with(PREFIX) {
         return Ok(None);
     }

@@ -2,7 +2,9 @@
 ghost use Rattle.std.specs.Prelude.{◌≡◌, [], IfOk, MatchOption, true};
 ghost use Rattle.meta_base.specs.Language.Builtins.{is_one_of};
 ghost use Rattle.diagnostic_data.specs.Helps.{IsListedHelp, helps_of};
+ghost use Rattle.diagnostic_data.specs.Codes.{severity_of};
 ghost use Rattle.diagnostic_data.specs.declared.codes.Code.TheVariants as code;
+ghost use Rattle.diagnostic_data.specs.declared.codes.Severity.TheVariants as severity;
 
 use crate::codes::{Code, Severity};
 use meta_hints::Help;
@@ -26,6 +28,17 @@ pub(crate) fn listed_help(
 
 /// The text of such a help.
 fn help_text(code: Code, about: &str, is_repeat: bool) -> Option<&'static str>
+    ensures { MatchOption result (helps_of code ≡ []) (λ text. is_one_of (helps_of code) text.now ≡ true) }
+{
+    match code.severity() {
+        Severity::Error => error_help(code, about),
+        Severity::Warning => warning_help(code, about, is_repeat),
+    }
+}
+
+/// The text of the help for the code of an error.
+fn error_help(code: Code, about: &str) -> Option<&'static str>
+    requires { severity_of code ≡ severity.Error }
     ensures { MatchOption result (helps_of code ≡ []) (λ text. is_one_of (helps_of code) text.now ≡ true) }
 {
     match code {
@@ -52,6 +65,16 @@ fn help_text(code: Code, about: &str, is_repeat: bool) -> Option<&'static str>
             Some("put the alternative that cannot fail last, or take away its `?` or `*`")
         }
         Code::TagWithoutToken => Some("tag a rule that is not silent, or take the tag away"),
+        _ => None,
+    }
+}
+
+/// The text of the help for the code of a warning.
+fn warning_help(code: Code, about: &str, is_repeat: bool) -> Option<&'static str>
+    requires { severity_of code ≡ severity.Warning }
+    ensures { MatchOption result (helps_of code ≡ []) (λ text. is_one_of (helps_of code) text.now ≡ true) }
+{
+    match code {
         Code::UnusedAllowance => Some("take the comment away"),
         Code::UncalledRule if is_small_name_of_blanks(about) => {
             Some("what is skipped between expressions has the name in capitals")
@@ -91,7 +114,7 @@ fn help_text(code: Code, about: &str, is_repeat: bool) -> Option<&'static str>
             Some("this is a rule like others: the builtin's name is in capitals since pest 2")
         }
         Code::BuiltinName => Some("the rule takes the builtin's place"),
-        Code::Syntax | Code::UndefinedRule => None,
+        _ => None,
     }
 }
 

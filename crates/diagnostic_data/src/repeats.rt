@@ -3,8 +3,8 @@ use meta_spanned::{ParserExpr, ParserNode, ParserRule, push_operands};
 use std::alloc::{AllocError, Global};
 use std::collections::HashSet;
 
-/// The bytes at which literals and calls begin that are alternatives of a choice and equal one before them. The
-/// time is linear in the rules. The only error is an allocation failure.
+/// The bytes at which literals and calls begin that are alternatives of a choice and equal one before them.
+/// The time is linear in the rules. The only error is an allocation failure.
 pub(crate) fn repeated_leaves(
     alloc: Global,
     rules: &[ParserRule<'_>],

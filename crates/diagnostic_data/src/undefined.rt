@@ -108,7 +108,7 @@ impl<'t> Definitions<'t> {
     }
 }
 
-/// What other notations call by a name: a builtin or a string.
+/// The builtin or the string that other notations call by a name.
 fn known_elsewhere(name: &str) -> Option<&'static str> {
     match name {
         "digit" | "Digit" | "DIGIT" | "digits" => Some("ASCII_DIGIT"),

@@ -124,7 +124,7 @@ fn repeats_for(
     }
 }
 
-/// A warning of a code at each of these spans; what begins at `repeats` is the same as what is before it.
+/// A warning of a code at each of these spans; `repeats` are the places of repeated alternatives.
 fn report_spans(
     alloc: Global,
     code: Code,

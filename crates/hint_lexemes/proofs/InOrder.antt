@@ -8,7 +8,7 @@ use Rattle.hint_lexemes.specs.declared.lexer.Lexeme.{Lexeme}
 -- a byte that is not 0 is one of the text
 pub inside : (xs : List ℕ) (i b : ℕ) → b ≡ get_or xs i 0 → b ≢ 0 → i < length xs
 inside xs i b e n = elim (cases_lt i (length xs)) [
-    inl less ↦ less
+  | inl less ↦ less
   | inr past ↦ absurd (n (let z = get_or_past xs i 0 past in cc))
 ]
 

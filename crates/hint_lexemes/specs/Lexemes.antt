@@ -11,7 +11,7 @@ edge at = record { class = class.Edge; start = at; end = at }
 abbrev pub lexeme_at : List Lexeme → ℕ → ℕ → Lexeme
 lexeme_at lexemes index end = slice_index_or lexemes index (edge end)
 
--- each lexeme has bytes, and they follow each other between two bytes
+-- lexemes have bytes, and follow each other between two bytes
 abbrev pub AreInOrder : ℕ → List Lexeme → ℕ → Type 0
 AreInOrder from [] to = from ≤ to
 AreInOrder from (lexeme ∷ lexemes) to =

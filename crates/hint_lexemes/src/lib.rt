@@ -1,4 +1,4 @@
-//! The lexemes of a text that need not be a grammar: those around one of its bytes, and the names that they
+//! The lexemes of a text that need not be a grammar, around one of its bytes, and the names that lexemes
 //! define.
 #![tactic(auto)]
 

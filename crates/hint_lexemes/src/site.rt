@@ -1,5 +1,6 @@
 //! The lexemes around an error.
 ghost use Rattle.std.specs.Prelude.{◌≡◌, ◌↔◌, IfOk, IsTrue, length};
+ghost use Rattle.hint_lexemes.specs.Lexemes as spec;
 ghost use Rattle.hint_lexemes.specs.Lexemes.{AreInOrder, lexeme_at};
 ghost use Rattle.hint_lexemes.specs.declared.lexer.LexemeClass.TheVariants as class;
 
@@ -128,7 +129,9 @@ impl<'t> Site<'t> {
 }
 
 /// No lexeme, at a byte.
-fn edge(at: usize) -> Lexeme {
+fn edge(at: usize) -> Lexeme
+    ensures { result ≡ spec.edge at }
+{
     Lexeme {
         class: LexemeClass::Edge,
         start: at,

@@ -1,6 +1,5 @@
 -- Numbers of JSON, by name.
 use Rattle.std.specs.Prelude.{ℕ, List, [], ◌∷◌, codes}
-use Rattle.std.specs.Borrow.{Bor}
 use Rattle.lint_output.specs.declared.lines.Location.{Location}
 
 -- a number and its name
@@ -10,10 +9,6 @@ pub record Named : Type 0 where
 
 abbrev pub named : List ℕ → ℕ → Named
 named name number = record { name = name; number = number }
-
--- of code
-abbrev pub named_number : Bor (List ℕ) × ℕ → Named
-named_number (name, number) = named name.now number
 
 -- the bytes, lines and columns of a span
 abbrev pub place_numbers : ℕ → ℕ → Location → Location → List Named

@@ -1,6 +1,6 @@
 //! Lines of JSON.
 ghost use Rattle.std.specs.Prelude.{◌≡◌, IfOk, map, string_bytes};
-ghost use Rattle.lint_output.specs.Numbers.{named_number, place_numbers};
+ghost use Rattle.lint_output.specs.Numbers.{named, place_numbers};
 ghost use Rattle.lint_output.specs.Prints.{IsLine};
 
 use crate::Origin;
@@ -86,7 +86,7 @@ fn numbers_of(
     first: Location,
     last: Location,
 ) -> [(&'static str, usize); 6]
-    ensures { map named_number result ≡ place_numbers start end first last }
+    ensures { map (λ number. named number.0.now number.1) result ≡ place_numbers start end first last }
 {
     [
         ("start", start),

@@ -9,3 +9,4 @@ pub mod Ranging
 pub mod Skipping
 pub mod Searching
 pub mod Outside
+pub mod Listing

@@ -1,13 +1,16 @@
 //! The operations and the demands of expressions without operands.
-ghost use Rattle.std.specs.Prelude.{◌≡◌, ◌≤◌, IfOk, None, OnOk, chars, codes, length, true};
-ghost use Rattle.meta_base.specs.Language.Expression.{Ident, NegPred, Rep, Seq, Str, rule_of};
+ghost use Rattle.std.specs.Prelude.{◌≡◌, ◌≤◌, ℕ, IfOk, List, None, OnOk, chars, codes, length, true};
+ghost use Rattle.meta_base.specs.Language.Expression.{Ident, Insens, NegPred, Rep, Seq, Str, rule_of};
 ghost use Rattle.meta_base.specs.Language.Meaning.{Run, seen_from};
 ghost use Rattle.meta_base.specs.Language.State.{AtomicMode};
+ghost use Rattle.matcher_code.specs.declared.code.Code.{Code};
+ghost use Rattle.matcher_layout.specs.Laid as lay;
+ghost use Rattle.matcher_layout.specs.Laid.{MatchesText};
 ghost use Rattle.matcher_program.specs.Programs.{is_set};
 ghost use Rattle.matcher_program.specs.declared.form.Program.{Program};
 ghost use Rattle.matcher_compiler.specs.Differences.{HasDifference};
 ghost use Rattle.matcher_compiler.specs.Modes.{mode_of};
-ghost use Rattle.matcher_compiler.specs.Plans.{IsBoundIn, IsLater, IsTightIn, LaysAt, grammar_in, said};
+ghost use Rattle.matcher_compiler.specs.Plans.{IsBoundIn, IsLater, IsTightIn, LaysAt, Meets, grammar_in, said};
 
 use crate::difference::{MOST_RANGES, outside_ranges};
 use crate::plan::Plan;
@@ -173,6 +176,78 @@ impl<'p> Plan<'p> {
                 fail: at.way,
             },
         )?;
+        Ok(())
+    }
+
+    /// Plans a literal in any case.
+    pub(crate) fn literal_in_any_case(
+        &mut self,
+        alloc: Global,
+        program: &Program,
+        text: &str,
+        at: Place,
+    ) -> Result<(), NotCompiled>
+        ensures later { OnOk result (IsLater program.now self.old self.new) }
+        ensures lays { OnOk result
+            (LaysAt program.now self.new (Run (mode_of at.mode) (Insens (chars text.now))) at) }
+    {
+        let number = self.text(alloc, text)?;
+        self.operation(
+            at.label,
+            Op::AnyCase {
+                text: number,
+                next: at.next,
+                fail: at.way,
+            },
+        )?;
+        Ok(())
+    }
+
+    /// Demands the operation of a text at a label.
+    fn text_at(
+        &mut self,
+        alloc: Global,
+        text: &str,
+        label: u32,
+        next: u32,
+        fail: u32,
+    ) -> Result<(), NotCompiled>
+        ensures later { OnOk result ((p : Program) → IsLater p self.old self.new) }
+        ensures has { OnOk result ((p : Program) (code : Code) (laid : List lay.Point)
+            → Meets p self.new code laid → MatchesText code label text.now next fail) }
+    {
+        let number = self.text(alloc, text)?;
+        self.operation(
+            label,
+            Op::Text {
+                text: number,
+                next,
+                fail,
+            },
+        )?;
+        Ok(())
+    }
+
+    /// Plans `NEWLINE`. The labels from `own` on are free.
+    pub(crate) fn newline(
+        &mut self,
+        alloc: Global,
+        program: &Program,
+        at: Place,
+        own: u32,
+    ) -> Result<(), NotCompiled>
+        requires bound { rule_of (grammar_in program.now) (codes "NEWLINE") ≡ None }
+        ensures later { OnOk result (IsLater program.now self.old self.new) }
+        ensures lays { OnOk result
+            (LaysAt program.now self.new (Run (mode_of at.mode) (Ident (codes "NEWLINE"))) at) }
+    {
+        if own == FAIL {
+            return Err(NotCompiled::Unsupported);
+        }
+        let last = own.saturating_add(1);
+        self.text_at(alloc, "\n", at.label, at.next, own)?;
+        self.text_at(alloc, "\r\n", own, at.next, last)?;
+        self.text_at(alloc, "\r", last, at.next, at.way)?;
         Ok(())
     }
 

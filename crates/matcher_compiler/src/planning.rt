@@ -280,10 +280,12 @@ impl<'p> Plan<'p> {
     {
         match form {
             Form::Str(text) => self.literal(alloc, program, text.as_str(), at),
+            Form::Insens(text) => { self.literal_in_any_case(alloc, program, text.as_str(), at) }
             Form::Range(_, _) | Form::One(_) => self.character(alloc, program, form, at),
             Form::Set(_, inner) => self.character(alloc, program, inner, at),
             Form::Start => self.start(program, at),
             Form::End => self.end_of_text(program, at, own),
+            Form::Newline => self.newline(alloc, program, at, own),
             Form::Call(rule) => self.call(program, *rule, at),
             Form::PosPred(body) => self.ahead(program, body, at, own),
             Form::NegPred(body) => self.not_ahead(program, body, at, own),
@@ -327,6 +329,12 @@ impl<'p> Plan<'p> {
             },
             Part::Rule(rule) => self.call(program, rule, at),
             Part::Gap => self.gap(program, at),
+            Part::Skipped => self.skipped(program, at, own),
+            Part::Blanks => self.blanks(program, at),
+            Part::Comments => self.comments(program, at),
+            Part::Comment => self.comment(program, at, own),
+            Part::CommentCall => self.comment_call(program, at),
+            Part::Stay => self.stay_between(program, at),
         }
     }
 

@@ -1,5 +1,7 @@
 -- Nodes on a stack.
-use Rattle.std.proofs.Common.{◌≡◌, ◌∙◌, ℕ, ◌+◌, ◌<◌, List, [], ◌∷◌, ◌++◌, map, refl, sym, ap, append_assoc, append-nil, arith}
+use Rattle.std.proofs.Common.{◌≡◌, ◌∙◌, ℕ, ◌+◌, ◌*◌, ◌<◌, List, [], ◌∷◌, ◌++◌, if◌then◌else◌, map, refl, sym, ap, ap₂, subst, append_assoc, append-nil, lt-ltb, ltb-true, arith}
+use Rattle.std.specs.Prelude.{nat_lt}
+use Rattle.std.proofs.lemmas.Bool.{false_from_ne_true}
 use Rattle.std.proofs.lemmas.List.{map-append}
 use Rattle.meta_base.specs.Language.Expression.{Expression}
 use Rattle.meta_base.specs.declared.runtime.places.Span as code
@@ -43,3 +45,36 @@ both_fewer s f cs ds es l r v e g h =
     let p : nodes_left es ≡ size (view l.node.now) + (size (view r.node.now) + nodes_left cs) = rw (h, nodes_left_push ds l, g, nodes_left_push cs r) refl in
     let q = ap size e in
     omega arith
+
+few_spans : (n : ℕ) (s : Span) (f : Unary) (x : Spanned) → n * copies_by f < 10000 → spans n (One s f x) ≡ spans (n * copies_by f) x
+few_spans n s f x h = ap (λ b. map span_of (if b then crowded (n * copies_by f) x else One s f x ∷ [])) (lt-ltb (n * copies_by f) 10000 h)
+
+many_spans : (n : ℕ) (s : Span) (f : Unary) (x : Spanned) → (n * copies_by f < 10000 → ⊥) → spans n (One s f x) ≡ s ∷ []
+many_spans n s f x h =
+    ap (λ b. map span_of (if b then crowded (n * copies_by f) x else One s f x ∷ []))
+    (false_from_ne_true (nat_lt (n * copies_by f) 10000) (λ e. h (ltb-true (n * copies_by f) 10000 e)))
+
+-- the operand of a repetition that makes few copies, on a stack
+pub one_left : (n : ℕ) (v x : Spanned) (s : Span) (f : Unary) (k : ℕ) (cs ds : List Copied) (c : Copied) → v ≡ One s f x → k ≡ copies_by f → n * k < 10000
+    → c.copies ≡ n * k → view c.node.now ≡ x → ds ≡ cs ++ (c ∷ []) → left_over ds ≡ spans n v ++ left_over cs
+one_left n v x s f k cs ds c e i h j l g =
+    let few : n * copies_by f < 10000 = subst (λ m. n * m < 10000) i h in
+    let copies : c.copies ≡ n * copies_by f = j ∙ ap (λ m. n * m) i in
+    ap left_over g ∙ (left_over_push cs c ∙ ap (λ l. l ++ left_over cs) (ap₂ spans copies l ∙ sym (ap (spans n) e ∙ few_spans n s f x few)))
+
+pub one_fewer : (v x : Spanned) (s : Span) (f : Unary) (cs ds : List Copied) (c : Copied) → v ≡ One s f x → view c.node.now ≡ x → ds ≡ cs ++ (c ∷ []) → nodes_left ds < nodes_left cs + size v
+one_fewer v x s f cs ds c e l g =
+    let p = ap nodes_left g ∙ nodes_left_push cs c in
+    let q = ap size e in
+    let r = ap size l in
+    omega arith
+
+-- the span of one that makes many
+pub many_told : (n : ℕ) (node : ParserNode) (x : Spanned) (s : Span) (f : Unary) (k : ℕ) (found after : List code.Span) (left : List Span) → view node ≡ One s f x → k ≡ copies_by f
+    → (n * k < 10000 → ⊥) → after ≡ found ++ node.span ∷ [] → map piece_of after ++ left ≡ map piece_of found ++ (spans n (view node) ++ left)
+many_told n node x s f k found after left e i h g =
+    let many : n * copies_by f < 10000 → ⊥ = subst (λ m. n * m < 10000 → ⊥) i h in
+    let own : span_of (view node) ≡ s = ap span_of e in
+    let told : spans n (view node) ≡ s ∷ [] = ap (spans n) e ∙ many_spans n s f x many in
+    ap (λ l. l ++ left) (ap (map piece_of) g ∙ (push_piece found node ∙ ap (λ t. map piece_of found ++ t ∷ []) own))
+    ∙ (append_assoc (map piece_of found) (s ∷ []) left ∙ ap (λ l. map piece_of found ++ (l ++ left)) (sym told))

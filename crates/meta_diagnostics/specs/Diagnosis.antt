@@ -15,7 +15,8 @@ use Rattle.meta_lists.specs.Rewritten.{FindsLists, is_optional_name}
 use Rattle.meta_spanned.specs.Spanned.{Span, SpannedRule}
 use Rattle.pest_meta.specs.Spelling.{HasAnswer, HasTrees, IsRefusedWith}
 
--- the diagnostics report the warnings of rules, all of them or not, and those of lists that pest runs otherwise
+-- the diagnostics report the warnings of rules, all of them or not, and those of lists that pest runs
+-- otherwise
 pub record ReportRules (has_all : Bool) (starts : List Text) (rules : List SpannedRule)
     (diagnostics : List Diagnostic) : Type 0 where
   pub lists : List Span
@@ -25,8 +26,8 @@ pub record ReportRules (has_all : Bool) (starts : List Text) (rules : List Spann
 
 -- the diagnostics report the warnings of the rules that a text's trees are read as, all of them or not, but
 -- for those that its comments allow
-pub record ReportWarnings (has_all : Bool) (starts : List Text) (text : List ℕ) (diagnostics : List Diagnostic)
-    : Type 0 where
+pub record ReportWarnings (has_all : Bool) (starts : List Text) (text : List ℕ)
+    (diagnostics : List Diagnostic) : Type 0 where
   pub trees : Trees
   pub of_text : HasTrees text trees
   pub rules : List SpannedRule

@@ -1,6 +1,6 @@
 -- Keys of the alternatives so far.
 use Rattle.std.proofs.Common.{◌≡◌, ◌∙◌, ℕ, ◌<◌, List, [], ◌∷◌, ◌++◌, Bool, true, false, ◌&&◌, ◌||◌, if◌then◌else◌, cond, Vec, Global, refl, sym, ap, ap₂, length, nat_eq, arith}
-use Rattle.std.specs.Prelude.{nat_le}
+use Rattle.std.specs.Prelude.{nat_le, not}
 use Rattle.std.specs.HashSet as bag
 use Rattle.std.specs.List.{list_any}
 use Rattle.std.proofs.lemmas.Bool.{and_parts, false_from_ne_true, leb-false, leb-true}
@@ -65,3 +65,20 @@ pub short_compared : (e : Expression) → is_plain e ≡ false → (256 < length
 short_compared e h short =
     let s : is_short e ≡ true = not_long e short in
     ap₂ (λ b c. (if b then false else true) && c) h s
+
+not_false : (b : Bool) → not b ≡ false → b ≡ true
+not_false true h = refl
+not_false false h = sym h
+
+not_true : (b : Bool) → not b ≡ true → b ≡ false
+not_true true h = sym h
+not_true false h = refl
+
+-- whether an alternative is there, by the answer of an insertion
+pub there_if_old : (xs : List Spanned) (e : Expression) (set : KeySet) (k : Vec ℕ Global) (is_new : Bool) → KnowsKeys xs set → k.items ≡ key e → is_compared e ≡ true → is_new ≡ not (bag.contains same_key set k)
+    → is_new ≡ false → is_among xs e ≡ true
+there_if_old xs e set k is_new known h j added old = sym (known e k h j) ∙ not_false (bag.contains same_key set k) (sym added ∙ old)
+
+pub missing_if_new : (xs : List Spanned) (e : Expression) (set : KeySet) (k : Vec ℕ Global) (is_new : Bool) → KnowsKeys xs set → k.items ≡ key e → is_compared e ≡ true → is_new ≡ not (bag.contains same_key set k)
+    → is_new ≡ true → is_among xs e ≡ false
+missing_if_new xs e set k is_new known h j added new = sym (known e k h j) ∙ not_true (bag.contains same_key set k) (sym added ∙ new)

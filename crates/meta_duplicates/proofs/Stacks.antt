@@ -1,5 +1,5 @@
 -- Nodes on a stack, and the spans found on the way.
-use Rattle.std.proofs.Common.{◌≡◌, ◌∙◌, ℕ, ◌+◌, ◌<◌, List, [], ◌∷◌, ◌++◌, Bool, true, false, ◌&&◌, if◌then◌else◌, map, refl, sym, ap, append_assoc, append-nil, length, length-append, arith}
+use Rattle.std.proofs.Common.{◌≡◌, ◌∙◌, ℕ, ◌+◌, ◌<◌, List, [], ◌∷◌, ◌++◌, Bool, true, false, ◌&&◌, if◌then◌else◌, map, refl, sym, ap, ap₂, append_assoc, append-nil, length, length-append, arith}
 use Rattle.std.proofs.lemmas.List.{map-append}
 use Rattle.meta_base.specs.declared.runtime.places.Span as code
 use Rattle.meta_duplicates.specs.Duplicates.{is_among, is_compared, repeated_after, repeated_here, repeated_in, span_if_repeated}
@@ -79,3 +79,24 @@ spans_more all earlier left x old new found after h e known = record {
   knows = known;
   spans = h.spans ∙ (sym (append_assoc found (span_if_repeated earlier x) (repeated_after (earlier ++ x ∷ []) left)) ∙ ap (λ l. l ++ repeated_after (earlier ++ x ∷ []) left) (sym e));
 }
+
+-- two nodes on a stack, the left one on top
+pub both_spans : (ps qs rs : List Placed) (l r : Placed) → qs ≡ ps ++ (r ∷ []) → rs ≡ qs ++ (l ∷ [])
+    → spans_left rs ≡ repeated_in l.is_alternative (view l.node.now) ++ (repeated_in r.is_alternative (view r.node.now) ++ spans_left ps)
+both_spans ps qs rs l r g h = rw (h, spans_left_push qs l, g, spans_left_push ps r) refl
+
+pub both_nodes : (ps qs rs : List Placed) (l r : Placed) → qs ≡ ps ++ (r ∷ []) → rs ≡ qs ++ (l ∷ [])
+    → nodes_left rs ≡ length (preorder (view l.node.now)) + (length (preorder (view r.node.now)) + nodes_left ps)
+both_nodes ps qs rs l r g h = rw (h, nodes_left_push qs l, g, nodes_left_push ps r) refl
+
+-- the operand of a node on a stack
+pub one_spans : (v x : Spanned) (s : Span) (f : spanned.Unary) (ps qs : List Placed) (p : Placed) → v ≡ One s f x → view p.node.now ≡ x → p.is_alternative ≡ false → qs ≡ ps ++ (p ∷ []) → spans_left qs ≡ inner_spans v ++ spans_left ps
+one_spans v x s f ps qs p e h i g =
+    ap spans_left g ∙ (spans_left_push ps p ∙ ap (λ l. l ++ spans_left ps) (ap₂ repeated_in i h ∙ sym (ap inner_spans e)))
+
+pub one_fewer : (v x : Spanned) (s : Span) (f : spanned.Unary) (ps qs : List Placed) (p : Placed) → v ≡ One s f x → view p.node.now ≡ x → qs ≡ ps ++ (p ∷ []) → nodes_left qs < length (preorder v) + nodes_left ps
+one_fewer v x s f ps qs p e h g =
+    let k = ap nodes_left g ∙ nodes_left_push ps p in
+    let l = ap (λ w. length (preorder w)) e in
+    let m = ap (λ w. length (preorder w)) h in
+    omega arith

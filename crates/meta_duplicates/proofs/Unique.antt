@@ -1,5 +1,6 @@
 -- Keys are the same just where the expressions are.
-use Rattle.std.proofs.Common.{◌≡◌, ◌∙◌, ℕ, suc, ◌+◌, ◌<◌, ◌≤◌, List, [], ◌∷◌, ◌++◌, Bool, true, false, Option, Some, None, refl, sym, ap, ap₂, append_assoc, append-nil, length, length-append, eqb-false, nat_eq, arith}
+use Rattle.std.proofs.Common.{◌≡◌, ◌∙◌, ℕ, suc, ◌+◌, ◌<◌, ◌≤◌, List, [], ◌∷◌, ◌++◌, Bool, true, false, Option, Some, None, refl, sym, ap, ap₂, append_assoc, append-nil, length, length-append, add-one, map, nat_eq, arith}
+use Rattle.std.proofs.lemmas.Bool.{eqb-false}
 use Rattle.std.specs.Prelude.{ℤ, pos, negsuc, flat_map}
 use Rattle.std.specs.Bool.{Decides}
 use Rattle.std.specs.Cmp.{unsigned_Decides}
@@ -38,8 +39,8 @@ text_unique (c ∷ t) (d ∷ u) r s h =
 
 texts_unique : (ts us : List Text) (r s : List ℕ) → texts_key ts ++ r ≡ texts_key us ++ s → (ts ≡ us) × (r ≡ s)
 texts_unique [] [] r s h = (refl, ap others h)
-texts_unique [] (u ∷ us) r s h = let e : 0 ≡ 1 = ap first h in absurd (omega arith)
-texts_unique (t ∷ ts) [] r s h = let e : 1 ≡ 0 = ap first h in absurd (omega arith)
+texts_unique [] (u ∷ us) r s h = absurd (eqb-false 0 1 refl (ap first h))
+texts_unique (t ∷ ts) [] r s h = absurd (eqb-false 1 0 refl (ap first h))
 texts_unique (t ∷ ts) (u ∷ us) r s h =
     let k = text_unique t u (texts_key ts ++ r) (texts_key us ++ s) (moved (text_key t) (texts_key ts) r (text_key u) (texts_key us) s (ap others h)) in
     let l = texts_unique ts us r s k.1 in
@@ -47,8 +48,8 @@ texts_unique (t ∷ ts) (u ∷ us) r s h =
 
 int_unique : (i j : ℤ) (r s : List ℕ) → int_key i ++ r ≡ int_key j ++ s → (i ≡ j) × (r ≡ s)
 int_unique (pos m) (pos n) r s h = (ap pos (ap first (ap others h)), ap others (ap others h))
-int_unique (pos m) (negsuc n) r s h = let e : 0 ≡ 1 = ap first h in absurd (omega arith)
-int_unique (negsuc m) (pos n) r s h = let e : 1 ≡ 0 = ap first h in absurd (omega arith)
+int_unique (pos m) (negsuc n) r s h = absurd (eqb-false 0 1 refl (ap first h))
+int_unique (negsuc m) (pos n) r s h = absurd (eqb-false 1 0 refl (ap first h))
 int_unique (negsuc m) (negsuc n) r s h =
     let e : suc m ≡ suc n = ap first (ap others h) in
     let p : m ≡ n = omega arith in
@@ -56,8 +57,8 @@ int_unique (negsuc m) (negsuc n) r s h =
 
 option_unique : (i j : Option ℤ) (r s : List ℕ) → option_key i ++ r ≡ option_key j ++ s → (i ≡ j) × (r ≡ s)
 option_unique None None r s h = (refl, ap others h)
-option_unique None (Some j) r s h = let e : 0 ≡ 1 = ap first h in absurd (omega arith)
-option_unique (Some i) None r s h = let e : 1 ≡ 0 = ap first h in absurd (omega arith)
+option_unique None (Some j) r s h = absurd (eqb-false 0 1 refl (ap first h))
+option_unique (Some i) None r s h = absurd (eqb-false 1 0 refl (ap first h))
 option_unique (Some i) (Some j) r s h = let k = int_unique i j r s (ap others h) in (ap Some k.0, k.1)
 
 unique : (a b : Expression) (r s : List ℕ) → key a ++ r ≡ key b ++ s → (a ≡ b) × (r ≡ s)
@@ -167,3 +168,12 @@ too_long x old new w v whole e h i k =
     in
     let n = ap length (sym i ∙ q) ∙ length-append new (t.0 ++ flat_map sign v) in
     omega arith
+
+-- the numbers of a text's characters, and 0
+pub characters_key : (t : Text) → map (λ c. c + 1) t ++ 0 ∷ [] ≡ text_key t
+characters_key [] = refl
+characters_key (c ∷ t) = let e : c + 1 ≡ suc c = omega arith in ap₂ (λ x y. x ∷ y) e (characters_key t)
+
+-- no more numbers than allowed
+pub not_longer : (k l : List ℕ) → k ≡ l → length k ≤ 256 → 256 < length l → ⊥
+not_longer k l e h i = let n = ap length e in omega arith

@@ -67,7 +67,7 @@ fn add_of_node<'i>(
     found: &mut Vec<Span<'i>>,
 ) -> Result<(), AllocError>
     ensures { OnOk result (map piece_of found.new.items ≡ map piece_of found.old.items
-        ++ spec.repeated_here place.is_alternative (view place.entry.node.now)) }
+        ++ spec.repeated_here place.entry.is_alternative (view place.entry.node.now)) }
 {
     match &place.node.expr {
         ParserExpr::Choice(_, _) if !place.is_alternative => add_of_choice(

@@ -1,4 +1,4 @@
--- What is said of known mistakes.
+-- The helps of known mistakes.
 use Rattle.std.specs.Prelude.{ℕ, List, ◌++◌, codes}
 use Rattle.meta_hints.specs.declared.mistakes.Mistake.{Mistake}
 use Rattle.meta_hints.specs.declared.mistakes.Mistake.TheVariants as mistake

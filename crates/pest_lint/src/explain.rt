@@ -62,8 +62,8 @@ fn explanation_of_warnings(code: Code) -> &'static str {
         Code::UncalledRule => {
             "A rule is not needed. It is needed if another rule calls it, if it calls SOI or EOI, if --start \
              names it, or if it is WHITESPACE or COMMENT. Where no rule calls SOI or EOI, the first rule is \
-             taken for the start, and where that one is called, nothing is reported. --warn all takes no rule \
-             for the start."
+             taken for the start, and where that one is called, nothing is reported. --warn all takes no \
+             rule for the start."
         }
         Code::Unreachable => {
             "A literal or a call before an alternative begins all that it matches, so it is never \

@@ -78,8 +78,8 @@ fn print_page(rt: &HostRuntime, name: &str) -> u8 {
     }
 }
 
-/// The names of the rules that are starts. Where all warnings are asked for, one that no rule has is among them,
-/// so that the first rule is not taken for a start.
+/// The names of the rules that are starts. Where all warnings are asked for, one that no rule has is among
+/// them, so that the first rule is not taken for a start.
 fn starts_of<'a>(alloc: Global, matches: &'a ArgMatches<'_>) -> Result<Vec<&'a str>, AllocError> {
     let mut starts = Vec::new(alloc);
     for name in matches.get_strs("start").unwrap_or(&[]) {

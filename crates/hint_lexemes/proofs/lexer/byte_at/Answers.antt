@@ -1,3 +1,4 @@
+use Rattle.std.proofs.Common.{rules}
 use Rattle.hint_lexemes.proofs.InOrder.{inside}
 use Rattle.hint_lexemes.proofs.lexer.byte_at.Goals as goal
 

@@ -23,6 +23,6 @@ returns c = λ f known.
     let runs : IsPassed r.type_of a b = subst (λ y. IsPassed y a b) h.type_of c.in_ok-passed.ensures in
     elim c.if-branch-2.branch [
       | then-branch-2+in_ok-push w ↦ passed h.rotates free runs (list_told f b r _ _ (sym (c.in_ok-has_list.ensures f known) ∙ w.if-branch-2.true)
-        (ap (λ v. map piece_of v.items) w.found-is ∙ (ap (map piece_of) w.in_ok-push.ensures.items ∙ map-append piece_of c.args.found.now.items (c.args.rule.now.span ∷ []))))
+          (ap (λ v. map piece_of v.items) w.found-is ∙ (ap (map piece_of) w.in_ok-push.ensures.items ∙ map-append piece_of c.args.found.now.items (c.args.rule.now.span ∷ []))))
       | else-branch-2 w ↦ passed h.rotates free runs (list_untold f b r _ _ (sym (c.in_ok-has_list.ensures f known) ∙ w.if-branch-2.false) (ap (λ v. map piece_of v.items) w.found-is))
     ]

@@ -8,7 +8,7 @@ returns-in_ok-push-in-Seq-2 c =
     let whole = expression_of c.args.expr.now in
     elim c.in-Seq.is [
       | inl e ↦ seq_left whole c.args.stack.now.items c.push.new.self.items c.push-in-Seq.new.self.items c.deref-in-Seq.result c.deref.result
-        (rw (c.deref-in-Seq.ensures, c.deref.ensures) (ap expression_of e)) c.in_ok-push-in-Seq.ensures.items c.in_ok-push-in-Seq-2.ensures.items
+          (rw (c.deref-in-Seq.ensures, c.deref.ensures) (ap expression_of e)) c.in_ok-push-in-Seq.ensures.items c.in_ok-push-in-Seq-2.ensures.items
       | inr e ↦ choice_left whole c.args.stack.now.items c.push.new.self.items c.push-in-Seq.new.self.items c.deref-in-Seq.result c.deref.result
-        (rw (c.deref-in-Seq.ensures, c.deref.ensures) (ap expression_of e)) c.in_ok-push-in-Seq.ensures.items c.in_ok-push-in-Seq-2.ensures.items
+          (rw (c.deref-in-Seq.ensures, c.deref.ensures) (ap expression_of e)) c.in_ok-push-in-Seq.ensures.items c.in_ok-push-in-Seq-2.ensures.items
     ]

@@ -1,6 +1,6 @@
 use Rattle.std.proofs.Common.{chars, subst, sym}
 use Rattle.std.specs.Prelude.{OnOk}
-use Rattle.meta_base.specs.Language.Expression.{Choice, NegPred, NodeTag, Opt, PosPred, Rep, RepOnce, RestoreOnErr, Seq, Str}
+use Rattle.meta_base.specs.Language.Expression.{Choice, Insens, NegPred, NodeTag, Opt, PosPred, Rep, RepOnce, RestoreOnErr, Seq, Str}
 use Rattle.meta_base.specs.Language.Meaning.{Run}
 use Rattle.matcher_compiler.specs.Modes.{mode_of}
 use Rattle.matcher_compiler.specs.Plans.{LaysAt, said}
@@ -10,6 +10,15 @@ pub returns-in-Str-clause-lays : goal.returns-in-Str-clause-lays
 returns-in-Str-clause-lays c =
     subst (λ x. OnOk c.literal.result (LaysAt c.args.program.now c.literal.new.self (Run (mode_of c.args.at.mode) (said c.args.program.now x)) c.args.at)) (sym c.in-Str.is)
     (subst (λ x. OnOk c.literal.result (LaysAt c.args.program.now c.literal.new.self (Run (mode_of c.args.at.mode) (Str (chars x))) c.args.at)) c.as_str.ensures.value c.literal.ensures.lays)
+
+pub returns-in-Insens-clause-lays : goal.returns-in-Insens-clause-lays
+returns-in-Insens-clause-lays c =
+    subst (λ x. OnOk c.literal_in_any_case.result (LaysAt c.args.program.now c.literal_in_any_case.new.self (Run (mode_of c.args.at.mode) (said c.args.program.now x)) c.args.at)) (sym c.in-Insens.is)
+    (subst (λ x. OnOk c.literal_in_any_case.result (LaysAt c.args.program.now c.literal_in_any_case.new.self (Run (mode_of c.args.at.mode) (Insens (chars x))) c.args.at)) c.as_str-in-Insens.ensures.value c.literal_in_any_case.ensures.lays)
+
+pub returns-in-Newline-clause-lays : goal.returns-in-Newline-clause-lays
+returns-in-Newline-clause-lays c =
+    subst (λ x. OnOk c.newline.result (LaysAt c.args.program.now c.newline.new.self (Run (mode_of c.args.at.mode) (said c.args.program.now x)) c.args.at)) (sym c.in-Newline.is) c.newline.ensures.lays
 
 pub returns-in-Set-clause-lays : goal.returns-in-Set-clause-lays
 returns-in-Set-clause-lays c =
