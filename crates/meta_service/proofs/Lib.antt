@@ -1,4 +1,5 @@
 mod Announcing
 mod Answering
 mod Handling
+mod Opening
 mod Phases

@@ -455,7 +455,10 @@ fn is_workspace_symbol(method: &str) -> bool
 fn query_in(params: &Value) -> &str
     ensures { result.now ≡ requests.query_in (view params.now) }
 {
-    text_at(params, "/query").unwrap_or("")
+    match text_at(params, "/query") {
+        Some(query) => query,
+        None => "",
+    }
 }
 
 /// Returns the answer to `initialize`.

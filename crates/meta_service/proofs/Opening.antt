@@ -1,0 +1,31 @@
+-- Answers to requests about open documents.
+use Rattle.std.proofs.Common.{◌≡◌, List, ℕ, Bor, Bool, true, false, Option, Some, None, Result, Ok, Err, IfOk, bytes_eq, codes, subst, refl}
+use Rattle.std.specs.declared.alloc.AllocError.{AllocError}
+use Rattle.language_protocol.specs.declared.client.Client.{Client}
+use Rattle.language_protocol.specs.declared.documents.Documents.{Documents}
+use Rattle.language_protocol.specs.declared.messages.Answer.{Answer}
+use Rattle.language_protocol.specs.declared.messages.Answer.TheVariants as answer
+use Rattle.language_protocol.specs.declared.messages.ErrorCode.TheVariants.{MethodNotFound}
+use Rattle.meta_requests.specs.Symbols.{AreWorkspaceSymbols}
+use Rattle.meta_service.specs.Requests.{AnswersForDocument, AnswersOpen, query_in, request_of}
+use Rattle.meta_service.specs.declared.requests.RequestMethod.{RequestMethod}
+use Rattle.serde_json.specs.Data.{Data}
+
+-- nothing is said of an answer
+pub any_answer : (r : Result Answer AllocError) → IfOk r (λ a. Unit {0})
+any_answer (Ok a) = tt
+any_answer (Err e) = tt
+
+-- the symbols of the workspace
+pub opens_workspace : (client : Client) (documents : Documents) (m query : List ℕ) (params : Data) (r : Result Answer AllocError) → bytes_eq m (codes "workspace/symbol") ≡ true → query ≡ query_in params → IfOk r (AreWorkspaceSymbols client documents query) → IfOk r (AnswersOpen client documents m params)
+opens_workspace client documents m query params (Ok a) e q h = rw e (subst (λ (s : List ℕ). AreWorkspaceSymbols client documents s a) q h)
+opens_workspace client documents m query params (Err x) e q h = tt
+
+-- an answer about one document
+pub opens_document : (client : Client) (documents : Documents) (m : List ℕ) (request : RequestMethod) (params : Data) (r : Result Answer AllocError) → bytes_eq m (codes "workspace/symbol") ≡ false → request_of m ≡ Some request → IfOk r (AnswersForDocument client documents request params) → IfOk r (AnswersOpen client documents m params)
+opens_document client documents m request params (Ok a) e q h = rw (e, q) h
+opens_document client documents m request params (Err x) e q h = tt
+
+-- an unknown method
+pub opens_nothing : (client : Client) (documents : Documents) (m : List ℕ) (params : Data) (reason : Bor (List ℕ)) → bytes_eq m (codes "workspace/symbol") ≡ false → request_of m ≡ None → AnswersOpen client documents m params (answer.Error MethodNotFound reason)
+opens_nothing client documents m params reason e q = rw (e, q) refl
