@@ -182,7 +182,7 @@ pub(crate) fn choice_ranges(
 
 /// Appends the ranges of the characters with which a newline begins.
 fn push_newline(ranges: &mut Ranges) -> Result<bool, AllocError>
-    ensures { OnOk result (Adds ranges.old.items ranges.new.items (λ c. nat_eq 10 c || nat_eq 13 c)) }
+    ensures adds { OnOk result (Adds ranges.old.items ranges.new.items (λ c. nat_eq 10 c || nat_eq 13 c)) }
     ensures is { IfOk result (λ is. is ≡ true) }
 {
     push_range(ranges, 10, 10)?;

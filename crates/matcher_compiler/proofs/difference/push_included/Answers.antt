@@ -9,20 +9,16 @@ use Rattle.matcher_compiler.specs.Modes.{mode_of}
 use Rattle.matcher_compiler.specs.Plans.{grammar_in}
 use Rattle.matcher_compiler.proofs.Leaves.{set_outcome}
 use Rattle.matcher_compiler.proofs.Ranging.{covered-append}
-use Rattle.matcher_compiler.proofs.difference.push_set.Goals as goal
-
-pub ranges_of-requires : goal.ranges_of-requires
-ranges_of-requires c = (c.in-Some.ensures c.args.program.now c.requires.bound).one
+use Rattle.matcher_compiler.proofs.difference.push_included.Goals as goal
 
 pub returns-in_ok-extend_from_slice-in-Some : goal.returns-in_ok-extend_from_slice-in-Some
-returns-in_ok-extend_from_slice-in-Some c = λ h.
-    let p = c.args.program.now in
-    let x = c.in-Some.ensures p c.requires.bound in
+returns-in_ok-extend_from_slice-in-Some c = λ h p bound classes fits.
+    let x = c.in-Some.ensures p bound in
     let set = c.in-Some.set.now in
     let e : c.extend_from_slice.new.self.items ≡ c.args.ranges.now.items ++ c.deref.result.now = grind (arith, common_steps) in
     record {
       characters = characters_of set;
-      matches = λ classes m.
+      holds = λ m.
           subst (λ y. HasOutcome (grammar_in p) classes (Run (mode_of m) y) (character_outcome (characters_of set)) (λ s. 0)) (sym x.same) (set_outcome p classes m set x.one x.bound);
       adds = λ y l.
           ap (λ rs. is_covered rs y) e ∙ (covered-append c.args.ranges.now.items c.deref.result.now y
