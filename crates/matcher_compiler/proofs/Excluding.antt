@@ -1,6 +1,7 @@
 -- Forms that match one character, that begin with one, and that refuse one.
 use Rattle.std.proofs.Common.{◌≡◌, refl, sym, ◌∙◌, ap, subst, ℕ, List, [], ◌∷◌, Bool, true, false, ◌||◌, ◌&&◌, None, arith, codes, nat_eq, if◌then◌else◌}
-use Rattle.std.specs.Prelude.{not}
+use Rattle.std.specs.Prelude.{IfOk, IfSome, OnOk, Option, Result, Some, Ok, Err, not}
+use Rattle.std.specs.declared.vec.Vec.{Vec}
 use Rattle.meta_base.specs.Language.Expression.{Choice, Expression, Grammar, NegPred, Seq, rule_of}
 use Rattle.meta_base.specs.Language.FurthestFailure.{furthest}
 use Rattle.meta_base.specs.Language.Matching.{begins, character_outcome, newline_outcome, starts_in}
@@ -13,9 +14,10 @@ use Rattle.matcher_layout.proofs.Characters.{choice_of_sets}
 use Rattle.matcher_program.specs.declared.form.Form.{Form}
 use Rattle.matcher_program.specs.declared.form.Form.TheVariants as form
 use Rattle.matcher_program.specs.declared.form.Program.{Program}
-use Rattle.matcher_compiler.specs.Differences.{BeginsWith, Decides, MatchesOne, RefusesOne, is_success}
+use Rattle.matcher_compiler.specs.Differences.{AddsFirsts, AddsForm, BeginsWith, Decides, HasFirsts, HasRefused, MatchesOne, RefusesOne, is_success}
 use Rattle.matcher_compiler.specs.Modes.{mode_of}
-use Rattle.matcher_compiler.specs.Plans.{grammar_in, said}
+use Rattle.matcher_compiler.specs.Names.{Adds}
+use Rattle.matcher_compiler.specs.Plans.{IsBoundIn, grammar_in, said}
 use Rattle.matcher_compiler.proofs.Choosing.{IsJoined}
 use Rattle.matcher_compiler.proofs.Leaves.{newline_outcome_of}
 
@@ -105,3 +107,31 @@ module _ (p : Program) (classes : Classes) where
   refuses_one f body set e x = λ m s.
       subst (λ z. (d : Does (grammar_in p) classes (Run (mode_of m) z) s (if starts_in set s.rest then Failure else Success s None')) × (furthest d ≡ 0)) (sym e)
       (refuses (grammar_in p) classes (mode_of m) (said p body) s (starts_in set s.rest) (x m s))
+
+-- what was added
+pub adds_newline : {E : Type 0} (p : Program) (f : Form) → f ≡ form.Newline → IsBoundIn p f → (old new : List (ℕ × ℕ)) (r : Result Bool E)
+    → OnOk r (Adds old new (λ c. nat_eq 10 c || nat_eq 13 c)) → IfOk r (λ is. is ≡ true → AddsFirsts p f old new)
+adds_newline p f e b old new (Ok x) h = λ is classes fits. record {
+  characters = λ c. nat_eq 10 c || nat_eq 13 c;
+  adds = h;
+  holds = subst (λ y. BeginsWith p classes y (λ c. nat_eq 10 c || nat_eq 13 c)) (sym e) (newline_begins p classes (subst (IsBoundIn p) e b));
+}
+adds_newline p f e b old new (Err x) h = tt
+
+pub adds_firsts : {E : Type 0} (p : Program) (f : Form) (old new : List (ℕ × ℕ)) (r : Result Bool E)
+    → IfOk r (λ is. is ≡ true → AddsForm p f old new) → IfOk r (λ is. is ≡ true → AddsFirsts p f old new)
+adds_firsts p f old new (Ok x) h = λ is classes fits.
+    let y = h is classes fits in
+    record { characters = y.characters; adds = y.adds; holds = begins_of_one p classes f y.characters y.holds }
+adds_firsts p f old new (Err x) h = tt
+
+pub refused_of : (p : Program) (f body : Form) (ranges : List (ℕ × ℕ)) → said p f ≡ NegPred (said p body) → HasFirsts p body ranges → HasRefused p f ranges
+refused_of p f body ranges e h = λ classes fits.
+    let y = h classes fits in
+    record { characters = y.characters; covers = y.covers; holds = refuses_one p classes f body y.characters e y.holds }
+
+pub all_refused : {E : Type 0} (p : Program) (f body : Form) (r : Result (Option (Vec (ℕ × ℕ))) E) → said p f ≡ NegPred (said p body)
+    → IfOk r (λ made. IfSome made (λ ranges. HasFirsts p body ranges.items)) → IfOk r (λ made. IfSome made (λ ranges. HasRefused p f ranges.items))
+all_refused p f body (Ok (Some x)) e h = refused_of p f body x.items e h
+all_refused p f body (Ok None) e h = tt
+all_refused p f body (Err x) e h = tt

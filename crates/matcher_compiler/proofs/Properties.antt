@@ -40,13 +40,13 @@ module _ (p : Program) (n : String Global) (i : ℕ) (bound : IsBoundIn p (form.
       (builtin_outcome_of p classes m (text_of n) (PropertyOf (text_of n)) (character_outcome (classes (text_of n))) bound.unnamed bound.is (λ s. refl))
 
   pub property_added : (old new : List (ℕ × ℕ)) → i < length p.properties.items
-      → ((d : Property) → new ≡ old ++ (get_or p.properties.items i d).ranges.items) → Property → AddsForm p (form.Property n i) old new
-  property_added old new l e d = λ classes fits.
+      → (d : Property) → new ≡ old ++ (get_or p.properties.items i d).ranges.items → AddsForm p (form.Property n i) old new
+  property_added old new l d e = λ classes fits.
       let named : text_of (get_or p.properties.items i d).name ≡ text_of n = bound.number.named d in
       record {
         characters = classes (text_of n);
         adds = λ x h.
-            ap (λ rs. is_covered rs x) (e d) ∙ (covered-append old (get_or p.properties.items i d).ranges.items x
+            ap (λ rs. is_covered rs x) e ∙ (covered-append old (get_or p.properties.items i d).ranges.items x
             ∙ ap (λ b. is_covered old x || b) (same_test (get_or p.properties.items i d).ranges.items x ∙ (fits i d l x h ∙ ap (λ t. classes t x) named)));
         holds = property_matches classes;
       }

@@ -1,10 +1,10 @@
 //! Sets of characters without those of other sets.
-ghost use Rattle.std.specs.Prelude.{◌≡◌, ◌<◌, ◌++◌, ◌==◌, ◌&&◌, ◌||◌, IfOk, IfSome, OnOk, chars, get_or, length, nat_eq, not, true};
+ghost use Rattle.std.specs.Prelude.{◌≡◌, ◌==◌, ◌&&◌, ◌||◌, IfOk, IfSome, OnOk, chars, length, nat_eq, not, true};
 ghost use Rattle.meta_base.specs.Language.Builtins.{is_between};
 ghost use Rattle.matcher_code.specs.Reading.{is_covered};
 ghost use Rattle.matcher_program.specs.Programs.{is_set};
 ghost use Rattle.matcher_program.specs.declared.form.Program.{Program};
-ghost use Rattle.matcher_program.specs.declared.form.Property.{Property};
+ghost use Rattle.matcher_program.specs.declared.form.Form.TheVariants as form;
 ghost use Rattle.matcher_compiler.specs.Differences.{AddsFirsts, AddsForm, HasFirsts, HasRanges, HasRefused, IsIncluded, is_above, is_below};
 ghost use Rattle.matcher_compiler.specs.Names.{Adds, Covers};
 ghost use Rattle.matcher_compiler.specs.Plans.{IsBoundIn};
@@ -110,18 +110,22 @@ pub(crate) fn outside_ranges(
 }
 
 /// Appends the ranges of a property. Returns whether there is such a property.
-fn push_property(program: &Program, ranges: &mut Ranges, number: usize) -> Result<bool, AllocError>
-    ensures within { IfOk result (λ is. is ≡ true → number < length program.now.properties.items) }
-    ensures ranges { IfOk result (λ is. is ≡ true → (d : Property) → ranges.new.items
-        ≡ ranges.old.items ++ (get_or program.now.properties.items number d).ranges.items) }
+fn push_property(
+    program: &Program,
+    ranges: &mut Ranges,
+    name: &String,
+    number: usize,
+) -> Result<bool, AllocError>
+    requires bound { IsBoundIn program.now (form.Property name.now number) }
+    ensures { IfOk result (λ is. is ≡ true
+        → AddsForm program.now (form.Property name.now number) ranges.old.items ranges.new.items) }
 {
-    match program.properties.get(number) {
-        Some(property) => {
-            ranges.extend_from_slice(&property.ranges)?;
-            Ok(true)
-        }
-        None => Ok(false),
-    }
+    let property = match program.properties.get(number) {
+        Some(property) => property,
+        None => return Ok(false),
+    };
+    ranges.extend_from_slice(&property.ranges)?;
+    Ok(true)
 }
 
 /// Appends the ranges of a form that has the expression of a set.
@@ -151,7 +155,7 @@ fn push_set(
         → AddsForm program.now form.now ranges.old.items ranges.new.items) }
 {
     match form {
-        Form::Property(_, number) => push_property(program, ranges, *number),
+        Form::Property(name, number) => push_property(program, ranges, name, *number),
         _ => push_included(alloc, ranges, form),
     }
 }
