@@ -1,5 +1,5 @@
 -- Lists of texts.
-use Rattle.std.proofs.Common.{◌≡◌, refl, sym, ◌∙◌, ap, ap₂, subst, ℕ, suc, ◌+◌, ◌<◌, List, [], ◌∷◌, ◌++◌, Bool, true, false, ◌||◌, ◌&&◌, arith, chars, get_or, length, map, nat_eq, take}
+use Rattle.std.proofs.Common.{◌≡◌, refl, sym, ◌∙◌, ap, ap₂, subst, ℕ, zero, suc, ◌+◌, ◌<◌, List, [], ◌∷◌, ◌++◌, Bool, true, false, ◌||◌, ◌&&◌, arith, chars, get_or, length, map, nat_eq, take}
 use Rattle.std.specs.Prelude.{All, IsUtf8}
 use Rattle.std.proofs.Math.Seq.{take-suc}
 use Rattle.std.proofs.lemmas.Bool.{and_parts}
@@ -19,11 +19,13 @@ use Rattle.matcher_compiler.proofs.Ranging.{between_same}
 use Rattle.matcher_compiler.proofs.Searching.{any-append, or_none}
 
 pub no_texts : (code : Code) (numbers : List ℕ) → numbers ≡ [] → AreTexts code numbers []
-no_texts code numbers e = subst (λ ns. AreTexts code ns []) (sym e) (record { valid = tt; same = refl })
+no_texts code numbers e = subst (λ ns. AreTexts code ns []) (sym e) (record { valid = λ k d l. absurd (omega (arith, l)); same = refl })
 
-all_append : (P : List ℕ → Type 0) (xs : List (List ℕ)) (x : List ℕ) → All P xs → P x → All P (xs ++ x ∷ [])
-all_append P [] x h k = (k, tt)
-all_append P (y ∷ xs) x h k = (h.0, all_append P xs x h.1 k)
+all_append : (xs : List (List ℕ)) (x : List ℕ) → All IsUtf8 xs → IsUtf8 x → All IsUtf8 (xs ++ x ∷ [])
+all_append [] x h k zero d l = k
+all_append [] x h k (suc i) d l = absurd (omega (arith, l))
+all_append (y ∷ xs) x h k zero d l = h 0 d (omega arith)
+all_append (y ∷ xs) x h k (suc i) d l = all_append xs x (λ j e m. h (suc j) e (omega (arith, m))) k i d (omega (arith, l))
 
 taken : (texts : List (String Global)) (i : ℕ) (t : String Global) → i < length texts → get_or texts i t ≡ t
     → map ast.text_of (take (i + 1) texts) ≡ map ast.text_of (take i texts) ++ ast.text_of t ∷ []
@@ -39,7 +41,7 @@ pub more_texts : (code : Code) (texts : List (String Global)) (i : ℕ) (t : Str
 more_texts code texts i t old new n e l here h b is u same =
     let m : map (text_of code) new ≡ map (text_of code) old ++ text_of code n ∷ [] = ap (map (text_of code)) e ∙ map-append (text_of code) old (n ∷ []) in
     record {
-      valid = subst (All IsUtf8) (sym m) (all_append IsUtf8 (map (text_of code) old) (text_of code n) h.valid (subst IsUtf8 (sym is) u));
+      valid = subst (All IsUtf8) (sym m) (all_append (map (text_of code) old) (text_of code n) h.valid (subst IsUtf8 (sym is) u));
       same = ap (map chars) m ∙ (map-append chars (map (text_of code) old) (text_of code n ∷ [])
           ∙ (ap₂ (λ x y. x ++ y ∷ []) h.same (ap chars is ∙ same) ∙ sym (taken texts i t l here)));
     }
