@@ -90,16 +90,34 @@ impl<'p> Plan<'p> {
         if at.way != FAIL {
             return Err(NotCompiled::Unsupported);
         }
-        self.point(Part::Blanks, Place { next: own, ..at })?;
+        let mode = at.mode;
+        self.point(
+            Part::Blanks,
+            Place {
+                mode,
+                label: at.label,
+                next: own,
+                way: FAIL,
+            },
+        )?;
         self.point(
             Part::Stay,
             Place {
+                mode,
                 label: own,
                 next: own,
-                ..at
+                way: FAIL,
             },
         )?;
-        self.point(Part::Comments, Place { label: own, ..at })?;
+        self.point(
+            Part::Comments,
+            Place {
+                mode,
+                label: own,
+                next: at.next,
+                way: FAIL,
+            },
+        )?;
         Ok(())
     }
 

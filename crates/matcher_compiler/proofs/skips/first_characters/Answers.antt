@@ -12,4 +12,4 @@ loop-text-preserved c =
     let i = c.loop-text.text-index in
     let here : get_or texts i c.text-item.result ≡ c.text-item.result = cc in
     more_starts texts i c.text-item.result c.loop-text.ranges.items c.push_range.new.ranges.items c.in-Some.c (omega arith) here
-    c.loop-text.invariant (rw c.as_str.ensures.value at c.in-Some.ensures) c.in_ok-push_range.ensures
+    c.loop-text.invariant (rw c.as_str.ensures.value at c.in-Some.ensures.some) c.in_ok-push_range.ensures

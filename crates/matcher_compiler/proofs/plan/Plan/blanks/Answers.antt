@@ -7,7 +7,7 @@ blanks_of-requires c =
     let r = subst (λ x. SkipsAs c.args.program.now c.args.self.now.sets x) c.in-Blanks.is c.requires.ready in
     record { set = r.1 }
 
-pub blanks_of-requires-2 : goal.blanks_of-requires-2
-blanks_of-requires-2 c =
+pub blanks_of-requires-in-Comments : goal.blanks_of-requires-in-Comments
+blanks_of-requires-in-Comments c =
     let r = subst (λ x. SkipsAs c.args.program.now c.args.self.now.sets x) c.in-Comments.is c.requires.ready in
     record { set = r }

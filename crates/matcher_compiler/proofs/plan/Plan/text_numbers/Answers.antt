@@ -1,5 +1,8 @@
-use Rattle.std.proofs.Common.{◌≡◌, ◌∙◌, ◌++◌, ◌∷◌, [], ap, arith, chars, get_or}
+use Rattle.std.proofs.Common.{◌≡◌, ◌∙◌, ◌++◌, ◌∷◌, [], ap, arith, chars, get_or, map, subst, take}
 use Rattle.std.proofs.lemmas.Grind.{common_steps}
+use Rattle.std.proofs.lemmas.List.{take_all}
+use Rattle.meta_ast.specs.Ast.{text_of}
+use Rattle.matcher_compiler.specs.Plans.{AreTexts}
 use Rattle.matcher_compiler.proofs.Growing.{later_same, later_twice}
 use Rattle.matcher_compiler.proofs.Listing.{more_texts, no_texts}
 use Rattle.matcher_compiler.proofs.plan.Plan.text_numbers.Goals as goal
@@ -20,3 +23,9 @@ loop-text-preserved c =
           more_texts code texts i c.text-item.result c.loop-text.numbers.items c.push.new.self.items c.in_ok-number.number e (omega arith) here
           (c.loop-text.invariant.means p code laid m1) c.as_str.result.now (c.in_ok-number.ensures.means p code laid m) c.as_str.utf8 (ap chars c.as_str.ensures.value);
     }
+
+pub returns-clause-means : goal.returns-clause-means
+returns-clause-means c = λ p code laid m.
+    let texts = c.args.texts.now.items in
+    let e : take c.loop-text.text-index texts ≡ texts = take_all c.loop-text.text-index texts (omega arith) in
+    subst (λ ts. AreTexts code c.loop-text.numbers.items (map text_of ts)) e (c.loop-text.invariant.means p code laid m)
