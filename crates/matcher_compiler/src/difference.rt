@@ -128,10 +128,16 @@ fn push_property(
     Ok(true)
 }
 
-/// Appends the ranges of a form that has the expression of a set.
-fn push_included(alloc: Global, ranges: &mut Ranges, form: &Form) -> Result<bool, AllocError>
-    ensures { IfOk result (λ is. is ≡ true → (p : Program) → IsBoundIn p form.now
-        → AddsForm p form.now ranges.old.items ranges.new.items) }
+/// Appends the ranges of a form that has the expression of a set. Returns whether it has one.
+fn push_included(
+    alloc: Global,
+    program: &Program,
+    ranges: &mut Ranges,
+    form: &Form,
+) -> Result<bool, AllocError>
+    requires bound { IsBoundIn program.now form.now }
+    ensures { IfOk result (λ is. is ≡ true
+        → AddsForm program.now form.now ranges.old.items ranges.new.items) }
 {
     match included_set(form) {
         Some(set) => {
@@ -156,7 +162,7 @@ fn push_set(
 {
     match form {
         Form::Property(name, number) => push_property(program, ranges, name, *number),
-        _ => push_included(alloc, ranges, form),
+        _ => push_included(alloc, program, ranges, form),
     }
 }
 

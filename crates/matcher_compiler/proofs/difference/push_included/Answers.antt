@@ -11,9 +11,13 @@ use Rattle.matcher_compiler.proofs.Leaves.{set_outcome}
 use Rattle.matcher_compiler.proofs.Ranging.{covered-append}
 use Rattle.matcher_compiler.proofs.difference.push_included.Goals as goal
 
+pub ranges_of-requires : goal.ranges_of-requires
+ranges_of-requires c = (c.in-Some.ensures c.args.program.now c.requires.bound).one
+
 pub returns-in_ok-extend_from_slice-in-Some : goal.returns-in_ok-extend_from_slice-in-Some
-returns-in_ok-extend_from_slice-in-Some c = λ h p bound classes fits.
-    let x = c.in-Some.ensures p bound in
+returns-in_ok-extend_from_slice-in-Some c = λ h classes fits.
+    let p = c.args.program.now in
+    let x = c.in-Some.ensures p c.requires.bound in
     let set = c.in-Some.set.now in
     let e : c.extend_from_slice.new.self.items ≡ c.args.ranges.now.items ++ c.deref.result.now = grind (arith, common_steps) in
     record {
