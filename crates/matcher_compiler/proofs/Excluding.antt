@@ -2,6 +2,7 @@
 use Rattle.std.proofs.Common.{◌≡◌, refl, sym, ◌∙◌, ap, subst, ℕ, List, [], ◌∷◌, Bool, true, false, ◌||◌, ◌&&◌, None, arith, codes, nat_eq, if◌then◌else◌}
 use Rattle.std.specs.Prelude.{IfOk, IfSome, OnOk, Option, Result, Some, Ok, Err, not}
 use Rattle.std.specs.declared.vec.Vec.{Vec}
+use Rattle.std.specs.declared.alloc.Global.{Global}
 use Rattle.meta_base.specs.Language.Expression.{Choice, Expression, Grammar, NegPred, Seq, rule_of}
 use Rattle.meta_base.specs.Language.FurthestFailure.{furthest}
 use Rattle.meta_base.specs.Language.Matching.{begins, character_outcome, newline_outcome, starts_in}
@@ -130,7 +131,7 @@ refused_of p f body ranges e h = λ classes fits.
     let y = h classes fits in
     record { characters = y.characters; covers = y.covers; holds = refuses_one p classes f body y.characters e y.holds }
 
-pub all_refused : {E : Type 0} (p : Program) (f body : Form) (r : Result (Option (Vec (ℕ × ℕ))) E) → said p f ≡ NegPred (said p body)
+pub all_refused : {E : Type 0} (p : Program) (f body : Form) (r : Result (Option (Vec (ℕ × ℕ) Global)) E) → said p f ≡ NegPred (said p body)
     → IfOk r (λ made. IfSome made (λ ranges. HasFirsts p body ranges.items)) → IfOk r (λ made. IfSome made (λ ranges. HasRefused p f ranges.items))
 all_refused p f body (Ok (Some x)) e h = refused_of p f body x.items e h
 all_refused p f body (Ok None) e h = tt

@@ -9,6 +9,6 @@ returns c = λ h.
     let d = c.in-Some.property.now in
     let l : c.args.number < length p.properties.items = grind (arith, common_steps) in
     let is : d ≡ get_or p.properties.items c.args.number d = grind (arith, common_steps) in
-    let e : c.extend_from_slice.new.self.items ≡ c.args.ranges.now.items ++ c.deref.result.now = grind (arith, common_steps) in
+    let e : c.extend_from_slice.new.self.items ≡ c.args.ranges.now.items ++ d.ranges.items = grind (arith, common_steps) in
     property_added p c.args.name.now c.args.number c.requires.bound c.args.ranges.now.items c.extend_from_slice.new.self.items l d
-    (e ∙ ap (λ rs. c.args.ranges.now.items ++ rs) (c.deref.ensures.value ∙ ap (λ q. q.ranges.items) is))
+    (e ∙ ap (λ q. c.args.ranges.now.items ++ q.ranges.items) is)

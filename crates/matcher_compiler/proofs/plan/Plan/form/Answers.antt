@@ -35,7 +35,7 @@ returns-in-Call-clause-lays c =
 pub returns-in-PosPred-clause-lays : goal.returns-in-PosPred-clause-lays
 returns-in-PosPred-clause-lays c =
     subst (λ x. OnOk c.ahead.result (LaysAt c.args.program.now c.ahead.new.self (Run (mode_of c.args.at.mode) (said c.args.program.now x)) c.args.at)) (sym c.in-PosPred.is)
-    (subst (λ x. OnOk c.ahead.result (LaysAt c.args.program.now c.ahead.new.self (Run (mode_of c.args.at.mode) (PosPred (said c.args.program.now x))) c.args.at)) c.deref-in-PosPred.ensures c.ahead.ensures.lays)
+    (subst (λ x. OnOk c.ahead.result (LaysAt c.args.program.now c.ahead.new.self (Run (mode_of c.args.at.mode) (PosPred (said c.args.program.now x))) c.args.at)) c.deref.ensures c.ahead.ensures.lays)
 
 pub returns-in-NegPred-clause-lays : goal.returns-in-NegPred-clause-lays
 returns-in-NegPred-clause-lays c =
