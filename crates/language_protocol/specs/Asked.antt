@@ -27,7 +27,8 @@ has_item text (item d ds) = is_text text d || has_item text ds
 
 -- whether there is a list with a text at a path
 abbrev pub lists_in : List ℕ → List ℕ → Data → Bool
-lists_in path text d = unwrap_or (option_map (has_item text) (option_and_then as_array (pointer path d))) false
+lists_in path text d =
+    unwrap_or (option_map (has_item text) (option_and_then as_array (pointer path d))) false
 
 -- the position of a line and a character
 abbrev pub position_from : Option ℕ → Option ℕ → Option Position

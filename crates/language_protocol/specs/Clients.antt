@@ -1,4 +1,4 @@
--- What clients can show.
+-- Capabilities of clients.
 use Rattle.std.specs.Prelude.{codes, if◌then◌else◌}
 use Rattle.serde_json.specs.Data.{Data}
 use Rattle.language_protocol.specs.Asked.{is_true_in, lists_in}
@@ -11,7 +11,7 @@ abbrev pub encoding_of : Data → Encoding
 encoding_of params =
     if lists_in (codes "/capabilities/general/positionEncodings") (codes "utf-8") params then Utf8 else Utf16
 
--- what the parameters of `initialize` say
+-- the client that the parameters of `initialize` describe
 abbrev pub client_of : Data → Client
 client_of params = record {
   encoding = encoding_of params;

@@ -1,4 +1,4 @@
-//! What a client can show.
+//! Capabilities of clients.
 ghost use Rattle.std.specs.Prelude.{◌≡◌};
 ghost use Rattle.language_protocol.specs.Clients as spec;
 ghost use Rattle.serde_json.specs.View.{view};
@@ -7,7 +7,7 @@ use crate::params::{is_true_at, lists_at};
 use meta_positions::Encoding;
 use serde_json::Value;
 
-/// What a client can show, as it said when it was initialized.
+/// The capabilities of a client, as it said when it was initialized.
 #[derive(Clone, Copy, Debug)]
 pub struct Client {
     /// The code units in which characters are counted.

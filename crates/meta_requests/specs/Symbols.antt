@@ -17,7 +17,7 @@ use Rattle.meta_requests.specs.Shown.{shown}
 use Rattle.meta_requests.specs.declared.context.Context.{Context}
 use Rattle.meta_symbols.specs.declared.outline.Definition.{Definition}
 
--- what a modifier means
+-- the meaning of a modifier
 abbrev pub modifier_name : Option ℕ → List ℕ
 modifier_name None = []
 modifier_name (Some byte) = if byte == 95 then codes "silent" else (if byte == 64 then codes "atomic"
@@ -64,7 +64,7 @@ abbrev pub occurs : List ℕ → List ℕ → Bool
 occurs query [] = begins query []
 occurs query (byte ∷ bytes) = begins query (byte ∷ bytes) || occurs query bytes
 
--- those of some rules in whose names a text occurs
+-- the symbols of some rules in whose names a text occurs
 abbrev pub matches_among : List ℕ → Context → List Definition → List Data
 matches_among query context definitions = map (flat_symbol context)
     (filter (λ definition. occurs query (rule_name context definition)) definitions)
@@ -73,7 +73,8 @@ abbrev pub matches_in : List ℕ → Context → List Data
 matches_in query context = matches_among query context context.definitions.items
 
 abbrev pub IsContextAt : Client → String Global × Document → Context → Type 0
-IsContextAt client entry context = IsContextOf client (string_bytes entry.0) (string_bytes entry.1.text) context
+IsContextAt client entry context =
+    IsContextOf client (string_bytes entry.0) (string_bytes entry.1.text) context
 
 -- values are added for the rules of a document in whose names a text occurs
 abbrev pub AddsMatches : Client → List ℕ → String Global × Document → List Data → List Data → Type 0
@@ -85,7 +86,7 @@ abbrev pub AreMatches : Client → List ℕ → List (String Global × Document)
 AreMatches client query documents values = (contexts : List Context)
     × AllZip (IsContextAt client) documents contexts × (values ≡ flat_map (matches_in query) contexts)
 
--- those of all open documents
+-- the symbols of all open documents
 abbrev pub AreWorkspaceSymbols : Client → Documents → List ℕ → Answer → Type 0
 AreWorkspaceSymbols client documents query (answer.Result v) = (values : List Data)
     × AreMatches client query (open_documents documents) values × (view v ≡ array (items_of values))

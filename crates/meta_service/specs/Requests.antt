@@ -59,7 +59,8 @@ IsAnswerOf _ context params a = Unit {0}
 abbrev pub AnswersForDocument : Client → Documents → RequestMethod → Data → Answer → Type 0
 AnswersForDocument client documents request params a =
     (LacksDocument documents params × IsError InvalidParams a)
-    ⊎ ((context : Context) × IsContextIn client documents params context × IsAnswerOf request context params a)
+    ⊎ ((context : Context) × IsContextIn client documents params context
+    × IsAnswerOf request context params a)
 
 -- the text that is looked for in the names of rules
 abbrev pub query_in : Data → List ℕ

@@ -37,7 +37,7 @@ pub enum Phase {
     ShutDown,
 }
 
-/// What a notification is about.
+/// The subject of a notification.
 #[derive(Clone, Copy, Debug, PartialEq, Eq)]
 enum Notice {
     /// A document is opened.
@@ -331,7 +331,8 @@ impl Server {
         requires { phase_of self.old ≡ Phase.New }
         ensures phase { phase_of self.new ≡ after_request Phase.New method.now }
         ensures documents { self.new.documents ≡ self.old.documents }
-        ensures answer { IfOk result (AnswersIn Phase.New self.old.client self.old.documents method.now (view params.now)) }
+        ensures answer { IfOk result (AnswersIn Phase.New self.old.client self.old.documents method.now
+            (view params.now)) }
     {
         if !is_initialize(method) {
             return Ok(Answer::Error(ErrorCode::ServerNotInitialized, "`initialize` has not come"));
@@ -351,7 +352,8 @@ impl Server {
         requires { phase_of self.old ≡ Phase.Running }
         ensures phase { phase_of self.new ≡ after_request Phase.Running method.now }
         ensures documents { self.new.documents ≡ self.old.documents }
-        ensures answer { IfOk result (AnswersIn Phase.Running self.old.client self.old.documents method.now (view params.now)) }
+        ensures answer { IfOk result (AnswersIn Phase.Running self.old.client self.old.documents method.now
+            (view params.now)) }
     {
         if is_shutdown(method) {
             self.phase = Phase::ShutDown;
