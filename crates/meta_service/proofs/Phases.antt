@@ -1,12 +1,10 @@
 -- Answers in the phases of a session.
 use Rattle.std.proofs.Common.{◌≡◌, List, ℕ, Bool, true, false, Result, Ok, Err, IfOk, bytes_eq, codes, subst}
 use Rattle.std.specs.declared.alloc.AllocError.{AllocError}
-use Rattle.language_protocol.specs.Clients.{client_of}
 use Rattle.language_protocol.specs.declared.client.Client.{Client}
 use Rattle.language_protocol.specs.declared.documents.Documents.{Documents}
 use Rattle.language_protocol.specs.declared.messages.Answer.{Answer}
 use Rattle.language_protocol.specs.declared.messages.Answer.TheVariants as answer
-use Rattle.meta_service.specs.Capabilities.{IsInitialized}
 use Rattle.meta_service.specs.Requests.{AnswersOpen}
 use Rattle.meta_service.specs.Sessions.{AnswersAsked, AnswersIn}
 use Rattle.meta_service.specs.declared.server.Phase.TheVariants.{New, Running}
@@ -15,10 +13,10 @@ use Rattle.serde_json.specs.Data.{Data, null}
 use Rattle.serde_json.specs.View.{view}
 use Rattle.serde_json.specs.declared.value.Value.{Value}
 
--- the answer to `initialize`
-pub answers_first : (shown client : Client) (documents : Documents) (m : List ℕ) (params : Data) (r : Result Answer AllocError) → bytes_eq m (codes "initialize") ≡ true → shown ≡ client_of params → IfOk r (IsInitialized shown) → IfOk r (AnswersIn New client documents m params)
-answers_first shown client documents m params (Ok a) e q h = rw e (subst (λ (c : Client). IsInitialized c a) q h)
-answers_first shown client documents m params (Err x) e q h = tt
+-- any answer to `initialize`
+pub answers_first : (client : Client) (documents : Documents) (m : List ℕ) (params : Data) (r : Result Answer AllocError) → bytes_eq m (codes "initialize") ≡ true → IfOk r (AnswersIn New client documents m params)
+answers_first client documents m params (Ok a) e = rw e tt
+answers_first client documents m params (Err x) e = tt
 
 -- null answers `shutdown`
 pub answers_shutdown : (client : Client) (documents : Documents) (m : List ℕ) (params : Data) (v : Value) → bytes_eq m (codes "shutdown") ≡ true → view v ≡ null → AnswersIn Running client documents m params (answer.Result v)

@@ -1,4 +1,3 @@
-pub mod Capabilities
 pub mod Notices
 pub mod Replies
 pub mod Requests

@@ -1,6 +1,5 @@
 -- Sessions: the phases, and the replies to messages.
 use Rattle.std.specs.Prelude.{◌≡◌, ◌⊎◌, ℕ, List, Option, Some, None, IfSome, MatchBool, MatchOption, bytes_eq, codes, string_bytes, if◌then◌else◌}
-use Rattle.language_protocol.specs.Clients.{client_of}
 use Rattle.language_protocol.specs.Documents.{KeepsDocuments}
 use Rattle.language_protocol.specs.Messages.{notification_of, params_of, request_of}
 use Rattle.language_protocol.specs.declared.client.Client.{Client}
@@ -10,7 +9,6 @@ use Rattle.language_protocol.specs.declared.messages.ErrorCode.{ErrorCode}
 use Rattle.language_protocol.specs.declared.messages.ErrorCode.TheVariants.{InvalidRequest, ServerNotInitialized}
 use Rattle.meta_service.specs.Notices.{Announces, changed_by, notice_in}
 use Rattle.meta_requests.specs.Refusals.{IsNull}
-use Rattle.meta_service.specs.Capabilities.{IsInitialized}
 use Rattle.meta_service.specs.Replies.{IsError, IsOneMessage, IsRefusal, IsResponse}
 use Rattle.meta_service.specs.Requests.{AnswersOpen}
 use Rattle.meta_service.specs.declared.server.Phase.{Phase}
@@ -43,7 +41,7 @@ refused_in ShutDown method = Some InvalidRequest
 
 -- an answer to a request of a method that is not refused in a phase
 abbrev pub AnswersAllowed : Phase → Client → Documents → List ℕ → Data → Answer → Type 0
-AnswersAllowed New client documents method params a = IsInitialized (client_of params) a
+AnswersAllowed New client documents method params a = Unit {0}
 AnswersAllowed Running client documents method params a = MatchBool (bytes_eq method (codes "shutdown"))
     (IsNull a) (AnswersOpen client documents method params a)
 AnswersAllowed ShutDown client documents method params a = ⊥

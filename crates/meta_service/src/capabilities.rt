@@ -1,10 +1,4 @@
 //! The capabilities of the server.
-ghost use Rattle.std.specs.Prelude.{◌≡◌, IfOk, Some, codes};
-ghost use Rattle.meta_service.specs.Capabilities as spec;
-ghost use Rattle.serde_json.specs.Data.{string};
-ghost use Rattle.serde_json.specs.Find.{get};
-ghost use Rattle.serde_json.specs.View.{view};
-
 use language_protocol::client::Client;
 use meta_positions::Encoding;
 use meta_requests::semantic::{modifiers, types};
@@ -12,9 +6,7 @@ use serde_json::{Value, json};
 use std::alloc::{AllocError, Global};
 
 /// Returns the answer to `initialize`.
-pub fn initialize_result(alloc: Global, client: Client) -> Result<Value, AllocError>
-    ensures { IfOk result (λ v. spec.HasEncoding client (view v)) }
-{
+pub fn initialize_result(alloc: Global, client: Client) -> Result<Value, AllocError> {
     let capabilities = capabilities(alloc, encoding_name(client.encoding))?;
     json!(in alloc; {
         "capabilities": capabilities,
@@ -23,9 +15,7 @@ pub fn initialize_result(alloc: Global, client: Client) -> Result<Value, AllocEr
 }
 
 /// Returns the protocol's name of an encoding.
-fn encoding_name(encoding: Encoding) -> &'static str
-    ensures { result.now ≡ spec.encoding_name encoding }
-{
+fn encoding_name(encoding: Encoding) -> &'static str {
     match encoding {
         Encoding::Utf8 => "utf-8",
         Encoding::Utf16 => "utf-16",
@@ -33,9 +23,7 @@ fn encoding_name(encoding: Encoding) -> &'static str
 }
 
 /// Returns what the server can do.
-fn capabilities(alloc: Global, encoding: &str) -> Result<Value, AllocError>
-    ensures { IfOk result (λ v. get (codes "positionEncoding") (view v) ≡ Some (string encoding.now)) }
-{
+fn capabilities(alloc: Global, encoding: &str) -> Result<Value, AllocError> {
     let tokens = tokens_capability(alloc)?;
     let synchronization = json!(in alloc; {
         "openClose": true,

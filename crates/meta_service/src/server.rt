@@ -5,7 +5,6 @@ ghost use Rattle.language_protocol.specs.Messages as messages;
 ghost use Rattle.language_features.specs.Diagnostics.{Publishes};
 ghost use Rattle.meta_service.specs.Notices as spec;
 ghost use Rattle.meta_service.specs.Notices.{Announces, AnnouncesAt, AnnouncesChange, AnnouncesClosing, AnnouncesOpening, PublishesAt, changed_at, changed_by, notice_in};
-ghost use Rattle.meta_service.specs.Capabilities.{IsInitialized};
 ghost use Rattle.meta_service.specs.Replies.{IsRefusal};
 ghost use Rattle.meta_service.specs.Requests as requests;
 ghost use Rattle.meta_service.specs.Requests.{AnswersForDocument, AnswersOpen};
@@ -464,8 +463,6 @@ fn query_in(params: &Value) -> &str
 }
 
 /// Returns the answer to `initialize`.
-fn initialize_answer(alloc: Global, client: Client) -> Result<Answer, AllocError>
-    ensures { IfOk result (IsInitialized client) }
-{
+fn initialize_answer(alloc: Global, client: Client) -> Result<Answer, AllocError> {
     Ok(Answer::Result(initialize_result(alloc, client)?))
 }

@@ -13,4 +13,4 @@ pub returns-clause-phase : goal.returns-clause-phase
 returns-clause-phase c = let e : bytes_eq c.args.method.now (codes "initialize") ≡ true = cc in rw e refl
 
 pub returns-clause-answer : goal.returns-clause-answer
-returns-clause-answer c = let e : bytes_eq c.args.method.now (codes "initialize") ≡ true = cc in answers_first _ _ _ c.args.method.now (view c.args.params.now) c.initialize_answer.result e c.client_of.ensures c.initialize_answer.ensures
+returns-clause-answer c = let e : bytes_eq c.args.method.now (codes "initialize") ≡ true = cc in answers_first c.args.self.now.client c.args.self.now.documents c.args.method.now (view c.args.params.now) c.initialize_answer.result e

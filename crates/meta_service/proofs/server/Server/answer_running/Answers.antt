@@ -12,7 +12,7 @@ pub returns-then-is_shutdown-clause-answer : goal.returns-then-is_shutdown-claus
 returns-then-is_shutdown-clause-answer c =
     let e : bytes_eq c.args.method.now (codes "shutdown") ≡ true = cc in
     let n : view Null ≡ null = search (rules, the_lemmas) in
-    answers_shutdown _ _ c.args.method.now (view c.args.params.now) Null e n
+    answers_shutdown c.args.self.now.client c.args.self.now.documents c.args.method.now (view c.args.params.now) Null e n
 
 pub returns-then-is_initialize-clause-phase : goal.returns-then-is_initialize-clause-phase
 returns-then-is_initialize-clause-phase c = let e : bytes_eq c.args.method.now (codes "shutdown") ≡ false = cc in rw e c.requires
@@ -29,4 +29,4 @@ pub returns-clause-answer : goal.returns-clause-answer
 returns-clause-answer c =
     let e : bytes_eq c.args.method.now (codes "shutdown") ≡ false = cc in
     let f : bytes_eq c.args.method.now (codes "initialize") ≡ false = cc in
-    answers_running _ _ c.args.method.now (view c.args.params.now) c.answer_open.result e f c.answer_open.ensures
+    answers_running c.args.self.now.client c.args.self.now.documents c.args.method.now (view c.args.params.now) c.answer_open.result e f c.answer_open.ensures
