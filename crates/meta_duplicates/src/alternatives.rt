@@ -1,4 +1,4 @@
-//! Alternatives that are there twice.
+//! Repeated alternatives.
 ghost use Rattle.std.specs.Prelude.{◌≡◌, ◌+◌, ◌<◌, ◌++◌, ◌∷◌, [], IfOk, OnOk, List, false, length, map};
 ghost use Rattle.meta_duplicates.specs.Duplicates as spec;
 ghost use Rattle.meta_duplicates.specs.Lists.{CollectsRepeated, KnowsKeys, inner_spans, nodes_left, spans_left};

@@ -1,4 +1,4 @@
-//! Bodies as the passes before the listing leave them.
+//! Bodies before the listing.
 ghost use Rattle.std.specs.Prelude.{◌≡◌, IfOk};
 ghost use Rattle.meta_ast.specs.Ast.{expression_of, rule_of_code, rule_type_of};
 ghost use Rattle.meta_lists.specs.Rewritten.{IsPassed, IsRotatedRule};

@@ -1,4 +1,4 @@
-//! Rules with lists that the optimizer writes otherwise.
+//! Rewritten lists.
 ghost use Rattle.std.specs.Prelude.{◌≡◌, ◌++◌, ◌∷◌, Bool, IfOk, OnOk, map};
 ghost use Rattle.std.specs.List.{list_any};
 ghost use Rattle.meta_ast.specs.Ast.{expression_of, rule_type_of};

@@ -1,4 +1,4 @@
-//! Names of rules that cannot fail.
+//! Optional rules.
 ghost use Rattle.std.specs.Prelude.{◌≡◌, ◌||◌, Bool, IfOk, OnOk, List, ℕ};
 ghost use Rattle.std.specs.Str.{IsUtf8, chars};
 ghost use Rattle.meta_ast.specs.Ast.{text_of};
