@@ -70,11 +70,9 @@ module _ (p : Program) (old new : Plan) where
       → IsBlankSet p old.sets set → IsBlankSet p new.sets set
   blanks_on l keeps set r = record {
     ranges = r.ranges;
-    characters = r.characters;
     within = omega (arith, l, r.within);
     is = λ b bs h u. keeps set b bs r.within h ∙ r.is b bs h u;
-    covers = r.covers;
-    takes = r.takes;
+    blank = r.blank;
   }
 
   skips_on : length old.sets.ranges.items ≤ length new.sets.ranges.items → KeepsSets old.sets new.sets → (x : Skips)

@@ -106,7 +106,7 @@ newline_builtin : builtin_of (codes "NEWLINE") ≡ Some Newline
 unfolding builtins
 newline_builtin = refl
 
-eoi_builtin : builtin_of (codes "EOI") ≡ Some Eoi
+pub eoi_builtin : builtin_of (codes "EOI") ≡ Some Eoi
 unfolding builtins
 eoi_builtin = refl
 
@@ -131,13 +131,13 @@ module _ (p : Program) (classes : Classes) where
   abbrev g : Grammar
   g = grammar_in p
 
-  builtin_outcome_of : (m : Atomicity) (n : Text) (b : Builtin) (f : State → Outcome) → rule_of g n ≡ None → builtin_of n ≡ Some b
+  pub builtin_outcome_of : (m : Atomicity) (n : Text) (b : Builtin) (f : State → Outcome) → rule_of g n ≡ None → builtin_of n ≡ Some b
       → ((s : State) → builtin_outcome classes (mode_of m) b s ≡ Some (f s))
       → HasOutcome g classes (Run (mode_of m) (Ident n)) f (λ s. place_of (seen_from (mode_of m) && is_eoi n) s (f s))
   builtin_outcome_of m n b f u h e s = (by.other u (by_builtin classes m n b s h ∙ e s), refl)
 
   -- an outcome without a failure that is recorded
-  quiet : (m : Atomicity) (n : Text) (f : State → Outcome) → is_eoi n ≡ false
+  pub quiet : (m : Atomicity) (n : Text) (f : State → Outcome) → is_eoi n ≡ false
       → HasOutcome g classes (Run (mode_of m) (Ident n)) f (λ s. place_of (seen_from (mode_of m) && is_eoi n) s (f s))
       → HasOutcome g classes (Run (mode_of m) (Ident n)) f (λ s. 0)
   quiet m n f e h s =

@@ -10,3 +10,4 @@ pub mod Skipping
 pub mod Searching
 pub mod Outside
 pub mod Listing
+pub mod Properties

@@ -76,16 +76,16 @@ pub tight_between : (g : Grammar) (classes : Classes) → IsTight g classes Betw
 tight_between g classes s = (by.between, refl)
 
 -- the characters that the body of the rule matches are blanks
-pub blanks_any : (p : Program) (i : ℕ) (row : Row) (set : ℕ → Bool) → IsSoundProgram p → p.whitespace ≡ Some i
+pub blanks_any : (p : Program) (i : ℕ) (row : Row) (classes : Classes) (set : ℕ → Bool) → IsSoundProgram p → p.whitespace ≡ Some i
     → (within : i < length p.rows.items) → (is : row ≡ get_or p.rows.items i row) → rule_type_of row.kind ≡ Silent
-    → MatchesOne p row.body set → (classes : Classes) → HasOutcome (grammar_in p) classes (Run Between blanks) (skip_set set) (λ s. 0)
-blanks_any p i row set sound white within is silent matches classes =
+    → MatchesOne p classes row.body set → HasOutcome (grammar_in p) classes (Run Between blanks) (skip_set set) (λ s. 0)
+blanks_any p i row classes set sound white within is silent matches =
     let r = made p i row within is in
     let w = subst (IsSkippedRule (grammar_in p) whitespace) white sound.whitespace_is in
     let meant : rule_of (grammar_in p) whitespace ≡ Some r = w.meant no_rule ∙ ap Some (same p i row within is) in
     let k = blank_mode (bytes_eq r.name whitespace || bytes_eq r.name comment) in
     let m : mode_of k.0 ≡ body_mode r Between = k.1 ∙ ap (λ y. mode_in y (bytes_eq r.name whitespace || bytes_eq r.name comment) Between) (sym silent) in
-    let z = subst (λ z. HasOutcome (grammar_in p) classes (Run z (said p row.body)) (character_outcome set) (λ s. 0)) m (matches classes k.0) in
+    let z = subst (λ z. HasOutcome (grammar_in p) classes (Run z (said p row.body)) (character_outcome set) (λ s. 0)) m (matches k.0) in
     span_of_set (grammar_in p) classes Between (Ident whitespace) set (tight_between (grammar_in p) classes)
     (silent_call_of_set (grammar_in p) classes Between whitespace r set meant (ap (λ t. by.gives_token t Between) silent) z)
 

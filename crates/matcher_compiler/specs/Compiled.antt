@@ -13,7 +13,7 @@ use Rattle.matcher_compiler.specs.declared.plan.Plan.{Plan}
 use Rattle.matcher_compiler.specs.declared.points.Demand.{Demand}
 use Rattle.matcher_compiler.specs.declared.points.Point.{Point}
 use Rattle.matcher_compiler.specs.Names.{Covers, number_in}
-use Rattle.matcher_compiler.specs.Plans.{IsMet, Meets, blanks, grammar_in, laid_point}
+use Rattle.matcher_compiler.specs.Plans.{IsMet, Meets, grammar_in, laid_point}
 
 -- the first three operations
 pub record HasEnds (code : Code) : Type 0 where
@@ -30,13 +30,6 @@ AreMet code points demands = (p : Program) (i : ℕ) (d : Demand) → i < length
 pub record IsEmpty (plan : Plan) : Type 0 where
   pub points : plan.points.items ≡ []
   pub demands : plan.demands.items ≡ []
-
--- the characters of ranges are what the blanks of the implicit skipping take
-pub record AreBlanks (p : Program) (ranges : List (ℕ × ℕ)) : Type 0 where
-  pub characters : ℕ → Bool
-  pub covers : Covers ranges characters
-  pub takes : (classes : Classes)
-      → HasOutcome (grammar_in p) classes (Run Between blanks) (skip_set characters) (λ s. 0)
 
 -- a program that meets the plan has a point for a call of each of the first rules from outside
 abbrev pub HasEntries : Program → Plan → ℕ → Type 0

@@ -124,15 +124,21 @@ pub record AreTexts (code : Code) (numbers : List ℕ) (ts : List Text) : Type 0
   pub valid : All IsUtf8 (map (text_of code) numbers)
   pub same : map chars (map (text_of code) numbers) ≡ ts
 
--- the characters of a set are what the blanks of the implicit skipping take
+-- the characters of ranges are what the blanks of the implicit skipping take
+pub record TakesBlanks (p : Program) (classes : Classes) (ranges : List (ℕ × ℕ)) : Type 0 where
+  pub characters : ℕ → Bool
+  pub covers : Covers ranges characters
+  pub takes : HasOutcome (grammar_in p) classes (Run Between blanks) (skip_set characters) (λ s. 0)
+
+abbrev pub AreBlanks : Program → List (ℕ × ℕ) → Type 0
+AreBlanks p ranges = (classes : Classes) → Fits p.properties.items classes → TakesBlanks p classes ranges
+
+-- so are the characters of a set
 pub record IsBlankSet (p : Program) (sets : Code) (set : ℕ) : Type 0 where
   pub ranges : List (ℕ × ℕ)
-  pub characters : ℕ → Bool
   pub within : set < length sets.ranges.items
   pub is : IsSetOf sets set ranges
-  pub covers : Covers ranges characters
-  pub takes : (classes : Classes)
-      → HasOutcome (grammar_in p) classes (Run Between blanks) (skip_set characters) (λ s. 0)
+  pub blank : AreBlanks p ranges
 
 -- what the implicit skipping takes: nothing, the characters of a set, or these and comments
 abbrev pub SkipsAs : Program → Code → Skips → Type 0

@@ -4,9 +4,9 @@ ghost use Rattle.meta_ast.specs.Ast.{rule_type_of};
 ghost use Rattle.meta_base.specs.Language.Expression.{Silent};
 ghost use Rattle.matcher_code.specs.Sets.{IsAligned};
 ghost use Rattle.matcher_program.specs.declared.form.Program.{Program};
-ghost use Rattle.matcher_compiler.specs.Compiled.{AreBlanks, AreMet, HasEnds, HasEntries, IsCodeOf, IsEmpty};
+ghost use Rattle.matcher_compiler.specs.Compiled.{AreMet, HasEnds, HasEntries, IsCodeOf, IsEmpty};
 ghost use Rattle.matcher_compiler.specs.declared.plan.Skips.TheVariants as skips;
-ghost use Rattle.matcher_compiler.specs.Plans.{IsLater, IsReady, IsSoundProgram, Meets, laid_point};
+ghost use Rattle.matcher_compiler.specs.Plans.{AreBlanks, IsLater, IsReady, IsSoundProgram, Meets, laid_point};
 
 use crate::check::{has_ends, meets_all};
 use crate::difference::choice_ranges;

@@ -109,8 +109,8 @@ fn explanation_of_tokens(code: Code) -> &'static str {
         Code::RewrittenList => {
             "The optimizer turns (x ~ y)* ~ x into x ~ (y ~ x)*, which matches more.\n\n    \
              a = { (b ~ \",\")* ~ b }\n    b = { \"x\" }\n\n\
-             As it is written, this fails on \"x,\"; pest takes the x. An x that cannot fail is not told, nor \
-             is an Atomic rule with (!c ~ n)*."
+             As it is written, this fails on \"x,\"; pest takes the x. An x that cannot fail is not told, \
+             nor is an Atomic rule with (!c ~ n)*."
         }
         Code::KeywordName => {
             "A rule is named as a keyword of Rust. Reported only with --warn all.\n\n    \

@@ -13,11 +13,9 @@ returns-clause-ready c =
     let l : c.in_ok-set.set < length c.add_set.new.code.ranges.items = grind (arith, common_steps) in
     let r : IsBlankSet p c.add_set.new.code c.in_ok-set.set = record {
       ranges = c.in_ok-ranges.ranges.items;
-      characters = x.characters;
       within = l;
       is = c.in_ok-set.ensures.means;
-      covers = x.covers;
-      takes = x.takes;
+      blank = x;
     } in
     let note : c.args.comments ≡ false → rule_of (grammar_in p) comment ≡ None =
     λ e. subst (IsSkippedRule (grammar_in p) comment) (c.requires.note e) c.requires.sound.comment_is in

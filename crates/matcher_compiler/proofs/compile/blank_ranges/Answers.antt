@@ -10,8 +10,8 @@ pub returns-in-None : goal.returns-in-None
 returns-in-None c =
     let p = c.args.program.now in
     let w = subst (IsSkippedRule (grammar_in p) whitespace) c.in-None.is c.requires.sound.whitespace_is in
-    record {
+    λ classes fits. record {
       characters = λ x. false;
       covers = λ x l. ap (λ rs. is_covered rs x) c.new.ensures.items;
-      takes = λ classes. no_blanks (grammar_in p) classes w;
+      takes = no_blanks (grammar_in p) classes w;
     }

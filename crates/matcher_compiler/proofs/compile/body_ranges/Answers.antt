@@ -11,13 +11,14 @@ choice_ranges-requires c =
     record { bound = subst (λ f. IsBoundIn p f) (sym c.requires.body) (row_bound p c.args.number c.args.row.now c.requires.within c.requires.is c.requires.sound) }
 
 pub returns-in-Some : goal.returns-in-Some
-returns-in-Some c =
+returns-in-Some c = λ classes fits.
     let p = c.args.program.now in
     let row = c.args.row.now in
-    let x = rw c.in-Some.is at c.in_ok-made.ensures in
+    let y = rw c.in-Some.is at c.in_ok-made.ensures in
+    let x = y classes fits in
     record {
       characters = x.characters;
       covers = x.covers;
-      takes = blanks_any p c.args.number row x.characters c.requires.sound c.requires.white c.requires.within c.requires.is c.requires.kind
-          (subst (λ f. MatchesOne p f x.characters) c.requires.body x.matches);
+      takes = blanks_any p c.args.number row classes x.characters c.requires.sound c.requires.white c.requires.within c.requires.is c.requires.kind
+          (subst (λ f. MatchesOne p classes f x.characters) c.requires.body x.holds);
     }
