@@ -16,12 +16,6 @@ zip_next R xs i x y ys e h r rest =
     let next : drop i xs ≡ x ∷ drop (i + 1) xs = rw add-one (drop-cons xs i x h ∙ ap (λ z. z ∷ drop (suc i) xs) (sym e)) in
     subst (λ zs. AllZip R zs (y ∷ ys)) (sym next) (r, rest)
 
-pub zip_at : {X Y : Type 0} (R : X → Y → Type 0) (xs : List X) (i : ℕ) (d : X) (y : Y) (ys : List Y) → i < length xs → R (get_or xs i d) y → AllZip R (drop (i + 1) xs) ys
-    → AllZip R (drop i xs) (y ∷ ys)
-zip_at R xs i d y ys h r rest =
-    let next : drop i xs ≡ get_or xs i d ∷ drop (i + 1) xs = rw add-one (drop-cons xs i d h) in
-    subst (λ zs. AllZip R zs (y ∷ ys)) (sym next) (r, rest)
-
 pub zip_end : {X Y : Type 0} (R : X → Y → Type 0) (xs : List X) (i : ℕ) → length xs ≤ i → AllZip R (drop i xs) []
 zip_end R xs i h = subst (λ zs. AllZip R zs []) (sym (drop_all i xs h)) tt
 
