@@ -69,9 +69,9 @@ has_section names rules text r no_sections h = absurd (let l = h.1 in omega (ari
 has_section names rules text r (more_sections {rules = others} {bytes = fewer} q before after p s sections) h =
     elim (Contains-push_cases others q r h) [
       | inl k ↦ before_and_after (escaped_text r.name) fewer [] (section_bytes names q before after)
-        (has_section names others fewer r sections k)
+          (has_section names others fewer r sections k)
       | inr same ↦ subst (λ x. HasSection (escaped_text x.name) (fewer ++ section_bytes names q before after)) same
-        (section_begins names fewer q before after)
+          (section_begins names fewer q before after)
     ]
 
 -- a rule of a page, by its name among the names
@@ -91,7 +91,7 @@ leads : (title : List ℕ) (rules : Grammar) (page : List ℕ) (p : IsPage title
     → chars name.now ≡ rule.name → Contains rules rule → LeadsToSection page (link_bytes (Some name))
 leads title rules page p name rule same h =
     let found = before_and_after _ _ (page_start title p.names p.introduction) foot
-        (has_section p.names rules p.sections rule p.are_sections h) in
+    (has_section p.names rules p.sections rule p.are_sections h) in
     record {
       id = escaped_text rule.name;
       target = ap (λ n. codes " href=\"#" ++ escaped_text n ++ codes "\"") same;
@@ -106,7 +106,7 @@ links_lead title rules page p r l =
     elim ((slice_get_cases p.names r).1) [
       | inl n ↦ elim ((slice_get_cases rules r).1) [
         | inl q ↦ subst (λ o. LeadsToSection page (link_bytes o)) (sym n.2)
-          (leads title rules page p n.0 q.0 (named_rule p.names rules r n.0 q.0 p.are_names n.2 q.2) (r, l, q.3))
+            (leads title rules page p n.0 q.0 (named_rule p.names rules r n.0 q.0 p.are_names n.2 q.2) (r, l, q.3))
         | inr none ↦ absurd (let k = none.0 in omega arith)
       ]
       | inr none ↦ absurd (let k = none.0 in omega arith)

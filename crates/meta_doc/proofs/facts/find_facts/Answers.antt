@@ -9,8 +9,8 @@ pub loop-number-preserved : goal.loop-number-preserved
 loop-number-preserved c =
     let n = length c.args.rules.now in
     let popped = All-pop (λ cs. All (λ r. r < n) cs.items) c.loop-number.callers.items c.pop.new.self.items c.pop.result
-        c.pop.ensures.items c.loop-number.invariant.0 in (
+    c.pop.ensures.items c.loop-number.invariant.0 in (
       popped.0,
       facts_more n c.loop-number.facts.items c.push.new.self.items _ c.in_ok-push.ensures.items c.loop-number.invariant.1
-      (callers_taken n c.pop.result c.new.result c.unwrap_or-called_by.result popped.1 c.new.ensures.items c.unwrap_or-called_by.ensures),
+          (callers_taken n c.pop.result c.new.result c.unwrap_or-called_by.result popped.1 c.new.ensures.items c.unwrap_or-called_by.ensures),
     )

@@ -7,7 +7,7 @@ use Rattle.meta_doc.proofs.read.read_grammar.Goals as goal
 pub invariant_of-result : goal.invariant_of-result
 invariant_of-result c =
     let count = erased_length c.in_ok-rules.rules.items c.into_inner.result.items c.in_ok-rules.ensures
-        ∙ ap (λ v. length v.items) c.into_inner.ensures in
+    ∙ ap (λ v. length v.items) c.into_inner.ensures in
     record {
       called = subst (λ n. AreFactsBelow n c.in_ok-facts.facts.items) (ap length c.deref-2.ensures.value ∙ sym count) c.in_ok-facts.ensures;
       numbered = subst (λ n. AreNumbersBelow n (get_by_text c.in_ok-names.names.places))
