@@ -4,5 +4,5 @@ use Rattle.diagnostic_data.proofs.allowances.find_allowances.Goals as goal
 
 pub loop-rule-preserved : goal.loop-rule-preserved
 loop-rule-preserved c =
-    c.in_ok-add_allowances.ensures (rule_views c.args.rules.now) (among c.args.rules.now c.loop-rule.rule-index c.rule-item.result.now c.rule-item.is c.loop-rule-test.true)
+    c.in_ok-add_allowances.ensures (rule_views c.args.rules.now) (among c.args.rules.now c.loop-rule.rule-index c.rule-item.result c.rule-item.is c.loop-rule-test.true)
     c.loop-rule.invariant

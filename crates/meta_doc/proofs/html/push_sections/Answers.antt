@@ -11,7 +11,7 @@ loop-number-preserved c =
     let same = c.deref-rule-items.ensures.value in
     let small : c.loop-number.number < length items = omega (arith, ap length same) in
     let names = c.args.names.now in
-    one_section_more names _ _ _ _ _ _ _ _ (links_named names items _ c.requires c.in_ok-contents.ensures.before)
-    (links_named names items _ c.requires c.in_ok-contents.ensures.after) c.loop-number.invariant c.in_ok-push_section.ensures
+    one_section_more names _ _ _ _ _ _ _ _ (links_named names items c.in_ok-contents.contents.before.items c.requires c.in_ok-contents.ensures.before)
+    (links_named names items c.in_ok-contents.contents.after.items c.requires c.in_ok-contents.ensures.after) c.loop-number.invariant c.in_ok-push_section.ensures
     (rules_more items c.loop-number.number c.rule-item.result small
     (c.rule-item.is ∙ ap (λ xs. get_or xs c.loop-number.number c.rule-item.result) same))
