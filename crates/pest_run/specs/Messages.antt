@@ -1,6 +1,7 @@
--- The message for a text on which a rule fails.
+-- Messages about a rule, a text and files.
 use Rattle.std.specs.Prelude.{ℕ, ◌==◌, Bool, List, [], ◌∷◌, ◌++◌, codes, encode_utf8_all, if◌then◌else◌, length}
 use Rattle.meta_base.specs.Language.Text.{Text}
+use Rattle.tool_support.specs.Escapes.{escaped_bytes}
 
 -- the separator before a name that is not the first: of two in all, or of more, and the last of them or not
 abbrev pub name_separator : Bool → Bool → List ℕ
@@ -16,3 +17,11 @@ other_names of_two (n ∷ ns) =
 abbrev pub failure_message : List Text → List ℕ
 failure_message [] = codes "unknown parsing error"
 failure_message (n ∷ ns) = codes "expected " ++ encode_utf8_all n ++ other_names (length ns == 1) ns
+
+-- that no rule has a name
+abbrev pub no_rule_text : List ℕ → List ℕ
+no_rule_text name = codes "the grammar has no rule " ++ escaped_bytes name
+
+-- that a file can't be read, and why
+abbrev pub unread_text : List ℕ → List ℕ → List ℕ
+unread_text name why = codes "cannot read " ++ escaped_bytes name ++ codes ": " ++ escaped_bytes why

@@ -1,10 +1,28 @@
-//! The message for a text on which a rule fails.
+//! Messages about a rule, a text and files. A character that a terminal obeys is shown as an escape.
 ghost use Rattle.std.specs.Prelude.{◌≡◌, ◌==◌, ◌++◌, IfOk, OnOk, encode_utf8_all, length, string_bytes};
 ghost use Rattle.std.specs.Str.{chars};
 ghost use Rattle.meta_matcher.specs.ExpectedNames.{name_texts};
-ghost use Rattle.pest_run.specs.Messages.{failure_message, name_separator, other_names};
+ghost use Rattle.pest_run.specs.Messages.{failure_message, name_separator, no_rule_text, other_names, unread_text};
 
 use std::alloc::{AllocError, Global};
+use tool_support::escape::escape;
+
+/// Returns the message that a grammar has no rule of a name. The only error is an allocation failure.
+pub fn no_rule_message(alloc: Global, name: &str) -> Result<String, AllocError>
+    ensures { IfOk result (λ message. string_bytes message ≡ no_rule_text name.now) }
+{
+    let shown = escape(alloc, name)?;
+    format!(in alloc; "the grammar has no rule {shown}")
+}
+
+/// Returns the message that a file can't be read, and why. The only error is an allocation failure.
+pub fn unread_message(alloc: Global, name: &str, why: &str) -> Result<String, AllocError>
+    ensures { IfOk result (λ message. string_bytes message ≡ unread_text name.now why.now) }
+{
+    let name = escape(alloc, name)?;
+    let why = escape(alloc, why)?;
+    format!(in alloc; "cannot read {name}: {why}")
+}
 
 /// Returns the message for a text where these names are expected, in pest's words. The only error is an
 /// allocation failure.

@@ -1,18 +1,21 @@
 //! The program after its files are read.
-ghost use Rattle.std.specs.Prelude.{◌≡◌, ◌≢◌, ◌≤◌, ◌⊎◌, ◌↔◌, ◌++◌, IfErr, IfOk, IfSome, IsErr, IsOk, IsSome, codes, true};
+ghost use Rattle.std.specs.Prelude.{◌≡◌, ◌≢◌, ◌≤◌, ◌⊎◌, ◌↔◌, IfErr, IfOk, IfSome, IsErr, IsOk, IsSome, codes, true};
 ghost use Rattle.meta_ast.specs.Optimized.{optimized_rules_of};
 ghost use Rattle.pest_meta.specs.Spelling.{IsRefusal};
 ghost use Rattle.pest_run.specs.Ends.{EndsAs, IsStatus};
-ghost use Rattle.pest_run.specs.Written.{AreRun, IsReadable, PrintsTrees, ReportsReason, ReportsStop, WritesLine};
+ghost use Rattle.pest_run.specs.Written.{AreRun, IsReadable, PrintsTrees, ReportsReason, ReportsStop, ReportsUnread, WritesLine, WritesUnread};
+ghost use Rattle.tool_support.specs.Escapes.{escaped_lines};
 ghost use Rattle.tool_support.specs.Statuses.{status_code};
 
 use crate::arguments::{Format, RuleForm};
+use crate::messages::unread_message;
 use crate::outcomes::{Outcome, outcome_of};
 use meta_ast::optimized::{OptimizedRule, release};
 use meta_base::runtime::Fault;
 use pest_meta::{Report, parse_and_optimize, parse_as_written, unwrap_or_report};
 use std::alloc::Global;
 use std::io::Write;
+use tool_support::escape::escape_lines;
 use tool_support::output::{Output, RefusedWrite};
 use tool_support::status::Status;
 
@@ -80,14 +83,17 @@ pub fn run_files<W: Write, E: Write>(
         → ReportsStop request.entry.form grammar.now.bytes.items request.entry.rule.now
         text.now.bytes.items result.write_result
         (E.contents err.old.writer) (E.contents err.new.writer) }
+    ensures tells_unread { result.status ≡ 3
+        → ReportsUnread grammar.now text.now result.write_result
+        (E.contents err.old.writer) (E.contents err.new.writer) }
     ensures told { IsOk result.write_result → err.new.refused ≡ err.old.refused }
     ensures refused_line { IsErr result.write_result → err.new.refused ≡ true }
 {
     let Some(rules) = text_of(grammar) else {
-        return unreadable(grammar, err);
+        return unreadable(alloc, grammar, err);
     };
     let Some(input) = text_of(text) else {
-        return unreadable(text, err);
+        return unreadable(alloc, text, err);
     };
     run(alloc, rules, input, request, out, err)
 }
@@ -133,10 +139,10 @@ pub fn run<W: Write, E: Write>(
         Ok(rules) => {
             let outcome = outcome_of(alloc, &rules, request.rule, text, request.format);
             release(rules);
-            print_outcome(outcome, request.rule, out, err)
+            print_outcome(outcome, out, err)
         }
         Err(Report::Memory) => exit_with(err, "out of memory", Status::OutOfMemory),
-        Err(Report::Text(report)) => exit_with(err, report.as_str(), Status::Found),
+        Err(Report::Text(report)) => report_refusal(alloc, report.as_str(), err),
     }
 }
 
@@ -166,8 +172,10 @@ fn text_of<'s>(source: &'s Source<'_>) -> Option<&'s str>
 }
 
 /// Reports a file that can't be read.
-fn unreadable<E: Write>(source: &Source<'_>, err: &mut Output<E>) -> RunExit
+fn unreadable<E: Write>(alloc: Global, source: &Source<'_>, err: &mut Output<E>) -> RunExit
     ensures status { result.status ≡ 3 }
+    ensures tells { WritesUnread source.entry.now result.write_result
+        (E.contents err.old.writer) (E.contents err.new.writer) }
     ensures told { IsOk result.write_result → err.new.refused ≡ err.old.refused }
     ensures refused_line { IsErr result.write_result → err.new.refused ≡ true }
 {
@@ -175,34 +183,38 @@ fn unreadable<E: Write>(source: &Source<'_>, err: &mut Output<E>) -> RunExit
         Some(why) => why.as_str(),
         None => "it is not UTF-8",
     };
-    let write_result = write_unread(err, source.name, why);
-    RunExit {
-        status: Status::Unreadable.code(),
-        write_result,
+    match unread_message(alloc, source.name, why) {
+        Ok(message) => exit_with(err, message.as_str(), Status::Unreadable),
+        Err(_) => exit_with(err, "cannot read a file: out of memory", Status::Unreadable),
     }
 }
 
-/// Writes that a file can't be read, and why.
-fn write_unread<'t, E: Write>(
-    err: &mut Output<E>,
-    name: &'t str,
-    why: &'t str,
-) -> Result<(), RefusedWrite>
-    ensures told { IsOk result → err.new.refused ≡ err.old.refused }
-    ensures refused_line { IsErr result → err.new.refused ≡ true }
+/// Reports that a grammar is refused: with its report (1), or with an allocation failure (2).
+fn report_refusal<E: Write>(alloc: Global, report: &str, err: &mut Output<E>) -> RunExit
+    ensures known { (result.status ≡ 1) ⊎ (result.status ≡ 2) }
+    ensures tells { result.status ≡ 1
+        → WritesLine (escaped_lines report.now) result.write_result
+        (E.contents err.old.writer) (E.contents err.new.writer) }
+    ensures tells_memory { result.status ≡ 2
+        → WritesLine (codes "out of memory") result.write_result
+        (E.contents err.old.writer) (E.contents err.new.writer) }
+    ensures told { IsOk result.write_result → err.new.refused ≡ err.old.refused }
+    ensures refused_line { IsErr result.write_result → err.new.refused ≡ true }
 {
-    err.write_line(&["cannot read ", name, ": ", why])
+    match escape_lines(alloc, report) {
+        Ok(shown) => exit_with(err, shown.as_str(), Status::Found),
+        Err(_) => exit_with(err, "out of memory", Status::OutOfMemory),
+    }
 }
 
 /// Prints the trees of an outcome, or reports why there are none.
 fn print_outcome<W: Write, E: Write>(
     outcome: Outcome,
-    rule: &str,
     out: &mut Output<W>,
     err: &mut Output<E>,
 ) -> RunExit
     ensures known { IsStatus result.status }
-    ensures ends { EndsAs outcome rule.now result.status result.write_result
+    ensures ends { EndsAs outcome result.status result.write_result
         (W.contents out.old.writer) (W.contents out.new.writer)
         (E.contents err.old.writer) (E.contents err.new.writer) }
     ensures unprinted { result.status ≢ 0 → result.status ≢ 4 → out.new ≡ out.old }
@@ -221,7 +233,7 @@ fn print_outcome<W: Write, E: Write>(
     match outcome {
         Outcome::Shown(lines) => exit_after_write(err, out.write_text(lines.as_str())),
         Outcome::Failed(report) => exit_with(err, report.as_str(), Status::Found),
-        Outcome::NoRule => no_rule(err, rule),
+        Outcome::NoRule(message) => exit_with(err, message.as_str(), Status::Found),
         Outcome::OutOfSteps => exit_with(err, "the text takes too many steps", Status::Stopped),
         Outcome::EmptyStack => exit_with(
             err,
@@ -260,21 +272,6 @@ fn exit_after_write<E: Write>(err: &mut Output<E>, outcome: Result<(), RefusedWr
             write_result: Ok(()),
         },
         Err(_) => exit_with(err, "cannot write", Status::Unwritable),
-    }
-}
-
-/// Reports that the grammar has no rule of that name.
-fn no_rule<E: Write>(err: &mut Output<E>, rule: &str) -> RunExit
-    ensures status { result.status ≡ 1 }
-    ensures tells { WritesLine (codes "the grammar has no rule " ++ rule.now) result.write_result
-        (E.contents err.old.writer) (E.contents err.new.writer) }
-    ensures told { IsOk result.write_result → err.new.refused ≡ err.old.refused }
-    ensures refused_line { IsErr result.write_result → err.new.refused ≡ true }
-{
-    let write_result = err.write_line(&["the grammar has no rule ", rule]);
-    RunExit {
-        status: Status::Found.code(),
-        write_result,
     }
 }
 

@@ -4,7 +4,7 @@ use Rattle.meta_base.specs.Language.Expression.{Grammar}
 use Rattle.matcher_program.specs.Programs.{grammar_of}
 use Rattle.pest_run.specs.Outcomes.{IsOutcome, stopped_outcome}
 use Rattle.pest_run.specs.declared.outcomes.Outcome.{Outcome}
-use Rattle.pest_run.proofs.Came.{at_character, failed, stopped, unfit}
+use Rattle.pest_run.proofs.Came.{at_character, failed, stopped, unfit, unknown}
 use Rattle.pest_run.proofs.outcomes.outcome_of.Goals as goal
 
 pub returns-in-Ok-expected_at : goal.returns-in-Ok-expected_at
