@@ -46,7 +46,7 @@ failed g ps rule text format place names is.Bound fits f a t = absurd t
 failed g ps rule text format place names is.Memory fits f a t = tt
 
 -- what is told of a name that no rule has
-pub unknown : (g : Grammar) (rule text : List ℕ) (format : Format) (o : Outcome) → HasNoRule g rule → IsNoRuleReport rule o
+pub unknown : (g : Grammar) (rule text : List ℕ) (format : Format) (o : Outcome) → HasNoRule g rule → IsNoRuleReport g rule o
     → IsOutcome g rule text format o
 unknown g rule text format (is.Shown lines) h t = absurd t
 unknown g rule text format (is.Failed report) h t = absurd t

@@ -18,7 +18,7 @@ use Rattle.meta_matcher.specs.Answers.{start_of}
 use Rattle.tool_support.specs.Escapes.{escaped_lines}
 use Rattle.pest_run.specs.Messages.{no_rule_text}
 use Rattle.pest_run.specs.Outcomes.{IsOutcome, IsShown}
-use Rattle.pest_run.specs.Written.{AreMatched, AreRun, PrintsTrees, ReportsReason, ReportsStop, WritesLine, empty_stack, no_match, no_rule, refused, too_many_steps, unknown_name, wide_bound}
+use Rattle.pest_run.specs.Written.{AreMatched, AreRun, PrintsTrees, ReportsReason, ReportsRefusal, ReportsStop, WritesLine, empty_stack, no_match, no_rule, refused, too_many_steps, unknown_name, wide_bound}
 use Rattle.pest_run.specs.declared.arguments.Format.{Format}
 use Rattle.pest_run.specs.declared.arguments.RuleForm.{RuleForm}
 use Rattle.pest_run.specs.declared.arguments.RuleForm.TheVariants as form_is
@@ -26,10 +26,10 @@ use Rattle.pest_run.specs.declared.outcomes.Outcome.{Outcome}
 use Rattle.pest_run.specs.declared.outcomes.Outcome.TheVariants as is
 
 -- two statuses in one
-apart : (n a b : ℕ) → n ≡ a → n ≡ b → a + 1 ≤ b → ⊥
+pub apart : (n a b : ℕ) → n ≡ a → n ≡ b → a + 1 ≤ b → ⊥
 apart n a b e f h = omega (arith, e, f, h)
 
-neither : (n k : ℕ) → (n ≡ 0) ⊎ (n ≡ 4) → n ≡ k → k ≢ 0 → k ≢ 4 → ⊥
+pub neither : (n k : ℕ) → (n ≡ 0) ⊎ (n ≡ 4) → n ≡ k → k ≢ 0 → k ≢ 4 → ⊥
 neither n k (inl z) e f h = f (sym e ∙ z)
 neither n k (inr z) e f h = h (sym e ∙ z)
 
@@ -80,7 +80,7 @@ tells (is.Failed report) grammar rule text format form rules told status old_out
     record { message = string_bytes report; reason = no_match rules (string_bytes report) a i; line = e.1 }
 tells (is.NoRule said) grammar rule text format form rules told status old_out new_out old new a i e one =
     let P : List ℕ → Type 0 = λ t. WritesLine t told old new in
-    record { message = no_rule_text rule; reason = no_rule rules a i.0; line = subst P i.1 e.1 }
+    record { message = no_rule_text rules rule; reason = no_rule rules a i.0; line = subst P i.1 e.1 }
 tells is.OutOfSteps grammar rule text format form rules told status old_out new_out old new a i e one = absurd (apart status 1 5 one e.0 (omega arith))
 tells is.EmptyStack grammar rule text format form rules told status old_out new_out old new a i e one = absurd (apart status 1 5 one e.0 (omega arith))
 tells is.UnknownName grammar rule text format form rules told status old_out new_out old new a i e one = absurd (apart status 1 5 one e.0 (omega arith))
@@ -100,16 +100,22 @@ stops is.UnknownName grammar rule text format form rules told status old_out new
 stops is.Bound grammar rule text format form rules told status old_out new_out old new a i e five = record { rules = rules; are = a; message = codes "a range of the grammar has a bound that is no character"; stop = wide_bound i; line = e.1 }
 stops is.Memory grammar rule text format form rules told status old_out new_out old new a i e five = absurd (apart status 2 5 e five (omega arith))
 
--- where there is a text, the outcome was a refusal, there is a reason for it, and the text reports it
-pub refusal : {X Y E : Type 0} (form : RuleForm) (grammar rule text : List ℕ) (outcome : Result X Fault) (answer : Result X Report) (message : String Global) (told : Result Y E) (old new : Option (List ℕ))
+-- where there is a text, the outcome was a refusal, and the text reports it
+pub refusal : {X Y E : Type 0} (grammar : List ℕ) (outcome : Result X Fault) (answer : Result X Report) (message : String Global) (told : Result Y E) (old new : Option (List ℕ))
     → IfErr outcome (IsRefusal grammar) → IfOk outcome (λ v. answer ≡ Ok v) → IfErr outcome (λ fault. IsErrAnd answer (IsReportOf fault))
-    → answer ≡ Err (report_is.Text message) → WritesLine (escaped_lines (string_bytes message)) told old new → ReportsReason form grammar rule text told old new
-refusal form grammar rule text (Ok v) answer message told old new r a b e line = cc
-refusal form grammar rule text (Err (fault_is.Memory m)) answer message told old new r a b e line = let said = rw e at b in cc
-refusal form grammar rule text (Err (fault_is.Grammar errors)) answer message told old new r a b e line =
+    → answer ≡ Err (report_is.Text message) → WritesLine (escaped_lines (string_bytes message)) told old new → ReportsRefusal grammar told old new
+refusal grammar (Ok v) answer message told old new r a b e line = cc
+refusal grammar (Err (fault_is.Memory m)) answer message told old new r a b e line = let said = rw e at b in cc
+refusal grammar (Err (fault_is.Grammar errors)) answer message told old new r a b e line =
     let P : List ℕ → Type 0 = λ t. WritesLine (escaped_lines t) told old new in
     let said : string_bytes message ≡ report_text errors.items = rw e at b in
-    record { message = escaped_lines (report_text errors.items); reason = refused errors.items r; line = subst P said line }
+    record { errors = errors.items; refused = r; line = subst P said line }
+
+-- a refusal is a reason
+pub refusal_is_reason : {X E : Type 0} (form : RuleForm) (grammar rule text : List ℕ) (told : Result X E) (old new : Option (List ℕ))
+    → ReportsRefusal grammar told old new → ReportsReason form grammar rule text told old new
+refusal_is_reason form grammar rule text told old new r =
+    record { message = escaped_lines (report_text r.errors); reason = refused r.errors r.refused; line = r.line }
 
 -- where there is a value, the outcome was that value
 pub value : {X : Type 0} (outcome : Result X Fault) (answer : Result X Report) (x : X) (P : X → Type 0) → IfOk outcome P → IfOk outcome (λ v. answer ≡ Ok v) → IfErr outcome (λ fault. IsErrAnd answer (IsReportOf fault)) → answer ≡ Ok x → P x

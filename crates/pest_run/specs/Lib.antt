@@ -1,4 +1,6 @@
+pub mod RuleNames
 pub mod Messages
 pub mod Outcomes
 pub mod Written
 pub mod Ends
+pub mod Listing

@@ -95,17 +95,18 @@ IsFailureReport text place names is.Memory = ⊤
 IsFailureReport text place names _ = ⊥
 
 -- the outcome says that no rule has the name, or reports an allocation failure
-abbrev pub IsNoRuleReport : List ℕ → Outcome → Type 0
-IsNoRuleReport rule (is.NoRule message) = string_bytes message ≡ no_rule_text rule
-IsNoRuleReport rule is.Memory = ⊤
-IsNoRuleReport rule _ = ⊥
+abbrev pub IsNoRuleReport : Grammar → List ℕ → Outcome → Type 0
+IsNoRuleReport g rule (is.NoRule message) = string_bytes message ≡ no_rule_text g rule
+IsNoRuleReport g rule is.Memory = ⊤
+IsNoRuleReport g rule _ = ⊥
 
 -- the outcome is that of the rule on the text, or says why the rules can't be run; an allocation failure is
 -- not constrained
 abbrev pub IsOutcome : Grammar → List ℕ → List ℕ → Format → Outcome → Type 0
 IsOutcome g rule text format (is.Shown lines) = IsShown g rule text format (string_bytes lines)
 IsOutcome g rule text format (is.Failed report) = HasFailed g rule text (string_bytes report)
-IsOutcome g rule text format (is.NoRule message) = HasNoRule g rule × (string_bytes message ≡ no_rule_text rule)
+IsOutcome g rule text format (is.NoRule message) =
+    HasNoRule g rule × (string_bytes message ≡ no_rule_text g rule)
 IsOutcome g rule text format is.OutOfSteps = TakesTooManySteps g rule text
 IsOutcome g rule text format is.EmptyStack = HasNoOutcome g rule text
 IsOutcome g rule text format is.UnknownName = CallsUnknownName g

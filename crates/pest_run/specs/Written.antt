@@ -16,7 +16,7 @@ use Rattle.pest_run.specs.Outcomes.{CallsUnknownName, HasFailed, HasNoOutcome, H
 use Rattle.pest_run.specs.declared.arguments.Format.{Format}
 use Rattle.pest_run.specs.declared.arguments.RuleForm.{RuleForm}
 use Rattle.pest_run.specs.declared.arguments.RuleForm.TheVariants as form_is
-use Rattle.pest_run.specs.declared.run.Source.{Source}
+use Rattle.pest_run.specs.declared.sources.Source.{Source}
 
 -- the file could be read, and is text
 abbrev pub IsReadable : Source → Type 0
@@ -42,6 +42,13 @@ pub record ReportsUnread {X E : Type 0} (grammar text : Source) (written : Resul
   pub given : (source ≡ grammar) ⊎ (source ≡ text)
   pub unreadable : IsReadable source → ⊥
   pub line : WritesUnread source written old new
+
+-- the grammar is refused, and the report is the line
+pub record ReportsRefusal {X E : Type 0} (grammar : List ℕ) (written : Result X E)
+    (old new : Option (List ℕ)) : Type 0 where
+  pub errors : List (Error Rule)
+  pub refused : IsRefusedWith grammar errors
+  pub line : WritesLine (escaped_lines (report_text errors)) written old new
 
 -- the rules that the optimizer returns for a grammar
 pub record AreAnswered (grammar : List ℕ) (rules : Grammar) : Type 0 where
@@ -77,7 +84,7 @@ pub data IsReason (form : RuleForm) (grammar rule text : List ℕ) : List ℕ �
   refused : (errors : List (Error Rule)) → IsRefusedWith grammar errors
       → IsReason form grammar rule text (escaped_lines (report_text errors))
   no_rule : (rules : Grammar) → AreRun form grammar rules → HasNoRule rules rule
-      → IsReason form grammar rule text (no_rule_text rule)
+      → IsReason form grammar rule text (no_rule_text rules rule)
   no_match : (rules : Grammar) (report : List ℕ) → AreRun form grammar rules
       → HasFailed rules rule text report → IsReason form grammar rule text report
 

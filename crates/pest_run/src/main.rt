@@ -4,15 +4,22 @@
 ghost use Rattle.std.specs.Prelude.{◌≡◌, ◌≢◌, ◌≤◌, ◌⊎◌, IfOk, None};
 ghost use Rattle.clap.specs.Values.{kind_of};
 ghost use Rattle.clap.specs.declared.error.kind.ErrorKind.TheVariants.{DisplayHelp, DisplayVersion};
+ghost use Rattle.pest_run.specs.Listing.{ListsRules};
 ghost use Rattle.pest_run.specs.Written.{IsReadable, PrintsTrees};
 
 mod arguments;
+mod ends;
+mod listing;
 mod messages;
 mod outcomes;
+mod rule_names;
 mod run;
+mod sources;
 
-use arguments::{command, form_of, format_of};
-use run::{Request, Source, run_files};
+use arguments::{asks_for_rules, command, form_of, format_of};
+use listing::list_file;
+use run::{Request, run_files};
+use sources::Source;
 use std::alloc::AllocError;
 use std::env;
 use std::process::ExitCode;
@@ -52,6 +59,19 @@ fn match_files(
     exit.status
 }
 
+/// Lists the rules of a grammar with the process's own output, and returns the status.
+fn list_names(rt: &HostRuntime, grammar: &Source<'_>) -> u8
+    ensures known { result ≤ 4 }
+    ensures read { result ≢ 3 → IsReadable grammar.now }
+    ensures unread { IsReadable grammar.now → result ≢ 3 }
+    ensures listed { result ≡ 0 → ListsRules grammar.now.bytes.items None None }
+{
+    let mut out = Output::new(rt.stdout());
+    let mut err = Output::new(rt.stderr());
+    let exit = list_file(rt.alloc(), grammar, &mut out, &mut err);
+    exit.status
+}
+
 /// Prints help, the version or what is wrong with a command line, and returns the status.
 fn print_usage(rt: &HostRuntime, error: &clap::Error) -> Result<Status, AllocError>
     ensures wrong { IfOk result (λ status. kind_of error.now ≢ DisplayHelp → kind_of error.now ≢ DisplayVersion
@@ -84,6 +104,9 @@ fn answer(rt: &HostRuntime) -> Result<u8, clap::Error> {
         Err(error) => return Ok(print_usage(rt, &error)?.code()),
     };
     let grammar = source(rt, matches.get_str("GRAMMAR").unwrap_or(""))?;
+    if asks_for_rules(&matches) {
+        return Ok(list_names(rt, &grammar));
+    }
     let text = source(rt, matches.get_str("TEXT").unwrap_or("-"))?;
     let request = Request {
         rule: matches.get_str("RULE").unwrap_or(""),

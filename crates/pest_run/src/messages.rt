@@ -1,18 +1,49 @@
-//! Messages about a rule, a text and files. A character that a terminal obeys is shown as an escape.
+//! Messages, with escapes of hidden characters.
 ghost use Rattle.std.specs.Prelude.{◌≡◌, ◌==◌, ◌++◌, IfOk, OnOk, encode_utf8_all, length, string_bytes};
 ghost use Rattle.std.specs.Str.{chars};
 ghost use Rattle.meta_matcher.specs.ExpectedNames.{name_texts};
-ghost use Rattle.pest_run.specs.Messages.{failure_message, name_separator, no_rule_text, other_names, unread_text};
+ghost use Rattle.meta_ast.specs.Optimized.{optimized_rules_of};
+ghost use Rattle.pest_run.specs.Messages.{failure_message, name_separator, no_rule_text, other_names, suggestion, unread_text};
 
+use crate::rule_names::near_names;
+use meta_ast::optimized::OptimizedRule;
 use std::alloc::{AllocError, Global};
 use tool_support::escape::escape;
 
-/// Returns the message that a grammar has no rule of a name. The only error is an allocation failure.
-pub fn no_rule_message(alloc: Global, name: &str) -> Result<String, AllocError>
-    ensures { IfOk result (λ message. string_bytes message ≡ no_rule_text name.now) }
+/// The greatest number of names that a message suggests.
+const SUGGESTED: usize = 5;
+
+/// Returns the message that rules have no name, with the first of their names that are near it. The only error
+/// is an allocation failure.
+pub fn no_rule_message(
+    alloc: Global,
+    rules: &[OptimizedRule],
+    name: &str,
+) -> Result<String, AllocError>
+    ensures { IfOk result (λ message. string_bytes message
+        ≡ no_rule_text (optimized_rules_of rules.now) name.now) }
 {
     let shown = escape(alloc, name)?;
-    format!(in alloc; "the grammar has no rule {shown}")
+    let mut message = format!(in alloc; "the grammar has no rule {shown}")?;
+    let mut near = near_names(alloc, rules, name)?;
+    near.truncate(SUGGESTED);
+    add_suggestion(&mut message, &near)?;
+    Ok(message)
+}
+
+/// Adds the question whether one of some names is meant, if there is any.
+fn add_suggestion(message: &mut String, names: &[&str]) -> Result<(), AllocError>
+    ensures { OnOk result (string_bytes message.new
+        ≡ string_bytes message.old ++ suggestion (name_texts names.now)) }
+{
+    match names.split_first() {
+        None => Ok(()),
+        Some((first, others)) => {
+            add_name(message, "; did you mean ", first)?;
+            add_others(message, others)?;
+            message.push_str("?")
+        }
+    }
 }
 
 /// Returns the message that a file can't be read, and why. The only error is an allocation failure.

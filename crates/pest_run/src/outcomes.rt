@@ -9,7 +9,6 @@ ghost use Rattle.meta_syntax.specs.Entries.{entries_of};
 ghost use Rattle.std.specs.Str.{IsCharBoundary};
 ghost use Rattle.matcher_support.specs.Shown.{shown};
 ghost use Rattle.tool_support.specs.Escapes.{escaped_lines};
-ghost use Rattle.pest_run.specs.Messages.{no_rule_text};
 ghost use Rattle.pest_run.specs.Outcomes.{IsFailureReport, IsNoRuleReport, IsOutcome, failure_text, stopped_outcome, trees_text, unfit_outcome};
 
 use crate::arguments::Format;
@@ -72,14 +71,14 @@ pub fn outcome_of(
             Ok(lines) => Outcome::Shown(lines),
             Err(_) => Outcome::Memory,
         },
-        Err(Refusal::UnknownRule(_)) => no_rule_outcome(alloc, rule),
+        Err(Refusal::UnknownRule(_)) => no_rule_outcome(alloc, rules, rule),
         Err(Refusal::NoMatch(place)) => {
             match matcher
                 .interpreter
                 .expected_at(alloc, rule, text, place, STEPS)
             {
                 Ok(names) => failed_outcome(alloc, text, place, &names),
-                Err(Refusal::UnknownRule(_)) => no_rule_outcome(alloc, rule),
+                Err(Refusal::UnknownRule(_)) => no_rule_outcome(alloc, rules, rule),
                 Err(Refusal::NoMatch(_)) => unreachable!(),
                 Err(Refusal::Stopped(stop)) => stopped_outcome(stop),
             }
@@ -145,10 +144,10 @@ fn failed_outcome(alloc: Global, text: &str, place: usize, names: &[&str]) -> Ou
 }
 
 /// Returns the outcome of a name that no rule has.
-fn no_rule_outcome(alloc: Global, rule: &str) -> Outcome
-    ensures { IsNoRuleReport rule.now result }
+fn no_rule_outcome(alloc: Global, rules: &[OptimizedRule], rule: &str) -> Outcome
+    ensures { IsNoRuleReport (optimized_rules_of rules.now) rule.now result }
 {
-    match no_rule_message(alloc, rule) {
+    match no_rule_message(alloc, rules, rule) {
         Ok(message) => Outcome::NoRule(message),
         Err(_) => Outcome::Memory,
     }
