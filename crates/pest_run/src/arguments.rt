@@ -89,7 +89,9 @@ pub fn format_of(matches: &ArgMatches<'_>) -> Format
 pub fn form_of(matches: &ArgMatches<'_>) -> RuleForm
     ensures optimized { one_text (found_of matches.now) (codes "optimized") ≡ Some (codes "true")
         → result ≡ RuleForm.Optimized }
-    ensures written { one_text (found_of matches.now) (codes "optimized") ≡ None
+    ensures written { one_text (found_of matches.now) (codes "optimized") ≡ Some (codes "false")
+        → result ≡ RuleForm.Written }
+    ensures missing { one_text (found_of matches.now) (codes "optimized") ≡ None
         → result ≡ RuleForm.Written }
 {
     if matches.get_flag("optimized") {
@@ -103,7 +105,9 @@ pub fn form_of(matches: &ArgMatches<'_>) -> RuleForm
 pub fn asks_for_rules(matches: &ArgMatches<'_>) -> bool
     ensures asked { one_text (found_of matches.now) (codes "list-rules") ≡ Some (codes "true")
         → result ≡ true }
-    ensures unasked { one_text (found_of matches.now) (codes "list-rules") ≡ None → result ≡ false }
+    ensures unasked { one_text (found_of matches.now) (codes "list-rules") ≡ Some (codes "false")
+        → result ≡ false }
+    ensures missing { one_text (found_of matches.now) (codes "list-rules") ≡ None → result ≡ false }
 {
     matches.get_flag("list-rules")
 }
