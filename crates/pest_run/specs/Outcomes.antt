@@ -47,7 +47,8 @@ pub record IsShown (g : Grammar) (rule text : List ℕ) (format : Format) (lines
 -- characters
 abbrev pub failure_text : List ℕ → ℕ → List Text → List ℕ
 failure_text text place names =
-    escaped_lines (printed_error (failure_message names) (Pos (line_column text place)) (printed_line text place))
+    let message = failure_message names in
+    escaped_lines (printed_error message (Pos (line_column text place)) (printed_line text place))
 
 -- the rule, called at the start of the text, fails, and the report shows the furthest position of a failure,
 -- and the names that are expected there, each once

@@ -32,7 +32,8 @@ WritesLine message written old new = OnOk written (Appends old new (message ++ 1
 
 -- the line says that the file can't be read and why, or that an allocation failed
 abbrev pub WritesUnread : {X E : Type 0} → Source → Result X E → Option (List ℕ) → Option (List ℕ) → Type 0
-WritesUnread source written old new = WritesLine (unread_text source.name.now (why_unread source)) written old new
+WritesUnread source written old new =
+    WritesLine (unread_text source.name.now (why_unread source)) written old new
     ⊎ WritesLine (codes "cannot read a file: out of memory") written old new
 
 -- a file of the two can't be read, and the line says so

@@ -57,9 +57,9 @@ pub fn list_file<W: Write, E: Write>(
 
 /// Prints the names of a grammar's rules to `out`, a line each, in the order of the grammar (0).
 ///
-/// Otherwise one text with a line break at its end goes to `err`: the report of a grammar that is refused (1);
-/// `out of memory` (2); `cannot write` where `out` refuses a write (4). A write that `err` refuses changes no
-/// status.
+/// Otherwise one text with a line break at its end goes to `err`: the report of a grammar that is refused
+/// (1); `out of memory` (2); `cannot write` where `out` refuses a write (4). A write that `err` refuses
+/// changes no status.
 pub fn list_rules<W: Write, E: Write>(
     alloc: Global,
     grammar: &str,

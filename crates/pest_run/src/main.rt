@@ -74,8 +74,8 @@ fn list_names(rt: &HostRuntime, grammar: &Source<'_>) -> u8
 
 /// Prints help, the version or what is wrong with a command line, and returns the status.
 fn print_usage(rt: &HostRuntime, error: &clap::Error) -> Result<Status, AllocError>
-    ensures wrong { IfOk result (λ status. kind_of error.now ≢ DisplayHelp → kind_of error.now ≢ DisplayVersion
-        → status ≡ Status.Unreadable) }
+    ensures wrong { IfOk result (λ status. kind_of error.now ≢ DisplayHelp
+        → kind_of error.now ≢ DisplayVersion → status ≡ Status.Unreadable) }
     ensures asked { IfOk result (λ status. status ≡ Status.Done
         → (kind_of error.now ≡ DisplayHelp) ⊎ (kind_of error.now ≡ DisplayVersion)) }
 {

@@ -13,8 +13,8 @@ use tool_support::escape::escape;
 /// The greatest number of names that a message suggests.
 const SUGGESTED: usize = 5;
 
-/// Returns the message that rules have no name, with the first of their names that are near it. The only error
-/// is an allocation failure.
+/// Returns the message that rules have no name, with the first of their names that are near it. The only
+/// error is an allocation failure.
 pub fn no_rule_message(
     alloc: Global,
     rules: &[OptimizedRule],

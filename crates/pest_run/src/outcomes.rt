@@ -104,7 +104,8 @@ fn lines_of(
     }
 }
 
-/// Returns trees as lines of text, with escapes of hidden characters. The only error is an allocation failure.
+/// Returns trees as lines of text, with escapes of hidden characters. The only error is an allocation
+/// failure.
 fn shown_lines(alloc: Global, text: &str, entries: &[Entry<'_>]) -> Result<String, AllocError>
     ensures { IfOk result (λ lines. (trees : Trees) → seen entries.now ≡ entries_of 0 trees
         → string_bytes lines ≡ escaped_lines (shown text.now 0 trees)) }

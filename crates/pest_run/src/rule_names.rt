@@ -31,8 +31,8 @@ fn add_line(lines: &mut String, name: &str) -> Result<(), AllocError>
     lines.push_str("\n")
 }
 
-/// Returns the names of rules that are near a name, in the order of the rules. The only error is an allocation
-/// failure.
+/// Returns the names of rules that are near a name, in the order of the rules. The only error is an
+/// allocation failure.
 pub fn near_names<'r>(
     alloc: Global,
     rules: &'r [OptimizedRule],
@@ -51,8 +51,8 @@ pub fn near_names<'r>(
     Ok(near)
 }
 
-/// Returns whether a name differs from another in the case of letters alone, or by edits, of which swapping two
-/// letters is one, at most a third of its length. The only error is an allocation failure.
+/// Returns whether a name differs from another in the case of letters alone, or by edits, of which swapping
+/// two letters is one, at most a third of its length. The only error is an allocation failure.
 fn is_near(alloc: Global, name: &str, other: &str) -> Result<bool, AllocError>
     ensures { IfOk result (λ near. near ≡ is_near name.now other.now) }
 {
