@@ -68,8 +68,7 @@ fn list_names(rt: &HostRuntime, grammar: &Source<'_>) -> u8
 {
     let mut out = Output::new(rt.stdout());
     let mut err = Output::new(rt.stderr());
-    let exit = list_file(rt.alloc(), grammar, &mut out, &mut err);
-    exit.status
+    list_file(rt.alloc(), grammar, &mut out, &mut err).status
 }
 
 /// Prints help, the version or what is wrong with a command line, and returns the status.
