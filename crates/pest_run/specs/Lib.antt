@@ -1,3 +1,4 @@
+pub mod Json
 pub mod RuleNames
 pub mod Messages
 pub mod Outcomes

@@ -23,6 +23,7 @@ use Rattle.matcher_support.specs.Sets.{has_set, is_in_property}
 use Rattle.matcher_support.specs.Shown.{shown}
 use Rattle.matcher_support.specs.Values.{answer_data}
 use Rattle.tool_support.specs.Escapes.{escaped_lines}
+use Rattle.pest_run.specs.Json.{escaped_json}
 use Rattle.pest_run.specs.Messages.{failure_message, no_rule_text}
 use Rattle.pest_run.specs.declared.arguments.Format.{Format}
 use Rattle.pest_run.specs.declared.arguments.Format.TheVariants as format_is
@@ -30,11 +31,12 @@ use Rattle.pest_run.specs.declared.outcomes.Outcome.{Outcome}
 use Rattle.pest_run.specs.declared.outcomes.Outcome.TheVariants as is
 use Rattle.serde_json.specs.Written.{compact_text}
 
--- trees of a text, and where they end, as text with escapes of hidden characters, or as a line of JSON
+-- trees of a text, and where they end, as text or as a line of JSON, with escapes of hidden characters
 abbrev pub trees_text : Format → List ℕ → ℕ → Trees → List ℕ
 trees_text format_is.Text text end_ trees = escaped_lines (shown text 0 trees)
 trees_text format_is.Lines text end_ trees = lines_of 0 trees
-trees_text format_is.Json text end_ trees = compact_text (answer_data text end_ trees) ++ codes "\n"
+trees_text format_is.Json text end_ trees =
+    escaped_json (compact_text (answer_data text end_ trees)) ++ codes "\n"
 
 -- the rule, called at the start of the text, succeeds, and the lines show its trees
 pub record IsShown (g : Grammar) (rule text : List ℕ) (format : Format) (lines : List ℕ) : Type 0 where

@@ -52,12 +52,13 @@ pub fn command<'a>(alloc: Global) -> Result<Command<'a>, AllocError> {
         .default_value("-")
         .help("The file of the text; - is standard input");
     Command::new(alloc, "pest-run")
+        .bin_name("pest-run")?
         .version(VERSION)
         .about("Matches a text by a rule of a pest grammar, and prints the trees")
         .after_help(
             "status: 0 the trees or the names were printed, 1 the grammar is refused, has no such rule, \
-             or does not match the text, 2 out of memory, 3 a file or the command line can't be read, 4 output \
-             refused, 5 the run was stopped",
+             or does not match the text, 2 out of memory, 3 a file or the command line can't be read, \
+             4 output refused, 5 the run was stopped",
         )
         .arg(format)?
         .arg(optimized)?

@@ -9,6 +9,7 @@ ghost use Rattle.pest_run.specs.Written.{IsReadable, PrintsTrees};
 
 mod arguments;
 mod ends;
+mod json;
 mod listing;
 mod messages;
 mod outcomes;

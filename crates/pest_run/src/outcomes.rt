@@ -12,6 +12,7 @@ ghost use Rattle.tool_support.specs.Escapes.{escaped_lines};
 ghost use Rattle.pest_run.specs.Outcomes.{IsFailureReport, IsNoRuleReport, IsOutcome, failure_text, stopped_outcome, trees_text, unfit_outcome};
 
 use crate::arguments::Format;
+use crate::json::escape_json;
 use crate::messages::{failure_message, no_rule_message};
 use matcher_engine::matcher::Matcher;
 use matcher_program::compile::Unfit;
@@ -124,7 +125,8 @@ fn json_line(
     ensures { IfOk result (λ line. (trees : Trees) → seen entries.now ≡ entries_of 0 trees
         → string_bytes line ≡ trees_text Format.Json text.now end trees) }
 {
-    let mut line = tree_json(alloc, text, entries, end)?;
+    let json = tree_json(alloc, text, entries, end)?;
+    let mut line = escape_json(alloc, json.as_str())?;
     line.push_str("\n")?;
     Ok(line)
 }
