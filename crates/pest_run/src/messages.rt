@@ -23,36 +23,42 @@ pub fn no_rule_message(
     ensures { IfOk result (λ message. string_bytes message
         ≡ no_rule_text (optimized_rules_of rules.now) name.now) }
 {
-    let shown = escape(alloc, name)?;
-    let mut message = format!(in alloc; "the grammar has no rule {shown}")?;
     let mut near = near_names(alloc, rules, name)?;
     near.truncate(SUGGESTED);
-    add_suggestion(&mut message, &near)?;
+    let question = suggest(alloc, &near)?;
+    let shown = escape(alloc, name)?;
+    let mut message = String::from_str(alloc, "the grammar has no rule ")?;
+    message.push_str(shown.as_str())?;
+    message.push_str(question.as_str())?;
     Ok(message)
 }
 
-/// Adds the question whether one of some names is meant, if there is any.
-fn add_suggestion(message: &mut String, names: &[&str]) -> Result<(), AllocError>
-    ensures { OnOk result (string_bytes message.new
-        ≡ string_bytes message.old ++ suggestion (name_texts names.now)) }
+/// Returns the question whether one of some names is meant, if there is any. The only error is an allocation
+/// failure.
+fn suggest(alloc: Global, names: &[&str]) -> Result<String, AllocError>
+    ensures { IfOk result (λ question. string_bytes question ≡ suggestion (name_texts names.now)) }
 {
-    match names.split_first() {
-        None => Ok(()),
-        Some((first, others)) => {
-            add_name(message, "; did you mean ", first)?;
-            add_others(message, others)?;
-            message.push_str("?")
-        }
+    let mut question = String::new(alloc);
+    if let Some((first, others)) = names.split_first() {
+        question.push_str("; did you mean ")?;
+        add_name(&mut question, "", first)?;
+        add_others(&mut question, others)?;
+        question.push_str("?")?;
     }
+    Ok(question)
 }
 
 /// Returns the message that a file can't be read, and why. The only error is an allocation failure.
 pub fn unread_message(alloc: Global, name: &str, why: &str) -> Result<String, AllocError>
     ensures { IfOk result (λ message. string_bytes message ≡ unread_text name.now why.now) }
 {
-    let name = escape(alloc, name)?;
-    let why = escape(alloc, why)?;
-    format!(in alloc; "cannot read {name}: {why}")
+    let shown_name = escape(alloc, name)?;
+    let shown_why = escape(alloc, why)?;
+    let mut message = String::from_str(alloc, "cannot read ")?;
+    message.push_str(shown_name.as_str())?;
+    message.push_str(": ")?;
+    message.push_str(shown_why.as_str())?;
+    Ok(message)
 }
 
 /// Returns the message for a text where these names are expected, in pest's words. The only error is an

@@ -1,9 +1,8 @@
 //! Names of rules, and near names.
-ghost use Rattle.std.specs.Prelude.{◌≡◌, ◌++◌, IfOk, OnOk, encode_utf8_all, string_bytes};
-ghost use Rattle.std.specs.Str.{chars};
+ghost use Rattle.std.specs.Prelude.{◌≡◌, ◌++◌, IfOk, OnOk, codes, string_bytes};
 ghost use Rattle.meta_ast.specs.Optimized.{optimized_rules_of};
 ghost use Rattle.meta_matcher.specs.ExpectedNames.{name_texts};
-ghost use Rattle.pest_run.specs.RuleNames.{is_near, name_line, name_lines, near_names};
+ghost use Rattle.pest_run.specs.RuleNames.{is_near, name_lines, near_names};
 
 use meta_ast::optimized::OptimizedRule;
 use std::alloc::{AllocError, Global};
@@ -25,7 +24,7 @@ pub fn name_lines(alloc: Global, rules: &[OptimizedRule]) -> Result<String, Allo
 
 /// Adds a name and a line break.
 fn add_line(lines: &mut String, name: &str) -> Result<(), AllocError>
-    ensures { OnOk result (string_bytes lines.new ≡ string_bytes lines.old ++ name_line (chars name.now)) }
+    ensures { OnOk result (string_bytes lines.new ≡ string_bytes lines.old ++ name.now ++ codes "\n") }
 {
     lines.push_str(name)?;
     lines.push_str("\n")

@@ -1,6 +1,6 @@
 //! The files that the program reads.
 ghost use Rattle.std.specs.Prelude.{◌≡◌, ◌↔◌, IfSome, IsErr, IsOk, IsSome, true};
-ghost use Rattle.pest_run.specs.Written.{IsReadable, WritesUnread};
+ghost use Rattle.pest_run.specs.Written.{IsReadable, WritesUnread, why_unread};
 
 use crate::ends::{RunExit, exit_with};
 use crate::messages::unread_message;
@@ -28,6 +28,16 @@ pub fn text_of<'s>(source: &'s Source<'_>) -> Option<&'s str>
     }
 }
 
+/// Returns why a file can't be read.
+fn why_unread<'s>(source: &'s Source<'_>) -> &'s str
+    ensures { result.now ≡ why_unread source.entry.now }
+{
+    match &source.why {
+        Some(why) => why.as_str(),
+        None => "it is not UTF-8",
+    }
+}
+
 /// Reports a file that can't be read.
 pub fn unreadable<E: Write>(alloc: Global, source: &Source<'_>, err: &mut Output<E>) -> RunExit
     ensures status { result.status ≡ 3 }
@@ -36,10 +46,7 @@ pub fn unreadable<E: Write>(alloc: Global, source: &Source<'_>, err: &mut Output
     ensures told { IsOk result.write_result → err.new.refused ≡ err.old.refused }
     ensures refused_line { IsErr result.write_result → err.new.refused ≡ true }
 {
-    let why = match &source.why {
-        Some(why) => why.as_str(),
-        None => "it is not UTF-8",
-    };
+    let why = why_unread(source);
     match unread_message(alloc, source.name, why) {
         Ok(message) => exit_with(err, message.as_str(), Status::Unreadable),
         Err(_) => exit_with(err, "cannot read a file: out of memory", Status::Unreadable),

@@ -30,7 +30,7 @@ returns-in-Err-NoMatch c =
     let program = c.in-Ok.matcher.interpreter.program in
     let why = c.in-Err-Stopped-expected_at.stop in
     let says = rw c.in-Err-Stopped-expected_at.field-0-is at c.in-Err-Stopped-expected_at.ensures.refused in
-    let same : c.stopped_outcome.result ≡ stopped_outcome why = rw c.in-Err-Stopped-expected_at.field-0-is at c.stopped_outcome.ensures in
+    let same : c.stopped_outcome.result ≡ stopped_outcome why = c.stopped_outcome.ensures in
     let P : Outcome → Type 0 = λ o. IsOutcome (optimized_rules_of c.args.rules.now) c.args.rule.now c.args.text.now c.args.format o in
     let Q : Grammar → Type 0 = λ g. IsOutcome g c.args.rule.now c.args.text.now c.args.format (stopped_outcome why) in
     subst P (sym same) (subst Q c.in-Ok.ensures.means (stopped (grammar_of program.rows.items) program.properties.items c.args.rule.now c.args.text.now c.args.format why c.in-Ok.ensures.fits says))
@@ -41,7 +41,7 @@ returns c =
     let program = c.in-Ok.matcher.interpreter.program in
     let why = c.in-Err-Stopped.stop in
     let says = rw c.in-Err-Stopped.field-0-is at c.in-Err-Stopped.ensures.refused in
-    let same : c.stopped_outcome-in-Err-Stopped.result ≡ stopped_outcome why = rw c.in-Err-Stopped.field-0-is at c.stopped_outcome-in-Err-Stopped.ensures in
+    let same : c.stopped_outcome-in-Err-Stopped.result ≡ stopped_outcome why = c.stopped_outcome-in-Err-Stopped.ensures in
     let P : Outcome → Type 0 = λ o. IsOutcome (optimized_rules_of c.args.rules.now) c.args.rule.now c.args.text.now c.args.format o in
     let Q : Grammar → Type 0 = λ g. IsOutcome g c.args.rule.now c.args.text.now c.args.format (stopped_outcome why) in
     subst P (sym same) (subst Q c.in-Ok.ensures.means (stopped (grammar_of program.rows.items) program.properties.items c.args.rule.now c.args.text.now c.args.format why c.in-Ok.ensures.fits says))

@@ -38,7 +38,7 @@ returns-in-Err-Text-clause-reason g c =
     let old = g.E.Write.contents c.args.err.now.writer in
     let new = g.E.Write.contents told.new.err.writer in
     let P : List ℕ → Type 0 = λ t. WritesLine (escaped_lines t) told.result.write_result old new in
-    let value = rw c.in-Err-Text.field-0-is at c.as_str.ensures.value in
+    let value = c.as_str.ensures.value in
     λ one. refusal_is_reason c.args.request.form c.args.grammar.now c.args.request.rule.now c.args.text.now told.result.write_result old new
     (refusal c.args.grammar.now parsed.result reported.result c.in-Err-Text.report told.result.write_result old new
     parsed.ensures.refused reported.ensures.value reported.ensures.report said (subst P value (told.ensures.tells one)))
