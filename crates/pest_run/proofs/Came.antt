@@ -23,7 +23,7 @@ use Rattle.meta_matcher.specs.ExpectedNames.{each_once, name_texts}
 use Rattle.matcher_program.specs.Programs.{Fits}
 use Rattle.matcher_program.specs.declared.form.Property.{Property}
 use Rattle.matcher_support.specs.Sets.{has_set, is_in_property}
-use Rattle.pest_run.specs.Outcomes.{IsFailureReport, IsOutcome, failure_text, stopped_outcome, unfit_outcome}
+use Rattle.pest_run.specs.Outcomes.{HasNoRule, IsFailureReport, IsNoRuleReport, IsOutcome, failure_text, stopped_outcome, unfit_outcome}
 use Rattle.pest_run.specs.declared.arguments.Format.{Format}
 use Rattle.pest_run.specs.declared.outcomes.Outcome.{Outcome}
 use Rattle.pest_run.specs.declared.outcomes.Outcome.TheVariants as is
@@ -38,12 +38,24 @@ failed g ps rule text format place names (is.Failed report) fits f a t =
     let told = a is_in_property fits in
     let same : name_texts names ≡ each_once (expected fails.0) = told.2 ∙ ap each_once (one_list g is_in_property place told.1 fails.0 ∙ ap (λ n. expected_at n fails.0) fails.1) in
     record { fails = fails.0; report_shows = t ∙ ap₂ (λ n ns. failure_text text n ns) fails.1 same }
-failed g ps rule text format place names is.NoRule fits f a t = absurd t
+failed g ps rule text format place names (is.NoRule message) fits f a t = absurd t
 failed g ps rule text format place names is.OutOfSteps fits f a t = absurd t
 failed g ps rule text format place names is.EmptyStack fits f a t = absurd t
 failed g ps rule text format place names is.UnknownName fits f a t = absurd t
 failed g ps rule text format place names is.Bound fits f a t = absurd t
 failed g ps rule text format place names is.Memory fits f a t = tt
+
+-- what is told of a name that no rule has
+pub unknown : (g : Grammar) (rule text : List ℕ) (format : Format) (o : Outcome) → HasNoRule g rule → IsNoRuleReport g rule o
+    → IsOutcome g rule text format o
+unknown g rule text format (is.Shown lines) h t = absurd t
+unknown g rule text format (is.Failed report) h t = absurd t
+unknown g rule text format (is.NoRule message) h t = (h, t)
+unknown g rule text format is.OutOfSteps h t = absurd t
+unknown g rule text format is.EmptyStack h t = absurd t
+unknown g rule text format is.UnknownName h t = absurd t
+unknown g rule text format is.Bound h t = absurd t
+unknown g rule text format is.Memory h t = tt
 
 -- the place of the failure is one of the text
 pub at_character : (g : Grammar) (ps : List Property) (n : Text) (text : List ℕ) (place : ℕ) → IsUtf8 text → Fits ps is_in_property → FailsAt g ps n text place

@@ -15,8 +15,10 @@ use Rattle.pest_meta.specs.declared.report.Report.TheVariants as report_is
 use Rattle.pest_run.specs.Ends.{EndsAs}
 use Rattle.matcher_support.specs.Sets.{is_in_property}
 use Rattle.meta_matcher.specs.Answers.{start_of}
+use Rattle.tool_support.specs.Escapes.{escaped_lines}
+use Rattle.pest_run.specs.Messages.{no_rule_text}
 use Rattle.pest_run.specs.Outcomes.{IsOutcome, IsShown}
-use Rattle.pest_run.specs.Written.{AreMatched, AreRun, PrintsTrees, ReportsReason, ReportsStop, WritesLine, empty_stack, no_match, no_rule, refused, too_many_steps, unknown_name, wide_bound}
+use Rattle.pest_run.specs.Written.{AreMatched, AreRun, PrintsTrees, ReportsReason, ReportsRefusal, ReportsStop, WritesLine, empty_stack, no_match, no_rule, refused, too_many_steps, unknown_name, wide_bound}
 use Rattle.pest_run.specs.declared.arguments.Format.{Format}
 use Rattle.pest_run.specs.declared.arguments.RuleForm.{RuleForm}
 use Rattle.pest_run.specs.declared.arguments.RuleForm.TheVariants as form_is
@@ -24,10 +26,10 @@ use Rattle.pest_run.specs.declared.outcomes.Outcome.{Outcome}
 use Rattle.pest_run.specs.declared.outcomes.Outcome.TheVariants as is
 
 -- two statuses in one
-apart : (n a b : ℕ) → n ≡ a → n ≡ b → a + 1 ≤ b → ⊥
+pub apart : (n a b : ℕ) → n ≡ a → n ≡ b → a + 1 ≤ b → ⊥
 apart n a b e f h = omega (arith, e, f, h)
 
-neither : (n k : ℕ) → (n ≡ 0) ⊎ (n ≡ 4) → n ≡ k → k ≢ 0 → k ≢ 4 → ⊥
+pub neither : (n k : ℕ) → (n ≡ 0) ⊎ (n ≡ 4) → n ≡ k → k ≢ 0 → k ≢ 4 → ⊥
 neither n k (inl z) e f h = f (sym e ∙ z)
 neither n k (inr z) e f h = h (sym e ∙ z)
 
@@ -57,12 +59,12 @@ matched form_is.Optimized grammar rule text format rules lines a i = record { ru
 -- where the status is 0, trees were printed
 pub prints : {X E : Type 0} (o : Outcome) (grammar rule text : List ℕ) (format : Format) (form : RuleForm) (rules : Grammar) (told : Result X E) (status : ℕ)
     (old_out new_out old new : Option (List ℕ)) → AreRun form grammar rules → IsOutcome rules rule text format o
-    → EndsAs o rule status told old_out new_out old new → status ≡ 0 → PrintsTrees form grammar rule text format old_out new_out
+    → EndsAs o status told old_out new_out old new → status ≡ 0 → PrintsTrees form grammar rule text format old_out new_out
 prints (is.Shown lines) grammar rule text format form rules told status old_out new_out old new a i e zero =
     let m = matched form grammar rule text format rules (string_bytes lines) a i in
     record { rules = m.rules; matched = m.matched; lines = string_bytes lines; shows = m.shows; gained = e.1 zero }
 prints (is.Failed report) grammar rule text format form rules told status old_out new_out old new a i e zero = absurd (apart status 0 1 zero e.0 (omega arith))
-prints is.NoRule grammar rule text format form rules told status old_out new_out old new a i e zero = absurd (apart status 0 1 zero e.0 (omega arith))
+prints (is.NoRule said) grammar rule text format form rules told status old_out new_out old new a i e zero = absurd (apart status 0 1 zero e.0 (omega arith))
 prints is.OutOfSteps grammar rule text format form rules told status old_out new_out old new a i e zero = absurd (apart status 0 5 zero e.0 (omega arith))
 prints is.EmptyStack grammar rule text format form rules told status old_out new_out old new a i e zero = absurd (apart status 0 5 zero e.0 (omega arith))
 prints is.UnknownName grammar rule text format form rules told status old_out new_out old new a i e zero = absurd (apart status 0 5 zero e.0 (omega arith))
@@ -72,12 +74,13 @@ prints is.Memory grammar rule text format form rules told status old_out new_out
 -- where it is 1, a reason was told
 pub tells : {X E : Type 0} (o : Outcome) (grammar rule text : List ℕ) (format : Format) (form : RuleForm) (rules : Grammar) (told : Result X E) (status : ℕ)
     (old_out new_out old new : Option (List ℕ)) → AreRun form grammar rules → IsOutcome rules rule text format o
-    → EndsAs o rule status told old_out new_out old new → status ≡ 1 → ReportsReason form grammar rule text told old new
+    → EndsAs o status told old_out new_out old new → status ≡ 1 → ReportsReason form grammar rule text told old new
 tells (is.Shown lines) grammar rule text format form rules told status old_out new_out old new a i e one = absurd (neither status 1 e.0 one (omega arith) (omega arith))
 tells (is.Failed report) grammar rule text format form rules told status old_out new_out old new a i e one =
     record { message = string_bytes report; reason = no_match rules (string_bytes report) a i; line = e.1 }
-tells is.NoRule grammar rule text format form rules told status old_out new_out old new a i e one =
-    record { message = codes "the grammar has no rule " ++ rule; reason = no_rule rules a i; line = e.1 }
+tells (is.NoRule said) grammar rule text format form rules told status old_out new_out old new a i e one =
+    let P : List ℕ → Type 0 = λ t. WritesLine t told old new in
+    record { message = no_rule_text rules rule; reason = no_rule rules a i.0; line = subst P i.1 e.1 }
 tells is.OutOfSteps grammar rule text format form rules told status old_out new_out old new a i e one = absurd (apart status 1 5 one e.0 (omega arith))
 tells is.EmptyStack grammar rule text format form rules told status old_out new_out old new a i e one = absurd (apart status 1 5 one e.0 (omega arith))
 tells is.UnknownName grammar rule text format form rules told status old_out new_out old new a i e one = absurd (apart status 1 5 one e.0 (omega arith))
@@ -87,26 +90,32 @@ tells is.Memory grammar rule text format form rules told status old_out new_out 
 -- where it is 5, why the matcher was stopped was told
 pub stops : {X E : Type 0} (o : Outcome) (grammar rule text : List ℕ) (format : Format) (form : RuleForm) (rules : Grammar) (told : Result X E) (status : ℕ)
     (old_out new_out old new : Option (List ℕ)) → AreRun form grammar rules → IsOutcome rules rule text format o
-    → EndsAs o rule status told old_out new_out old new → status ≡ 5 → ReportsStop form grammar rule text told old new
+    → EndsAs o status told old_out new_out old new → status ≡ 5 → ReportsStop form grammar rule text told old new
 stops (is.Shown lines) grammar rule text format form rules told status old_out new_out old new a i e five = absurd (neither status 5 e.0 five (omega arith) (omega arith))
 stops (is.Failed report) grammar rule text format form rules told status old_out new_out old new a i e five = absurd (apart status 1 5 e.0 five (omega arith))
-stops is.NoRule grammar rule text format form rules told status old_out new_out old new a i e five = absurd (apart status 1 5 e.0 five (omega arith))
+stops (is.NoRule said) grammar rule text format form rules told status old_out new_out old new a i e five = absurd (apart status 1 5 e.0 five (omega arith))
 stops is.OutOfSteps grammar rule text format form rules told status old_out new_out old new a i e five = record { rules = rules; are = a; message = codes "the text takes too many steps"; stop = too_many_steps i; line = e.1 }
 stops is.EmptyStack grammar rule text format form rules told status old_out new_out old new a i e five = record { rules = rules; are = a; message = codes "PEEK or POP found nothing on the stack"; stop = empty_stack i; line = e.1 }
 stops is.UnknownName grammar rule text format form rules told status old_out new_out old new a i e five = record { rules = rules; are = a; message = codes "the grammar calls a rule that is not known"; stop = unknown_name i; line = e.1 }
 stops is.Bound grammar rule text format form rules told status old_out new_out old new a i e five = record { rules = rules; are = a; message = codes "a range of the grammar has a bound that is no character"; stop = wide_bound i; line = e.1 }
 stops is.Memory grammar rule text format form rules told status old_out new_out old new a i e five = absurd (apart status 2 5 e five (omega arith))
 
--- where there is a text, the outcome was a refusal, there is a reason for it, and the text reports it
-pub refusal : {X Y E : Type 0} (form : RuleForm) (grammar rule text : List ℕ) (outcome : Result X Fault) (answer : Result X Report) (message : String Global) (told : Result Y E) (old new : Option (List ℕ))
+-- where there is a text, the outcome was a refusal, and the text reports it
+pub refusal : {X Y E : Type 0} (grammar : List ℕ) (outcome : Result X Fault) (answer : Result X Report) (message : String Global) (told : Result Y E) (old new : Option (List ℕ))
     → IfErr outcome (IsRefusal grammar) → IfOk outcome (λ v. answer ≡ Ok v) → IfErr outcome (λ fault. IsErrAnd answer (IsReportOf fault))
-    → answer ≡ Err (report_is.Text message) → WritesLine (string_bytes message) told old new → ReportsReason form grammar rule text told old new
-refusal form grammar rule text (Ok v) answer message told old new r a b e line = cc
-refusal form grammar rule text (Err (fault_is.Memory m)) answer message told old new r a b e line = let said = rw e at b in cc
-refusal form grammar rule text (Err (fault_is.Grammar errors)) answer message told old new r a b e line =
-    let P : List ℕ → Type 0 = λ t. WritesLine t told old new in
+    → answer ≡ Err (report_is.Text message) → WritesLine (escaped_lines (string_bytes message)) told old new → ReportsRefusal grammar told old new
+refusal grammar (Ok v) answer message told old new r a b e line = cc
+refusal grammar (Err (fault_is.Memory m)) answer message told old new r a b e line = let said = rw e at b in cc
+refusal grammar (Err (fault_is.Grammar errors)) answer message told old new r a b e line =
+    let P : List ℕ → Type 0 = λ t. WritesLine (escaped_lines t) told old new in
     let said : string_bytes message ≡ report_text errors.items = rw e at b in
-    record { message = report_text errors.items; reason = refused errors.items r; line = subst P said line }
+    record { errors = errors.items; refused = r; line = subst P said line }
+
+-- a refusal is a reason
+pub refusal_is_reason : {X E : Type 0} (form : RuleForm) (grammar rule text : List ℕ) (told : Result X E) (old new : Option (List ℕ))
+    → ReportsRefusal grammar told old new → ReportsReason form grammar rule text told old new
+refusal_is_reason form grammar rule text told old new r =
+    record { message = escaped_lines (report_text r.errors); reason = refused r.errors r.refused; line = r.line }
 
 -- where there is a value, the outcome was that value
 pub value : {X : Type 0} (outcome : Result X Fault) (answer : Result X Report) (x : X) (P : X → Type 0) → IfOk outcome P → IfOk outcome (λ v. answer ≡ Ok v) → IfErr outcome (λ fault. IsErrAnd answer (IsReportOf fault)) → answer ≡ Ok x → P x

@@ -1,5 +1,5 @@
 -- The status and the texts with which a run ends.
-use Rattle.std.specs.Prelude.{◌≡◌, ◌⊎◌, ℕ, List, ◌++◌, Option, Result, codes, string_bytes}
+use Rattle.std.specs.Prelude.{◌≡◌, ◌⊎◌, ℕ, List, Option, Result, codes, string_bytes}
 use Rattle.std.specs.Io.KnownBytes.{Appends}
 use Rattle.pest_run.specs.Written.{WritesLine}
 use Rattle.pest_run.specs.declared.outcomes.Outcome.{Outcome}
@@ -11,20 +11,20 @@ IsStatus status = (status ≡ 0) ⊎ (status ≡ 1) ⊎ (status ≡ 2) ⊎ (stat
 
 -- 0 where the lines are written, 1 where the reason is reported, 2 after an allocation failure, and 5 where
 -- the run is stopped and the reason reported
-abbrev pub EndsAs : {X E : Type 0} → Outcome → List ℕ → ℕ → Result X E
+abbrev pub EndsAs : {X E : Type 0} → Outcome → ℕ → Result X E
     → Option (List ℕ) → Option (List ℕ) → Option (List ℕ) → Option (List ℕ) → Type 0
-EndsAs (is.Shown lines) rule status told old_out new_out old new =
+EndsAs (is.Shown lines) status told old_out new_out old new =
     ((status ≡ 0) ⊎ (status ≡ 4)) × (status ≡ 0 → Appends old_out new_out (string_bytes lines))
-EndsAs (is.Failed report) rule status told old_out new_out old new =
+EndsAs (is.Failed report) status told old_out new_out old new =
     (status ≡ 1) × WritesLine (string_bytes report) told old new
-EndsAs is.NoRule rule status told old_out new_out old new =
-    (status ≡ 1) × WritesLine (codes "the grammar has no rule " ++ rule) told old new
-EndsAs is.OutOfSteps rule status told old_out new_out old new =
+EndsAs (is.NoRule message) status told old_out new_out old new =
+    (status ≡ 1) × WritesLine (string_bytes message) told old new
+EndsAs is.OutOfSteps status told old_out new_out old new =
     (status ≡ 5) × WritesLine (codes "the text takes too many steps") told old new
-EndsAs is.EmptyStack rule status told old_out new_out old new =
+EndsAs is.EmptyStack status told old_out new_out old new =
     (status ≡ 5) × WritesLine (codes "PEEK or POP found nothing on the stack") told old new
-EndsAs is.UnknownName rule status told old_out new_out old new =
+EndsAs is.UnknownName status told old_out new_out old new =
     (status ≡ 5) × WritesLine (codes "the grammar calls a rule that is not known") told old new
-EndsAs is.Bound rule status told old_out new_out old new =
+EndsAs is.Bound status told old_out new_out old new =
     (status ≡ 5) × WritesLine (codes "a range of the grammar has a bound that is no character") told old new
-EndsAs is.Memory rule status told old_out new_out old new = status ≡ 2
+EndsAs is.Memory status told old_out new_out old new = status ≡ 2

@@ -1,4 +1,7 @@
+pub mod Json
+pub mod RuleNames
 pub mod Messages
 pub mod Outcomes
 pub mod Written
 pub mod Ends
+pub mod Listing

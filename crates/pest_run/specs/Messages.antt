@@ -1,6 +1,9 @@
--- The message for a text on which a rule fails.
-use Rattle.std.specs.Prelude.{ℕ, ◌==◌, Bool, List, [], ◌∷◌, ◌++◌, codes, encode_utf8_all, if◌then◌else◌, length}
+-- Messages about a rule, a text and files.
+use Rattle.std.specs.Prelude.{ℕ, ◌==◌, Bool, List, [], ◌∷◌, ◌++◌, codes, encode_utf8_all, if◌then◌else◌, length, take}
+use Rattle.meta_base.specs.Language.Expression.{Grammar}
 use Rattle.meta_base.specs.Language.Text.{Text}
+use Rattle.tool_support.specs.Escapes.{escaped_bytes}
+use Rattle.pest_run.specs.RuleNames.{near_names}
 
 -- the separator before a name that is not the first: of two in all, or of more, and the last of them or not
 abbrev pub name_separator : Bool → Bool → List ℕ
@@ -16,3 +19,18 @@ other_names of_two (n ∷ ns) =
 abbrev pub failure_message : List Text → List ℕ
 failure_message [] = codes "unknown parsing error"
 failure_message (n ∷ ns) = codes "expected " ++ encode_utf8_all n ++ other_names (length ns == 1) ns
+
+-- whether one of some names is meant: `; did you mean a, b, or c?`
+abbrev pub suggestion : List Text → List ℕ
+suggestion [] = []
+suggestion (n ∷ ns) =
+    codes "; did you mean " ++ encode_utf8_all n ++ other_names (length ns == 1) ns ++ codes "?"
+
+-- that no rule has a name, and the first five names of rules that are near it
+abbrev pub no_rule_text : Grammar → List ℕ → List ℕ
+no_rule_text g name =
+    codes "the grammar has no rule " ++ escaped_bytes name ++ suggestion (take 5 (near_names g name))
+
+-- that a file can't be read, and why
+abbrev pub unread_text : List ℕ → List ℕ → List ℕ
+unread_text name why = codes "cannot read " ++ escaped_bytes name ++ codes ": " ++ escaped_bytes why

@@ -22,18 +22,21 @@ use Rattle.matcher_support.specs.Lines.{lines_of}
 use Rattle.matcher_support.specs.Sets.{has_set, is_in_property}
 use Rattle.matcher_support.specs.Shown.{shown}
 use Rattle.matcher_support.specs.Values.{answer_data}
-use Rattle.pest_run.specs.Messages.{failure_message}
+use Rattle.tool_support.specs.Escapes.{escaped_lines}
+use Rattle.pest_run.specs.Json.{escaped_json}
+use Rattle.pest_run.specs.Messages.{failure_message, no_rule_text}
 use Rattle.pest_run.specs.declared.arguments.Format.{Format}
 use Rattle.pest_run.specs.declared.arguments.Format.TheVariants as format_is
 use Rattle.pest_run.specs.declared.outcomes.Outcome.{Outcome}
 use Rattle.pest_run.specs.declared.outcomes.Outcome.TheVariants as is
 use Rattle.serde_json.specs.Written.{compact_text}
 
--- trees of a text, and where they end, as text or as a line of JSON
+-- trees of a text, and where they end, as text or as a line of JSON, with escapes of hidden characters
 abbrev pub trees_text : Format → List ℕ → ℕ → Trees → List ℕ
-trees_text format_is.Text text end_ trees = shown text 0 trees
+trees_text format_is.Text text end_ trees = escaped_lines (shown text 0 trees)
 trees_text format_is.Lines text end_ trees = lines_of 0 trees
-trees_text format_is.Json text end_ trees = compact_text (answer_data text end_ trees) ++ codes "\n"
+trees_text format_is.Json text end_ trees =
+    escaped_json (compact_text (answer_data text end_ trees)) ++ codes "\n"
 
 -- the rule, called at the start of the text, succeeds, and the lines show its trees
 pub record IsShown (g : Grammar) (rule text : List ℕ) (format : Format) (lines : List ℕ) : Type 0 where
@@ -42,10 +45,12 @@ pub record IsShown (g : Grammar) (rule text : List ℕ) (format : Format) (lines
   pub matches : Has g (chars rule) text is_in_property (Success end_ trees)
   pub lines_show : lines ≡ trees_text format text end_.position trees
 
--- the text of an error at a position of a text, where these names are expected
+-- the text of an error at a position of a text, where these names are expected, with escapes of hidden
+-- characters
 abbrev pub failure_text : List ℕ → ℕ → List Text → List ℕ
 failure_text text place names =
-    printed_error (failure_message names) (Pos (line_column text place)) (printed_line text place)
+    let message = failure_message names in
+    escaped_lines (printed_error message (Pos (line_column text place)) (printed_line text place))
 
 -- the rule, called at the start of the text, fails, and the report shows the furthest position of a failure,
 -- and the names that are expected there, each once
@@ -92,12 +97,19 @@ IsFailureReport text place names (is.Failed report) = string_bytes report ≡ fa
 IsFailureReport text place names is.Memory = ⊤
 IsFailureReport text place names _ = ⊥
 
+-- the outcome says that no rule has the name, or reports an allocation failure
+abbrev pub IsNoRuleReport : Grammar → List ℕ → Outcome → Type 0
+IsNoRuleReport g rule (is.NoRule message) = string_bytes message ≡ no_rule_text g rule
+IsNoRuleReport g rule is.Memory = ⊤
+IsNoRuleReport g rule _ = ⊥
+
 -- the outcome is that of the rule on the text, or says why the rules can't be run; an allocation failure is
 -- not constrained
 abbrev pub IsOutcome : Grammar → List ℕ → List ℕ → Format → Outcome → Type 0
 IsOutcome g rule text format (is.Shown lines) = IsShown g rule text format (string_bytes lines)
 IsOutcome g rule text format (is.Failed report) = HasFailed g rule text (string_bytes report)
-IsOutcome g rule text format is.NoRule = HasNoRule g rule
+IsOutcome g rule text format (is.NoRule message) =
+    HasNoRule g rule × (string_bytes message ≡ no_rule_text g rule)
 IsOutcome g rule text format is.OutOfSteps = TakesTooManySteps g rule text
 IsOutcome g rule text format is.EmptyStack = HasNoOutcome g rule text
 IsOutcome g rule text format is.UnknownName = CallsUnknownName g

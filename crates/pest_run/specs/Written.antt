@@ -1,5 +1,5 @@
 -- The texts that the program writes.
-use Rattle.std.specs.Prelude.{◌≡◌, ℕ, List, [], ◌∷◌, ◌++◌, Option, None, Result, OnOk, IsUtf8, codes}
+use Rattle.std.specs.Prelude.{◌≡◌, ◌⊎◌, ℕ, List, [], ◌∷◌, ◌++◌, Option, Some, None, Result, OnOk, IsUtf8, codes, string_bytes}
 use Rattle.std.specs.Borrow.{Bor}
 use Rattle.std.specs.Io.KnownBytes.{Appends}
 use Rattle.meta_ast.specs.Optimized.{optimized_rules_of}
@@ -10,19 +10,46 @@ use Rattle.meta_base.specs.declared.runtime.errors.Error.{Error}
 use Rattle.pest_meta.specs.Reports.{report_text}
 use Rattle.pest_meta.specs.Spelling.{IsAnswer, IsRefusedWith}
 use Rattle.pest_meta.specs.Written.{IsWritten, SpellsAccepted}
+use Rattle.tool_support.specs.Escapes.{escaped_lines}
+use Rattle.pest_run.specs.Messages.{no_rule_text, unread_text}
 use Rattle.pest_run.specs.Outcomes.{CallsUnknownName, HasFailed, HasNoOutcome, HasNoRule, HasWrongBound, IsShown, TakesTooManySteps}
 use Rattle.pest_run.specs.declared.arguments.Format.{Format}
 use Rattle.pest_run.specs.declared.arguments.RuleForm.{RuleForm}
 use Rattle.pest_run.specs.declared.arguments.RuleForm.TheVariants as form_is
-use Rattle.pest_run.specs.declared.run.Source.{Source}
+use Rattle.pest_run.specs.declared.sources.Source.{Source}
 
 -- the file could be read, and is text
 abbrev pub IsReadable : Source → Type 0
 IsReadable source = (source.why ≡ None) × IsUtf8 source.bytes.items
 
+-- why it can't be read
+abbrev pub why_unread : Source → List ℕ
+why_unread source = elim source.why [ Some why ↦ string_bytes why | None ↦ codes "it is not UTF-8" ]
+
 -- unless a write was refused, the writer's contents grew by the message and a line feed
 abbrev pub WritesLine : {X E : Type 0} → List ℕ → Result X E → Option (List ℕ) → Option (List ℕ) → Type 0
 WritesLine message written old new = OnOk written (Appends old new (message ++ 10 ∷ []))
+
+-- the line says that the file can't be read and why, or that an allocation failed
+abbrev pub WritesUnread : {X E : Type 0} → Source → Result X E → Option (List ℕ) → Option (List ℕ) → Type 0
+WritesUnread source written old new =
+    WritesLine (unread_text source.name.now (why_unread source)) written old new
+    ⊎ WritesLine (codes "cannot read a file: out of memory") written old new
+
+-- a file of the two can't be read, and the line says so
+pub record ReportsUnread {X E : Type 0} (grammar text : Source) (written : Result X E)
+    (old new : Option (List ℕ)) : Type 0 where
+  pub source : Source
+  pub given : (source ≡ grammar) ⊎ (source ≡ text)
+  pub unreadable : IsReadable source → ⊥
+  pub line : WritesUnread source written old new
+
+-- the grammar is refused, and the report is the line
+pub record ReportsRefusal {X E : Type 0} (grammar : List ℕ) (written : Result X E)
+    (old new : Option (List ℕ)) : Type 0 where
+  pub errors : List (Error Rule)
+  pub refused : IsRefusedWith grammar errors
+  pub line : WritesLine (escaped_lines (report_text errors)) written old new
 
 -- the rules that the optimizer returns for a grammar
 pub record AreAnswered (grammar : List ℕ) (rules : Grammar) : Type 0 where
@@ -56,9 +83,9 @@ pub record PrintsTrees (form : RuleForm) (grammar rule text : List ℕ) (format 
 -- set there
 pub data IsReason (form : RuleForm) (grammar rule text : List ℕ) : List ℕ → Type 0 where
   refused : (errors : List (Error Rule)) → IsRefusedWith grammar errors
-      → IsReason form grammar rule text (report_text errors)
+      → IsReason form grammar rule text (escaped_lines (report_text errors))
   no_rule : (rules : Grammar) → AreRun form grammar rules → HasNoRule rules rule
-      → IsReason form grammar rule text (codes "the grammar has no rule " ++ rule)
+      → IsReason form grammar rule text (no_rule_text rules rule)
   no_match : (rules : Grammar) (report : List ℕ) → AreRun form grammar rules
       → HasFailed rules rule text report → IsReason form grammar rule text report
 

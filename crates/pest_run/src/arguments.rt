@@ -1,5 +1,5 @@
 //! The command line.
-ghost use Rattle.std.specs.Prelude.{◌≡◌, None, Some, codes};
+ghost use Rattle.std.specs.Prelude.{◌≡◌, None, Some, codes, false, true};
 ghost use Rattle.clap.specs.Matches.{first_value, found_of, one_text};
 
 use clap::{Arg, ArgAction, ArgMatches, Command};
@@ -37,25 +37,32 @@ pub fn command<'a>(alloc: Global) -> Result<Command<'a>, AllocError> {
             "Match by the optimized rules, as pest's own parsers do; \
              a rule like (x ~ y)* ~ x then matches more",
         );
+    let list = Arg::new(alloc, "list-rules")
+        .long("list-rules")
+        .action(ArgAction::SetTrue)
+        .conflicts_with("RULE")?
+        .help("Print the names of the grammar's rules, a line each, and match no text");
     let grammar = Arg::new(alloc, "GRAMMAR")
         .required(true)
         .help("The file of a grammar");
     let rule = Arg::new(alloc, "RULE")
-        .required(true)
+        .required_unless_present("list-rules")?
         .help("The rule that the text is matched by");
     let text = Arg::new(alloc, "TEXT")
         .default_value("-")
         .help("The file of the text; - is standard input");
     Command::new(alloc, "pest-run")
+        .bin_name("pest-run")?
         .version(VERSION)
         .about("Matches a text by a rule of a pest grammar, and prints the trees")
         .after_help(
-            "status: 0 the trees were printed, 1 the grammar is refused, has no such rule, or does not \
-             match the text, 2 out of memory, 3 a file or the command line can't be read, 4 output \
-             refused, 5 the run was stopped",
+            "status: 0 the trees or the names were printed, 1 the grammar is refused, has no such rule, \
+             or does not match the text, 2 out of memory, 3 a file or the command line can't be read, \
+             4 output refused, 5 the run was stopped",
         )
         .arg(format)?
         .arg(optimized)?
+        .arg(list)?
         .arg(grammar)?
         .arg(rule)?
         .arg(text)
@@ -83,7 +90,9 @@ pub fn format_of(matches: &ArgMatches<'_>) -> Format
 pub fn form_of(matches: &ArgMatches<'_>) -> RuleForm
     ensures optimized { one_text (found_of matches.now) (codes "optimized") ≡ Some (codes "true")
         → result ≡ RuleForm.Optimized }
-    ensures written { one_text (found_of matches.now) (codes "optimized") ≡ None
+    ensures written { one_text (found_of matches.now) (codes "optimized") ≡ Some (codes "false")
+        → result ≡ RuleForm.Written }
+    ensures missing { one_text (found_of matches.now) (codes "optimized") ≡ None
         → result ≡ RuleForm.Written }
 {
     if matches.get_flag("optimized") {
@@ -91,4 +100,15 @@ pub fn form_of(matches: &ArgMatches<'_>) -> RuleForm
     } else {
         RuleForm::Written
     }
+}
+
+/// Returns whether a command line asks for the names of the rules.
+pub fn asks_for_rules(matches: &ArgMatches<'_>) -> bool
+    ensures asked { one_text (found_of matches.now) (codes "list-rules") ≡ Some (codes "true")
+        → result ≡ true }
+    ensures unasked { one_text (found_of matches.now) (codes "list-rules") ≡ Some (codes "false")
+        → result ≡ false }
+    ensures missing { one_text (found_of matches.now) (codes "list-rules") ≡ None → result ≡ false }
+{
+    matches.get_flag("list-rules")
 }

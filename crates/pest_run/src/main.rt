@@ -1,19 +1,30 @@
 //! Matches a text by a rule of a grammar, and prints the trees.
 #![tactic(auto)]
 
-ghost use Rattle.std.specs.Prelude.{◌≡◌, ◌≢◌, ◌≤◌, None};
+ghost use Rattle.std.specs.Prelude.{◌≡◌, ◌≢◌, ◌≤◌, ◌⊎◌, IfOk, None};
+ghost use Rattle.clap.specs.Values.{kind_of};
+ghost use Rattle.clap.specs.declared.error.kind.ErrorKind.TheVariants.{DisplayHelp, DisplayVersion};
+ghost use Rattle.pest_run.specs.Listing.{ListsRules};
 ghost use Rattle.pest_run.specs.Written.{IsReadable, PrintsTrees};
 
 mod arguments;
+mod ends;
+mod json;
+mod listing;
 mod messages;
 mod outcomes;
+mod rule_names;
 mod run;
+mod sources;
 
-use arguments::{command, form_of, format_of};
-use run::{Request, Source, run_files};
+use arguments::{asks_for_rules, command, form_of, format_of};
+use listing::list_file;
+use run::{Request, run_files};
+use sources::Source;
 use std::alloc::AllocError;
 use std::env;
 use std::process::ExitCode;
+use tool_support::escape::escape_lines;
 use tool_support::input::read_input;
 use tool_support::output::Output;
 use tool_support::status::Status;
@@ -49,26 +60,53 @@ fn match_files(
     exit.status
 }
 
+/// Lists the rules of a grammar with the process's own output, and returns the status.
+fn list_names(rt: &HostRuntime, grammar: &Source<'_>) -> u8
+    ensures known { result ≤ 4 }
+    ensures read { result ≢ 3 → IsReadable grammar.now }
+    ensures unread { IsReadable grammar.now → result ≢ 3 }
+    ensures listed { result ≡ 0 → ListsRules grammar.now.bytes.items None None }
+{
+    let mut out = Output::new(rt.stdout());
+    let mut err = Output::new(rt.stderr());
+    list_file(rt.alloc(), grammar, &mut out, &mut err).status
+}
+
+/// Prints help, the version or what is wrong with a command line, and returns the status.
+fn print_usage(rt: &HostRuntime, error: &clap::Error) -> Result<Status, AllocError>
+    ensures wrong { IfOk result (λ status. kind_of error.now ≢ DisplayHelp
+        → kind_of error.now ≢ DisplayVersion → status ≡ Status.Unreadable) }
+    ensures asked { IfOk result (λ status. status ≡ Status.Done
+        → (kind_of error.now ≡ DisplayHelp) ⊎ (kind_of error.now ≡ DisplayVersion)) }
+{
+    let alloc = rt.alloc();
+    let usage = format!(in alloc; "{error}")?;
+    let shown = escape_lines(alloc, usage.as_str())?;
+    if error.use_stderr() {
+        let _ = rt.eprint(shown.as_str());
+        Ok(Status::Unreadable)
+    } else {
+        let _ = rt.print(shown.as_str());
+        Ok(Status::Done)
+    }
+}
+
 /// Returns the status for the words of the command line.
 fn answer(rt: &HostRuntime) -> Result<u8, clap::Error> {
     let alloc = rt.alloc();
     let Ok(words) = env::args(rt) else {
+        let _ = rt.eprintln("cannot read the command line: it is not UTF-8");
         return Ok(Status::Unreadable.code());
     };
     let words: Vec<String> = words.collect(alloc)?;
     let matches = match command(alloc)?.try_get_matches_from(words.as_slice()) {
         Ok(matches) => matches,
-        Err(error) => {
-            let _ = error.print(rt);
-            let status = if error.use_stderr() {
-                Status::Unreadable
-            } else {
-                Status::Done
-            };
-            return Ok(status.code());
-        }
+        Err(error) => return Ok(print_usage(rt, &error)?.code()),
     };
     let grammar = source(rt, matches.get_str("GRAMMAR").unwrap_or(""))?;
+    if asks_for_rules(&matches) {
+        return Ok(list_names(rt, &grammar));
+    }
     let text = source(rt, matches.get_str("TEXT").unwrap_or("-"))?;
     let request = Request {
         rule: matches.get_str("RULE").unwrap_or(""),
@@ -81,6 +119,9 @@ fn answer(rt: &HostRuntime) -> Result<u8, clap::Error> {
 fn main(rt: HostRuntime) -> ExitCode {
     match answer(&rt) {
         Ok(status) => ExitCode::from(status),
-        Err(_) => ExitCode::from(Status::OutOfMemory.code()),
+        Err(_) => {
+            let _ = rt.eprintln("out of memory");
+            ExitCode::from(Status::OutOfMemory.code())
+        }
     }
 }

@@ -7,10 +7,13 @@ ghost use Rattle.meta_matcher.specs.ExpectedNames.{name_texts};
 ghost use Rattle.meta_matcher.specs.Written.{seen};
 ghost use Rattle.meta_syntax.specs.Entries.{entries_of};
 ghost use Rattle.std.specs.Str.{IsCharBoundary};
-ghost use Rattle.pest_run.specs.Outcomes.{IsFailureReport, IsOutcome, failure_text, stopped_outcome, trees_text, unfit_outcome};
+ghost use Rattle.matcher_support.specs.Shown.{shown};
+ghost use Rattle.tool_support.specs.Escapes.{escaped_lines};
+ghost use Rattle.pest_run.specs.Outcomes.{IsFailureReport, IsNoRuleReport, IsOutcome, failure_text, stopped_outcome, trees_text, unfit_outcome};
 
 use crate::arguments::Format;
-use crate::messages::failure_message;
+use crate::json::escape_json;
+use crate::messages::{failure_message, no_rule_message};
 use matcher_engine::matcher::Matcher;
 use matcher_program::compile::Unfit;
 use matcher_support::json::tree_json;
@@ -24,6 +27,7 @@ use meta_matcher::machine::Stop;
 use meta_matcher::matcher::{Found, Refusal};
 use pest_meta::optimizer::OptimizedRule;
 use std::alloc::{AllocError, Global};
+use tool_support::escape::escape_lines;
 
 /// The greatest number of steps, which no run reaches.
 const STEPS: u64 = u64::MAX;
@@ -35,8 +39,8 @@ pub enum Outcome {
     Shown(String),
     /// The rule fails; the report has the position and the expected set.
     Failed(String),
-    /// The grammar has no rule of that name.
-    NoRule,
+    /// The grammar has no rule of that name, and the message says so.
+    NoRule(String),
     /// The run takes more steps than the matcher may take.
     OutOfSteps,
     /// `PEEK` or `POP` met the empty stack, and the rule has no outcome on the text.
@@ -68,14 +72,14 @@ pub fn outcome_of(
             Ok(lines) => Outcome::Shown(lines),
             Err(_) => Outcome::Memory,
         },
-        Err(Refusal::UnknownRule(_)) => Outcome::NoRule,
+        Err(Refusal::UnknownRule(_)) => no_rule_outcome(alloc, rules, rule),
         Err(Refusal::NoMatch(place)) => {
             match matcher
                 .interpreter
                 .expected_at(alloc, rule, text, place, STEPS)
             {
                 Ok(names) => failed_outcome(alloc, text, place, &names),
-                Err(Refusal::UnknownRule(_)) => Outcome::NoRule,
+                Err(Refusal::UnknownRule(_)) => no_rule_outcome(alloc, rules, rule),
                 Err(Refusal::NoMatch(_)) => unreachable!(),
                 Err(Refusal::Stopped(stop)) => stopped_outcome(stop),
             }
@@ -95,10 +99,20 @@ fn lines_of(
         → string_bytes lines ≡ trees_text format text.now found.now.end trees) }
 {
     match format {
-        Format::Text => tree_text(alloc, text, &found.entries),
+        Format::Text => shown_lines(alloc, text, &found.entries),
         Format::Json => json_line(alloc, text, &found.entries, found.end),
         Format::Lines => tree_lines(alloc, &found.entries),
     }
+}
+
+/// Returns trees as lines of text, with escapes of hidden characters. The only error is an allocation
+/// failure.
+fn shown_lines(alloc: Global, text: &str, entries: &[Entry<'_>]) -> Result<String, AllocError>
+    ensures { IfOk result (λ lines. (trees : Trees) → seen entries.now ≡ entries_of 0 trees
+        → string_bytes lines ≡ escaped_lines (shown text.now 0 trees)) }
+{
+    let lines = tree_text(alloc, text, entries)?;
+    escape_lines(alloc, lines.as_str())
 }
 
 /// Returns trees and their end position as a line of JSON. The only error is an allocation failure.
@@ -111,7 +125,8 @@ fn json_line(
     ensures { IfOk result (λ line. (trees : Trees) → seen entries.now ≡ entries_of 0 trees
         → string_bytes line ≡ trees_text Format.Json text.now end trees) }
 {
-    let mut line = tree_json(alloc, text, entries, end)?;
+    let json = tree_json(alloc, text, entries, end)?;
+    let mut line = escape_json(alloc, json.as_str())?;
     line.push_str("\n")?;
     Ok(line)
 }
@@ -131,8 +146,18 @@ fn failed_outcome(alloc: Global, text: &str, place: usize, names: &[&str]) -> Ou
     }
 }
 
-/// Returns the text of an error at a position where these names are expected. The only error is an allocation
-/// failure.
+/// Returns the outcome of a name that no rule has.
+fn no_rule_outcome(alloc: Global, rules: &[OptimizedRule], rule: &str) -> Outcome
+    ensures { IsNoRuleReport (optimized_rules_of rules.now) rule.now result }
+{
+    match no_rule_message(alloc, rules, rule) {
+        Ok(message) => Outcome::NoRule(message),
+        Err(_) => Outcome::Memory,
+    }
+}
+
+/// Returns the text of an error at a position where these names are expected, with escapes of hidden
+/// characters. The only error is an allocation failure.
 fn report_at(alloc: Global, place: Position<'_>, names: &[&str]) -> Result<String, Fault>
     ensures { IfOk result (λ report. string_bytes report
         ≡ failure_text (position_text place.entry) (position_offset place.entry) (name_texts names.now)) }
@@ -143,7 +168,8 @@ fn report_at(alloc: Global, place: Position<'_>, names: &[&str]) -> Result<Strin
         ErrorVariant::CustomError { message },
         place,
     )?;
-    Ok(format!(in alloc; "{error}")?)
+    let report = format!(in alloc; "{error}")?;
+    Ok(escape_lines(alloc, report.as_str())?)
 }
 
 /// Returns the outcome of a run that was stopped.

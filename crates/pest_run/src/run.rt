@@ -1,28 +1,21 @@
 //! The program after its files are read.
-ghost use Rattle.std.specs.Prelude.{◌≡◌, ◌≢◌, ◌≤◌, ◌⊎◌, ◌↔◌, ◌++◌, IfErr, IfOk, IfSome, IsErr, IsOk, IsSome, codes, true};
+ghost use Rattle.std.specs.Prelude.{◌≡◌, ◌≢◌, ◌≤◌, IfErr, IfOk, IsErr, IsOk, codes, true};
 ghost use Rattle.meta_ast.specs.Optimized.{optimized_rules_of};
 ghost use Rattle.pest_meta.specs.Spelling.{IsRefusal};
 ghost use Rattle.pest_run.specs.Ends.{EndsAs, IsStatus};
-ghost use Rattle.pest_run.specs.Written.{AreRun, IsReadable, PrintsTrees, ReportsReason, ReportsStop, WritesLine};
-ghost use Rattle.tool_support.specs.Statuses.{status_code};
+ghost use Rattle.pest_run.specs.Written.{AreRun, IsReadable, PrintsTrees, ReportsReason, ReportsStop, ReportsUnread, WritesLine};
 
 use crate::arguments::{Format, RuleForm};
+use crate::ends::{RunExit, exit_after_write, exit_with, report_refusal};
 use crate::outcomes::{Outcome, outcome_of};
+use crate::sources::{Source, text_of, unreadable};
 use meta_ast::optimized::{OptimizedRule, release};
 use meta_base::runtime::Fault;
 use pest_meta::{Report, parse_and_optimize, parse_as_written, unwrap_or_report};
 use std::alloc::Global;
 use std::io::Write;
-use tool_support::output::{Output, RefusedWrite};
+use tool_support::output::Output;
 use tool_support::status::Status;
-
-/// A file: its name, its bytes, and the reason if they can't be read.
-#[derive(Drop)]
-pub struct Source<'a> {
-    pub name: &'a str,
-    pub bytes: Vec<u8>,
-    pub why: Option<String>,
-}
 
 /// The rule to match, the form of the rules, and the format of the trees.
 #[derive(Clone, Copy)]
@@ -33,15 +26,6 @@ pub struct Request<'a> {
     pub format: Format,
     /// The form in which the rules of the grammar are run.
     pub form: RuleForm,
-}
-
-/// The end of a run.
-#[derive(Drop)]
-pub struct RunExit {
-    /// The status that the program ends with.
-    pub status: u8,
-    /// An error if `err` refused the line that it was given.
-    pub write_result: Result<(), RefusedWrite>,
 }
 
 /// Matches a text by the requested rule of a grammar, both read from files, and prints the trees to `out`, as
@@ -80,14 +64,17 @@ pub fn run_files<W: Write, E: Write>(
         → ReportsStop request.entry.form grammar.now.bytes.items request.entry.rule.now
         text.now.bytes.items result.write_result
         (E.contents err.old.writer) (E.contents err.new.writer) }
+    ensures tells_unread { result.status ≡ 3
+        → ReportsUnread grammar.now text.now result.write_result
+        (E.contents err.old.writer) (E.contents err.new.writer) }
     ensures told { IsOk result.write_result → err.new.refused ≡ err.old.refused }
     ensures refused_line { IsErr result.write_result → err.new.refused ≡ true }
 {
     let Some(rules) = text_of(grammar) else {
-        return unreadable(grammar, err);
+        return unreadable(alloc, grammar, err);
     };
     let Some(input) = text_of(text) else {
-        return unreadable(text, err);
+        return unreadable(alloc, text, err);
     };
     run(alloc, rules, input, request, out, err)
 }
@@ -133,10 +120,10 @@ pub fn run<W: Write, E: Write>(
         Ok(rules) => {
             let outcome = outcome_of(alloc, &rules, request.rule, text, request.format);
             release(rules);
-            print_outcome(outcome, request.rule, out, err)
+            print_outcome(outcome, out, err)
         }
         Err(Report::Memory) => exit_with(err, "out of memory", Status::OutOfMemory),
-        Err(Report::Text(report)) => exit_with(err, report.as_str(), Status::Found),
+        Err(Report::Text(report)) => report_refusal(alloc, report.as_str(), err),
     }
 }
 
@@ -154,55 +141,14 @@ fn read_rules(alloc: Global, grammar: &str, form: RuleForm) -> Result<Vec<Optimi
     }
 }
 
-/// Returns the text of a file, if it can be read and is UTF-8.
-fn text_of<'s>(source: &'s Source<'_>) -> Option<&'s str>
-    ensures readable { IsSome result ↔ IsReadable source.entry.now }
-    ensures text { IfSome result (λ text. text.now ≡ source.entry.now.bytes.items) }
-{
-    match source.why {
-        Some(_) => None,
-        None => str::from_utf8(&source.bytes).ok(),
-    }
-}
-
-/// Reports a file that can't be read.
-fn unreadable<E: Write>(source: &Source<'_>, err: &mut Output<E>) -> RunExit
-    ensures status { result.status ≡ 3 }
-    ensures told { IsOk result.write_result → err.new.refused ≡ err.old.refused }
-    ensures refused_line { IsErr result.write_result → err.new.refused ≡ true }
-{
-    let why = match &source.why {
-        Some(why) => why.as_str(),
-        None => "it is not UTF-8",
-    };
-    let write_result = write_unread(err, source.name, why);
-    RunExit {
-        status: Status::Unreadable.code(),
-        write_result,
-    }
-}
-
-/// Writes that a file can't be read, and why.
-fn write_unread<'t, E: Write>(
-    err: &mut Output<E>,
-    name: &'t str,
-    why: &'t str,
-) -> Result<(), RefusedWrite>
-    ensures told { IsOk result → err.new.refused ≡ err.old.refused }
-    ensures refused_line { IsErr result → err.new.refused ≡ true }
-{
-    err.write_line(&["cannot read ", name, ": ", why])
-}
-
-/// Prints the trees of an outcome, or reports why there are none.
-fn print_outcome<W: Write, E: Write>(
+/// Prints the lines of an outcome, or reports why there are none.
+pub fn print_outcome<W: Write, E: Write>(
     outcome: Outcome,
-    rule: &str,
     out: &mut Output<W>,
     err: &mut Output<E>,
 ) -> RunExit
     ensures known { IsStatus result.status }
-    ensures ends { EndsAs outcome rule.now result.status result.write_result
+    ensures ends { EndsAs outcome result.status result.write_result
         (W.contents out.old.writer) (W.contents out.new.writer)
         (E.contents err.old.writer) (E.contents err.new.writer) }
     ensures unprinted { result.status ≢ 0 → result.status ≢ 4 → out.new ≡ out.old }
@@ -221,7 +167,7 @@ fn print_outcome<W: Write, E: Write>(
     match outcome {
         Outcome::Shown(lines) => exit_after_write(err, out.write_text(lines.as_str())),
         Outcome::Failed(report) => exit_with(err, report.as_str(), Status::Found),
-        Outcome::NoRule => no_rule(err, rule),
+        Outcome::NoRule(message) => exit_with(err, message.as_str(), Status::Found),
         Outcome::OutOfSteps => exit_with(err, "the text takes too many steps", Status::Stopped),
         Outcome::EmptyStack => exit_with(
             err,
@@ -239,56 +185,5 @@ fn print_outcome<W: Write, E: Write>(
             Status::Stopped,
         ),
         Outcome::Memory => exit_with(err, "out of memory", Status::OutOfMemory),
-    }
-}
-
-/// Ends a run after its trees were printed, and reports a write of them that was refused.
-fn exit_after_write<E: Write>(err: &mut Output<E>, outcome: Result<(), RefusedWrite>) -> RunExit
-    ensures known { (result.status ≡ 0) ⊎ (result.status ≡ 4) }
-    ensures printed { IsOk outcome → result.status ≡ 0 }
-    ensures silent { IsOk outcome → err.new ≡ err.old }
-    ensures unwritten { IsErr outcome → result.status ≡ 4 }
-    ensures tells { IsErr outcome
-        → WritesLine (codes "cannot write") result.write_result
-        (E.contents err.old.writer) (E.contents err.new.writer) }
-    ensures told { IsOk result.write_result → err.new.refused ≡ err.old.refused }
-    ensures refused_line { IsErr result.write_result → err.new.refused ≡ true }
-{
-    match outcome {
-        Ok(()) => RunExit {
-            status: Status::Done.code(),
-            write_result: Ok(()),
-        },
-        Err(_) => exit_with(err, "cannot write", Status::Unwritable),
-    }
-}
-
-/// Reports that the grammar has no rule of that name.
-fn no_rule<E: Write>(err: &mut Output<E>, rule: &str) -> RunExit
-    ensures status { result.status ≡ 1 }
-    ensures tells { WritesLine (codes "the grammar has no rule " ++ rule.now) result.write_result
-        (E.contents err.old.writer) (E.contents err.new.writer) }
-    ensures told { IsOk result.write_result → err.new.refused ≡ err.old.refused }
-    ensures refused_line { IsErr result.write_result → err.new.refused ≡ true }
-{
-    let write_result = err.write_line(&["the grammar has no rule ", rule]);
-    RunExit {
-        status: Status::Found.code(),
-        write_result,
-    }
-}
-
-/// Ends a run with this status, after writing a message and a line break to `err`.
-fn exit_with<E: Write>(err: &mut Output<E>, message: &str, status: Status) -> RunExit
-    ensures status { result.status ≡ status_code status }
-    ensures tells { WritesLine message.now result.write_result
-        (E.contents err.old.writer) (E.contents err.new.writer) }
-    ensures told { IsOk result.write_result → err.new.refused ≡ err.old.refused }
-    ensures refused_line { IsErr result.write_result → err.new.refused ≡ true }
-{
-    let write_result = err.write_line(&[message]);
-    RunExit {
-        status: status.code(),
-        write_result,
     }
 }

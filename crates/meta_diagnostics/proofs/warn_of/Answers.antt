@@ -8,5 +8,5 @@ pub returns : goal.returns
 returns c = record {
   lists = map piece_of c.in_ok-names.names.items;
   found = c.in_ok-names.ensures;
-  each = rw c.in_ok-append.ensures.items (zip_both ReportsWarning _ _ _ _ c.in_ok-diagnostics.ensures c.in_ok-others.ensures);
+  each = rw c.in_ok-append.ensures.items (zip_both ReportsWarning _ _ _ _ c.in_ok-diagnostics.ensures (rw c.deref.ensures.value at c.in_ok-others.ensures));
 }

@@ -2,9 +2,9 @@ use Rattle.std.proofs.Common.{◌≡◌, subst, sym}
 use Rattle.meta_ast.specs.Optimized.{optimized_rules_of}
 use Rattle.meta_base.specs.Language.Expression.{Grammar}
 use Rattle.matcher_program.specs.Programs.{grammar_of}
-use Rattle.pest_run.specs.Outcomes.{IsOutcome, stopped_outcome}
+use Rattle.pest_run.specs.Outcomes.{HasNoRule, IsOutcome, stopped_outcome}
 use Rattle.pest_run.specs.declared.outcomes.Outcome.{Outcome}
-use Rattle.pest_run.proofs.Came.{at_character, failed, stopped, unfit}
+use Rattle.pest_run.proofs.Came.{at_character, failed, stopped, unfit, unknown}
 use Rattle.pest_run.proofs.outcomes.outcome_of.Goals as goal
 
 pub returns-in-Ok-expected_at : goal.returns-in-Ok-expected_at
@@ -30,7 +30,7 @@ returns-in-Err-NoMatch c =
     let program = c.in-Ok.matcher.interpreter.program in
     let why = c.in-Err-Stopped-expected_at.stop in
     let says = rw c.in-Err-Stopped-expected_at.field-0-is at c.in-Err-Stopped-expected_at.ensures.refused in
-    let same : c.stopped_outcome.result ≡ stopped_outcome why = rw c.in-Err-Stopped-expected_at.field-0-is at c.stopped_outcome.ensures in
+    let same : c.stopped_outcome.result ≡ stopped_outcome why = c.stopped_outcome.ensures in
     let P : Outcome → Type 0 = λ o. IsOutcome (optimized_rules_of c.args.rules.now) c.args.rule.now c.args.text.now c.args.format o in
     let Q : Grammar → Type 0 = λ g. IsOutcome g c.args.rule.now c.args.text.now c.args.format (stopped_outcome why) in
     subst P (sym same) (subst Q c.in-Ok.ensures.means (stopped (grammar_of program.rows.items) program.properties.items c.args.rule.now c.args.text.now c.args.format why c.in-Ok.ensures.fits says))
@@ -45,6 +45,19 @@ returns c =
     let P : Outcome → Type 0 = λ o. IsOutcome (optimized_rules_of c.args.rules.now) c.args.rule.now c.args.text.now c.args.format o in
     let Q : Grammar → Type 0 = λ g. IsOutcome g c.args.rule.now c.args.text.now c.args.format (stopped_outcome why) in
     subst P (sym same) (subst Q c.in-Ok.ensures.means (stopped (grammar_of program.rows.items) program.properties.items c.args.rule.now c.args.text.now c.args.format why c.in-Ok.ensures.fits says))
+
+-- no rule of that name
+pub returns-in-Err-UnknownRule : goal.returns-in-Err-UnknownRule
+returns-in-Err-UnknownRule c =
+    let told = rw c.in-Err-UnknownRule.field-0-is at c.in-Err-UnknownRule.ensures.refused in
+    let R : Grammar → Type 0 = λ g. HasNoRule g c.args.rule.now in
+    unknown (optimized_rules_of c.args.rules.now) c.args.rule.now c.args.text.now c.args.format c.no_rule_outcome.result (subst R c.in-Ok.ensures.means told.0) c.no_rule_outcome.ensures
+
+pub returns-in-Err-UnknownRule-expected_at : goal.returns-in-Err-UnknownRule-expected_at
+returns-in-Err-UnknownRule-expected_at c =
+    let told = rw c.in-Err-UnknownRule-expected_at.field-0-is at c.in-Err-UnknownRule-expected_at.ensures.refused in
+    let R : Grammar → Type 0 = λ g. HasNoRule g c.args.rule.now in
+    unknown (optimized_rules_of c.args.rules.now) c.args.rule.now c.args.text.now c.args.format c.no_rule_outcome-in-Err-UnknownRule-expected_at.result (subst R c.in-Ok.ensures.means told.0) c.no_rule_outcome-in-Err-UnknownRule-expected_at.ensures
 
 -- rules that can't be run
 pub returns-in-Err : goal.returns-in-Err

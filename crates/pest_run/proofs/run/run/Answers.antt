@@ -1,7 +1,8 @@
 use Rattle.std.proofs.Common.{ℕ, List, Err, ap, ◌∙◌, string_bytes, subst}
 use Rattle.meta_ast.specs.Optimized.{optimized_rules_of}
+use Rattle.tool_support.specs.Escapes.{escaped_lines}
 use Rattle.pest_run.specs.Written.{WritesLine}
-use Rattle.pest_run.proofs.Ended.{prints, refusal, stops, tells, value}
+use Rattle.pest_run.proofs.Ended.{prints, refusal, refusal_is_reason, stops, tells, value}
 use Rattle.pest_run.proofs.run.run.Goals as goal
 
 pub returns-in-Ok-clause-printed : goal.returns-in-Ok-clause-printed
@@ -32,12 +33,12 @@ pub returns-in-Err-Text-clause-reason : goal.returns-in-Err-Text-clause-reason
 returns-in-Err-Text-clause-reason g c =
     let parsed = c.read_rules in
     let reported = c.unwrap_or_report in
-    let told = c.exit_with-in-Err-Text in
+    let told = c.report_refusal in
     let said = c.in-Err-Text.is ∙ ap Err c.in-Err-Text.field-0-is in
     let old = g.E.Write.contents c.args.err.now.writer in
     let new = g.E.Write.contents told.new.err.writer in
-    let P : List ℕ → Type 0 = λ t. WritesLine t told.result.write_result old new in
-    let value = rw c.in-Err-Text.field-0-is at c.as_str.ensures.value in
-    let line : WritesLine (string_bytes c.in-Err-Text.report) told.result.write_result old new = subst P value told.ensures.tells in
-    λ one. refusal c.args.request.form c.args.grammar.now c.args.request.rule.now c.args.text.now parsed.result reported.result c.in-Err-Text.report told.result.write_result old new
-    parsed.ensures.refused reported.ensures.value reported.ensures.report said line
+    let P : List ℕ → Type 0 = λ t. WritesLine (escaped_lines t) told.result.write_result old new in
+    let value = c.as_str.ensures.value in
+    λ one. refusal_is_reason c.args.request.form c.args.grammar.now c.args.request.rule.now c.args.text.now told.result.write_result old new
+    (refusal c.args.grammar.now parsed.result reported.result c.in-Err-Text.report told.result.write_result old new
+    parsed.ensures.refused reported.ensures.value reported.ensures.report said (subst P value (told.ensures.tells one)))

@@ -1,0 +1,8 @@
+use Rattle.std.proofs.Common.{◌≡◌, take}
+use Rattle.meta_ast.specs.Optimized.{optimized_rules_of}
+use Rattle.meta_matcher.specs.ExpectedNames.{name_texts}
+use Rattle.pest_run.specs.RuleNames.{near_names}
+use Rattle.pest_run.proofs.rule_names.near_names.Given as goal
+
+abbrev pub invariant-loop-rule : goal.invariant-loop-rule
+invariant-loop-rule l = name_texts l.near.items ≡ near_names (optimized_rules_of (take l.rule-index l.rules)) l.name

@@ -1,0 +1,74 @@
+//! Ends of a run.
+ghost use Rattle.std.specs.Prelude.{◌≡◌, ◌⊎◌, IsErr, IsOk, codes, true};
+ghost use Rattle.pest_run.specs.Written.{WritesLine};
+ghost use Rattle.tool_support.specs.Escapes.{escaped_lines};
+ghost use Rattle.tool_support.specs.Statuses.{status_code};
+
+use std::alloc::Global;
+use std::io::Write;
+use tool_support::escape::escape_lines;
+use tool_support::output::{Output, RefusedWrite};
+use tool_support::status::Status;
+
+/// The end of a run.
+#[derive(Drop)]
+pub struct RunExit {
+    /// The status that the program ends with.
+    pub status: u8,
+    /// An error if `err` refused the line that it was given.
+    pub write_result: Result<(), RefusedWrite>,
+}
+
+/// Reports that a grammar is refused: with its report (1), or with an allocation failure (2).
+pub fn report_refusal<E: Write>(alloc: Global, report: &str, err: &mut Output<E>) -> RunExit
+    ensures known { (result.status ≡ 1) ⊎ (result.status ≡ 2) }
+    ensures tells { result.status ≡ 1
+        → WritesLine (escaped_lines report.now) result.write_result
+        (E.contents err.old.writer) (E.contents err.new.writer) }
+    ensures tells_memory { result.status ≡ 2
+        → WritesLine (codes "out of memory") result.write_result
+        (E.contents err.old.writer) (E.contents err.new.writer) }
+    ensures told { IsOk result.write_result → err.new.refused ≡ err.old.refused }
+    ensures refused_line { IsErr result.write_result → err.new.refused ≡ true }
+{
+    match escape_lines(alloc, report) {
+        Ok(shown) => exit_with(err, shown.as_str(), Status::Found),
+        Err(_) => exit_with(err, "out of memory", Status::OutOfMemory),
+    }
+}
+
+/// Ends a run after its lines were printed, and reports a write of them that was refused.
+pub fn exit_after_write<E: Write>(err: &mut Output<E>, outcome: Result<(), RefusedWrite>) -> RunExit
+    ensures known { (result.status ≡ 0) ⊎ (result.status ≡ 4) }
+    ensures printed { IsOk outcome → result.status ≡ 0 }
+    ensures silent { IsOk outcome → err.new ≡ err.old }
+    ensures unwritten { IsErr outcome → result.status ≡ 4 }
+    ensures tells { IsErr outcome
+        → WritesLine (codes "cannot write") result.write_result
+        (E.contents err.old.writer) (E.contents err.new.writer) }
+    ensures told { IsOk result.write_result → err.new.refused ≡ err.old.refused }
+    ensures refused_line { IsErr result.write_result → err.new.refused ≡ true }
+{
+    match outcome {
+        Ok(()) => RunExit {
+            status: Status::Done.code(),
+            write_result: Ok(()),
+        },
+        Err(_) => exit_with(err, "cannot write", Status::Unwritable),
+    }
+}
+
+/// Ends a run with this status, after writing a message and a line break to `err`.
+pub fn exit_with<E: Write>(err: &mut Output<E>, message: &str, status: Status) -> RunExit
+    ensures status { result.status ≡ status_code status }
+    ensures tells { WritesLine message.now result.write_result
+        (E.contents err.old.writer) (E.contents err.new.writer) }
+    ensures told { IsOk result.write_result → err.new.refused ≡ err.old.refused }
+    ensures refused_line { IsErr result.write_result → err.new.refused ≡ true }
+{
+    let write_result = err.write_line(&[message]);
+    RunExit {
+        status: status.code(),
+        write_result,
+    }
+}

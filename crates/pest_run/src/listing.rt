@@ -1,0 +1,108 @@
+//! The list of a grammar's rules.
+ghost use Rattle.std.specs.Prelude.{◌≡◌, ◌≢◌, ◌≤◌, IsErr, IsOk, codes, true};
+ghost use Rattle.meta_ast.specs.Optimized.{optimized_rules_of};
+ghost use Rattle.pest_run.specs.Ends.{IsStatus};
+ghost use Rattle.pest_run.specs.Listing.{IsListOutcome, ListsRules};
+ghost use Rattle.pest_run.specs.Written.{IsReadable, ReportsRefusal, ReportsUnread, WritesLine};
+
+use crate::ends::{RunExit, exit_with, report_refusal};
+use crate::outcomes::Outcome;
+use crate::rule_names::name_lines;
+use crate::run::print_outcome;
+use crate::sources::{Source, text_of, unreadable};
+use meta_ast::optimized::{OptimizedRule, release};
+use pest_meta::{Report, parse_as_written, unwrap_or_report};
+use std::alloc::Global;
+use std::io::Write;
+use tool_support::output::Output;
+use tool_support::status::Status;
+
+/// Prints the names of the rules of a grammar, read from a file, to `out`, as `list_rules` does. A file that
+/// can't be read or is not UTF-8 is reported on `err` with its name and the reason (3).
+pub fn list_file<W: Write, E: Write>(
+    alloc: Global,
+    grammar: &Source<'_>,
+    out: &mut Output<W>,
+    err: &mut Output<E>,
+) -> RunExit
+    ensures known { result.status ≤ 4 }
+    ensures read { result.status ≢ 3 → IsReadable grammar.now }
+    ensures unread { IsReadable grammar.now → result.status ≢ 3 }
+    ensures listed { result.status ≡ 0 → ListsRules grammar.now.bytes.items
+        (W.contents out.old.writer) (W.contents out.new.writer) }
+    ensures unprinted { result.status ≢ 0 → result.status ≢ 4 → out.new ≡ out.old }
+    ensures taken { result.status ≡ 0 → out.new.refused ≡ out.old.refused }
+    ensures refused_write { result.status ≡ 4 → out.new.refused ≡ true }
+    ensures silent { result.status ≡ 0 → err.new ≡ err.old }
+    ensures reason { result.status ≡ 1
+        → ReportsRefusal grammar.now.bytes.items result.write_result
+        (E.contents err.old.writer) (E.contents err.new.writer) }
+    ensures tells_memory { result.status ≡ 2
+        → WritesLine (codes "out of memory") result.write_result
+        (E.contents err.old.writer) (E.contents err.new.writer) }
+    ensures tells_unread { result.status ≡ 3
+        → ReportsUnread grammar.now grammar.now result.write_result
+        (E.contents err.old.writer) (E.contents err.new.writer) }
+    ensures tells_unwritten { result.status ≡ 4
+        → WritesLine (codes "cannot write") result.write_result
+        (E.contents err.old.writer) (E.contents err.new.writer) }
+    ensures told { IsOk result.write_result → err.new.refused ≡ err.old.refused }
+    ensures refused_line { IsErr result.write_result → err.new.refused ≡ true }
+{
+    match text_of(grammar) {
+        Some(rules) => list_rules(alloc, rules, out, err),
+        None => unreadable(alloc, grammar, err),
+    }
+}
+
+/// Prints the names of a grammar's rules to `out`, a line each, in the order of the grammar (0).
+///
+/// Otherwise one text with a line break at its end goes to `err`: the report of a grammar that is refused
+/// (1); `out of memory` (2); `cannot write` where `out` refuses a write (4). A write that `err` refuses
+/// changes no status.
+pub fn list_rules<W: Write, E: Write>(
+    alloc: Global,
+    grammar: &str,
+    out: &mut Output<W>,
+    err: &mut Output<E>,
+) -> RunExit
+    ensures known { IsStatus result.status }
+    ensures unstopped { result.status ≢ 5 }
+    ensures listed { result.status ≡ 0
+        → ListsRules grammar.now (W.contents out.old.writer) (W.contents out.new.writer) }
+    ensures unprinted { result.status ≢ 0 → result.status ≢ 4 → out.new ≡ out.old }
+    ensures taken { result.status ≡ 0 → out.new.refused ≡ out.old.refused }
+    ensures refused_write { result.status ≡ 4 → out.new.refused ≡ true }
+    ensures silent { result.status ≡ 0 → err.new ≡ err.old }
+    ensures reason { result.status ≡ 1
+        → ReportsRefusal grammar.now result.write_result
+        (E.contents err.old.writer) (E.contents err.new.writer) }
+    ensures tells_memory { result.status ≡ 2
+        → WritesLine (codes "out of memory") result.write_result
+        (E.contents err.old.writer) (E.contents err.new.writer) }
+    ensures tells_unwritten { result.status ≡ 4
+        → WritesLine (codes "cannot write") result.write_result
+        (E.contents err.old.writer) (E.contents err.new.writer) }
+    ensures told { IsOk result.write_result → err.new.refused ≡ err.old.refused }
+    ensures refused_line { IsErr result.write_result → err.new.refused ≡ true }
+{
+    match unwrap_or_report(alloc, parse_as_written(alloc, grammar)) {
+        Ok(rules) => {
+            let outcome = list_outcome(alloc, &rules);
+            release(rules);
+            print_outcome(outcome, out, err)
+        }
+        Err(Report::Memory) => exit_with(err, "out of memory", Status::OutOfMemory),
+        Err(Report::Text(report)) => report_refusal(alloc, report.as_str(), err),
+    }
+}
+
+/// Returns the names of rules as lines to be shown.
+fn list_outcome(alloc: Global, rules: &[OptimizedRule]) -> Outcome
+    ensures { IsListOutcome (optimized_rules_of rules.now) result }
+{
+    match name_lines(alloc, rules) {
+        Ok(lines) => Outcome::Shown(lines),
+        Err(_) => Outcome::Memory,
+    }
+}

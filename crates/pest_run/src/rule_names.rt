@@ -1,0 +1,66 @@
+//! Names of rules, and near names.
+ghost use Rattle.std.specs.Prelude.{◌≡◌, ◌++◌, IfOk, OnOk, codes, string_bytes};
+ghost use Rattle.meta_ast.specs.Optimized.{optimized_rules_of};
+ghost use Rattle.meta_matcher.specs.ExpectedNames.{name_texts};
+ghost use Rattle.pest_run.specs.RuleNames.{is_near, name_lines, near_names};
+
+use meta_ast::optimized::OptimizedRule;
+use std::alloc::{AllocError, Global};
+use strsim::osa_distance;
+
+/// A name of more bytes has none near it.
+const LONGEST_NAME: usize = 64;
+
+/// Returns the names of rules, a line each. The only error is an allocation failure.
+pub fn name_lines(alloc: Global, rules: &[OptimizedRule]) -> Result<String, AllocError>
+    ensures { IfOk result (λ lines. string_bytes lines ≡ name_lines (optimized_rules_of rules.now)) }
+{
+    let mut lines = String::new(alloc);
+    for rule in rules {
+        add_line(&mut lines, rule.name.as_str())?;
+    }
+    Ok(lines)
+}
+
+/// Adds a name and a line break.
+fn add_line(lines: &mut String, name: &str) -> Result<(), AllocError>
+    ensures { OnOk result (string_bytes lines.new ≡ string_bytes lines.old ++ name.now ++ codes "\n") }
+{
+    lines.push_str(name)?;
+    lines.push_str("\n")
+}
+
+/// Returns the names of rules that are near a name, in the order of the rules. The only error is an
+/// allocation failure.
+pub fn near_names<'r>(
+    alloc: Global,
+    rules: &'r [OptimizedRule],
+    name: &str,
+) -> Result<Vec<&'r str>, AllocError>
+    ensures { IfOk result (λ near. name_texts near.items
+        ≡ near_names (optimized_rules_of rules.entry.now) name.now) }
+{
+    let mut near = Vec::new(alloc);
+    for rule in rules {
+        let other = rule.name.as_str();
+        if is_near(alloc, name, other)? {
+            near.push(other)?;
+        }
+    }
+    Ok(near)
+}
+
+/// Returns whether a name differs from another in the case of letters alone, or by edits, of which swapping
+/// two letters is one, at most a third of its length. The only error is an allocation failure.
+fn is_near(alloc: Global, name: &str, other: &str) -> Result<bool, AllocError>
+    ensures { IfOk result (λ near. near ≡ is_near name.now other.now) }
+{
+    if name.len() > LONGEST_NAME {
+        return Ok(false);
+    }
+    if name.eq_ignore_ascii_case(other) {
+        return Ok(true);
+    }
+    let edits = osa_distance(alloc, name, other)?;
+    Ok(edits <= name.len() / 3)
+}
