@@ -51,12 +51,31 @@ static void run(const char *call, const char *rule, const char *text, uint64_t s
     show_numbers(call, status, needed);
 }
 
+/* Runs a rule on two texts, by rules in binary form. */
+static void run_prepared(const uint8_t *rules, size_t length, const char *rule)
+{
+    static uint8_t prepared[1024];
+    static const char *const texts[] = {"xx", "y"};
+    size_t size = 0, needed = 0;
+    uint8_t status = pest_meta_prepare(rules, length, prepared, sizeof prepared, &size);
+    printf("prepare: status %d, length %zu\n", status, size);
+    for (int i = 0; i < 2; i++) {
+        status = pest_meta_match_prepared(prepared, size, (const uint8_t *)rule, strlen(rule), (const uint8_t *)texts[i],
+                                          strlen(texts[i]), UINT64_MAX, numbers, 64, &needed);
+        show_numbers("match_prepared", status, needed);
+    }
+    status = pest_meta_match_prepared(prepared, size - 1, (const uint8_t *)rule, strlen(rule), (const uint8_t *)"xx", 2,
+                                      UINT64_MAX, numbers, 64, &needed);
+    show_numbers("match_prepared by no rules", status, needed);
+}
+
 int main(void)
 {
     const uint8_t *text = (const uint8_t *)"a = @{ \"x\"? ~ b | 'a'..'z' } b = { ASCII_DIGIT{2} ~ a* }";
     const uint8_t *wrong = (const uint8_t *)"a = { b ~ \"x }";
     const uint8_t *loop = (const uint8_t *)"a = { (\"\")* }";
     const uint8_t *bytes = (const uint8_t *)"\xff";
+    const uint8_t *list = (const uint8_t *)"[{\"name\":\"a\",\"type\":\"normal\",\"expr\":[[\"rep_once\"],[\"str\",\"x\"]]}]";
     const uint8_t *rules = (const uint8_t *)"[{\"name\":\"a\",\"type\":\"normal\",\"expr\":[[\"rep_exact\",2],[\"str\",\"x\"]]}]";
     size_t length = strlen((const char *)text);
     size_t needed = 0;
@@ -113,5 +132,8 @@ int main(void)
     show_numbers("match by no rules", status, needed);
     status = pest_meta_match(rules, strlen((const char *)rules), bytes, 1, text, length, UINT64_MAX, numbers, 64, &needed);
     show_numbers("match of no text", status, needed);
+    run_prepared(list, strlen((const char *)list), "a");
+    status = pest_meta_prepare(rules, strlen((const char *)rules), out, sizeof out, &needed);
+    show("prepare of rules that are not optimized", status, needed);
     return 0;
 }

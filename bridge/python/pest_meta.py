@@ -231,7 +231,7 @@ class RunError(RuntimeError):
 class Matcher:
     """Rules of a grammar, to run them on texts.
 
-    The rules are handed to the library and compiled at each call of parse.
+    The library gets the rules in binary form, and compiles them at each call of parse.
     """
 
     def __init__(self, grammar: str) -> None:
@@ -239,7 +239,7 @@ class Matcher:
         rules = _ask("pest_meta_parse_and_optimize", grammar)["rules"]
         self.names = tuple(rule["name"] for rule in rules)
         """The names of the rules, in the order of the grammar."""
-        self._rules = json.dumps(rules).encode()
+        self._rules = _fill("pest_meta_prepare", json.dumps(rules))[1]
 
     def parse(self, rule: str, text: str, steps: int = _MOST_STEPS) -> Match:
         """Matches a text by the rule of a name, from the text's start on, in so many steps at most.
@@ -263,11 +263,11 @@ class Matcher:
             raise RunError(f"{rule} has no outcome: PEEK or POP met the empty stack")
         if status == _MEMORY:
             raise MemoryError("there is no memory for this text")
-        raise LibraryError(f"pest_meta_match: status {status} is none of this file's release")
+        raise LibraryError(f"pest_meta_match_prepared: status {status} is none of this file's release")
 
     def _run(self, rule: bytes, source: bytes, steps: int) -> Tuple[int, List[int]]:
         """The status of a run, and its numbers."""
-        function = _library().pest_meta_match
+        function = _library().pest_meta_match_prepared
         needed = ctypes.c_size_t(256 + len(source))
         status = _NO_ROOM
         while status == _NO_ROOM:
@@ -349,7 +349,21 @@ def _ask(function: str, *texts: str) -> Any:
     return _call(_library(), function, *texts)
 
 
+def _fill(function: str, *texts: str) -> Tuple[int, bytes]:
+    """The status of a function about texts, and the bytes that it writes."""
+    return _filled(_library(), function, *texts)
+
+
 def _call(library: Any, function: str, *texts: str) -> Any:
+    """What the library answers in JSON."""
+    status, written = _filled(library, function, *texts)
+    answer = json.loads(written)
+    if status == _REFUSED:
+        raise _refusal(answer)
+    return answer
+
+
+def _filled(library: Any, function: str, *texts: str) -> Tuple[int, bytes]:
     """Calls the library, and once more where the room was too small for the answer."""
     words: List[Any] = []
     for text in texts:
@@ -366,10 +380,7 @@ def _call(library: Any, function: str, *texts: str) -> Any:
         raise MemoryError(f"{function}: there is no memory for this text")
     if status not in (_ANSWERED, _REFUSED):
         raise LibraryError(f"{function}: status {status} is none of this file's release")
-    answer = json.loads(room.raw[: needed.value])
-    if status == _REFUSED:
-        raise _refusal(answer)
-    return answer
+    return status, room.raw[: needed.value]
 
 
 def _refusal(answer: Any) -> Exception:
@@ -404,6 +415,7 @@ def _folders() -> Iterator[str]:
 # How many texts each function takes.
 _FUNCTIONS = {
     "pest_meta_version": 0,
+    "pest_meta_prepare": 1,
     "pest_meta_rules": 1,
     "pest_meta_optimize": 1,
     "pest_meta_parse_and_optimize": 1,
@@ -419,7 +431,7 @@ def _declare(function: Any, texts: int) -> None:
 
 
 def _declare_match(function: Any) -> None:
-    """Declares what pest_meta.h says of pest_meta_match: three texts, the steps, and room for numbers."""
+    """Declares what pest_meta.h says of pest_meta_match_prepared: three texts, the steps, and room for numbers."""
     text = [ctypes.c_char_p, ctypes.c_size_t]
     room = [ctypes.POINTER(ctypes.c_size_t), ctypes.c_size_t, ctypes.POINTER(ctypes.c_size_t)]
     function.argtypes = [*(3 * text), ctypes.c_uint64, *room]
@@ -446,7 +458,7 @@ def _load() -> Any:
         library = ctypes.CDLL(found[0] if found else fallback)
         for function, texts in _FUNCTIONS.items():
             _declare(getattr(library, function), texts)
-        _declare_match(library.pest_meta_match)
+        _declare_match(library.pest_meta_match_prepared)
         answer = _call(library, "pest_meta_version")
     except (OSError, AttributeError) as error:
         looked = ", ".join(os.path.normpath(os.path.dirname(path)) for path in paths)

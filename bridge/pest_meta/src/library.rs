@@ -43,7 +43,14 @@ extern "C" {
         room: usize,
         needed: *mut usize,
     ) -> u8;
-    fn pest_meta_match(
+    fn pest_meta_prepare(
+        rules: *const u8,
+        rules_len: usize,
+        out: *mut u8,
+        out_len: usize,
+        needed: *mut usize,
+    ) -> u8;
+    fn pest_meta_match_prepared(
         rules: *const u8,
         rules_len: usize,
         rule: *const u8,
@@ -111,9 +118,15 @@ pub(crate) fn token_numbers(text: &str, rule: &str, out: &mut [usize], needed: &
     }
 }
 
-/// The tokens of a text by a rule of optimized rules in JSON, as numbers, or those of a failure.
-pub(crate) fn match_text(
-    rules: &str,
+/// Optimized rules in binary form, of those in JSON.
+pub(crate) fn prepare(rules: &str, out: &mut [u8], needed: &mut usize) -> u8 {
+    // SAFETY: as above.
+    unsafe { pest_meta_prepare(rules.as_ptr(), rules.len(), out.as_mut_ptr(), out.len(), needed) }
+}
+
+/// The tokens of a text by a rule of optimized rules in binary form, as numbers, or those of a failure.
+pub(crate) fn match_prepared(
+    rules: &[u8],
     rule: &str,
     text: &str,
     steps: u64,
@@ -122,7 +135,7 @@ pub(crate) fn match_text(
 ) -> u8 {
     // SAFETY: as above.
     unsafe {
-        pest_meta_match(
+        pest_meta_match_prepared(
             rules.as_ptr(),
             rules.len(),
             rule.as_ptr(),

@@ -1,13 +1,13 @@
 //! Optimized rules run on texts by the proved matcher, for the crate pest_vm. No part of the original's interface.
 #![forbid(unsafe_code)]
 
-use crate::library;
 use crate::optimizer::OptimizedRule;
+use crate::{answers, library, optimizer};
 
 /// Optimized rules as the library reads them.
 #[derive(Clone, Debug)]
 pub struct Program {
-    rules: String,
+    rules: Vec<u8>,
     names: Vec<String>,
 }
 
@@ -53,9 +53,12 @@ pub enum Unmatched {
 
 impl Program {
     /// Writes rules as the library reads them.
+    ///
+    /// # Panics
+    /// Where the library has no memory.
     pub fn new(rules: &[OptimizedRule]) -> Program {
         let names = rules.iter().map(|rule| rule.name.clone()).collect();
-        Program { rules: crate::optimizer::json_of(rules), names }
+        Program { rules: answers::prepared(&optimizer::json_of(rules)), names }
     }
 
     /// Returns the name of the rule of an index.
@@ -70,10 +73,10 @@ impl Program {
     pub fn run(&self, rule: &str, text: &str, steps: u64) -> Result<(usize, Vec<Token>), Unmatched> {
         let mut numbers = vec![0; 64 + text.len()];
         let mut needed = 0;
-        let mut status = library::match_text(&self.rules, rule, text, steps, &mut numbers, &mut needed);
+        let mut status = library::match_prepared(&self.rules, rule, text, steps, &mut numbers, &mut needed);
         if status == 4 {
             numbers = vec![0; needed];
-            status = library::match_text(&self.rules, rule, text, steps, &mut numbers, &mut needed);
+            status = library::match_prepared(&self.rules, rule, text, steps, &mut numbers, &mut needed);
         }
         let numbers = &numbers[..needed];
         match status {

@@ -31,7 +31,11 @@ pub(crate) fn token_numbers(_: &str, _: &str, _: &mut [usize], _: &mut usize) ->
     refused()
 }
 
-pub(crate) fn match_text(_: &str, _: &str, _: &str, _: u64, _: &mut [usize], _: &mut usize) -> u8 {
+pub(crate) fn prepare(_: &str, _: &mut [u8], _: &mut usize) -> u8 {
+    refused()
+}
+
+pub(crate) fn match_prepared(_: &[u8], _: &str, _: &str, _: u64, _: &mut [usize], _: &mut usize) -> u8 {
     refused()
 }
 

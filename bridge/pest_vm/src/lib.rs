@@ -29,8 +29,7 @@
 //!
 //! # Limits
 //!
-//! The library reads and compiles the rules at each call of [`Vm::parse`], which takes longer than a short text. A
-//! rule that matches the empty text for ever runs for ever, as in the original. pest's parser state makes the
+//! The library compiles the rules at each call of [`Vm::parse`], which takes longer than a short text. A rule that matches the empty text for ever runs for ever, as in the original. pest's parser state makes the
 //! pairs, and takes stack by the depth of the trees.
 #![forbid(unsafe_code)]
 #![warn(missing_docs, rust_2018_idioms, unused_qualifications)]

@@ -33,9 +33,13 @@ zip_map R f [] (y ∷ ys) h = absurd h
 zip_map R f (w ∷ ws) [] h = absurd h
 zip_map R f (w ∷ ws) (y ∷ ys) h = (h.0, zip_map R f ws ys h.1)
 
--- seven lists in turn
-pub seven : {X : Type 0} (a b c d e f g : List X) → ((((((([] ++ a) ++ b) ++ c) ++ d) ++ e) ++ f) ++ g) ≡ a ++ (b ++ (c ++ (d ++ (e ++ (f ++ (g ++ []))))))
-seven a b c d e f g = rw (append-nil, append_assoc, append_assoc, append_assoc, append_assoc, append_assoc) refl
+-- nine lists in turn
+pub nine : {X : Type 0} (a b c d e f g h i : List X) → ((((((((([] ++ a) ++ b) ++ c) ++ d) ++ e) ++ f) ++ g) ++ h) ++ i) ≡ a ++ (b ++ (c ++ (d ++ (e ++ (f ++ (g ++ (h ++ (i ++ []))))))))
+nine a b c d e f g h i = rw (append-nil, append_assoc, append_assoc, append_assoc, append_assoc, append_assoc, append_assoc, append_assoc) refl
+
+-- two lists after another
+pub two_more : {X : Type 0} (all a b : List X) → (all ++ a) ++ b ≡ all ++ (a ++ (b ++ []))
+two_more all a b = rw (append-nil, append_assoc) refl
 
 -- the warnings of a code, span by span
 pub reported_code : {E : Type 0} (c : Code) (spans : List code_span.Span) (pieces : List Span) (result : Result (Vec Diagnostic Global) E) → map piece_of spans ≡ pieces

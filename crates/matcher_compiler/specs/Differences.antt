@@ -49,8 +49,8 @@ pub record Decides (g : Grammar) (classes : Classes) (k : Task) (s : State) (b :
   pub quiet : furthest found ≡ 0
   pub told : is_success outcome ≡ b
 
--- a form matches one character of a set; or it succeeds where one is next, and there alone; or it fails there,
--- and else matches nothing
+-- a form matches one character of a set; or it succeeds where one is next, and there alone; or it fails
+-- there, and else matches nothing
 abbrev pub MatchesOne : Program → Classes → Form → (ℕ → Bool) → Type 0
 MatchesOne p classes f set = (m : Atomicity)
     → HasOutcome (grammar_in p) classes (Run (mode_of m) (said p f)) (character_outcome set) (λ s. 0)

@@ -15,7 +15,8 @@ use matcher_code::code::Ranges;
 use matcher_program::form::{Form, Program};
 use std::alloc::{AllocError, Global};
 
-/// The largest number of ranges that are left out of a set, or that a choice has before its first alternative.
+/// The largest number of ranges that are left out of a set, or that a choice has before its first
+/// alternative.
 pub(crate) const MOST_RANGES: usize = 256;
 
 /// Returns the form of a literal, if that is one character.

@@ -115,7 +115,8 @@ impl<'p> Plan<'p> {
         Ok(set)
     }
 
-    /// Plans a form of one character of some ranges, where one in front refuses others, and nothing is skipped.
+    /// Plans a form of one character of some ranges, where one in front refuses others, and nothing is
+    /// skipped.
     pub(crate) fn other_character(
         &mut self,
         alloc: Global,

@@ -76,7 +76,8 @@ pub fn text_operation_matches_literal()
         → Performs code number l n w (text_outcome nat_eq (chars b)) (λ s. 0) }
 {}
 
-/// Where the operation 0 is `Fail`, the operation `AnyCase` of a text matches it as a literal in any case does.
+/// Where the operation 0 is `Fail`, the operation `AnyCase` of a text matches it as a literal in any case
+/// does.
 pub fn any_case_operation_matches_literal()
     ensures { (code : Code) (number : Text → ℕ) → op_at code [] 0 ≡ op.Fail
         → (l n w i : ℕ) (b : List ℕ) → IsUtf8 b → text_of code i ≡ b → op_at code [] l ≡ op.AnyCase i n w

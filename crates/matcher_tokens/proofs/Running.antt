@@ -8,7 +8,6 @@ use Rattle.meta_base.specs.Language.Expected.{expected, expected_at}
 use Rattle.meta_base.specs.Language.State.{Trees}
 use Rattle.meta_base.specs.Language.Text.{Text}
 use Rattle.meta_base.proofs.ExpectedOnce.{one_list}
-use Rattle.meta_json.specs.Reading.{AreOptimizedRules}
 use Rattle.matcher_program.specs.Programs.{Fits}
 use Rattle.matcher_program.specs.Refusals.{IsReason}
 use Rattle.matcher_program.specs.declared.compile.Unfit.{Unfit}
@@ -23,7 +22,7 @@ use Rattle.meta_matcher.specs.ExpectedNames.{each_once, name_texts}
 use Rattle.meta_matcher.specs.declared.machine.Stop.{Stop}
 use Rattle.meta_matcher.specs.declared.machine.Stop.TheVariants as stop
 use Rattle.matcher_tokens.specs.Numbers.{failure_numbers, match_numbers}
-use Rattle.matcher_tokens.specs.Outcomes.{HasMatched, IsFailureOutcome, IsMatchOutcome, IsRunOutcome, stopped_outcome, unfit_outcome}
+use Rattle.matcher_tokens.specs.Outcomes.{HasMatched, IsFailureOutcome, IsOutcomeBy, IsRunOutcome, stopped_outcome, unfit_outcome}
 use Rattle.matcher_tokens.specs.declared.outcome.MatchOutcome.{MatchOutcome}
 use Rattle.matcher_tokens.specs.declared.outcome.MatchOutcome.TheVariants as is
 
@@ -62,13 +61,14 @@ unfit g rule text steps no.Memory h = tt
 unfit g rule text steps (no.UnknownName name) h = (no.UnknownName name, tt, h)
 unfit g rule text steps (no.Bound bound) h = (no.Bound bound, tt, h)
 
--- the rules of the JSON
-pub of_rules : (json : List ℕ) (rules : List OptimizedRule) (rule : Text) (text : List ℕ) (steps : ℕ) (o : MatchOutcome) → AreOptimizedRules json rules → IsRunOutcome (optimized_rules_of rules) rule text steps o → IsMatchOutcome json rule text steps o
-of_rules json rules rule text steps (is.Matched numbers) r h = record { rules = rules; read = r; holds = h }
-of_rules json rules rule text steps (is.Failed numbers) r h = record { rules = rules; read = r; holds = h }
-of_rules json rules rule text steps is.NoRules r h = absurd h
-of_rules json rules rule text steps is.Unfit r h = record { rules = rules; read = r; holds = h }
-of_rules json rules rule text steps is.NoRule r h = record { rules = rules; read = r; holds = h }
-of_rules json rules rule text steps is.OutOfSteps r h = record { rules = rules; read = r; holds = h }
-of_rules json rules rule text steps is.EmptyStack r h = record { rules = rules; read = r; holds = h }
-of_rules json rules rule text steps is.Memory r h = tt
+-- the rules that are read
+pub of_rules : (Are : List OptimizedRule → Type 0) (Unread : Type 0) (rules : List OptimizedRule) (rule : Text) (text : List ℕ) (steps : ℕ) (o : MatchOutcome)
+    → Are rules → IsRunOutcome (optimized_rules_of rules) rule text steps o → IsOutcomeBy Are Unread rule text steps o
+of_rules Are Unread rules rule text steps (is.Matched numbers) r h = record { rules = rules; read = r; holds = h }
+of_rules Are Unread rules rule text steps (is.Failed numbers) r h = record { rules = rules; read = r; holds = h }
+of_rules Are Unread rules rule text steps is.NoRules r h = absurd h
+of_rules Are Unread rules rule text steps is.Unfit r h = record { rules = rules; read = r; holds = h }
+of_rules Are Unread rules rule text steps is.NoRule r h = record { rules = rules; read = r; holds = h }
+of_rules Are Unread rules rule text steps is.OutOfSteps r h = record { rules = rules; read = r; holds = h }
+of_rules Are Unread rules rule text steps is.EmptyStack r h = record { rules = rules; read = r; holds = h }
+of_rules Are Unread rules rule text steps is.Memory r h = tt

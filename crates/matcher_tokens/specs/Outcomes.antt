@@ -1,5 +1,5 @@
--- The outcome of a rule of rules in JSON on a text.
-use Rattle.std.specs.Prelude.{◌≡◌, ◌<◌, List, ℕ, None, ⊤}
+-- The outcome of a rule on a text.
+use Rattle.std.specs.Prelude.{◌≡◌, ◌<◌, All, List, ℕ, None, ⊤}
 use Rattle.meta_ast.specs.Optimized.{optimized_rules_of}
 use Rattle.meta_ast.specs.declared.optimized.OptimizedRule.{OptimizedRule}
 use Rattle.meta_base.specs.Language.Expected.{expected}
@@ -7,6 +7,8 @@ use Rattle.meta_base.specs.Language.Expression.{Grammar, rule_of}
 use Rattle.meta_base.specs.Language.FurthestFailure.{furthest}
 use Rattle.meta_base.specs.Language.State.{State, Trees, Outcome, Success, Failure}
 use Rattle.meta_base.specs.Language.Text.{Text}
+use Rattle.meta_binary.specs.Format.{optimized_rules_bytes}
+use Rattle.meta_binary.specs.Indices.{HasIndices}
 use Rattle.meta_json.specs.Reading.{AreOptimizedRules}
 use Rattle.meta_json.specs.Refusals.{IsRefusedText}
 use Rattle.meta_json.specs.declared.refusal.Refusal.TheVariants as refusal
@@ -68,22 +70,35 @@ IsRunOutcome g rule text steps is.OutOfSteps = TakesMoreSteps g rule text steps
 IsRunOutcome g rule text steps is.EmptyStack = HasNoOutcome g rule text
 IsRunOutcome g rule text steps is.Memory = ⊤
 
--- the JSON has optimized rules with this property
-pub record OfRules (json : List ℕ) (P : Grammar → Type 0) : Type 0 where
+-- there are such rules, with this property
+pub record OfRules (Are : List OptimizedRule → Type 0) (P : Grammar → Type 0) : Type 0 where
   pub rules : List OptimizedRule
-  pub read : AreOptimizedRules json rules
+  pub read : Are rules
   pub holds : P (optimized_rules_of rules)
+
+-- the outcome is that of the rule of such rules on the text; or none are read, for this reason; nothing is
+-- said of a failed allocation
+abbrev pub IsOutcomeBy : (List OptimizedRule → Type 0) → Type 0 → Text → List ℕ → ℕ → MatchOutcome → Type 0
+IsOutcomeBy Are Unread rule text steps is.NoRules = Unread
+IsOutcomeBy Are Unread rule text steps is.Memory = ⊤
+IsOutcomeBy Are Unread rule text steps o = OfRules Are (λ g. IsRunOutcome g rule text steps o)
 
 -- the JSON is refused as a list of rules
 abbrev pub HasNoRules : List ℕ → Type 0
 HasNoRules json =
     (place : RefusalLocation) × (why : RefusalReason) × IsRefusedText json (refusal.Text place why)
 
--- the outcome is that of the rule of the rules in JSON on the text; nothing is said of a failed allocation
+-- the outcome is that of the rule of the rules in JSON on the text
 abbrev pub IsMatchOutcome : List ℕ → Text → List ℕ → ℕ → MatchOutcome → Type 0
-IsMatchOutcome json rule text steps is.NoRules = HasNoRules json
-IsMatchOutcome json rule text steps is.Memory = ⊤
-IsMatchOutcome json rule text steps o = OfRules json (λ g. IsRunOutcome g rule text steps o)
+IsMatchOutcome json = IsOutcomeBy (AreOptimizedRules json) (HasNoRules json)
+
+-- the bytes are those of rules in binary form, of which there is one list (`meta_binary::laws`)
+abbrev pub ArePrepared : List ℕ → List OptimizedRule → Type 0
+ArePrepared bytes rules = (bytes ≡ optimized_rules_bytes rules) × All (λ r. HasIndices r.expr) rules
+
+-- the outcome is that of the rule of the rules in binary form on the text
+abbrev pub IsPreparedOutcome : List ℕ → Text → List ℕ → ℕ → MatchOutcome → Type 0
+IsPreparedOutcome bytes = IsOutcomeBy (ArePrepared bytes) ⊤
 
 -- the outcome of a run that the matcher stopped
 abbrev pub stopped_outcome : Stop → MatchOutcome

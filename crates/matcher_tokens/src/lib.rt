@@ -1,5 +1,5 @@
-//! A rule of optimized rules in JSON, run on a text, with its tokens as numbers, for callers in other
-//! languages.
+//! A rule of optimized rules in JSON or in binary form, run on a text, with its tokens as numbers, for
+//! callers in other languages.
 #![tactic(auto)]
 
 mod numbers;

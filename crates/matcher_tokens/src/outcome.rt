@@ -1,6 +1,6 @@
 //! The outcome of a rule on a text, as numbers.
 
-/// The outcome of a rule of rules in JSON on a text.
+/// The outcome of a rule on a text.
 #[derive(Debug, Drop)]
 pub enum MatchOutcome {
     /// The rule matches: the position after the match, in bytes, and three numbers for each entry of its
@@ -10,7 +10,7 @@ pub enum MatchOutcome {
     /// The rule fails: the furthest position of a failure, in bytes, and the numbers of the rules that are
     /// expected there.
     Failed(Vec<usize>),
-    /// The JSON is no list of optimized rules.
+    /// The JSON or the bytes are no list of optimized rules.
     NoRules,
     /// The rules call an unknown name, or have a range with a bound that is not one character.
     Unfit,

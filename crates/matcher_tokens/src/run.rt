@@ -2,7 +2,7 @@
 ghost use Rattle.std.specs.Prelude.{◌≡◌, chars};
 ghost use Rattle.meta_ast.specs.Optimized.{optimized_rules_of};
 ghost use Rattle.meta_matcher.specs.ExpectedNames.{name_texts};
-ghost use Rattle.matcher_tokens.specs.Outcomes.{IsFailureOutcome, IsMatchOutcome, IsRunOutcome, stopped_outcome, unfit_outcome};
+ghost use Rattle.matcher_tokens.specs.Outcomes.{IsFailureOutcome, IsMatchOutcome, IsPreparedOutcome, IsRunOutcome, stopped_outcome, unfit_outcome};
 
 use crate::numbers::{failure_numbers, match_numbers};
 use crate::outcome::MatchOutcome;
@@ -11,6 +11,7 @@ use matcher_program::compile::Unfit;
 use matcher_support::unicode_properties::UnicodeProperties;
 use meta_ast::deep::Deep;
 use meta_ast::optimized::OptimizedRule;
+use meta_binary::{BinaryRefusal, read_optimized_rules as read_prepared_rules};
 use meta_json::{Refusal as Unread, read_optimized_rules};
 use meta_matcher::machine::Stop;
 use meta_matcher::matcher::Refusal;
@@ -25,6 +26,25 @@ pub fn match_text(alloc: Global, rules: &str, rule: &str, text: &str, steps: u64
         Ok(rules) => Deep { value: rules },
         Err(Unread::Memory) => return MatchOutcome::Memory,
         Err(Unread::Text(_, _)) => return MatchOutcome::NoRules,
+    };
+    run(alloc, &rules.value, rule, text, steps)
+}
+
+/// Runs the rule of a name from the start of a text, in at most `steps` steps. The rules are optimized rules
+/// in binary form.
+pub fn match_prepared(
+    alloc: Global,
+    rules: &[u8],
+    rule: &str,
+    text: &str,
+    steps: u64,
+) -> MatchOutcome
+    ensures { IsPreparedOutcome rules.now (chars rule.now) text.now steps result }
+{
+    let rules = match read_prepared_rules(alloc, rules) {
+        Ok(rules) => Deep { value: rules },
+        Err(BinaryRefusal::Memory) => return MatchOutcome::Memory,
+        Err(BinaryRefusal::Form) => return MatchOutcome::NoRules,
     };
     run(alloc, &rules.value, rule, text, steps)
 }

@@ -1,1 +1,4 @@
+pub mod Decoding
+pub mod Reading
 pub mod Turns
+pub mod Within

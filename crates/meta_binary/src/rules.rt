@@ -1,10 +1,14 @@
-//! Lists of rules in binary form.
-ghost use Rattle.std.specs.Prelude.{◌≡◌, ◌++◌, OnOk};
-ghost use Rattle.meta_binary.specs.Format.{optimized_rules_bytes, rule_bytes, rules_bytes, type_byte};
+//! Lists of rules in binary form, and read back.
+ghost use Rattle.std.specs.Prelude.{◌≡◌, ◌∷◌, ◌++◌, All, IfOk, OnOk, string_bytes};
+ghost use Rattle.meta_binary.specs.Format.{optimized_expression_bytes, optimized_rules_bytes, rule_bytes, rules_bytes, type_byte};
+ghost use Rattle.meta_binary.specs.Indices.{HasIndices};
 
 use crate::expressions::{AsNodes, push_expression};
+use crate::input::{BinaryRefusal, ByteInput};
 use crate::scalars::{push_size, push_text};
+use crate::trees::read_expression;
 use meta_ast::ast::{Rule, RuleType};
+use meta_ast::deep::Deep;
 use meta_ast::optimized::OptimizedRule;
 use std::alloc::{AllocError, Global};
 
@@ -59,5 +63,58 @@ fn byte_of_type(ty: RuleType) -> u8
         RuleType::Atomic => 2,
         RuleType::CompoundAtomic => 3,
         RuleType::NonAtomic => 4,
+    }
+}
+
+/// Reads optimized rules. Refuses bytes that are not those of a list of rules, or have more behind it. An
+/// allocation failure is a refusal, too.
+pub fn read_optimized_rules(
+    alloc: Global,
+    bytes: &[u8],
+) -> Result<Vec<OptimizedRule>, BinaryRefusal>
+    ensures bytes { IfOk result (λ rules. bytes.now ≡ optimized_rules_bytes rules.items) }
+    ensures indices { IfOk result (λ rules. All (λ r. HasIndices r.expr) rules.items) }
+{
+    let mut input = ByteInput { rest: bytes };
+    let count = input.read_size()?;
+    let mut rules = Deep {
+        value: Vec::new(alloc),
+    };
+    for place in 0..count {
+        let rule = Deep {
+            value: read_rule(alloc, &mut input)?,
+        };
+        rules.push(rule)?;
+    }
+    if input.rest.is_empty() {
+        Ok(rules.into_inner())
+    } else {
+        Err(BinaryRefusal::Form)
+    }
+}
+
+/// Reads an optimized rule.
+fn read_rule(alloc: Global, input: &mut ByteInput<'_>) -> Result<OptimizedRule, BinaryRefusal>
+    ensures read { IfOk result (λ rule. input.old.rest.now ≡ rule_bytes (string_bytes rule.name) rule.ty
+        (optimized_expression_bytes rule.expr) ++ input.new.rest.now) }
+    ensures indices { IfOk result (λ rule. HasIndices rule.expr) }
+{
+    let name = input.read_string(alloc)?;
+    let ty = read_type(input)?;
+    let expr = read_expression(alloc, input)?;
+    Ok(OptimizedRule { name, ty, expr })
+}
+
+/// Reads a type.
+fn read_type(input: &mut ByteInput<'_>) -> Result<RuleType, BinaryRefusal>
+    ensures { IfOk result (λ ty. input.old.rest.now ≡ type_byte ty ∷ input.new.rest.now) }
+{
+    match input.read_byte()? {
+        0 => Ok(RuleType::Normal),
+        1 => Ok(RuleType::Silent),
+        2 => Ok(RuleType::Atomic),
+        3 => Ok(RuleType::CompoundAtomic),
+        4 => Ok(RuleType::NonAtomic),
+        _ => Err(BinaryRefusal::Form),
     }
 }

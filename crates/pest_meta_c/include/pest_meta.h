@@ -99,7 +99,8 @@ uint8_t pest_meta_grammar(const uint8_t *text, size_t text_len, uint8_t *out, si
 /* The tokens of a text by a rule of optimized rules in JSON ("Rules"), from the
  * text's start on. `out` is a buffer of `out_len` numbers, and `*needed` counts
  * numbers. The run takes `steps` steps at most; UINT64_MAX is no limit in
- * practice. The rules are read and compiled at each call. With status
+ * practice. The rules are read and compiled at each call: pest_meta_prepare saves
+ * most of the reading. With status
  *
  *   0  the rule matches: the position after the match, in bytes, and then for
  *      each entry of the tokens ("Tokens as numbers") a pest_meta_entry
@@ -118,6 +119,18 @@ uint8_t pest_meta_grammar(const uint8_t *text, size_t text_len, uint8_t *out, si
 uint8_t pest_meta_match(const uint8_t *rules, size_t rules_len, const uint8_t *rule, size_t rule_len,
                         const uint8_t *text, size_t text_len, uint64_t steps, size_t *out,
                         size_t out_len, size_t *needed);
+
+/* Optimized rules in binary form ("Binary form"), for those in JSON, to be handed
+ * to pest_meta_match_prepared for any number of texts. Refused as
+ * pest_meta_optimize is. */
+uint8_t pest_meta_prepare(const uint8_t *rules, size_t rules_len, uint8_t *out, size_t out_len,
+                          size_t *needed);
+
+/* As pest_meta_match, by rules in binary form: status 5 says that the bytes are
+ * no list of optimized rules in that form. Any bytes may be handed over. */
+uint8_t pest_meta_match_prepared(const uint8_t *rules, size_t rules_len, const uint8_t *rule,
+                                 size_t rule_len, const uint8_t *text, size_t text_len,
+                                 uint64_t steps, size_t *out, size_t out_len, size_t *needed);
 
 /* The start or the end of a token, as it lies in `out`. */
 typedef struct pest_meta_entry {

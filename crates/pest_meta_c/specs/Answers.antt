@@ -97,6 +97,12 @@ pub record AreOptimized (text json : List ℕ) : Type 0 where
   pub agrees : WrappersSuffice (optimized_rules_of answer) → AgreesLoosely (optimized_rules_of answer)
   pub written : json ≡ compact_text (optimized_rules_data answer)
 
+-- the bytes are the optimized rules of a text in JSON, in binary form
+pub record IsPrepared (text bytes : List ℕ) : Type 0 where
+  pub rules : List OptimizedRule
+  pub read : reading.AreOptimizedRules text rules
+  pub written : bytes ≡ optimized_rules_bytes rules
+
 -- the promises for the builtins and the optimized rules that a grammar's text is answered with
 pub record ArePromised (text : List ℕ) (builtins : List (Bor (List ℕ))) (rules : List OptimizedRule)
     : Type 0 where

@@ -4,7 +4,7 @@ ghost use Rattle.meta_base.specs.Pieces.MetaRules.{name_of};
 ghost use Rattle.meta_base.specs.Pieces.Pairs.{pairs_text};
 ghost use Rattle.meta_syntax.specs.Parses.{AreOfAGrammar};
 ghost use Rattle.pest_meta.specs.Spelling.{IsNoGrammar, IsRefusal};
-ghost use Rattle.pest_meta_c.specs.Answers.{AreKeywordErrors, AreNames, AreNodes, AreOptimized, AreRules, AreTokenNumbers, AreTokens, IsGrammar, IsVersion, IsWhole};
+ghost use Rattle.pest_meta_c.specs.Answers.{AreKeywordErrors, AreNames, AreNodes, AreOptimized, AreRules, AreTokenNumbers, AreTokens, IsGrammar, IsPrepared, IsVersion, IsWhole};
 ghost use Rattle.pest_meta_c.specs.Outcomes.{IsRefusalOf, RefusesNumbers, RefusesWith};
 ghost use Rattle.pest_meta_c.specs.Refusals.{DoesNotMatch, HasNoMatch, HasNoNames, HasNoNodes, HasNoRules, HasNoTokens, IsNoJson, IsRefused, Never, ReportsSuch};
 
@@ -16,8 +16,8 @@ use meta_base::runtime::{Fault, Pairs, Span};
 use meta_binary::{push_names, push_optimized_rules, push_rules, tokens_numbers};
 use meta_json::{
     Refusal, RefusalLocation, RefusalReason, answer_text, errors_text, names_text, nodes_text,
-    optimized_rules_text, read_rules, refusal_text, rule_named, rules_text, tokens_text,
-    version_text,
+    optimized_rules_text, read_optimized_rules, read_rules, refusal_text, rule_named, rules_text,
+    tokens_text, version_text,
 };
 use meta_names::collect_builtins;
 use pest_meta::optimizer;
@@ -187,6 +187,23 @@ fn grammar_bytes(alloc: Global, text: &str) -> Result<Vec<u8>, Fault>
     };
     push_optimized_rules(alloc, &mut bytes, &optimized.value)?;
     Ok(bytes)
+}
+
+/// Returns optimized rules in JSON in binary form.
+pub(crate) fn prepare(alloc: Global, json: &str) -> BytesOutcome
+    ensures answered { IfOk result (λ bytes. IsPrepared json.now bytes.items) }
+    ensures refused { IfErr result (RefusesWith (IsNoJson json.now)) }
+{
+    let rules = match read_optimized_rules(alloc, json) {
+        Ok(rules) => Deep { value: rules },
+        Err(Refusal::Memory) => return Err(CallError::Memory),
+        Err(Refusal::Text(place, why)) => return Err(json_refusal(alloc, place, why)),
+    };
+    let mut bytes = Vec::new(alloc);
+    match push_optimized_rules(alloc, &mut bytes, &rules.value) {
+        Ok(()) => Ok(bytes),
+        Err(_) => Err(CallError::Memory),
+    }
 }
 
 /// Returns the number of the format, and the version of the original crate.

@@ -5,8 +5,8 @@
 //! 0 for an answer, and 1 for a refusal, with JSON at the start of `out` and its length in `needed`; 2 for an
 //! allocation failure and 3 for an input that is not UTF-8, with nothing written and 0 in `needed`; 4 where
 //! `out` is too small, with nothing written and the length of the JSON in `needed`. `pest_meta_grammar`
-//! answers in binary form, `pest_meta_token_numbers` and `pest_meta_match` with numbers; the last has more
-//! statuses.
+//! and `pest_meta_prepare` answer in binary form, `pest_meta_token_numbers`, `pest_meta_match` and
+//! `pest_meta_match_prepared` with numbers; the last two have more statuses.
 #![tactic(auto)]
 
 mod calls;
@@ -15,13 +15,13 @@ mod outcome;
 
 ghost use Rattle.std.specs.Prelude.{◌≡◌, ◌≢◌, chars};
 ghost use Rattle.std.specs.Str.{IsUtf8};
-ghost use Rattle.pest_meta_c.specs.Answers.{AreKeywordErrors, AreNames, AreNodes, AreOptimized, AreRules, AreTokenNumbers, AreTokens, IsGrammar, IsVersion, IsWhole};
-ghost use Rattle.matcher_tokens.specs.Outcomes.{IsMatchOutcome};
+ghost use Rattle.pest_meta_c.specs.Answers.{AreKeywordErrors, AreNames, AreNodes, AreOptimized, AreRules, AreTokenNumbers, AreTokens, IsGrammar, IsPrepared, IsVersion, IsWhole};
+ghost use Rattle.matcher_tokens.specs.Outcomes.{IsMatchOutcome, IsPreparedOutcome};
 ghost use Rattle.pest_meta_c.specs.Handing.{HandsOver, HandsOverMatch, HandsOverNumbers};
 ghost use Rattle.pest_meta_c.specs.Refusals.{HasNoMatch, HasNoNames, HasNoNodes, HasNoRules, HasNoTokens, IsNoJson, IsRefused, Never};
 
 use handing::{hand_over, hand_over_bytes, hand_over_match, hand_over_numbers, no_text};
-use matcher_tokens::run::match_text;
+use matcher_tokens::run::{match_prepared, match_text};
 use std::alloc::Global;
 
 /// Writes the tokens of a text for the rule of the meta-grammar of that name, from the text's start on.
@@ -219,6 +219,50 @@ pub extern "C" fn pest_meta_match(
     ) {
         (Ok(rules), Ok(rule), Ok(text)) => {
             hand_over_match(out, needed, match_text(alloc, rules, rule, text, steps))
+        }
+        _ => no_text(needed),
+    }
+}
+
+/// Writes optimized rules in binary form, for optimized rules in JSON.
+#[unsafe(no_mangle)]
+pub extern "C" fn pest_meta_prepare(
+    alloc: Global,
+    rules: &[u8],
+    out: &mut [u8],
+    needed: &mut usize,
+) -> u8
+    ensures hands { HandsOver (IsPrepared rules.now) (IsNoJson rules.now)
+        out.old out.new needed.new result }
+    ensures text { result ≢ 3 → IsUtf8 rules.now }
+    ensures no_text { result ≡ 3 → IsUtf8 rules.now → ⊥ }
+{
+    match str::from_utf8(rules) {
+        Ok(rules) => hand_over_bytes(out, needed, calls::prepare(alloc, rules)),
+        Err(_) => no_text(needed),
+    }
+}
+
+/// Writes the tokens of a text by a rule of optimized rules in binary form, as numbers. The run takes at most
+/// `steps` steps.
+#[unsafe(no_mangle)]
+pub extern "C" fn pest_meta_match_prepared(
+    alloc: Global,
+    rules: &[u8],
+    rule: &[u8],
+    text: &[u8],
+    steps: u64,
+    out: &mut [usize],
+    needed: &mut usize,
+) -> u8
+    ensures hands { HandsOverMatch (IsPreparedOutcome rules.now (chars rule.now) text.now steps)
+        out.old out.new needed.new result }
+    ensures texts { result ≢ 3 → IsUtf8 rule.now × IsUtf8 text.now }
+    ensures no_texts { result ≡ 3 → IsUtf8 rule.now × IsUtf8 text.now → ⊥ }
+{
+    match (str::from_utf8(rule), str::from_utf8(text)) {
+        (Ok(rule), Ok(text)) => {
+            hand_over_match(out, needed, match_prepared(alloc, rules, rule, text, steps))
         }
         _ => no_text(needed),
     }

@@ -1,10 +1,12 @@
 use Rattle.std.proofs.Common.{chars, subst}
 use Rattle.meta_ast.specs.Optimized.{optimized_rules_of}
-use Rattle.matcher_tokens.specs.Outcomes.{IsRunOutcome}
+use Rattle.meta_json.specs.Reading.{AreOptimizedRules}
+use Rattle.matcher_tokens.specs.Outcomes.{HasNoRules, IsRunOutcome}
 use Rattle.matcher_tokens.proofs.Running.{of_rules}
 use Rattle.matcher_tokens.proofs.run.match_text.Goals as goal
 
 pub returns : goal.returns
 returns c =
+    let json = c.args.rules.now in
     let outcome = subst (λ rs. IsRunOutcome (optimized_rules_of rs) (chars c.args.rule.now) c.args.text.now c.args.steps c.run.result) c.deref.ensures.value c.run.ensures in
-    of_rules c.args.rules.now c.in-Ok.rules.items (chars c.args.rule.now) c.args.text.now c.args.steps c.run.result c.in-Ok.ensures.rules outcome
+    of_rules (AreOptimizedRules json) (HasNoRules json) c.in-Ok.rules.items (chars c.args.rule.now) c.args.text.now c.args.steps c.run.result c.in-Ok.ensures.rules outcome

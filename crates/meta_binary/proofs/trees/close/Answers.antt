@@ -1,0 +1,34 @@
+use Rattle.std.proofs.Common.{◌∙◌, ap, arith, subst, sym}
+use Rattle.std.proofs.lemmas.Grind.{common_steps}
+use Rattle.meta_binary.specs.Indices.{HasIndices}
+use Rattle.meta_binary.specs.Reading.{AreWithin, IsOperatorWithin}
+use Rattle.meta_binary.proofs.Within.{within_last, within_parts}
+use Rattle.meta_binary.proofs.trees.close.Goals as goal
+
+pub operators-preserved-in-One : goal.operators-preserved-in-One
+operators-preserved-in-One c = record {
+  bytes = grind (arith, common_steps);
+  indices = λ w i.
+      let old = c.operators.invariant.indices w i in
+      let parts = within_parts c.pop.new.self.items c.in-Some.operator (subst AreWithin c.in-Some.ensures.items old.0) in
+      let same = ap (λ b. b.value) c.into_inner.ensures ∙ c.in_ok-inner.ensures in
+      (parts.0, c.around.ensures.indices (subst HasIndices (sym same) old.1));
+}
+
+pub returns-in-First-clause-indices : goal.returns-in-First-clause-indices
+returns-in-First-clause-indices c = λ w i.
+    let old = c.operators.invariant.indices w i in
+    let parts = within_parts c.pop.new.self.items c.in-Some.operator (subst AreWithin c.in-Some.ensures.items old.0) in
+    subst AreWithin (sym c.in_ok-push-in-First.ensures.items) (within_last c.pop.new.self.items _ parts.0 (subst HasIndices (sym c.in_ok-inner.ensures) old.1))
+
+pub operators-preserved : goal.operators-preserved
+operators-preserved c = record {
+  bytes = grind (arith, common_steps);
+  indices = λ w i.
+      let old = c.operators.invariant.indices w i in
+      let parts = within_parts c.pop.new.self.items c.in-Some.operator (subst AreWithin c.in-Some.ensures.items old.0) in
+      let first = subst IsOperatorWithin c.in-Second.is parts.1 in
+      let left = ap (λ b. b.value) c.into_inner-in-Second.ensures in
+      let right = ap (λ b. b.value) c.into_inner-in-Second-2.ensures ∙ c.in_ok-inner.ensures in
+      (parts.0, c.between.ensures.indices (subst HasIndices (sym left) first) (subst HasIndices (sym right) old.1));
+}

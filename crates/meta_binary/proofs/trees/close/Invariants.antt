@@ -1,0 +1,15 @@
+use Rattle.std.proofs.Common.{◌≡◌, ◌++◌, length}
+use Rattle.meta_binary.specs.Format.{optimized_expression_bytes}
+use Rattle.meta_binary.specs.Indices.{HasIndices}
+use Rattle.meta_binary.specs.Reading.{AreWithin, open_bytes}
+use Rattle.meta_binary.proofs.trees.close.Given as goal
+
+-- what is made stands behind the operators that are left
+abbrev pub invariant-operators : goal.invariant-operators
+invariant-operators l = record {
+  bytes : open_bytes l.waiting.items ++ optimized_expression_bytes l.made.value ≡ open_bytes l.fn.waiting.items ++ optimized_expression_bytes l.fn.expr;
+  indices : AreWithin l.fn.waiting.items → HasIndices l.fn.expr → AreWithin l.waiting.items × HasIndices l.made.value;
+}
+
+abbrev pub decreases-operators : goal.decreases-operators
+decreases-operators l = length l.waiting.items

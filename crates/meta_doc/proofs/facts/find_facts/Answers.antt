@@ -1,0 +1,16 @@
+use Rattle.std.proofs.Common.{length}
+use Rattle.std.proofs.lemmas.List.Elements.{All-pop}
+use Rattle.std.specs.List.{All}
+use Rattle.std.specs.Prelude.{◌<◌}
+use Rattle.meta_doc.proofs.Linking.{callers_taken, facts_more}
+use Rattle.meta_doc.proofs.facts.find_facts.Goals as goal
+
+pub loop-number-preserved : goal.loop-number-preserved
+loop-number-preserved c =
+    let n = length c.args.rules.now in
+    let popped = All-pop (λ cs. All (λ r. r < n) cs.items) c.loop-number.callers.items c.pop.new.self.items c.pop.result
+    c.pop.ensures.items c.loop-number.invariant.0 in (
+      popped.0,
+      facts_more n c.loop-number.facts.items c.push.new.self.items _ c.in_ok-push.ensures.items c.loop-number.invariant.1
+          (callers_taken n c.pop.result c.new.result c.unwrap_or-called_by.result popped.1 c.new.ensures.items c.unwrap_or-called_by.ensures),
+    )

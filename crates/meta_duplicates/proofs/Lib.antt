@@ -1,0 +1,4 @@
+pub mod Known
+pub mod Repeated
+pub mod Stacks
+pub mod Unique

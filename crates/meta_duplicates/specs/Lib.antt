@@ -1,0 +1,4 @@
+pub mod Duplicates
+pub mod Keys
+pub mod Laws
+pub mod Lists

@@ -1,0 +1,8 @@
+//! The warnings are true: laws over the definitions alone.
+ghost use Rattle.meta_duplicates.specs.Laws.{RepeatedIsNeverTaken};
+
+/// An alternative that is the same as one before it fails wherever all those before it fail, over every
+/// grammar.
+pub fn repeated_alternatives_are_never_taken()
+    ensures { RepeatedIsNeverTaken }
+{}
