@@ -1,1 +1,3 @@
+pub mod Allowed
+pub mod Helping
 pub mod Zips

@@ -37,6 +37,10 @@ zip_map R f (w ∷ ws) (y ∷ ys) h = (h.0, zip_map R f ws ys h.1)
 pub nine : {X : Type 0} (a b c d e f g h i : List X) → ((((((((([] ++ a) ++ b) ++ c) ++ d) ++ e) ++ f) ++ g) ++ h) ++ i) ≡ a ++ (b ++ (c ++ (d ++ (e ++ (f ++ (g ++ (h ++ (i ++ []))))))))
 nine a b c d e f g h i = rw (append-nil, append_assoc, append_assoc, append_assoc, append_assoc, append_assoc, append_assoc, append_assoc) refl
 
+-- two lists after another
+pub two_more : {X : Type 0} (all a b : List X) → (all ++ a) ++ b ≡ all ++ (a ++ (b ++ []))
+two_more all a b = rw (append-nil, append_assoc) refl
+
 -- the warnings of a code, span by span
 pub reported_code : {E : Type 0} (c : Code) (spans : List code_span.Span) (pieces : List Span) (result : Result (Vec Diagnostic Global) E) → map piece_of spans ≡ pieces
     → IfOk result (λ diagnostics. AllZip (λ span. ReportsWarning (warning c (piece_of span))) spans diagnostics.items)

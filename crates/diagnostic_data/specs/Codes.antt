@@ -1,5 +1,5 @@
 -- Codes of warnings: their messages, and the spans at which a grammar has them.
-use Rattle.std.specs.Prelude.{ℕ, List, [], ◌∷◌, codes, flat_map, map}
+use Rattle.std.specs.Prelude.{ℕ, List, [], ◌∷◌, ◌++◌, Bool, true, false, codes, flat_map, if◌then◌else◌, map}
 use Rattle.meta_base.specs.Language.Text.{Text}
 use Rattle.meta_base.specs.Pieces.Saying.{Span}
 use Rattle.meta_spanned.specs.Spanned.{SpannedRule}
@@ -9,6 +9,7 @@ use Rattle.diagnostic_data.specs.declared.codes.Severity.{Severity}
 use Rattle.diagnostic_data.specs.declared.codes.Severity.TheVariants as severity
 use Rattle.meta_copies.specs.Copies.{many_copies}
 use Rattle.meta_duplicates.specs.Duplicates.{repeated_alternatives}
+use Rattle.diagnostic_data.specs.Names.{is_builtin_name, is_keyword, named_rules}
 use Rattle.meta_warnings.specs.Choices.{unreachable_alternatives}
 use Rattle.meta_warnings.specs.Ranges.{reversed_ranges}
 use Rattle.meta_warnings.specs.Rules.{uncalled_rules}
@@ -18,6 +19,7 @@ use Rattle.meta_warnings.specs.declared.suspects.Suspect.TheVariants as suspect
 
 -- warnings are those of an accepted text
 abbrev pub severity_of : Code → Severity
+severity_of code.UnusedAllowance = severity.Warning
 severity_of code.UncalledRule = severity.Warning
 severity_of code.Unreachable = severity.Warning
 severity_of code.ReversedRange = severity.Warning
@@ -28,6 +30,8 @@ severity_of code.BlanksInToken = severity.Warning
 severity_of code.ManyCopies = severity.Warning
 severity_of code.RepeatedAlternative = severity.Warning
 severity_of code.RewrittenList = severity.Warning
+severity_of code.KeywordName = severity.Warning
+severity_of code.BuiltinName = severity.Warning
 severity_of _ = severity.Error
 
 -- a warning's code, and its span
@@ -49,6 +53,8 @@ spans_of code.NeverMatches starts rules = suspects suspect.Unmatchable rules
 spans_of code.BlanksInToken starts rules = blanks_in_tokens rules
 spans_of code.ManyCopies starts rules = many_copies rules
 spans_of code.RepeatedAlternative starts rules = repeated_alternatives rules
+spans_of code.KeywordName starts rules = named_rules is_keyword rules
+spans_of code.BuiltinName starts rules = named_rules is_builtin_name rules
 spans_of _ starts rules = []
 
 abbrev pub warnings_with : List Text → List SpannedRule → Code → List Warning
@@ -63,8 +69,26 @@ warning_codes = code.UncalledRule ∷ code.Unreachable ∷ code.ReversedRange �
 abbrev pub warnings_of : List Text → List SpannedRule → List Warning
 warnings_of starts rules = flat_map (warnings_with starts rules) warning_codes
 
+-- the codes of warnings that are reported only where all are asked for
+abbrev pub is_optional : Code → Bool
+is_optional code.KeywordName = true
+is_optional code.BuiltinName = true
+is_optional _ = false
+
+abbrev pub optional_codes : List Code
+optional_codes = code.KeywordName ∷ code.BuiltinName ∷ []
+
+-- where all are asked for, these too
+abbrev pub all_warnings_of : List Text → List SpannedRule → List Warning
+all_warnings_of starts rules =
+    warnings_of starts rules ++ flat_map (warnings_with starts rules) optional_codes
+
+abbrev pub chosen_warnings : Bool → List Text → List SpannedRule → List Warning
+chosen_warnings all starts rules = if all then all_warnings_of starts rules else warnings_of starts rules
+
 -- the message of a warning
 abbrev pub message_of : Code → List ℕ
+message_of code.UnusedAllowance = codes "this allows nothing in the rule below"
 message_of code.UncalledRule = codes "no other rule calls this one"
 message_of code.Unreachable =
     codes "this alternative is never taken: one before it begins all that it matches"
@@ -78,6 +102,8 @@ message_of code.ManyCopies = codes "the optimizer makes 10,000 copies or more of
 message_of code.RepeatedAlternative =
     codes "this alternative is never taken: it is the same as one before it"
 message_of code.RewrittenList = codes "pest runs a list `(x ~ y)* ~ x` of this rule as `x ~ (y ~ x)*`"
+message_of code.KeywordName = codes "Rust keeps this name for itself"
+message_of code.BuiltinName = codes "this name is that of a builtin"
 message_of _ = []
 
 -- names of codes and severities
@@ -93,6 +119,7 @@ code_name code.LeftRecursion = codes "pest::left_recursion"
 code_name code.EndlessRepetition = codes "pest::endless_repetition"
 code_name code.UnreachableChoice = codes "pest::unreachable_choice"
 code_name code.TagWithoutToken = codes "pest::tag_without_token"
+code_name code.UnusedAllowance = codes "pest::unused_allowance"
 code_name code.UncalledRule = codes "pest::uncalled_rule"
 code_name code.Unreachable = codes "pest::unreachable"
 code_name code.ReversedRange = codes "pest::reversed_range"
@@ -103,6 +130,8 @@ code_name code.BlanksInToken = codes "pest::blanks_in_token"
 code_name code.ManyCopies = codes "pest::many_copies"
 code_name code.RepeatedAlternative = codes "pest::repeated_alternative"
 code_name code.RewrittenList = codes "pest::rewritten_list"
+code_name code.KeywordName = codes "pest::keyword_name"
+code_name code.BuiltinName = codes "pest::builtin_name"
 
 abbrev pub severity_name : Severity → List ℕ
 severity_name severity.Error = codes "error"

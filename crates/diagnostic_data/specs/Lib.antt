@@ -1,2 +1,5 @@
+pub mod Allowances
 pub mod Codes
+pub mod Helps
+pub mod Names
 pub mod Reports

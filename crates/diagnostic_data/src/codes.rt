@@ -1,6 +1,6 @@
 //! The codes of diagnostics.
 ghost use Rattle.std.specs.Prelude.{◌≡◌};
-ghost use Rattle.diagnostic_data.specs.Codes.{code_name, severity_name, severity_of};
+ghost use Rattle.diagnostic_data.specs.Codes.{code_name, is_optional, severity_name, severity_of};
 
 /// How much a diagnostic weighs.
 #[derive(Clone, Copy, Debug, PartialEq, Eq)]
@@ -48,6 +48,8 @@ pub enum Code {
     UnreachableChoice,
     /// A tag is given where no token is made.
     TagWithoutToken,
+    /// A comment allows no warning.
+    UnusedAllowance,
     /// No other rule calls a rule.
     UncalledRule,
     /// A literal or a call before an alternative begins all that it matches.
@@ -68,10 +70,14 @@ pub enum Code {
     RepeatedAlternative,
     /// A list is run otherwise than it is written.
     RewrittenList,
+    /// A rule has the name of a keyword of Rust.
+    KeywordName,
+    /// A rule has the name of a builtin.
+    BuiltinName,
 }
 
 /// All codes.
-pub const ALL_CODES: [Code; 21] = [
+pub const ALL_CODES: [Code; 24] = [
     Code::Syntax,
     Code::EscapeValue,
     Code::NumberRange,
@@ -83,6 +89,7 @@ pub const ALL_CODES: [Code; 21] = [
     Code::EndlessRepetition,
     Code::UnreachableChoice,
     Code::TagWithoutToken,
+    Code::UnusedAllowance,
     Code::UncalledRule,
     Code::Unreachable,
     Code::ReversedRange,
@@ -93,6 +100,8 @@ pub const ALL_CODES: [Code; 21] = [
     Code::ManyCopies,
     Code::RepeatedAlternative,
     Code::RewrittenList,
+    Code::KeywordName,
+    Code::BuiltinName,
 ];
 
 impl Code {
@@ -112,6 +121,7 @@ impl Code {
             Code::EndlessRepetition => "pest::endless_repetition",
             Code::UnreachableChoice => "pest::unreachable_choice",
             Code::TagWithoutToken => "pest::tag_without_token",
+            Code::UnusedAllowance => "pest::unused_allowance",
             Code::UncalledRule => "pest::uncalled_rule",
             Code::Unreachable => "pest::unreachable",
             Code::ReversedRange => "pest::reversed_range",
@@ -122,6 +132,8 @@ impl Code {
             Code::ManyCopies => "pest::many_copies",
             Code::RepeatedAlternative => "pest::repeated_alternative",
             Code::RewrittenList => "pest::rewritten_list",
+            Code::KeywordName => "pest::keyword_name",
+            Code::BuiltinName => "pest::builtin_name",
         }
     }
 
@@ -136,15 +148,24 @@ impl Code {
         None
     }
 
+    /// Whether warnings of it are reported only where all are asked for.
+    pub fn is_optional(self) -> bool
+        ensures { result ≡ is_optional self }
+    {
+        matches!(self, Code::KeywordName | Code::BuiltinName)
+    }
+
     /// Whether a text with such a diagnostic is refused.
     pub fn severity(self) -> Severity
         ensures { result ≡ severity_of self }
     {
         match self {
+            Code::UnusedAllowance => Severity::Warning,
             Code::UncalledRule | Code::Unreachable | Code::ReversedRange => Severity::Warning,
             Code::ReversedCount | Code::IdleTest | Code::NeverMatches => Severity::Warning,
             Code::BlanksInToken | Code::ManyCopies => Severity::Warning,
             Code::RepeatedAlternative | Code::RewrittenList => Severity::Warning,
+            Code::KeywordName | Code::BuiltinName => Severity::Warning,
             _ => Severity::Error,
         }
     }

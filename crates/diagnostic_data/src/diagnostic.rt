@@ -1,4 +1,4 @@
-//! A diagnostic, and the options with which it is made.
+//! Diagnostics, and options.
 ghost use Rattle.std.specs.Prelude.{◌≡◌, IfOk, string_bytes};
 ghost use Rattle.diagnostic_data.specs.Codes.{severity_of};
 

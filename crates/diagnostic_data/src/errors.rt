@@ -1,11 +1,14 @@
-//! The errors of a refused text as diagnostics.
-ghost use Rattle.std.specs.Prelude.{◌≡◌, IfOk, string_bytes};
+//! Errors as diagnostics.
+ghost use Rattle.std.specs.Prelude.{◌≡◌, ◌≢◌, IfOk, IfSome, string_bytes};
 ghost use Rattle.std.specs.List.{AllZip};
+ghost use Rattle.diagnostic_data.specs.Helps.{IsCustomHelp, IsKnownHelp};
 ghost use Rattle.diagnostic_data.specs.Reports.{IsAt, ReportsError};
+ghost use Rattle.diagnostic_data.specs.declared.codes.Code.TheVariants as code;
 ghost use Rattle.diagnostic_data.specs.declared.codes.Severity.TheVariants as severity;
 
 use crate::codes::Code;
 use crate::diagnostic::Diagnostic;
+use crate::helps::listed_help;
 use crate::messages::{code_of, cycle_of, rule_name, syntax_message};
 use crate::undefined::Definitions;
 use meta_base::grammar::Rule;
@@ -62,10 +65,12 @@ fn diagnose_custom(
     end: usize,
     message: &str,
 ) -> Result<Diagnostic, AllocError>
+    ensures code { IfOk result (λ diagnostic. diagnostic.code ≢ code.Syntax) }
     ensures severity { IfOk result (λ diagnostic. diagnostic.severity ≡ severity.Error) }
     ensures start { IfOk result (λ diagnostic. diagnostic.start ≡ start) }
     ensures end { IfOk result (λ diagnostic. diagnostic.end ≡ end) }
     ensures message { IfOk result (λ diagnostic. string_bytes diagnostic.message ≡ message.now) }
+    ensures help { IfOk result (λ diagnostic. IsCustomHelp diagnostic.code diagnostic.help) }
 {
     let code = code_of(message);
     let mut diagnostic = Diagnostic::new(alloc, code, start, end, message)?;
@@ -92,12 +97,14 @@ fn diagnose_syntax(
     start: usize,
     end: usize,
 ) -> Result<Diagnostic, AllocError>
+    ensures code { IfOk result (λ diagnostic. diagnostic.code ≡ code.Syntax) }
     ensures severity { IfOk result (λ diagnostic. diagnostic.severity ≡ severity.Error) }
     ensures start { IfOk result (λ diagnostic. diagnostic.start ≡ start) }
     ensures end { IfOk result (λ diagnostic. diagnostic.end ≡ end) }
+    ensures help { IfOk result (λ diagnostic. IfSome diagnostic.help IsKnownHelp) }
 {
     let message = syntax_message(alloc, text, start, expected)?;
-    let Hint { help, related } = hint_at(alloc, text, start)?;
+    let Hint { help, related, .. } = hint_at(alloc, text, start)?;
     let mut diagnostic = Diagnostic::new(alloc, Code::Syntax, start, end, message.as_str())?;
     diagnostic.expected = expected.to_vec(alloc)?;
     diagnostic.related = related;
@@ -113,25 +120,13 @@ fn help_for(
     start: usize,
     end: usize,
     message: &str,
-) -> Result<Option<Help>, AllocError> {
+) -> Result<Option<Help>, AllocError>
+    ensures { IfOk result (IsCustomHelp code) }
+{
     match code {
         Code::UndefinedRule => names.help_undefined(alloc, rule_name(message), start, end),
-        Code::EndlessRepetition => say(alloc, "each turn of a repetition has to take a character"),
-        Code::LeftRecursion => say(
-            alloc,
-            "write the operand first and repeat the rest: `a = { b ~ (\"+\" ~ b)* }`",
-        ),
-        Code::ZeroRepetition => say(alloc, "what takes nothing is written `\"\"`"),
-        Code::UnreachableChoice => say(alloc, "put the alternative that cannot fail last"),
-        Code::ReservedName => say(alloc, "take another name: pest has a meaning for this one"),
-        Code::TagWithoutToken => say(alloc, "tag a rule that is not silent, or take the tag away"),
-        _ => Ok(None),
+        _ => listed_help(alloc, code, message, false),
     }
-}
-
-/// A help without a fix.
-fn say(alloc: Global, message: &str) -> Result<Option<Help>, AllocError> {
-    Ok(Some(Help::new(alloc, message)?))
 }
 
 /// The definitions that matter to an error: the first of a rule that is defined twice, and those of the rules

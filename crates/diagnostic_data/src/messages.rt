@@ -1,6 +1,7 @@
-//! The messages of syntax errors, and the codes of other errors by their messages.
-ghost use Rattle.std.specs.Prelude.{◌≡◌};
+//! Messages of syntax errors, and codes of others.
+ghost use Rattle.std.specs.Prelude.{◌≡◌, ◌≢◌};
 ghost use Rattle.diagnostic_data.specs.Codes.{severity_of};
+ghost use Rattle.diagnostic_data.specs.declared.codes.Code.TheVariants as code;
 ghost use Rattle.diagnostic_data.specs.declared.codes.Severity.TheVariants as severity;
 
 use crate::codes::Code;
@@ -55,7 +56,8 @@ fn join_names(alloc: Global, names: &[&str]) -> Result<String, AllocError> {
 
 /// The code of an error that is no syntax error, by its message.
 pub(crate) fn code_of(message: &str) -> Code
-    ensures { severity_of result ≡ severity.Error }
+    ensures severity { severity_of result ≡ severity.Error }
+    ensures other { result ≢ code.Syntax }
 {
     if message.ends_with(" already defined") {
         Code::DuplicateRule
@@ -78,7 +80,8 @@ pub(crate) fn code_of(message: &str) -> Code
 
 /// The code of a flaw of a number or an escape, by its message.
 fn flaw_code(message: &str) -> Code
-    ensures { severity_of result ≡ severity.Error }
+    ensures severity { severity_of result ≡ severity.Error }
+    ensures other { result ≢ code.Syntax }
 {
     if message.starts_with("escape ") {
         Code::EscapeValue

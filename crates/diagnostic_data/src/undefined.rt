@@ -1,4 +1,7 @@
-//! The definitions of a text by name, and the name that an undefined one may mean.
+//! Definitions, and what undefined names may mean.
+ghost use Rattle.std.specs.Prelude.{IfOk, IfSome};
+ghost use Rattle.diagnostic_data.specs.Helps.{IsSuggestion};
+
 use meta_hints::{Help, Related, definitions, nearest_name};
 use meta_names::unicode_property_names;
 use std::alloc::{AllocError, Global};
@@ -82,7 +85,9 @@ impl<'t> Definitions<'t> {
         name: &str,
         start: usize,
         end: usize,
-    ) -> Result<Option<Help>, AllocError> {
+    ) -> Result<Option<Help>, AllocError>
+        ensures { IfOk result (λ help. IfSome help IsSuggestion) }
+    {
         if self.count >= NAMES_LOOKED_UP {
             return Ok(None);
         }
@@ -90,11 +95,11 @@ impl<'t> Definitions<'t> {
         if let Some(nearest) = nearest_name(alloc, name, &self.names)? {
             return did_you_mean(alloc, nearest, start, end);
         }
+        if let Some(known) = known_elsewhere(name) {
+            return did_you_mean(alloc, known, start, end);
+        }
         if let Some(nearest) = nearest_name(alloc, name, &BUILTINS)? {
             return did_you_mean(alloc, nearest, start, end);
-        }
-        if let Some(builtin) = builtin_of(name) {
-            return did_you_mean(alloc, builtin, start, end);
         }
         match nearest_name(alloc, name, unicode_property_names())? {
             Some(nearest) => did_you_mean(alloc, nearest, start, end),
@@ -103,15 +108,37 @@ impl<'t> Definitions<'t> {
     }
 }
 
-/// The builtin that other notations call by a name.
-fn builtin_of(name: &str) -> Option<&'static str> {
+/// The builtin or the string that other notations call by a name.
+fn known_elsewhere(name: &str) -> Option<&'static str> {
     match name {
-        "digit" | "Digit" | "DIGIT" => Some("ASCII_DIGIT"),
-        "alpha" | "ALPHA" => Some("ASCII_ALPHA"),
-        "alnum" | "ALNUM" | "alphanumeric" => Some("ASCII_ALPHANUMERIC"),
-        "xdigit" | "HEXDIG" => Some("ASCII_HEX_DIGIT"),
-        "nl" | "NL" | "eol" | "EOL" | "CRLF" => Some("NEWLINE"),
-        "eof" => Some("EOI"),
+        "digit" | "Digit" | "DIGIT" | "digits" => Some("ASCII_DIGIT"),
+        "alpha" | "ALPHA" | "letter" | "ASCII_LETTER" => Some("ASCII_ALPHA"),
+        "alnum" | "ALNUM" | "alphanumeric" | "ASCII_ALNUM" => Some("ASCII_ALPHANUMERIC"),
+        "ASCII_ALPHANUM" | "ASCII_ALPHA_NUMERIC" => Some("ASCII_ALPHANUMERIC"),
+        "xdigit" | "HEXDIG" | "hex_digit" | "ASCII_HEX" => Some("ASCII_HEX_DIGIT"),
+        "nl" | "NL" | "eol" | "EOL" | "CRLF" | "newline" => Some("NEWLINE"),
+        "eof" | "EOF" | "end" | "END" => Some("EOI"),
+        "bof" | "BOF" | "BOI" | "start" | "START" => Some("SOI"),
+        "_" | "anychar" | "char" | "dot" | "ANYCHAR" => Some("ANY"),
+        "Lu" => Some("UPPERCASE_LETTER"),
+        "Ll" => Some("LOWERCASE_LETTER"),
+        "L" => Some("LETTER"),
+        "N" => Some("NUMBER"),
+        "Nd" => Some("DECIMAL_NUMBER"),
+        "P" => Some("PUNCTUATION"),
+        _ => character_of(name),
+    }
+}
+
+/// The string that other notations call by a name.
+fn character_of(name: &str) -> Option<&'static str> {
+    match name {
+        "SP" | "space" | "SPACE" => Some("\" \""),
+        "tab" | "TAB" | "HTAB" => Some("\"\\t\""),
+        "cr" | "CR" => Some("\"\\r\""),
+        "lf" | "LF" => Some("\"\\n\""),
+        "DQUOTE" => Some("\"\\\"\""),
+        "empty" | "EMPTY" | "epsilon" => Some("\"\""),
         _ => None,
     }
 }
@@ -122,7 +149,9 @@ fn did_you_mean(
     name: &str,
     start: usize,
     end: usize,
-) -> Result<Option<Help>, AllocError> {
+) -> Result<Option<Help>, AllocError>
+    ensures { IfOk result (λ help. IfSome help IsSuggestion) }
+{
     let message = format!(in alloc; "did you mean `{name}`?")?;
     let help = Help::replace(alloc, message.as_str(), start, end, name)?;
     Ok(Some(help))

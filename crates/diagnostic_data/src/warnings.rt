@@ -1,9 +1,9 @@
-//! The warnings of an accepted text as diagnostics.
+//! Warnings as diagnostics.
 ghost use Rattle.std.specs.Prelude.{◌≡◌, IfOk, OnOk, ◌++◌, List, map};
 ghost use Rattle.std.specs.List.{AllZip};
 ghost use Rattle.meta_spanned.specs.Nodes.{piece_of, rule_views};
 ghost use Rattle.diagnostic_data.specs.Codes as spec;
-ghost use Rattle.diagnostic_data.specs.Codes.{severity_of, warnings_of};
+ghost use Rattle.diagnostic_data.specs.Codes.{all_warnings_of, severity_of, warnings_of};
 ghost use Rattle.diagnostic_data.specs.Reports.{ReportsWarning};
 ghost use Rattle.diagnostic_data.specs.declared.codes.Code.TheVariants as code;
 ghost use Rattle.diagnostic_data.specs.declared.codes.Severity.TheVariants as severity;
@@ -11,16 +11,19 @@ ghost use Rattle.meta_warnings.specs.Lists.{texts_of};
 
 use crate::codes::Code;
 use crate::diagnostic::Diagnostic;
+use crate::helps::listed_help;
+use crate::names::{builtin_names, keyword_names};
+use crate::repeats::repeated_leaves;
 use meta_base::runtime::Span;
 use meta_copies::many_copies;
 use meta_duplicates::repeated_alternatives;
-use meta_hints::Help;
 use meta_spanned::ParserRule;
 use meta_warnings::{
     Suspect, blanks_in_tokens, reversed_ranges, suspect_spans, uncalled_rules,
     unreachable_alternatives,
 };
 use std::alloc::{AllocError, Global};
+use std::collections::HashSet;
 
 /// The warnings of rules, code by code; rules of the names `starts` need no call.
 pub fn diagnose_rules(
@@ -47,6 +50,21 @@ pub fn diagnose_rules(
         starts,
         &mut diagnostics,
     )?;
+    Ok(diagnostics)
+}
+
+/// All warnings of rules, those that are reported only where they are asked for, too.
+pub fn diagnose_all_rules(
+    alloc: Global,
+    rules: &[ParserRule<'_>],
+    starts: &[&str],
+) -> Result<Vec<Diagnostic>, AllocError>
+    ensures { IfOk result (λ diagnostics. AllZip ReportsWarning
+        (all_warnings_of (texts_of starts.now) (rule_views rules.now)) diagnostics.items) }
+{
+    let mut diagnostics = diagnose_rules(alloc, rules, starts)?;
+    add_code(alloc, Code::KeywordName, rules, starts, &mut diagnostics)?;
+    add_code(alloc, Code::BuiltinName, rules, starts, &mut diagnostics)?;
     Ok(diagnostics)
 }
 
@@ -82,7 +100,8 @@ fn diagnose_code(
         (spec.warnings_with (texts_of starts.now) (rule_views rules.now) code) diagnostics.items) }
 {
     let spans = spans_of(alloc, code, rules, starts)?;
-    report_spans(alloc, code, &spans)
+    let repeats = repeats_for(alloc, code, rules)?;
+    report_spans(alloc, code, &spans, &repeats)
 }
 
 /// The warnings of rules with these names, in which pest runs a list otherwise than it is written.
@@ -90,14 +109,27 @@ pub fn diagnose_lists(alloc: Global, names: &[Span<'_>]) -> Result<Vec<Diagnosti
     ensures { IfOk result (λ diagnostics. AllZip ReportsWarning
         (map (spec.warning code.RewrittenList) (map piece_of names.now)) diagnostics.items) }
 {
-    report_spans(alloc, Code::RewrittenList, names)
+    report_spans(alloc, Code::RewrittenList, names, &HashSet::new(alloc))
 }
 
-/// A warning of a code at each of these spans.
+/// The bytes at which there is a repeated literal, for the code of warnings that may be at one.
+fn repeats_for(
+    alloc: Global,
+    code: Code,
+    rules: &[ParserRule<'_>],
+) -> Result<HashSet<usize>, AllocError> {
+    match code {
+        Code::Unreachable => repeated_leaves(alloc, rules),
+        _ => Ok(HashSet::new(alloc)),
+    }
+}
+
+/// A warning of a code at each of these spans; `repeats` are the places of repeated alternatives.
 fn report_spans(
     alloc: Global,
     code: Code,
     spans: &[Span<'_>],
+    repeats: &HashSet<usize>,
 ) -> Result<Vec<Diagnostic>, AllocError>
     requires { severity_of code ≡ severity.Warning }
     ensures { IfOk result (λ diagnostics.
@@ -105,19 +137,24 @@ fn report_spans(
 {
     let mut diagnostics = Vec::new(alloc);
     for span in spans {
-        let diagnostic = report_span(alloc, code, *span)?;
+        let diagnostic = report_span(alloc, code, *span, repeats.contains(&span.start()))?;
         diagnostics.push(diagnostic)?;
     }
     Ok(diagnostics)
 }
 
-/// A warning of a code at a span.
-fn report_span(alloc: Global, code: Code, span: Span<'_>) -> Result<Diagnostic, AllocError>
+/// A warning of a code at a span, which may repeat what is before it.
+fn report_span(
+    alloc: Global,
+    code: Code,
+    span: Span<'_>,
+    is_repeat: bool,
+) -> Result<Diagnostic, AllocError>
     requires { severity_of code ≡ severity.Warning }
     ensures { IfOk result (ReportsWarning (spec.warning code (piece_of span.entry))) }
 {
     let mut diagnostic = Diagnostic::new(alloc, code, span.start(), span.end(), message_of(code))?;
-    diagnostic.help = help_of(alloc, code, span.as_str())?;
+    diagnostic.help = listed_help(alloc, code, span.as_str(), is_repeat)?;
     Ok(diagnostic)
 }
 
@@ -141,15 +178,18 @@ fn spans_of<'i>(
         Code::BlanksInToken => blanks_in_tokens(alloc, rules),
         Code::ManyCopies => many_copies(alloc, rules),
         Code::RepeatedAlternative => repeated_alternatives(alloc, rules),
+        Code::KeywordName => keyword_names(alloc, rules),
+        Code::BuiltinName => builtin_names(alloc, rules),
         _ => Ok(Vec::new(alloc)),
     }
 }
 
 /// The message of a warning.
-fn message_of(code: Code) -> &'static str
+pub(crate) fn message_of(code: Code) -> &'static str
     ensures { result.now ≡ spec.message_of code }
 {
     match code {
+        Code::UnusedAllowance => "this allows nothing in the rule below",
         Code::UncalledRule => "no other rule calls this one",
         Code::Unreachable => {
             "this alternative is never taken: one before it begins all that it matches"
@@ -164,26 +204,8 @@ fn message_of(code: Code) -> &'static str
             "this alternative is never taken: it is the same as one before it"
         }
         Code::RewrittenList => "pest runs a list `(x ~ y)* ~ x` of this rule as `x ~ (y ~ x)*`",
+        Code::KeywordName => "Rust keeps this name for itself",
+        Code::BuiltinName => "this name is that of a builtin",
         _ => "",
     }
-}
-
-/// The help for a warning about a part of the text.
-fn help_of(alloc: Global, code: Code, part: &str) -> Result<Option<Help>, AllocError> {
-    let message = match code {
-        Code::UncalledRule => "where matching starts with it, name it by `--start`",
-        Code::Unreachable => "put the longer alternative first",
-        Code::IdleTest => "no repetition is lazy: write `(!end ~ ANY)*` for what is before an end",
-        Code::NeverMatches if part.starts_with('!') => "what `!` refuses cannot fail",
-        Code::NeverMatches => {
-            "`ANY*` takes the whole rest of the text: write `(!end ~ ANY)*` for what is before an end"
-        }
-        Code::BlanksInToken => "a rule with `@` before its brace skips none",
-        Code::ManyCopies => "put a part of it into a rule of its own: then calls alone are copied",
-        Code::RepeatedAlternative => "take it away, or write what was meant",
-        Code::RewrittenList =>
-            "so it matches before a `y` that no `x` follows; write what is meant",
-        _ => return Ok(None),
-    };
-    Ok(Some(Help::new(alloc, message)?))
 }

@@ -33,9 +33,9 @@ struct Fixed {
 }
 
 /// Applies the fix that the hint for a text's syntax error offers, then that of the text so fixed, and so on,
-/// at most 100. Each fixed text is read again, and a fix that is no progress is not applied: after it the
-/// text has to have no syntax error, or one that is behind the replacement and behind the error before. The
-/// only error is an allocation failure.
+/// at most 100. Every fixed text is read again, and a fix that is no progress is not applied: then the text
+/// has no syntax error, or one that is behind the replacement and behind the error before. The only error is
+/// an allocation failure.
 pub fn mend(alloc: Global, text: &str) -> Result<Mended, AllocError>
     ensures fixed { IfOk result (λ mended. AreFixed text.now mended.count (string_bytes mended.text)) }
     ensures error { IfOk result (λ mended. IsErrorOf (string_bytes mended.text) mended.error) }

@@ -1,8 +1,10 @@
 //! Lines of JSON.
-ghost use Rattle.std.specs.Prelude.{IfOk, string_bytes};
+ghost use Rattle.std.specs.Prelude.{◌≡◌, IfOk, map, string_bytes};
+ghost use Rattle.lint_output.specs.Numbers.{named, place_numbers};
 ghost use Rattle.lint_output.specs.Prints.{IsLine};
 
 use crate::Origin;
+use crate::lines::Location;
 use crate::objects::{put_numbers, put_texts, put_value};
 use diagnostic_data::{Diagnostic, Fix, Help, Related};
 use serde_json::{Map, Value};
@@ -68,17 +70,32 @@ fn put_places(
     diagnostic: &Diagnostic,
     object: &mut Map<String, Value>,
 ) -> Result<(), AllocError> {
-    let start = origin.lines.locate(origin.text, diagnostic.start);
-    let end = origin.lines.locate(origin.text, diagnostic.end);
-    let numbers = [
-        ("start", diagnostic.start),
-        ("end", diagnostic.end),
-        ("line", start.line),
-        ("column", start.column),
-        ("end_line", end.line),
-        ("end_column", end.column),
-    ];
-    put_numbers(alloc, object, &numbers)
+    let first = origin.lines.locate(origin.text, diagnostic.start);
+    let last = origin.lines.locate(origin.text, diagnostic.end);
+    put_numbers(
+        alloc,
+        object,
+        &numbers_of(diagnostic.start, diagnostic.end, first, last),
+    )
+}
+
+/// The bytes, lines and columns of a span that begins and ends at these locations, by name.
+fn numbers_of(
+    start: usize,
+    end: usize,
+    first: Location,
+    last: Location,
+) -> [(&'static str, usize); 6]
+    ensures { map (λ number. named number.0.now number.1) result ≡ place_numbers start end first last }
+{
+    [
+        ("start", start),
+        ("end", end),
+        ("line", first.line),
+        ("column", first.column),
+        ("end_line", last.line),
+        ("end_column", last.column),
+    ]
 }
 
 /// Names as an array.

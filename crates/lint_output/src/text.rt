@@ -115,7 +115,7 @@ fn push_help(
     }
 }
 
-/// What stands before a help, in colour where that is asked for.
+/// The words before a help, in colour where that is asked for.
 fn help_heading(has_colour: bool) -> &'static str {
     if has_colour {
         "\x1b[1;36mhelp\x1b[0m: "

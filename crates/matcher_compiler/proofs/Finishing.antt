@@ -33,13 +33,15 @@ point_made p points i d h = record {
 pub meets_plan : (p : Program) (plan : Plan) (code : Code) → HasEnds code → AreMet code plan.points.items plan.demands.items
     → ((set b : ℕ) (bs : List ℕ) → set < length plan.sets.ranges.items → b < 256 → char_len code set (b ∷ bs) ≡ char_len plan.sets set (b ∷ bs))
     → ((i : ℕ) → i < length plan.texts.items → get_or (map (λ v. v.items) code.texts.items) i [] ≡ get_or (map (λ v. v.items) plan.texts.items) i [])
+    → ((i : ℕ) → i < length plan.lists.items → get_or (map (λ v. v.items) code.lists.items) i [] ≡ get_or (map (λ v. v.items) plan.lists.items) i [])
     → Meets p plan code (map (laid_point p) plan.points.items)
-meets_plan p plan code ends met sets texts = record {
+meets_plan p plan code ends met sets texts lists = record {
   fail = ends.fail;
   points = λ i d h. point_made p plan.points.items i d h;
   demands = λ i d h. met p i d h;
   sets = sets;
   texts = texts;
+  lists = lists;
 }
 
 abbrev some_point : Point

@@ -1,5 +1,5 @@
 -- Plans that grow.
-use Rattle.std.proofs.Common.{◌≡◌, sym, ◌∙◌, ap, subst, ℕ, zero, suc, ◌+◌, ◌-◌, ◌<◌, ◌≤◌, List, [], ◌∷◌, ◌++◌, inl, inr, Option, Some, None, length, get_or, map, arith, append-nil}
+use Rattle.std.proofs.Common.{◌≡◌, refl, sym, ◌∙◌, ap, subst, ℕ, zero, suc, ◌+◌, ◌-◌, ◌<◌, ◌≤◌, List, [], ◌∷◌, ◌++◌, inl, inr, Option, Some, None, length, get_or, map, arith, append-nil}
 use Rattle.std.proofs.Math.ListN.{get_or-append}
 use Rattle.std.proofs.Math.Seq.{get_or-append_right, get_or-append_seam}
 use Rattle.std.proofs.lemmas.Bool.{cases_lt}
@@ -10,9 +10,11 @@ use Rattle.matcher_layout.specs.Laid as lay
 use Rattle.matcher_layout.specs.Laid.{IsPoint}
 use Rattle.matcher_program.specs.declared.form.Program.{Program}
 use Rattle.matcher_compiler.specs.declared.plan.Plan.{Plan}
+use Rattle.matcher_compiler.specs.declared.plan.Skips.{Skips}
+use Rattle.matcher_compiler.specs.declared.plan.Skips.TheVariants as skips
 use Rattle.matcher_compiler.specs.declared.points.Demand.{Demand}
 use Rattle.matcher_compiler.specs.declared.points.Point.{Point}
-use Rattle.matcher_compiler.specs.Plans.{IsBoundPart, IsLater, IsMet, IsPointOf, SkipsAs}
+use Rattle.matcher_compiler.specs.Plans.{IsBlankSet, IsBoundPart, IsLater, IsMet, IsPointOf, SkipsAs}
 
 pub later_twice : (p : Program) (a b c : Plan) → IsLater p a b → IsLater p b c → IsLater p a c
 later_twice p a b c x y = record {
@@ -21,6 +23,9 @@ later_twice p a b c x y = record {
   bound = λ h. y.bound (x.bound h);
   ready = λ h. y.ready (x.ready h);
 }
+
+pub later_same : (p : Program) (a : Plan) → IsLater p a a
+later_same p a = record { kept = λ i d h. (h, refl); met = λ code laid m. m; bound = λ h. h; ready = λ h. h }
 
 pub point_as : (laid : List lay.Point) {k q : Task} {l n w : ℕ} → k ≡ q → IsPoint laid k l n w → IsPoint laid q l n w
 point_as laid {l = l} {n = n} {w = w} e x = subst (λ t. IsPoint laid t l n w) e x
@@ -61,27 +66,32 @@ texts_last f xs zs x e =
 
 module _ (p : Program) (old new : Plan) where
   -- the same skipping, in a program with more sets
-  skips_on : length old.sets.ranges.items ≤ length new.sets.ranges.items → KeepsSets old.sets new.sets → (x : Option ℕ)
-      → SkipsAs p old.sets x → SkipsAs p new.sets x
-  skips_on l keeps None r = r
-  skips_on l keeps (Some set) r = record {
+  blanks_on : length old.sets.ranges.items ≤ length new.sets.ranges.items → KeepsSets old.sets new.sets → (set : ℕ)
+      → IsBlankSet p old.sets set → IsBlankSet p new.sets set
+  blanks_on l keeps set r = record {
     ranges = r.ranges;
-    characters = r.characters;
     within = omega (arith, l, r.within);
     is = λ b bs h u. keeps set b bs r.within h ∙ r.is b bs h u;
-    covers = r.covers;
-    skips = r.skips;
+    blank = r.blank;
   }
 
-  -- more points, demands, sets and texts
+  skips_on : length old.sets.ranges.items ≤ length new.sets.ranges.items → KeepsSets old.sets new.sets → (x : Skips)
+      → SkipsAs p old.sets x → SkipsAs p new.sets x
+  skips_on l keeps skips.Nothing r = r
+  skips_on l keeps (skips.Blanks set) r = (r.0, blanks_on l keeps set r.1)
+  skips_on l keeps (skips.Comments set) r = blanks_on l keeps set r
+
+  -- more points, demands, sets, texts and lists
   pub grown : (ps : List Point) (ds : List Demand) → new.points.items ≡ old.points.items ++ ps
       → new.demands.items ≡ old.demands.items ++ ds
       → length old.sets.ranges.items ≤ length new.sets.ranges.items → KeepsSets old.sets new.sets
       → ((i : ℕ) → i < length old.texts.items → (i < length new.texts.items)
       × (get_or (map (λ v. v.items) new.texts.items) i [] ≡ get_or (map (λ v. v.items) old.texts.items) i []))
-      → new.blanks ≡ old.blanks
+      → ((i : ℕ) → i < length old.lists.items → (i < length new.lists.items)
+      × (get_or (map (λ v. v.items) new.lists.items) i [] ≡ get_or (map (λ v. v.items) old.lists.items) i []))
+      → new.skips ≡ old.skips
       → ((i : ℕ) (d : Point) → i < length ps → IsBoundPart p (get_or ps i d).part) → IsLater p old new
-  grown ps ds e f l keeps texts same bound = record {
+  grown ps ds e f l keeps texts lists same bound = record {
     kept = λ i d h. front old.points.items ps new.points.items i d e h;
     met = λ code laid m. record {
       fail = m.fail;
@@ -89,6 +99,7 @@ module _ (p : Program) (old new : Plan) where
       demands = λ i d h. let x = front old.demands.items ds new.demands.items i d f h in subst (IsMet p code laid) x.1 (m.demands i d x.0);
       sets = λ set b bs h k. m.sets set b bs (omega (arith, h, l)) k ∙ keeps set b bs h k;
       texts = λ i h. let t = texts i h in m.texts i t.0 ∙ t.1;
+      lists = λ i h. let t = lists i h in m.lists i t.0 ∙ t.1;
     };
     bound = λ b i d h. elim (cases_lt i (length old.points.items)) [
       | inl k ↦ let x = front old.points.items ps new.points.items i d e k in subst (λ y. IsBoundPart p y.part) (sym x.1) (b i d k)
@@ -97,5 +108,5 @@ module _ (p : Program) (old new : Plan) where
           let x : get_or new.points.items i d ≡ get_or ps (i - length old.points.items) d = ap (λ t. get_or t i d) e ∙ get_or-append_right old.points.items ps i d k in
           subst (λ y. IsBoundPart p y.part) (sym x) (bound (i - length old.points.items) d (omega (arith, h, k, n)))
     ];
-    ready = λ r. subst (SkipsAs p new.sets) (sym same) (skips_on l keeps old.blanks r);
+    ready = λ r. subst (SkipsAs p new.sets) (sym same) (skips_on l keeps old.skips r);
   }

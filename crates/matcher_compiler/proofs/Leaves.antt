@@ -5,10 +5,10 @@ use Rattle.std.proofs.Math.Utf8.{scalar, scalar_cases, scalars}
 use Rattle.std.proofs.lemmas.Bool.{and_parts}
 use Rattle.std.proofs.lemmas.Str.{scalars-chars}
 use Rattle.meta_ast.specs.Ast.{text_of}
-use Rattle.meta_base.specs.Language.Builtins.{Builtin, Eoi, One, Soi, builtin_of, builtins}
+use Rattle.meta_base.specs.Language.Builtins.{Builtin, Eoi, Newline, One, Soi, builtin_of, builtins}
 use Rattle.meta_base.specs.Language.Expression.{Grammar, Ident, rule_of}
 use Rattle.meta_base.specs.Language.FurthestFailure.{furthest, is_eoi, place_of}
-use Rattle.meta_base.specs.Language.Matching.{begins, builtin_outcome, character_outcome, end_outcome, other_outcome, starts_in, text_outcome}
+use Rattle.meta_base.specs.Language.Matching.{begins, builtin_outcome, character_outcome, end_outcome, newline_outcome, other_outcome, starts_in, text_outcome}
 use Rattle.meta_base.specs.Language.Meaning as by
 use Rattle.meta_base.specs.Language.Meaning.{Does, Run, seen_from}
 use Rattle.meta_base.specs.Language.State.{AtomicMode, Classes, Failure, None', Outcome, State, Success, moved}
@@ -102,7 +102,11 @@ soi_builtin : builtin_of (codes "SOI") ≡ Some Soi
 unfolding builtins
 soi_builtin = refl
 
-eoi_builtin : builtin_of (codes "EOI") ≡ Some Eoi
+newline_builtin : builtin_of (codes "NEWLINE") ≡ Some Newline
+unfolding builtins
+newline_builtin = refl
+
+pub eoi_builtin : builtin_of (codes "EOI") ≡ Some Eoi
 unfolding builtins
 eoi_builtin = refl
 
@@ -127,13 +131,13 @@ module _ (p : Program) (classes : Classes) where
   abbrev g : Grammar
   g = grammar_in p
 
-  builtin_outcome_of : (m : Atomicity) (n : Text) (b : Builtin) (f : State → Outcome) → rule_of g n ≡ None → builtin_of n ≡ Some b
+  pub builtin_outcome_of : (m : Atomicity) (n : Text) (b : Builtin) (f : State → Outcome) → rule_of g n ≡ None → builtin_of n ≡ Some b
       → ((s : State) → builtin_outcome classes (mode_of m) b s ≡ Some (f s))
       → HasOutcome g classes (Run (mode_of m) (Ident n)) f (λ s. place_of (seen_from (mode_of m) && is_eoi n) s (f s))
   builtin_outcome_of m n b f u h e s = (by.other u (by_builtin classes m n b s h ∙ e s), refl)
 
   -- an outcome without a failure that is recorded
-  quiet : (m : Atomicity) (n : Text) (f : State → Outcome) → is_eoi n ≡ false
+  pub quiet : (m : Atomicity) (n : Text) (f : State → Outcome) → is_eoi n ≡ false
       → HasOutcome g classes (Run (mode_of m) (Ident n)) f (λ s. place_of (seen_from (mode_of m) && is_eoi n) s (f s))
       → HasOutcome g classes (Run (mode_of m) (Ident n)) f (λ s. 0)
   quiet m n f e h s =
@@ -184,6 +188,11 @@ module _ (p : Program) (classes : Classes) where
   start_outcome m u =
       quiet m (codes "SOI") (λ s. if s.position == 0 then Success s None' else Failure) refl
       (builtin_outcome_of m (codes "SOI") Soi (λ s. if s.position == 0 then Success s None' else Failure) u soi_builtin (λ s. refl))
+
+  pub newline_outcome_of : (m : Atomicity) → rule_of g (codes "NEWLINE") ≡ None
+      → HasOutcome g classes (Run (mode_of m) (Ident (codes "NEWLINE"))) newline_outcome (λ s. 0)
+  newline_outcome_of m u =
+      quiet m (codes "NEWLINE") newline_outcome refl (builtin_outcome_of m (codes "NEWLINE") Newline newline_outcome u newline_builtin (λ s. refl))
 
   any_end : (m : Atomicity) → rule_of g (codes "EOI") ≡ None
       → HasOutcome g classes (Run (mode_of m) (Ident (codes "EOI"))) (λ s. end_outcome (mode_of m) s.rest s)

@@ -9,3 +9,5 @@ pub mod Ranging
 pub mod Skipping
 pub mod Searching
 pub mod Outside
+pub mod Listing
+pub mod Properties

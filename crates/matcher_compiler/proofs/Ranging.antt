@@ -6,7 +6,7 @@ use Rattle.meta_base.specs.Language.Builtins.{is_between}
 use Rattle.matcher_code.specs.Reading.{is_covered}
 use Rattle.matcher_compiler.specs.Names.{Adds}
 
-or_assoc : (a b c : Bool) → (a || (b || c)) ≡ ((a || b) || c)
+pub or_assoc : (a b c : Bool) → (a || (b || c)) ≡ ((a || b) || c)
 or_assoc true b c = refl
 or_assoc false b c = refl
 

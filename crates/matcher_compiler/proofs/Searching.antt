@@ -21,7 +21,7 @@ use Rattle.matcher_layout.specs.Reached.{Comes}
 use Rattle.matcher_layout.proofs.Sets.{all_performs}
 use Rattle.matcher_compiler.proofs.Leaves.{below, rest_scalars}
 
-any-append : (ts us : List Text) (v : Text) → any_begins (ts ++ us) v ≡ (any_begins ts v || any_begins us v)
+pub any-append : (ts us : List Text) (v : Text) → any_begins (ts ++ us) v ≡ (any_begins ts v || any_begins us v)
 any-append [] us v = refl
 any-append (t ∷ ts) us v = ap (λ b. begins nat_eq t v || b) (any-append ts us v) ∙ or_assoc (begins nat_eq t v) (any_begins ts v) (any_begins us v)
   where
@@ -29,7 +29,7 @@ any-append (t ∷ ts) us v = ap (λ b. begins nat_eq t v || b) (any-append ts us
     or_assoc true b c = refl
     or_assoc false b c = refl
 
-or_none : (b : Bool) → (b || false) ≡ b
+pub or_none : (b : Bool) → (b || false) ≡ b
 or_none true = refl
 or_none false = refl
 

@@ -1,23 +1,29 @@
 -- What the implicit skipping takes.
-use Rattle.std.proofs.Common.{◌≡◌, refl, sym, ◌∙◌, ap, ap₂, subst, ℕ, ◌<◌, ◌||◌, Bool, true, false, None, Some, bytes_eq, get_or, length, if◌then◌else◌}
+use Rattle.std.proofs.Common.{◌≡◌, refl, sym, ◌∙◌, ap, ap₂, subst, ℕ, zero, suc, ◌+◌, ◌<◌, ◌||◌, ◌&&◌, List, [], ◌∷◌, Bool, true, false, None, Some, add-zero, bytes_eq, get_or, length, map, arith, if◌then◌else◌}
 use Rattle.std.specs.Prelude.{max}
-use Rattle.meta_ast.specs.Ast.{rule_type_of}
-use Rattle.meta_base.specs.Language.Expression.{Grammar, Ident, Silent, comment, rule_of, whitespace}
-use Rattle.meta_base.specs.Language.FurthestFailure.{is_eoi}
+use Rattle.std.proofs.lemmas.List.{length-map}
+use Rattle.meta_ast.specs.Ast.{rule_type_of, text_of}
+use Rattle.meta_base.specs.Language.Expression.{Atomic, CompoundAtomic, Grammar, Ident, NonAtomic, Normal, Rule, RuleType, Silent, comment, rule_of, whitespace}
+use Rattle.meta_base.specs.Language.FurthestFailure.{furthest, is_eoi, place_of}
 use Rattle.meta_base.specs.Language.Matching.{character_outcome}
 use Rattle.meta_base.specs.Language.Meaning as by
-use Rattle.meta_base.specs.Language.Meaning.{Does, Run, Skipping, body_mode, inherited, mode_in}
-use Rattle.meta_base.specs.Language.State.{AtomicMode, Between, Classes, CompoundAtomicMode, NonAtomicMode, moved}
-use Rattle.matcher_layout.specs.Laid.{HasOutcome, IsTight, skip_set, span_of}
+use Rattle.meta_base.specs.Language.Meaning.{Does, Run, Skipping, body_mode, gives_token, inherited, mode_in, seen_from, with_token}
+use Rattle.meta_base.specs.Language.State.{AtomicMode, Between, Classes, CompoundAtomicMode, Failure, Mode, NonAtomicMode, None', Outcome, State, Success, Tree, moved}
+use Rattle.meta_base.specs.Language.Text.{Text}
+use Rattle.meta_base.proofs.Basics.{same_some}
+use Rattle.matcher_code.specs.declared.code.Code.{Code}
+use Rattle.matcher_layout.specs.Laid as lay
+use Rattle.matcher_layout.specs.Laid.{HasOutcome, IsPoint, IsTight, skip_set, span_of}
 use Rattle.matcher_layout.proofs.Characters.{silent_call_of_set, span_of_set}
 use Rattle.matcher_program.specs.declared.form.Program.{Program}
 use Rattle.matcher_program.specs.declared.form.Row.{Row}
-use Rattle.matcher_program.specs.Programs.{IsSkippedRule}
+use Rattle.matcher_program.specs.Programs.{IsRuleOf, IsSkippedRule, grammar_of, name_at, names_of, rule_of_row}
 use Rattle.matcher_compiler.specs.declared.modes.Atomicity as code
+use Rattle.matcher_compiler.specs.declared.plan.Skips.TheVariants as skips
 use Rattle.matcher_compiler.specs.declared.modes.Atomicity.TheVariants as mode
 use Rattle.matcher_compiler.specs.Modes.{mode_of}
 use Rattle.matcher_compiler.specs.Differences.{MatchesOne}
-use Rattle.matcher_compiler.specs.Plans.{IsSoundProgram, grammar_in, no_rule, said}
+use Rattle.matcher_compiler.specs.Plans.{IsBlankSet, IsSoundProgram, SkipsAs, blanks, grammar_in, no_rule, said}
 use Rattle.matcher_compiler.proofs.Calling.{made, same}
 
 white_is_no_end : is_eoi whitespace ≡ false
@@ -27,6 +33,17 @@ white_is_no_end = refl
 comment_is_no_end : is_eoi comment ≡ false
 unfolding comment
 comment_is_no_end = refl
+
+comment_is_blank : (bytes_eq comment whitespace || bytes_eq comment comment) ≡ true
+unfolding whitespace comment
+comment_is_blank = refl
+
+-- the name of a row, and that of its rule
+row_name : (names : List Text) (rows : List Row) (i : ℕ) (d : Rule) → i < length rows
+    → get_or (map (λ r. text_of r.name) rows) i [] ≡ (get_or (map (rule_of_row names) rows) i d).name
+row_name names [] i d l = absurd (omega (arith, l))
+row_name names (r ∷ rows) zero d l = refl
+row_name names (r ∷ rows) (suc i) d l = row_name names rows i d (omega (arith, l))
 
 -- neither name is a rule's
 pub tight_nowhere : (g : Grammar) (classes : Classes) → rule_of g whitespace ≡ None → rule_of g comment ≡ None → IsTight g classes NonAtomicMode
@@ -46,27 +63,140 @@ blank_mode : (b : Bool) → (m : code.Atomicity) × (mode_of m ≡ inherited b B
 blank_mode true = (mode.Atomic, refl)
 blank_mode false = (mode.NonAtomic, refl)
 
--- as many blanks as there are
-blanks_taken : (g : Grammar) (classes : Classes) (set : ℕ → Bool) → rule_of g comment ≡ None
-    → HasOutcome g classes (Run Between (Ident whitespace)) (character_outcome set) (λ s. 0)
-    → HasOutcome g classes (Skipping NonAtomicMode) (skip_set set) (λ s. 0)
-blanks_taken g classes set m one s =
-    let x = span_of_set g classes Between (Ident whitespace) set (λ t. (by.between, refl)) one s in (
+-- as many blanks as there are, where there are no comments
+pub blanks_alone : (g : Grammar) (classes : Classes) (set : ℕ → Bool) → rule_of g comment ≡ None
+    → HasOutcome g classes (Run Between blanks) (skip_set set) (λ s. 0) → HasOutcome g classes (Skipping NonAtomicMode) (skip_set set) (λ s. 0)
+blanks_alone g classes set m has s =
+    let x = has s in (
       by.skips (by.seq x.0 by.between (by.rep_none (by.seq_first (by.other m refl)))),
       ap₂ (λ a b. max a (max 0 (if b then (moved (span_of set s.rest) s).position else 0))) x.1 comment_is_no_end,
     )
 
--- the characters that the body of the rule matches are skipped
-pub skips_any : (p : Program) (i : ℕ) (row : Row) (set : ℕ → Bool) → IsSoundProgram p → p.whitespace ≡ Some i → p.comment ≡ None
+pub tight_between : (g : Grammar) (classes : Classes) → IsTight g classes Between
+tight_between g classes s = (by.between, refl)
+
+-- the characters that the body of the rule matches are blanks
+pub blanks_any : (p : Program) (i : ℕ) (row : Row) (classes : Classes) (set : ℕ → Bool) → IsSoundProgram p → p.whitespace ≡ Some i
     → (within : i < length p.rows.items) → (is : row ≡ get_or p.rows.items i row) → rule_type_of row.kind ≡ Silent
-    → MatchesOne p row.body set → (classes : Classes) → HasOutcome (grammar_in p) classes (Skipping NonAtomicMode) (skip_set set) (λ s. 0)
-skips_any p i row set sound white note within is silent matches classes =
+    → MatchesOne p classes row.body set → HasOutcome (grammar_in p) classes (Run Between blanks) (skip_set set) (λ s. 0)
+blanks_any p i row classes set sound white within is silent matches =
     let r = made p i row within is in
     let w = subst (IsSkippedRule (grammar_in p) whitespace) white sound.whitespace_is in
-    let n : rule_of (grammar_in p) comment ≡ None = subst (IsSkippedRule (grammar_in p) comment) note sound.comment_is in
     let meant : rule_of (grammar_in p) whitespace ≡ Some r = w.meant no_rule ∙ ap Some (same p i row within is) in
     let k = blank_mode (bytes_eq r.name whitespace || bytes_eq r.name comment) in
     let m : mode_of k.0 ≡ body_mode r Between = k.1 ∙ ap (λ y. mode_in y (bytes_eq r.name whitespace || bytes_eq r.name comment) Between) (sym silent) in
-    let z = subst (λ z. HasOutcome (grammar_in p) classes (Run z (said p row.body)) (character_outcome set) (λ s. 0)) m (matches classes k.0) in
-    blanks_taken (grammar_in p) classes set n
+    let z = subst (λ z. HasOutcome (grammar_in p) classes (Run z (said p row.body)) (character_outcome set) (λ s. 0)) m (matches k.0) in
+    span_of_set (grammar_in p) classes Between (Ident whitespace) set (tight_between (grammar_in p) classes)
     (silent_call_of_set (grammar_in p) classes Between whitespace r set meant (ap (λ t. by.gives_token t Between) silent) z)
+
+-- without a rule of that name there are no blanks
+span_none : (cs : Text) → span_of (λ c. false) cs ≡ 0
+span_none [] = refl
+span_none (c ∷ cs) = refl
+
+moved_none : (s : State) → moved 0 s ≡ s
+moved_none s = go s.position s.rest s.stack
+  where
+    go : (q : ℕ) (cs : Text) (ts : List Text) → moved 0 (record { position = q; rest = cs; stack = ts }) ≡ record { position = q; rest = cs; stack = ts }
+    go q [] ts = ap (λ n. record { position = n; rest = []; stack = ts }) (add-zero q)
+    go q (c ∷ cs) ts = ap (λ n. record { position = n; rest = c ∷ cs; stack = ts }) (add-zero q)
+
+pub no_blanks : (g : Grammar) (classes : Classes) → rule_of g whitespace ≡ None → HasOutcome g classes (Run Between blanks) (skip_set (λ c. false)) (λ s. 0)
+no_blanks g classes w s =
+    let e : moved (span_of (λ c. false) s.rest) s ≡ s = ap (λ n. moved n s) (span_none s.rest) ∙ moved_none s in
+    subst (λ t. (d : Does g classes (Run Between blanks) s (Success t None')) × (furthest d ≡ 0)) (sym e)
+    (by.rep_none (by.other w refl), ap (λ a. if a then s.position else 0) white_is_no_end)
+
+-- blanks, with comments or without
+pub skips_ready : (p : Program) (sets : Code) (set : ℕ) (b : Bool) → (b ≡ false → rule_of (grammar_in p) comment ≡ None) → IsBlankSet p sets set
+    → SkipsAs p sets (if b then skips.Comments set else skips.Blanks set)
+skips_ready p sets set true none is = is
+skips_ready p sets set false none is = (none refl, is)
+
+-- a call of `COMMENT` in the implicit skipping is as one in NonAtomic
+same_body : (t : RuleType) (b : Bool) → b ≡ true → mode_in t b NonAtomicMode ≡ mode_in t b Between
+same_body Normal true e = refl
+same_body Silent true e = refl
+same_body Atomic true e = refl
+same_body CompoundAtomic true e = refl
+same_body NonAtomic true e = refl
+same_body t false e = cc
+
+same_tokens : (t : RuleType) → gives_token t NonAtomicMode ≡ gives_token t Between
+same_tokens Normal = refl
+same_tokens Silent = refl
+same_tokens Atomic = refl
+same_tokens CompoundAtomic = refl
+same_tokens NonAtomic = refl
+
+abbrev token_if : Bool → Rule → State → Outcome → Outcome
+token_if b r s Failure = Failure
+token_if b r s (Success t us) = Success t (if b then Tree r.name s.position t.position us None' else us)
+
+module _ (g : Grammar) (classes : Classes) (x : Text) (r : Rule) (h : rule_of g x ≡ Some r) (b : (bytes_eq r.name whitespace || bytes_eq r.name comment) ≡ true) where
+  same_mode : body_mode r NonAtomicMode ≡ body_mode r Between
+  same_mode = same_body r.type_of (bytes_eq r.name whitespace || bytes_eq r.name comment) b
+
+  -- an outcome with the furthest failure
+  abbrev At : Mode → State → Outcome → ℕ → Type 0
+  At m s o f = (d : Does g classes (Run m (Ident x)) s o) × (furthest d ≡ f)
+
+  call_between : (q : Rule) → q ≡ r → rule_of g x ≡ Some q → (s : State) (o : Outcome) (d : Does g classes (Run (body_mode q NonAtomicMode) q.body) s o)
+      → At Between s (with_token q NonAtomicMode s o) (max (place_of (seen_from NonAtomicMode && gives_token q.type_of NonAtomicMode) s o) (furthest d))
+  call_between q e k s o d =
+      let m : body_mode q NonAtomicMode ≡ body_mode q Between = subst (λ y. body_mode y NonAtomicMode ≡ body_mode y Between) (sym e) same_mode in
+      let y = subst (λ i. (d' : Does g classes (Run i q.body) s o) × (furthest d' ≡ furthest d)) m (d, refl) in
+      let z : At Between s (with_token q Between s o) (max (place_of (seen_from Between && gives_token q.type_of Between) s o) (furthest d)) =
+      (by.call {m = Between} k y.0, ap (max (place_of (seen_from Between && gives_token q.type_of Between) s o)) y.1) in
+      with_tokens (gives_token q.type_of NonAtomicMode) (gives_token q.type_of Between) (same_tokens q.type_of) z
+    where
+      with_tokens : (u v : Bool) → u ≡ v
+          → At Between s (token_if v q s o) (max (place_of (true && v) s o) (furthest d)) → At Between s (token_if u q s o) (max (place_of (true && u) s o) (furthest d))
+      with_tokens u v e y = subst (λ w. At Between s (token_if w q s o) (max (place_of (true && w) s o) (furthest d))) (sym e) y
+
+  does_between : (s : State) (o : Outcome) (d : Does g classes (Run NonAtomicMode (Ident x)) s o) → At Between s o (furthest d)
+  does_between s o (by.call {o = i} {r = q} k d) = call_between q (same_some (sym k ∙ h)) k s i d
+  does_between s o (by.other k e) = absurd (no_rule_is (sym k ∙ h))
+    where
+      no_rule_is : None ≡ Some r → ⊥
+      no_rule_is e = cc
+
+  module _ (code : Code) (number : Text → ℕ) (points : List lay.Point) where
+    pub laid_between : {l n w : ℕ} → lay.Lays g classes code number points (Run NonAtomicMode (Ident x)) l n w → lay.Lays g classes code number points (Run Between (Ident x)) l n w
+    laid_between (lay.leaf f place has performs) =
+        lay.leaf f place (λ s. let y = has s in let z = does_between s (f s) y.0 in (z.0, z.1 ∙ y.1)) performs
+    laid_between (lay.call q first last counts e t i a p z) =
+        let k : q ≡ r = same_some (sym e ∙ h) in
+        lay.call q first last counts e (sym (same_tokens q.type_of) ∙ t) i a
+        (subst (λ m. IsPoint points (Run m q.body) first last 0) (subst (λ y. body_mode y NonAtomicMode ≡ body_mode y Between) (sym k) same_mode) p) z
+    laid_between (lay.sub q first last e t a p z) =
+        let k : q ≡ r = same_some (sym e ∙ h) in
+        lay.sub q first last e (sym (same_tokens q.type_of) ∙ t) a
+        (subst (λ m. IsPoint points (Run m q.body) first last 0) (subst (λ y. body_mode y NonAtomicMode ≡ body_mode y Between) (sym k) same_mode) p) z
+
+-- the rule `COMMENT`, called in the implicit skipping
+module _ (p : Program) (i : ℕ) (sound : IsSoundProgram p) (is : p.comment ≡ Some i) where
+  pub comment_meant : IsRuleOf (grammar_in p) comment i
+  comment_meant = subst (IsSkippedRule (grammar_in p) comment) is sound.comment_is
+
+  pub comment_within : i < length p.rows.items
+  comment_within =
+      let l = comment_meant.within in
+      omega (arith, l, length-map p.rows.items (rule_of_row (names_of p.rows.items)))
+
+  comment_named : name_at (names_of p.rows.items) i ≡ comment
+  comment_named = row_name (names_of p.rows.items) p.rows.items i no_rule comment_within ∙ comment_meant.named no_rule
+
+  pub comment_is_rule : IsRuleOf (grammar_in p) (name_at (names_of p.rows.items) i) i
+  comment_is_rule = subst (λ n. IsRuleOf (grammar_in p) n i) (sym comment_named) comment_meant
+
+  pub comment_laid : (classes : Classes) (code : Code) (number : Text → ℕ) (points : List lay.Point) {l n w : ℕ}
+      → lay.Lays (grammar_in p) classes code number points (Run NonAtomicMode (Ident (name_at (names_of p.rows.items) i))) l n w
+      → lay.Lays (grammar_in p) classes code number points (Run Between (Ident comment)) l n w
+  comment_laid classes code number points {l = l} {n = n} {w = w} x =
+      laid_between (grammar_in p) classes comment (get_or (grammar_in p) i no_rule) (comment_meant.meant no_rule) (is_blank (comment_meant.named no_rule)) code number points
+      (subst (λ y. lay.Lays (grammar_in p) classes code number points (Run NonAtomicMode (Ident y)) l n w) comment_named x)
+    where
+      is_blank : (get_or (grammar_in p) i no_rule).name ≡ comment
+          → (bytes_eq (get_or (grammar_in p) i no_rule).name whitespace || bytes_eq (get_or (grammar_in p) i no_rule).name comment) ≡ true
+      is_blank e = subst (λ y. (bytes_eq y whitespace || bytes_eq y comment) ≡ true) (sym e) comment_is_blank

@@ -1,8 +1,8 @@
 -- Programs of operations that are those of rules.
 use Rattle.std.specs.Prelude.{◌≡◌, ◌<◌, ◌+◌, ℕ, Bool, List, [], get_or, length, map}
 use Rattle.meta_base.specs.Language.Expression.{Ident}
-use Rattle.meta_base.specs.Language.Meaning.{Run, Skipping}
-use Rattle.meta_base.specs.Language.State.{Classes, NonAtomicMode}
+use Rattle.meta_base.specs.Language.Meaning.{Run}
+use Rattle.meta_base.specs.Language.State.{Between, Classes, NonAtomicMode}
 use Rattle.matcher_code.specs.declared.code.Code.{Code}
 use Rattle.matcher_code.specs.declared.code.Op.TheVariants as op
 use Rattle.matcher_layout.specs.Laid as lay
@@ -30,13 +30,6 @@ AreMet code points demands = (p : Program) (i : ℕ) (d : Demand) → i < length
 pub record IsEmpty (plan : Plan) : Type 0 where
   pub points : plan.points.items ≡ []
   pub demands : plan.demands.items ≡ []
-
--- the characters of ranges are what the implicit skipping takes
-pub record AreSkipped (p : Program) (ranges : List (ℕ × ℕ)) : Type 0 where
-  pub characters : ℕ → Bool
-  pub covers : Covers ranges characters
-  pub skips : (classes : Classes)
-      → HasOutcome (grammar_in p) classes (Skipping NonAtomicMode) (skip_set characters) (λ s. 0)
 
 -- a program that meets the plan has a point for a call of each of the first rules from outside
 abbrev pub HasEntries : Program → Plan → ℕ → Type 0

@@ -1,12 +1,13 @@
 -- Plans of programs: points and demands, and what a program does that meets them.
-use Rattle.std.specs.Prelude.{◌≡◌, ◌<◌, ℕ, Bool, List, [], ◌∷◌, Option, Some, None, get_or, length, map, ⊤}
-use Rattle.meta_base.specs.Language.Expression.{Expression, Grammar, Ident, Normal, Rep, Rule, Str}
-use Rattle.meta_base.specs.Language.Meaning.{Run, Skipping, Task, once_or_more}
+use Rattle.std.specs.Prelude.{◌≡◌, ◌<◌, ℕ, Bool, List, [], ◌∷◌, Option, Some, None, get_or, length, map, All, IsUtf8, chars, ⊤}
+use Rattle.meta_base.specs.Language.Expression.{Expression, Grammar, Ident, Normal, Rep, Rule, Seq, Str, comment, rule_of, whitespace}
+use Rattle.meta_base.specs.Language.Meaning.{Run, Skipping, Task, once_or_more, skipped}
 use Rattle.meta_base.specs.Language.State as language
-use Rattle.meta_base.specs.Language.State.{Classes, NonAtomicMode}
+use Rattle.meta_base.specs.Language.Text.{Text}
+use Rattle.meta_base.specs.Language.State.{Between, Classes, NonAtomicMode}
 use Rattle.matcher_code.specs.declared.code.Code.{Code}
 use Rattle.matcher_code.specs.declared.code.Op.TheVariants as op
-use Rattle.matcher_code.specs.Reading.{char_len}
+use Rattle.matcher_code.specs.Reading.{char_len, text_of}
 use Rattle.matcher_code.specs.Sets.{IsSetOf}
 use Rattle.matcher_program.specs.declared.form.Form.{Form}
 use Rattle.matcher_program.specs.declared.form.Program.{Program}
@@ -14,6 +15,8 @@ use Rattle.matcher_program.specs.Programs.{Fits, IsBound, IsSound, expression_of
 use Rattle.matcher_layout.specs.Laid as lay
 use Rattle.matcher_layout.specs.Laid.{HasOutcome, IsEnd, IsPoint, IsTight, Lays, at_label, skip_set}
 use Rattle.matcher_compiler.specs.declared.plan.Plan.{Plan}
+use Rattle.matcher_compiler.specs.declared.plan.Skips.{Skips}
+use Rattle.matcher_compiler.specs.declared.plan.Skips.TheVariants as skips
 use Rattle.matcher_compiler.specs.declared.modes.Atomicity.{Atomicity}
 use Rattle.matcher_compiler.specs.declared.points.Demand.{Demand}
 use Rattle.matcher_compiler.specs.declared.points.Demand.TheVariants as demand
@@ -47,23 +50,27 @@ IsBoundIn p f = IsBound (grammar_in p) (names_of p.rows.items) p.properties.item
 abbrev pub body_in : Program → ℕ → Expression
 body_in p i = (get_or (grammar_in p) i no_rule).body
 
--- the expression of a part; the skipping is none
-abbrev pub expression_in : Program → Part → Expression
-expression_in p (part.Form f) = said p f.now
-expression_in p (part.OnceOrMore f) = once_or_more (said p f.now)
-expression_in p (part.Repetition f) = Rep (said p f.now)
-expression_in p (part.Body i) = body_in p i
-expression_in p (part.Rule i) = Ident (name_at (names_of p.rows.items) i)
-expression_in p part.Gap = Str []
+-- the parts of the implicit skipping: blanks, and a comment with blanks behind it
+abbrev pub blanks : Expression
+blanks = Rep (Ident whitespace)
 
--- the task of a part in a mode
+abbrev pub one_comment : Expression
+one_comment = Seq (Ident comment) blanks
+
+-- the task of a part in a mode; the parts of the implicit skipping have their own
 abbrev pub task_in : Program → Part → language.Mode → Task
+task_in p (part.Form f) m = Run m (said p f.now)
+task_in p (part.OnceOrMore f) m = Run m (once_or_more (said p f.now))
+task_in p (part.Repetition f) m = Run m (Rep (said p f.now))
+task_in p (part.Body i) m = Run m (body_in p i)
+task_in p (part.Rule i) m = Run m (Ident (name_at (names_of p.rows.items) i))
 task_in p part.Gap m = Skipping m
-task_in p (part.Form f) m = Run m (expression_in p (part.Form f))
-task_in p (part.OnceOrMore f) m = Run m (expression_in p (part.OnceOrMore f))
-task_in p (part.Repetition f) m = Run m (expression_in p (part.Repetition f))
-task_in p (part.Body i) m = Run m (expression_in p (part.Body i))
-task_in p (part.Rule i) m = Run m (expression_in p (part.Rule i))
+task_in p part.Skipped m = Run Between skipped
+task_in p part.Blanks m = Run Between blanks
+task_in p part.Comments m = Run Between (Rep one_comment)
+task_in p part.Comment m = Run Between one_comment
+task_in p part.CommentCall m = Run Between (Ident comment)
+task_in p part.Stay m = Skipping Between
 
 -- the names in a part mean what they are resolved to, and there is such a rule
 abbrev pub IsBoundPart : Program → Part → Type 0
@@ -72,7 +79,7 @@ IsBoundPart p (part.OnceOrMore f) = IsBoundIn p f.now
 IsBoundPart p (part.Repetition f) = IsBoundIn p f.now
 IsBoundPart p (part.Body i) = i < length p.rows.items
 IsBoundPart p (part.Rule i) = i < length p.rows.items
-IsBoundPart p part.Gap = ⊤
+IsBoundPart p _ = ⊤
 
 -- a point of a program
 abbrev pub laid_point : Program → Point → lay.Point
@@ -98,7 +105,7 @@ IsMet p code laid (demand.Body i m first last point) =
     IsPoint laid (Run (mode_of m) (body_in p i)) first last 0
 IsMet p code laid (demand.GoesOn l) = IsEnd code l → ⊥
 
--- the program has the points, what is demanded, the sets and the texts of a plan
+-- the program has the points, what is demanded, the sets, the texts and the lists of a plan
 pub record Meets (p : Program) (plan : Plan) (code : Code) (laid : List lay.Point) : Type 0 where
   pub fail : at_label code 0 ≡ op.Fail
   pub points : (i : ℕ) (d : Point) → i < length plan.points.items
@@ -109,24 +116,38 @@ pub record Meets (p : Program) (plan : Plan) (code : Code) (laid : List lay.Poin
       → char_len code set (b ∷ bs) ≡ char_len plan.sets set (b ∷ bs)
   pub texts : (i : ℕ) → i < length plan.texts.items
       → get_or (map (λ v. v.items) code.texts.items) i [] ≡ get_or (map (λ v. v.items) plan.texts.items) i []
+  pub lists : (i : ℕ) → i < length plan.lists.items
+      → get_or (map (λ v. v.items) code.lists.items) i [] ≡ get_or (map (λ v. v.items) plan.lists.items) i []
 
--- the characters of a set are what the implicit skipping takes
+-- the texts of some numbers, as characters
+pub record AreTexts (code : Code) (numbers : List ℕ) (ts : List Text) : Type 0 where
+  pub valid : All IsUtf8 (map (text_of code) numbers)
+  pub same : map chars (map (text_of code) numbers) ≡ ts
+
+-- the characters of ranges are what the blanks of the implicit skipping take
+pub record TakesBlanks (p : Program) (classes : Classes) (ranges : List (ℕ × ℕ)) : Type 0 where
+  pub characters : ℕ → Bool
+  pub covers : Covers ranges characters
+  pub takes : HasOutcome (grammar_in p) classes (Run Between blanks) (skip_set characters) (λ s. 0)
+
+abbrev pub AreBlanks : Program → List (ℕ × ℕ) → Type 0
+AreBlanks p ranges = (classes : Classes) → Fits p.properties.items classes → TakesBlanks p classes ranges
+
+-- so are the characters of a set
 pub record IsBlankSet (p : Program) (sets : Code) (set : ℕ) : Type 0 where
   pub ranges : List (ℕ × ℕ)
-  pub characters : ℕ → Bool
   pub within : set < length sets.ranges.items
   pub is : IsSetOf sets set ranges
-  pub covers : Covers ranges characters
-  pub skips : (classes : Classes)
-      → HasOutcome (grammar_in p) classes (Skipping NonAtomicMode) (skip_set characters) (λ s. 0)
+  pub blank : AreBlanks p ranges
 
--- what the implicit skipping takes: nothing, or the characters of a set
-abbrev pub SkipsAs : Program → Code → Option ℕ → Type 0
-SkipsAs p sets None = (classes : Classes) → IsTight (grammar_in p) classes NonAtomicMode
-SkipsAs p sets (Some set) = IsBlankSet p sets set
+-- what the implicit skipping takes: nothing, the characters of a set, or these and comments
+abbrev pub SkipsAs : Program → Code → Skips → Type 0
+SkipsAs p sets skips.Nothing = (classes : Classes) → IsTight (grammar_in p) classes NonAtomicMode
+SkipsAs p sets (skips.Blanks set) = (rule_of (grammar_in p) comment ≡ None) × IsBlankSet p sets set
+SkipsAs p sets (skips.Comments set) = IsBlankSet p sets set
 
 abbrev pub IsReady : Program → Plan → Type 0
-IsReady p plan = SkipsAs p plan.sets plan.blanks
+IsReady p plan = SkipsAs p plan.sets plan.skips
 
 -- the names in all points mean what they are resolved to
 abbrev pub AreBound : Program → Plan → Type 0

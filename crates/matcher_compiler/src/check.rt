@@ -55,6 +55,39 @@ fn is_same_call(one: Op, other: Op) -> bool
     }
 }
 
+/// Returns whether two operations are the same one of those that take texts, or calls.
+fn is_same_text(one: Op, other: Op) -> bool
+    ensures { result ≡ true → one ≡ other }
+{
+    match one {
+        Op::Text { text, next, fail } => match other {
+            Op::Text {
+                text: text2,
+                next: next2,
+                fail: fail2,
+            } => text == text2 && next == next2 && fail == fail2,
+            _ => false,
+        },
+        Op::AnyCase { text, next, fail } => match other {
+            Op::AnyCase {
+                text: text2,
+                next: next2,
+                fail: fail2,
+            } => text == text2 && next == next2 && fail == fail2,
+            _ => false,
+        },
+        Op::Until { firsts, list, next } => match other {
+            Op::Until {
+                firsts: firsts2,
+                list: list2,
+                next: next2,
+            } => firsts == firsts2 && list == list2 && next == next2,
+            _ => false,
+        },
+        _ => is_same_call(one, other),
+    }
+}
+
 /// Returns whether two operations are the same one of those that take characters.
 fn is_same_leaf(one: Op, other: Op) -> bool
     ensures { result ≡ true → one ≡ other }
@@ -75,14 +108,6 @@ fn is_same_leaf(one: Op, other: Op) -> bool
             } => set == set2 && next == next2,
             _ => false,
         },
-        Op::Text { text, next, fail } => match other {
-            Op::Text {
-                text: text2,
-                next: next2,
-                fail: fail2,
-            } => text == text2 && next == next2 && fail == fail2,
-            _ => false,
-        },
         Op::Start { next, fail } => match other {
             Op::Start {
                 next: next2,
@@ -97,7 +122,7 @@ fn is_same_leaf(one: Op, other: Op) -> bool
             } => next == next2 && fail == fail2,
             _ => false,
         },
-        _ => is_same_call(one, other),
+        _ => is_same_text(one, other),
     }
 }
 

@@ -1,17 +1,18 @@
 //! The compiler.
-ghost use Rattle.std.specs.Prelude.{◌≡◌, ◌<◌, ◌≤◌, IfOk, None, OnOk, Some, [], get_or, length, map, true};
+ghost use Rattle.std.specs.Prelude.{◌≡◌, ◌<◌, ◌≤◌, IfOk, None, OnOk, Some, [], false, get_or, if◌then◌else◌, length, map, true};
 ghost use Rattle.meta_ast.specs.Ast.{rule_type_of};
 ghost use Rattle.meta_base.specs.Language.Expression.{Silent};
 ghost use Rattle.matcher_code.specs.Sets.{IsAligned};
 ghost use Rattle.matcher_program.specs.declared.form.Program.{Program};
-ghost use Rattle.matcher_compiler.specs.Compiled.{AreMet, AreSkipped, HasEnds, HasEntries, IsCodeOf, IsEmpty};
-ghost use Rattle.matcher_compiler.specs.Plans.{IsLater, IsReady, IsSoundProgram, Meets, laid_point};
+ghost use Rattle.matcher_compiler.specs.Compiled.{AreMet, HasEnds, HasEntries, IsCodeOf, IsEmpty};
+ghost use Rattle.matcher_compiler.specs.declared.plan.Skips.TheVariants as skips;
+ghost use Rattle.matcher_compiler.specs.Plans.{AreBlanks, IsLater, IsReady, IsSoundProgram, Meets, laid_point};
 
 use crate::check::{has_ends, meets_all};
 use crate::difference::choice_ranges;
 use crate::modes::Atomicity;
 use crate::names::has_own_names;
-use crate::plan::Plan;
+use crate::plan::{Plan, Skips};
 use crate::points::{Demand, NotCompiled, Part, Place, Point};
 use matcher_code::code::{Code, Op, Ranges};
 use matcher_code::sets::add_set;
@@ -42,12 +43,12 @@ fn fresh_plan<'p>(
     alloc: Global,
     rules: usize,
     sets: Code,
-    blanks: Option<u32>,
+    skips: Skips,
 ) -> Result<Plan<'p>, NotCompiled>
     requires aligned { IsAligned sets }
     ensures empty { IfOk result IsEmpty }
     ensures sets { IfOk result (λ plan. plan.sets ≡ sets) }
-    ensures blanks { IfOk result (λ plan. plan.blanks ≡ blanks) }
+    ensures skips { IfOk result (λ plan. plan.skips ≡ skips) }
 {
     let mut bodies = Vec::new(alloc);
     for _ in 0..rules.saturating_mul(6) {
@@ -60,91 +61,98 @@ fn fresh_plan<'p>(
         demands: Vec::new(alloc),
         sets,
         texts: Vec::new(alloc),
-        blanks,
+        lists: Vec::new(alloc),
+        skips,
         bodies,
     })
 }
 
-/// Returns a plan where the characters in ranges are skipped.
-fn plan_of_blanks<'p>(
-    alloc: Global,
-    program: &Program,
-    ranges: Ranges,
-) -> Result<Plan<'p>, NotCompiled>
-    requires skips { AreSkipped program.now ranges.items }
-    ensures empty { IfOk result IsEmpty }
-    ensures ready { IfOk result (IsReady program.now) }
-{
-    let mut sets = empty_code(alloc);
-    let set = add_set(&mut sets, ranges)?;
-    if set as usize >= sets.ranges.len() {
-        return Err(NotCompiled::Unsupported);
-    }
-    let plan = fresh_plan(alloc, program.rows.len(), sets, Some(set))?;
-    Ok(plan)
-}
-
-/// Returns a plan where the characters of a silent rule's body are skipped.
-fn body_plan<'p>(
+/// Returns the ranges of the characters that the body of the silent rule `WHITESPACE` matches.
+fn body_ranges(
     alloc: Global,
     program: &Program,
     number: usize,
     row: &Row,
     body: &Form,
-) -> Result<Plan<'p>, NotCompiled>
+) -> Result<Ranges, NotCompiled>
     requires sound { IsSoundProgram program.now }
     requires white { program.now.whitespace ≡ Some number }
-    requires note { program.now.comment ≡ None }
     requires within { number < length program.now.rows.items }
     requires is { row.now ≡ get_or program.now.rows.items number row.now }
     requires kind { rule_type_of row.now.kind ≡ Silent }
     requires body { body.now ≡ row.now.body }
-    ensures empty { IfOk result IsEmpty }
-    ensures ready { IfOk result (IsReady program.now) }
+    ensures { IfOk result (λ ranges. AreBlanks program.now ranges.items) }
 {
     let made = choice_ranges(alloc, program, body)?;
     match made {
-        Some(ranges) => plan_of_blanks(alloc, program, ranges),
+        Some(ranges) => Ok(ranges),
         None => Err(NotCompiled::Unsupported),
     }
 }
 
-/// Returns a plan where the characters of a rule are skipped, if it is silent.
-fn silent_plan<'p>(
+/// Returns the ranges of the characters that the rule `WHITESPACE` matches, if it is silent.
+fn silent_ranges(
     alloc: Global,
     program: &Program,
     number: usize,
     row: &Row,
-) -> Result<Plan<'p>, NotCompiled>
+) -> Result<Ranges, NotCompiled>
     requires sound { IsSoundProgram program.now }
     requires white { program.now.whitespace ≡ Some number }
-    requires note { program.now.comment ≡ None }
     requires within { number < length program.now.rows.items }
     requires is { row.now ≡ get_or program.now.rows.items number row.now }
-    ensures empty { IfOk result IsEmpty }
-    ensures ready { IfOk result (IsReady program.now) }
+    ensures { IfOk result (λ ranges. AreBlanks program.now ranges.items) }
 {
     match row.kind {
-        RuleType::Silent => body_plan(alloc, program, number, row, &row.body),
+        RuleType::Silent => body_ranges(alloc, program, number, row, &row.body),
         _ => Err(NotCompiled::Unsupported),
     }
 }
 
-/// Returns a plan where the characters of a silent rule are skipped.
-fn blank_plan<'p>(alloc: Global, program: &Program, number: usize) -> Result<Plan<'p>, NotCompiled>
+/// Returns the ranges of blanks, which are none without a rule `WHITESPACE`.
+fn blank_ranges(alloc: Global, program: &Program) -> Result<Ranges, NotCompiled>
     requires sound { IsSoundProgram program.now }
-    requires white { program.now.whitespace ≡ Some number }
-    requires note { program.now.comment ≡ None }
-    ensures empty { IfOk result IsEmpty }
-    ensures ready { IfOk result (IsReady program.now) }
+    ensures { IfOk result (λ ranges. AreBlanks program.now ranges.items) }
 {
-    match program.rows.get(number) {
-        Some(row) => silent_plan(alloc, program, number, row),
-        None => Err(NotCompiled::Unsupported),
+    match program.whitespace {
+        Some(number) => match program.rows.get(number) {
+            Some(row) => silent_ranges(alloc, program, number, row),
+            None => Err(NotCompiled::Unsupported),
+        },
+        None => Ok(Vec::new(alloc)),
     }
 }
 
-/// Returns a plan where nothing is skipped.
+/// Returns what is skipped: the characters of a set, and comments, if there are such.
+fn skips_with(comments: bool, set: u32) -> Skips
+    ensures { result ≡ (if comments then skips.Comments set else skips.Blanks set) }
+{
+    if comments {
+        Skips::Comments(set)
+    } else {
+        Skips::Blanks(set)
+    }
+}
+
+/// Returns a plan without points where blanks are skipped, and comments, if there are such.
+fn blank_plan<'p>(alloc: Global, program: &Program, comments: bool) -> Result<Plan<'p>, NotCompiled>
+    requires sound { IsSoundProgram program.now }
+    requires note { comments ≡ false → program.now.comment ≡ None }
+    ensures empty { IfOk result IsEmpty }
+    ensures ready { IfOk result (IsReady program.now) }
+{
+    let ranges = blank_ranges(alloc, program)?;
+    let mut sets = empty_code(alloc);
+    let set = add_set(&mut sets, ranges)?;
+    if set as usize >= sets.ranges.len() {
+        return Err(NotCompiled::Unsupported);
+    }
+    let skips = skips_with(comments, set);
+    let plan = fresh_plan(alloc, program.rows.len(), sets, skips)?;
+    Ok(plan)
+}
+
+/// Returns a plan without points where nothing is skipped.
 fn plain_plan<'p>(alloc: Global, program: &Program) -> Result<Plan<'p>, NotCompiled>
     requires sound { IsSoundProgram program.now }
     requires white { program.now.whitespace ≡ None }
@@ -152,20 +160,20 @@ fn plain_plan<'p>(alloc: Global, program: &Program) -> Result<Plan<'p>, NotCompi
     ensures empty { IfOk result IsEmpty }
     ensures ready { IfOk result (IsReady program.now) }
 {
-    let plan = fresh_plan(alloc, program.rows.len(), empty_code(alloc), None)?;
+    let plan = fresh_plan(alloc, program.rows.len(), empty_code(alloc), Skips::Nothing)?;
     Ok(plan)
 }
 
-/// Returns a plan without points, by what is skipped implicitly: nothing, or characters of a silent rule.
+/// Returns a plan without points, by what is skipped implicitly.
 fn first_plan<'p>(alloc: Global, program: &Program) -> Result<Plan<'p>, NotCompiled>
     requires sound { IsSoundProgram program.now }
     ensures empty { IfOk result IsEmpty }
     ensures ready { IfOk result (IsReady program.now) }
 {
     match program.comment {
-        Some(_) => Err(NotCompiled::Unsupported),
+        Some(_) => blank_plan(alloc, program, true),
         None => match program.whitespace {
-            Some(number) => blank_plan(alloc, program, number),
+            Some(_) => blank_plan(alloc, program, false),
             None => plain_plan(alloc, program),
         },
     }
@@ -244,7 +252,8 @@ fn finish(alloc: Global, plan: Plan<'_>) -> Result<Code, NotCompiled>
         demands,
         sets,
         texts,
-        blanks: _,
+        lists,
+        skips: _,
         bodies: _,
     } = plan;
     let ops = write(alloc, &demands)?;
@@ -254,7 +263,7 @@ fn finish(alloc: Global, plan: Plan<'_>) -> Result<Code, NotCompiled>
         ranges,
         tables,
         texts: _,
-        lists,
+        lists: _,
     } = sets;
     let code = Code {
         ops,
@@ -271,7 +280,7 @@ fn finish(alloc: Global, plan: Plan<'_>) -> Result<Code, NotCompiled>
 }
 
 /// Makes a program for rules. Errors: rules that have an expression of a kind that is not compiled, or a
-/// comment, or blanks that are no set of characters, or are more than 4096; and an allocation failure.
+/// `WHITESPACE` that is no set of characters, or are more than 4096; and an allocation failure.
 pub fn compile(alloc: Global, program: &Program) -> Result<Code, NotCompiled>
     requires sound { IsSoundProgram program.now }
     ensures { IfOk result (IsCodeOf program.now) }

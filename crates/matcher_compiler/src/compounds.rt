@@ -1,4 +1,4 @@
-//! The parts, the operations and the demands of expressions with operands, and of the skipping.
+//! The parts, the operations and the demands of expressions with operands.
 ghost use Rattle.std.specs.Prelude.{◌≡◌, None, OnOk, Some};
 ghost use Rattle.meta_base.specs.Language.Expression.{Choice, Expression, NegPred, Opt, PosPred, Rep, Seq};
 ghost use Rattle.meta_base.specs.Language.Meaning.{Run, Skipping};
@@ -337,45 +337,5 @@ impl<'p> Plan<'p> {
             },
         )?;
         Ok(())
-    }
-
-    /// Plans nothing, where nothing is skipped.
-    fn stay(&self, program: &Program, at: Place) -> Result<(), NotCompiled>
-        requires tight { IsTightIn program.now at.mode }
-        ensures lays { OnOk result (LaysAt program.now self.now (Skipping (mode_of at.mode)) at) }
-    {
-        if at.label == at.next {
-            Ok(())
-        } else {
-            Err(NotCompiled::Unsupported)
-        }
-    }
-
-    /// Plans the skipping of blanks.
-    fn blanks(&mut self, program: &Program, set: u32, at: Place) -> Result<(), NotCompiled>
-        requires ready { IsReady program.now self.old }
-        requires is { self.old.blanks ≡ Some set }
-        requires mode { mode_of at.mode ≡ NonAtomicMode }
-        ensures later { OnOk result (IsLater program.now self.old self.new) }
-        ensures lays { OnOk result (LaysAt program.now self.new (Skipping (mode_of at.mode)) at) }
-    {
-        self.operation(at.label, Op::All { set, next: at.next })?;
-        Ok(())
-    }
-
-    /// Plans the implicit skipping.
-    pub(crate) fn gap(&mut self, program: &Program, at: Place) -> Result<(), NotCompiled>
-        requires ready { IsReady program.now self.old }
-        ensures later { OnOk result (IsLater program.now self.old self.new) }
-        ensures lays { OnOk result (LaysAt program.now self.new (Skipping (mode_of at.mode)) at) }
-    {
-        if self.is_tight(at.mode) {
-            self.stay(program, at)
-        } else {
-            match self.blanks {
-                Some(set) => self.blanks(program, set, at),
-                None => Err(NotCompiled::Unsupported),
-            }
-        }
     }
 }

@@ -1,9 +1,11 @@
 //! Sets of characters without those of other sets.
-ghost use Rattle.std.specs.Prelude.{◌≡◌, ◌==◌, ◌&&◌, IfOk, IfSome, OnOk, chars, length, not, true};
+ghost use Rattle.std.specs.Prelude.{◌≡◌, ◌==◌, ◌&&◌, ◌||◌, IfOk, IfSome, OnOk, chars, length, nat_eq, not, true};
 ghost use Rattle.meta_base.specs.Language.Builtins.{is_between};
 ghost use Rattle.matcher_code.specs.Reading.{is_covered};
 ghost use Rattle.matcher_program.specs.Programs.{is_set};
-ghost use Rattle.matcher_compiler.specs.Differences.{AddsForm, HasRanges, IsExcluded, IsIncluded, is_above, is_below};
+ghost use Rattle.matcher_program.specs.declared.form.Program.{Program};
+ghost use Rattle.matcher_program.specs.declared.form.Form.TheVariants as form;
+ghost use Rattle.matcher_compiler.specs.Differences.{AddsFirsts, AddsForm, HasFirsts, HasRanges, HasRefused, IsIncluded, is_above, is_below};
 ghost use Rattle.matcher_compiler.specs.Names.{Adds, Covers};
 ghost use Rattle.matcher_compiler.specs.Plans.{IsBoundIn};
 
@@ -13,7 +15,7 @@ use matcher_code::code::Ranges;
 use matcher_program::form::{Form, Program};
 use std::alloc::{AllocError, Global};
 
-/// The largest number of ranges that are left out of a set.
+/// The largest number of ranges that are left out of a set, or that a choice has before its first alternative.
 pub(crate) const MOST_RANGES: usize = 256;
 
 /// Returns the form of a literal, if that is one character.
@@ -33,16 +35,6 @@ pub(crate) fn included_set(form: &Form) -> Option<&Form>
         Form::Set(_, set) => Some(set),
         Form::Range(_, _) | Form::One(_) => Some(form),
         Form::Str(text) => single_form(form, text.as_str()),
-        _ => None,
-    }
-}
-
-/// Returns the form of a set, of which no character may be next.
-pub(crate) fn excluded_set(form: &Form) -> Option<&Form>
-    ensures { IfSome result (λ set. IsExcluded form.entry.now set.now) }
-{
-    match form {
-        Form::NegPred(body) => included_set(body),
         _ => None,
     }
 }
@@ -117,8 +109,27 @@ pub(crate) fn outside_ranges(
     Ok(rest)
 }
 
-/// Appends the ranges of a form of a set of characters. Returns whether it is one.
-fn push_set(
+/// Appends the ranges of a property. Returns whether there is such a property.
+fn push_property(
+    program: &Program,
+    ranges: &mut Ranges,
+    name: &String,
+    number: usize,
+) -> Result<bool, AllocError>
+    requires bound { IsBoundIn program.now (form.Property name.now number) }
+    ensures { IfOk result (λ is. is ≡ true
+        → AddsForm program.now (form.Property name.now number) ranges.old.items ranges.new.items) }
+{
+    let property = match program.properties.get(number) {
+        Some(property) => property,
+        None => return Ok(false),
+    };
+    ranges.extend_from_slice(&property.ranges)?;
+    Ok(true)
+}
+
+/// Appends the ranges of a form that has the expression of a set. Returns whether it has one.
+fn push_included(
     alloc: Global,
     program: &Program,
     ranges: &mut Ranges,
@@ -138,8 +149,25 @@ fn push_set(
     }
 }
 
+/// Appends the ranges of a form of a set of characters. Returns whether it is one.
+fn push_set(
+    alloc: Global,
+    program: &Program,
+    ranges: &mut Ranges,
+    form: &Form,
+) -> Result<bool, AllocError>
+    requires bound { IsBoundIn program.now form.now }
+    ensures { IfOk result (λ is. is ≡ true
+        → AddsForm program.now form.now ranges.old.items ranges.new.items) }
+{
+    match form {
+        Form::Property(name, number) => push_property(program, ranges, name, *number),
+        _ => push_included(alloc, program, ranges, form),
+    }
+}
+
 /// Returns the ranges of a choice of sets of characters, whose left alternative may be one again, or `None`
-/// if it is another form.
+/// if it is another form, or the ranges are too many.
 pub(crate) fn choice_ranges(
     alloc: Global,
     program: &Program,
@@ -151,7 +179,7 @@ pub(crate) fn choice_ranges(
     let mut ranges = Vec::new(alloc);
     let mut rest = form;
     'alternatives: while let Form::Choice(left, right) = rest {
-        if !push_set(alloc, program, &mut ranges, right)? {
+        if ranges.len() > MOST_RANGES || !push_set(alloc, program, &mut ranges, right)? {
             return Ok(None);
         }
         rest = left;
@@ -160,4 +188,67 @@ pub(crate) fn choice_ranges(
         return Ok(None);
     }
     Ok(Some(ranges))
+}
+
+/// Appends the ranges of the characters with which a newline begins.
+fn push_newline(ranges: &mut Ranges) -> Result<bool, AllocError>
+    ensures adds { OnOk result (Adds ranges.old.items ranges.new.items (λ c. nat_eq 10 c || nat_eq 13 c)) }
+    ensures is { IfOk result (λ is. is ≡ true) }
+{
+    push_range(ranges, 10, 10)?;
+    push_range(ranges, 13, 13)?;
+    Ok(true)
+}
+
+/// Appends the ranges of the characters with which a form begins, if one such tells that it succeeds. Returns
+/// whether it does.
+fn push_firsts(
+    alloc: Global,
+    program: &Program,
+    ranges: &mut Ranges,
+    form: &Form,
+) -> Result<bool, AllocError>
+    requires bound { IsBoundIn program.now form.now }
+    ensures { IfOk result (λ is. is ≡ true
+        → AddsFirsts program.now form.now ranges.old.items ranges.new.items) }
+{
+    match form {
+        Form::Newline => push_newline(ranges),
+        _ => push_set(alloc, program, ranges, form),
+    }
+}
+
+/// Returns the ranges of the characters of which one tells that a form succeeds, or `None` if there are no
+/// such.
+fn first_ranges(alloc: Global, program: &Program, form: &Form) -> Result<Option<Ranges>, AllocError>
+    requires bound { IsBoundIn program.now form.now }
+    ensures { IfOk result (λ made. IfSome made (λ ranges. HasFirsts program.now form.now ranges.items)) }
+{
+    let mut ranges = Vec::new(alloc);
+    let mut rest = form;
+    'alternatives: while let Form::Choice(left, right) = rest {
+        if ranges.len() > MOST_RANGES || !push_firsts(alloc, program, &mut ranges, right)? {
+            return Ok(None);
+        }
+        rest = left;
+    }
+    if !push_firsts(alloc, program, &mut ranges, rest)? {
+        return Ok(None);
+    }
+    Ok(Some(ranges))
+}
+
+/// Returns the ranges of the characters that a form refuses, if it matches nothing before all others.
+pub(crate) fn refused_ranges(
+    alloc: Global,
+    program: &Program,
+    form: &Form,
+) -> Result<Option<Ranges>, AllocError>
+    requires bound { IsBoundIn program.now form.now }
+    ensures { IfOk result (λ made. IfSome made (λ ranges. HasRefused program.now form.now ranges.items)) }
+{
+    match form {
+        Form::NegPred(body) => first_ranges(alloc, program, body),
+        _ => Ok(None),
+    }
 }

@@ -1,19 +1,21 @@
 //! The operations and the demands of expressions without operands.
-ghost use Rattle.std.specs.Prelude.{◌≡◌, ◌≤◌, IfOk, None, OnOk, chars, codes, length, true};
-ghost use Rattle.meta_base.specs.Language.Expression.{Ident, NegPred, Rep, Seq, Str, rule_of};
+ghost use Rattle.std.specs.Prelude.{◌≡◌, ◌≤◌, ◌&&◌, ℕ, IfOk, List, None, OnOk, chars, codes, length, not, true};
+ghost use Rattle.meta_base.specs.Language.Expression.{Ident, Insens, Rep, Seq, Str, rule_of};
 ghost use Rattle.meta_base.specs.Language.Meaning.{Run, seen_from};
 ghost use Rattle.meta_base.specs.Language.State.{AtomicMode};
-ghost use Rattle.matcher_program.specs.Programs.{is_set};
+ghost use Rattle.matcher_code.specs.Reading.{is_covered};
+ghost use Rattle.matcher_code.specs.declared.code.Code.{Code};
+ghost use Rattle.matcher_layout.specs.Laid as lay;
+ghost use Rattle.matcher_layout.specs.Laid.{MatchesText};
 ghost use Rattle.matcher_program.specs.declared.form.Program.{Program};
-ghost use Rattle.matcher_compiler.specs.Differences.{HasDifference};
+ghost use Rattle.matcher_compiler.specs.Differences.{HasRanges, HasRefused, HasSet};
 ghost use Rattle.matcher_compiler.specs.Modes.{mode_of};
-ghost use Rattle.matcher_compiler.specs.Plans.{IsBoundIn, IsLater, IsTightIn, LaysAt, grammar_in, said};
+ghost use Rattle.matcher_compiler.specs.Plans.{IsBoundIn, IsLater, IsTightIn, LaysAt, Meets, grammar_in, said};
 
-use crate::difference::{MOST_RANGES, outside_ranges};
+use crate::difference::{MOST_RANGES, choice_ranges, outside_ranges};
 use crate::plan::Plan;
 use crate::points::{NotCompiled, Place};
-use crate::ranges::ranges_of;
-use matcher_code::code::Op;
+use matcher_code::code::{Op, Ranges};
 use matcher_program::form::{Form, Program};
 use std::alloc::Global;
 
@@ -29,95 +31,109 @@ fn end_row(program: &Program) -> u32
 }
 
 impl<'p> Plan<'p> {
-    /// Plans one character of a set.
+    /// Plans a form of one character of some ranges.
     pub(crate) fn character(
+        &mut self,
+        program: &Program,
+        form: &Form,
+        ranges: Ranges,
+        at: Place,
+    ) -> Result<(), NotCompiled>
+        requires ranges { HasRanges program.now form.now ranges.items }
+        ensures later { OnOk result (IsLater program.now self.old self.new) }
+        ensures lays { OnOk result
+            (LaysAt program.now self.new (Run (mode_of at.mode) (said program.now form.now)) at) }
+    {
+        let set = self.set(ranges)?;
+        self.operation(
+            at.label,
+            Op::One {
+                set,
+                next: at.next,
+                fail: at.way,
+            },
+        )?;
+        Ok(())
+    }
+
+    /// Plans a form of one character.
+    pub(crate) fn one_character(
         &mut self,
         alloc: Global,
         program: &Program,
         form: &Form,
         at: Place,
     ) -> Result<(), NotCompiled>
-        requires one { is_set form.now ≡ true }
         requires bound { IsBoundIn program.now form.now }
         ensures later { OnOk result (IsLater program.now self.old self.new) }
         ensures lays { OnOk result
             (LaysAt program.now self.new (Run (mode_of at.mode) (said program.now form.now)) at) }
     {
-        let ranges = ranges_of(alloc, form)?;
-        let set = self.set(ranges)?;
-        self.operation(
-            at.label,
-            Op::One {
-                set,
-                next: at.next,
-                fail: at.way,
-            },
-        )?;
-        Ok(())
+        let made = choice_ranges(alloc, program, form)?;
+        match made {
+            Some(ranges) => self.character(program, form, ranges, at),
+            None => Err(NotCompiled::Unsupported),
+        }
     }
 
-    /// Plans a repetition of one character of a set, where nothing is skipped.
+    /// Plans a repetition of a form of one character of some ranges, where nothing is skipped.
     pub(crate) fn span(
         &mut self,
-        alloc: Global,
         program: &Program,
         form: &Form,
+        ranges: Ranges,
         at: Place,
     ) -> Result<(), NotCompiled>
-        requires one { is_set form.now ≡ true }
-        requires bound { IsBoundIn program.now form.now }
+        requires ranges { HasRanges program.now form.now ranges.items }
         requires tight { IsTightIn program.now at.mode }
         ensures later { OnOk result (IsLater program.now self.old self.new) }
         ensures lays { OnOk result
             (LaysAt program.now self.new (Run (mode_of at.mode) (Rep (said program.now form.now))) at) }
     {
-        let ranges = ranges_of(alloc, form)?;
         let set = self.set(ranges)?;
         self.operation(at.label, Op::All { set, next: at.next })?;
         Ok(())
     }
 
-    /// Adds the set of the characters of a form that another does not match, and returns its number.
-    fn difference(
+    /// Adds the set of the characters in some ranges that are in no other ones, and returns its number.
+    pub(crate) fn difference(
         &mut self,
         alloc: Global,
-        excluded: &Form,
-        included: &Form,
+        others: &Ranges,
+        ranges: Ranges,
     ) -> Result<u32, NotCompiled>
-        requires excluded_one { is_set excluded.now ≡ true }
-        requires included_one { is_set included.now ≡ true }
         ensures later { OnOk result ((p : Program) → IsLater p self.old self.new) }
-        ensures means { IfOk result (HasDifference self.new excluded.now included.now) }
+        ensures means { IfOk result (λ set. (p : Program) (code : Code) (laid : List lay.Point)
+            → Meets p self.new code laid
+            → HasSet code set (λ c. not (is_covered others.now.items c) && is_covered ranges.items c)) }
     {
-        let others = ranges_of(alloc, excluded)?;
         if others.len() > MOST_RANGES {
             return Err(NotCompiled::Unsupported);
         }
-        let ranges = ranges_of(alloc, included)?;
-        let rest = outside_ranges(alloc, ranges, &others)?;
+        let rest = outside_ranges(alloc, ranges, others)?;
         let set = self.set(rest)?;
         Ok(set)
     }
 
-    /// Plans one character of a set that another does not have, where nothing is skipped.
+    /// Plans a form of one character of some ranges, where one in front refuses others, and nothing is skipped.
     pub(crate) fn other_character(
         &mut self,
         alloc: Global,
         program: &Program,
-        excluded: &Form,
-        included: &Form,
+        first: &Form,
+        second: &Form,
+        others: &Ranges,
+        ranges: Ranges,
         at: Place,
     ) -> Result<(), NotCompiled>
-        requires excluded_one { is_set excluded.now ≡ true }
-        requires excluded_bound { IsBoundIn program.now excluded.now }
-        requires included_one { is_set included.now ≡ true }
-        requires included_bound { IsBoundIn program.now included.now }
+        requires refused { HasRefused program.now first.now others.now.items }
+        requires ranges { HasRanges program.now second.now ranges.items }
         requires tight { IsTightIn program.now at.mode }
         ensures later { OnOk result (IsLater program.now self.old self.new) }
         ensures lays { OnOk result (LaysAt program.now self.new (Run (mode_of at.mode)
-            (Seq (NegPred (said program.now excluded.now)) (said program.now included.now))) at) }
+            (Seq (said program.now first.now) (said program.now second.now))) at) }
     {
-        let set = self.difference(alloc, excluded, included)?;
+        let set = self.difference(alloc, others, ranges)?;
         self.operation(
             at.label,
             Op::One {
@@ -129,25 +145,25 @@ impl<'p> Plan<'p> {
         Ok(())
     }
 
-    /// Plans a repetition of one character of a set that another does not have, where nothing is skipped.
+    /// Plans a repetition of such two forms.
     pub(crate) fn other_span(
         &mut self,
         alloc: Global,
         program: &Program,
-        excluded: &Form,
-        included: &Form,
+        first: &Form,
+        second: &Form,
+        others: &Ranges,
+        ranges: Ranges,
         at: Place,
     ) -> Result<(), NotCompiled>
-        requires excluded_one { is_set excluded.now ≡ true }
-        requires excluded_bound { IsBoundIn program.now excluded.now }
-        requires included_one { is_set included.now ≡ true }
-        requires included_bound { IsBoundIn program.now included.now }
+        requires refused { HasRefused program.now first.now others.now.items }
+        requires ranges { HasRanges program.now second.now ranges.items }
         requires tight { IsTightIn program.now at.mode }
         ensures later { OnOk result (IsLater program.now self.old self.new) }
         ensures lays { OnOk result (LaysAt program.now self.new (Run (mode_of at.mode)
-            (Rep (Seq (NegPred (said program.now excluded.now)) (said program.now included.now)))) at) }
+            (Rep (Seq (said program.now first.now) (said program.now second.now)))) at) }
     {
-        let set = self.difference(alloc, excluded, included)?;
+        let set = self.difference(alloc, others, ranges)?;
         self.operation(at.label, Op::All { set, next: at.next })?;
         Ok(())
     }
@@ -173,6 +189,78 @@ impl<'p> Plan<'p> {
                 fail: at.way,
             },
         )?;
+        Ok(())
+    }
+
+    /// Plans a literal in any case.
+    pub(crate) fn literal_in_any_case(
+        &mut self,
+        alloc: Global,
+        program: &Program,
+        text: &str,
+        at: Place,
+    ) -> Result<(), NotCompiled>
+        ensures later { OnOk result (IsLater program.now self.old self.new) }
+        ensures lays { OnOk result
+            (LaysAt program.now self.new (Run (mode_of at.mode) (Insens (chars text.now))) at) }
+    {
+        let number = self.text(alloc, text)?;
+        self.operation(
+            at.label,
+            Op::AnyCase {
+                text: number,
+                next: at.next,
+                fail: at.way,
+            },
+        )?;
+        Ok(())
+    }
+
+    /// Demands the operation of a text at a label.
+    fn text_at(
+        &mut self,
+        alloc: Global,
+        text: &str,
+        label: u32,
+        next: u32,
+        fail: u32,
+    ) -> Result<(), NotCompiled>
+        ensures later { OnOk result ((p : Program) → IsLater p self.old self.new) }
+        ensures has { OnOk result ((p : Program) (code : Code) (laid : List lay.Point)
+            → Meets p self.new code laid → MatchesText code label text.now next fail) }
+    {
+        let number = self.text(alloc, text)?;
+        self.operation(
+            label,
+            Op::Text {
+                text: number,
+                next,
+                fail,
+            },
+        )?;
+        Ok(())
+    }
+
+    /// Plans `NEWLINE`. The labels from `own` on are free.
+    pub(crate) fn newline(
+        &mut self,
+        alloc: Global,
+        program: &Program,
+        at: Place,
+        own: u32,
+    ) -> Result<(), NotCompiled>
+        requires bound { rule_of (grammar_in program.now) (codes "NEWLINE") ≡ None }
+        ensures later { OnOk result (IsLater program.now self.old self.new) }
+        ensures lays { OnOk result
+            (LaysAt program.now self.new (Run (mode_of at.mode) (Ident (codes "NEWLINE"))) at) }
+    {
+        if own == FAIL {
+            return Err(NotCompiled::Unsupported);
+        }
+        let last = own.saturating_add(1);
+        self.text_at(alloc, "\n", at.label, at.next, own)?;
+        self.text_at(alloc, "\r\n", own, at.next, last)?;
+        self.text_at(alloc, "\r", last, at.next, at.way)?;
         Ok(())
     }
 

@@ -7,6 +7,7 @@ pub mod compile;
 mod compounds;
 mod difference;
 mod forms;
+mod gaps;
 pub mod modes;
 pub mod names;
 pub mod plan;

@@ -7,6 +7,16 @@ use matcher_code::code::{Code, Op, Ranges};
 use matcher_code::sets::add_set;
 use std::alloc::Global;
 
+/// What the implicit skipping takes.
+#[derive(Clone, Copy)]
+pub enum Skips {
+    Nothing,
+    /// The characters of a set.
+    Blanks(u32),
+    /// Comments, and the characters of a set.
+    Comments(u32),
+}
+
 /// The points and the demands of a program, its sets and its texts.
 #[derive(Drop)]
 pub struct Plan<'p> {
@@ -15,24 +25,26 @@ pub struct Plan<'p> {
     /// A program that has the sets alone.
     pub(crate) sets: Code,
     pub(crate) texts: Vec<Vec<u8>>,
-    /// The set of blanks, if such characters are what is skipped implicitly, or `None` if nothing is.
-    pub(crate) blanks: Option<u32>,
+    /// Lists of numbers of texts.
+    pub(crate) lists: Vec<Vec<u32>>,
+    pub(crate) skips: Skips,
     /// The number of the point of each rule's body by its mode, and by whether it gives a token.
     pub(crate) bodies: Vec<Option<usize>>,
     ghost aligned: { IsAligned sets },
 }
 
 impl<'p> Plan<'p> {
-    ghost use Rattle.std.specs.Prelude.{◌≡◌, IfOk, List, OnOk, false, true};
+    ghost use Rattle.std.specs.Prelude.{◌≡◌, IfOk, List, OnOk, false, map, true};
+    ghost use Rattle.meta_ast.specs.Ast.{text_of as characters_of};
     ghost use Rattle.meta_base.specs.Language.State.{NonAtomicMode};
     ghost use Rattle.matcher_code.specs.declared.code.Code.{Code};
-    ghost use Rattle.matcher_code.specs.Reading.{text_of};
+    ghost use Rattle.matcher_code.specs.Reading.{list_of, text_of};
     ghost use Rattle.matcher_code.specs.Sets.{IsSetOf};
     ghost use Rattle.matcher_layout.specs.Laid as lay;
     ghost use Rattle.matcher_layout.specs.Laid.{IsPoint, at_label};
     ghost use Rattle.matcher_program.specs.declared.form.Program.{Program};
     ghost use Rattle.matcher_compiler.specs.Modes.{mode_of};
-    ghost use Rattle.matcher_compiler.specs.Plans.{IsBoundPart, IsLater, IsMet, IsReady, IsTightIn, Meets, task_in};
+    ghost use Rattle.matcher_compiler.specs.Plans.{AreTexts, IsBoundPart, IsLater, IsMet, IsReady, IsTightIn, Meets, task_in};
 
     /// Returns whether nothing is skipped in a mode.
     pub(crate) fn is_tight(&self, mode: Atomicity) -> bool
@@ -40,9 +52,10 @@ impl<'p> Plan<'p> {
         ensures loose { result ≡ false → mode_of mode ≡ NonAtomicMode }
     {
         match mode {
-            Atomicity::NonAtomic => match self.blanks {
-                None => true,
-                Some(_) => false,
+            Atomicity::NonAtomic => match self.skips {
+                Skips::Nothing => true,
+                Skips::Blanks(_) => false,
+                Skips::Comments(_) => false,
             },
             Atomicity::Atomic => true,
             Atomicity::CompoundAtomic => true,
@@ -117,5 +130,54 @@ impl<'p> Plan<'p> {
             return Err(NotCompiled::Memory);
         }
         Ok(number as u32)
+    }
+
+    /// Adds a list of numbers of texts, and returns its number.
+    fn list(&mut self, numbers: Vec<u32>) -> Result<u32, NotCompiled>
+        ensures later { OnOk result ((p : Program) → IsLater p self.old self.new) }
+        ensures means { IfOk result (λ number. (p : Program) (code : Code) (laid : List lay.Point)
+            → Meets p self.new code laid → list_of code number ≡ numbers.items) }
+    {
+        let number = self.lists.len();
+        if number >= 0xffff_ffff {
+            return Err(NotCompiled::Unsupported);
+        }
+        if self.lists.push(numbers).is_err() {
+            return Err(NotCompiled::Memory);
+        }
+        Ok(number as u32)
+    }
+
+    /// Adds some texts, and returns their numbers.
+    fn text_numbers(&mut self, alloc: Global, texts: &Vec<String>) -> Result<Vec<u32>, NotCompiled>
+        ensures later { OnOk result ((p : Program) → IsLater p self.old self.new) }
+        ensures means { IfOk result (λ numbers. (p : Program) (code : Code) (laid : List lay.Point)
+            → Meets p self.new code laid
+            → AreTexts code numbers.items (map characters_of texts.now.items)) }
+    {
+        let mut numbers = Vec::new(alloc);
+        for text in texts {
+            let number = self.text(alloc, text.as_str())?;
+            if numbers.push(number).is_err() {
+                return Err(NotCompiled::Memory);
+            }
+        }
+        Ok(numbers)
+    }
+
+    /// Adds a list of texts, and returns its number.
+    pub(crate) fn text_list(
+        &mut self,
+        alloc: Global,
+        texts: &Vec<String>,
+    ) -> Result<u32, NotCompiled>
+        ensures later { OnOk result ((p : Program) → IsLater p self.old self.new) }
+        ensures means { IfOk result (λ number. (p : Program) (code : Code) (laid : List lay.Point)
+            → Meets p self.new code laid
+            → AreTexts code (list_of code number) (map characters_of texts.now.items)) }
+    {
+        let numbers = self.text_numbers(alloc, texts)?;
+        let list = self.list(numbers)?;
+        Ok(list)
     }
 }

@@ -1,6 +1,6 @@
 //! The loop that plans each point.
 ghost use Rattle.std.specs.Prelude.{◌≡◌, ◌<◌, ◌≤◌, ℕ, OnOk, chars, get_or, length};
-ghost use Rattle.meta_base.specs.Language.Expression.{NegPred, NodeTag, PosPred, Rep, RepOnce, RestoreOnErr, Seq};
+ghost use Rattle.meta_base.specs.Language.Expression.{Choice, NegPred, NodeTag, PosPred, Rep, RepOnce, RestoreOnErr, Seq};
 ghost use Rattle.meta_base.specs.Language.Meaning.{Run, once_or_more};
 ghost use Rattle.matcher_program.specs.declared.form.Form.TheVariants as form;
 ghost use Rattle.matcher_compiler.specs.Modes.{mode_of};
@@ -8,7 +8,7 @@ ghost use Rattle.matcher_compiler.specs.Names.{HasOwnNames};
 ghost use Rattle.matcher_compiler.specs.Plans.{AreBound, IsBoundIn, IsBoundPart, IsLater, IsReady, IsSoundProgram, IsTightIn, LaysAt, LaysPoint, said, task_in};
 ghost use Rattle.matcher_compiler.specs.declared.points.Point.{Point};
 
-use crate::difference::{excluded_set, included_set};
+use crate::difference::{choice_ranges, refused_ranges};
 use crate::modes::Atomicity;
 use crate::plan::Plan;
 use crate::points::{NotCompiled, Part, Place, Point};
@@ -59,11 +59,35 @@ impl<'p> Plan<'p> {
         ensures lays { OnOk result (LaysAt program.now self.new (Run (mode_of at.mode)
             (Rep (said program.now body.entry.now))) at) }
     {
-        match excluded_set(first) {
-            Some(excluded) => match included_set(second) {
-                Some(included) => self.other_span(alloc, program, excluded, included, at),
-                None => self.tight_repetition(program, body, at),
-            },
+        let refused = refused_ranges(alloc, program, first)?;
+        let others = match refused {
+            Some(others) => others,
+            None => return self.tight_repetition(program, body, at),
+        };
+        let made = choice_ranges(alloc, program, second)?;
+        match made {
+            Some(ranges) => { self.other_span(alloc, program, first, second, &others, ranges, at) }
+            None => self.tight_repetition(program, body, at),
+        }
+    }
+
+    /// Plans a repetition of a form that is no sequence, where nothing is skipped.
+    fn tight_span(
+        &mut self,
+        alloc: Global,
+        program: &Program,
+        body: &'p Form,
+        at: Place,
+    ) -> Result<(), NotCompiled>
+        requires bound { IsBoundIn program.now body.now }
+        requires tight { IsTightIn program.now at.mode }
+        ensures later { OnOk result (IsLater program.now self.old self.new) }
+        ensures lays { OnOk result (LaysAt program.now self.new (Run (mode_of at.mode)
+            (Rep (said program.now body.entry.now))) at) }
+    {
+        let made = choice_ranges(alloc, program, body)?;
+        match made {
+            Some(ranges) => self.span(program, body, ranges, at),
             None => self.tight_repetition(program, body, at),
         }
     }
@@ -85,11 +109,10 @@ impl<'p> Plan<'p> {
     {
         if self.is_tight(at.mode) {
             match body {
-                Form::Set(_, inner) => self.span(alloc, program, inner, at),
                 Form::Seq(first, second) => {
                     self.tight_turns(alloc, program, body, first, second, at)
                 }
-                _ => self.tight_repetition(program, body, at),
+                _ => self.tight_span(alloc, program, body, at),
             }
         } else {
             self.repetition(program, body, at, own)
@@ -191,11 +214,16 @@ impl<'p> Plan<'p> {
         ensures lays { OnOk result (LaysAt program.now self.new (Run (mode_of at.mode)
             (Seq (said program.now first.entry.now) (said program.now second.entry.now))) at) }
     {
-        match excluded_set(first) {
-            Some(excluded) => match included_set(second) {
-                Some(included) => { self.other_character(alloc, program, excluded, included, at) }
-                None => self.both(program, first, second, at, own),
-            },
+        let refused = refused_ranges(alloc, program, first)?;
+        let others = match refused {
+            Some(others) => others,
+            None => return self.both(program, first, second, at, own),
+        };
+        let made = choice_ranges(alloc, program, second)?;
+        match made {
+            Some(ranges) => {
+                self.other_character(alloc, program, first, second, &others, ranges, at)
+            }
             None => self.both(program, first, second, at, own),
         }
     }
@@ -260,6 +288,33 @@ impl<'p> Plan<'p> {
         Ok(())
     }
 
+    /// Plans a choice.
+    fn alternatives(
+        &mut self,
+        alloc: Global,
+        program: &Program,
+        form: &Form,
+        left: &'p Form,
+        right: &'p Form,
+        at: Place,
+        own: u32,
+    ) -> Result<(), NotCompiled>
+        requires bound { IsBoundIn program.now form.now }
+        requires left_bound { IsBoundIn program.now left.now }
+        requires right_bound { IsBoundIn program.now right.now }
+        requires same { said program.now form.now
+            ≡ Choice (said program.now left.now) (said program.now right.now) }
+        ensures later { OnOk result (IsLater program.now self.old self.new) }
+        ensures lays { OnOk result
+            (LaysAt program.now self.new (Run (mode_of at.mode) (said program.now form.now)) at) }
+    {
+        let made = choice_ranges(alloc, program, form)?;
+        match made {
+            Some(ranges) => self.character(program, form, ranges, at),
+            None => self.choice(program, left, right, at, own),
+        }
+    }
+
     /// Plans an expression. The labels from `own` on are free.
     fn form(
         &mut self,
@@ -280,15 +335,20 @@ impl<'p> Plan<'p> {
     {
         match form {
             Form::Str(text) => self.literal(alloc, program, text.as_str(), at),
-            Form::Range(_, _) | Form::One(_) => self.character(alloc, program, form, at),
-            Form::Set(_, inner) => self.character(alloc, program, inner, at),
+            Form::Insens(text) => { self.literal_in_any_case(alloc, program, text.as_str(), at) }
+            Form::Range(_, _) | Form::One(_) | Form::Set(_, _) | Form::Property(_, _) => {
+                self.one_character(alloc, program, form, at)
+            }
             Form::Start => self.start(program, at),
             Form::End => self.end_of_text(program, at, own),
+            Form::Newline => self.newline(alloc, program, at, own),
             Form::Call(rule) => self.call(program, *rule, at),
             Form::PosPred(body) => self.ahead(program, body, at, own),
             Form::NegPred(body) => self.not_ahead(program, body, at, own),
             Form::Seq(first, second) => { self.two(alloc, program, first, second, at, own) }
-            Form::Choice(left, right) => self.choice(program, left, right, at, own),
+            Form::Choice(left, right) => {
+                self.alternatives(alloc, program, form, left, right, at, own)
+            }
             Form::Opt(body) => self.option(program, body, at),
             Form::Rep(body) => self.turns(alloc, program, body, at, own),
             Form::RepOnce(body) => self.once_or_more(program, body, at),
@@ -327,6 +387,12 @@ impl<'p> Plan<'p> {
             },
             Part::Rule(rule) => self.call(program, rule, at),
             Part::Gap => self.gap(program, at),
+            Part::Skipped => self.skipped(program, at, own),
+            Part::Blanks => self.blanks(program, at),
+            Part::Comments => self.comments(program, at),
+            Part::Comment => self.comment(program, at, own),
+            Part::CommentCall => self.comment_call(program, at),
+            Part::Stay => self.stay_between(program, at),
         }
     }
 

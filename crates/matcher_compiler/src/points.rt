@@ -18,6 +18,18 @@ pub enum Part<'p> {
     Rule(usize),
     /// The implicit skipping.
     Gap,
+    /// The implicit skipping, as the expression that it is.
+    Skipped,
+    /// As many calls of `WHITESPACE` as succeed, in the implicit skipping.
+    Blanks,
+    /// As many comments as there are, in the implicit skipping, with blanks behind each.
+    Comments,
+    /// A comment with blanks behind it, in the implicit skipping.
+    Comment,
+    /// A call of `COMMENT`, in the implicit skipping.
+    CommentCall,
+    /// What is skipped in the implicit skipping: nothing.
+    Stay,
 }
 
 /// A mode and three labels: a task begins at `label`, a success goes on at `next`, a failure at `way`.

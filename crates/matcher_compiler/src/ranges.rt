@@ -29,7 +29,7 @@ fn class_ranges(class: Class) -> &'static [(u32, u32)]
 }
 
 /// Returns the first character of a text.
-fn first_character(text: &str) -> Option<char>
+pub(crate) fn first_character(text: &str) -> Option<char>
     ensures none { IfNone result ((d : ℕ) → starts_in (λ e. nat_eq e d) (chars text.now) ≡ false) }
     ensures some { IfSome result (λ c. (d : ℕ)
         → starts_in (λ e. nat_eq e d) (chars text.now) ≡ nat_eq c d) }

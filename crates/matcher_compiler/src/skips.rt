@@ -6,13 +6,14 @@ ghost use Rattle.meta_base.specs.Language.Matching.{any_begins};
 ghost use Rattle.meta_base.specs.Language.Meaning.{Run};
 ghost use Rattle.meta_base.specs.Language.Text.{Text};
 ghost use Rattle.matcher_code.specs.Reading.{is_covered};
+ghost use Rattle.matcher_layout.specs.Laid.{StartIn};
 ghost use Rattle.matcher_compiler.specs.Modes.{mode_of};
 ghost use Rattle.matcher_compiler.specs.Plans.{IsLater, LaysAt};
 
 use crate::difference::{MOST_RANGES, outside_ranges};
 use crate::plan::Plan;
 use crate::points::{NotCompiled, Place};
-use crate::ranges::{push_first, push_range};
+use crate::ranges::{first_character, push_first, push_range};
 use matcher_code::code::{Op, Ranges};
 use matcher_program::form::Program;
 use std::alloc::{AllocError, Global};
@@ -52,6 +53,22 @@ fn all_characters(alloc: Global) -> Result<Ranges, AllocError>
     Ok(ranges)
 }
 
+/// Returns the ranges of the first characters of texts, or `None` if one of them is empty.
+fn first_characters(alloc: Global, texts: &Vec<String>) -> Result<Option<Ranges>, AllocError>
+    ensures { IfOk result (λ made. IfSome made (λ ranges.
+        StartIn ranges.items (map text_of texts.now.items))) }
+{
+    let mut ranges = Vec::new(alloc);
+    for text in texts {
+        let c = match first_character(text.as_str()) {
+            Some(c) => c,
+            None => return Ok(None),
+        };
+        push_range(&mut ranges, c as u32, c as u32)?;
+    }
+    Ok(Some(ranges))
+}
+
 impl<'p> Plan<'p> {
     /// Plans a search for the first of the characters in some ranges, which are those of texts.
     fn search_for(
@@ -78,7 +95,53 @@ impl<'p> Plan<'p> {
         Ok(())
     }
 
-    /// Plans a search for the first of some texts, which are of one character each.
+    /// Plans a search for the first of some texts that are not empty.
+    fn search_texts(
+        &mut self,
+        alloc: Global,
+        program: &Program,
+        texts: &Vec<String>,
+        at: Place,
+    ) -> Result<(), NotCompiled>
+        ensures later { OnOk result (IsLater program.now self.old self.new) }
+        ensures lays { OnOk result (LaysAt program.now self.new
+            (Run (mode_of at.mode) (Skip (map text_of texts.now.items))) at) }
+    {
+        let made = first_characters(alloc, texts)?;
+        match made {
+            Some(ranges) => self.search_from(alloc, program, texts, ranges, at),
+            None => Err(NotCompiled::Unsupported),
+        }
+    }
+
+    /// Plans a search for the first of some texts, which begin with characters of some ranges.
+    fn search_from(
+        &mut self,
+        alloc: Global,
+        program: &Program,
+        texts: &Vec<String>,
+        ranges: Ranges,
+        at: Place,
+    ) -> Result<(), NotCompiled>
+        requires starts { StartIn ranges.items (map text_of texts.now.items) }
+        ensures later { OnOk result (IsLater program.now self.old self.new) }
+        ensures lays { OnOk result (LaysAt program.now self.new
+            (Run (mode_of at.mode) (Skip (map text_of texts.now.items))) at) }
+    {
+        let firsts = self.set(ranges)?;
+        let list = self.text_list(alloc, texts)?;
+        self.operation(
+            at.label,
+            Op::Until {
+                firsts,
+                list,
+                next: at.next,
+            },
+        )?;
+        Ok(())
+    }
+
+    /// Plans a search for the first of some texts.
     pub(crate) fn search(
         &mut self,
         alloc: Global,
@@ -93,7 +156,7 @@ impl<'p> Plan<'p> {
         let made = single_characters(alloc, texts)?;
         match made {
             Some(others) => self.search_for(alloc, program, texts, &others, at),
-            None => Err(NotCompiled::Unsupported),
+            None => self.search_texts(alloc, program, texts, at),
         }
     }
 }

@@ -7,3 +7,6 @@ pub mod Ends
 pub mod Existence
 pub mod Characters
 pub mod Runs
+pub mod AnyCase
+pub mod Newlines
+pub mod Until

@@ -1,18 +1,19 @@
 //! Laws over the definitions alone.
 ghost use Rattle.std.specs.Prelude.{◌≡◌, ◌<◌, ◌*◌, ◌==◌, ◌&&◌, ◌||◌, ℕ, Bool, List, [], IsUtf8, Some, chars, codes, false, get_or, if◌then◌else◌, nat_eq, not, true};
+ghost use Rattle.std.specs.Char.{eq_ignore_ascii_case};
 ghost use Rattle.meta_base.specs.Language.Expression.{Choice, Expression, Grammar, Ident, NegPred, Rep, Rule, Seq, rule_of};
 ghost use Rattle.meta_base.specs.Language.FurthestFailure.{furthest, place_of};
 ghost use Rattle.meta_base.specs.Language.Meaning.{Does, Run, Task, body_mode, gives_token, seen_from};
-ghost use Rattle.meta_base.specs.Language.State.{AtomicMode, Classes, Failure, Mode, None', Outcome, State, Success};
+ghost use Rattle.meta_base.specs.Language.State.{AtomicMode, Classes, Failure, Mode, None', Outcome, State, Success, moved};
 ghost use Rattle.meta_base.specs.Language.Text.{Text};
-ghost use Rattle.meta_base.specs.Language.Matching.{character_outcome, end_outcome, text_outcome};
+ghost use Rattle.meta_base.specs.Language.Matching.{character_outcome, distance, end_outcome, newline_outcome, text_outcome};
 ghost use Rattle.matcher_code.specs.Reading.{is_covered, text_of};
 ghost use Rattle.matcher_code.specs.Sets.{IsSetOf};
 ghost use Rattle.matcher_code.specs.Steps.{Config, jump, op_at, steps};
 ghost use Rattle.matcher_code.specs.declared.code.Code.{Code};
 ghost use Rattle.matcher_code.specs.declared.code.Op.TheVariants as op;
 ghost use Rattle.matcher_layout.specs.Endings.{IsFound, IsOver};
-ghost use Rattle.matcher_layout.specs.Laid.{AreLaid, HasOutcome, IsEnd, IsPoint, IsTight, Performs, Point, skip_set};
+ghost use Rattle.matcher_layout.specs.Laid.{AreLaid, HasOutcome, IsEnd, IsPoint, IsTight, MatchesText, Performs, Point, Searches, skip_set};
 ghost use Rattle.matcher_layout.specs.Reached.{Comes, IsAt, IsGuarded};
 ghost use Rattle.matcher_layout.specs.Results.{HasFailed, HasSucceeded, start_config, start_of};
 ghost use Rattle.matcher_layout.specs.Sizes.{least_steps, size};
@@ -73,6 +74,30 @@ pub fn text_operation_matches_literal()
     ensures { (code : Code) (number : Text → ℕ) → op_at code [] 0 ≡ op.Fail
         → (l n w i : ℕ) (b : List ℕ) → IsUtf8 b → text_of code i ≡ b → op_at code [] l ≡ op.Text i n w
         → Performs code number l n w (text_outcome nat_eq (chars b)) (λ s. 0) }
+{}
+
+/// Where the operation 0 is `Fail`, the operation `AnyCase` of a text matches it as a literal in any case
+/// does.
+pub fn any_case_operation_matches_literal()
+    ensures { (code : Code) (number : Text → ℕ) → op_at code [] 0 ≡ op.Fail
+        → (l n w i : ℕ) (b : List ℕ) → IsUtf8 b → text_of code i ≡ b → op_at code [] l ≡ op.AnyCase i n w
+        → Performs code number l n w (text_outcome eq_ignore_ascii_case (chars b)) (λ s. 0) }
+{}
+
+/// Where the operation 0 is `Fail`, three operations `Text` match a newline: of a line feed, of a carriage
+/// return before one, and of a carriage return.
+pub fn text_operations_match_newline()
+    ensures { (code : Code) (number : Text → ℕ) → op_at code [] 0 ≡ op.Fail → (l j k n w : ℕ)
+        → MatchesText code l (codes "\n") n j → MatchesText code j (codes "\r\n") n k
+        → MatchesText code k (codes "\r") n w → Performs code number l n w newline_outcome (λ s. 0) }
+{}
+
+/// Where the operation 0 is `Fail`, the operation `Until` of some texts goes on to the first of them.
+pub fn until_operation_finds_text()
+    ensures { (code : Code) (firsts list : ℕ) (ts : List Text) → Searches code firsts list ts
+        → (number : Text → ℕ) → op_at code [] 0 ≡ op.Fail → (l n w : ℕ)
+        → op_at code [] l ≡ op.Until firsts list n
+        → Performs code number l n w (λ s. Success (moved (distance ts s.rest) s) None') (λ s. 0) }
 {}
 
 /// Where the operation 0 is `Fail`, the operation `One` of a set matches one character of it.

@@ -62,7 +62,8 @@ fn look_at<'n, 'i>(
     found: &mut Vec<Span<'i>>,
 ) -> Result<(), AllocError>
     ensures looks { OnOk result (map piece_of found.new.items ++ left_over stack.new.items
-        ≡ map piece_of found.old.items ++ (map span_of (spec.crowded next.entry.copies (view next.entry.node.now))
+        ≡ map piece_of found.old.items
+        ++ (map span_of (spec.crowded next.entry.copies (view next.entry.node.now))
         ++ left_over stack.old.items)) }
     ensures less { OnOk result (nodes_left stack.new.items
         < nodes_left stack.old.items + spec.size (view next.entry.node.now)) }

@@ -9,14 +9,11 @@ use Rattle.meta_base.specs.Pieces.Pairs.{pairs_text, pairs_trees}
 use Rattle.meta_base.specs.declared.grammar.Rule.{Rule}
 use Rattle.meta_base.specs.declared.runtime.errors.Error.{Error}
 use Rattle.meta_base.specs.declared.runtime.tokens.Pairs.{Pairs}
-use Rattle.meta_diagnostics.specs.Diagnosis.{IsDiagnosis, ReportWarnings, accepted, refused}
+use Rattle.meta_diagnostics.specs.Diagnosis.{IsDiagnosisWith, ReportRules, ReportWarnings, accepted, refused}
 use Rattle.meta_names.proofs.Places.{tell_none}
 use Rattle.meta_reader.specs.Refusals.{AreReadAs}
-use Rattle.meta_spanned.specs.Spanned.{Span, SpannedRule}
-use Rattle.diagnostic_data.specs.Codes.{warning, warnings_of}
-use Rattle.diagnostic_data.specs.declared.codes.Code.TheVariants as code
-use Rattle.meta_lists.specs.Rewritten.{FindsLists, is_optional_name}
-use Rattle.diagnostic_data.specs.Reports.{ReportsWarning}
+use Rattle.meta_spanned.specs.Spanned.{SpannedRule}
+use Rattle.diagnostic_data.specs.Allowances.{LeavesOutAllowed}
 use Rattle.meta_syntax.specs.Parses.{AreOfAGrammar}
 use Rattle.pest_meta.specs.Spelling.{HasAnswer, HasWrongRules, IsRefusedGrammar, IsMisnamed, AreFlawed, HaveFindings, IsNoGrammar, IsRefusedWith, complaints_in}
 
@@ -50,38 +47,38 @@ no_refusal text errors ds r each none =
     let z = first_error errors ds (errors_some text errors r) each in
     absurd (let y : true ≡ false = sym z ∙ none in cc)
 
-pub diagnosed_refused : {E : Type 0} (starts : List Text) (text : List ℕ) (errors : List (Error Rule)) (result : Result (Vec Diagnostic Global) E) → IsRefusedWith text errors
-    → IfOk result (λ ds. AllZip ReportsError errors ds.items) → IfOk result (λ ds. IsDiagnosis starts text ds.items)
-diagnosed_refused starts text errors (Ok ds) r each = refused errors r each
-diagnosed_refused starts text errors (Err e) r each = tt
+pub diagnosed_refused : {E : Type 0} (all : Bool) (starts : List Text) (text : List ℕ) (errors : List (Error Rule)) (result : Result (Vec Diagnostic Global) E) → IsRefusedWith text errors
+    → IfOk result (λ ds. AllZip ReportsError errors ds.items) → IfOk result (λ ds. IsDiagnosisWith all starts text ds.items)
+diagnosed_refused all starts text errors (Ok ds) r each = refused errors r each
+diagnosed_refused all starts text errors (Err e) r each = tt
 
 pub answered_refused : {E : Type 0} (text : List ℕ) (errors : List (Error Rule)) (result : Result (Vec Diagnostic Global) E) → IsRefusedWith text errors
     → IfOk result (λ ds. AllZip ReportsError errors ds.items) → IfOk result (λ ds. list_any is_error ds.items ≡ false → HasAnswer text)
 answered_refused text errors (Ok ds) r each = λ none. no_refusal text errors ds.items r each none
 answered_refused text errors (Err e) r each = tt
 
-passed : {F : Type 0} (starts : List Text) (text : List ℕ) (ds : Vec Diagnostic Global) (outcome : Result (Vec Diagnostic Global) F) → outcome ≡ Ok ds
-    → IfOk outcome (λ ds. ReportWarnings starts text ds.items) → ReportWarnings starts text ds.items
-passed starts text ds outcome e h = subst (λ o. IfOk o (λ ds. ReportWarnings starts text ds.items)) e h
+passed : {F : Type 0} (all : Bool) (starts : List Text) (text : List ℕ) (ds : Vec Diagnostic Global) (outcome : Result (Vec Diagnostic Global) F) → outcome ≡ Ok ds
+    → IfOk outcome (λ ds. ReportWarnings all starts text ds.items) → ReportWarnings all starts text ds.items
+passed all starts text ds outcome e h = subst (λ o. IfOk o (λ ds. ReportWarnings all starts text ds.items)) e h
 
-pub diagnosed_accepted : {E F : Type 0} (starts : List Text) (text : List ℕ) (outcome : Result (Vec Diagnostic Global) F) (result : Result (Vec Diagnostic Global) E) → HasAnswer text
-    → IfOk outcome (λ ds. ReportWarnings starts text ds.items) → IfOk result (λ ds. outcome ≡ Ok ds) → IfOk result (λ ds. IsDiagnosis starts text ds.items)
-diagnosed_accepted starts text outcome (Ok ds) a h e = accepted a (passed starts text ds outcome e h)
-diagnosed_accepted starts text outcome (Err x) a h e = tt
+pub diagnosed_accepted : {E F : Type 0} (all : Bool) (starts : List Text) (text : List ℕ) (outcome : Result (Vec Diagnostic Global) F) (result : Result (Vec Diagnostic Global) E) → HasAnswer text
+    → IfOk outcome (λ ds. ReportWarnings all starts text ds.items) → IfOk result (λ ds. outcome ≡ Ok ds) → IfOk result (λ ds. IsDiagnosisWith all starts text ds.items)
+diagnosed_accepted all starts text outcome (Ok ds) a h e = accepted a (passed all starts text ds outcome e h)
+diagnosed_accepted all starts text outcome (Err x) a h e = tt
 
 pub answered : {E : Type 0} (text : List ℕ) (result : Result (Vec Diagnostic Global) E) → HasAnswer text → IfOk result (λ ds. list_any is_error ds.items ≡ false → HasAnswer text)
 answered text (Ok ds) a = λ none. a
 answered text (Err x) a = tt
 
 -- warnings of the rules that are read from the pairs of a text are those of the text
-pub of_pairs : (starts : List Text) (text : List ℕ) (pairs : Pairs Rule) (rules : List SpannedRule) (lists : List Span) (ds : List Diagnostic) → pairs_text pairs ≡ text → AreOfAGrammar pairs → AreReadAs pairs rules
-    → FindsLists (is_optional_name rules) rules lists → AllZip ReportsWarning (warnings_of starts rules ++ map (warning code.RewrittenList) lists) ds → ReportWarnings starts text ds
-of_pairs starts text pairs rules lists ds same of_text read found each = subst (λ t. ReportWarnings starts t ds) same (record {
+pub of_pairs : (has_all : Bool) (starts : List Text) (text : List ℕ) (pairs : Pairs Rule) (rules : List SpannedRule) (all ds : List Diagnostic) → pairs_text pairs ≡ text → AreOfAGrammar pairs → AreReadAs pairs rules
+    → ReportRules has_all starts rules all → LeavesOutAllowed text rules all ds → ReportWarnings has_all starts text ds
+of_pairs has_all starts text pairs rules all ds same of_text read each left = subst (λ t. LeavesOutAllowed t rules all ds → ReportWarnings has_all starts t ds) same (λ of_pairs_text. record {
   trees = named (pairs_trees pairs);
   of_text = of_text;
   rules = rules;
   read = read;
-  lists = lists;
-  found = found;
+  all = all;
   each = each;
-})
+  left = of_pairs_text;
+}) left

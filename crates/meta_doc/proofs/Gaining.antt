@@ -1,12 +1,13 @@
 -- Documents that gain one rule after another.
 use Rattle.std.proofs.Common.{◌≡◌, ℕ, ◌+◌, ◌<◌, List, [], ◌∷◌, ◌++◌, ap, append_assoc, get_or, length, map, subst, sym, take, ◌∙◌}
-use Rattle.std.proofs.lemmas.List.{append-nil, map-append, take_more}
+use Rattle.std.proofs.lemmas.List.{append-nil, length-map, map-append, take_more}
 use Rattle.std.specs.Borrow.{Bor}
 use Rattle.std.specs.Str.{chars}
 use Rattle.meta_ast.specs.Ast.{rule_of_code, rules_of}
 use Rattle.meta_ast.specs.declared.ast.Rule as code
 use Rattle.meta_base.specs.Language.Expression.{Grammar, Rule}
 use Rattle.meta_doc.specs.Documents.{EndsWithMarkdownSections, EndsWithSections}
+use Rattle.meta_markup.specs.Links.{AreLinksWithin}
 use Rattle.meta_markup.specs.Pages.{AreDefinitions, AreMarkdownSections, AreNames, AreSections, definition_bytes, markdown_section, more_definitions, more_markdown, more_sections, no_markdown, no_sections, section_bytes}
 use Rattle.meta_markup.specs.declared.ebnf.EbnfToken.{EbnfToken}
 use Rattle.meta_markup.specs.declared.markdown.MarkdownToken.{MarkdownToken}
@@ -23,14 +24,26 @@ pub no_sections_yet : (names : List (Bor (List ℕ))) (page : List ℕ) → Ends
 no_sections_yet names page = ([], no_sections, sym (append-nil page))
 
 pub one_section_more : (names : List (Bor (List ℕ))) (rules others : Grammar) (r : Rule) (before after : List Markup)
-    (old page new : List ℕ) → EndsWithSections names rules old page → new ≡ page ++ section_bytes names r before after
+    (old page new : List ℕ) → AreLinksWithin (length names) before → AreLinksWithin (length names) after
+    → EndsWithSections names rules old page → new ≡ page ++ section_bytes names r before after
     → others ≡ rules ++ r ∷ [] → EndsWithSections names others old new
-one_section_more names rules others r before after old page new gained step same =
+one_section_more names rules others r before after old page new first last gained step same =
     let section = section_bytes names r before after in (
       gained.0 ++ section,
-      subst (λ rs. AreSections names rs (gained.0 ++ section)) (sym same) (more_sections r before after gained.1),
+      subst (λ rs. AreSections names rs (gained.0 ++ section)) (sym same) (more_sections r before after first last gained.1),
       step ∙ ap (λ t. t ++ section) gained.2 ∙ append_assoc old gained.0 section,
     )
+
+-- names are as many as rules
+pub same_length : (names : List (Bor (List ℕ))) (rules : List code.Rule) → AreNames (rules_of rules) names
+    → length names ≡ length rules
+same_length names rules are =
+    sym (length-map names (λ n. chars n.now)) ∙ ap length are ∙ length-map (rules_of rules) (λ x. x.name)
+    ∙ length-map rules rule_of_code
+
+pub links_named : (names : List (Bor (List ℕ))) (rules : List code.Rule) (tokens : List Markup)
+    → AreNames (rules_of rules) names → AreLinksWithin (length rules) tokens → AreLinksWithin (length names) tokens
+links_named names rules tokens are h = subst (λ n. AreLinksWithin n tokens) (sym (same_length names rules are)) h
 
 pub no_markdown_yet : (names : List (Bor (List ℕ))) (page : List ℕ) → EndsWithMarkdownSections names [] page page
 no_markdown_yet names page = ([], no_markdown, sym (append-nil page))

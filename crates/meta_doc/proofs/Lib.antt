@@ -1,3 +1,4 @@
 pub mod Asking
 pub mod Gaining
+pub mod Linking
 pub mod Waiting

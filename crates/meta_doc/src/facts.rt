@@ -1,4 +1,7 @@
 //! The facts that a document gives of each rule.
+ghost use Rattle.std.specs.Prelude.{IfOk, length};
+ghost use Rattle.meta_doc.specs.Links.{AreFactsBelow};
+
 use crate::callers::find_callers;
 use crate::first_sets::{FirstSet, find_first_set, is_implicit, is_nullable};
 use crate::source::RuleSource;
@@ -26,14 +29,17 @@ pub fn find_facts<'i>(
     alloc: Global,
     sources: &[RuleSource<'i>],
     rules: &[ParserRule<'i>],
-) -> Result<Vec<RuleFacts<'i>>, AllocError> {
+) -> Result<Vec<RuleFacts<'i>>, AllocError>
+    ensures { IfOk result (λ facts. AreFactsBelow (length rules.now) facts.items) }
+{
     let analysis = analyze(alloc, rules)?;
-    let mut callers = find_callers(alloc, sources, &analysis.names.places)?;
+    let mut callers = find_callers(alloc, rules.len(), sources, &analysis.names.places)?;
     let mut warnings = find_warnings(alloc, sources, rules)?;
     let mut facts = Vec::new(alloc);
     for (number, rule) in rules.iter().enumerate().rev() {
+        let called_by = callers.pop().unwrap_or(Vec::new(alloc));
         facts.push(RuleFacts {
-            callers: callers.pop().unwrap_or(Vec::new(alloc)),
+            callers: called_by,
             is_implicit: is_implicit(rule.name.as_str()),
             first_set: find_first_set(alloc, &analysis, rules, number)?,
             is_nullable: is_nullable(&analysis, number),

@@ -1,9 +1,12 @@
 //! Pages of HTML, and single diagrams.
-ghost use Rattle.std.specs.Prelude.{IfOk, MatchOption, OnOk, string_bytes};
+ghost use Rattle.std.specs.Prelude.{◌≡◌, ◌++◌, IfOk, MatchOption, OnOk, length, string_bytes};
 ghost use Rattle.std.specs.HashMap.{get_by_text};
+ghost use Rattle.std.specs.List.{range_with_len};
 ghost use Rattle.meta_ast.specs.Ast.{rule_of_code, rules_of};
-ghost use Rattle.meta_markup.specs.Pages.{IsPage};
+ghost use Rattle.meta_markup.specs.Links.{AreLinksWithin, links_of};
+ghost use Rattle.meta_markup.specs.Pages.{AreNames, IsPage};
 ghost use Rattle.meta_doc.specs.Documents.{EndsWithSections, HasNoRule, HasNoneNamed, IsAskedFor, IsDiagramOf, IsDiagramOfRule, IsOneNamed};
+ghost use Rattle.meta_doc.specs.Links.{diagram_links, other_rule, part_links, source_links};
 
 use crate::facts::RuleFacts;
 use crate::first_sets::FirstSet;
@@ -11,7 +14,7 @@ use crate::read::GrammarDoc;
 use crate::source::{RuleSource, SourcePart};
 use crate::warnings::RuleWarning;
 use meta_ast::ast;
-use meta_ast::ast::RuleType;
+use meta_ast::ast::{Expr, RuleType};
 use meta_diagram::{DiagramStyle, draw_diagram};
 use meta_markup::{
     Class, Markup, MarkupBuilder, SectionContents, Tag, foot, push_markup, push_section, start_page,
@@ -95,6 +98,7 @@ fn push_sections(
     names: &[&str],
     page: &mut String,
 ) -> Result<(), AllocError>
+    requires { AreNames (rules_of doc.now.rules.value.items) names.now }
     ensures { OnOk result (EndsWithSections names.now (rules_of doc.now.rules.value.items)
         (string_bytes page.old) (string_bytes page.new)) }
 {
@@ -106,24 +110,38 @@ fn push_sections(
 }
 
 /// The comment of a grammar, and the list of its rules.
-fn introduce<'i>(alloc: Global, doc: &GrammarDoc<'i>) -> Result<MarkupBuilder<'i>, AllocError> {
+fn introduce<'i>(alloc: Global, doc: &GrammarDoc<'i>) -> Result<MarkupBuilder<'i>, AllocError>
+    ensures { IfOk result (λ markup. links_of markup.tokens.items
+        ≡ range_with_len 0 (length doc.now.rules.value.items)) }
+{
     let mut markup = MarkupBuilder::new(alloc);
     push_comment(&mut markup, &doc.source.comment)?;
     markup.start(Tag::Nav)?;
     markup.element(Tag::H2, "Rules")?;
     markup.start(Tag::Ul)?;
-    for number in 0..doc.rules.value.len() {
-        markup.start(Tag::Li)?;
-        markup.rule_link(number)?;
-        markup.close_line(Tag::Li)?;
-    }
+    push_rule_items(&mut markup, doc.rules.value.len())?;
     markup.close(Tag::Ul)?;
     markup.close_line(Tag::Nav)?;
     Ok(markup)
 }
 
+/// Adds items that link to the first so many rules.
+fn push_rule_items(markup: &mut MarkupBuilder<'_>, count: usize) -> Result<(), AllocError>
+    ensures { OnOk result (links_of markup.new.tokens.items
+        ≡ links_of markup.old.tokens.items ++ range_with_len 0 count) }
+{
+    for number in 0..count {
+        markup.start(Tag::Li)?;
+        markup.rule_link(number)?;
+        markup.close_line(Tag::Li)?;
+    }
+    Ok(())
+}
+
 /// Adds the lines of a comment as paragraphs, which empty lines separate.
-fn push_comment<'i>(markup: &mut MarkupBuilder<'i>, lines: &[&'i str]) -> Result<(), AllocError> {
+fn push_comment<'i>(markup: &mut MarkupBuilder<'i>, lines: &[&'i str]) -> Result<(), AllocError>
+    ensures { OnOk result (links_of markup.new.tokens.items ≡ links_of markup.old.tokens.items) }
+{
     if lines.is_empty() {
         return Ok(());
     }
@@ -146,32 +164,92 @@ fn describe<'i>(
     doc: &GrammarDoc<'i>,
     number: usize,
     rule: &ast::Rule,
-) -> Result<SectionContents<'i>, AllocError> {
-    let mut before = MarkupBuilder::new(alloc);
-    push_modifier(&mut before, rule.ty)?;
-    let source = doc.source.rules.get(number);
-    if let Some(source) = source {
-        push_comment(&mut before, &source.comment)?;
-    }
-    before.start_with_class(Tag::Div, Class::Scroll)?;
-    let mut diagram = draw_diagram(alloc, &rule.expr, &doc.numbers, DiagramStyle::OfPage)?;
-    before.tokens.append(&mut diagram.tokens)?;
-    before.close_line(Tag::Div)?;
-    if let Some(source) = source {
-        push_source(&mut before, source, number, &doc.numbers)?;
-    }
-    let mut after = MarkupBuilder::new(alloc);
-    if let Some(facts) = doc.facts.get(number) {
-        push_facts(&mut after, facts)?;
-    }
+) -> Result<SectionContents<'i>, AllocError>
+    ensures before { IfOk result
+        (λ contents. AreLinksWithin (length doc.now.rules.value.items) contents.before.items) }
+    ensures after { IfOk result
+        (λ contents. AreLinksWithin (length doc.now.rules.value.items) contents.after.items) }
+{
+    let before = show_rule(alloc, doc, number, rule)?;
+    let after = show_facts(alloc, doc, number)?;
     Ok(SectionContents {
         before: before.tokens,
         after: after.tokens,
     })
 }
 
+/// What a modifier means, the comment, the diagram and the text of a rule.
+fn show_rule<'i>(
+    alloc: Global,
+    doc: &GrammarDoc<'i>,
+    number: usize,
+    rule: &ast::Rule,
+) -> Result<MarkupBuilder<'i>, AllocError>
+    ensures { IfOk result (λ markup. AreLinksWithin (length doc.now.rules.value.items) markup.tokens.items) }
+{
+    let mut markup = MarkupBuilder::new(alloc);
+    push_modifier(&mut markup, rule.ty)?;
+    push_rule(alloc, &mut markup, doc, number, &rule.expr)?;
+    Ok(markup)
+}
+
+/// Adds the comment, the diagram and the text of the rule of a number.
+fn push_rule<'i>(
+    alloc: Global,
+    markup: &mut MarkupBuilder<'i>,
+    doc: &GrammarDoc<'i>,
+    number: usize,
+    expr: &Expr,
+) -> Result<(), AllocError>
+    ensures { OnOk result (AreLinksWithin (length doc.now.rules.value.items) markup.old.tokens.items
+        → AreLinksWithin (length doc.now.rules.value.items) markup.new.tokens.items) }
+{
+    let Some(source) = doc.source.rules.get(number) else {
+        return push_diagram(alloc, markup, expr, &doc.numbers);
+    };
+    push_comment(markup, &source.comment)?;
+    push_diagram(alloc, markup, expr, &doc.numbers)?;
+    push_source(markup, source, number, &doc.numbers)
+}
+
+/// The facts of a rule.
+fn show_facts<'i>(
+    alloc: Global,
+    doc: &GrammarDoc<'i>,
+    number: usize,
+) -> Result<MarkupBuilder<'i>, AllocError>
+    ensures { IfOk result (λ markup. AreLinksWithin (length doc.now.rules.value.items) markup.tokens.items) }
+{
+    let mut markup = MarkupBuilder::new(alloc);
+    match doc.facts.get(number) {
+        Some(facts) => {
+            push_facts(&mut markup, facts)?;
+            Ok(markup)
+        }
+        None => Ok(markup),
+    }
+}
+
+/// Adds the diagram of an expression.
+fn push_diagram(
+    alloc: Global,
+    markup: &mut MarkupBuilder<'_>,
+    expr: &Expr,
+    numbers: &HashMap<String, usize>,
+) -> Result<(), AllocError>
+    ensures { OnOk result (links_of markup.new.tokens.items
+        ≡ links_of markup.old.tokens.items ++ diagram_links (get_by_text numbers.now) expr.now) }
+{
+    let mut diagram = draw_diagram(alloc, expr, numbers, DiagramStyle::OfPage)?;
+    markup.start_with_class(Tag::Div, Class::Scroll)?;
+    markup.tokens.append(&mut diagram.tokens)?;
+    markup.close_line(Tag::Div)
+}
+
 /// Adds what the modifier of a rule means.
-fn push_modifier(markup: &mut MarkupBuilder<'_>, ty: RuleType) -> Result<(), AllocError> {
+fn push_modifier(markup: &mut MarkupBuilder<'_>, ty: RuleType) -> Result<(), AllocError>
+    ensures { OnOk result (links_of markup.new.tokens.items ≡ links_of markup.old.tokens.items) }
+{
     let meaning = meaning_of(ty);
     if meaning.is_empty() {
         return Ok(());
@@ -198,24 +276,56 @@ fn push_source<'i>(
     source: &RuleSource<'i>,
     own: usize,
     numbers: &HashMap<String, usize>,
-) -> Result<(), AllocError> {
+) -> Result<(), AllocError>
+    ensures { OnOk result (links_of markup.new.tokens.items ≡ links_of markup.old.tokens.items
+        ++ source_links (get_by_text numbers.now) own source.now.parts.items) }
+{
     markup.start(Tag::Pre)?;
     markup.start(Tag::Code)?;
     for part in &source.parts {
-        match part {
-            SourcePart::Name(name) => match numbers.get(*name) {
-                Some(rule) if *rule != own => markup.rule_link(*rule)?,
-                _ => markup.put(Markup::Text(*name))?,
-            },
-            SourcePart::Other(text) => markup.put(Markup::Text(*text))?,
-        }
+        push_part(markup, part, own, numbers)?;
     }
     markup.close(Tag::Code)?;
     markup.close_line(Tag::Pre)
 }
 
+/// Adds a part of a rule's text.
+fn push_part<'i>(
+    markup: &mut MarkupBuilder<'i>,
+    part: &SourcePart<'i>,
+    own: usize,
+    numbers: &HashMap<String, usize>,
+) -> Result<(), AllocError>
+    ensures { OnOk result (links_of markup.new.tokens.items ≡ links_of markup.old.tokens.items
+        ++ part_links (get_by_text numbers.now) own part.now) }
+{
+    match part {
+        SourcePart::Name(name) => push_name(markup, name, numbers.get(*name).copied(), own),
+        SourcePart::Other(text) => markup.put(Markup::Text(*text)),
+    }
+}
+
+/// Adds a name, with a link where it is that of a rule other than `own`.
+fn push_name<'i>(
+    markup: &mut MarkupBuilder<'i>,
+    name: &'i str,
+    rule: Option<usize>,
+    own: usize,
+) -> Result<(), AllocError>
+    ensures { OnOk result (links_of markup.new.tokens.items
+        ≡ links_of markup.old.tokens.items ++ other_rule own rule) }
+{
+    match rule {
+        Some(rule) if rule != own => markup.rule_link(rule),
+        _ => markup.put(Markup::Text(name)),
+    }
+}
+
 /// Adds the warnings and the facts of a rule.
-fn push_facts<'i>(markup: &mut MarkupBuilder<'i>, facts: &RuleFacts<'i>) -> Result<(), AllocError> {
+fn push_facts<'i>(markup: &mut MarkupBuilder<'i>, facts: &RuleFacts<'i>) -> Result<(), AllocError>
+    ensures { OnOk result (links_of markup.new.tokens.items
+        ≡ links_of markup.old.tokens.items ++ facts.now.callers.items) }
+{
     push_warnings(markup, &facts.warnings)?;
     markup.start(Tag::Dl)?;
     push_callers(markup, facts)?;
@@ -231,7 +341,9 @@ fn push_facts<'i>(markup: &mut MarkupBuilder<'i>, facts: &RuleFacts<'i>) -> Resu
 fn push_warnings<'i>(
     markup: &mut MarkupBuilder<'i>,
     warnings: &[RuleWarning<'i>],
-) -> Result<(), AllocError> {
+) -> Result<(), AllocError>
+    ensures { OnOk result (links_of markup.new.tokens.items ≡ links_of markup.old.tokens.items) }
+{
     for warning in warnings {
         markup.start_with_class(Tag::P, Class::Warning)?;
         markup.put(Markup::Text("warning: "))?;
@@ -244,14 +356,13 @@ fn push_warnings<'i>(
 }
 
 /// Adds the rules that call a rule.
-fn push_callers(markup: &mut MarkupBuilder<'_>, facts: &RuleFacts<'_>) -> Result<(), AllocError> {
+fn push_callers(markup: &mut MarkupBuilder<'_>, facts: &RuleFacts<'_>) -> Result<(), AllocError>
+    ensures { OnOk result (links_of markup.new.tokens.items
+        ≡ links_of markup.old.tokens.items ++ facts.now.callers.items) }
+{
     markup.element(Tag::Dt, "Used in")?;
     markup.start(Tag::Dd)?;
-    if facts.is_implicit {
-        markup.put(Markup::Text("sequences and repetitions, implicitly"))?;
-    } else if facts.callers.is_empty() {
-        markup.put(Markup::Text("no other rule"))?;
-    }
+    markup.put(Markup::Text(other_use(facts)))?;
     for (place, caller) in facts.callers.iter().enumerate() {
         push_comma(markup, place > 0 || facts.is_implicit)?;
         markup.rule_link(*caller)?;
@@ -259,8 +370,21 @@ fn push_callers(markup: &mut MarkupBuilder<'_>, facts: &RuleFacts<'_>) -> Result
     markup.close(Tag::Dd)
 }
 
+/// How else a rule is used than by the rules that call it.
+fn other_use(facts: &RuleFacts<'_>) -> &'static str {
+    if facts.is_implicit {
+        "sequences and repetitions, implicitly"
+    } else if facts.callers.is_empty() {
+        "no other rule"
+    } else {
+        ""
+    }
+}
+
 /// Adds a comma, where there is to be one.
-fn push_comma(markup: &mut MarkupBuilder<'_>, has_comma: bool) -> Result<(), AllocError> {
+fn push_comma(markup: &mut MarkupBuilder<'_>, has_comma: bool) -> Result<(), AllocError>
+    ensures { OnOk result (links_of markup.new.tokens.items ≡ links_of markup.old.tokens.items) }
+{
     if has_comma {
         markup.put(Markup::Text(", "))
     } else {
@@ -269,7 +393,9 @@ fn push_comma(markup: &mut MarkupBuilder<'_>, has_comma: bool) -> Result<(), All
 }
 
 /// Adds the terminals that may begin a rule.
-fn push_first_set(markup: &mut MarkupBuilder<'_>, first_set: &FirstSet) -> Result<(), AllocError> {
+fn push_first_set(markup: &mut MarkupBuilder<'_>, first_set: &FirstSet) -> Result<(), AllocError>
+    ensures { OnOk result (links_of markup.new.tokens.items ≡ links_of markup.old.tokens.items) }
+{
     if first_set.labels.is_empty() {
         return Ok(());
     }

@@ -1,7 +1,9 @@
 //! From the pairs of a grammar's text to what its documents are made of.
-ghost use Rattle.std.specs.Prelude.{◌≡◌, IfErr, IfOk, None, OnOk};
+ghost use Rattle.std.specs.Prelude.{◌≡◌, IfErr, IfOk, None, OnOk, length};
+ghost use Rattle.std.specs.HashMap.{get_by_text};
 ghost use Rattle.meta_ast.specs.Ast.{rules_of};
 ghost use Rattle.meta_doc.specs.Documents.{AreRulesOf};
+ghost use Rattle.meta_doc.specs.Links.{AreFactsBelow, AreNumbersBelow};
 ghost use Rattle.meta_markup.specs.Pages.{AreNames};
 ghost use Rattle.meta_reader.specs.Refusals.{IsReadRefusal, first_flaw_of};
 ghost use Rattle.meta_syntax.specs.Parses.{AreOfAGrammar};
@@ -29,6 +31,8 @@ pub struct GrammarDoc<'i> {
     pub facts: Vec<RuleFacts<'i>>,
     /// The numbers of rules by their names.
     pub numbers: HashMap<String, usize>,
+    ghost called: { AreFactsBelow (length rules.value.items) facts.items },
+    ghost numbered: { AreNumbersBelow (length rules.value.items) (get_by_text numbers) },
 }
 
 /// Reads a grammar from all pairs of a parse of its text by `grammar_rules`. Refused with the one error of

@@ -48,7 +48,7 @@ key (NodeTag e t) = 19 ∷ (text_key t ++ key e)
 key (Skip ts) = 20 ∷ texts_key ts
 key (RestoreOnErr e) = 21 ∷ key e
 
--- what a node has in a key before its operands
+-- the part of a key that a node has before its operands
 abbrev pub unary_sign : Unary → List ℕ
 unary_sign spanned.PosPred = 7 ∷ []
 unary_sign spanned.NegPred = 8 ∷ []

@@ -1,4 +1,8 @@
-//! Helps, fixes and related positions of a diagnostic.
+//! Helps, fixes, related positions.
+ghost use Rattle.std.specs.Prelude.{◌≡◌, IfOk, IsSomeAnd, None, string_bytes};
+ghost use Rattle.meta_hints.specs.Hints.{IsReplacement, IsTold};
+
+use crate::mistakes::Mistake;
 use std::alloc::{AllocError, Global};
 
 /// A replacement of a part of the text, in bytes: `start..end` becomes `replacement`.
@@ -25,22 +29,47 @@ pub struct Related {
 }
 
 /// A help where the mistake is known, and the positions that matter to it.
-#[derive(Debug, Drop)]
+#[derive(Drop)]
 pub struct Hint {
+    pub mistake: Option<Mistake>,
     pub help: Option<Help>,
     pub related: Vec<Related>,
 }
 
+/// A known mistake, and the replacement that mends it where one is definite.
+#[derive(Drop)]
+pub(crate) struct Remedy {
+    pub mistake: Mistake,
+    pub fix: Option<Fix>,
+}
+
+impl Fix {
+    /// The bytes `start..end` become a text.
+    pub(crate) fn new(
+        alloc: Global,
+        start: usize,
+        end: usize,
+        replacement: &str,
+    ) -> Result<Fix, AllocError>
+        ensures { IfOk result (IsReplacement start end replacement.now) }
+    {
+        let replacement = String::from_str(alloc, replacement)?;
+        Ok(Fix {
+            start,
+            end,
+            replacement,
+        })
+    }
+}
+
 impl Help {
     /// A help of this message, without a fix.
-    pub fn new(alloc: Global, message: &str) -> Result<Help, AllocError> {
+    pub fn new(alloc: Global, message: &str) -> Result<Help, AllocError>
+        ensures message { IfOk result (λ help. string_bytes help.message ≡ message.now) }
+        ensures fix { IfOk result (λ help. help.fix ≡ None) }
+    {
         let message = String::from_str(alloc, message)?;
         Ok(Help { message, fix: None })
-    }
-
-    /// A help of this message, as a hint has it.
-    pub(crate) fn say(alloc: Global, message: &str) -> Result<Option<Help>, AllocError> {
-        Ok(Some(Help::new(alloc, message)?))
     }
 
     /// A help of this message, which replaces the bytes `start..end`.
@@ -50,17 +79,40 @@ impl Help {
         start: usize,
         end: usize,
         replacement: &str,
-    ) -> Result<Help, AllocError> {
+    ) -> Result<Help, AllocError>
+        ensures message { IfOk result (λ help. string_bytes help.message ≡ message.now) }
+        ensures fix { IfOk result (λ help. IsSomeAnd help.fix (IsReplacement start end replacement.now)) }
+    {
         let message = String::from_str(alloc, message)?;
-        let replacement = String::from_str(alloc, replacement)?;
-        let fix = Fix {
-            start,
-            end,
-            replacement,
-        };
+        let fix = Fix::new(alloc, start, end, replacement)?;
         Ok(Help {
             message,
             fix: Some(fix),
+        })
+    }
+}
+
+impl Hint {
+    /// The hint of a remedy, if there is one.
+    pub(crate) fn new(
+        alloc: Global,
+        remedy: Option<Remedy>,
+        related: Vec<Related>,
+    ) -> Result<Hint, AllocError>
+        ensures { IfOk result (λ hint. IsTold hint.mistake hint.help) }
+    {
+        let Some(Remedy { mistake, fix }) = remedy else {
+            return Ok(Hint {
+                mistake: None,
+                help: None,
+                related,
+            });
+        };
+        let message = String::from_str(alloc, mistake.text())?;
+        Ok(Hint {
+            mistake: Some(mistake),
+            help: Some(Help { message, fix }),
+            related,
         })
     }
 }

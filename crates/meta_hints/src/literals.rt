@@ -1,8 +1,31 @@
-//! Hints in and at strings and characters.
-use crate::help::Help;
-use crate::lexer::{Lexeme, LexemeClass};
-use crate::site::{Site, is_sign};
+//! Hints at literals.
+use crate::help::{Fix, Remedy};
+use crate::mistakes::{LiteralMistake, Mistake};
+use hint_lexemes::{Lexeme, LexemeClass, Site, is_sign};
 use std::alloc::{AllocError, Global};
+
+/// A remedy without a fix.
+pub(crate) fn say_literal(mistake: LiteralMistake) -> Option<Remedy> {
+    Some(Remedy {
+        mistake: Mistake::Literal(mistake),
+        fix: None,
+    })
+}
+
+/// A remedy that replaces the bytes `start..end`.
+pub(crate) fn fix_literal(
+    alloc: Global,
+    mistake: LiteralMistake,
+    start: usize,
+    end: usize,
+    replacement: &str,
+) -> Result<Option<Remedy>, AllocError> {
+    let fix = Fix::new(alloc, start, end, replacement)?;
+    Ok(Some(Remedy {
+        mistake: Mistake::Literal(mistake),
+        fix: Some(fix),
+    }))
+}
 
 /// The string, character or comment that is left open at the error.
 pub(crate) fn open_literal(site: &Site<'_>) -> Option<Lexeme> {
@@ -20,16 +43,10 @@ pub(crate) fn open_literal(site: &Site<'_>) -> Option<Lexeme> {
     }
 }
 
-/// A help for an error in a string: an unknown escape.
-pub(crate) fn in_text(
-    alloc: Global,
-    site: &Site<'_>,
-    here: Lexeme,
-) -> Result<Option<Help>, AllocError> {
-    match escape_at(site, here) {
-        Some(at) => escape_help(alloc, site.byte(at.saturating_add(1))),
-        None => Ok(None),
-    }
+/// The remedy of an error in a string: an unknown escape.
+pub(crate) fn in_text(site: &Site<'_>, here: Lexeme) -> Option<Remedy> {
+    let at = escape_at(site, here)?;
+    escape_remedy(site.byte(at.saturating_add(1)))
 }
 
 /// The byte of the backslash of the escape in which the error is.
@@ -51,50 +68,44 @@ fn escape_at(site: &Site<'_>, here: Lexeme) -> Option<usize> {
     found
 }
 
-/// A help for an escape that is none, by the byte after its backslash.
-fn escape_help(alloc: Global, byte: u8) -> Result<Option<Help>, AllocError> {
+/// The remedy of an escape that is none, by the byte after its backslash.
+fn escape_remedy(byte: u8) -> Option<Remedy> {
     match byte {
-        b'x' => Help::say(alloc, "`\\x` takes two hexadecimal digits"),
-        b'u' => Help::say(
-            alloc,
-            "`\\u` takes two to six hexadecimal digits in braces: `\\u{1F600}`",
-        ),
-        _ => Help::say(
-            alloc,
-            "the escapes are `\\\"`, `\\'`, `\\\\`, `\\n`, `\\r`, `\\t`, `\\0`, `\\xHH` and `\\u{..}`",
-        ),
+        b'x' => say_literal(LiteralMistake::HexEscape),
+        b'u' => say_literal(LiteralMistake::UnicodeEscape),
+        _ => say_literal(LiteralMistake::UnknownEscape),
     }
 }
 
-/// A help for an error in single quotes: several characters, or an unknown escape.
+/// The remedy of an error in single quotes: several characters, or an unknown escape.
 pub(crate) fn in_character(
     alloc: Global,
     site: &Site<'_>,
     here: Lexeme,
-) -> Result<Option<Help>, AllocError> {
+) -> Result<Option<Remedy>, AllocError> {
     let first = here.start.saturating_add(1);
     if site.position == first && site.byte(first) == b'\\' {
-        return escape_help(alloc, site.byte(first.saturating_add(1)));
+        return Ok(escape_remedy(site.byte(first.saturating_add(1))));
     }
     if is_sign(site.next_lexeme(1), b'.') || is_sign(site.previous_lexeme(1), b'.') {
-        return Help::say(alloc, "a bound of a range is one character");
+        return Ok(say_literal(LiteralMistake::LongBound));
     }
-    double_quotes(alloc, site, here, "a string is in double quotes")
+    double_quotes(alloc, site, here, LiteralMistake::SingleQuotes)
 }
 
-/// A help that puts what is in single quotes in double quotes.
+/// A remedy that puts what is in single quotes in double quotes.
 fn double_quotes(
     alloc: Global,
     site: &Site<'_>,
     quoted: Lexeme,
-    message: &str,
-) -> Result<Option<Help>, AllocError> {
+    mistake: LiteralMistake,
+) -> Result<Option<Remedy>, AllocError> {
     let inner = inner_of(site, quoted);
     if inner.contains('"') {
-        return Help::say(alloc, message);
+        return Ok(say_literal(mistake));
     }
     let text = format!(in alloc; "\"{inner}\"")?;
-    Ok(Some(Help::replace(alloc, message, quoted.start, quoted.end, text.as_str())?))
+    fix_literal(alloc, mistake, quoted.start, quoted.end, text.as_str())
 }
 
 /// The text in the quotes of a literal.
@@ -102,57 +113,68 @@ pub(crate) fn inner_of<'t>(site: &Site<'t>, quoted: Lexeme) -> &'t str {
     site.part(quoted.start.saturating_add(1), quoted.end.saturating_sub(1))
 }
 
-/// A help for single quotes where an expression or an operator is expected.
+/// The remedy of single quotes where an expression or an operator is expected.
 pub(crate) fn at_character(
     alloc: Global,
     site: &Site<'_>,
     here: Lexeme,
-) -> Result<Option<Help>, AllocError> {
-    if here.class == LexemeClass::OpenCharacter {
-        return Help::say(
-            alloc,
-            "a string is in double quotes, a bound of a range in single ones",
-        );
+) -> Result<Option<Remedy>, AllocError> {
+    if is_open(here) {
+        return Ok(say_literal(LiteralMistake::OpenCharacter));
     }
     if is_sign(site.previous_lexeme(1), b'^') {
-        return double_quotes(alloc, site, here, "a string is in double quotes");
+        if is_sign(site.next_lexeme(1), b'.') {
+            return Ok(say_literal(LiteralMistake::CaretRange));
+        }
+        return double_quotes(alloc, site, here, LiteralMistake::SingleQuotes);
     }
     crate::terms::at_term(alloc, site)
 }
 
-/// A help for a character in single quotes that is before the error, where no range goes on.
-pub(crate) fn after_character(alloc: Global, site: &Site<'_>) -> Result<Option<Help>, AllocError> {
+/// The remedy of a character in single quotes that is before the error, where no range goes on.
+pub(crate) fn after_character(
+    alloc: Global,
+    site: &Site<'_>,
+) -> Result<Option<Remedy>, AllocError> {
     let character = site.previous_lexeme(1);
+    if is_open(character) || is_open(site.previous_lexeme(2)) {
+        return Ok(say_literal(LiteralMistake::OpenCharacter));
+    }
     if character.class != LexemeClass::Character || is_sign(site.previous_lexeme(2), b'.') {
         return Ok(None);
     }
-    double_quotes(
-        alloc,
-        site,
-        character,
-        "a string is in double quotes; single quotes are for ranges, as `'a'..'z'`",
-    )
+    double_quotes(alloc, site, character, LiteralMistake::LoneCharacter)
 }
 
-/// A help for a range whose bounds are strings or names: the two dots are at the error, or before it.
+/// Whether a lexeme is a single quote that no other closes.
+fn is_open(lexeme: Lexeme) -> bool {
+    lexeme.class == LexemeClass::OpenCharacter
+}
+
+/// The remedy of a range whose bounds are strings or names: the two dots are at the error, or before it.
 pub(crate) fn range_of_strings(
     alloc: Global,
     site: &Site<'_>,
     first: Lexeme,
     last: Lexeme,
-) -> Result<Option<Help>, AllocError> {
-    let message = "the bounds of a range are characters in single quotes: `'a'..'z'`";
+) -> Result<Option<Remedy>, AllocError> {
     let low = bound_of(site, first);
     let high = bound_of(site, last);
     if !is_bound(low) || !is_bound(high) {
-        return Help::say(alloc, message);
+        return Ok(say_literal(LiteralMistake::QuotedBounds));
     }
     let text = format!(in alloc; "'{low}'..'{high}'")?;
-    Ok(Some(Help::replace(alloc, message, first.start, last.end, text.as_str())?))
+    fix_literal(
+        alloc,
+        LiteralMistake::QuotedBounds,
+        first.start,
+        last.end,
+        text.as_str(),
+    )
 }
 
 /// The text of a bound, without its quotes.
-fn bound_of<'t>(site: &Site<'t>, bound: Lexeme) -> &'t str {
+pub(crate) fn bound_of<'t>(site: &Site<'t>, bound: Lexeme) -> &'t str {
     match bound.class {
         LexemeClass::Text | LexemeClass::Character => inner_of(site, bound),
         _ => site.text_of(bound),
@@ -160,7 +182,7 @@ fn bound_of<'t>(site: &Site<'t>, bound: Lexeme) -> &'t str {
 }
 
 /// Whether a text is one character that needs no escape.
-fn is_bound(text: &str) -> bool {
+pub(crate) fn is_bound(text: &str) -> bool {
     let mut characters = text.chars();
     match (characters.next(), characters.next()) {
         (Some(c), None) => c != '\'' && c != '\\',

@@ -1,149 +1,187 @@
 //! Hints at signs in bodies.
-use crate::help::Help;
-use crate::lexer::{Lexeme, LexemeClass};
-use crate::literals::{after_character, range_of_strings};
-use crate::outer::is_line_start;
-use crate::site::{Site, ends_term, is_sign, starts_term};
-use crate::terms::{at_term, modifier};
+use crate::foreign::at_control;
+use crate::help::{Fix, Remedy};
+use crate::literals::{
+    after_character, bound_of, fix_literal, is_bound, range_of_strings, say_literal,
+};
+use crate::mistakes::{LiteralMistake, Mistake, OuterMistake, SignMistake};
+use crate::outer::{fix_outer, say_outer};
+use crate::terms::{at_term, late_modifier};
+use hint_lexemes::{Lexeme, LexemeClass, Site, ends_term, is_sign, starts_term};
 use std::alloc::{AllocError, Global};
 
-/// A help for a sign in a body.
+/// A remedy without a fix.
+pub(crate) fn say_sign(mistake: SignMistake) -> Option<Remedy> {
+    Some(Remedy {
+        mistake: Mistake::Sign(mistake),
+        fix: None,
+    })
+}
+
+/// A remedy that replaces the bytes `start..end`.
+pub(crate) fn fix_sign(
+    alloc: Global,
+    mistake: SignMistake,
+    start: usize,
+    end: usize,
+    replacement: &str,
+) -> Result<Option<Remedy>, AllocError> {
+    let fix = Fix::new(alloc, start, end, replacement)?;
+    Ok(Some(Remedy {
+        mistake: Mistake::Sign(mistake),
+        fix: Some(fix),
+    }))
+}
+
+/// The remedy of a sign in a body.
 pub(crate) fn at_sign(
     alloc: Global,
     site: &Site<'_>,
     here: Lexeme,
     byte: u8,
-) -> Result<Option<Help>, AllocError> {
+) -> Result<Option<Remedy>, AllocError> {
     match byte {
         b')' | b'}' => at_closing(alloc, site, byte),
-        b'[' => at_bracket(alloc, site, here),
         b'.' => at_dot(alloc, site, here),
         b'|' | b'~' => at_infix(alloc, site, here),
         b'*' | b'+' | b'?' => at_postfix(alloc, site, here),
-        b'&' if is_sign(site.next_lexeme(1), b'&') => at_double_and(
-            alloc,
-            here,
-            site.next_lexeme(1),
-        ),
+        b'&' if is_sign(site.next_lexeme(1), b'&') => {
+            let end = site.next_lexeme(1).end;
+            fix_sign(alloc, SignMistake::OtherTilde, here.start, end, "~")
+        }
+        b'!' | b'&' if !starts_term(site.next_lexeme(1)) => Ok(say_sign(SignMistake::LateTest)),
         b'(' | b'^' | b'!' | b'&' => at_term(alloc, site),
-        b'=' => Help::say(
-            alloc,
-            "a tag is written `#name = e`, and a rule outside of braces",
-        ),
-        b'{' => at_brace(alloc, site),
+        b'-' => at_dash(alloc, site, here),
+        byte if byte.is_ascii_control() => at_control(alloc, here),
+        _ => at_other_sign(alloc, site, here, byte),
+    }
+}
+
+/// The remedy of a sign that bodies have in no place, or in few.
+fn at_other_sign(
+    alloc: Global,
+    site: &Site<'_>,
+    here: Lexeme,
+    byte: u8,
+) -> Result<Option<Remedy>, AllocError> {
+    match byte {
+        b'[' => at_bracket(alloc, site, here),
+        b'=' => at_equals(alloc, site, here),
+        b'%' => Ok(at_percent(site)),
+        b'{' => Ok(at_brace(site)),
         b'@' | b'$' => at_modifier(alloc, site, here, byte),
         b'/' => at_slash(alloc, site, here),
         b':' => at_colon(alloc, site, here),
-        b',' => at_comma(alloc, site, here),
-        b';' => at_semicolon(alloc, site, here),
-        b'-' => at_dash(alloc, site, here),
+        b',' => swap(alloc, site, here, SignMistake::OtherTilde, " ~"),
+        b';' if is_sign(site.next_lexeme(1), b'}') => {
+            let (start, end) = removed_bytes(site, here);
+            fix_outer(alloc, OuterMistake::Semicolon, start, end, "")
+        }
         b'\\' => at_backslash(alloc, site, here),
-        b'#' => Help::say(
-            alloc,
-            "a comment begins with `//`, and a tag is written `#name = e`",
-        ),
+        b'#' => Ok(say_sign(SignMistake::Hash)),
         b'<' => at_angle(alloc, site, here),
+        b'`' => Ok(say_literal(LiteralMistake::SingleQuotes)),
         _ => Ok(None),
     }
 }
 
-/// A help that puts another sign in place of one between two expressions.
+/// A remedy that puts another sign in place of one between two expressions.
 fn swap(
     alloc: Global,
     site: &Site<'_>,
     here: Lexeme,
-    message: &str,
+    mistake: SignMistake,
     sign: &str,
-) -> Result<Option<Help>, AllocError> {
+) -> Result<Option<Remedy>, AllocError> {
     if ends_term(site.previous_lexeme(1)) && starts_term(site.next_lexeme(1)) {
-        return Ok(Some(Help::replace(alloc, message, here.start, here.end, sign)?));
+        return fix_sign(alloc, mistake, here.start, here.end, sign);
     }
     Ok(None)
 }
 
-/// A help for an equals sign: a rule begins before the last one is closed, or a tag has no `#`.
-fn at_equals(alloc: Global, site: &Site<'_>) -> Result<Option<Help>, AllocError> {
-    let name = site.previous_lexeme(1);
-    if is_line_start(site.text.as_bytes(), name.start) {
-        return Help::say(alloc, "the rule before this one is not closed");
+/// The remedy of an equals sign: in a range, in an arrow, or of a tag without `#`.
+fn at_equals(alloc: Global, site: &Site<'_>, here: Lexeme) -> Result<Option<Remedy>, AllocError> {
+    if is_sign(site.previous_lexeme(1), b'.') {
+        return fix_literal(
+            alloc,
+            LiteralMistake::InclusiveRange,
+            here.start,
+            here.end,
+            "",
+        );
     }
-    Help::say(alloc, "a tag is written `#name = e`")
+    if is_sign(site.next_lexeme(1), b'>') {
+        return Ok(say_sign(SignMistake::Arrow));
+    }
+    Ok(say_sign(SignMistake::Equals))
 }
 
-/// A help for a double ampersand.
-fn at_double_and(alloc: Global, first: Lexeme, last: Lexeme) -> Result<Option<Help>, AllocError> {
-    let message = "a sequence is written with `~`";
-    Ok(Some(Help::replace(alloc, message, first.start, last.end, "~")?))
-}
-
-/// A help for a slash: between alternatives, or around a regular expression.
-fn at_slash(alloc: Global, site: &Site<'_>, here: Lexeme) -> Result<Option<Help>, AllocError> {
+/// The remedy of a percent sign: of a list, or of a character by its number.
+fn at_percent(site: &Site<'_>) -> Option<Remedy> {
     if ends_term(site.previous_lexeme(1)) {
-        return swap(alloc, site, here, "alternatives are separated by `|`", "|");
+        return say_sign(SignMistake::ListSign);
     }
-    Help::say(
-        alloc,
-        "there are no regular expressions: write strings, ranges, `|`, `~`, `*`, `+` and `?`",
-    )
+    say_sign(SignMistake::CharacterNumber)
 }
 
-/// A help for a colon after a name, as of a label.
-fn at_colon(alloc: Global, site: &Site<'_>, here: Lexeme) -> Result<Option<Help>, AllocError> {
+/// The remedy of a slash: between alternatives, or around a regular expression.
+fn at_slash(alloc: Global, site: &Site<'_>, here: Lexeme) -> Result<Option<Remedy>, AllocError> {
+    if ends_term(site.previous_lexeme(1)) {
+        return swap(alloc, site, here, SignMistake::Slash, "|");
+    }
+    Ok(say_sign(SignMistake::RegularExpression))
+}
+
+/// The remedy of a colon after a name, as of a label.
+fn at_colon(alloc: Global, site: &Site<'_>, here: Lexeme) -> Result<Option<Remedy>, AllocError> {
     let name = site.previous_lexeme(1);
-    let message = "a tag is written `#name = e`";
     if name.class != LexemeClass::Name || !starts_term(site.next_lexeme(1)) {
         return Ok(None);
     }
     let text = format!(in alloc; "#{} = ", site.text_of(name))?;
-    Ok(Some(Help::replace(alloc, message, name.start, here.end, text.as_str())?))
+    fix_sign(
+        alloc,
+        SignMistake::Label,
+        name.start,
+        here.end,
+        text.as_str(),
+    )
 }
 
-/// A help for a comma, which is nothing but a part of a count.
-fn at_comma(alloc: Global, site: &Site<'_>, here: Lexeme) -> Result<Option<Help>, AllocError> {
-    swap(alloc, site, here, "a sequence is written with `~`", " ~")
-}
-
-/// A help for a semicolon in a body.
-fn at_semicolon(alloc: Global, site: &Site<'_>, here: Lexeme) -> Result<Option<Help>, AllocError> {
-    if is_sign(site.next_lexeme(1), b'}') {
-        let message = "a rule ends with its brace, without `;`";
-        return Ok(Some(Help::replace(alloc, message, here.start, here.end, "")?));
-    }
-    Ok(None)
-}
-
-/// A help for a closing parenthesis or brace.
-fn at_closing(alloc: Global, site: &Site<'_>, byte: u8) -> Result<Option<Help>, AllocError> {
+/// The remedy of a closing parenthesis or brace.
+fn at_closing(alloc: Global, site: &Site<'_>, byte: u8) -> Result<Option<Remedy>, AllocError> {
     let before = site.previous_lexeme(1);
     if is_sign(before, b'|') || is_sign(before, b'~') {
-        let message = "an operand is missing after this operator";
-        return Ok(Some(Help::replace(alloc, message, before.start, before.end, "")?));
+        let (start, end) = removed_bytes(site, before);
+        return fix_sign(alloc, SignMistake::MissingAfter, start, end, "");
     }
-    if is_sign(before, b'{') && byte == b'}' {
-        return Help::say(alloc, "what takes nothing is written `\"\"`");
+    if is_sign(before, b'{') && byte == b'}' || is_sign(before, b'(') && byte == b')' {
+        return Ok(say_sign(SignMistake::Nothing));
+    }
+    if is_sign(before, b'.') {
+        return Ok(say_literal(LiteralMistake::LostBound));
     }
     if site.is_within(b'(') && byte == b'}' {
-        return Help::say(alloc, "a parenthesis is not closed");
+        return Ok(say_sign(SignMistake::OpenParenthesis));
     }
     if site.is_within(b'{') && byte == b')' {
-        return Help::say(alloc, "no parenthesis is open here");
+        return Ok(say_sign(SignMistake::ClosedParenthesis));
     }
     after_character(alloc, site)
 }
 
-/// A help for a bracket: a class of characters, or an optional part.
-fn at_bracket(alloc: Global, site: &Site<'_>, here: Lexeme) -> Result<Option<Help>, AllocError> {
+/// The remedy of a bracket: a class of characters, or an optional part.
+fn at_bracket(alloc: Global, site: &Site<'_>, here: Lexeme) -> Result<Option<Remedy>, AllocError> {
     let start = here.start.saturating_add(1);
+    if site.byte(start) == b'^' {
+        return Ok(say_sign(SignMistake::NegatedClass));
+    }
     let end = class_end(site, start);
     if let Some(text) = class_text(alloc, site, start, end)? {
-        let message = "a class of characters is a choice of ranges and strings";
         let after = end.saturating_add(1);
-        return Ok(Some(Help::replace(alloc, message, here.start, after, text.as_str())?));
+        return fix_sign(alloc, SignMistake::Class, here.start, after, text.as_str());
     }
-    Help::say(
-        alloc,
-        "there are no brackets: a class is `('a'..'z' | \"_\")`, and what may be left out `(e)?`",
-    )
+    Ok(say_sign(SignMistake::Brackets))
 }
 
 /// The byte of the bracket that closes a class of characters, or where another character comes first.
@@ -194,133 +232,186 @@ fn class_text(
     Ok(Some(format!(in alloc; "({text})")?))
 }
 
-/// A help for a dot: a range of strings, or any character.
-fn at_dot(alloc: Global, site: &Site<'_>, here: Lexeme) -> Result<Option<Help>, AllocError> {
+/// The remedy of a dot: a range, or any character.
+fn at_dot(alloc: Global, site: &Site<'_>, here: Lexeme) -> Result<Option<Remedy>, AllocError> {
     let before = site.previous_lexeme(1);
     if is_sign(before, b'.') {
-        let message = "a range has two dots";
-        return Ok(Some(Help::replace(alloc, message, here.start, here.end, "")?));
+        return fix_literal(alloc, LiteralMistake::ThreeDots, here.start, here.end, "");
     }
     if is_sign(site.next_lexeme(1), b'.') {
-        return at_dots(alloc, site, here, before);
+        return at_dots(alloc, site, before);
     }
     if ends_term(before) {
-        return Ok(None);
+        return Ok(say_sign(SignMistake::DottedName));
     }
-    let message = "any character is `ANY`";
-    Ok(Some(Help::replace(alloc, message, here.start, here.end, "ANY")?))
+    fix_sign(alloc, SignMistake::Dot, here.start, here.end, "ANY")
 }
 
-/// A help for two dots: between strings, or in a count.
-fn at_dots(
-    alloc: Global,
-    site: &Site<'_>,
-    here: Lexeme,
-    before: Lexeme,
-) -> Result<Option<Help>, AllocError> {
-    let last = site.next_lexeme(2);
-    if before.class == LexemeClass::Digits && last.class == LexemeClass::Digits {
-        let message = "a count is written `{1, 3}`";
-        return Ok(Some(Help::replace(alloc, message, here.start, last.start, ", ")?));
-    }
+/// The remedy of two dots: between strings, or with a bound that is missing.
+fn at_dots(alloc: Global, site: &Site<'_>, before: Lexeme) -> Result<Option<Remedy>, AllocError> {
     match before.class {
-        LexemeClass::Text | LexemeClass::Name => range_of_strings(alloc, site, before, last),
-        _ => Ok(None),
+        LexemeClass::Text | LexemeClass::Name => {
+            range_of_strings(alloc, site, before, site.next_lexeme(2))
+        }
+        _ => Ok(say_literal(LiteralMistake::LostBound)),
     }
 }
 
-/// A help for an infix operator with nothing before it.
-fn at_infix(alloc: Global, site: &Site<'_>, here: Lexeme) -> Result<Option<Help>, AllocError> {
-    if ends_term(site.previous_lexeme(1)) {
+/// The remedy of an infix operator with nothing before it.
+fn at_infix(alloc: Global, site: &Site<'_>, here: Lexeme) -> Result<Option<Remedy>, AllocError> {
+    let before = site.previous_lexeme(1);
+    if ends_term(before) {
         return after_character(alloc, site);
     }
-    let message = "an operand is missing before this operator";
-    Ok(Some(Help::replace(alloc, message, here.start, here.end, "")?))
+    if is_sign(before, b'^') {
+        return Ok(say_sign(SignMistake::CaretForStart));
+    }
+    if is_sign(here, b'~') && !is_sign(before, b'~') && site.next_lexeme(1).start == here.end {
+        return Ok(say_sign(SignMistake::TildeForNot));
+    }
+    if before.class == here.class || is_sign(before, b'{') || is_sign(before, b'(') {
+        let (start, end) = removed_bytes(site, here);
+        return fix_sign(alloc, SignMistake::MissingBefore, start, end, "");
+    }
+    Ok(say_sign(SignMistake::MissingBefore))
 }
 
-/// A help for a postfix operator with nothing before it.
-fn at_postfix(alloc: Global, site: &Site<'_>, here: Lexeme) -> Result<Option<Help>, AllocError> {
+/// The bytes that go with a sign: the blank after it, too, where one is before it.
+fn removed_bytes(site: &Site<'_>, sign: Lexeme) -> (usize, usize) {
+    let is_between = site.byte(sign.start.saturating_sub(1)) == b' ' && site.byte(sign.end) == b' ';
+    if is_between {
+        (sign.start, sign.end.saturating_add(1))
+    } else {
+        (sign.start, sign.end)
+    }
+}
+
+/// The remedy of a postfix operator with nothing before it.
+fn at_postfix(alloc: Global, site: &Site<'_>, here: Lexeme) -> Result<Option<Remedy>, AllocError> {
     if ends_term(site.previous_lexeme(1)) {
         return after_character(alloc, site);
     }
-    let message = "`*`, `+` and `?` are after what they repeat";
+    if is_sign(site.previous_lexeme(1), b'(') && is_sign(here, b'?') {
+        return Ok(say_sign(SignMistake::RegexGroup));
+    }
     let operand = site.next_lexeme(1);
     if !matches!(operand.class, LexemeClass::Name | LexemeClass::Text) {
-        return Help::say(alloc, message);
+        return Ok(say_sign(SignMistake::EarlyPostfix));
     }
     let sign = site.text_of(here);
     let text = format!(in alloc; "{}{sign}", site.text_of(operand))?;
-    Ok(Some(Help::replace(alloc, message, here.start, operand.end, text.as_str())?))
-}
-
-/// A help for a brace in a body that begins no count.
-fn at_brace(alloc: Global, site: &Site<'_>) -> Result<Option<Help>, AllocError> {
-    if ends_term(site.previous_lexeme(1)) {
-        return Ok(None);
-    }
-    Help::say(
+    fix_sign(
         alloc,
-        "what is repeated is written `(e)*`, and grouped `(e)`",
+        SignMistake::EarlyPostfix,
+        here.start,
+        operand.end,
+        text.as_str(),
     )
 }
 
-/// A help for a modifier in a body.
+/// The remedy of a brace in a body that begins no count.
+fn at_brace(site: &Site<'_>) -> Option<Remedy> {
+    let before = site.previous_lexeme(1);
+    if ends_term(before) {
+        return None;
+    }
+    if is_sign(before, b'!') {
+        return say_sign(SignMistake::InnerModifier);
+    }
+    say_sign(SignMistake::InnerBraces)
+}
+
+/// The remedy of a modifier in a body.
 fn at_modifier(
     alloc: Global,
     site: &Site<'_>,
     here: Lexeme,
     byte: u8,
-) -> Result<Option<Help>, AllocError> {
+) -> Result<Option<Remedy>, AllocError> {
     if is_sign(site.previous_lexeme(1), b'{') && is_sign(site.previous_lexeme(2), b'=') {
-        return modifier(alloc, site, here, if byte == b'@' { "@{" } else { "${" });
+        return late_modifier(alloc, site, here, if byte == b'@' { "@{" } else { "${" });
     }
-    if byte == b'$' {
-        return Help::say(alloc, "the end of the text is `EOI`");
+    let after = site.next_lexeme(1);
+    let is_prefix = after.start == here.end && (starts_term(after) || is_sign(after, b'{'));
+    if byte == b'@' || is_prefix {
+        return Ok(say_sign(SignMistake::InnerModifier));
     }
-    Ok(None)
+    Ok(say_sign(SignMistake::DollarForEnd))
 }
 
-/// A help for a dash: a comment, a range, or part of a name.
-fn at_dash(alloc: Global, site: &Site<'_>, here: Lexeme) -> Result<Option<Help>, AllocError> {
+/// The remedy of a dash: a comment, a range, part of a name, or a difference.
+fn at_dash(alloc: Global, site: &Site<'_>, here: Lexeme) -> Result<Option<Remedy>, AllocError> {
     let before = site.previous_lexeme(1);
     let after = site.next_lexeme(1);
     if is_sign(after, b'-') && after.start == here.end {
-        return Help::say(alloc, "a comment begins with `//`");
+        return Ok(say_outer(OuterMistake::CommentSign));
     }
     if before.class == LexemeClass::Character && after.class == LexemeClass::Character {
-        let message = "a range is written `'a'..'z'`";
-        return Ok(Some(Help::replace(alloc, message, here.start, here.end, "..")?));
+        return fix_literal(
+            alloc,
+            LiteralMistake::DashedRange,
+            here.start,
+            here.end,
+            "..",
+        );
     }
     if before.class == LexemeClass::Name && before.end == here.start && after.start == here.end {
-        return Help::say(alloc, "a name has ASCII letters, digits and `_`");
+        return Ok(say_outer(OuterMistake::NameSign));
+    }
+    if is_letter(site, before) && is_letter(site, after) {
+        return range_of_strings(alloc, site, before, after);
     }
     if ends_term(before) && starts_term(after) {
-        return Help::say(alloc, "what matches `a` and not `b` is written `!b ~ a`");
+        return Ok(say_sign(SignMistake::Difference));
     }
     Ok(None)
 }
 
-/// A help for a backslash outside of a string, as in regular expressions.
-fn at_backslash(alloc: Global, site: &Site<'_>, here: Lexeme) -> Result<Option<Help>, AllocError> {
+/// Whether a lexeme is a string of one character.
+fn is_letter(site: &Site<'_>, lexeme: Lexeme) -> bool {
+    lexeme.class == LexemeClass::Text && is_bound(bound_of(site, lexeme))
+}
+
+/// The remedy of a backslash outside of a string, as in regular expressions.
+fn at_backslash(
+    alloc: Global,
+    site: &Site<'_>,
+    here: Lexeme,
+) -> Result<Option<Remedy>, AllocError> {
     let name = site.next_lexeme(1);
-    let message = "classes of characters have names";
     let replacement = match site.text_of(name) {
         "d" => "ASCII_DIGIT",
         "n" => "NEWLINE",
+        "s" => "(\" \" | \"\\t\" | NEWLINE)",
         "w" => "(ASCII_ALPHANUMERIC | \"_\")",
-        _ => return Help::say(alloc, "an escape is in a string, as `\"\\n\"`"),
+        _ => return Ok(say_sign(SignMistake::RegexEscape)),
     };
-    Ok(Some(Help::replace(alloc, message, here.start, name.end, replacement)?))
+    fix_sign(
+        alloc,
+        SignMistake::RegexClass,
+        here.start,
+        name.end,
+        replacement,
+    )
 }
 
-/// A help for a name in angle brackets.
-fn at_angle(alloc: Global, site: &Site<'_>, here: Lexeme) -> Result<Option<Help>, AllocError> {
+/// The remedy of a name in angle brackets.
+fn at_angle(alloc: Global, site: &Site<'_>, here: Lexeme) -> Result<Option<Remedy>, AllocError> {
+    let before = site.previous_lexeme(1);
+    if before.class == LexemeClass::Name && before.end == here.start {
+        return Ok(say_outer(OuterMistake::Parameters));
+    }
     let name = site.next_lexeme(1);
     let close = site.next_lexeme(2);
-    let message = "names of rules are written without `<` and `>`";
     if name.class != LexemeClass::Name || !is_sign(close, b'>') {
         return Ok(None);
     }
     let text = site.text_of(name);
-    Ok(Some(Help::replace(alloc, message, here.start, close.end, text)?))
+    fix_outer(
+        alloc,
+        OuterMistake::AngleBrackets,
+        here.start,
+        close.end,
+        text,
+    )
 }

@@ -1,70 +1,114 @@
 //! Hints in bodies: missing operators, operands and closing brackets.
-use crate::help::Help;
-use crate::lexer::{Lexeme, LexemeClass};
-use crate::literals::{after_character, inner_of, range_of_strings};
-use crate::outer::foreign_help;
-use crate::site::{Site, ends_term, is_sign};
+use crate::help::{Fix, Remedy};
+use crate::literals::{after_character, inner_of, range_of_strings, say_literal};
+use crate::mistakes::{LiteralMistake, Mistake, SignMistake, TermMistake};
+use crate::signs::say_sign;
+use hint_lexemes::{Lexeme, LexemeClass, Site, ends_term, is_sign};
 use std::alloc::{AllocError, Global};
 
-/// A help for an expression where none may begin.
-pub(crate) fn at_term(alloc: Global, site: &Site<'_>) -> Result<Option<Help>, AllocError> {
+/// A remedy without a fix.
+pub(crate) fn say_term(mistake: TermMistake) -> Option<Remedy> {
+    Some(Remedy {
+        mistake: Mistake::Term(mistake),
+        fix: None,
+    })
+}
+
+/// A remedy that replaces the bytes `start..end`.
+fn fix_term(
+    alloc: Global,
+    mistake: TermMistake,
+    start: usize,
+    end: usize,
+    replacement: &str,
+) -> Result<Option<Remedy>, AllocError> {
+    let fix = Fix::new(alloc, start, end, replacement)?;
+    Ok(Some(Remedy {
+        mistake: Mistake::Term(mistake),
+        fix: Some(fix),
+    }))
+}
+
+/// The remedy of an expression where none may begin.
+pub(crate) fn at_term(alloc: Global, site: &Site<'_>) -> Result<Option<Remedy>, AllocError> {
     let before = site.previous_lexeme(1);
     if is_sign(before, b'.') && is_sign(site.previous_lexeme(2), b'.') {
         return range_of_strings(alloc, site, site.previous_lexeme(3), site.here());
     }
-    if let Some(help) = after_name(alloc, site)? {
-        return Ok(Some(help));
+    if is_sign(before, b'^') {
+        return Ok(say_term(TermMistake::Caret));
     }
-    if let Some(help) = after_character(alloc, site)? {
-        return Ok(Some(help));
+    if let Some(remedy) = after_name(alloc, site)? {
+        return Ok(Some(remedy));
     }
-    if before.class == LexemeClass::Text && has_line_end(inner_of(site, before)) {
-        return Help::say(
-            alloc,
-            "the string before this one goes over a line's end; a quote may be missing",
-        );
+    if is_prefix(site, before, "i") {
+        return fix_term(alloc, TermMistake::AnyCase, before.start, before.end, "^");
     }
-    if is_any_case(site, before) {
-        let message = "text in any case is written `^\"a\"`";
-        return Ok(Some(Help::replace(alloc, message, before.start, before.end, "^")?));
+    if let Some(mistake) = word_mistake(site) {
+        return Ok(say_term(mistake));
+    }
+    if let Some(remedy) = after_character(alloc, site)? {
+        return Ok(Some(remedy));
+    }
+    if site.here().class == LexemeClass::OpenText {
+        return Ok(say_literal(LiteralMistake::OpenString));
     }
     if !ends_term(before) {
         return Ok(None);
     }
-    missing_tilde(alloc, site, before)
+    lost_tilde(alloc, site, before)
 }
 
-/// Whether an `i` is right before a string, as in other notations.
-fn is_any_case(site: &Site<'_>, before: Lexeme) -> bool {
+/// The mistake that a word or a string around the error shows.
+fn word_mistake(site: &Site<'_>) -> Option<TermMistake> {
+    let before = site.previous_lexeme(1);
+    if before.class == LexemeClass::Text && inner_of(site, before).contains('\n') {
+        return Some(TermMistake::LostQuote);
+    }
+    if is_prefix(site, before, "r") {
+        return Some(TermMistake::RawString);
+    }
+    match word_of(site, site.here()) {
+        None => word_of(site, before),
+        mistake => mistake,
+    }
+}
+
+/// Whether this name is right before a string, as in other notations.
+fn is_prefix(site: &Site<'_>, before: Lexeme, name: &str) -> bool {
     let here = site.here();
-    here.class == LexemeClass::Text && before.end == here.start && site.text_of(before) == "i"
+    here.class == LexemeClass::Text && before.end == here.start && site.text_of(before) == name
 }
 
-/// Whether a text has a line's end.
-fn has_line_end(text: &str) -> bool {
-    text.contains('\n')
+/// The mistake of a word that other notations have for an operator.
+fn word_of(site: &Site<'_>, lexeme: Lexeme) -> Option<TermMistake> {
+    match site.text_of(lexeme) {
+        "or" | "and" | "not" | "OR" | "AND" | "NOT" => Some(TermMistake::Word),
+        "except" | "but" | "without" => Some(TermMistake::Except),
+        "to" => Some(TermMistake::WordRange),
+        _ => None,
+    }
 }
 
-/// A help for two expressions with no operator between them.
-fn missing_tilde(
+/// The remedy of two expressions with no operator between them.
+fn lost_tilde(
     alloc: Global,
     site: &Site<'_>,
     before: Lexeme,
-) -> Result<Option<Help>, AllocError> {
+) -> Result<Option<Remedy>, AllocError> {
     let here = site.here();
     if is_apart(site, before) {
-        return Help::say(
-            alloc,
-            "a sequence is written `a ~ b`; `+`, `*` and `?` repeat what is before them",
-        );
+        return Ok(say_term(TermMistake::Plus));
     }
-    let message = "a sequence is written with `~`";
+    if before.class == LexemeClass::Name && before.end == here.start && is_sign(here, b'(') {
+        return Ok(say_term(TermMistake::Arguments));
+    }
     let tilde = if before.end == here.start {
         " ~ "
     } else {
         " ~"
     };
-    Ok(Some(Help::replace(alloc, message, before.end, before.end, tilde)?))
+    fix_term(alloc, TermMistake::LostTilde, before.end, before.end, tilde)
 }
 
 /// Whether a postfix operator has blanks on both sides, as a binary one has.
@@ -73,95 +117,148 @@ fn is_apart(site: &Site<'_>, before: Lexeme) -> bool {
     is_operator && site.previous_lexeme(2).end < before.start && before.end < site.here().start
 }
 
-/// A help where the name before the error says what was meant: a modifier, or a builtin that takes
+/// The remedy where the name before the error says what was meant: a tag, a modifier, or a builtin that takes
 /// parentheses or none.
-fn after_name(alloc: Global, site: &Site<'_>) -> Result<Option<Help>, AllocError> {
+fn after_name(alloc: Global, site: &Site<'_>) -> Result<Option<Remedy>, AllocError> {
     let before = site.previous_lexeme(1);
     if before.class != LexemeClass::Name {
         return Ok(None);
     }
+    if is_sign(site.previous_lexeme(2), b'#') {
+        return fix_term(alloc, TermMistake::TagSign, before.end, before.end, " =");
+    }
     let is_first = is_sign(site.previous_lexeme(2), b'{') && is_sign(site.previous_lexeme(3), b'=');
     let is_called = is_sign(site.here(), b'(');
     match site.text_of(before) {
-        "_" if is_first => modifier(alloc, site, before, "_{"),
-        "PUSH" if !is_called => Help::say(
-            alloc,
-            "`PUSH` takes its expression in parentheses: `PUSH(e)`",
-        ),
-        "PUSH_LITERAL" if !is_called => {
-            Help::say(
+        "_" if is_first => late_modifier(alloc, site, before, "_{"),
+        "push" if is_called => {
+            fix_term(
                 alloc,
-                "`PUSH_LITERAL` takes a string in parentheses: `PUSH_LITERAL(\"a\")`",
+                TermMistake::SmallPush,
+                before.start,
+                before.end,
+                "PUSH",
             )
         }
-        "PEEK" if is_called => Help::say(
-            alloc,
-            "`PEEK` takes bounds in brackets, as `PEEK[0..1]`, or nothing",
-        ),
-        "POP" | "DROP" | "PEEK_ALL" | "POP_ALL" if is_called => {
-            Help::say(
-                alloc,
-                "`POP`, `POP_ALL`, `DROP` and `PEEK_ALL` take no parentheses",
-            )
-        }
-        _ => Ok(None),
+        name => Ok(after_builtin(name, is_called)),
     }
 }
 
-/// A help for a modifier after the brace, which begins at the lexeme before it.
-pub(crate) fn modifier(
+/// The remedy of a builtin of this name that is called with parentheses or without.
+fn after_builtin(name: &str, is_called: bool) -> Option<Remedy> {
+    match name {
+        "PUSH" if !is_called => say_term(TermMistake::Push),
+        "PUSH_LITERAL" if !is_called => say_term(TermMistake::PushLiteral),
+        "PEEK" if is_called => say_term(TermMistake::Peek),
+        "POP" | "DROP" | "PEEK_ALL" | "POP_ALL" if is_called => say_term(TermMistake::Pop),
+        _ => None,
+    }
+}
+
+/// The remedy of a modifier after the brace, which begins at the lexeme before it.
+pub(crate) fn late_modifier(
     alloc: Global,
     site: &Site<'_>,
     sign: Lexeme,
     replacement: &str,
-) -> Result<Option<Help>, AllocError> {
+) -> Result<Option<Remedy>, AllocError> {
     let brace = site.open.last().copied().unwrap_or(sign);
-    let message = "a modifier is before the brace";
-    Ok(Some(Help::replace(alloc, message, brace.start, sign.end, replacement)?))
+    fix_term(
+        alloc,
+        TermMistake::LateModifier,
+        brace.start,
+        sign.end,
+        replacement,
+    )
 }
 
-/// A help for a name or a number in a body.
+/// The remedy of a name in a body.
 pub(crate) fn at_name(
     alloc: Global,
     site: &Site<'_>,
     here: Lexeme,
-) -> Result<Option<Help>, AllocError> {
-    if is_sign(site.next_lexeme(1), b'.') && is_sign(site.next_lexeme(2), b'.') {
+) -> Result<Option<Remedy>, AllocError> {
+    if has_dots(site) {
         return range_of_strings(alloc, site, here, site.next_lexeme(3));
     }
-    if is_sign(site.previous_lexeme(1), b'^') {
-        return Help::say(alloc, "`^` is followed by a string");
-    }
-    if here.class == LexemeClass::Digits {
-        return Ok(None);
-    }
-    if site.text_of(here).starts_with("PUSH") && !ends_term(site.previous_lexeme(1)) {
-        return Help::say(
+    let before = site.previous_lexeme(1);
+    if site.text_of(here) == "i" && before.class == LexemeClass::Text && before.end == here.start {
+        let text = format!(in alloc; "^{}", site.text_of(before))?;
+        return fix_term(
             alloc,
-            "`PUSH` takes its expression in parentheses, and no name begins with it",
+            TermMistake::AnyCase,
+            before.start,
+            here.end,
+            text.as_str(),
         );
+    }
+    if is_sign(before, b'(') && site.text_of(site.previous_lexeme(2)) == "PUSH_LITERAL" {
+        return Ok(say_term(TermMistake::PushLiteral));
+    }
+    if site.text_of(here).starts_with("PUSH") && !ends_term(before) {
+        return Ok(say_term(TermMistake::PushPrefix));
     }
     at_term(alloc, site)
 }
 
-/// A help for characters beyond ASCII in a body.
-pub(crate) fn foreign(
+/// Whether two dots are after the error.
+fn has_dots(site: &Site<'_>) -> bool {
+    is_sign(site.next_lexeme(1), b'.') && is_sign(site.next_lexeme(2), b'.')
+}
+
+/// The remedy of a number in a body: a bound of a range, or a count without braces.
+pub(crate) fn at_digits(
     alloc: Global,
     site: &Site<'_>,
     here: Lexeme,
-) -> Result<Option<Help>, AllocError> {
-    foreign_help(alloc, site.text_of(here), here)
+) -> Result<Option<Remedy>, AllocError> {
+    let before = site.previous_lexeme(1);
+    if has_dots(site) {
+        return range_of_strings(alloc, site, here, site.next_lexeme(3));
+    }
+    if is_sign(before, b'^') {
+        return Ok(say_term(TermMistake::Caret));
+    }
+    if is_sign(before, b'*') && ends_term(site.previous_lexeme(2)) {
+        let text = format!(in alloc; "{{{}}}", site.text_of(here))?;
+        return fix_term(
+            alloc,
+            TermMistake::EarlyCount,
+            before.start,
+            here.end,
+            text.as_str(),
+        );
+    }
+    Ok(say_term(TermMistake::EarlyCount))
 }
 
-/// A help at the end of the text, where brackets are open.
-pub(crate) fn at_end(alloc: Global, site: &Site<'_>) -> Result<Option<Help>, AllocError> {
+/// The remedy of an error in the braces of a count: another sign between two numbers, or no count at all.
+pub(crate) fn in_count(alloc: Global, site: &Site<'_>) -> Result<Option<Remedy>, AllocError> {
+    let before = site.previous_lexeme(1);
+    let after = site.next_lexeme(if has_other_dot(site) { 2 } else { 1 });
+    let is_between = matches!(site.text_of(site.here()), "." | "-" | ":" | ";");
+    if is_between && before.class == LexemeClass::Digits && after.class == LexemeClass::Digits {
+        return fix_term(alloc, TermMistake::CountSign, before.end, after.start, ", ");
+    }
+    Ok(say_term(TermMistake::Count))
+}
+
+/// Whether two dots are at the error.
+fn has_other_dot(site: &Site<'_>) -> bool {
+    is_sign(site.here(), b'.') && is_sign(site.next_lexeme(1), b'.')
+}
+
+/// The remedy at the end of the text, where brackets are open.
+pub(crate) fn at_end(alloc: Global, site: &Site<'_>) -> Result<Option<Remedy>, AllocError> {
     let last = site.previous_lexeme(1);
     if last.class == LexemeClass::OpenText {
-        return Help::say(alloc, "a string is closed by `\"`");
+        return Ok(say_literal(LiteralMistake::OpenString));
+    }
+    if site.is_within(b'(') {
+        return Ok(say_sign(SignMistake::OpenParenthesis));
     }
     if site.is_within(b'{') && site.open.len() == 1 && ends_term(last) {
-        let message = "the last rule has no closing brace";
-        return Ok(Some(Help::replace(alloc, message, last.end, last.end, " }")?));
+        return fix_term(alloc, TermMistake::LastRule, last.end, last.end, " }");
     }
     Ok(None)
 }

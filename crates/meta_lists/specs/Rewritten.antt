@@ -31,7 +31,7 @@ abbrev pub is_empty : Text → Bool
 is_empty [] = true
 is_empty (c ∷ t) = false
 
--- it cannot fail; `f`: the names of such rules
+-- an expression cannot fail; `f`: the names of such rules
 abbrev pub cannot_fail : (Text → Bool) → Expression → Bool
 cannot_fail f (Opt e) = true
 cannot_fail f (Rep e) = true

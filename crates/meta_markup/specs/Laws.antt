@@ -1,9 +1,13 @@
--- Texts that are escaped stay texts: nothing in them is markup.
-use Rattle.std.specs.Prelude.{◌≡◌, ℕ, List, [], ◌∷◌, ◌++◌, Bool, ◌||◌, ◌==◌, false, true, codes}
+-- Texts that are escaped stay texts: nothing in them is markup. Links lead to sections.
+use Rattle.std.specs.Prelude.{◌≡◌, ℕ, ◌<◌, ◌≤◌, List, [], ◌∷◌, ◌++◌, Bool, ◌||◌, ◌==◌, false, true, codes, length}
 use Rattle.std.specs.List.{Contains, flat_map}
+use Rattle.meta_base.specs.Language.Expression.{Grammar}
 use Rattle.meta_markup.specs.Ebnf.{comment_character, is_plain, plain_character}
 use Rattle.meta_markup.specs.Escape.{escaped, visible}
 use Rattle.meta_markup.specs.Markdown.{code_character, inline_character, is_punctuation}
+use Rattle.meta_markup.specs.Pages.{IsPage}
+use Rattle.meta_markup.specs.Tokens.{token_bytes}
+use Rattle.meta_markup.specs.declared.tokens.Markup.TheVariants as token
 
 -- `<`, `>`, `&` or a quote
 abbrev pub is_special : ℕ → Bool
@@ -60,3 +64,20 @@ StringsArePlain = (t : List ℕ) → IsPlainText (flat_map plain_character t)
 
 abbrev pub CommentsAreInert : Type 0
 CommentsAreInert = (t : List ℕ) → IsInertComment (flat_map comment_character t)
+
+-- a link to a section that is on a page
+pub record LeadsToSection (page link : List ℕ) : Type 0 where
+  pub id : List ℕ
+  pub target : link ≡ codes " href=\"#" ++ id ++ codes "\""
+  pub before : List ℕ
+  pub after : List ℕ
+  pub section : page ≡ before ++ codes "<section id=\"" ++ id ++ codes "\">" ++ after
+
+-- on a page, a link to one of its rules leads to a section, and a link to any other is not written
+abbrev pub LinksLead : Type 0
+LinksLead = (title : List ℕ) (rules : Grammar) (page : List ℕ) (p : IsPage title rules page) (r : ℕ)
+    → r < length rules → LeadsToSection page (token_bytes p.names (token.Link r))
+
+abbrev pub NoLinksElsewhere : Type 0
+NoLinksElsewhere = (title : List ℕ) (rules : Grammar) (page : List ℕ) (p : IsPage title rules page) (r : ℕ)
+    → length rules ≤ r → token_bytes p.names (token.Link r) ≡ []

@@ -1,6 +1,7 @@
 pub mod Ebnf
 pub mod Escape
 pub mod Laws
+pub mod Links
 pub mod Markdown
 pub mod Pages
 pub mod Template

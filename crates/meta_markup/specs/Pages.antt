@@ -1,12 +1,14 @@
 -- Documents of grammars, with all rules in order, by their names and printed expressions.
-use Rattle.std.specs.Prelude.{◌≡◌, ℕ, List, [], ◌∷◌, ◌++◌, codes, encode_utf8_all, map}
+use Rattle.std.specs.Prelude.{◌≡◌, ℕ, List, [], ◌∷◌, ◌++◌, codes, encode_utf8_all, length, map}
 use Rattle.std.specs.Borrow.{Bor}
+use Rattle.std.specs.List.{range_with_len}
 use Rattle.std.specs.Str.{chars}
 use Rattle.meta_base.specs.Language.Text.{Text}
 use Rattle.meta_base.specs.Language.Expression.{Grammar, Rule}
 use Rattle.meta_ast.specs.Printing.{printed}
 use Rattle.meta_markup.specs.Ebnf.{ebnf_bytes, plain_text}
 use Rattle.meta_markup.specs.Escape.{escaped_bytes, escaped_text}
+use Rattle.meta_markup.specs.Links.{AreLinksWithin, links_of}
 use Rattle.meta_markup.specs.Markdown.{code_bytes, inline_bytes, inline_text, markdown_bytes}
 use Rattle.meta_markup.specs.Template.{body, diagram_style, foot, head, style}
 use Rattle.meta_markup.specs.Tokens.{markup_bytes}
@@ -71,10 +73,11 @@ abbrev pub markdown_start : List ℕ → List (Bor (List ℕ)) → List Markdown
 markdown_start title names introduction =
     codes "# " ++ inline_bytes title ++ codes "\n\n" ++ markdown_bytes names introduction
 
--- sections of rules, one after another
+-- sections of rules, one after another, with links to rules of these names alone
 pub data AreSections (names : List (Bor (List ℕ))) : Grammar → List ℕ → Type 0 where
   no_sections : AreSections names [] []
   more_sections : {rules : Grammar} {bytes : List ℕ} (r : Rule) (before after : List Markup)
+      → AreLinksWithin (length names) before → AreLinksWithin (length names) after
       → AreSections names rules bytes
       → AreSections names (rules ++ r ∷ []) (bytes ++ section_bytes names r before after)
 
@@ -90,11 +93,12 @@ pub data AreDefinitions : Grammar → List ℕ → Type 0 where
       → AreDefinitions rules bytes
       → AreDefinitions (rules ++ r ∷ []) (bytes ++ definition_bytes r body)
 
--- a page of rules
+-- a page of rules, which first links to each of them
 pub record IsPage (title : List ℕ) (rules : Grammar) (page : List ℕ) : Type 0 where
   pub names : List (Bor (List ℕ))
   pub are_names : AreNames rules names
   pub introduction : List Markup
+  pub listed : links_of introduction ≡ range_with_len 0 (length rules)
   pub sections : List ℕ
   pub are_sections : AreSections names rules sections
   pub whole : page ≡ page_start title names introduction ++ sections ++ foot

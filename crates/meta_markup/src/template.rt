@@ -24,7 +24,7 @@ section { border-top: 1px solid var(--line); } section h2 { font-family: ui-mono
 h1, h2, li, code, dd { overflow-wrap: anywhere; }\n\
 .modifier { color: var(--faint); margin: 0; } .warning { color: var(--alert); }\n\
 a { color: var(--link); }\n\
-nav ul { columns: 17rem; padding-left: 1.2rem; }\n\
+nav ul { columns: 17rem; column-gap: 2.5rem; padding-left: 1.2rem; }\n\
 pre { padding: .6rem .8rem; border: 1px solid var(--line); border-radius: 6px; overflow-x: auto; }\n\
 code { font: 13px/1.45 ui-monospace, monospace; } details code { white-space: pre-wrap; }\n\
 dl { display: grid; grid-template-columns: max-content 1fr; gap: .2rem 1rem; margin: .5rem 0 1rem; }\n\

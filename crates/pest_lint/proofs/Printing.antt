@@ -7,9 +7,8 @@ use Rattle.std.specs.Io.KnownBytes.{Appends}
 use Rattle.diagnostic_data.specs.Reports.{is_error}
 use Rattle.diagnostic_data.specs.declared.diagnostic.Diagnostic.{Diagnostic}
 use Rattle.lint_output.specs.declared.Style.{Style}
-use Rattle.meta_base.specs.Language.Text.{Text}
-use Rattle.meta_diagnostics.specs.Diagnosis.{IsDiagnosis}
-use Rattle.pest_lint.specs.Shows.{ArePrinted, Gains, IsReadable, ShowsText, counts, read, status_of, unread}
+use Rattle.meta_diagnostics.specs.Diagnosis.{IsDiagnosisWith}
+use Rattle.pest_lint.specs.Shows.{ArePrinted, Asked, Gains, IsReadable, ShowsText, counts, read, status_of, unread}
 use Rattle.pest_lint.specs.declared.lint.Source.{Source}
 
 -- two gains in turn, and none
@@ -73,15 +72,15 @@ pub clean_status : (deny : Bool) (ds : List Diagnostic) (b : Bool) → b ≡ lis
 clean_status deny ds b e h = subst (λ (x : Bool). ◌≡◌ {A = ℕ} 0 (if x then 1 else 0)) (sym h ∙ e) refl
 
 -- a file's text is shown, and of one that can't be read nothing
-pub shown_text : (starts : List Text) (deny : Bool) (style : Style) (source : Source) (text : List ℕ) (status : ℕ) (old new : Option (List ℕ)) → IsReadable source → text ≡ source.bytes.items
-    → (bytes : List ℕ) × ShowsText starts deny style text bytes status × Appends old new bytes → Gains starts deny style source status old new
-shown_text starts deny style source text status old new readable same h =
-    (h.0, read h.0 status readable (subst (λ t. ShowsText starts deny style t h.0 status) same h.1), h.2)
+pub shown_text : (asked : Asked) (style : Style) (source : Source) (text : List ℕ) (status : ℕ) (old new : Option (List ℕ)) → IsReadable source → text ≡ source.bytes.items
+    → (bytes : List ℕ) × ShowsText asked style text bytes status × Appends old new bytes → Gains asked style source status old new
+shown_text asked style source text status old new readable same h =
+    (h.0, read h.0 status readable (subst (λ t. ShowsText asked style t h.0 status) same h.1), h.2)
 
-pub shown_unread : (starts : List Text) (deny : Bool) (style : Style) (source : Source) (old : Option (List ℕ)) → (IsReadable source → ⊥) → Gains starts deny style source 3 old old
-shown_unread starts deny style source old refuse = ([], unread refuse, no_gain old)
+pub shown_unread : (asked : Asked) (style : Style) (source : Source) (old : Option (List ℕ)) → (IsReadable source → ⊥) → Gains asked style source 3 old old
+shown_unread asked style source old refuse = ([], unread refuse, no_gain old)
 
 -- the diagnostics of a text are printed, all of them
-pub text_shown : (starts : List Text) (deny : Bool) (style : Style) (text : List ℕ) (ds : List Diagnostic) (status : ℕ) (old new : Option (List ℕ)) → IsDiagnosis starts text ds → status ≡ status_of deny ds
-    → (bytes : List ℕ) × ArePrinted style ds bytes × Appends old new bytes → (bytes : List ℕ) × ShowsText starts deny style text bytes status × Appends old new bytes
-text_shown starts deny style text ds status old new d whole h = (h.0, record { diagnostics = ds; diagnosis = d; printed = h.1; whole = whole }, h.2)
+pub text_shown : (asked : Asked) (style : Style) (text : List ℕ) (ds : List Diagnostic) (status : ℕ) (old new : Option (List ℕ)) → IsDiagnosisWith asked.all asked.starts text ds → status ≡ status_of asked.deny ds
+    → (bytes : List ℕ) × ArePrinted style ds bytes × Appends old new bytes → (bytes : List ℕ) × ShowsText asked style text bytes status × Appends old new bytes
+text_shown asked style text ds status old new d whole h = (h.0, record { diagnostics = ds; diagnosis = d; printed = h.1; whole = whole }, h.2)

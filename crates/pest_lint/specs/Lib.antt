@@ -1,1 +1,2 @@
+pub mod Fixing
 pub mod Shows

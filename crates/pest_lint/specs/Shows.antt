@@ -7,11 +7,26 @@ use Rattle.diagnostic_data.specs.declared.diagnostic.Diagnostic.{Diagnostic}
 use Rattle.lint_output.specs.Prints.{IsPrinted}
 use Rattle.lint_output.specs.declared.Style.{Style}
 use Rattle.meta_base.specs.Language.Text.{Text}
-use Rattle.meta_diagnostics.specs.Diagnosis.{IsDiagnosis}
+use Rattle.meta_diagnostics.specs.Diagnosis.{IsDiagnosisWith}
+use Rattle.meta_warnings.specs.Lists.{texts_of}
 use Rattle.pest_lint.specs.declared.arguments.Format.{Format}
 use Rattle.pest_lint.specs.declared.arguments.Format.TheVariants as format
+use Rattle.pest_lint.specs.declared.arguments.Settings.{Settings}
 use Rattle.pest_lint.specs.declared.lint.Source.{Source}
 use Rattle.pest_meta.specs.Spelling.{HasAnswer}
+
+-- what is asked for: rules that are starts, all warnings or not, and whether warnings count
+pub record Asked : Type 0 where
+  pub starts : List Text
+  pub all : Bool
+  pub deny : Bool
+
+abbrev pub asked_of : Settings → Asked
+asked_of settings = record {
+  starts = texts_of settings.starts.now;
+  all = settings.warn_all;
+  deny = settings.deny_warnings;
+}
 
 -- the file could be read, and is text
 abbrev pub IsReadable : Source → Type 0
@@ -39,25 +54,22 @@ ArePrinted style diagnostics bytes = (texts : List (List ℕ))
     × AllZip (IsPrinted style) diagnostics texts × (bytes ≡ joined texts)
 
 -- a text's diagnostics are written, and the status is theirs
-pub record ShowsText (starts : List Text) (deny : Bool) (style : Style) (text bytes : List ℕ) (status : ℕ)
-    : Type 0 where
+pub record ShowsText (asked : Asked) (style : Style) (text bytes : List ℕ) (status : ℕ) : Type 0 where
   pub diagnostics : List Diagnostic
-  pub diagnosis : IsDiagnosis starts text diagnostics
+  pub diagnosis : IsDiagnosisWith asked.all asked.starts text diagnostics
   pub printed : ArePrinted style diagnostics bytes
-  pub whole : status ≡ status_of deny diagnostics
+  pub whole : status ≡ status_of asked.deny diagnostics
 
 -- of a file: nothing is written of one that can't be read or is not UTF-8 (3)
-pub data Shows (starts : List Text) (deny : Bool) (style : Style) (source : Source)
-    : List ℕ → ℕ → Type 0 where
-  unread : (IsReadable source → ⊥) → Shows starts deny style source [] 3
+pub data Shows (asked : Asked) (style : Style) (source : Source) : List ℕ → ℕ → Type 0 where
+  unread : (IsReadable source → ⊥) → Shows asked style source [] 3
   read : (bytes : List ℕ) (status : ℕ) → IsReadable source
-      → ShowsText starts deny style source.bytes.items bytes status
-      → Shows starts deny style source bytes status
+      → ShowsText asked style source.bytes.items bytes status → Shows asked style source bytes status
 
 -- a writer gained what is shown of a file
-abbrev pub Gains : List Text → Bool → Style → Source → ℕ → Option (List ℕ) → Option (List ℕ) → Type 0
-Gains starts deny style source status old new = (bytes : List ℕ) × Shows starts deny style source bytes status
-    × Appends old new bytes
+abbrev pub Gains : Asked → Style → Source → ℕ → Option (List ℕ) → Option (List ℕ) → Type 0
+Gains asked style source status old new =
+    (bytes : List ℕ) × Shows asked style source bytes status × Appends old new bytes
 
 -- the bytes that were written of a file, and its status
 pub record Look : Type 0 where
@@ -73,15 +85,14 @@ highest [] = 0
 highest (look ∷ looks) = max look.status (highest looks)
 
 -- a writer gained what is shown of each file, in order, and the status is the highest of theirs
-pub record GainsAll (starts : List Text) (deny : Bool) (style : Style) (sources : List Source) (status : ℕ)
+pub record GainsAll (asked : Asked) (style : Style) (sources : List Source) (status : ℕ)
     (old new : Option (List ℕ)) : Type 0 where
   pub looks : List Look
-  pub each : AllZip (λ source look. Shows starts deny style source look.bytes look.status) sources looks
+  pub each : AllZip (λ source look. Shows asked style source look.bytes look.status) sources looks
   pub whole : status ≡ highest looks
   pub gained : Appends old new (bytes_of looks)
 
 -- a writer gained all of that where diagnostics are printed one after another; of a log nothing is said
-abbrev pub GainsIn : Format → List Text → Bool → List Source → ℕ → Option (List ℕ) → Option (List ℕ) → Type 0
-GainsIn (format.Stream style) starts deny sources status old new =
-    GainsAll starts deny style sources status old new
-GainsIn format.Log starts deny sources status old new = ⊤
+abbrev pub GainsIn : Format → Asked → List Source → ℕ → Option (List ℕ) → Option (List ℕ) → Type 0
+GainsIn (format.Stream style) asked sources status old new = GainsAll asked style sources status old new
+GainsIn format.Log asked sources status old new = ⊤

@@ -21,6 +21,8 @@ pub struct Settings<'a> {
     pub format: Format,
     /// The status counts warnings, too.
     pub deny_warnings: bool,
+    /// All warnings are reported.
+    pub warn_all: bool,
     /// Rules with which matching starts.
     pub starts: &'a [&'a str],
 }
@@ -44,6 +46,7 @@ pub fn command<'a>(alloc: Global) -> Result<Command<'a>, AllocError> {
         .arg(format_argument(alloc))?
         .arg(colour_argument(alloc))?
         .arg(flag(alloc, "deny-warnings", "Let warnings end with status 1"))?
+        .arg(warn_argument(alloc))?
         .arg(flag(
             alloc,
             "fix",
@@ -81,6 +84,15 @@ fn start_argument<'a>(alloc: Global) -> Arg<'a> {
         .help("A rule with which matching starts, so that it needs no call")
 }
 
+/// `--warn`.
+fn warn_argument<'a>(alloc: Global) -> Arg<'a> {
+    Arg::new(alloc, "warn")
+        .long("warn")
+        .value_name("all")
+        .value_parser(["all"].as_slice())
+        .help("Report names of keywords and builtins, and each rule without a call, too")
+}
+
 /// `--explain`.
 fn explain_argument<'a>(alloc: Global) -> Arg<'a> {
     Arg::new(alloc, "explain")
@@ -97,8 +109,12 @@ fn flag<'a>(alloc: Global, name: &'static str, help: &'static str) -> Arg<'a> {
         .help(help)
 }
 
-/// The settings of a command line, where colours are asked for or not.
-pub fn settings_of<'a>(matches: &'a ArgMatches<'_>, has_colour: bool) -> Settings<'a>
+/// The settings of a command line, where colours are asked for or not, and rules of these names are starts.
+pub fn settings_of<'a>(
+    matches: &ArgMatches<'_>,
+    has_colour: bool,
+    starts: &'a [&'a str],
+) -> Settings<'a>
     ensures denied { one_text (found_of matches.entry.now) (codes "deny-warnings") ≡ Some (codes "true")
         → result.deny_warnings ≡ true }
     ensures accepted { one_text (found_of matches.entry.now) (codes "deny-warnings") ≡ None
@@ -107,11 +123,28 @@ pub fn settings_of<'a>(matches: &'a ArgMatches<'_>, has_colour: bool) -> Setting
         → result.format ≡ Format.Log }
     ensures json { first_value (found_of matches.entry.now) (codes "format") ≡ Some (codes "json")
         → result.format ≡ Format.Stream Style.Json }
+    ensures all { first_value (found_of matches.entry.now) (codes "warn") ≡ Some (codes "all")
+        → result.warn_all ≡ true }
+    ensures some { first_value (found_of matches.entry.now) (codes "warn") ≡ None
+        → result.warn_all ≡ false }
+    ensures starts { result.starts.now ≡ starts.entry.now }
 {
     Settings {
         format: format_of(matches, has_colour),
         deny_warnings: matches.get_flag("deny-warnings"),
-        starts: matches.get_strs("start").unwrap_or(&[]),
+        warn_all: is_all(matches),
+        starts,
+    }
+}
+
+/// Whether all warnings are asked for.
+pub fn is_all(matches: &ArgMatches<'_>) -> bool
+    ensures all { first_value (found_of matches.now) (codes "warn") ≡ Some (codes "all") → result ≡ true }
+    ensures some { first_value (found_of matches.now) (codes "warn") ≡ None → result ≡ false }
+{
+    match matches.get_str("warn") {
+        Some("all") => true,
+        _ => false,
     }
 }
 

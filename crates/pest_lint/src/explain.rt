@@ -53,10 +53,17 @@ fn explanation_of_rules(code: Code) -> &'static str {
 /// The page of the code of a warning.
 fn explanation_of_warnings(code: Code) -> &'static str {
     match code {
+        Code::UnusedAllowance => {
+            "A comment allows a warning that is not there, or names no code.\n\n    \
+             // pest-lint: allow(pest::idle_test)\n    a = { \"x\" }\n\n\
+             Such a comment is a line right above the rule, and allows one code there; the first 256 of a \
+             text count. Errors are not allowed."
+        }
         Code::UncalledRule => {
             "A rule is not needed. It is needed if another rule calls it, if it calls SOI or EOI, if --start \
              names it, or if it is WHITESPACE or COMMENT. Where no rule calls SOI or EOI, the first rule is \
-             taken for the start, and where that one is called, nothing is reported."
+             taken for the start, and where that one is called, nothing is reported. --warn all takes no \
+             rule for the start."
         }
         Code::Unreachable => {
             "A literal or a call before an alternative begins all that it matches, so it is never \
@@ -74,6 +81,13 @@ fn explanation_of_warnings(code: Code) -> &'static str {
              a = { ANY*? ~ \"x\" }\n\n\
              No repetition is lazy: write (!\"x\" ~ ANY)* for what is before an \"x\"."
         }
+        _ => explanation_of_tokens(code),
+    }
+}
+
+/// The page of the code of a warning about what is taken, or about names.
+fn explanation_of_tokens(code: Code) -> &'static str {
+    match code {
         Code::BlanksInToken => {
             "Where WHITESPACE or COMMENT is defined, it is skipped between the parts of a rule, also between \
              the characters of a repetition.\n\n    \
@@ -95,8 +109,18 @@ fn explanation_of_warnings(code: Code) -> &'static str {
         Code::RewrittenList => {
             "The optimizer turns (x ~ y)* ~ x into x ~ (y ~ x)*, which matches more.\n\n    \
              a = { (b ~ \",\")* ~ b }\n    b = { \"x\" }\n\n\
-             As it is written, this fails on \"x,\"; pest takes the x. An x that cannot fail is not told, nor \
-             is an Atomic rule with (!c ~ n)*."
+             As it is written, this fails on \"x,\"; pest takes the x. An x that cannot fail is not told, \
+             nor is an Atomic rule with (!c ~ n)*."
+        }
+        Code::KeywordName => {
+            "A rule is named as a keyword of Rust. Reported only with --warn all.\n\n    \
+             match = { \"x\" }\n\n\
+             In Rust it is Rule::r#match. A rule named self, Self, super or crate has no name there."
+        }
+        Code::BuiltinName => {
+            "A rule is named as a builtin, and takes its place. Or it is named as one of pest 1, as any, \
+             eoi or whitespace, and is a rule like others. Reported only with --warn all.\n\n    \
+             LETTER = { 'a'..'z' }\n    whitespace = _{ \" \" }"
         }
         _ => {
             "An expression succeeds on no text.\n\n    a = { ANY* ~ \"x\" }\n\n\

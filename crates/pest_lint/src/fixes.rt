@@ -1,4 +1,8 @@
 //! Fixing files.
+ghost use Rattle.std.specs.Prelude.{◌≡◌, ◌⊎◌, IfOk, OnOk};
+ghost use Rattle.std.specs.List.{AllZip};
+ghost use Rattle.pest_lint.specs.Fixing.{IsKept};
+
 use crate::lint::{CLEAN, Source, UNWRITABLE, text_of};
 use lint_fixes::mend;
 use lint_output::to_visible;
@@ -17,15 +21,16 @@ struct Tally {
 /// Fixes files, and replaces those that change. Standard error gets how many mistakes were fixed, and which
 /// files can't be replaced; these stay as they were, and the status is 4, else 0. Standard input is left
 /// alone. The only error is an allocation failure.
-pub fn fix_files(rt: &HostRuntime, sources: &mut Vec<Source>) -> Result<u8, AllocError> {
+pub fn fix_files(rt: &HostRuntime, sources: &mut [Source]) -> Result<u8, AllocError>
+    ensures known { IfOk result (λ status. (status ≡ 0) ⊎ (status ≡ 4)) }
+    ensures kept { OnOk result (AllZip IsKept sources.old sources.new) }
+{
     let mut tally = Tally {
         fixes: 0,
         files: 0,
         refused: 0,
     };
-    for source in sources.iter_mut() {
-        fix_file(rt, source, &mut tally)?;
-    }
+    fix_all(rt, sources, &mut tally)?;
     report_tally(rt, tally);
     Ok(if tally.refused == 0 {
         CLEAN
@@ -34,8 +39,20 @@ pub fn fix_files(rt: &HostRuntime, sources: &mut Vec<Source>) -> Result<u8, Allo
     })
 }
 
+/// Fixes files, in order.
+fn fix_all(rt: &HostRuntime, sources: &mut [Source], tally: &mut Tally) -> Result<(), AllocError>
+    ensures { OnOk result (AllZip IsKept sources.old sources.new) }
+{
+    for source in sources.iter_mut() {
+        fix_file(rt, source, tally)?;
+    }
+    Ok(())
+}
+
 /// Fixes a file, and replaces it if it changes.
-fn fix_file(rt: &HostRuntime, source: &mut Source, tally: &mut Tally) -> Result<(), AllocError> {
+fn fix_file(rt: &HostRuntime, source: &mut Source, tally: &mut Tally) -> Result<(), AllocError>
+    ensures { OnOk result (IsKept source.old source.new) }
+{
     let alloc = rt.alloc();
     if source.name.as_str() == "-" {
         let _ = eprintln!(rt; "standard input is not fixed");
@@ -66,9 +83,17 @@ fn report_refusal(rt: &HostRuntime, name: &str, error: &io::Error) -> Result<(),
     Ok(())
 }
 
-/// Reports how many mistakes were fixed.
+/// Reports how many mistakes were fixed, or that nothing was to fix.
 fn report_tally(rt: &HostRuntime, tally: Tally) {
-    let Tally { fixes, files, .. } = tally;
+    let Tally {
+        fixes,
+        files,
+        refused,
+    } = tally;
+    if fixes == 0 && refused == 0 {
+        let _ = eprintln!(rt; "nothing was to fix");
+        return;
+    }
     let mistakes = if fixes == 1 { "mistake" } else { "mistakes" };
     let of_files = if files == 1 { "file" } else { "files" };
     let _ = eprintln!(rt; "fixed {fixes} {mistakes} in {files} {of_files}");

@@ -1,17 +1,18 @@
 //! Diagnosing files.
-ghost use Rattle.std.specs.Prelude.{◌≡◌, ◌≢◌, ◌≤◌, ◌⊎◌, ◌↔◌, ℕ, List, All, IfSome, IsSome, true};
+ghost use Rattle.std.specs.Prelude.{◌≡◌, ◌≢◌, ◌≤◌, ◌⊎◌, ◌↔◌, ℕ, List, All, IfOk, IfSome, IsSome, false, true};
 ghost use Rattle.std.specs.Io.KnownBytes.{Appends};
 ghost use Rattle.std.specs.List.{list_any};
-ghost use Rattle.meta_diagnostics.specs.Diagnosis.{IsDiagnosis};
+ghost use Rattle.diagnostic_data.specs.Reports.{is_error};
+ghost use Rattle.meta_diagnostics.specs.Diagnosis.{IsDiagnosisWith};
 ghost use Rattle.meta_warnings.specs.Lists.{texts_of};
 ghost use Rattle.pest_lint.specs.Shows as spec;
-ghost use Rattle.pest_lint.specs.Shows.{ArePrinted, Gains, GainsAll, GainsIn, IsClean, IsReadable, ShowsText};
+ghost use Rattle.pest_lint.specs.Shows.{ArePrinted, Gains, GainsAll, GainsIn, IsClean, IsReadable, ShowsText, asked_of};
 ghost use Rattle.pest_meta.specs.Spelling.{HasAnswer};
 
 use crate::arguments::{Format, Settings};
 use lint_output::{LineIndex, Origin, Style, print_diagnostic, to_visible};
-use meta_diagnostics::{Diagnostic, Options, Severity, diagnose};
-use std::alloc::Global;
+use meta_diagnostics::{Diagnostic, Options, Severity, diagnose, diagnose_all};
+use std::alloc::{AllocError, Global};
 use std::io::Write;
 use tool_support::output::Output;
 
@@ -50,7 +51,7 @@ pub fn print_files<W: Write, E: Write>(
     ensures known { result ≤ 4 }
     ensures clean { result ≡ 0 → All IsClean sources.now }
     ensures shows { result ≢ 2 → result ≢ 4
-        → GainsAll (texts_of settings.entry.starts.now) settings.entry.deny_warnings style sources.now result
+        → GainsAll (asked_of settings.entry) style sources.now result
         (W.contents out.old.writer) (W.contents out.new.writer) }
     ensures taken { result ≢ 4 → out.new.refused ≡ out.old.refused }
     ensures refused_write { result ≡ 4 → out.new.refused ≡ true }
@@ -78,7 +79,7 @@ fn print_file<W: Write, E: Write>(
     ensures known { result ≤ 4 }
     ensures clean { result ≡ 0 → IsClean source.now }
     ensures shows { result ≢ 2 → result ≢ 4
-        → Gains (texts_of settings.entry.starts.now) settings.entry.deny_warnings style source.now result
+        → Gains (asked_of settings.entry) style source.now result
         (W.contents out.old.writer) (W.contents out.new.writer) }
     ensures taken { result ≢ 4 → out.new.refused ≡ out.old.refused }
     ensures refused_write { result ≡ 4 → out.new.refused ≡ true }
@@ -137,15 +138,12 @@ fn print_text<W: Write>(
     ensures known { (result ≡ 0) ⊎ ((result ≡ 1) ⊎ ((result ≡ 2) ⊎ (result ≡ 4))) }
     ensures clean { result ≡ 0 → HasAnswer text.now }
     ensures shows { result ≢ 2 → result ≢ 4 → (bytes : List ℕ)
-        × ShowsText (texts_of settings.entry.starts.now) settings.entry.deny_warnings style text.now bytes
-        result × Appends (W.contents out.old.writer) (W.contents out.new.writer) bytes }
+        × ShowsText (asked_of settings.entry) style text.now bytes result
+        × Appends (W.contents out.old.writer) (W.contents out.new.writer) bytes }
     ensures taken { result ≢ 4 → out.new.refused ≡ out.old.refused }
     ensures refused_write { result ≡ 4 → out.new.refused ≡ true }
 {
-    let options = Options {
-        starts: settings.starts,
-    };
-    let Ok(diagnostics) = diagnose(alloc, text, options) else {
+    let Ok(diagnostics) = diagnose_text(alloc, text, settings) else {
         return MEMORY;
     };
     let Ok(lines) = LineIndex::new(alloc, text) else {
@@ -161,6 +159,27 @@ fn print_text<W: Write>(
         return status;
     }
     status_of(&diagnostics, settings.deny_warnings)
+}
+
+/// The diagnostics of a text that are asked for.
+pub fn diagnose_text(
+    alloc: Global,
+    text: &str,
+    settings: Settings<'_>,
+) -> Result<Vec<Diagnostic>, AllocError>
+    ensures diagnosis { IfOk result (λ diagnostics. IsDiagnosisWith settings.entry.warn_all
+        (texts_of settings.entry.starts.now) text.now diagnostics.items) }
+    ensures accepted { IfOk result (λ diagnostics.
+        list_any is_error diagnostics.items ≡ false → HasAnswer text.now) }
+{
+    let options = Options {
+        starts: settings.starts,
+    };
+    if settings.warn_all {
+        diagnose_all(alloc, text, options)
+    } else {
+        diagnose(alloc, text, options)
+    }
 }
 
 /// The status of diagnostics: 1 where one is an error, or where warnings are denied and there are some.

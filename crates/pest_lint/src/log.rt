@@ -4,10 +4,11 @@ ghost use Rattle.pest_lint.specs.Shows.{IsClean};
 
 use crate::arguments::Settings;
 use crate::lint::{
-    CLEAN, MEMORY, Source, UNWRITABLE, report_memory, report_unreadable, status_of, text_of,
+    CLEAN, MEMORY, Source, UNWRITABLE, diagnose_text, report_memory, report_unreadable, status_of,
+    text_of,
 };
 use lint_output::{LineIndex, Origin, sarif_log, sarif_result};
-use meta_diagnostics::{Diagnostic, Options, diagnose};
+use meta_diagnostics::Diagnostic;
 use serde_json::Value;
 use std::alloc::{AllocError, Global};
 use std::io::Write;
@@ -56,10 +57,7 @@ fn log_file<E: Write>(
     let Some(text) = text_of(source) else {
         return report_unreadable(alloc, source, err);
     };
-    let options = Options {
-        starts: settings.starts,
-    };
-    let Ok(diagnostics) = diagnose(alloc, text, options) else {
+    let Ok(diagnostics) = diagnose_text(alloc, text, settings) else {
         report_memory(alloc, source, err);
         return MEMORY;
     };

@@ -2,8 +2,7 @@
 #![tactic(auto)]
 
 ghost use Rattle.std.specs.Prelude.{◌≡◌, ◌≢◌, ◌≤◌, All, None};
-ghost use Rattle.meta_warnings.specs.Lists.{texts_of};
-ghost use Rattle.pest_lint.specs.Shows.{GainsIn, IsClean};
+ghost use Rattle.pest_lint.specs.Shows.{GainsIn, IsClean, asked_of};
 
 mod arguments;
 mod explain;
@@ -12,7 +11,7 @@ mod lint;
 mod log;
 mod sources;
 
-use arguments::{Format, Settings, command, settings_of};
+use arguments::{Format, Settings, command, is_all, settings_of};
 use clap::ArgMatches;
 use explain::explanation;
 use fixes::fix_files;
@@ -20,7 +19,7 @@ use lint::{CLEAN, MEMORY, Source, UNREADABLE, UNWRITABLE, print_files};
 use log::log_files;
 use meta_diagnostics::Code;
 use sources::read_sources;
-use std::alloc::AllocError;
+use std::alloc::{AllocError, Global};
 use std::env;
 use std::io::IsTerminal;
 use std::process::ExitCode;
@@ -53,8 +52,7 @@ fn lint_files(rt: &HostRuntime, sources: &[Source], settings: Settings<'_>) -> u
     ensures known { result ≤ 4 }
     ensures clean { result ≡ 0 → All IsClean sources.now }
     ensures shows { result ≢ 2 → result ≢ 4
-        → GainsIn settings.entry.format (texts_of settings.entry.starts.now) settings.entry.deny_warnings
-        sources.now result None None }
+        → GainsIn settings.entry.format (asked_of settings.entry) sources.now result None None }
 {
     let mut out = Output::new(rt.stdout());
     let mut err = Output::new(rt.stderr());
@@ -80,6 +78,19 @@ fn print_page(rt: &HostRuntime, name: &str) -> u8 {
     }
 }
 
+/// The names of the rules that are starts. Where all warnings are asked for, one that no rule has is among
+/// them, so that the first rule is not taken for a start.
+fn starts_of<'a>(alloc: Global, matches: &'a ArgMatches<'_>) -> Result<Vec<&'a str>, AllocError> {
+    let mut starts = Vec::new(alloc);
+    for name in matches.get_strs("start").unwrap_or(&[]) {
+        starts.push(*name)?;
+    }
+    if is_all(matches) {
+        starts.push("SOI")?;
+    }
+    Ok(starts)
+}
+
 /// The status for a command line that was parsed.
 fn run(rt: &HostRuntime, matches: &ArgMatches<'_>) -> Result<u8, AllocError> {
     if let Some(name) = matches.get_str("explain") {
@@ -90,7 +101,8 @@ fn run(rt: &HostRuntime, matches: &ArgMatches<'_>) -> Result<u8, AllocError> {
         let _ = eprintln!(rt; "no file is named; pest-lint --help shows the usage");
         return Ok(UNREADABLE);
     }
-    let settings = settings_of(matches, has_colour(rt, matches.get_str("color")));
+    let starts = starts_of(rt.alloc(), matches)?;
+    let settings = settings_of(matches, has_colour(rt, matches.get_str("color")), &starts);
     let mut sources = read_sources(rt, names)?;
     let fixed = if matches.get_flag("fix") {
         fix_files(rt, &mut sources)?

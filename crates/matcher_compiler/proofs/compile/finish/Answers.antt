@@ -11,3 +11,4 @@ returns-clause-meets c = λ p.
     meets_plan p c.args.plan c.in_ok-code.code c.in_ok-code.ensures.ends met
     (λ set b bs h k. ap (λ z. char_len z set (b ∷ bs)) c.in_ok-code.ensures.same)
     (λ i h. ap (λ z. get_or (map (λ v. v.items) z.texts.items) i []) c.in_ok-code.ensures.same)
+    (λ i h. ap (λ z. get_or (map (λ v. v.items) z.lists.items) i []) c.in_ok-code.ensures.same)

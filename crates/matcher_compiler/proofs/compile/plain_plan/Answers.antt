@@ -10,4 +10,4 @@ returns-clause-ready c =
     let p = c.args.program.now in
     let w = subst (IsSkippedRule (grammar_in p) whitespace) c.requires.white c.requires.sound.whitespace_is in
     let m = subst (IsSkippedRule (grammar_in p) comment) c.requires.note c.requires.sound.comment_is in
-    subst (λ b. SkipsAs p c.in_ok-plan.plan.sets b) (sym c.in_ok-plan.ensures.blanks) (λ classes. tight_nowhere (grammar_in p) classes w m)
+    subst (λ b. SkipsAs p c.in_ok-plan.plan.sets b) (sym c.in_ok-plan.ensures.skips) (λ classes. tight_nowhere (grammar_in p) classes w m)

@@ -1,5 +1,12 @@
+use Rattle.meta_base.specs.Language.State.{Classes}
+use Rattle.matcher_program.specs.Programs.{Fits}
+use Rattle.matcher_compiler.specs.Differences.{MatchesOne}
+use Rattle.matcher_compiler.specs.Plans.{IsBoundIn}
 use Rattle.matcher_compiler.proofs.Choosing.{IsRest}
 use Rattle.matcher_compiler.proofs.difference.choice_ranges.Given as goal
 
 abbrev pub invariant-alternatives : goal.invariant-alternatives
-invariant-alternatives l = IsRest l.program l.form l.rest l.ranges.items
+invariant-alternatives l = record {
+  bound : IsBoundIn l.program l.rest;
+  rests : (classes : Classes) → Fits l.program.properties.items classes → IsRest (MatchesOne l.program classes) l.form l.rest l.ranges.items;
+}

@@ -1,5 +1,5 @@
 use Rattle.std.proofs.Common.{◌<◌, ◌∙◌, ap, arith, get_or, length, string_bytes}
-use Rattle.meta_doc.proofs.Gaining.{one_section_more, no_sections_yet, rules_more}
+use Rattle.meta_doc.proofs.Gaining.{links_named, no_sections_yet, one_section_more, rules_more}
 use Rattle.meta_doc.proofs.html.push_sections.Goals as goal
 
 pub loop-number-init : goal.loop-number-init
@@ -10,6 +10,8 @@ loop-number-preserved c =
     let items = c.args.doc.now.rules.value.items in
     let same = c.deref-rule-items.ensures.value in
     let small : c.loop-number.number < length items = omega (arith, ap length same) in
-    one_section_more _ _ _ _ _ _ _ _ _ c.loop-number.invariant c.in_ok-push_section.ensures
+    let names = c.args.names.now in
+    one_section_more names _ _ _ _ _ _ _ _ (links_named names items _ c.requires c.in_ok-contents.ensures.before)
+    (links_named names items _ c.requires c.in_ok-contents.ensures.after) c.loop-number.invariant c.in_ok-push_section.ensures
     (rules_more items c.loop-number.number c.rule-item.result small
     (c.rule-item.is ∙ ap (λ xs. get_or xs c.loop-number.number c.rule-item.result) same))

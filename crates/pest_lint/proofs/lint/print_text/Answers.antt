@@ -1,6 +1,5 @@
 use Rattle.std.proofs.Common.{◌≡◌, ◌∙◌, sym, ap}
-use Rattle.meta_warnings.specs.Lists.{texts_of}
-use Rattle.pest_lint.specs.Shows.{status_of}
+use Rattle.pest_lint.specs.Shows.{asked_of, status_of}
 use Rattle.pest_lint.proofs.Printing.{no_errors, text_shown}
 use Rattle.pest_lint.proofs.lint.print_text.Goals as goal
 
@@ -10,6 +9,6 @@ returns-clause-clean g c = λ zero.
 
 pub returns-clause-shows : goal.returns-clause-shows
 returns-clause-shows g c = λ not_two not_four.
-    text_shown (texts_of c.args.settings.starts.now) c.args.settings.deny_warnings c.args.style c.args.text.now c.in-Ok.diagnostics.items c.status_of.result _ _
+    text_shown (asked_of c.args.settings) c.args.style c.args.text.now c.in-Ok.diagnostics.items c.status_of.result _ _
     c.in-Ok.ensures.diagnosis (c.status_of.ensures ∙ ap (status_of c.args.settings.deny_warnings) c.deref-2.ensures.value)
     (rw c.deref.ensures.value at (c.print_all-status.ensures.shows c.if-status-ne-CLEAN.false))

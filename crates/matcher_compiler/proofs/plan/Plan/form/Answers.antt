@@ -1,6 +1,6 @@
-use Rattle.std.proofs.Common.{chars, subst, sym}
+use Rattle.std.proofs.Common.{◌∙◌, ap, ap₂, chars, subst, sym}
 use Rattle.std.specs.Prelude.{OnOk}
-use Rattle.meta_base.specs.Language.Expression.{Choice, NegPred, NodeTag, Opt, PosPred, Rep, RepOnce, RestoreOnErr, Seq, Str}
+use Rattle.meta_base.specs.Language.Expression.{Choice, Insens, NegPred, NodeTag, Opt, PosPred, Rep, RepOnce, RestoreOnErr, Seq, Str}
 use Rattle.meta_base.specs.Language.Meaning.{Run}
 use Rattle.matcher_compiler.specs.Modes.{mode_of}
 use Rattle.matcher_compiler.specs.Plans.{LaysAt, said}
@@ -11,10 +11,14 @@ returns-in-Str-clause-lays c =
     subst (λ x. OnOk c.literal.result (LaysAt c.args.program.now c.literal.new.self (Run (mode_of c.args.at.mode) (said c.args.program.now x)) c.args.at)) (sym c.in-Str.is)
     (subst (λ x. OnOk c.literal.result (LaysAt c.args.program.now c.literal.new.self (Run (mode_of c.args.at.mode) (Str (chars x))) c.args.at)) c.as_str.ensures.value c.literal.ensures.lays)
 
-pub returns-in-Set-clause-lays : goal.returns-in-Set-clause-lays
-returns-in-Set-clause-lays c =
-    subst (λ x. OnOk c.character.result (LaysAt c.args.program.now c.character.new.self (Run (mode_of c.args.at.mode) (said c.args.program.now x)) c.args.at)) (sym c.in-Set.is)
-    (subst (λ x. OnOk c.character.result (LaysAt c.args.program.now c.character.new.self (Run (mode_of c.args.at.mode) (said c.args.program.now x)) c.args.at)) c.deref.ensures c.character.ensures.lays)
+pub returns-in-Insens-clause-lays : goal.returns-in-Insens-clause-lays
+returns-in-Insens-clause-lays c =
+    subst (λ x. OnOk c.literal_in_any_case.result (LaysAt c.args.program.now c.literal_in_any_case.new.self (Run (mode_of c.args.at.mode) (said c.args.program.now x)) c.args.at)) (sym c.in-Insens.is)
+    (subst (λ x. OnOk c.literal_in_any_case.result (LaysAt c.args.program.now c.literal_in_any_case.new.self (Run (mode_of c.args.at.mode) (Insens (chars x))) c.args.at)) c.as_str-in-Insens.ensures.value c.literal_in_any_case.ensures.lays)
+
+pub returns-in-Newline-clause-lays : goal.returns-in-Newline-clause-lays
+returns-in-Newline-clause-lays c =
+    subst (λ x. OnOk c.newline.result (LaysAt c.args.program.now c.newline.new.self (Run (mode_of c.args.at.mode) (said c.args.program.now x)) c.args.at)) (sym c.in-Newline.is) c.newline.ensures.lays
 
 pub returns-in-Start-clause-lays : goal.returns-in-Start-clause-lays
 returns-in-Start-clause-lays c =
@@ -31,7 +35,7 @@ returns-in-Call-clause-lays c =
 pub returns-in-PosPred-clause-lays : goal.returns-in-PosPred-clause-lays
 returns-in-PosPred-clause-lays c =
     subst (λ x. OnOk c.ahead.result (LaysAt c.args.program.now c.ahead.new.self (Run (mode_of c.args.at.mode) (said c.args.program.now x)) c.args.at)) (sym c.in-PosPred.is)
-    (subst (λ x. OnOk c.ahead.result (LaysAt c.args.program.now c.ahead.new.self (Run (mode_of c.args.at.mode) (PosPred (said c.args.program.now x))) c.args.at)) c.deref-in-PosPred.ensures c.ahead.ensures.lays)
+    (subst (λ x. OnOk c.ahead.result (LaysAt c.args.program.now c.ahead.new.self (Run (mode_of c.args.at.mode) (PosPred (said c.args.program.now x))) c.args.at)) c.deref.ensures c.ahead.ensures.lays)
 
 pub returns-in-NegPred-clause-lays : goal.returns-in-NegPred-clause-lays
 returns-in-NegPred-clause-lays c =
@@ -43,10 +47,10 @@ returns-in-Seq-clause-lays c =
     subst (λ x. OnOk c.two.result (LaysAt c.args.program.now c.two.new.self (Run (mode_of c.args.at.mode) (said c.args.program.now x)) c.args.at)) (sym c.in-Seq.is)
     (subst (λ x. OnOk c.two.result (LaysAt c.args.program.now c.two.new.self (Run (mode_of c.args.at.mode) (Seq (said c.args.program.now c.in-Seq.first.value) (said c.args.program.now x))) c.args.at)) c.deref-in-Seq-2.ensures (subst (λ x. OnOk c.two.result (LaysAt c.args.program.now c.two.new.self (Run (mode_of c.args.at.mode) (Seq (said c.args.program.now x) (said c.args.program.now c.deref-in-Seq-2.result.now))) c.args.at)) c.deref-in-Seq.ensures c.two.ensures.lays))
 
-pub returns-in-Choice-clause-lays : goal.returns-in-Choice-clause-lays
-returns-in-Choice-clause-lays c =
-    subst (λ x. OnOk c.choice.result (LaysAt c.args.program.now c.choice.new.self (Run (mode_of c.args.at.mode) (said c.args.program.now x)) c.args.at)) (sym c.in-Choice.is)
-    (subst (λ x. OnOk c.choice.result (LaysAt c.args.program.now c.choice.new.self (Run (mode_of c.args.at.mode) (Choice (said c.args.program.now c.in-Choice.left.value) (said c.args.program.now x))) c.args.at)) c.deref-in-Choice-2.ensures (subst (λ x. OnOk c.choice.result (LaysAt c.args.program.now c.choice.new.self (Run (mode_of c.args.at.mode) (Choice (said c.args.program.now x) (said c.args.program.now c.deref-in-Choice-2.result.now))) c.args.at)) c.deref-in-Choice.ensures c.choice.ensures.lays))
+pub alternatives-requires-clause-same : goal.alternatives-requires-clause-same
+alternatives-requires-clause-same c =
+    let p = c.args.program.now in
+    ap (said p) c.in-Choice.is ∙ ap₂ (λ a b. Choice (said p a) (said p b)) (sym c.deref-in-Choice.ensures) (sym c.deref-in-Choice-2.ensures)
 
 pub returns-in-Opt-clause-lays : goal.returns-in-Opt-clause-lays
 returns-in-Opt-clause-lays c =

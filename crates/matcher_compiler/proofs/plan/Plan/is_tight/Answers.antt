@@ -5,9 +5,9 @@ use Rattle.matcher_compiler.specs.Plans.{SkipsAs, grammar_in}
 use Rattle.matcher_compiler.proofs.Skipping.{tight_atomic, tight_compound}
 use Rattle.matcher_compiler.proofs.plan.Plan.is_tight.Goals as goal
 
-pub returns-in-None-clause-tight : goal.returns-in-None-clause-tight
-returns-in-None-clause-tight c = λ e p ready classes.
-    let r = subst (λ b. SkipsAs p c.args.self.now.sets b) c.in-None.is ready in
+pub returns-in-Nothing-clause-tight : goal.returns-in-Nothing-clause-tight
+returns-in-Nothing-clause-tight c = λ e p ready classes.
+    let r = subst (λ b. SkipsAs p c.args.self.now.sets b) c.in-Nothing.is ready in
     subst (λ m. IsTight (grammar_in p) classes (mode_of m)) (sym c.in-NonAtomic.is) (r classes)
 
 pub returns-in-Atomic-clause-tight : goal.returns-in-Atomic-clause-tight

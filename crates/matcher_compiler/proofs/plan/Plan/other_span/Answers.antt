@@ -1,11 +1,12 @@
-use Rattle.meta_base.specs.Language.Expression.{NegPred, Seq}
-use Rattle.matcher_layout.specs.Laid as lay
+use Rattle.std.proofs.Common.{◌∙◌, ◌&&◌, ap₂}
+use Rattle.std.specs.Prelude.{not}
+use Rattle.meta_base.specs.Language.Expression.{Seq}
 use Rattle.matcher_layout.specs.Laid.{skip_set}
-use Rattle.matcher_layout.proofs.Characters.{difference_of_sets, span_of_set}
-use Rattle.matcher_program.specs.Programs.{characters_of}
+use Rattle.matcher_layout.proofs.Characters.{span_of_set}
+use Rattle.matcher_layout.specs.Laid as lay
+use Rattle.matcher_compiler.proofs.Excluding.{other_matches}
 use Rattle.matcher_compiler.proofs.Growing.{later_twice}
-use Rattle.matcher_compiler.proofs.Leaves.{all_as, set_outcome}
-use Rattle.matcher_compiler.specs.Differences.{other_characters}
+use Rattle.matcher_compiler.proofs.Leaves.{all_as}
 use Rattle.matcher_compiler.specs.Modes.{mode_of}
 use Rattle.matcher_compiler.specs.Names.{number_in}
 use Rattle.matcher_compiler.specs.Plans.{grammar_in, said}
@@ -17,12 +18,13 @@ returns-clause-later c = later_twice c.args.program.now _ _ _ (c.in_ok-set.ensur
 pub returns-clause-lays : goal.returns-clause-lays
 returns-clause-lays c = λ classes fits code laid m.
     let p = c.args.program.now in
-    let a = c.args.excluded.now in
-    let b = c.args.included.now in
     let m1 = (c.in_ok-operation.ensures.later p).met code laid m in
+    let x = c.requires.refused classes fits in
+    let y = c.requires.ranges classes fits in
     let d = c.in_ok-set.ensures.means p code laid m1 in
-    lay.leaf (skip_set (other_characters a b)) (λ s. 0)
-    (span_of_set (grammar_in p) classes (mode_of c.args.at.mode) (Seq (NegPred (said p a)) (said p b)) (other_characters a b) (c.requires.tight classes)
-    (difference_of_sets (grammar_in p) classes (mode_of c.args.at.mode) (said p a) (said p b) (characters_of a) (characters_of b) (c.requires.tight classes)
-    (set_outcome p classes c.args.at.mode a c.requires.excluded_one c.requires.excluded_bound) (set_outcome p classes c.args.at.mode b c.requires.included_one c.requires.included_bound)))
-    (all_as d.ranges (other_characters a b) d.covers code (number_in (grammar_in p)) m.fail c.in_ok-set.set d.is c.args.at.label c.args.at.next c.args.at.way (c.in_ok-operation.ensures.met p code laid m))
+    let i = c.args.at.mode in
+    lay.leaf (skip_set (λ k. not (x.characters k) && y.characters k)) (λ s. 0)
+    (span_of_set (grammar_in p) classes (mode_of i) (Seq (said p c.args.first.now) (said p c.args.second.now)) (λ k. not (x.characters k) && y.characters k) (c.requires.tight classes)
+    (other_matches (grammar_in p) classes (mode_of i) (said p c.args.first.now) (said p c.args.second.now) x.characters y.characters (c.requires.tight classes) (x.holds i) (y.holds i)))
+    (all_as d.ranges (λ k. not (x.characters k) && y.characters k) (λ k l. d.covers k l ∙ ap₂ (λ a b. not a && b) (x.covers k l) (y.covers k l))
+    code (number_in (grammar_in p)) m.fail c.in_ok-set.set d.is c.args.at.label c.args.at.next c.args.at.way (c.in_ok-operation.ensures.met p code laid m))

@@ -24,6 +24,24 @@ returns-in-Rule-clause-lays c = subst (λ q. OnOk c.call.result (LaysAt c.args.p
 pub returns-in-Gap-clause-lays : goal.returns-in-Gap-clause-lays
 returns-in-Gap-clause-lays c = subst (λ q. OnOk c.gap.result (LaysAt c.args.program.now c.gap.new.self (task_in c.args.program.now q (mode_of c.args.point.at.mode)) c.args.point.at)) (sym c.in-Gap.is) c.gap.ensures.lays
 
+pub returns-in-Skipped-clause-lays : goal.returns-in-Skipped-clause-lays
+returns-in-Skipped-clause-lays c = subst (λ q. OnOk c.skipped.result (LaysAt c.args.program.now c.skipped.new.self (task_in c.args.program.now q (mode_of c.args.point.at.mode)) c.args.point.at)) (sym c.in-Skipped.is) c.skipped.ensures.lays
+
+pub returns-in-Blanks-clause-lays : goal.returns-in-Blanks-clause-lays
+returns-in-Blanks-clause-lays c = subst (λ q. OnOk c.blanks.result (LaysAt c.args.program.now c.blanks.new.self (task_in c.args.program.now q (mode_of c.args.point.at.mode)) c.args.point.at)) (sym c.in-Blanks.is) c.blanks.ensures.lays
+
+pub returns-in-Comments-clause-lays : goal.returns-in-Comments-clause-lays
+returns-in-Comments-clause-lays c = subst (λ q. OnOk c.comments.result (LaysAt c.args.program.now c.comments.new.self (task_in c.args.program.now q (mode_of c.args.point.at.mode)) c.args.point.at)) (sym c.in-Comments.is) c.comments.ensures.lays
+
+pub returns-in-Comment-clause-lays : goal.returns-in-Comment-clause-lays
+returns-in-Comment-clause-lays c = subst (λ q. OnOk c.comment.result (LaysAt c.args.program.now c.comment.new.self (task_in c.args.program.now q (mode_of c.args.point.at.mode)) c.args.point.at)) (sym c.in-Comment.is) c.comment.ensures.lays
+
+pub returns-in-CommentCall-clause-lays : goal.returns-in-CommentCall-clause-lays
+returns-in-CommentCall-clause-lays c = subst (λ q. OnOk c.comment_call.result (LaysAt c.args.program.now c.comment_call.new.self (task_in c.args.program.now q (mode_of c.args.point.at.mode)) c.args.point.at)) (sym c.in-CommentCall.is) c.comment_call.ensures.lays
+
+pub returns-in-Stay-clause-lays : goal.returns-in-Stay-clause-lays
+returns-in-Stay-clause-lays c = subst (λ q. OnOk c.stay_between.result (LaysAt c.args.program.now c.args.self.now (task_in c.args.program.now q (mode_of c.args.point.at.mode)) c.args.point.at)) (sym c.in-Stay.is) c.stay_between.ensures.lays
+
 pub returns-in-Some-clause-lays : goal.returns-in-Some-clause-lays
 returns-in-Some-clause-lays c =
     let within : c.in-Body.rule < length c.args.program.now.rows.items = grind (arith, common_steps) in

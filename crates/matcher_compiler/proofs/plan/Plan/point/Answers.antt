@@ -9,7 +9,7 @@ pub returns-clause-later : goal.returns-clause-later
 returns-clause-later c = λ p bound.
     let x : Point = record { part = c.args.part; at = c.args.at } in
     let e : c.push.new.self.items ≡ c.args.self.now.points.items ++ x ∷ [] = grind (arith, common_steps) in
-    grown p c.args.self.now _ (x ∷ []) [] e (no_more c.args.self.now.demands.items _ refl) (omega arith) (λ set b bs h k. refl) (λ i h. (h, refl)) refl (single p x bound)
+    grown p c.args.self.now _ (x ∷ []) [] e (no_more c.args.self.now.demands.items _ refl) (omega arith) (λ set b bs h k. refl) (λ i h. (h, refl)) (λ i h. (h, refl)) refl (single p x bound)
 
 pub returns-clause-has : goal.returns-clause-has
 returns-clause-has c = λ p code laid m.

@@ -3,7 +3,7 @@ use Rattle.matcher_compiler.proofs.Growing.{grown, no_more, none}
 use Rattle.matcher_compiler.proofs.plan.Plan.remember.Goals as goal
 
 pub returns-in-Some : goal.returns-in-Some
-returns-in-Some c = λ p. grown p c.args.self.now _ [] [] (no_more c.args.self.now.points.items _ refl) (no_more c.args.self.now.demands.items _ refl) (omega arith) (λ set b bs h k. refl) (λ i h. (h, refl)) refl (none p)
+returns-in-Some c = λ p. grown p c.args.self.now _ [] [] (no_more c.args.self.now.points.items _ refl) (no_more c.args.self.now.demands.items _ refl) (omega arith) (λ set b bs h k. refl) (λ i h. (h, refl)) (λ i h. (h, refl)) refl (none p)
 
 pub returns-in_default : goal.returns-in_default
-returns-in_default c = λ p. grown p c.args.self.now _ [] [] (no_more c.args.self.now.points.items _ refl) (no_more c.args.self.now.demands.items _ refl) (omega arith) (λ set b bs h k. refl) (λ i h. (h, refl)) refl (none p)
+returns-in_default c = λ p. grown p c.args.self.now _ [] [] (no_more c.args.self.now.points.items _ refl) (no_more c.args.self.now.demands.items _ refl) (omega arith) (λ set b bs h k. refl) (λ i h. (h, refl)) (λ i h. (h, refl)) refl (none p)

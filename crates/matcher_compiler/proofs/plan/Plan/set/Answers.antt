@@ -6,7 +6,7 @@ use Rattle.matcher_compiler.proofs.plan.Plan.set.Goals as goal
 pub returns-clause-later : goal.returns-clause-later
 returns-clause-later c = λ p.
     let l : length c.args.self.now.sets.ranges.items ≤ length c.add_set.new.code.ranges.items = grind (arith, common_steps) in
-    grown p c.args.self.now _ [] [] (no_more c.args.self.now.points.items _ refl) (no_more c.args.self.now.demands.items _ refl) l c.in_ok-set.ensures.keeps (λ i h. (h, refl)) refl (none p)
+    grown p c.args.self.now _ [] [] (no_more c.args.self.now.points.items _ refl) (no_more c.args.self.now.demands.items _ refl) l c.in_ok-set.ensures.keeps (λ i h. (h, refl)) (λ i h. (h, refl)) refl (none p)
 
 pub returns-clause-means : goal.returns-clause-means
 returns-clause-means c = λ p code laid m b bs h u.

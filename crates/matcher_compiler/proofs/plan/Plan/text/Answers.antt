@@ -7,7 +7,7 @@ pub returns-clause-later : goal.returns-clause-later
 returns-clause-later c = λ p.
     let e : c.push.new.self.items ≡ c.args.self.now.texts.items ++ c.in_ok-bytes.bytes ∷ [] = grind (arith, common_steps) in
     grown p c.args.self.now _ [] [] (no_more c.args.self.now.points.items _ refl) (no_more c.args.self.now.demands.items _ refl) (omega arith) (λ set b bs h k. refl)
-    (texts_front (λ v. v.items) c.args.self.now.texts.items c.push.new.self.items c.in_ok-bytes.bytes e) refl (none p)
+    (texts_front (λ v. v.items) c.args.self.now.texts.items c.push.new.self.items c.in_ok-bytes.bytes e) (λ i h. (h, refl)) refl (none p)
 
 pub returns-clause-means : goal.returns-clause-means
 returns-clause-means c = λ p code laid m.

@@ -1,0 +1,25 @@
+-- Helps of errors.
+use Rattle.std.proofs.Common.{◌≡◌, ◌∙◌, ℕ, List, ◌++◌, Err, IfOk, IfSome, None, Ok, Option, Result, Some, ap, inl, inr, string_bytes, sym}
+use Rattle.std.specs.Prelude.{IsSomeAnd, codes}
+use Rattle.diagnostic_data.specs.Helps.{IsCustomHelp, IsListedHelp, IsSuggestion}
+use Rattle.diagnostic_data.specs.declared.codes.Code.{Code}
+use Rattle.diagnostic_data.specs.declared.codes.Code.TheVariants as code
+use Rattle.meta_hints.specs.Hints.{IsReplacement}
+use Rattle.meta_hints.specs.declared.help.Fix.{Fix}
+use Rattle.meta_hints.specs.declared.help.Help.{Help}
+
+-- a suggestion is a help for an undefined name
+pub suggested : {E : Type 0} (c : Code) (result : Result (Option Help) E) → c ≡ code.UndefinedRule → IfOk result (λ help. IfSome help IsSuggestion) → IfOk result (IsCustomHelp c)
+suggested c (Ok help) e s = inr (e, s)
+suggested c (Err x) e s = tt
+
+-- and one that is listed for its code
+pub listed : {E : Type 0} (c : Code) (result : Result (Option Help) E) → IfOk result (IsListedHelp c) → IfOk result (IsCustomHelp c)
+listed c (Ok help) l = inl l
+listed c (Err x) l = tt
+
+-- the message has the text of the fix
+pub suggests : (fix : Option Fix) (message : List ℕ) (start end : ℕ) (name : List ℕ) → IsSomeAnd fix (IsReplacement start end name) → message ≡ codes "did you mean `" ++ (name ++ codes "`?")
+    → IsSomeAnd fix (λ f. message ≡ codes "did you mean `" ++ (string_bytes f.replacement ++ codes "`?"))
+suggests None message start end name h e = absurd h
+suggests (Some f) message start end name h e = e ∙ ap (λ t. codes "did you mean `" ++ (t ++ codes "`?")) (sym h.written)

@@ -1,0 +1,24 @@
+use Rattle.std.proofs.Common.{subst, sym}
+use Rattle.matcher_compiler.specs.Differences.{MatchesOne}
+use Rattle.matcher_compiler.specs.Plans.{IsBoundIn}
+use Rattle.matcher_compiler.proofs.Calling.{row_bound}
+use Rattle.matcher_compiler.proofs.Skipping.{blanks_any}
+use Rattle.matcher_compiler.proofs.compile.body_ranges.Goals as goal
+
+pub choice_ranges-requires : goal.choice_ranges-requires
+choice_ranges-requires c =
+    let p = c.args.program.now in
+    record { bound = subst (λ f. IsBoundIn p f) (sym c.requires.body) (row_bound p c.args.number c.args.row.now c.requires.within c.requires.is c.requires.sound) }
+
+pub returns-in-Some : goal.returns-in-Some
+returns-in-Some c = λ classes fits.
+    let p = c.args.program.now in
+    let row = c.args.row.now in
+    let y = rw c.in-Some.is at c.in_ok-made.ensures in
+    let x = y classes fits in
+    record {
+      characters = x.characters;
+      covers = x.covers;
+      takes = blanks_any p c.args.number row classes x.characters c.requires.sound c.requires.white c.requires.within c.requires.is c.requires.kind
+          (subst (λ f. MatchesOne p classes f x.characters) c.requires.body x.holds);
+    }

@@ -1,6 +1,0 @@
-use Rattle.std.proofs.Common.{ap}
-use Rattle.meta_ast.specs.Ast.{rule_type_of}
-use Rattle.matcher_compiler.proofs.compile.silent_plan.Goals as goal
-
-pub body_plan-requires-clause-kind : goal.body_plan-requires-clause-kind
-body_plan-requires-clause-kind c = ap rule_type_of c.in-Silent.is

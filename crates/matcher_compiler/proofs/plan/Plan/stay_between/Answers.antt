@@ -1,0 +1,16 @@
+use Rattle.std.proofs.Common.{◌≡◌, arith, subst}
+use Rattle.meta_base.specs.Language.Meaning.{Skipping}
+use Rattle.meta_base.specs.Language.State.{Between}
+use Rattle.matcher_layout.specs.Laid as lay
+use Rattle.matcher_compiler.specs.Names.{number_in}
+use Rattle.matcher_compiler.specs.Plans.{grammar_in}
+use Rattle.matcher_compiler.proofs.Skipping.{tight_between}
+use Rattle.matcher_compiler.proofs.plan.Plan.stay_between.Goals as goal
+
+pub returns-then-at : goal.returns-then-at
+returns-then-at c = record {
+  lays = λ classes fits code laid m.
+      let g = grammar_in c.args.program.now in
+      let e : c.args.at.label ≡ c.args.at.next = omega arith in
+      subst (λ n. lay.Lays g classes code (number_in g) laid (Skipping Between) c.args.at.label n c.args.at.way) e (lay.nothing (tight_between g classes));
+}

@@ -1,0 +1,7 @@
+use Rattle.std.proofs.Common.{ℕ, ◌<◌}
+use Rattle.meta_doc.specs.Links.{AreCallersBelow}
+use Rattle.meta_doc.proofs.callers.add_calls.Given as goal
+
+abbrev pub invariant-loop-part : goal.invariant-loop-part
+invariant-loop-part l =
+    (n : ℕ) → l.caller < n → AreCallersBelow n l.fn.callers.items → AreCallersBelow n l.callers.items

@@ -1,0 +1,10 @@
+use Rattle.std.proofs.Common.{◌≡◌, drop, length, take}
+use Rattle.std.specs.List.{AllZip}
+use Rattle.pest_lint.specs.Fixing.{IsKept}
+use Rattle.pest_lint.proofs.fixes.fix_all.Given as goal
+
+abbrev pub invariant-loop-source : goal.invariant-loop-source
+invariant-loop-source l = record {
+  made : AllZip IsKept (take l.source-index l.fn.sources) (take l.source-index l.sources);
+  others : drop l.source-index l.sources ≡ drop l.source-index l.fn.sources;
+}
