@@ -31,6 +31,14 @@ static void show_numbers(const char *call, uint8_t status, size_t needed)
     }
 }
 
+/* Shows lines. */
+static void show_lines(const char *call, uint8_t status, size_t needed)
+{
+    printf("%s: status %d, length %zu\n", call, status, needed);
+    if (status <= PEST_META_REFUSED)
+        printf("%.*s", (int)needed, (const char *)out);
+}
+
 /* Shows bytes: those of texts as they are, and a full stop for any other. */
 static void show_bytes(const char *call, uint8_t status, size_t needed)
 {
@@ -76,6 +84,7 @@ int main(void)
     const uint8_t *loop = (const uint8_t *)"a = { (\"\")* }";
     const uint8_t *bytes = (const uint8_t *)"\xff";
     const uint8_t *list = (const uint8_t *)"[{\"name\":\"a\",\"type\":\"normal\",\"expr\":[[\"rep_once\"],[\"str\",\"x\"]]}]";
+    const uint8_t *warned = (const uint8_t *)"a = { 'z'..'a' }";
     const uint8_t *rules = (const uint8_t *)"[{\"name\":\"a\",\"type\":\"normal\",\"expr\":[[\"rep_exact\",2],[\"str\",\"x\"]]}]";
     size_t length = strlen((const char *)text);
     size_t needed = 0;
@@ -135,5 +144,15 @@ int main(void)
     run_prepared(list, strlen((const char *)list), "a");
     status = pest_meta_prepare(rules, strlen((const char *)rules), out, sizeof out, &needed);
     show("prepare of rules that are not optimized", status, needed);
+    status = pest_meta_diagnostics(warned, strlen((const char *)warned), out, sizeof out, &needed);
+    show_lines("diagnostics", status, needed);
+    status = pest_meta_diagnostics(wrong, strlen((const char *)wrong), out, sizeof out, &needed);
+    show_lines("diagnostics of no grammar", status, needed);
+    status = pest_meta_diagnostics(wrong, strlen((const char *)wrong), NULL, 0, &needed);
+    show_lines("diagnostics without room", status, needed);
+    status = pest_meta_diagnostics(NULL, 0, out, sizeof out, &needed);
+    show_lines("diagnostics of an empty text", status, needed);
+    status = pest_meta_diagnostics(bytes, 1, out, sizeof out, &needed);
+    show_lines("diagnostics of no text", status, needed);
     return 0;
 }

@@ -3,6 +3,11 @@
     >>> import pest_meta
     >>> pest_meta.check('a = { b ~ ANY } b = { "x" }')
     ['ANY']
+    >>> [error] = pest_meta.diagnostics('a = { "x" "y" }')
+    >>> error.code, error.line, error.column, error.help
+    ('pest::syntax', 1, 11, 'a sequence is written with `~`')
+    >>> error.fix.apply('a = { "x" "y" }')
+    'a = { "x" ~ "y" }'
     >>> [rule] = pest_meta.rules('a = @{ "x"? }')
     >>> rule.name, rule.type, str(rule.expr)
     ('a', 'atomic', '(opt (str "x"))')
@@ -11,9 +16,9 @@
     >>> [(tree.rule, tree.text) for tree in list.children]
     [('item', 'a'), ('item', 'bc'), ('EOI', '')]
 
-A refused grammar raises GrammarError, which has all that is wrong with it, and a text that a rule does not match
-raises MatchError. Positions are bytes of the grammar's UTF-8,
-counted from 0, as in docs/FORMAT.md; lines and columns count from 1, and a column is a character.
+A refused grammar raises GrammarError, which has all that is wrong with it, but for diagnostics, which returns that;
+and a text that a rule does not match raises MatchError. Positions are bytes of the grammar's UTF-8, counted from 0, as
+in docs/FORMAT.md; lines and columns count from 1, and a column is a character.
 
 This file needs Python 3.8 and nothing else but the shared library. It looks for that in the folder that the variable
 PEST_META_LIB names, then beside this file, in ../lib, as bridge/build leaves it, in the folders of a release, and
@@ -25,7 +30,9 @@ import os
 from typing import Any, Iterator, List, NamedTuple, Optional, Sequence, Tuple, Union
 
 __all__ = [
+    "Diagnostic",
     "Expr",
+    "Fix",
     "GrammarError",
     "LibraryError",
     "Match",
@@ -33,11 +40,13 @@ __all__ = [
     "Matcher",
     "Optimized",
     "Problem",
+    "Related",
     "Rule",
     "RunError",
     "Token",
     "Tree",
     "check",
+    "diagnostics",
     "optimize",
     "optimize_rules",
     "rules",
@@ -71,7 +80,7 @@ class Problem(NamedTuple):
     start: int
     """The byte at which it starts."""
     end: int
-    """The byte behind its end; start, where it is a position and no span."""
+    """The byte before which it ends; start, where it is a position and no span."""
     line: int
     """The line on which it starts."""
     column: int
@@ -83,6 +92,63 @@ class Problem(NamedTuple):
 
     def __str__(self) -> str:
         return f"{self.line}:{self.column}: {self.message}"
+
+
+class Fix(NamedTuple):
+    """A change of a grammar that mends something."""
+
+    start: int
+    """The byte at which the change starts."""
+    end: int
+    """The byte before which it ends."""
+    replacement: str
+    """The text that goes between the two."""
+
+    def apply(self, grammar: str) -> str:
+        """The grammar with the change. Further fixes of the grammar are at other bytes then."""
+        source = grammar.encode()
+        return (source[: self.start] + self.replacement.encode() + source[self.end :]).decode()
+
+
+class Related(NamedTuple):
+    """Another part of a grammar that matters to a diagnostic."""
+
+    message: str
+    start: int
+    """The byte at which the part starts."""
+    end: int
+    """The byte before which it ends."""
+    line: int
+    column: int
+
+
+class Diagnostic(NamedTuple):
+    """An error or a warning, as pest-lint prints it."""
+
+    kind: str
+    """`error` or `warning`."""
+    code: str
+    """The code, as `pest::left_recursion`; `pest-lint --explain CODE` prints a page about it."""
+    message: str
+    start: int
+    """The byte at which it starts."""
+    end: int
+    """The byte before which it ends; start, where it is a position and no span."""
+    line: int
+    """The line on which it starts."""
+    column: int
+    """The column at which it starts."""
+    help: Optional[str]
+    """How to mend it, where that is known."""
+    fix: Optional[Fix]
+    """The change that does so, where one is known."""
+    related: Tuple[Related, ...]
+    """Other parts of the grammar that matter to it."""
+    expected: Tuple[str, ...]
+    """What would have let a syntax error's text get further, as a message names it: "`~`", for one."""
+
+    def __str__(self) -> str:
+        return f"{self.line}:{self.column}: {self.kind}[{self.code}]: {self.message}"
 
 
 class GrammarError(ValueError):
@@ -295,8 +361,20 @@ class Matcher:
 
 
 def check(grammar: str) -> List[str]:
-    """The builtins that a grammar uses. Raises GrammarError where anything is wrong with the grammar."""
+    """The builtins that a grammar uses. Raises GrammarError where anything is wrong with the grammar.
+
+    diagnostics says more of an error, and has warnings of a grammar that is accepted.
+    """
     return optimize(grammar).builtins
+
+
+def diagnostics(grammar: str) -> List[Diagnostic]:
+    """The errors with which a grammar is refused, or else its warnings, in the order of pest-lint.
+
+    A refused grammar raises nothing here, and one without warnings has an empty list.
+    """
+    lines = _fill("pest_meta_diagnostics", grammar)[1]
+    return [_diagnostic(json.loads(line)) for line in lines.split(b"\n") if line]
 
 
 def rules(grammar: str) -> List[Rule]:
@@ -391,6 +469,16 @@ def _refusal(answer: Any) -> Exception:
     return ValueError(", ".join([answer["message"], *at]))
 
 
+def _diagnostic(found: Any) -> Diagnostic:
+    """A diagnostic of JSON."""
+    places = (found["start"], found["end"], found["line"], found["column"])
+    fix = found["fix"]
+    change = Fix(fix["start"], fix["end"], fix["replacement"]) if fix else None
+    related = tuple(Related(*(part[name] for name in Related._fields)) for part in found["related"])
+    heading = (found["kind"], found["code"], found["message"])
+    return Diagnostic(*heading, *places, found["help"], change, related, tuple(found["expected"]))
+
+
 def _problem(problem: Any) -> Problem:
     places = problem["location"]
     line, column = problem["line_col"][0]
@@ -415,6 +503,7 @@ def _folders() -> Iterator[str]:
 # How many texts each function takes.
 _FUNCTIONS = {
     "pest_meta_version": 0,
+    "pest_meta_diagnostics": 1,
     "pest_meta_prepare": 1,
     "pest_meta_rules": 1,
     "pest_meta_optimize": 1,

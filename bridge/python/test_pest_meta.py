@@ -1,6 +1,7 @@
 """Tests of pest_meta.py over the library: python3 -m unittest, in this folder."""
 import doctest
 import os
+import re
 import subprocess
 import sys
 import threading
@@ -99,6 +100,70 @@ class Calls(unittest.TestCase):
         self.assertEqual(number, 1)
 
 
+def problems_of(text):
+    """The spans of what is wrong with a grammar, as check has them."""
+    try:
+        pest_meta.check(text)
+        return []
+    except GrammarError as error:
+        return [(problem.start, problem.end) for problem in error.problems]
+
+
+class Diagnosing(unittest.TestCase):
+    def test_errors_come_with_help(self):
+        text = 'a = { "ä" "y" }'
+        [found] = pest_meta.diagnostics(text)
+        self.assertEqual((found.kind, found.code), ("error", "pest::syntax"))
+        self.assertEqual((found.start, found.end, found.line, found.column), (11, 11, 1, 11))
+        self.assertEqual(found.help, "a sequence is written with `~`")
+        self.assertIn("`~`", found.expected)
+        self.assertEqual(str(found), f"1:11: error[pest::syntax]: {found.message}")
+        self.assertEqual(found.fix.apply(text), 'a = { "ä" ~ "y" }')
+        self.assertEqual(pest_meta.diagnostics(found.fix.apply(text)), [])
+
+    def test_warnings_are_those_of_an_accepted_grammar(self):
+        text = "a = { 'z'..'a' }"
+        [found] = pest_meta.diagnostics(text)
+        self.assertEqual((found.kind, found.code, found.start, found.end), ("warning", "pest::reversed_range", 6, 14))
+        self.assertEqual((found.fix, found.expected), (None, ()))
+        self.assertEqual(pest_meta.check(text), [])
+        self.assertEqual(pest_meta.diagnostics(""), [])
+
+    def test_errors_are_those_of_check(self):
+        texts = ["ANY = { x } x = { y } x = { z }", "a = { a }", 'a = { (""?)* ~ b', "\0", "a = { #t = b }"]
+        for text in texts:
+            found = pest_meta.diagnostics(text)
+            self.assertTrue(found and all(each.kind == "error" for each in found))
+            self.assertEqual([(each.start, each.end) for each in found], problems_of(text))
+
+    def test_other_parts_matter(self):
+        text = 'a = { "x" }\na = { "y" }'
+        [found] = pest_meta.diagnostics(text)
+        [first] = found.related
+        self.assertEqual((found.start, found.end, found.line), (12, 13, 2))
+        self.assertEqual(first, ("it is first defined here", 0, 1, 1, 1))
+
+    def test_texts_are_texts(self):
+        with self.assertRaises(TypeError):
+            pest_meta.diagnostics(b"a = { b }")
+
+    @unittest.skipUnless(os.environ.get("EXAMPLES"), "EXAMPLES names no folder, as examples/lint of the repository")
+    def test_they_are_those_of_pest_lint(self):
+        heading = re.compile(r"^(error|warning)\[([a-z_:]+)\]: .*\n --> [^:\n]*:(\d+):(\d+)$", re.M)
+        folder, count = os.environ["EXAMPLES"], 0
+        for name in sorted(os.listdir(folder)):
+            stem, ending = os.path.splitext(os.path.join(folder, name))
+            if ending == ".pest" and not os.path.exists(stem + ".args"):
+                with open(stem + ending, encoding="utf-8", newline="") as file:
+                    found = pest_meta.diagnostics(file.read())
+                with open(stem + ".told", encoding="utf-8", newline="") as file:
+                    told = heading.findall(file.read())
+                rows = [(each.kind, each.code, str(each.line), str(each.column)) for each in found]
+                self.assertEqual(rows, told, name)
+                count += len(told)
+        self.assertGreater(count, 100)
+
+
 LISTS = """
 list = { "[" ~ (item ~ ("," ~ item)*)? ~ "]" ~ EOI }
 item = @{ letter+ }
@@ -161,6 +226,11 @@ class Limits(unittest.TestCase):
     def test_long_answers_get_their_room(self):
         [rule] = pest_meta.optimize_rules([Rule("a", "normal", Expr("rep_exact", [20_000], [Expr("ident", ["b"])]))])
         self.assertEqual(sum(expr.form == "ident" for expr in rule.expr.walk()), 20_000)
+
+    def test_many_diagnostics_get_their_room(self):
+        text = "".join(f"r{number} = {{ 'z'..'a' ~ r{number + 1} }}\n" for number in range(2_000)) + "r2000 = { ANY }"
+        found = [each for each in pest_meta.diagnostics(text) if each.code == "pest::reversed_range"]
+        self.assertEqual([each.line for each in found], list(range(1, 2_001)))
 
     def test_threads_get_their_own_answers(self):
         found = {}

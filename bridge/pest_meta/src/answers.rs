@@ -33,6 +33,8 @@ pub(crate) enum Call {
     Optimize,
     /// The used builtins and the optimized rules of a grammar, or its errors.
     ParseAndOptimize,
+    /// The diagnostics of a grammar, in lines.
+    Diagnostics,
 }
 
 /// A rule whose body is a flat list of nodes, each before its operands. The places are empty but for the
@@ -236,6 +238,23 @@ pub(crate) fn parse_and_optimize<R>(
         })),
     };
     answer.map_err(|why| errors_of(whole(grammar), why))
+}
+
+/// The diagnostics of a grammar, each read from its line by `line`.
+pub(crate) fn diagnostics<T>(
+    grammar: &str,
+    line: impl Fn(&mut Reader<'_>) -> Reading<T>,
+) -> Result<Vec<T>, Unanswered> {
+    check_format()?;
+    let call =
+        |out: &mut [u8], needed: &mut usize| library::over_text(Call::Diagnostics, grammar, out, needed);
+    in_room(room_for(grammar.len(), BYTES_FOR_A_BYTE), call, |answer| match answer {
+        Ok(lines) => {
+            let found: Reading<Vec<T>> = lines.lines().map(|text| json::read(text, &line)).collect();
+            Ok(found?)
+        }
+        Err(json) => Err(Unanswered::Refused(json.to_owned())),
+    })
 }
 
 /// A text as a span of itself.

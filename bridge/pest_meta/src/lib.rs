@@ -24,8 +24,8 @@
 //! which is tested and not proved:
 //!
 //! - `library`: the calls over C, the only `unsafe` code;
-//! - `binary`, `json`, `nodes`, `answers`: answers in binary form and in JSON, read into rules, errors and entries
-//!   of trees;
+//! - `binary`, `json`, `nodes`, `answers`, [`diagnostics`]: answers in binary form and in JSON, read into rules,
+//!   errors, entries of trees, and diagnostics;
 //! - `recent`: each thread keeps the answer for the last grammar that it asked about;
 //! - `parser`: the entries are replayed through [`pest::state`], which makes the pairs;
 //! - `validator`: [`validator::validate_ast`] and the checks of names write what they are handed as a grammar
@@ -44,7 +44,7 @@
 //!
 //! A call panics where the library has no memory: in a derive, that is an error at the grammar. Where the
 //! library is of a later release and answers what this crate doesn't know, a call that returns errors returns
-//! one which says so, and [`optimizer::optimize`] panics. pest's parser state and what Rust derives for trees
+//! one which says so, and [`optimizer::optimize`] and [`diagnostics::diagnose`] panic. pest's parser state and what Rust derives for trees
 //! take stack by the depth of an expression, as in the original crate; the library takes none.
 #![warn(missing_docs, rust_2018_idioms, unused_qualifications)]
 // Each file but that of the library forbids it.
@@ -61,6 +61,7 @@ use pest::unicode::unicode_property_names;
 mod answers;
 pub mod ast;
 mod binary;
+pub mod diagnostics;
 mod json;
 #[allow(unsafe_code)]
 #[cfg_attr(pest_meta_unlinked, path = "unlinked.rs")]

@@ -43,6 +43,13 @@ extern "C" {
         room: usize,
         needed: *mut usize,
     ) -> u8;
+    fn pest_meta_diagnostics(
+        text: *const u8,
+        len: usize,
+        out: *mut u8,
+        room: usize,
+        needed: *mut usize,
+    ) -> u8;
     fn pest_meta_prepare(
         rules: *const u8,
         rules_len: usize,
@@ -80,6 +87,7 @@ pub(crate) fn over_text(call: Call, text: &str, out: &mut [u8], needed: &mut usi
         Call::Nodes => pest_meta_nodes,
         Call::Optimize => pest_meta_optimize,
         Call::ParseAndOptimize => pest_meta_parse_and_optimize,
+        Call::Diagnostics => pest_meta_diagnostics,
     };
     // SAFETY: each pointer stands before its length, and all are of live values of that many bytes, of which
     // those that are written are borrowed as such.

@@ -4,6 +4,7 @@ use std::panic;
 use pest::error::{ErrorVariant, InputLocation, LineColLocation};
 use pest::{Parser, Span};
 use pest_meta::ast::{self, Expr, RuleType};
+use pest_meta::diagnostics::{diagnose, Severity};
 use pest_meta::optimizer::{optimize, OptimizedExpr, OptimizedExprTopDownIterator, OptimizedRule};
 use pest_meta::parser::{self, ParserExpr, ParserNode, ParserRule, PestParser, Rule};
 use pest_meta::{parse_and_optimize, unwrap_or_report, validator};
@@ -580,4 +581,42 @@ mod with_extras {
         assert_eq!(rules[0].expr.to_string(), "(PUSH_LITERAL(\"ä\") ~ POP)");
         assert_eq!(rules_of("a = { PUSH_LITERAL(\"x\") }")[0].expr, Expr::PushLiteral("x".to_owned()));
     }
+}
+
+#[test]
+fn a_refused_grammar_has_errors_with_helps() {
+    let text = "a = { \"ä\" \"y\" }";
+    let found = diagnose(text);
+    let [error] = &found[..] else { panic!("{found:?}") };
+    assert_eq!(
+        (error.severity, &error.code[..], error.span.clone()),
+        (Severity::Error, "pest::syntax", 11..11)
+    );
+    assert_eq!((error.line, error.column), (1, 11));
+    assert_eq!(error.help.as_deref(), Some("a sequence is written with `~`"));
+    assert!(error.expected.iter().any(|it| it == "`~`") && error.message.starts_with("expected "));
+    assert_eq!(error.to_string(), format!("1:11: error[pest::syntax]: {}", error.message));
+    let fixed = error.fix.as_ref().unwrap().apply(text);
+    assert_eq!(fixed, "a = { \"ä\" ~ \"y\" }");
+    assert!(diagnose(&fixed).is_empty());
+}
+
+#[test]
+fn an_error_has_related_parts() {
+    let found = diagnose("a = { \"x\" }\na = { \"y\" }");
+    let [error] = &found[..] else { panic!("{found:?}") };
+    let [first] = &error.related[..] else { panic!("{error:?}") };
+    assert_eq!((error.span.clone(), error.line, error.column), (12..13, 2, 1));
+    assert_eq!((first.span.clone(), first.line, first.column), (0..1, 1, 1));
+    assert_eq!(first.message, "it is first defined here");
+}
+
+#[test]
+fn an_accepted_grammar_has_warnings_alone() {
+    let text = "a = { 'z'..'a' }";
+    let found = diagnose(text);
+    let [warning] = &found[..] else { panic!("{found:?}") };
+    assert_eq!((warning.severity, &warning.code[..]), (Severity::Warning, "pest::reversed_range"));
+    assert_eq!((&text[warning.span.clone()], &warning.fix), ("'z'..'a'", &None));
+    assert!(parse_and_optimize(text).is_ok() && diagnose("").is_empty());
 }

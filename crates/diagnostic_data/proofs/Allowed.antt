@@ -1,5 +1,5 @@
 -- Allowances among those of all rules.
-use Rattle.std.proofs.Common.{◌≡◌, ℕ, ◌<◌, List, ◌++◌, All, Any, filter, Option, Some, None, IfSome, get_or, length, map, sym, ◌∙◌, refl, ap, subst}
+use Rattle.std.proofs.Common.{◌≡◌, ℕ, ◌<◌, List, ◌++◌, All, Any, filter, Option, Some, None, IfSome, get_or, length, sym, ◌∙◌, refl, ap, subst}
 use Rattle.std.proofs.lemmas.List.{get_or-map, length-map}
 use Rattle.diagnostic_data.specs.Allowances.{IsAbove, IsAllowance, IsWritten, LeavesOutAllowed, WarnsOf, is_left, is_unused}
 use Rattle.diagnostic_data.specs.declared.allowances.Allowance.{Allowance}

@@ -1,3 +1,4 @@
 pub mod Allowed
 pub mod Helping
+pub mod Named
 pub mod Zips

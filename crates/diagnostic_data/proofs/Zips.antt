@@ -1,13 +1,19 @@
 -- Lists that hold place by place.
-use Rattle.std.proofs.Common.{◌≡◌, ℕ, ◌+◌, ◌<◌, ◌≤◌, List, [], ◌∷◌, ◌++◌, length, drop, get_or, map, suc, sym, ap, ◌∙◌, refl, Result, Ok, Err, IfOk, Vec, Global, add-one, append_assoc, append-nil, drop-cons, subst}
-use Rattle.std.proofs.lemmas.List.{drop_all}
+use Rattle.std.proofs.Common.{◌≡◌, ℕ, ◌+◌, ◌<◌, ◌≤◌, List, [], ◌∷◌, ◌++◌, length, drop, get_or, map, suc, sym, ap, ◌∙◌, refl, Result, Ok, Err, IfOk, Vec, Global, add-one, append-nil, drop-cons, subst, take}
+use Rattle.std.proofs.lemmas.Grind.{flat_map-append}
+use Rattle.std.proofs.lemmas.List.{drop_all, take_all, take_more}
 use Rattle.std.specs.List.{AllZip}
-use Rattle.diagnostic_data.specs.Codes.{warning}
+use Rattle.std.specs.Prelude.{flat_map}
+use Rattle.diagnostic_data.specs.Codes.{Warning, severity_of, spans_of, warning}
 use Rattle.diagnostic_data.specs.Reports.{ReportsWarning}
 use Rattle.diagnostic_data.specs.declared.codes.Code.{Code}
+use Rattle.diagnostic_data.specs.declared.codes.Code.TheVariants as code
+use Rattle.diagnostic_data.specs.declared.codes.Severity.TheVariants as severity
 use Rattle.diagnostic_data.specs.declared.diagnostic.Diagnostic.{Diagnostic}
 use Rattle.meta_base.specs.Pieces.Saying.{Span, piece_of}
 use Rattle.meta_base.specs.declared.runtime.places.Span as code_span
+use Rattle.meta_base.specs.Language.Text.{Text}
+use Rattle.meta_spanned.specs.Spanned.{SpannedRule}
 
 -- one more item of a list, and none
 pub zip_next : {X Y : Type 0} (R : X → Y → Type 0) (xs : List X) (i : ℕ) (x : X) (y : Y) (ys : List Y) → x ≡ get_or xs i x → i < length xs → R x y → AllZip R (drop (i + 1) xs) ys
@@ -33,13 +39,25 @@ zip_map R f [] (y ∷ ys) h = absurd h
 zip_map R f (w ∷ ws) [] h = absurd h
 zip_map R f (w ∷ ws) (y ∷ ys) h = (h.0, zip_map R f ws ys h.1)
 
--- nine lists in turn
-pub nine : {X : Type 0} (a b c d e f g h i : List X) → ((((((((([] ++ a) ++ b) ++ c) ++ d) ++ e) ++ f) ++ g) ++ h) ++ i) ≡ a ++ (b ++ (c ++ (d ++ (e ++ (f ++ (g ++ (h ++ (i ++ []))))))))
-nine a b c d e f g h i = rw (append-nil, append_assoc, append_assoc, append_assoc, append_assoc, append_assoc, append_assoc, append_assoc) refl
+-- one more code
+pub next_code : (f : Code → List Warning) (codes : List Code) (i : ℕ) (d : Code) (diagnostics : List Diagnostic) → i < length codes → AllZip ReportsWarning (flat_map f (take i codes) ++ f (get_or codes i d)) diagnostics
+    → AllZip ReportsWarning (flat_map f (take (i + 1) codes)) diagnostics
+next_code f codes i d diagnostics h all =
+    let x = get_or codes i d in
+    let more : flat_map f (take (i + 1) codes) ≡ flat_map f (take i codes) ++ f x =
+    ap (flat_map f) (take_more codes i d h)
+    ∙ (flat_map-append f (take i codes) (x ∷ []) ∙ ap (λ l. flat_map f (take i codes) ++ l) (append-nil (f x)))
+    in
+    subst (λ ws. AllZip ReportsWarning ws diagnostics) (sym more) all
 
--- two lists after another
-pub two_more : {X : Type 0} (all a b : List X) → (all ++ a) ++ b ≡ all ++ (a ++ (b ++ []))
-two_more all a b = rw (append-nil, append_assoc) refl
+pub codes_done : (f : Code → List Warning) (codes : List Code) (i : ℕ) (diagnostics : List Diagnostic) → length codes ≤ i → AllZip ReportsWarning (flat_map f (take i codes)) diagnostics
+    → AllZip ReportsWarning (flat_map f codes) diagnostics
+codes_done f codes i diagnostics h all = subst (λ cs. AllZip ReportsWarning (flat_map f cs) diagnostics) (take_all i codes h) all
+
+-- rules have no warnings of an error's code
+pub no_spans : (c : Code) (starts : List Text) (rules : List SpannedRule) → severity_of c ≡ severity.Error → spans_of c starts rules ≡ []
+no_spans code.Syntax starts rules h = refl
+no_spans _ starts rules h = cc
 
 -- the warnings of a code, span by span
 pub reported_code : {E : Type 0} (c : Code) (spans : List code_span.Span) (pieces : List Span) (result : Result (Vec Diagnostic Global) E) → map piece_of spans ≡ pieces

@@ -1,5 +1,5 @@
 -- Codes of warnings: their messages, and the spans at which a grammar has them.
-use Rattle.std.specs.Prelude.{ℕ, List, [], ◌∷◌, ◌++◌, Bool, true, false, codes, flat_map, if◌then◌else◌, map}
+use Rattle.std.specs.Prelude.{◌≡◌, ℕ, List, [], ◌∷◌, ◌++◌, Bool, true, false, ◌||◌, bytes_eq, codes, flat_map, if◌then◌else◌, map}
 use Rattle.meta_base.specs.Language.Text.{Text}
 use Rattle.meta_base.specs.Pieces.Saying.{Span}
 use Rattle.meta_spanned.specs.Spanned.{SpannedRule}
@@ -8,6 +8,7 @@ use Rattle.diagnostic_data.specs.declared.codes.Code.TheVariants as code
 use Rattle.diagnostic_data.specs.declared.codes.Severity.{Severity}
 use Rattle.diagnostic_data.specs.declared.codes.Severity.TheVariants as severity
 use Rattle.meta_copies.specs.Copies.{many_copies}
+use Rattle.meta_duplicates.specs.Bodies.{repeated_bodies}
 use Rattle.meta_duplicates.specs.Duplicates.{repeated_alternatives}
 use Rattle.diagnostic_data.specs.Names.{is_builtin_name, is_keyword, named_rules}
 use Rattle.meta_warnings.specs.Choices.{unreachable_alternatives}
@@ -32,6 +33,7 @@ severity_of code.RepeatedAlternative = severity.Warning
 severity_of code.RewrittenList = severity.Warning
 severity_of code.KeywordName = severity.Warning
 severity_of code.BuiltinName = severity.Warning
+severity_of code.RepeatedBody = severity.Warning
 severity_of _ = severity.Error
 
 -- a warning's code, and its span
@@ -55,6 +57,7 @@ spans_of code.ManyCopies starts rules = many_copies rules
 spans_of code.RepeatedAlternative starts rules = repeated_alternatives rules
 spans_of code.KeywordName starts rules = named_rules is_keyword rules
 spans_of code.BuiltinName starts rules = named_rules is_builtin_name rules
+spans_of code.RepeatedBody starts rules = repeated_bodies rules
 spans_of _ starts rules = []
 
 abbrev pub warnings_with : List Text → List SpannedRule → Code → List Warning
@@ -73,10 +76,11 @@ warnings_of starts rules = flat_map (warnings_with starts rules) warning_codes
 abbrev pub is_optional : Code → Bool
 is_optional code.KeywordName = true
 is_optional code.BuiltinName = true
+is_optional code.RepeatedBody = true
 is_optional _ = false
 
 abbrev pub optional_codes : List Code
-optional_codes = code.KeywordName ∷ code.BuiltinName ∷ []
+optional_codes = code.KeywordName ∷ code.BuiltinName ∷ code.RepeatedBody ∷ []
 
 -- where all are asked for, these too
 abbrev pub all_warnings_of : List Text → List SpannedRule → List Warning
@@ -104,6 +108,7 @@ message_of code.RepeatedAlternative =
 message_of code.RewrittenList = codes "pest runs a list `(x ~ y)* ~ x` of this rule as `x ~ (y ~ x)*`"
 message_of code.KeywordName = codes "Rust keeps this name for itself"
 message_of code.BuiltinName = codes "this name is that of a builtin"
+message_of code.RepeatedBody = codes "a rule before this one has the same type and body"
 message_of _ = []
 
 -- names of codes and severities
@@ -132,6 +137,27 @@ code_name code.RepeatedAlternative = codes "pest::repeated_alternative"
 code_name code.RewrittenList = codes "pest::rewritten_list"
 code_name code.KeywordName = codes "pest::keyword_name"
 code_name code.BuiltinName = codes "pest::builtin_name"
+code_name code.RepeatedBody = codes "pest::repeated_body"
+
+abbrev pub all_codes : List Code
+all_codes = code.Syntax ∷ code.EscapeValue ∷ code.NumberRange ∷ code.ZeroRepetition ∷ code.ReservedName
+    ∷ code.DuplicateRule ∷ code.UndefinedRule ∷ code.LeftRecursion ∷ code.EndlessRepetition
+    ∷ code.UnreachableChoice ∷ code.TagWithoutToken ∷ code.UnusedAllowance ∷ code.UncalledRule
+    ∷ code.Unreachable ∷ code.ReversedRange ∷ code.ReversedCount ∷ code.IdleTest ∷ code.NeverMatches
+    ∷ code.BlanksInToken ∷ code.ManyCopies ∷ code.RepeatedAlternative ∷ code.RewrittenList
+    ∷ code.KeywordName ∷ code.BuiltinName ∷ code.RepeatedBody ∷ []
+
+-- how each of their names begins
+abbrev pub pest : List ℕ
+pest = codes "pest::"
+
+-- the name is that of the code, with or without `pest::`
+abbrev pub has_name : Code → List ℕ → Bool
+has_name c name = bytes_eq (code_name c) name || bytes_eq (code_name c) (pest ++ name)
+
+-- no code has the name
+abbrev pub IsUnknown : List ℕ → Type 0
+IsUnknown name = (c : Code) → has_name c name ≡ false
 
 abbrev pub severity_name : Severity → List ℕ
 severity_name severity.Error = codes "error"

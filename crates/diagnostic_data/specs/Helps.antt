@@ -45,6 +45,7 @@ helps_of code.KeywordName =
     codes "in Rust it is written `r#name`, which `self`, `Self`, `super` and `crate` can't be" ∷ []
 helps_of code.BuiltinName = codes "the rule takes the builtin's place"
     ∷ codes "this is a rule like others: the builtin's name is in capitals since pest 2" ∷ []
+helps_of code.RepeatedBody = codes "let one of them call the other, or take one away" ∷ []
 helps_of _ = []
 
 -- a help is one of those for a code, and it is left out only where there are none

@@ -1,6 +1,8 @@
 //! The codes of diagnostics.
-ghost use Rattle.std.specs.Prelude.{◌≡◌};
-ghost use Rattle.diagnostic_data.specs.Codes.{code_name, is_optional, severity_name, severity_of};
+ghost use Rattle.std.specs.Prelude.{◌≡◌, ◌++◌, IfNone, IfSome, bytes_eq, true};
+ghost use Rattle.diagnostic_data.specs.Codes as spec;
+ghost use Rattle.diagnostic_data.specs.Codes.{IsUnknown, code_name, has_name, is_optional, severity_of};
+ghost use Rattle.diagnostic_data.specs.Codes.{severity_name};
 
 /// How much a diagnostic weighs.
 #[derive(Clone, Copy, Debug, PartialEq, Eq)]
@@ -74,10 +76,12 @@ pub enum Code {
     KeywordName,
     /// A rule has the name of a builtin.
     BuiltinName,
+    /// A rule has the type and the body of one before it.
+    RepeatedBody,
 }
 
 /// All codes.
-pub const ALL_CODES: [Code; 24] = [
+pub const ALL_CODES: [Code; 25] = [
     Code::Syntax,
     Code::EscapeValue,
     Code::NumberRange,
@@ -102,6 +106,7 @@ pub const ALL_CODES: [Code; 24] = [
     Code::RewrittenList,
     Code::KeywordName,
     Code::BuiltinName,
+    Code::RepeatedBody,
 ];
 
 impl Code {
@@ -134,25 +139,39 @@ impl Code {
             Code::RewrittenList => "pest::rewritten_list",
             Code::KeywordName => "pest::keyword_name",
             Code::BuiltinName => "pest::builtin_name",
+            Code::RepeatedBody => "pest::repeated_body",
         }
     }
 
     /// The code of a name, with or without `pest::`.
-    pub fn from_name(name: &str) -> Option<Code> {
-        for code in &ALL_CODES {
-            let full = code.name();
-            if full == name || full.strip_prefix("pest::") == Some(name) {
+    pub fn from_name(name: &str) -> Option<Code>
+        ensures named { IfSome result (λ code. has_name code name.now ≡ true) }
+        ensures unknown { IfNone result (IsUnknown name.now) }
+    {
+        for code in all_codes() {
+            if code.has_name(name) {
                 return Some(*code);
             }
         }
         None
     }
 
+    /// Whether a name is that of the code, with or without `pest::`.
+    fn has_name(self, name: &str) -> bool
+        ensures { result ≡ has_name self name.now }
+    {
+        let full = self.name();
+        full == name || is_short(full.as_bytes(), name.as_bytes())
+    }
+
     /// Whether warnings of it are reported only where all are asked for.
     pub fn is_optional(self) -> bool
         ensures { result ≡ is_optional self }
     {
-        matches!(self, Code::KeywordName | Code::BuiltinName)
+        matches!(
+            self,
+            Code::KeywordName | Code::BuiltinName | Code::RepeatedBody
+        )
     }
 
     /// Whether a text with such a diagnostic is refused.
@@ -166,7 +185,25 @@ impl Code {
             Code::BlanksInToken | Code::ManyCopies => Severity::Warning,
             Code::RepeatedAlternative | Code::RewrittenList => Severity::Warning,
             Code::KeywordName | Code::BuiltinName => Severity::Warning,
+            Code::RepeatedBody => Severity::Warning,
             _ => Severity::Error,
         }
+    }
+}
+
+/// All codes.
+fn all_codes() -> &'static [Code]
+    ensures { result.now ≡ spec.all_codes }
+{
+    &ALL_CODES
+}
+
+/// Whether a name is that after `pest::` in a full one.
+fn is_short(full: &[u8], name: &[u8]) -> bool
+    ensures { result ≡ bytes_eq full.now (spec.pest ++ name.now) }
+{
+    match full.strip_prefix(b"pest::") {
+        Some(rest) => rest == name,
+        None => false,
     }
 }

@@ -2,9 +2,7 @@
 ghost use Rattle.std.specs.Prelude.{◌≡◌, [], IfOk, MatchOption, true};
 ghost use Rattle.meta_base.specs.Language.Builtins.{is_one_of};
 ghost use Rattle.diagnostic_data.specs.Helps.{IsListedHelp, helps_of};
-ghost use Rattle.diagnostic_data.specs.Codes.{severity_of};
 ghost use Rattle.diagnostic_data.specs.declared.codes.Code.TheVariants as code;
-ghost use Rattle.diagnostic_data.specs.declared.codes.Severity.TheVariants as severity;
 
 use crate::codes::{Code, Severity};
 use meta_hints::Help;
@@ -30,25 +28,10 @@ pub(crate) fn listed_help(
 fn help_text(code: Code, about: &str, is_repeat: bool) -> Option<&'static str>
     ensures { MatchOption result (helps_of code ≡ []) (λ text. is_one_of (helps_of code) text.now ≡ true) }
 {
-    match code.severity() {
-        Severity::Error => error_help(code, about),
-        Severity::Warning => warning_help(code, about, is_repeat),
-    }
-}
-
-/// The text of the help for the code of an error.
-fn error_help(code: Code, about: &str) -> Option<&'static str>
-    requires { severity_of code ≡ severity.Error }
-    ensures { MatchOption result (helps_of code ≡ []) (λ text. is_one_of (helps_of code) text.now ≡ true) }
-{
     match code {
+        Code::Syntax | Code::UndefinedRule => None,
         Code::EscapeValue => Some("D800 to DFFF and what is above 10FFFF are no characters"),
-        Code::NumberRange if about.ends_with("i32") => {
-            Some("a bound of `PEEK[..]` has 32 bits with its sign")
-        }
-        Code::NumberRange => {
-            Some("a count is at most 4294967295; `e*` and `e+` have no greatest count")
-        }
+        Code::NumberRange => Some(number_text(about)),
         Code::ZeroRepetition => Some("what takes nothing is written `\"\"`"),
         Code::ReservedName => Some("take another name: pest has a meaning for this one"),
         Code::DuplicateRule => {
@@ -57,48 +40,18 @@ fn error_help(code: Code, about: &str) -> Option<&'static str>
         Code::LeftRecursion => {
             Some("write the operand first and repeat the rest: `a = { b ~ (\"+\" ~ b)* }`")
         }
-        Code::EndlessRepetition if is_of_blanks(about) => {
-            Some("it is repeated by itself: match one turn, which takes a character")
-        }
-        Code::EndlessRepetition => Some("each turn of a repetition has to take a character"),
+        Code::EndlessRepetition => Some(endless_text(about)),
         Code::UnreachableChoice => {
             Some("put the alternative that cannot fail last, or take away its `?` or `*`")
         }
         Code::TagWithoutToken => Some("tag a rule that is not silent, or take the tag away"),
-        _ => None,
-    }
-}
-
-/// The text of the help for the code of a warning.
-fn warning_help(code: Code, about: &str, is_repeat: bool) -> Option<&'static str>
-    requires { severity_of code ≡ severity.Warning }
-    ensures { MatchOption result (helps_of code ≡ []) (λ text. is_one_of (helps_of code) text.now ≡ true) }
-{
-    match code {
         Code::UnusedAllowance => Some("take the comment away"),
-        Code::UncalledRule if is_small_name_of_blanks(about) => {
-            Some("what is skipped between expressions has the name in capitals")
-        }
-        Code::UncalledRule => Some("where matching starts with it, name it by `--start`"),
-        Code::Unreachable if is_repeat => {
-            Some("it is the same alternative twice: take this one away")
-        }
-        Code::Unreachable => Some("put the longer alternative first"),
+        Code::UncalledRule => Some(uncalled_text(about)),
+        Code::Unreachable => Some(unreachable_text(is_repeat)),
         Code::ReversedRange => Some("let its bounds change places"),
         Code::ReversedCount => Some("let its numbers change places"),
-        Code::IdleTest if about.starts_with('&') => {
-            Some("what `&` tests cannot fail: test one turn, as `&e`, or take it away")
-        }
-        Code::IdleTest if !about.ends_with("*?") => {
-            Some("take this `?` away: what it holds may be left out already")
-        }
-        Code::IdleTest => {
-            Some("no repetition is lazy: write `(!end ~ ANY)*` for what is before an end")
-        }
-        Code::NeverMatches if about.starts_with('!') => Some("what `!` refuses cannot fail"),
-        Code::NeverMatches => Some(
-            "`ANY*` takes the whole rest of the text: write `(!end ~ ANY)*` for what is before an end",
-        ),
+        Code::IdleTest => Some(idle_text(about)),
+        Code::NeverMatches => Some(never_text(about)),
         Code::BlanksInToken => Some("a rule with `@` before its brace skips none"),
         Code::ManyCopies => {
             Some("put a part of it into a rule of its own: then calls alone are copied")
@@ -110,11 +63,87 @@ fn warning_help(code: Code, about: &str, is_repeat: bool) -> Option<&'static str
         Code::KeywordName => Some(
             "in Rust it is written `r#name`, which `self`, `Self`, `super` and `crate` can't be",
         ),
-        Code::BuiltinName if is_small(about) => {
-            Some("this is a rule like others: the builtin's name is in capitals since pest 2")
-        }
-        Code::BuiltinName => Some("the rule takes the builtin's place"),
-        _ => None,
+        Code::BuiltinName => Some(builtin_text(about)),
+        Code::RepeatedBody => Some("let one of them call the other, or take one away"),
+    }
+}
+
+/// The help for a number, by the message of its error.
+fn number_text(message: &str) -> &'static str
+    ensures { is_one_of (helps_of code.NumberRange) result.now ≡ true }
+{
+    if message.ends_with("i32") {
+        "a bound of `PEEK[..]` has 32 bits with its sign"
+    } else {
+        "a count is at most 4294967295; `e*` and `e+` have no greatest count"
+    }
+}
+
+/// The help for an endless repetition, by the message of its error.
+fn endless_text(message: &str) -> &'static str
+    ensures { is_one_of (helps_of code.EndlessRepetition) result.now ≡ true }
+{
+    if is_of_blanks(message) {
+        "it is repeated by itself: match one turn, which takes a character"
+    } else {
+        "each turn of a repetition has to take a character"
+    }
+}
+
+/// The help for a rule of this name that no other calls.
+fn uncalled_text(name: &str) -> &'static str
+    ensures { is_one_of (helps_of code.UncalledRule) result.now ≡ true }
+{
+    if is_small_name_of_blanks(name) {
+        "what is skipped between expressions has the name in capitals"
+    } else {
+        "where matching starts with it, name it by `--start`"
+    }
+}
+
+/// The help for an alternative that is never taken, which may be the same as one before it.
+fn unreachable_text(is_repeat: bool) -> &'static str
+    ensures { is_one_of (helps_of code.Unreachable) result.now ≡ true }
+{
+    if is_repeat {
+        "it is the same alternative twice: take this one away"
+    } else {
+        "put the longer alternative first"
+    }
+}
+
+/// The help for this test or option of an expression that cannot fail.
+fn idle_text(test: &str) -> &'static str
+    ensures { is_one_of (helps_of code.IdleTest) result.now ≡ true }
+{
+    if test.starts_with('&') {
+        "what `&` tests cannot fail: test one turn, as `&e`, or take it away"
+    } else if test.ends_with("*?") {
+        "no repetition is lazy: write `(!end ~ ANY)*` for what is before an end"
+    } else {
+        "take this `?` away: what it holds may be left out already"
+    }
+}
+
+/// The help for this expression, which never matches.
+fn never_text(expression: &str) -> &'static str
+    ensures { is_one_of (helps_of code.NeverMatches) result.now ≡ true }
+{
+    if expression.starts_with('!') {
+        "what `!` refuses cannot fail"
+    } else {
+        "`ANY*` takes the whole rest of the text: write `(!end ~ ANY)*` for what is before an end"
+    }
+}
+
+/// The help for a rule of this name, which a builtin has, or had in pest 1.
+fn builtin_text(name: &str) -> &'static str
+    ensures { is_one_of (helps_of code.BuiltinName) result.now ≡ true }
+{
+    if is_small(name) {
+        "this is a rule like others: the builtin's name is in capitals since pest 2"
+    } else {
+        "the rule takes the builtin's place"
     }
 }
 

@@ -16,5 +16,5 @@ pub use crate::allowances::{Allowance, leave_out_allowed};
 pub use crate::codes::{ALL_CODES, Code, Severity};
 pub use crate::diagnostic::{Diagnostic, Options};
 pub use crate::errors::diagnose_errors;
-pub use crate::warnings::{diagnose_all_rules, diagnose_lists, diagnose_rules};
+pub use crate::warnings::{diagnose_all_rules, diagnose_list, diagnose_rules};
 pub use meta_hints::{Fix, Help, Related};

@@ -1,5 +1,5 @@
 //! Warnings as diagnostics.
-ghost use Rattle.std.specs.Prelude.{◌≡◌, IfOk, OnOk, ◌++◌, List, map};
+ghost use Rattle.std.specs.Prelude.{◌≡◌, IfOk, OnOk, ◌++◌, List, flat_map, map};
 ghost use Rattle.std.specs.List.{AllZip};
 ghost use Rattle.meta_spanned.specs.Nodes.{piece_of, rule_views};
 ghost use Rattle.diagnostic_data.specs.Codes as spec;
@@ -9,14 +9,15 @@ ghost use Rattle.diagnostic_data.specs.declared.codes.Code.TheVariants as code;
 ghost use Rattle.diagnostic_data.specs.declared.codes.Severity.TheVariants as severity;
 ghost use Rattle.meta_warnings.specs.Lists.{texts_of};
 
-use crate::codes::Code;
+use crate::codes::{Code, Severity};
 use crate::diagnostic::Diagnostic;
 use crate::helps::listed_help;
 use crate::names::{builtin_names, keyword_names};
 use crate::repeats::repeated_leaves;
 use meta_base::runtime::Span;
 use meta_copies::many_copies;
-use meta_duplicates::repeated_alternatives;
+use meta_duplicates::{repeated_alternatives, repeated_bodies};
+use meta_hints::Related;
 use meta_spanned::ParserRule;
 use meta_warnings::{
     Suspect, blanks_in_tokens, reversed_ranges, suspect_spans, uncalled_rules,
@@ -24,6 +25,22 @@ use meta_warnings::{
 };
 use std::alloc::{AllocError, Global};
 use std::collections::HashSet;
+
+/// The codes of warnings of rules, in the order in which those of a text are listed.
+static WARNING_CODES: [Code; 9] = [
+    Code::UncalledRule,
+    Code::Unreachable,
+    Code::ReversedRange,
+    Code::ReversedCount,
+    Code::IdleTest,
+    Code::NeverMatches,
+    Code::BlanksInToken,
+    Code::ManyCopies,
+    Code::RepeatedAlternative,
+];
+
+/// The codes of warnings that are reported only where all are asked for.
+static OPTIONAL_CODES: [Code; 3] = [Code::KeywordName, Code::BuiltinName, Code::RepeatedBody];
 
 /// The warnings of rules, code by code; rules of the names `starts` need no call.
 pub fn diagnose_rules(
@@ -34,23 +51,7 @@ pub fn diagnose_rules(
     ensures { IfOk result (λ diagnostics. AllZip ReportsWarning
         (warnings_of (texts_of starts.now) (rule_views rules.now)) diagnostics.items) }
 {
-    let mut diagnostics = Vec::new(alloc);
-    add_code(alloc, Code::UncalledRule, rules, starts, &mut diagnostics)?;
-    add_code(alloc, Code::Unreachable, rules, starts, &mut diagnostics)?;
-    add_code(alloc, Code::ReversedRange, rules, starts, &mut diagnostics)?;
-    add_code(alloc, Code::ReversedCount, rules, starts, &mut diagnostics)?;
-    add_code(alloc, Code::IdleTest, rules, starts, &mut diagnostics)?;
-    add_code(alloc, Code::NeverMatches, rules, starts, &mut diagnostics)?;
-    add_code(alloc, Code::BlanksInToken, rules, starts, &mut diagnostics)?;
-    add_code(alloc, Code::ManyCopies, rules, starts, &mut diagnostics)?;
-    add_code(
-        alloc,
-        Code::RepeatedAlternative,
-        rules,
-        starts,
-        &mut diagnostics,
-    )?;
-    Ok(diagnostics)
+    diagnose_codes(alloc, warning_codes(), rules, starts)
 }
 
 /// All warnings of rules, those that are reported only where they are asked for, too.
@@ -63,8 +64,40 @@ pub fn diagnose_all_rules(
         (all_warnings_of (texts_of starts.now) (rule_views rules.now)) diagnostics.items) }
 {
     let mut diagnostics = diagnose_rules(alloc, rules, starts)?;
-    add_code(alloc, Code::KeywordName, rules, starts, &mut diagnostics)?;
-    add_code(alloc, Code::BuiltinName, rules, starts, &mut diagnostics)?;
+    let mut others = diagnose_codes(alloc, optional_codes(), rules, starts)?;
+    diagnostics.append(&mut others)?;
+    Ok(diagnostics)
+}
+
+/// The codes of warnings of rules, but for those that are asked for.
+fn warning_codes() -> &'static [Code]
+    ensures { result.now ≡ spec.warning_codes }
+{
+    &WARNING_CODES
+}
+
+/// The codes of warnings that are asked for.
+fn optional_codes() -> &'static [Code]
+    ensures { result.now ≡ spec.optional_codes }
+{
+    &OPTIONAL_CODES
+}
+
+/// The warnings of some codes, code by code.
+fn diagnose_codes(
+    alloc: Global,
+    codes: &[Code],
+    rules: &[ParserRule<'_>],
+    starts: &[&str],
+) -> Result<Vec<Diagnostic>, AllocError>
+    ensures { IfOk result (λ diagnostics. AllZip ReportsWarning
+        (flat_map (spec.warnings_with (texts_of starts.now) (rule_views rules.now)) codes.now)
+        diagnostics.items) }
+{
+    let mut diagnostics = Vec::new(alloc);
+    for code in codes {
+        add_code(alloc, *code, rules, starts, &mut diagnostics)?;
+    }
     Ok(diagnostics)
 }
 
@@ -76,7 +109,6 @@ fn add_code(
     starts: &[&str],
     diagnostics: &mut Vec<Diagnostic>,
 ) -> Result<(), AllocError>
-    requires { severity_of code ≡ severity.Warning }
     ensures { OnOk result ((earlier : List spec.Warning)
         → AllZip ReportsWarning earlier diagnostics.old.items
         → AllZip ReportsWarning
@@ -88,8 +120,24 @@ fn add_code(
     Ok(())
 }
 
-/// The warnings of one code.
+/// The warnings of one code; that of an error has none.
 fn diagnose_code(
+    alloc: Global,
+    code: Code,
+    rules: &[ParserRule<'_>],
+    starts: &[&str],
+) -> Result<Vec<Diagnostic>, AllocError>
+    ensures { IfOk result (λ diagnostics. AllZip ReportsWarning
+        (spec.warnings_with (texts_of starts.now) (rule_views rules.now) code) diagnostics.items) }
+{
+    match code.severity() {
+        Severity::Error => Ok(Vec::new(alloc)),
+        Severity::Warning => diagnose_warning(alloc, code, rules, starts),
+    }
+}
+
+/// The warnings of a warning's code.
+fn diagnose_warning(
     alloc: Global,
     code: Code,
     rules: &[ParserRule<'_>],
@@ -104,12 +152,18 @@ fn diagnose_code(
     report_spans(alloc, code, &spans, &repeats)
 }
 
-/// The warnings of rules with these names, in which pest runs a list otherwise than it is written.
-pub fn diagnose_lists(alloc: Global, names: &[Span<'_>]) -> Result<Vec<Diagnostic>, AllocError>
-    ensures { IfOk result (λ diagnostics. AllZip ReportsWarning
-        (map (spec.warning code.RewrittenList) (map piece_of names.now)) diagnostics.items) }
+/// The warning of a rule with this name, in which pest runs a list otherwise than it is written, with notes.
+pub fn diagnose_list(
+    alloc: Global,
+    name: Span<'_>,
+    notes: Vec<Related>,
+) -> Result<Diagnostic, AllocError>
+    ensures warning { IfOk result (ReportsWarning (spec.warning code.RewrittenList (piece_of name.entry))) }
+    ensures notes { IfOk result (λ diagnostic. diagnostic.related ≡ notes) }
 {
-    report_spans(alloc, Code::RewrittenList, names, &HashSet::new(alloc))
+    let mut diagnostic = report_span(alloc, Code::RewrittenList, name, false)?;
+    diagnostic.related = notes;
+    Ok(diagnostic)
 }
 
 /// The bytes at which there is a repeated literal, for the code of warnings that may be at one.
@@ -180,6 +234,7 @@ fn spans_of<'i>(
         Code::RepeatedAlternative => repeated_alternatives(alloc, rules),
         Code::KeywordName => keyword_names(alloc, rules),
         Code::BuiltinName => builtin_names(alloc, rules),
+        Code::RepeatedBody => repeated_bodies(alloc, rules),
         _ => Ok(Vec::new(alloc)),
     }
 }
@@ -206,6 +261,7 @@ pub(crate) fn message_of(code: Code) -> &'static str
         Code::RewrittenList => "pest runs a list `(x ~ y)* ~ x` of this rule as `x ~ (y ~ x)*`",
         Code::KeywordName => "Rust keeps this name for itself",
         Code::BuiltinName => "this name is that of a builtin",
+        Code::RepeatedBody => "a rule before this one has the same type and body",
         _ => "",
     }
 }

@@ -1,5 +1,6 @@
 -- Lexemes of a text, and those around one of its bytes.
-use Rattle.std.specs.Prelude.{ℕ, ◌<◌, ◌≤◌, List, [], ◌∷◌, slice_index_or}
+use Rattle.std.specs.Prelude.{ℕ, ◌<◌, ◌≤◌, List, [], ◌∷◌, map, slice_index_or}
+use Rattle.std.specs.Borrow.{Bor}
 use Rattle.hint_lexemes.specs.declared.lexer.Lexeme.{Lexeme}
 use Rattle.hint_lexemes.specs.declared.lexer.LexemeClass.TheVariants as class
 
@@ -16,3 +17,7 @@ abbrev pub AreInOrder : ℕ → List Lexeme → ℕ → Type 0
 AreInOrder from [] to = from ≤ to
 AreInOrder from (lexeme ∷ lexemes) to =
     (from ≤ lexeme.start) × (lexeme.start < lexeme.end) × AreInOrder lexeme.end lexemes to
+
+-- the bytes of texts
+abbrev pub bytes_of : List (Bor (List ℕ)) → List (List ℕ)
+bytes_of texts = map (λ t. t.now) texts

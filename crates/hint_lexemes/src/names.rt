@@ -1,4 +1,7 @@
 //! Names of a grammar: where they are defined, and which is nearest to another.
+ghost use Rattle.std.specs.Prelude.{Contains, IfOk, IfSome};
+ghost use Rattle.hint_lexemes.specs.Lexemes.{bytes_of};
+
 use crate::lexer::{Lexeme, LexemeClass, lexemes};
 use std::alloc::{AllocError, Global};
 use strsim::osa_distance;
@@ -38,7 +41,10 @@ pub fn nearest_name<'n>(
     alloc: Global,
     name: &str,
     names: &'n [&'n str],
-) -> Result<Option<&'n str>, AllocError> {
+) -> Result<Option<&'n str>, AllocError>
+    ensures { IfOk result (λ nearest. IfSome nearest (λ found.
+        Contains (bytes_of names.entry.now) found.now)) }
+{
     let mut best = None;
     let mut bound = name.len() / 3 + 1;
     if name.len() > LONGEST_NAME {

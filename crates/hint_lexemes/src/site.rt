@@ -1,5 +1,6 @@
 //! The lexemes around an error.
-ghost use Rattle.std.specs.Prelude.{◌≡◌, ◌↔◌, IfOk, IsTrue, length};
+ghost use Rattle.std.specs.Prelude.{◌≡◌, ◌↔◌, ◌≤◌, ◌<◌, ◌+◌, ◌-◌, ◌^◌, ◌==◌, IfOk, IsTrue, length};
+ghost use Rattle.std.specs.Prelude.{slice_get, slice_index_or};
 ghost use Rattle.hint_lexemes.specs.Lexemes as spec;
 ghost use Rattle.hint_lexemes.specs.Lexemes.{AreInOrder, lexeme_at};
 ghost use Rattle.hint_lexemes.specs.declared.lexer.LexemeClass.TheVariants as class;
@@ -47,12 +48,19 @@ impl<'t> Site<'t> {
     }
 
     /// The `count`th lexeme after that of the error.
-    pub fn next_lexeme(&self, count: usize) -> Lexeme {
+    pub fn next_lexeme(&self, count: usize) -> Lexeme
+        ensures { self.now.index + count < 2 ^ 64 → result
+            ≡ lexeme_at self.now.lexemes.items (self.now.index + count) (length self.now.text.now) }
+    {
         self.lexeme(self.index.saturating_add(count))
     }
 
     /// The `count`th lexeme before that of the error.
-    pub fn previous_lexeme(&self, count: usize) -> Lexeme {
+    pub fn previous_lexeme(&self, count: usize) -> Lexeme
+        ensures before { count ≤ self.now.index → result
+            ≡ lexeme_at self.now.lexemes.items (self.now.index - count) (length self.now.text.now) }
+        ensures none { self.now.index < count → result ≡ spec.edge 0 }
+    {
         if count > self.index {
             return edge(0);
         }
@@ -80,12 +88,16 @@ impl<'t> Site<'t> {
     }
 
     /// The byte at a position, or 0 after the last.
-    pub fn byte(&self, at: usize) -> u8 {
+    pub fn byte(&self, at: usize) -> u8
+        ensures { result ≡ slice_index_or self.now.text.now at 0 }
+    {
         byte_at(self.text.as_bytes(), at)
     }
 
     /// The innermost bracket that is open before the error.
-    pub fn innermost(&self) -> Option<Lexeme> {
+    pub fn innermost(&self) -> Option<Lexeme>
+        ensures { result ≡ slice_get self.now.open.items (length self.now.open.items - 1) }
+    {
         self.open.last().copied()
     }
 
@@ -123,7 +135,9 @@ impl<'t> Site<'t> {
     }
 
     /// Whether the error is outside of all brackets.
-    pub fn is_outside(&self) -> bool {
+    pub fn is_outside(&self) -> bool
+        ensures { result ≡ (length self.now.open.items == 0) }
+    {
         self.open.is_empty()
     }
 }

@@ -21,7 +21,7 @@ fn flag_of(ranges: &[(u32, u32)], byte: u32) -> u8
 fn row_of(alloc: Global, ranges: &[(u32, u32)]) -> Result<Vec<u8>, AllocError>
     ensures { IfOk result (λ row. IsRowOf ranges.now row.items) }
 {
-    let mut row = Vec::new(alloc);
+    let mut row = Vec::with_capacity(alloc, 256)?;
     for byte in 0..256 {
         row.push(flag_of(ranges, byte))?;
     }

@@ -15,7 +15,8 @@ use Rattle.matcher_program.specs.declared.form.Program.{Program}
 use Rattle.matcher_program.specs.declared.form.Row.{Row}
 use Rattle.matcher_program.specs.Programs.{IsRuleOf, name_at, names_of, rule_of_row}
 use Rattle.matcher_compiler.specs.Names.{HasOwnNames, number_in, or_end}
-use Rattle.matcher_compiler.specs.Plans.{IsBoundIn, IsSoundProgram, body_in, grammar_in, no_rule, said}
+use Rattle.matcher_sets.specs.Forms.{IsBoundIn, grammar_in, said}
+use Rattle.matcher_compiler.specs.Plans.{IsSoundProgram, body_in, no_rule}
 
 no_place : (g : Grammar) (n : Text) → rule_of g n ≡ None → last_place g n ≡ None
 no_place [] n h = refl

@@ -11,16 +11,17 @@ use Rattle.matcher_layout.specs.Laid as lay
 use Rattle.matcher_layout.specs.Laid.{IsPoint, Lays, no_point}
 use Rattle.matcher_program.specs.declared.form.Program.{Program}
 use Rattle.matcher_program.specs.Programs.{name_at, names_of}
-use Rattle.matcher_compiler.specs.declared.modes.Atomicity.{Atomicity}
-use Rattle.matcher_compiler.specs.declared.modes.Atomicity.TheVariants as mode
+use Rattle.matcher_sets.specs.declared.modes.Atomicity.{Atomicity}
+use Rattle.matcher_sets.specs.declared.modes.Atomicity.TheVariants as mode
 use Rattle.matcher_compiler.specs.declared.plan.Plan.{Plan}
 use Rattle.matcher_compiler.specs.declared.points.Demand.{Demand}
 use Rattle.matcher_compiler.specs.declared.points.Part.TheVariants as part
 use Rattle.matcher_compiler.specs.declared.points.Point.{Point}
 use Rattle.matcher_compiler.specs.Compiled.{AreMet, HasEnds, HasEntries, IsCodeOf, IsEmpty}
-use Rattle.matcher_compiler.specs.Modes.{mode_of}
+use Rattle.matcher_sets.specs.Modes.{mode_of}
 use Rattle.matcher_compiler.specs.Names.{number_in}
-use Rattle.matcher_compiler.specs.Plans.{AreBound, IsLater, IsMet, IsPointOf, LaysPoint, Meets, body_in, grammar_in, laid_point, task_in}
+use Rattle.matcher_sets.specs.Forms.{grammar_in}
+use Rattle.matcher_compiler.specs.Plans.{AreBound, IsLater, IsMet, IsPointOf, LaysPoint, Meets, body_in, laid_point, task_in}
 
 pub point_made : (p : Program) (points : List Point) (i : ℕ) (d : Point) → i < length points
     → IsPointOf p (map (laid_point p) points) (get_or points i d)

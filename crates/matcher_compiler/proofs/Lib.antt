@@ -1,13 +1,6 @@
 pub mod Calling
-pub mod Choosing
-pub mod Excluding
 pub mod Finishing
 pub mod Growing
-pub mod Leaves
 pub mod Naming
-pub mod Ranging
 pub mod Skipping
-pub mod Searching
-pub mod Outside
 pub mod Listing
-pub mod Properties

@@ -1,5 +1,5 @@
 -- What the implicit skipping takes.
-use Rattle.std.proofs.Common.{◌≡◌, refl, sym, ◌∙◌, ap, ap₂, subst, ℕ, zero, suc, ◌+◌, ◌<◌, ◌||◌, ◌&&◌, List, [], ◌∷◌, Bool, true, false, None, Some, add-zero, bytes_eq, get_or, length, map, arith, if◌then◌else◌}
+use Rattle.std.proofs.Common.{◌≡◌, refl, sym, ◌∙◌, ap, ap₂, subst, ℕ, zero, suc, ◌<◌, ◌||◌, ◌&&◌, List, [], ◌∷◌, Bool, true, false, None, Some, add-zero, bytes_eq, get_or, length, map, arith, if◌then◌else◌}
 use Rattle.std.specs.Prelude.{max}
 use Rattle.std.proofs.lemmas.List.{length-map}
 use Rattle.meta_ast.specs.Ast.{rule_type_of, text_of}
@@ -17,13 +17,14 @@ use Rattle.matcher_layout.specs.Laid.{HasOutcome, IsPoint, IsTight, skip_set, sp
 use Rattle.matcher_layout.proofs.Characters.{silent_call_of_set, span_of_set}
 use Rattle.matcher_program.specs.declared.form.Program.{Program}
 use Rattle.matcher_program.specs.declared.form.Row.{Row}
-use Rattle.matcher_program.specs.Programs.{IsRuleOf, IsSkippedRule, grammar_of, name_at, names_of, rule_of_row}
-use Rattle.matcher_compiler.specs.declared.modes.Atomicity as code
+use Rattle.matcher_program.specs.Programs.{IsRuleOf, IsSkippedRule, name_at, names_of, rule_of_row}
+use Rattle.matcher_sets.specs.declared.modes.Atomicity as code
 use Rattle.matcher_compiler.specs.declared.plan.Skips.TheVariants as skips
-use Rattle.matcher_compiler.specs.declared.modes.Atomicity.TheVariants as mode
-use Rattle.matcher_compiler.specs.Modes.{mode_of}
-use Rattle.matcher_compiler.specs.Differences.{MatchesOne}
-use Rattle.matcher_compiler.specs.Plans.{IsBlankSet, IsSoundProgram, SkipsAs, blanks, grammar_in, no_rule, said}
+use Rattle.matcher_sets.specs.declared.modes.Atomicity.TheVariants as mode
+use Rattle.matcher_sets.specs.Modes.{mode_of}
+use Rattle.matcher_sets.specs.Differences.{MatchesOne}
+use Rattle.matcher_sets.specs.Forms.{grammar_in, said}
+use Rattle.matcher_compiler.specs.Plans.{IsBlankSet, IsSoundProgram, SkipsAs, blanks, no_rule}
 use Rattle.matcher_compiler.proofs.Calling.{made, same}
 
 white_is_no_end : is_eoi whitespace ≡ false

@@ -1,8 +1,8 @@
 -- Programs of operations that are those of rules.
-use Rattle.std.specs.Prelude.{◌≡◌, ◌<◌, ◌+◌, ℕ, Bool, List, [], get_or, length, map}
+use Rattle.std.specs.Prelude.{◌≡◌, ◌<◌, ◌+◌, ℕ, List, [], get_or, length, map}
 use Rattle.meta_base.specs.Language.Expression.{Ident}
 use Rattle.meta_base.specs.Language.Meaning.{Run}
-use Rattle.meta_base.specs.Language.State.{Between, Classes, NonAtomicMode}
+use Rattle.meta_base.specs.Language.State.{Classes, NonAtomicMode}
 use Rattle.matcher_code.specs.declared.code.Code.{Code}
 use Rattle.matcher_code.specs.declared.code.Op.TheVariants as op
 use Rattle.matcher_layout.specs.Laid as lay
@@ -12,8 +12,9 @@ use Rattle.matcher_program.specs.Programs.{Fits, name_at, names_of}
 use Rattle.matcher_compiler.specs.declared.plan.Plan.{Plan}
 use Rattle.matcher_compiler.specs.declared.points.Demand.{Demand}
 use Rattle.matcher_compiler.specs.declared.points.Point.{Point}
-use Rattle.matcher_compiler.specs.Names.{Covers, number_in}
-use Rattle.matcher_compiler.specs.Plans.{IsMet, Meets, grammar_in, laid_point}
+use Rattle.matcher_compiler.specs.Names.{number_in}
+use Rattle.matcher_sets.specs.Forms.{grammar_in}
+use Rattle.matcher_compiler.specs.Plans.{IsMet, Meets, laid_point}
 
 -- the first three operations
 pub record HasEnds (code : Code) : Type 0 where

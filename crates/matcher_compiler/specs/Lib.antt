@@ -1,5 +1,3 @@
-pub mod Modes
 pub mod Names
 pub mod Plans
 pub mod Compiled
-pub mod Differences

@@ -1,9 +1,8 @@
--- Numbers of rules by their names, and sets of characters.
-use Rattle.std.specs.Prelude.{◌≡◌, ◌<◌, ◌||◌, ℕ, suc, List, Bool, true, false, Option, Some, None, length}
+-- Numbers of rules by their names.
+use Rattle.std.specs.Prelude.{◌≡◌, ◌<◌, ℕ, suc, List, Bool, true, false, Option, Some, None, length}
 use Rattle.meta_base.specs.Language.Text.{Text}
 use Rattle.meta_base.specs.Language.Expression.{Grammar, last_place}
 use Rattle.meta_base.specs.Language.FurthestFailure.{is_eoi}
-use Rattle.matcher_code.specs.Reading.{is_covered}
 use Rattle.matcher_program.specs.declared.form.Program.{Program}
 use Rattle.matcher_program.specs.declared.form.Row.{Row}
 use Rattle.matcher_program.specs.Programs.{grammar_of, name_at, names_of}
@@ -26,11 +25,3 @@ IsLast rows i = last_place (grammar_of rows) (name_at (names_of rows) i) ≡ Som
 -- no two rules have one name
 abbrev pub HasOwnNames : Program → Type 0
 HasOwnNames p = (i : ℕ) → i < length p.rows.items → IsLast p.rows.items i
-
--- the ranges have the characters of a set
-abbrev pub Covers : List (ℕ × ℕ) → (ℕ → Bool) → Type 0
-Covers ranges set = (c : ℕ) → c < 1114112 → is_covered ranges c ≡ set c
-
--- the ranges have the characters of a set besides those that they had
-abbrev pub Adds : List (ℕ × ℕ) → List (ℕ × ℕ) → (ℕ → Bool) → Type 0
-Adds old new set = (c : ℕ) → c < 1114112 → is_covered new c ≡ (is_covered old c || set c)

@@ -1,6 +1,6 @@
 -- Plans of programs: points and demands, and what a program does that meets them.
-use Rattle.std.specs.Prelude.{◌≡◌, ◌<◌, ℕ, Bool, List, [], ◌∷◌, Option, Some, None, get_or, length, map, All, IsUtf8, chars, ⊤}
-use Rattle.meta_base.specs.Language.Expression.{Expression, Grammar, Ident, Normal, Rep, Rule, Seq, Str, comment, rule_of, whitespace}
+use Rattle.std.specs.Prelude.{◌≡◌, ◌<◌, ℕ, Bool, List, [], ◌∷◌, None, get_or, length, map, All, IsUtf8, chars, ⊤}
+use Rattle.meta_base.specs.Language.Expression.{Expression, Ident, Normal, Rep, Rule, Seq, Str, comment, rule_of, whitespace}
 use Rattle.meta_base.specs.Language.Meaning.{Run, Skipping, Task, once_or_more, skipped}
 use Rattle.meta_base.specs.Language.State as language
 use Rattle.meta_base.specs.Language.Text.{Text}
@@ -9,42 +9,32 @@ use Rattle.matcher_code.specs.declared.code.Code.{Code}
 use Rattle.matcher_code.specs.declared.code.Op.TheVariants as op
 use Rattle.matcher_code.specs.Reading.{char_len, text_of}
 use Rattle.matcher_code.specs.Sets.{IsSetOf}
-use Rattle.matcher_program.specs.declared.form.Form.{Form}
 use Rattle.matcher_program.specs.declared.form.Program.{Program}
-use Rattle.matcher_program.specs.Programs.{Fits, IsBound, IsSound, expression_of, grammar_of, name_at, names_of}
+use Rattle.matcher_program.specs.Programs.{Fits, IsSound, name_at, names_of}
 use Rattle.matcher_layout.specs.Laid as lay
 use Rattle.matcher_layout.specs.Laid.{HasOutcome, IsEnd, IsPoint, IsTight, Lays, at_label, skip_set}
 use Rattle.matcher_compiler.specs.declared.plan.Plan.{Plan}
 use Rattle.matcher_compiler.specs.declared.plan.Skips.{Skips}
 use Rattle.matcher_compiler.specs.declared.plan.Skips.TheVariants as skips
-use Rattle.matcher_compiler.specs.declared.modes.Atomicity.{Atomicity}
+use Rattle.matcher_sets.specs.declared.modes.Atomicity.{Atomicity}
 use Rattle.matcher_compiler.specs.declared.points.Demand.{Demand}
 use Rattle.matcher_compiler.specs.declared.points.Demand.TheVariants as demand
 use Rattle.matcher_compiler.specs.declared.points.Part.{Part}
 use Rattle.matcher_compiler.specs.declared.points.Part.TheVariants as part
 use Rattle.matcher_compiler.specs.declared.points.Place.{Place}
 use Rattle.matcher_compiler.specs.declared.points.Point.{Point}
-use Rattle.matcher_compiler.specs.Modes.{mode_of}
-use Rattle.matcher_compiler.specs.Names.{Covers, number_in}
+use Rattle.matcher_sets.specs.Modes.{mode_of}
+use Rattle.matcher_compiler.specs.Names.{number_in}
+use Rattle.matcher_sets.specs.Forms.{IsBoundIn, grammar_in, said}
+use Rattle.matcher_sets.specs.Ranges.{Covers}
 
--- the grammar of a program, and the names of its rules
-abbrev pub grammar_in : Program → Grammar
-grammar_in p = grammar_of p.rows.items
-
-abbrev pub said : Program → Form → Expression
-said p f = expression_of (names_of p.rows.items) f
-
--- what stands in place of a rule that a grammar does not have
+-- a stand-in for a rule that a grammar does not have
 abbrev pub no_rule : Rule
 no_rule = record { name = []; type_of = Normal; body = Str [] }
 
 -- the names of the rules mean what they are resolved to
 abbrev pub IsSoundProgram : Program → Type 0
 IsSoundProgram p = IsSound p.rows.items p.properties.items p.whitespace p.comment
-
--- the names in a form mean what they are resolved to
-abbrev pub IsBoundIn : Program → Form → Type 0
-IsBoundIn p f = IsBound (grammar_in p) (names_of p.rows.items) p.properties.items f
 
 -- the body of the rule of a number
 abbrev pub body_in : Program → ℕ → Expression
@@ -140,7 +130,7 @@ pub record IsBlankSet (p : Program) (sets : Code) (set : ℕ) : Type 0 where
   pub is : IsSetOf sets set ranges
   pub blank : AreBlanks p ranges
 
--- what the implicit skipping takes: nothing, the characters of a set, or these and comments
+-- the characters that the implicit skipping takes: none, those of a set, or these and comments
 abbrev pub SkipsAs : Program → Code → Skips → Type 0
 SkipsAs p sets skips.Nothing = (classes : Classes) → IsTight (grammar_in p) classes NonAtomicMode
 SkipsAs p sets (skips.Blanks set) = (rule_of (grammar_in p) comment ≡ None) × IsBlankSet p sets set

@@ -8,16 +8,17 @@ ghost use Rattle.matcher_layout.specs.Laid as lay;
 ghost use Rattle.matcher_layout.specs.Laid.{IsPoint};
 ghost use Rattle.matcher_program.specs.Programs.{IsRuleOf, name_at, names_of};
 ghost use Rattle.matcher_program.specs.declared.form.Program.{Program};
-ghost use Rattle.matcher_compiler.specs.Modes.{mode_of};
+ghost use Rattle.matcher_sets.specs.Modes.{mode_of};
 ghost use Rattle.matcher_compiler.specs.Names.{HasOwnNames};
-ghost use Rattle.matcher_compiler.specs.Plans.{IsLater, IsSoundProgram, LaysAt, Meets, body_in, grammar_in};
+ghost use Rattle.matcher_sets.specs.Forms.{grammar_in};
+ghost use Rattle.matcher_compiler.specs.Plans.{IsLater, IsSoundProgram, LaysAt, Meets, body_in};
 
 use crate::forms::FAIL;
-use crate::modes::{Atomicity, body_mode, gives_token, is_seen_from};
 use crate::plan::Plan;
 use crate::points::{Demand, NotCompiled, Part, Place};
 use matcher_code::code::Op;
 use matcher_program::form::{Program, Row};
+use matcher_sets::modes::{Atomicity, body_mode, gives_token, is_seen_from};
 
 /// Returns the number of the body of a rule in a mode, with or without a token.
 fn body_number(rule: usize, mode: Atomicity, gives: bool) -> usize {

@@ -1,15 +1,15 @@
-//! The comparison of a program with what is demanded of it.
+//! The comparison of a program with its demands.
 ghost use Rattle.std.specs.Prelude.{◌≡◌, map, true};
 ghost use Rattle.meta_base.specs.Language.Meaning.{Run};
 ghost use Rattle.matcher_layout.specs.Laid.{IsEnd, IsPoint, at_label};
 ghost use Rattle.matcher_program.specs.declared.form.Program.{Program};
 ghost use Rattle.matcher_compiler.specs.Compiled.{AreMet, HasEnds};
-ghost use Rattle.matcher_compiler.specs.Modes.{mode_of};
+ghost use Rattle.matcher_sets.specs.Modes.{mode_of};
 ghost use Rattle.matcher_compiler.specs.Plans.{IsMet, body_in, laid_point};
 
-use crate::modes::Atomicity;
 use crate::points::{Demand, Part, Point};
 use matcher_code::code::{Code, Op};
+use matcher_sets::modes::Atomicity;
 
 /// Returns whether two modes are the same.
 fn is_mode(one: Atomicity, other: Atomicity) -> bool

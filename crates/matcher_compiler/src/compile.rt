@@ -9,14 +9,14 @@ ghost use Rattle.matcher_compiler.specs.declared.plan.Skips.TheVariants as skips
 ghost use Rattle.matcher_compiler.specs.Plans.{AreBlanks, IsLater, IsReady, IsSoundProgram, Meets, laid_point};
 
 use crate::check::{has_ends, meets_all};
-use crate::difference::choice_ranges;
-use crate::modes::Atomicity;
 use crate::names::has_own_names;
 use crate::plan::{Plan, Skips};
 use crate::points::{Demand, NotCompiled, Part, Place, Point};
 use matcher_code::code::{Code, Op, Ranges};
 use matcher_code::sets::add_set;
 use matcher_program::form::{Form, Program, Row};
+use matcher_sets::difference::choice_ranges;
+use matcher_sets::modes::Atomicity;
 use meta_ast::ast::RuleType;
 use std::alloc::Global;
 

@@ -1,10 +1,11 @@
-//! The parts, the operations and the demands of expressions with operands.
+//! Plans of expressions with operands.
 ghost use Rattle.std.specs.Prelude.{◌≡◌, None, OnOk, Some};
 ghost use Rattle.meta_base.specs.Language.Expression.{Choice, Expression, NegPred, Opt, PosPred, Rep, Seq};
 ghost use Rattle.meta_base.specs.Language.Meaning.{Run, Skipping};
 ghost use Rattle.meta_base.specs.Language.State.{NonAtomicMode};
-ghost use Rattle.matcher_compiler.specs.Modes.{mode_of};
-ghost use Rattle.matcher_compiler.specs.Plans.{HasParts, IsBoundIn, IsBoundPart, IsLater, IsReady, IsTightIn, LaysAt, said, task_in};
+ghost use Rattle.matcher_sets.specs.Modes.{mode_of};
+ghost use Rattle.matcher_sets.specs.Forms.{IsBoundIn, said};
+ghost use Rattle.matcher_compiler.specs.Plans.{HasParts, IsBoundPart, IsLater, IsReady, IsTightIn, LaysAt, task_in};
 
 use crate::forms::FAIL;
 use crate::plan::Plan;

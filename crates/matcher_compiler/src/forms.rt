@@ -1,4 +1,4 @@
-//! The operations and the demands of expressions without operands.
+//! Plans of expressions without operands.
 ghost use Rattle.std.specs.Prelude.{◌≡◌, ◌≤◌, ◌&&◌, ℕ, IfOk, List, None, OnOk, chars, codes, length, not, true};
 ghost use Rattle.meta_base.specs.Language.Expression.{Ident, Insens, Rep, Seq, Str, rule_of};
 ghost use Rattle.meta_base.specs.Language.Meaning.{Run, seen_from};
@@ -8,15 +8,16 @@ ghost use Rattle.matcher_code.specs.declared.code.Code.{Code};
 ghost use Rattle.matcher_layout.specs.Laid as lay;
 ghost use Rattle.matcher_layout.specs.Laid.{MatchesText};
 ghost use Rattle.matcher_program.specs.declared.form.Program.{Program};
-ghost use Rattle.matcher_compiler.specs.Differences.{HasRanges, HasRefused, HasSet};
-ghost use Rattle.matcher_compiler.specs.Modes.{mode_of};
-ghost use Rattle.matcher_compiler.specs.Plans.{IsBoundIn, IsLater, IsTightIn, LaysAt, Meets, grammar_in, said};
+ghost use Rattle.matcher_sets.specs.Differences.{HasRanges, HasRefused, HasSet};
+ghost use Rattle.matcher_sets.specs.Modes.{mode_of};
+ghost use Rattle.matcher_sets.specs.Forms.{IsBoundIn, grammar_in, said};
+ghost use Rattle.matcher_compiler.specs.Plans.{IsLater, IsTightIn, LaysAt, Meets};
 
-use crate::difference::{MOST_RANGES, choice_ranges, outside_ranges};
 use crate::plan::Plan;
 use crate::points::{NotCompiled, Place};
 use matcher_code::code::{Op, Ranges};
 use matcher_program::form::{Form, Program};
+use matcher_sets::difference::{MOST_RANGES, choice_ranges, outside_ranges};
 use std::alloc::Global;
 
 /// The label of `Fail`.

@@ -3,16 +3,17 @@ ghost use Rattle.std.specs.Prelude.{◌≡◌, ◌≤◌, None, OnOk, length};
 ghost use Rattle.meta_base.specs.Language.Expression.{Ident, Rep, comment, rule_of};
 ghost use Rattle.meta_base.specs.Language.Meaning.{Run, Skipping, skipped};
 ghost use Rattle.meta_base.specs.Language.State.{Between, NonAtomicMode};
-ghost use Rattle.matcher_compiler.specs.Modes.{mode_of};
+ghost use Rattle.matcher_sets.specs.Modes.{mode_of};
 ghost use Rattle.matcher_compiler.specs.Names.{HasOwnNames};
-ghost use Rattle.matcher_compiler.specs.Plans.{IsBlankSet, IsLater, IsReady, IsSoundProgram, IsTightIn, LaysAt, blanks, grammar_in, one_comment};
+ghost use Rattle.matcher_sets.specs.Forms.{grammar_in};
+ghost use Rattle.matcher_compiler.specs.Plans.{IsBlankSet, IsLater, IsReady, IsSoundProgram, IsTightIn, LaysAt, blanks, one_comment};
 
 use crate::forms::FAIL;
-use crate::modes::Atomicity;
 use crate::plan::{Plan, Skips};
 use crate::points::{Demand, NotCompiled, Part, Place};
 use matcher_code::code::Op;
 use matcher_program::form::Program;
+use matcher_sets::modes::Atomicity;
 
 impl<'p> Plan<'p> {
     /// Plans nothing, where nothing is skipped.

@@ -1,13 +1,13 @@
 //! Plans of programs.
 ghost use Rattle.matcher_code.specs.Sets.{IsAligned};
 
-use crate::modes::Atomicity;
 use crate::points::{Demand, NotCompiled, Part, Place, Point};
 use matcher_code::code::{Code, Op, Ranges};
 use matcher_code::sets::add_set;
+use matcher_sets::modes::Atomicity;
 use std::alloc::Global;
 
-/// What the implicit skipping takes.
+/// The characters that the implicit skipping takes.
 #[derive(Clone, Copy)]
 pub enum Skips {
     Nothing,
@@ -43,7 +43,7 @@ impl<'p> Plan<'p> {
     ghost use Rattle.matcher_layout.specs.Laid as lay;
     ghost use Rattle.matcher_layout.specs.Laid.{IsPoint, at_label};
     ghost use Rattle.matcher_program.specs.declared.form.Program.{Program};
-    ghost use Rattle.matcher_compiler.specs.Modes.{mode_of};
+    ghost use Rattle.matcher_sets.specs.Modes.{mode_of};
     ghost use Rattle.matcher_compiler.specs.Plans.{AreTexts, IsBoundPart, IsLater, IsMet, IsReady, IsTightIn, Meets, task_in};
 
     /// Returns whether nothing is skipped in a mode.

@@ -1,18 +1,19 @@
-//! The loop that plans each point.
+//! The loop over points.
 ghost use Rattle.std.specs.Prelude.{◌≡◌, ◌<◌, ◌≤◌, ℕ, OnOk, chars, get_or, length};
 ghost use Rattle.meta_base.specs.Language.Expression.{Choice, NegPred, NodeTag, PosPred, Rep, RepOnce, RestoreOnErr, Seq};
 ghost use Rattle.meta_base.specs.Language.Meaning.{Run, once_or_more};
 ghost use Rattle.matcher_program.specs.declared.form.Form.TheVariants as form;
-ghost use Rattle.matcher_compiler.specs.Modes.{mode_of};
+ghost use Rattle.matcher_sets.specs.Modes.{mode_of};
 ghost use Rattle.matcher_compiler.specs.Names.{HasOwnNames};
-ghost use Rattle.matcher_compiler.specs.Plans.{AreBound, IsBoundIn, IsBoundPart, IsLater, IsReady, IsSoundProgram, IsTightIn, LaysAt, LaysPoint, said, task_in};
+ghost use Rattle.matcher_sets.specs.Forms.{IsBoundIn, said};
+ghost use Rattle.matcher_compiler.specs.Plans.{AreBound, IsBoundPart, IsLater, IsReady, IsSoundProgram, IsTightIn, LaysAt, LaysPoint, task_in};
 ghost use Rattle.matcher_compiler.specs.declared.points.Point.{Point};
 
-use crate::difference::{choice_ranges, refused_ranges};
-use crate::modes::Atomicity;
 use crate::plan::Plan;
 use crate::points::{NotCompiled, Part, Place, Point};
 use matcher_program::form::{Form, Program};
+use matcher_sets::difference::{choice_ranges, refused_ranges};
+use matcher_sets::modes::Atomicity;
 use std::alloc::Global;
 
 /// Returns the first of the labels of a point's own.

@@ -1,9 +1,9 @@
 //! Points of a program, and demands on its code.
-use crate::modes::Atomicity;
 use matcher_code::code::Op;
 use matcher_program::form::Form;
+use matcher_sets::modes::Atomicity;
 
-/// What begins at a point.
+/// The task that begins at a point.
 #[derive(Clone, Copy)]
 pub enum Part<'p> {
     /// An expression.

@@ -1,5 +1,5 @@
 //! Searches for the first of some characters.
-ghost use Rattle.std.specs.Prelude.{◌≡◌, ◌<◌, ◌∷◌, ◌==◌, ℕ, IfOk, IfSome, OnOk, chars, length, map, true};
+ghost use Rattle.std.specs.Prelude.{◌≡◌, ◌<◌, ◌∷◌, ℕ, OnOk, map};
 ghost use Rattle.meta_ast.specs.Ast.{text_of};
 ghost use Rattle.meta_base.specs.Language.Expression.{Skip};
 ghost use Rattle.meta_base.specs.Language.Matching.{any_begins};
@@ -7,67 +7,16 @@ ghost use Rattle.meta_base.specs.Language.Meaning.{Run};
 ghost use Rattle.meta_base.specs.Language.Text.{Text};
 ghost use Rattle.matcher_code.specs.Reading.{is_covered};
 ghost use Rattle.matcher_layout.specs.Laid.{StartIn};
-ghost use Rattle.matcher_compiler.specs.Modes.{mode_of};
+ghost use Rattle.matcher_sets.specs.Modes.{mode_of};
 ghost use Rattle.matcher_compiler.specs.Plans.{IsLater, LaysAt};
 
-use crate::difference::{MOST_RANGES, outside_ranges};
 use crate::plan::Plan;
 use crate::points::{NotCompiled, Place};
-use crate::ranges::{first_character, push_first, push_range};
 use matcher_code::code::{Op, Ranges};
 use matcher_program::form::Program;
-use std::alloc::{AllocError, Global};
-
-/// Returns whether a text is one character.
-pub(crate) fn is_single(text: &str) -> bool
-    ensures { result ≡ true → (length (chars text.now) == 1) ≡ true }
-{
-    let mut characters = text.chars();
-    match characters.next() {
-        Some(_) => characters.as_str().is_empty(),
-        None => false,
-    }
-}
-
-/// Returns the ranges of texts of one character, or `None` if there is another text.
-fn single_characters(alloc: Global, texts: &Vec<String>) -> Result<Option<Ranges>, AllocError>
-    ensures { IfOk result (λ made. IfSome made (λ ranges. (c : ℕ) (u : Text) → c < 1114112
-        → any_begins (map text_of texts.now.items) (c ∷ u) ≡ is_covered ranges.items c)) }
-{
-    let mut ranges = Vec::new(alloc);
-    for text in texts {
-        if !is_single(text.as_str()) {
-            return Ok(None);
-        }
-        push_first(&mut ranges, text.as_str())?;
-    }
-    Ok(Some(ranges))
-}
-
-/// Returns the ranges of all characters.
-fn all_characters(alloc: Global) -> Result<Ranges, AllocError>
-    ensures { IfOk result (λ ranges. (c : ℕ) → c < 1114112 → is_covered ranges.items c ≡ true) }
-{
-    let mut ranges = Vec::new(alloc);
-    push_range(&mut ranges, 0, 0x10_ffff)?;
-    Ok(ranges)
-}
-
-/// Returns the ranges of the first characters of texts, or `None` if one of them is empty.
-fn first_characters(alloc: Global, texts: &Vec<String>) -> Result<Option<Ranges>, AllocError>
-    ensures { IfOk result (λ made. IfSome made (λ ranges.
-        StartIn ranges.items (map text_of texts.now.items))) }
-{
-    let mut ranges = Vec::new(alloc);
-    for text in texts {
-        let c = match first_character(text.as_str()) {
-            Some(c) => c,
-            None => return Ok(None),
-        };
-        push_range(&mut ranges, c as u32, c as u32)?;
-    }
-    Ok(Some(ranges))
-}
+use matcher_sets::difference::{MOST_RANGES, outside_ranges};
+use matcher_sets::texts::{all_characters, first_characters, single_characters};
+use std::alloc::Global;
 
 impl<'p> Plan<'p> {
     /// Plans a search for the first of the characters in some ranges, which are those of texts.

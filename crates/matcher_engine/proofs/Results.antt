@@ -26,7 +26,7 @@ use Rattle.meta_matcher.specs.Answers.{FailsAt, IsMatched, IsStopped}
 use Rattle.meta_matcher.specs.Written.{seen}
 use Rattle.matcher_compiler.specs.Compiled.{IsCodeOf}
 use Rattle.matcher_compiler.specs.Names.{number_in}
-use Rattle.matcher_compiler.specs.Plans.{grammar_in}
+use Rattle.matcher_sets.specs.Forms.{grammar_in}
 use Rattle.matcher_engine.proofs.Bytes.{bytes_of_text}
 use Rattle.matcher_engine.proofs.Known.{named_map, no_rule, placed}
 use Rattle.matcher_engine.proofs.Totals.{same_size}

@@ -99,7 +99,7 @@ fn flags_of(alloc: Global, form: &Form) -> Result<Vec<bool>, AllocError>
     requires { is_set form.now ≡ true }
     ensures { IfOk result (λ flags. IsSetOf flags.items form.now) }
 {
-    let mut flags = Vec::new(alloc);
+    let mut flags = Vec::with_capacity(alloc, usize::from(FLAGS))?;
     for number in 0..FLAGS {
         flags.push(matches_one(form, number as char))?;
     }
@@ -133,7 +133,7 @@ fn any_may_begin_with(texts: &Vec<String>, c: char) -> bool
 pub(crate) fn stops_of(alloc: Global, texts: &Vec<String>) -> Result<Vec<bool>, AllocError>
     ensures { IfOk result (λ flags. AreStops flags.items (map text_of texts.now.items)) }
 {
-    let mut flags = Vec::new(alloc);
+    let mut flags = Vec::with_capacity(alloc, usize::from(FLAGS))?;
     for number in 0..FLAGS {
         flags.push(any_may_begin_with(texts, number as char))?;
     }
@@ -185,7 +185,7 @@ pub(crate) fn firsts_of(alloc: Global, form: &Form) -> Result<Vec<bool>, AllocEr
     ensures { IfOk result (λ flags. (c : ℕ) → c < length flags.items
         → get_or flags.items c true ≡ false → may_begin form.now c ≡ false) }
 {
-    let mut flags = Vec::new(alloc);
+    let mut flags = Vec::with_capacity(alloc, usize::from(FLAGS))?;
     for number in 0..FLAGS {
         flags.push(may_begin(form, number as char, LEVELS))?;
     }

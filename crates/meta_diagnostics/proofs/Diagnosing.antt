@@ -1,21 +1,18 @@
 -- A text's diagnostics, by the outcome of its front end.
-use Rattle.std.proofs.Common.{◌≡◌, ◌≢◌, ◌⊎◌, inl, inr, ◌∙◌, ℕ, List, [], ◌∷◌, ◌++◌, map, Bool, true, false, ◌||◌, Result, Ok, Err, IfOk, Vec, Global, refl, sym, ap, subst}
+use Rattle.std.proofs.Common.{◌≡◌, ◌≢◌, ◌⊎◌, inl, inr, ◌∙◌, ℕ, List, [], ◌∷◌, Bool, true, false, ◌||◌, Result, Ok, Err, IfOk, OnOk, Vec, Global, refl, sym, ap}
+use Rattle.std.specs.Borrow.{Bor}
 use Rattle.std.specs.List.{AllZip, list_any}
 use Rattle.diagnostic_data.specs.Reports.{ReportsError, is_error, is_severe}
 use Rattle.diagnostic_data.specs.declared.diagnostic.Diagnostic.{Diagnostic}
 use Rattle.meta_base.specs.Language.Text.{Text}
-use Rattle.meta_base.specs.Pieces.NamedTrees.{named}
-use Rattle.meta_base.specs.Pieces.Pairs.{pairs_text, pairs_trees}
 use Rattle.meta_base.specs.declared.grammar.Rule.{Rule}
 use Rattle.meta_base.specs.declared.runtime.errors.Error.{Error}
-use Rattle.meta_base.specs.declared.runtime.tokens.Pairs.{Pairs}
-use Rattle.meta_diagnostics.specs.Diagnosis.{IsDiagnosisWith, ReportRules, ReportWarnings, accepted, refused}
+use Rattle.meta_diagnostics.specs.Diagnosis.{IfSpells, IsDiagnosisWith, ReportRules, ReportWarnings, accepted, refused}
 use Rattle.meta_names.proofs.Places.{tell_none}
-use Rattle.meta_reader.specs.Refusals.{AreReadAs}
 use Rattle.meta_spanned.specs.Spanned.{SpannedRule}
 use Rattle.diagnostic_data.specs.Allowances.{LeavesOutAllowed}
-use Rattle.meta_syntax.specs.Parses.{AreOfAGrammar}
-use Rattle.pest_meta.specs.Spelling.{HasAnswer, HasWrongRules, IsRefusedGrammar, IsMisnamed, AreFlawed, HaveFindings, IsNoGrammar, IsRefusedWith, complaints_in}
+use Rattle.pest_meta.specs.Spelling.{HasAnswer, HasWrongRules, IsMisnamed, AreFlawed, HaveFindings, IsRefusedWith, complaints_in}
+use Rattle.pest_meta.specs.WithSpans.{SpellsWithSpans}
 
 one_some : {X : Type 0} (xs : List X) (x : X) → xs ≡ x ∷ [] → xs ≢ []
 one_some xs x e h = let z = sym e ∙ h in cc
@@ -57,28 +54,26 @@ pub answered_refused : {E : Type 0} (text : List ℕ) (errors : List (Error Rule
 answered_refused text errors (Ok ds) r each = λ none. no_refusal text errors ds.items r each none
 answered_refused text errors (Err e) r each = tt
 
-passed : {F : Type 0} (all : Bool) (starts : List Text) (text : List ℕ) (ds : Vec Diagnostic Global) (outcome : Result (Vec Diagnostic Global) F) → outcome ≡ Ok ds
-    → IfOk outcome (λ ds. ReportWarnings all starts text ds.items) → ReportWarnings all starts text ds.items
-passed all starts text ds outcome e h = subst (λ o. IfOk o (λ ds. ReportWarnings all starts text ds.items)) e h
+pub diagnosed_accepted : {E : Type 0} (all : Bool) (starts : List Text) (text : List ℕ) (builtins : List (Bor (List ℕ))) (rules : List SpannedRule) (result : Result (Vec Diagnostic Global) E)
+    → SpellsWithSpans text builtins rules → IfOk result (λ ds. IfSpells text rules (ReportWarnings all starts text ds.items)) → OnOk result (IfSpells text rules (HasAnswer text))
+    → IfOk result (λ ds. IsDiagnosisWith all starts text ds.items)
+diagnosed_accepted all starts text builtins rules (Ok ds) s warnings answer = accepted (answer builtins s) (warnings builtins s)
+diagnosed_accepted all starts text builtins rules (Err x) s warnings answer = tt
 
-pub diagnosed_accepted : {E F : Type 0} (all : Bool) (starts : List Text) (text : List ℕ) (outcome : Result (Vec Diagnostic Global) F) (result : Result (Vec Diagnostic Global) E) → HasAnswer text
-    → IfOk outcome (λ ds. ReportWarnings all starts text ds.items) → IfOk result (λ ds. outcome ≡ Ok ds) → IfOk result (λ ds. IsDiagnosisWith all starts text ds.items)
-diagnosed_accepted all starts text outcome (Ok ds) a h e = accepted a (passed all starts text ds outcome e h)
-diagnosed_accepted all starts text outcome (Err x) a h e = tt
+pub answered : {E : Type 0} (text : List ℕ) (builtins : List (Bor (List ℕ))) (rules : List SpannedRule) (result : Result (Vec Diagnostic Global) E)
+    → SpellsWithSpans text builtins rules → OnOk result (IfSpells text rules (HasAnswer text)) → IfOk result (λ ds. list_any is_error ds.items ≡ false → HasAnswer text)
+answered text builtins rules (Ok ds) s answer = λ none. answer builtins s
+answered text builtins rules (Err x) s answer = tt
 
-pub answered : {E : Type 0} (text : List ℕ) (result : Result (Vec Diagnostic Global) E) → HasAnswer text → IfOk result (λ ds. list_any is_error ds.items ≡ false → HasAnswer text)
-answered text (Ok ds) a = λ none. a
-answered text (Err x) a = tt
-
--- warnings of the rules that are read from the pairs of a text are those of the text
-pub of_pairs : (has_all : Bool) (starts : List Text) (text : List ℕ) (pairs : Pairs Rule) (rules : List SpannedRule) (all ds : List Diagnostic) → pairs_text pairs ≡ text → AreOfAGrammar pairs → AreReadAs pairs rules
-    → ReportRules has_all starts rules all → LeavesOutAllowed text rules all ds → ReportWarnings has_all starts text ds
-of_pairs has_all starts text pairs rules all ds same of_text read each left = subst (λ t. LeavesOutAllowed t rules all ds → ReportWarnings has_all starts t ds) same (λ of_pairs_text. record {
-  trees = named (pairs_trees pairs);
-  of_text = of_text;
+-- warnings of the rules that a text spells are those of the text
+pub of_rules : (has_all : Bool) (starts : List Text) (text : List ℕ) (rules : List SpannedRule) (all ds : List Diagnostic)
+    → ReportRules has_all starts text rules all → LeavesOutAllowed text rules all ds → IfSpells text rules (ReportWarnings has_all starts text ds)
+of_rules has_all starts text rules all ds each left = λ builtins s. record {
+  trees = s.trees;
+  of_text = s.of_text;
   rules = rules;
-  read = read;
+  read = s.read;
   all = all;
   each = each;
-  left = of_pairs_text;
-}) left
+  left = left;
+}

@@ -1,1 +1,2 @@
 pub mod Diagnosing
+pub mod Listing

@@ -1,5 +1,6 @@
 -- The diagnostics of a text.
-use Rattle.std.specs.Prelude.{ℕ, List, Bool, false, true, ◌++◌, map}
+use Rattle.std.specs.Prelude.{ℕ, List, Bool, false, true, ◌++◌, All, chars, drop, length, map, string_bytes}
+use Rattle.std.specs.Borrow.{Bor}
 use Rattle.std.specs.List.{AllZip}
 use Rattle.diagnostic_data.specs.Allowances.{LeavesOutAllowed}
 use Rattle.diagnostic_data.specs.Codes.{chosen_warnings, warning}
@@ -8,21 +9,37 @@ use Rattle.diagnostic_data.specs.declared.codes.Code.TheVariants as code
 use Rattle.diagnostic_data.specs.declared.diagnostic.Diagnostic.{Diagnostic}
 use Rattle.meta_base.specs.Language.State.{Trees}
 use Rattle.meta_base.specs.Language.Text.{Text}
+use Rattle.meta_base.specs.Pieces.Saying.{written}
 use Rattle.meta_base.specs.declared.grammar.Rule.{Rule}
 use Rattle.meta_base.specs.declared.runtime.errors.Error.{Error}
 use Rattle.meta_reader.specs.Reading.{ReadsRules}
+use Rattle.meta_differences.specs.Messages.{ReportsDifference}
+use Rattle.meta_hints.specs.declared.help.Related.{Related}
 use Rattle.meta_lists.specs.Rewritten.{FindsLists, is_optional_name}
 use Rattle.meta_spanned.specs.Spanned.{Span, SpannedRule}
 use Rattle.pest_meta.specs.Spelling.{HasAnswer, HasTrees, IsRefusedWith}
+use Rattle.pest_meta.specs.WithSpans.{SpellsWithSpans}
 
--- the diagnostics report the warnings of rules, all of them or not, and those of lists that pest runs
--- otherwise
-pub record ReportRules (has_all : Bool) (starts : List Text) (rules : List SpannedRule)
+-- all notes are about texts on which the rule of a name ends otherwise as pest runs it
+abbrev pub AreTrueNotes : List ℕ → Span → List Related → Type 0
+AreTrueNotes text name notes =
+    All (λ note. ReportsDifference text (chars (written name)) (string_bytes note.message)) notes
+
+-- the diagnostic reports that pest runs a list of the rule of a name otherwise
+pub record ReportsList (text : List ℕ) (name : Span) (diagnostic : Diagnostic) : Type 0 where
+  pub warns : ReportsWarning (warning code.RewrittenList name) diagnostic
+  pub notes : AreTrueNotes text name diagnostic.related.items
+
+-- the diagnostics report the warnings of rules that a text spells, all of them or not, and last those of
+-- lists that pest runs otherwise
+pub record ReportRules (has_all : Bool) (starts : List Text) (text : List ℕ) (rules : List SpannedRule)
     (diagnostics : List Diagnostic) : Type 0 where
   pub lists : List Span
   pub found : FindsLists (is_optional_name rules) rules lists
   pub each : AllZip ReportsWarning
       (chosen_warnings has_all starts rules ++ map (warning code.RewrittenList) lists) diagnostics
+  pub last : AllZip (ReportsList text) lists
+      (drop (length (chosen_warnings has_all starts rules)) diagnostics)
 
 -- the diagnostics report the warnings of the rules that a text's trees are read as, all of them or not, but
 -- for those that its comments allow
@@ -33,8 +50,12 @@ pub record ReportWarnings (has_all : Bool) (starts : List Text) (text : List ℕ
   pub rules : List SpannedRule
   pub read : ReadsRules text trees rules
   pub all : List Diagnostic
-  pub each : ReportRules has_all starts rules all
+  pub each : ReportRules has_all starts text rules all
   pub left : LeavesOutAllowed text rules all diagnostics
+
+-- this holds where the text is accepted and spells these rules
+abbrev pub IfSpells : List ℕ → List SpannedRule → Type 0 → Type 0
+IfSpells text rules P = (builtins : List (Bor (List ℕ))) → SpellsWithSpans text builtins rules → P
 
 -- the diagnostics of a text, where rules of some names are starts: the errors with which it is refused, or
 -- its warnings, all of them or not

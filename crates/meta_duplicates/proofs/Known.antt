@@ -1,9 +1,8 @@
 -- Keys of the alternatives so far.
 use Rattle.std.proofs.Common.{◌≡◌, ◌∙◌, ℕ, ◌<◌, List, [], ◌∷◌, ◌++◌, Bool, true, false, ◌&&◌, ◌||◌, if◌then◌else◌, cond, Vec, Global, refl, sym, ap, ap₂, length, nat_eq, arith}
-use Rattle.std.specs.Prelude.{nat_le, not}
+use Rattle.std.specs.Prelude.{not}
 use Rattle.std.specs.HashSet as bag
-use Rattle.std.specs.List.{list_any}
-use Rattle.std.proofs.lemmas.Bool.{and_parts, false_from_ne_true, leb-false, leb-true}
+use Rattle.std.proofs.lemmas.Bool.{false_from_ne_true, leb-false, leb-true}
 use Rattle.std.proofs.lemmas.List.Folds.{list_any-append}
 use lib.Pointwise.{pointwise}
 use Rattle.meta_base.specs.Language.Expression.{Expression}
@@ -15,7 +14,7 @@ use Rattle.meta_duplicates.proofs.Unique.{same_keys}
 use Rattle.meta_spanned.specs.Erasure.{without_spans}
 use Rattle.meta_spanned.specs.Spanned.{Spanned}
 
-or_none : (b : Bool) → (b || false) ≡ b
+pub or_none : (b : Bool) → (b || false) ≡ b
 or_none true = refl
 or_none false = refl
 
@@ -24,14 +23,14 @@ among_more xs x e =
     list_any-append (λ y. expression_eq (without_spans y) e) xs (x ∷ [])
     ∙ ap (λ b. is_among xs e || b) (or_none (expression_eq (without_spans x) e))
 
-cond_or : (b h : Bool) → cond b true h ≡ (h || b)
+pub cond_or : (b h : Bool) → cond b true h ≡ (h || b)
 cond_or true true = refl
 cond_or true false = refl
 cond_or false true = refl
 cond_or false false = refl
 
 -- an expression that is not compared is none of those that are
-no_match : (a e : Expression) → is_compared a ≡ false → is_compared e ≡ true → expression_eq a e ≡ false
+pub no_match : (a e : Expression) → is_compared a ≡ false → is_compared e ≡ true → expression_eq a e ≡ false
 no_match a e h k = false_from_ne_true (expression_eq a e) (λ m.
     let same : a ≡ e = (expression_eq-Decides a e).0 m in
     let z : true ≡ false = sym k ∙ (ap is_compared (sym same) ∙ h) in
@@ -49,7 +48,7 @@ known_more xs x old new k h updates known = λ e q i j.
 pub plain_uncompared : (e : Expression) → is_plain e ≡ true → is_compared e ≡ false
 plain_uncompared e h = ap (λ b. (if b then false else true) && is_short e) h
 
-and_false : (b : Bool) → (b && false) ≡ false
+pub and_false : (b : Bool) → (b && false) ≡ false
 and_false true = refl
 and_false false = refl
 
@@ -66,11 +65,11 @@ short_compared e h short =
     let s : is_short e ≡ true = not_long e short in
     ap₂ (λ b c. (if b then false else true) && c) h s
 
-not_false : (b : Bool) → not b ≡ false → b ≡ true
+pub not_false : (b : Bool) → not b ≡ false → b ≡ true
 not_false true h = refl
 not_false false h = sym h
 
-not_true : (b : Bool) → not b ≡ true → b ≡ false
+pub not_true : (b : Bool) → not b ≡ true → b ≡ false
 not_true true h = sym h
 not_true false h = refl
 

@@ -1,5 +1,5 @@
 -- A repeated alternative fails where the first one fails.
-use Rattle.std.proofs.Common.{◌≡◌, ◌∙◌, List, [], ◌∷◌, Bool, true, inl, inr, map, sym, subst}
+use Rattle.std.proofs.Common.{◌≡◌, List, [], ◌∷◌, true, inl, inr, map, subst}
 use Rattle.std.specs.List.{AllByRecursion}
 use Rattle.std.proofs.lemmas.Bool.{or_cases}
 use Rattle.meta_base.specs.Language.Expression.{Expression, Grammar}

@@ -1,5 +1,5 @@
 -- Keys are the same just where the expressions are.
-use Rattle.std.proofs.Common.{◌≡◌, ◌∙◌, ℕ, suc, ◌+◌, ◌<◌, ◌≤◌, List, [], ◌∷◌, ◌++◌, Bool, true, false, Option, Some, None, refl, sym, ap, ap₂, append_assoc, append-nil, length, length-append, add-one, map, nat_eq, arith}
+use Rattle.std.proofs.Common.{◌≡◌, ◌∙◌, ℕ, suc, ◌+◌, ◌<◌, ◌≤◌, List, [], ◌∷◌, ◌++◌, Bool, true, false, Option, Some, None, refl, sym, ap, ap₂, append_assoc, append-nil, length, length-append, map, nat_eq, arith}
 use Rattle.std.proofs.lemmas.Bool.{eqb-false}
 use Rattle.std.specs.Prelude.{ℤ, pos, negsuc, flat_map}
 use Rattle.std.specs.Bool.{Decides}
@@ -10,13 +10,13 @@ use lib.Pointwise.{pointwise}
 use Rattle.meta_base.specs.Language.Expression.{Expression, Str, Insens, Range, Ident, PeekSlice, PosPred, NegPred, Seq, Choice, Opt, Rep, RepOnce, RepExact, RepMin, RepMax, RepMinMax, Skip, Push, PushLiteral, NodeTag, RestoreOnErr}
 use Rattle.meta_base.specs.Language.Text.{Text}
 use Rattle.meta_base.specs.Rewritings.Equality.{expression_eq, expression_eq-Decides}
-use Rattle.meta_duplicates.specs.Keys.{binary_sign, int_key, key, option_key, sign, text_key, texts_key, unary_sign}
-use Rattle.meta_spanned.specs.Erasure.{between, round, without_spans}
+use Rattle.meta_duplicates.specs.Keys.{int_key, key, option_key, sign, text_key, texts_key, unary_sign}
+use Rattle.meta_spanned.specs.Erasure.{round, without_spans}
 use Rattle.meta_spanned.specs.Spanned as spanned
 use Rattle.meta_spanned.specs.Spanned.{Spanned, Leaf, One, Two, Unary}
 use Rattle.meta_spanned.specs.Walk.{preorder}
 
-abbrev first : List ℕ → ℕ
+abbrev pub first : List ℕ → ℕ
 first [] = 0
 first (x ∷ xs) = x
 
@@ -61,7 +61,7 @@ option_unique None (Some j) r s h = absurd (eqb-false 0 1 refl (ap first h))
 option_unique (Some i) None r s h = absurd (eqb-false 1 0 refl (ap first h))
 option_unique (Some i) (Some j) r s h = let k = int_unique i j r s (ap others h) in (ap Some k.0, k.1)
 
-unique : (a b : Expression) (r s : List ℕ) → key a ++ r ≡ key b ++ s → (a ≡ b) × (r ≡ s)
+pub unique : (a b : Expression) (r s : List ℕ) → key a ++ r ≡ key b ++ s → (a ≡ b) × (r ≡ s)
 unique (Str t) (Str u) r s h = let k = text_unique t u r s (ap others h) in (ap Str k.0, k.1)
 unique (Insens t) (Insens u) r s h = let k = text_unique t u r s (ap others h) in (ap Insens k.0, k.1)
 unique (Ident t) (Ident u) r s h = let k = text_unique t u r s (ap others h) in (ap Ident k.0, k.1)
@@ -112,10 +112,10 @@ unique a b r s h = absurd (eqb-false (first (key a ++ r)) (first (key b ++ s)) r
 key_unique : (a b : Expression) → key a ≡ key b → a ≡ b
 key_unique a b h = (unique a b [] [] (append-nil (key a) ∙ (h ∙ sym (append-nil (key b))))).0
 
-keys_decide : (k l : List ℕ) → Decides (pointwise nat_eq k l) (k ≡ l)
+pub keys_decide : (k l : List ℕ) → Decides (pointwise nat_eq k l) (k ≡ l)
 keys_decide k l = slice_eq-Decides unsigned_Decides k l (pointwise nat_eq k l) refl
 
-same_answer : (b c : Bool) → (b ≡ true → c ≡ true) → (c ≡ true → b ≡ true) → b ≡ c
+pub same_answer : (b c : Bool) → (b ≡ true → c ≡ true) → (c ≡ true → b ≡ true) → b ≡ c
 same_answer true true h k = refl
 same_answer false false h k = refl
 same_answer true false h k = sym (h refl)

@@ -1,5 +1,5 @@
 -- Alternatives that are there twice.
-use Rattle.std.specs.Prelude.{ℕ, List, [], ◌∷◌, ◌++◌, Bool, true, false, ◌&&◌, if◌then◌else◌, nat_le, length, flat_map}
+use Rattle.std.specs.Prelude.{List, [], ◌∷◌, ◌++◌, Bool, true, false, ◌&&◌, if◌then◌else◌, nat_le, length, flat_map}
 use Rattle.std.specs.List.{list_any}
 use Rattle.meta_base.specs.Language.Expression.{Expression, Str, Ident}
 use Rattle.meta_base.specs.Rewritings.Equality.{expression_eq}

@@ -1,11 +1,19 @@
 -- The warnings are true, by the relation of matching.
 use Rattle.std.specs.Prelude.{◌≡◌, true, List, map}
+use Rattle.meta_duplicates.specs.Bodies.{is_same_body}
 use Rattle.meta_duplicates.specs.Duplicates.{is_among}
 use Rattle.meta_spanned.specs.Erasure.{without_spans}
-use Rattle.meta_spanned.specs.Spanned.{Spanned}
-use Rattle.meta_warnings.specs.Laws.{IsNeverTaken}
+use Rattle.meta_spanned.specs.Spanned.{Spanned, SpannedRule}
+use Rattle.meta_warnings.specs.Laws.{IsNeverTaken, IsSameEverywhere}
 
 -- an alternative that is the same as one before it is never taken
 abbrev pub RepeatedIsNeverTaken : Type 0
 RepeatedIsNeverTaken = (earlier : List Spanned) (x : Spanned) → is_among earlier (without_spans x) ≡ true
     → IsNeverTaken (map without_spans earlier) (without_spans x)
+
+-- the rules have one type, and from every start their bodies have the same outcomes
+abbrev pub RunAlike : SpannedRule → SpannedRule → Type 0
+RunAlike q r = (q.type_of ≡ r.type_of) × IsSameEverywhere (without_spans q.body) (without_spans r.body)
+
+abbrev pub SameBodiesRunAlike : Type 0
+SameBodiesRunAlike = (q r : SpannedRule) → is_same_body q r ≡ true → RunAlike q r

@@ -1,3 +1,5 @@
+pub mod Bodies
+pub mod BodyKeys
 pub mod Duplicates
 pub mod Keys
 pub mod Laws

@@ -206,7 +206,7 @@ fn add_where_repeated<'i>(
 }
 
 /// Whether a node is a literal or a call.
-fn is_plain(node: &ParserNode<'_>) -> bool
+pub(crate) fn is_plain(node: &ParserNode<'_>) -> bool
     ensures { result ≡ spec.is_plain (without_spans (view node.now)) }
 {
     match &node.expr {

@@ -124,7 +124,11 @@ impl Related {
         start: usize,
         end: usize,
         message: &str,
-    ) -> Result<Related, AllocError> {
+    ) -> Result<Related, AllocError>
+        ensures start { IfOk result (λ related. related.start ≡ start) }
+        ensures end { IfOk result (λ related. related.end ≡ end) }
+        ensures message { IfOk result (λ related. string_bytes related.message ≡ message.now) }
+    {
         let message = String::from_str(alloc, message)?;
         Ok(Related {
             start,

@@ -30,11 +30,11 @@ items_one (d ∷ ds) (e ∷ es) h =
 pub arrays_one : (ds es : List Data) → ◌≡◌ {A = Option Data} (Some (array (items_of ds))) (Some (array (items_of es))) → ds ≡ es
 arrays_one ds es h = let inner : items_of ds ≡ items_of es = cc in items_one ds es inner
 
-abbrev unary : (Expression → Expression) → List Expression → List Expression
+abbrev pub unary : (Expression → Expression) → List Expression → List Expression
 unary f [] = []
 unary f (x ∷ es) = f x ∷ es
 
-abbrev binary : (Expression → Expression → Expression) → List Expression → List Expression
+abbrev pub binary : (Expression → Expression → Expression) → List Expression → List Expression
 binary f [] = []
 binary f (x ∷ []) = []
 binary f (x ∷ (y ∷ es)) = f x y ∷ es
@@ -107,7 +107,7 @@ node (array (item (string form) (item c (item d no_items)))) es = node_of_two fo
 node _ es = []
 
 -- the expressions whose nodes these are
-abbrev decode : List Data → List Expression
+abbrev pub decode : List Data → List Expression
 decode [] = []
 decode (d ∷ ds) = node d (decode ds)
 
@@ -127,7 +127,7 @@ after_two : (f : Expression → Expression → Expression) (xs ys rest : List Da
     → binary f (decode ((xs ++ ys) ++ rest)) ≡ f x y ∷ decode rest
 after_two f xs ys rest x y h k = ap (binary f) (ap decode (append_assoc xs ys rest) ∙ (h ∙ ap (λ t. x ∷ t) k))
 
-decoded : (b : bare.Expr) (rest : List Data) → decode (nodes_of b ++ rest) ≡ expression_of b ∷ decode rest
+pub decoded : (b : bare.Expr) (rest : List Data) → decode (nodes_of b ++ rest) ≡ expression_of b ∷ decode rest
 decoded (bare.Str s) rest = refl
 decoded (bare.Insens s) rest = refl
 decoded (bare.Range s t) rest = refl
@@ -149,7 +149,7 @@ decoded (bare.Push' p x) rest = ap (unary e.Push) (decoded x rest)
 decoded (bare.PushLiteral s) rest = refl
 decoded (bare.NodeTag' p x s) rest = ap (unary (λ y. e.NodeTag y (text_of s))) (decoded x rest)
 
-optimized_decoded : (b : optimized.OptimizedExpr) (rest : List Data) → decode (optimized_nodes_of b ++ rest) ≡ optimized_expression_of b ∷ decode rest
+pub optimized_decoded : (b : optimized.OptimizedExpr) (rest : List Data) → decode (optimized_nodes_of b ++ rest) ≡ optimized_expression_of b ∷ decode rest
 optimized_decoded (optimized.Str s) rest = refl
 optimized_decoded (optimized.Insens s) rest = refl
 optimized_decoded (optimized.Range s t) rest = refl

@@ -1,8 +1,14 @@
 pub mod Decoding
 pub mod Depths
 pub mod Floats
+pub mod Lacking
 pub mod Lists
+pub mod NoArguments
+pub mod NoNodes
+pub mod NoRules
 pub mod PlacedFloats
-pub mod RuleNames
-pub mod Turns
+pub mod Reasons
 pub mod Refused
+pub mod RuleNames
+pub mod Stopping
+pub mod Turns

@@ -1,5 +1,5 @@
 -- A name that the search finds nowhere is of no rule.
-use Rattle.std.proofs.Common.{◌≡◌, ℕ, Bool, false, List, ◌∷◌, Option, Some, None, IfNone, bytes_eq, cond, refl, subst, ap, ◌∙◌, sym}
+use Rattle.std.proofs.Common.{◌≡◌, ℕ, Bool, false, List, ◌∷◌, Option, Some, None, IfNone, bytes_eq, cond, refl, subst, sym}
 use Rattle.std.specs.List.{find}
 use Rattle.std.specs.Option.{option_map}
 use Rattle.meta_base.specs.Pieces.MetaRules.{meta_rules, name_of}

@@ -6,4 +6,5 @@ pub mod Reading
 pub mod Refusals
 pub mod RuleNames
 pub mod Tokens
+pub mod Unread
 pub mod Versions

@@ -1,7 +1,8 @@
 -- Nodes without their operands, and the worklist of the writer; the proofs of the code use these.
-use Rattle.std.specs.Prelude.{ℕ, ◌+◌, List, [], ◌∷◌, ◌++◌, codes}
+use Rattle.std.specs.Prelude.{◌≢◌, ℕ, ◌+◌, List, [], ◌∷◌, ◌++◌, codes, ⊤}
 use Rattle.std.specs.Borrow.{Bor}
 use Rattle.serde_json.specs.Data.{Data, string}
+use Rattle.meta_base.specs.Language.Grammar.{EndFits, FitsSigned32, FitsUnsigned32}
 use Rattle.meta_json.specs.Format.{count_data, end_data, form, form_with, form_with_two, place_data, texts_data}
 use Rattle.meta_json.specs.declared.expressions.NodeOperands.{NodeOperands}
 use Rattle.meta_json.specs.declared.expressions.NodeOperands.TheVariants as operands
@@ -31,6 +32,19 @@ node_data node.Push = form (codes "push")
 node_data (node.PushLiteral s) = form_with (codes "push_literal") (string s.now)
 node_data (node.NodeTag s) = form_with (codes "node_tag") (string s.now)
 node_data node.RestoreOnErr = form (codes "restore_on_err")
+
+-- the numbers of a node fit 32 bits
+abbrev pub HasFittingNumbers : JsonNode → Type 0
+HasFittingNumbers (node.PeekSlice i j) = FitsSigned32 i × EndFits j
+HasFittingNumbers (node.RepExact n) = FitsUnsigned32 n
+HasFittingNumbers (node.RepMin m) = FitsUnsigned32 m
+HasFittingNumbers (node.RepMax n) = FitsUnsigned32 n
+HasFittingNumbers (node.RepMinMax m n) = FitsUnsigned32 m × FitsUnsigned32 n
+HasFittingNumbers _ = ⊤
+
+-- the value is no node
+abbrev pub IsNoNode : Data → Type 0
+IsNoNode d = (n : JsonNode) → HasFittingNumbers n → node_data n ≢ d
 
 -- the nodes of expressions in a list, the last of them first
 abbrev pub in_turn : {A : Type 0} → (A → List Data) → List A → List Data

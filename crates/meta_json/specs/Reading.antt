@@ -4,6 +4,9 @@ use Rattle.serde_json.specs.Data.{Data, array, string}
 use Rattle.serde_json.specs.Find.{get}
 use Rattle.serde_json.specs.Read.{read}
 use Rattle.serde_json.specs.View.{items_of}
+use Rattle.meta_base.specs.Language.Expression.{Expression, Grammar}
+use Rattle.meta_base.specs.Language.Grammar.{FitsItsTypes}
+use Rattle.meta_base.specs.Language.WellFormed.{InSomeRule}
 use Rattle.meta_ast.specs.declared.ast.RuleType.{RuleType}
 use Rattle.meta_ast.specs.declared.ast.Rule as bare
 use Rattle.meta_ast.specs.declared.optimized.OptimizedRule.{OptimizedRule}
@@ -39,6 +42,10 @@ members_of_optimized r = rule_members (string_bytes r.name) r.ty (optimized_node
 -- the text is a list in JSON, of objects with these members
 abbrev pub Lists : List ℕ → List Members → Type 0
 Lists text wanted = (ds : List Data) × (read text ≡ Some (array (items_of ds))) × (map members_of ds ≡ wanted)
+
+-- the numbers of the rules fit their types, and their texts are texts, as those of rules of code
+abbrev pub FitTheirTypes : Grammar → Type 0
+FitTheirTypes g = (p : Expression) → InSomeRule g p → FitsItsTypes p
 
 -- the text has these rules
 abbrev pub AreRules : List ℕ → List bare.Rule → Type 0

@@ -1,9 +1,13 @@
 -- Why a text is not read as rules, as a JSON value.
-use Rattle.std.specs.Prelude.{◌≡◌, ℕ, List, None, Some, codes, ⊤}
-use Rattle.serde_json.specs.Data.{Data, member, no_members, object, string}
+use Rattle.std.specs.Prelude.{◌≡◌, ℕ, List, None, Some, codes, map, slice_get, take, ⊤}
+use Rattle.serde_json.specs.Data.{Data, array, member, no_members, object, string}
 use Rattle.serde_json.specs.Find.{as_array}
 use Rattle.serde_json.specs.Read.{read}
+use Rattle.serde_json.specs.View.{items_of}
 use Rattle.meta_json.specs.Errors.{size_data}
+use Rattle.meta_json.specs.Format.{nodes_of, optimized_nodes_of}
+use Rattle.meta_json.specs.Reading.{Members, members_of, members_of_optimized, members_of_rule}
+use Rattle.meta_json.specs.Unread.{IsUnreadRule}
 use Rattle.meta_json.specs.declared.refusal.RefusalLocation.{RefusalLocation}
 use Rattle.meta_json.specs.declared.refusal.RefusalLocation.TheVariants as place
 use Rattle.meta_json.specs.declared.refusal.Refusal.{Refusal}
@@ -53,19 +57,41 @@ at_node (unread.Reason why) node = unread.At node why
 at_node (unread.At other why) node = unread.At other why
 
 -- the refusal of a text: an allocation failure; no JSON, with a line and a column; no list; or a reason in
--- one of its rules, which has no further condition
-abbrev pub IsRefusedText : List ℕ → Refusal → Type 0
-IsRefusedText text refusal.Memory = ⊤
-IsRefusedText text (refusal.Text (place.Text line column) why) = (why ≡ is.Json) × (read text ≡ None)
-IsRefusedText text (refusal.Text place.Whole why) =
+-- the rule of that number, of which this is said
+abbrev pub RefusesBy : (ℕ → Unread → Type 0) → List ℕ → Refusal → Type 0
+RefusesBy InRule text refusal.Memory = ⊤
+RefusesBy InRule text (refusal.Text (place.Text line column) why) = (why ≡ is.Json) × (read text ≡ None)
+RefusesBy InRule text (refusal.Text place.Whole why) =
     (why ≡ is.NoList) × ((d : Data) × (read text ≡ Some d) × (as_array d ≡ None))
-IsRefusedText text (refusal.Text (place.Rule rule) why) = ⊤
-IsRefusedText text (refusal.Text (place.Node rule node) why) = ⊤
+RefusesBy InRule text (refusal.Text (place.Rule rule) why) = InRule rule (unread.Reason why)
+RefusesBy InRule text (refusal.Text (place.Node rule node) why) = InRule rule (unread.At node why)
 
--- an allocation failure, or a reason in the rule of that number
-abbrev pub IsInRule : ℕ → Refusal → Type 0
-IsInRule rule refusal.Memory = ⊤
-IsInRule rule (refusal.Text (place.Text line column) why) = ⊥
-IsInRule rule (refusal.Text place.Whole why) = ⊥
-IsInRule rule (refusal.Text (place.Rule n) why) = n ≡ rule
-IsInRule rule (refusal.Text (place.Node n node) why) = n ≡ rule
+-- the refusal of a text as rules of any kind; nothing is said of a reason in a rule
+abbrev pub IsRefusedText : List ℕ → Refusal → Type 0
+IsRefusedText text r = RefusesBy (λ rule why. ⊤) text r
+
+module _ {R E : Type 0} (members : R → Members) (nodes : E → List Data) where
+  -- the text is a list in JSON whose value of that number is the first that is not read, for this reason
+  pub record IsUnreadAt (text : List ℕ) (n : ℕ) (why : Unread) : Type 0 where
+    pub ds : List Data
+    pub lists : read text ≡ Some (array (items_of ds))
+    pub rules : List R
+    pub before : map members_of (take n ds) ≡ map members rules
+    pub value : Data
+    pub there : slice_get ds n ≡ Some value
+    pub unread : IsUnreadRule nodes value why
+
+  -- a reason in a rule is that of the first value that is not read
+  abbrev pub Refuses : List ℕ → Refusal → Type 0
+  Refuses text r = RefusesBy (λ rule why. IsUnreadAt text rule why) text r
+
+-- the refusal of a text as rules, and as optimized rules
+abbrev pub IsRefusedAsRules : List ℕ → Refusal → Type 0
+IsRefusedAsRules text r = Refuses members_of_rule nodes_of text r
+
+abbrev pub IsRefusedAsOptimized : List ℕ → Refusal → Type 0
+IsRefusedAsOptimized text r = Refuses members_of_optimized optimized_nodes_of text r
+
+-- the refusal of the value of that number
+abbrev pub RefusesValue : {E : Type 0} → (E → List Data) → Data → ℕ → Refusal → Type 0
+RefusesValue nodes d rule r = (why : Unread) × (r ≡ in_rule why rule) × IsUnreadRule nodes d why

@@ -1,8 +1,9 @@
 //! Expressions as lists of nodes in preorder, and read back. Stack use does not depend on nesting depth.
-ghost use Rattle.std.specs.Prelude.{◌≡◌, ◌<◌, ◌+◌, ◌++◌, ℕ, List, [], ◌∷◌, IfOk, OnOk, map};
+ghost use Rattle.std.specs.Prelude.{◌≡◌, ◌<◌, ◌+◌, ◌++◌, ℕ, List, [], ◌∷◌, IfErr, IfOk, OnOk, length, map};
 ghost use Rattle.serde_json.specs.Data.{Data};
 ghost use Rattle.serde_json.specs.View.{view};
 ghost use Rattle.meta_json.specs.Nodes.{heft_now, heft_of_operands, in_turn, node_data, nodes_of_operands, now_in_turn};
+ghost use Rattle.meta_json.specs.Unread.{AreOfNone, IsUnreadBody, IsUnreadNode, OnReason};
 
 use crate::nodes::JsonNode;
 use crate::refusal::{RefusalReason, Unread};
@@ -42,8 +43,10 @@ pub(crate) trait FromNodes: AsNodes + Release {
         node: JsonNode<'_>,
         operands: &mut Deep<Vec<Self>>,
     ) -> Result<Self, Unread>
-        ensures { IfOk result (λ expr. Self.nodes expr ++ in_turn Self.nodes operands.new.value.items
-            ≡ node_data node.entry ∷ in_turn Self.nodes operands.old.value.items) };
+        ensures expr { IfOk result (λ expr. Self.nodes expr ++ in_turn Self.nodes operands.new.value.items
+            ≡ node_data node.entry ∷ in_turn Self.nodes operands.old.value.items) }
+        ensures refused { IfErr result (λ unread. OnReason unread (AreOfNone Self.nodes
+            (node_data node.entry ∷ in_turn Self.nodes operands.old.value.items))) };
 }
 
 /// Returns the nodes of an expression in preorder, as values.
@@ -90,7 +93,8 @@ fn put<'a, E: AsNodes>(
 /// Builds the expression whose nodes in preorder these values are. Reads them from the last to the first.
 #[tactic(auto, using(crate::proofs::Turns::in_turn_last))]
 pub(crate) fn expression_of<E: FromNodes>(alloc: Global, nodes: &[Value]) -> Result<E, Unread>
-    ensures { IfOk result (λ expr. E.nodes expr ≡ map view nodes.now) }
+    ensures expr { IfOk result (λ expr. E.nodes expr ≡ map view nodes.now) }
+    ensures refused { IfErr result (IsUnreadBody E.nodes (map view nodes.now)) }
 {
     let mut operands = Deep {
         value: Vec::new(alloc),
@@ -119,8 +123,10 @@ fn expression_with<E: FromNodes>(
     node: &Value,
     operands: &mut Deep<Vec<E>>,
 ) -> Result<(), Unread>
-    ensures { OnOk result (in_turn E.nodes operands.new.value.items
+    ensures read { OnOk result (in_turn E.nodes operands.new.value.items
         ≡ view node.now ∷ in_turn E.nodes operands.old.value.items) }
+    ensures refused { IfErr result (λ unread. OnReason unread (IsUnreadNode E.nodes (view node.now)
+        (in_turn E.nodes operands.old.value.items))) }
 {
     let expr = E::of_node(alloc, JsonNode::of_value(alloc, node)?, operands)?;
     operands.push(Deep { value: expr })?;
@@ -129,8 +135,9 @@ fn expression_with<E: FromNodes>(
 
 /// Pops an operand, in a box that is dropped iteratively.
 fn operand<E: Release>(alloc: Global, operands: &mut Deep<Vec<E>>) -> Result<Deep<Box<E>>, Unread>
-    ensures { IfOk result (λ taken. operands.old.value.items
+    ensures taken { IfOk result (λ taken. operands.old.value.items
         ≡ operands.new.value.items ++ (taken.value.value ∷ [])) }
+    ensures refused { IfErr result (λ unread. OnReason unread (operands.old.value.items ≡ [])) }
 {
     match operands.value.pop() {
         Some(expr) => Ok(Deep { value: expr }.into_box(alloc)?),
@@ -143,8 +150,9 @@ pub(crate) fn one_operand<E: Release>(
     alloc: Global,
     operands: &mut Deep<Vec<E>>,
 ) -> Result<Box<E>, Unread>
-    ensures { IfOk result (λ taken. operands.old.value.items
+    ensures taken { IfOk result (λ taken. operands.old.value.items
         ≡ operands.new.value.items ++ (taken.value ∷ [])) }
+    ensures refused { IfErr result (λ unread. OnReason unread (length operands.old.value.items < 1)) }
 {
     Ok(operand(alloc, operands)?.into_inner())
 }
@@ -154,8 +162,9 @@ pub(crate) fn two_operands<E: Release>(
     alloc: Global,
     operands: &mut Deep<Vec<E>>,
 ) -> Result<(Box<E>, Box<E>), Unread>
-    ensures { IfOk result (λ taken. operands.old.value.items
+    ensures taken { IfOk result (λ taken. operands.old.value.items
         ≡ (operands.new.value.items ++ (taken.1.value ∷ [])) ++ (taken.0.value ∷ [])) }
+    ensures refused { IfErr result (λ unread. OnReason unread (length operands.old.value.items < 2)) }
 {
     let left = operand(alloc, operands)?;
     let right = operand(alloc, operands)?;

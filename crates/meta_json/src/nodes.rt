@@ -1,9 +1,13 @@
 //! Nodes of expressions as JSON: a list of a form's name and its arguments.
-ghost use Rattle.std.specs.Prelude.{◌≡◌, IfOk, codes};
+ghost use Rattle.std.specs.Prelude.{◌≡◌, ◌≢◌, ℕ, ℤ, IfErr, IfOk, List, None, Option, String, codes};
+ghost use Rattle.std.specs.declared.alloc.Global.{Global};
 ghost use Rattle.serde_json.specs.Data.{array, item, string};
+ghost use Rattle.serde_json.specs.Find.{as_str};
 ghost use Rattle.serde_json.specs.View.{items_view, view};
+ghost use Rattle.meta_base.specs.Language.Grammar.{EndFits, FitsSigned32, FitsUnsigned32};
 ghost use Rattle.meta_json.specs.Format.{count_data, end_data, form as form_data, form_with, form_with_two, place_data, texts_data};
-ghost use Rattle.meta_json.specs.Nodes.{node_data};
+ghost use Rattle.meta_json.specs.Nodes.{IsNoNode, node_data};
+ghost use Rattle.meta_json.specs.Unread.{OnReason};
 
 use crate::refusal::{RefusalReason, Unread};
 use serde_json::{Value, json};
@@ -68,7 +72,8 @@ impl<'a> JsonNode<'a> {
 
     /// Reads a node from a value.
     pub(crate) fn of_value(alloc: Global, value: &'a Value) -> Result<JsonNode<'a>, Unread>
-        ensures { IfOk result (λ node. node_data node ≡ view value.now) }
+        ensures node { IfOk result (λ node. node_data node ≡ view value.now) }
+        ensures refused { IfErr result (λ unread. OnReason unread (IsNoNode (view value.now))) }
     {
         let Some(parts) = value.as_array() else {
             return Err(Unread::Reason(RefusalReason::Node));
@@ -128,8 +133,10 @@ fn skip_value(alloc: Global, texts: &[String]) -> Result<Value, AllocError>
 
 /// Returns the node of that form with these arguments.
 fn node_of<'a>(alloc: Global, form: &'a str, arguments: &'a [Value]) -> Result<JsonNode<'a>, Unread>
-    ensures { IfOk result (λ node. node_data node
+    ensures node { IfOk result (λ node. node_data node
         ≡ array (item (string form.now) (items_view arguments.now))) }
+    ensures refused { IfErr result (λ unread.
+        OnReason unread (IsNoNode (array (item (string form.now) (items_view arguments.now))))) }
 {
     match arguments {
         [] => node_alone(form),
@@ -141,7 +148,8 @@ fn node_of<'a>(alloc: Global, form: &'a str, arguments: &'a [Value]) -> Result<J
 
 /// Returns the node of that form without arguments.
 fn node_alone<'a>(form: &'a str) -> Result<JsonNode<'a>, Unread>
-    ensures { IfOk result (λ node. node_data node ≡ form_data form.now) }
+    ensures node { IfOk result (λ node. node_data node ≡ form_data form.now) }
+    ensures refused { IfErr result (λ unread. OnReason unread (IsNoNode (form_data form.now))) }
 {
     match form {
         "pos_pred" => Ok(JsonNode::PosPred),
@@ -159,8 +167,10 @@ fn node_alone<'a>(form: &'a str) -> Result<JsonNode<'a>, Unread>
 
 /// Returns the node of that form with one argument.
 fn node_with<'a>(alloc: Global, form: &'a str, one: &'a Value) -> Result<JsonNode<'a>, Unread>
-    ensures { IfOk result (λ node. node_data node
+    ensures node { IfOk result (λ node. node_data node
         ≡ form_with form.now (view one.now)) }
+    ensures refused { IfErr result (λ unread.
+        OnReason unread (IsNoNode (form_with form.now (view one.now)))) }
 {
     match form {
         "str" => Ok(JsonNode::Str(text_of(one)?)),
@@ -182,8 +192,10 @@ fn node_with_two<'a>(
     first: &'a Value,
     second: &'a Value,
 ) -> Result<JsonNode<'a>, Unread>
-    ensures { IfOk result (λ node. node_data node
+    ensures node { IfOk result (λ node. node_data node
         ≡ form_with_two form.now (view first.now) (view second.now)) }
+    ensures refused { IfErr result (λ unread.
+        OnReason unread (IsNoNode (form_with_two form.now (view first.now) (view second.now)))) }
 {
     match form {
         "range" => Ok(JsonNode::Range(text_of(first)?, text_of(second)?)),
@@ -195,7 +207,9 @@ fn node_with_two<'a>(
 
 /// Returns a text, if the value is one.
 fn text_of(value: &Value) -> Result<&str, Unread>
-    ensures { IfOk result (λ text. string text.now ≡ view value.now) }
+    ensures text { IfOk result (λ text. string text.now ≡ view value.now) }
+    ensures refused { IfErr result (λ unread. (unread ≡ Unread.Reason RefusalReason.Form)
+        × (as_str (view value.now) ≡ None)) }
 {
     match value.as_str() {
         Some(text) => Ok(text),
@@ -205,7 +219,9 @@ fn text_of(value: &Value) -> Result<&str, Unread>
 
 /// Returns a number of 32 bits, if the value is one.
 fn count_of(value: &Value) -> Result<u32, Unread>
-    ensures { IfOk result (λ count. count_data count ≡ view value.now) }
+    ensures count { IfOk result (λ count. count_data count ≡ view value.now) }
+    ensures refused { IfErr result (λ unread. (unread ≡ Unread.Reason RefusalReason.Form)
+        × ((count : ℕ) → FitsUnsigned32 count → count_data count ≢ view value.now)) }
 {
     match value.as_u64() {
         Some(count) if count <= u64::from(u32::MAX) => Ok(count as u32),
@@ -215,7 +231,9 @@ fn count_of(value: &Value) -> Result<u32, Unread>
 
 /// Returns a signed number of 32 bits, if the value is one.
 fn index_of(value: &Value) -> Result<i32, Unread>
-    ensures { IfOk result (λ index. place_data index ≡ view value.now) }
+    ensures index { IfOk result (λ index. place_data index ≡ view value.now) }
+    ensures refused { IfErr result (λ unread. (unread ≡ Unread.Reason RefusalReason.Form)
+        × ((index : ℤ) → FitsSigned32 index → place_data index ≢ view value.now)) }
 {
     match value.as_i64() {
         Some(index) if i64::from(i32::MIN) <= index && index <= i64::from(i32::MAX) => Ok(
@@ -227,7 +245,9 @@ fn index_of(value: &Value) -> Result<i32, Unread>
 
 /// Returns a signed number of 32 bits, or `None` if the value is null.
 fn end_of(value: &Value) -> Result<Option<i32>, Unread>
-    ensures { IfOk result (λ end. end_data end ≡ view value.now) }
+    ensures end { IfOk result (λ end. end_data end ≡ view value.now) }
+    ensures refused { IfErr result (λ unread. (unread ≡ Unread.Reason RefusalReason.Form)
+        × ((end : Option ℤ) → EndFits end → end_data end ≢ view value.now)) }
 {
     match value {
         Value::Null => Ok(None),
@@ -237,7 +257,9 @@ fn end_of(value: &Value) -> Result<Option<i32>, Unread>
 
 /// Returns a list of texts, if the value is one.
 fn texts_of(alloc: Global, value: &Value) -> Result<Vec<String>, Unread>
-    ensures { IfOk result (λ texts. texts_data texts.items ≡ view value.now) }
+    ensures texts { IfOk result (λ texts. texts_data texts.items ≡ view value.now) }
+    ensures refused { IfErr result (λ unread.
+        OnReason unread ((texts : List (String Global)) → texts_data texts ≢ view value.now)) }
 {
     let Some(values) = value.as_array() else {
         return Err(Unread::Reason(RefusalReason::Form));

@@ -3,6 +3,7 @@ ghost use Rattle.std.specs.Prelude.{◌≡◌, IfOk, string_bytes};
 ghost use Rattle.serde_json.specs.View.{view};
 ghost use Rattle.serde_json.specs.Written.{compact_text};
 ghost use Rattle.meta_json.specs.declared.refusal.Refusal.TheVariants.{Memory};
+ghost use Rattle.meta_json.specs.declared.refusal.Unread.TheVariants as unread_is;
 ghost use Rattle.meta_json.specs.Refusals.{at_node, in_rule, message_data, message_of, refusal_data};
 
 use serde_json::{Value, json};
@@ -93,12 +94,16 @@ pub(crate) enum Unread {
 }
 
 impl From<AllocError> for Unread {
+    ghost from_gives = { λ _ unread. unread ≡ unread_is.Memory };
+
     fn from(_refused: AllocError) -> Unread {
         Unread::Memory
     }
 }
 
 impl<T: Drop> From<AllocFailed<T>> for Unread {
+    ghost from_gives = { λ _ unread. unread ≡ unread_is.Memory };
+
     fn from(_refused: AllocFailed<T>) -> Unread {
         Unread::Memory
     }

@@ -5,10 +5,11 @@ ghost use Rattle.serde_json.specs.Find.{as_array, as_str, get};
 ghost use Rattle.serde_json.specs.Read.{read};
 ghost use Rattle.serde_json.specs.View.{items_view, view};
 ghost use Rattle.serde_json.specs.Written.{compact_text};
-ghost use Rattle.meta_json.specs.Format.{optimized_rules_data, rule_data, rules_data, type_name};
+ghost use Rattle.meta_json.specs.Format.{nodes_of, optimized_nodes_of, optimized_rules_data, rule_data, rules_data, type_name};
 ghost use Rattle.meta_ast.specs.declared.ast.RuleType.{RuleType};
-ghost use Rattle.meta_json.specs.Refusals.{IsInRule, IsRefusedText};
+ghost use Rattle.meta_json.specs.Refusals.{IsRefusedAsOptimized, IsRefusedAsRules, IsRefusedText, RefusesValue};
 ghost use Rattle.meta_json.specs.Reading.{AreOptimizedRules, AreRules, members_of, members_of_optimized, members_of_rule, rule_members};
+ghost use Rattle.meta_json.specs.Unread.{IsUnreadRule};
 
 use crate::expressions::{AsNodes, FromNodes, expression_of, nodes_of};
 use crate::refusal::{Refusal, RefusalLocation, RefusalReason, Unread};
@@ -89,10 +90,10 @@ pub(crate) fn name_of_type(ty: RuleType) -> &'static str
 
 /// Reads rules from a text in JSON. Refuses a text that is no JSON, or no list, or has an object that is no
 /// rule, and reports the first one. An allocation failure is a refusal, too.
-#[tactic(auto, using(crate::proofs::Refused::of_rule))]
 pub fn read_rules(alloc: Global, text: &str) -> Result<Vec<Rule>, Refusal>
     ensures rules { IfOk result (λ rules. AreRules text.now rules.items) }
     ensures refused { IfErr result (IsRefusedText text.now) }
+    ensures exact { IfErr result (IsRefusedAsRules text.now) }
 {
     let value = value_of(alloc, text)?;
     let values = values_of(&value)?;
@@ -109,10 +110,10 @@ pub fn read_rules(alloc: Global, text: &str) -> Result<Vec<Rule>, Refusal>
 }
 
 /// Reads optimized rules from a text in JSON. Refuses as `read_rules` does.
-#[tactic(auto, using(crate::proofs::Refused::of_rule))]
 pub fn read_optimized_rules(alloc: Global, text: &str) -> Result<Vec<OptimizedRule>, Refusal>
     ensures rules { IfOk result (λ rules. AreOptimizedRules text.now rules.items) }
     ensures refused { IfErr result (IsRefusedText text.now) }
+    ensures exact { IfErr result (IsRefusedAsOptimized text.now) }
 {
     let value = value_of(alloc, text)?;
     let values = values_of(&value)?;
@@ -132,6 +133,8 @@ pub fn read_optimized_rules(alloc: Global, text: &str) -> Result<Vec<OptimizedRu
 fn value_of(alloc: Global, text: &str) -> Result<Value, Refusal>
     ensures value { IfOk result (λ value. read text.now ≡ Some (view value)) }
     ensures refused { IfErr result (IsRefusedText text.now) }
+    ensures rules { IfErr result (IsRefusedAsRules text.now) }
+    ensures optimized { IfErr result (IsRefusedAsOptimized text.now) }
 {
     match Value::from_str(alloc, text) {
         Ok(value) => Ok(value),
@@ -157,10 +160,9 @@ fn values_of(value: &Value) -> Result<&Vec<Value>, Refusal>
 }
 
 /// Reads a rule from a value. `place` is its number in the list.
-#[tactic(auto, using(crate::proofs::Refused::in_its_rule))]
 fn rule_of(alloc: Global, value: &Value, place: usize) -> Result<Rule, Refusal>
     ensures members { IfOk result (λ rule. members_of (view value.now) ≡ members_of_rule rule) }
-    ensures refused { IfErr result (IsInRule place) }
+    ensures refused { IfErr result (RefusesValue nodes_of (view value.now) place) }
 {
     match parts_of(alloc, value) {
         Ok((name, ty, expr)) => Ok(Rule { name, ty, expr }),
@@ -169,10 +171,9 @@ fn rule_of(alloc: Global, value: &Value, place: usize) -> Result<Rule, Refusal>
 }
 
 /// Reads an optimized rule from a value. `place` is its number in the list.
-#[tactic(auto, using(crate::proofs::Refused::in_its_rule))]
 fn optimized_rule_of(alloc: Global, value: &Value, place: usize) -> Result<OptimizedRule, Refusal>
     ensures members { IfOk result (λ rule. members_of (view value.now) ≡ members_of_optimized rule) }
-    ensures refused { IfErr result (IsInRule place) }
+    ensures refused { IfErr result (RefusesValue optimized_nodes_of (view value.now) place) }
 {
     match parts_of(alloc, value) {
         Ok((name, ty, expr)) => Ok(OptimizedRule { name, ty, expr }),
@@ -182,8 +183,9 @@ fn optimized_rule_of(alloc: Global, value: &Value, place: usize) -> Result<Optim
 
 /// Reads a rule's name, type and body.
 fn parts_of<E: FromNodes>(alloc: Global, value: &Value) -> Result<(String, RuleType, E), Unread>
-    ensures { IfOk result (λ parts. members_of (view value.now)
+    ensures members { IfOk result (λ parts. members_of (view value.now)
         ≡ rule_members (string_bytes parts.0) parts.1 (E.nodes parts.2)) }
+    ensures refused { IfErr result (IsUnreadRule E.nodes (view value.now)) }
 {
     let name = String::from_str(alloc, name_in(value)?)?;
     let ty = type_in(value)?;

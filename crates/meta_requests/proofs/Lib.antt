@@ -1,2 +1,3 @@
 mod Matching
 mod Starts
+pub mod Pushing

@@ -1,5 +1,5 @@
 -- The starts of definitions, and what is outside them.
-use Rattle.std.proofs.Common.{◌≡◌, ◌∙◌, List, [], ◌∷◌, ℕ, Bool, true, false, cond, ap, refl, sym}
+use Rattle.std.proofs.Common.{◌≡◌, List, [], ◌∷◌, Bool, true, false, cond, refl}
 use Rattle.std.specs.Prelude.{◌||◌, filter}
 
 -- one more byte among the starts is one fewer left

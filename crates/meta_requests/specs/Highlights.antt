@@ -1,5 +1,5 @@
 -- Where a name is highlighted.
-use Rattle.std.specs.Prelude.{◌≡◌, ◌⊎◌, ℕ, List, codes, map, if◌then◌else◌}
+use Rattle.std.specs.Prelude.{◌≡◌, ◌⊎◌, List, codes, map, if◌then◌else◌}
 use Rattle.serde_json.specs.Data.{Data, array, member, no_members, null, number, object, unsigned}
 use Rattle.serde_json.specs.View.{items_of, view}
 use Rattle.language_protocol.specs.declared.messages.Answer.{Answer}

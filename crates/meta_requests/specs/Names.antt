@@ -18,7 +18,7 @@ use Rattle.meta_symbols.specs.Parts.{part}
 use Rattle.meta_symbols.specs.Tokens.{defined_names, name_of}
 use Rattle.meta_symbols.specs.declared.tokens.Extent.{Extent}
 
--- what a context is of
+-- the subject of a context
 pub record IsContextOf (client : Client) (uri text : List ℕ) (context : Context) : Type 0 where
   pub same_uri : context.uri.now ≡ uri
   pub same_text : context.text.now ≡ text

@@ -5,7 +5,6 @@ use Rattle.serde_json.specs.View.{view}
 use Rattle.language_protocol.specs.Asked.{text_in}
 use Rattle.language_protocol.specs.declared.messages.Answer.{Answer}
 use Rattle.language_protocol.specs.declared.messages.Answer.TheVariants as answer
-use Rattle.language_protocol.specs.declared.messages.ErrorCode.{ErrorCode}
 use Rattle.language_protocol.specs.declared.messages.ErrorCode.TheVariants.{RequestFailed}
 use Rattle.meta_requests.specs.Locations.{range_at}
 use Rattle.meta_requests.specs.Names.{HasNoName, IsAskedName}

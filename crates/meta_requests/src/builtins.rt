@@ -1,4 +1,6 @@
 //! Meanings of builtins.
+ghost use Rattle.std.specs.Prelude.{◌≡◌, map, option_map};
+ghost use Rattle.meta_requests.specs.BuiltinDocs as spec;
 
 /// A builtin, and what it matches.
 #[derive(Clone, Copy)]
@@ -88,16 +90,31 @@ static BUILTIN_DOCS: [BuiltinDoc; 19] = [
 ];
 
 /// Returns the builtins other than Unicode properties.
-pub fn builtin_docs() -> &'static [BuiltinDoc] {
+pub fn builtin_docs() -> &'static [BuiltinDoc]
+    ensures names { map spec.name_of result.now ≡ spec.builtin_names }
+    ensures docs { map spec.entry_of result.now ≡ spec.builtin_docs }
+{
     &BUILTIN_DOCS
 }
 
 /// Returns what a builtin other than a Unicode property matches.
-pub fn builtin_doc(name: &str) -> Option<&'static str> {
-    for builtin in &BUILTIN_DOCS {
+pub fn builtin_doc(name: &str) -> Option<&'static str>
+    ensures { option_map (λ doc. doc.now) result ≡ spec.doc_of name.now }
+{
+    doc_among(builtin_docs(), name)
+}
+
+/// Returns what the builtin of a name matches, if it is among these.
+fn doc_among(builtins: &[BuiltinDoc], name: &str) -> Option<&'static str>
+    ensures { option_map (λ doc. doc.now) result
+        ≡ spec.doc_among (map spec.entry_of builtins.now) name.now }
+{
+    let mut rest = builtins;
+    while let Some((builtin, after)) = rest.split_first() {
         if builtin.name == name {
             return Some(builtin.doc);
         }
+        rest = after;
     }
     None
 }

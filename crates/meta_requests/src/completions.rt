@@ -1,8 +1,15 @@
 //! Completions.
-use crate::builtins::builtin_docs;
+ghost use Rattle.std.specs.Prelude.{◌≡◌, ◌++◌, ◌∷◌, [], IfOk, OnOk, map};
+ghost use Rattle.meta_requests.specs.BuiltinDocs as docs;
+ghost use Rattle.meta_requests.specs.Completions as spec;
+ghost use Rattle.meta_requests.specs.Completions.{AreCompletions};
+ghost use Rattle.serde_json.specs.View.{view};
+
+use crate::builtins::{BuiltinDoc, builtin_docs};
 use crate::context::Context;
 use language_protocol::messages::Answer;
 use meta_names::unicode_property_names;
+use meta_symbols::Definition;
 use serde_json::{Value, json};
 use std::alloc::{AllocError, Global};
 
@@ -15,9 +22,9 @@ const KEYWORD: u64 = 14;
 
 /// A completion other than a name: its label, and its text as a snippet.
 #[derive(Clone, Copy)]
-struct CallForm {
-    label: &'static str,
-    snippet: &'static str,
+pub(crate) struct CallForm {
+    pub label: &'static str,
+    pub snippet: &'static str,
 }
 
 /// The forms that take arguments.
@@ -36,66 +43,132 @@ static FORMS: [CallForm; 3] = [
     },
 ];
 
+/// Returns the forms that take arguments.
+fn call_forms() -> &'static [CallForm]
+    ensures { map spec.form_of result.now ≡ spec.call_forms }
+{
+    &FORMS
+}
+
 /// Returns what can be written in a document: its rules, builtins, and forms with arguments.
-pub fn completions(alloc: Global, context: &Context<'_>) -> Result<Answer, AllocError> {
-    let mut items = Vec::new(alloc);
-    push_rules(alloc, context, &mut items)?;
-    push_builtins(alloc, &mut items)?;
-    push_properties(alloc, &mut items)?;
-    push_forms(alloc, context.client.has_snippets, &mut items)?;
+pub fn completions(alloc: Global, context: &Context<'_>) -> Result<Answer, AllocError>
+    ensures { IfOk result (AreCompletions context.now) }
+{
+    let items = items_in(alloc, context)?;
     Ok(Answer::Result(Value::Array(items)))
 }
 
-/// Adds the rules of a document.
+/// Returns what can be written in a document, each as a value.
+fn items_in(alloc: Global, context: &Context<'_>) -> Result<Vec<Value>, AllocError>
+    ensures { IfOk result (λ items. map view items.items ≡ spec.items_in context.now) }
+{
+    let mut items = Vec::new(alloc);
+    push_rules(alloc, context, &context.definitions, &mut items)?;
+    push_builtins(alloc, builtin_docs(), &mut items)?;
+    push_properties(alloc, unicode_property_names(), &mut items)?;
+    push_forms(alloc, call_forms(), context.client.has_snippets, &mut items)?;
+    Ok(items)
+}
+
+/// Adds rules of a document.
 fn push_rules(
     alloc: Global,
     context: &Context<'_>,
+    definitions: &[Definition],
     items: &mut Vec<Value>,
-) -> Result<(), AllocError> {
-    for definition in &context.definitions {
-        let name = context.part(definition.name);
-        let item = json!(in alloc; { "label": name, "kind": FUNCTION })?;
+) -> Result<(), AllocError>
+    ensures { OnOk result (map view items.new.items
+        ≡ map view items.old.items ++ map (spec.rule_item context.now) definitions.now) }
+{
+    let mut rest = definitions;
+    while let Some((definition, after)) = rest.split_first() {
+        let item = label_item(alloc, context.part(definition.name), FUNCTION)?;
         items.push(item)?;
+        rest = after;
     }
     Ok(())
 }
 
-/// Adds the builtins.
-fn push_builtins(alloc: Global, items: &mut Vec<Value>) -> Result<(), AllocError> {
-    for builtin in builtin_docs() {
-        let item = json!(in alloc; {
-            "label": builtin.name,
-            "kind": CONSTANT,
-            "detail": builtin.doc,
-        })?;
+/// Returns a completion without details.
+fn label_item(alloc: Global, label: &str, kind: u64) -> Result<Value, AllocError>
+    ensures { IfOk result (λ v. view v ≡ spec.label_item kind label.now) }
+{
+    json!(in alloc; { "label": label, "kind": kind })
+}
+
+/// Adds builtins.
+fn push_builtins(
+    alloc: Global,
+    builtins: &[BuiltinDoc],
+    items: &mut Vec<Value>,
+) -> Result<(), AllocError>
+    ensures { OnOk result (map view items.new.items
+        ≡ map view items.old.items ++ map spec.constant_item (map docs.entry_of builtins.now)) }
+{
+    let mut rest = builtins;
+    while let Some((builtin, after)) = rest.split_first() {
+        let item = constant_item(alloc, builtin.name, builtin.doc)?;
         items.push(item)?;
+        rest = after;
     }
     Ok(())
 }
 
-/// Adds the names of Unicode properties.
-fn push_properties(alloc: Global, items: &mut Vec<Value>) -> Result<(), AllocError> {
-    for name in unicode_property_names() {
-        let item = json!(in alloc; {
-            "label": *name,
-            "kind": CONSTANT,
-            "detail": "a character with this Unicode property",
-        })?;
-        items.push(item)?;
+/// Returns a constant as a completion.
+fn constant_item(alloc: Global, name: &str, doc: &str) -> Result<Value, AllocError>
+    ensures { IfOk result (λ v. view v ≡ spec.constant_item (name.now, doc.now)) }
+{
+    json!(in alloc; { "label": name, "kind": CONSTANT, "detail": doc })
+}
+
+/// Adds names of Unicode properties.
+fn push_properties(
+    alloc: Global,
+    names: &[&'static str],
+    items: &mut Vec<Value>,
+) -> Result<(), AllocError>
+    ensures { OnOk result (map view items.new.items
+        ≡ map view items.old.items ++ map spec.property_item (map (λ name. name.now) names.now)) }
+{
+    for name in names {
+        push_property(alloc, *name, items)?;
     }
     Ok(())
 }
 
-/// Adds the forms with arguments.
-fn push_forms(alloc: Global, has_snippets: bool, items: &mut Vec<Value>) -> Result<(), AllocError> {
-    for form in &FORMS {
-        items.push(form_item(alloc, form, has_snippets)?)?;
+/// Adds the name of a Unicode property.
+fn push_property(alloc: Global, name: &str, items: &mut Vec<Value>) -> Result<(), AllocError>
+    ensures { OnOk result (map view items.new.items
+        ≡ map view items.old.items ++ spec.property_item name.now ∷ []) }
+{
+    let item = constant_item(alloc, name, "a character with this Unicode property")?;
+    items.push(item)?;
+    Ok(())
+}
+
+/// Adds forms with arguments.
+fn push_forms(
+    alloc: Global,
+    forms: &[CallForm],
+    has_snippets: bool,
+    items: &mut Vec<Value>,
+) -> Result<(), AllocError>
+    ensures { OnOk result (map view items.new.items
+        ≡ map view items.old.items ++ map (spec.form_item has_snippets) (map spec.form_of forms.now)) }
+{
+    let mut rest = forms;
+    while let Some((form, after)) = rest.split_first() {
+        let item = form_item(alloc, form, has_snippets)?;
+        items.push(item)?;
+        rest = after;
     }
     Ok(())
 }
 
 /// Returns a form as a completion.
-fn form_item(alloc: Global, form: &CallForm, has_snippets: bool) -> Result<Value, AllocError> {
+fn form_item(alloc: Global, form: &CallForm, has_snippets: bool) -> Result<Value, AllocError>
+    ensures { IfOk result (λ v. view v ≡ spec.form_item has_snippets (spec.form_of form.now)) }
+{
     if has_snippets {
         json!(in alloc; {
             "label": form.label,
@@ -104,6 +177,6 @@ fn form_item(alloc: Global, form: &CallForm, has_snippets: bool) -> Result<Value
             "insertTextFormat": 2u64,
         })
     } else {
-        json!(in alloc; { "label": form.label, "kind": KEYWORD })
+        label_item(alloc, form.label, KEYWORD)
     }
 }

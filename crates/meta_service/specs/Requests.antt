@@ -6,9 +6,12 @@ use Rattle.language_protocol.specs.declared.documents.Documents.{Documents}
 use Rattle.language_protocol.specs.declared.messages.Answer.{Answer}
 use Rattle.language_protocol.specs.declared.messages.ErrorCode.TheVariants.{InvalidParams, MethodNotFound}
 use Rattle.meta_requests.specs.Answers.{AreDefinitions, AreReferences, IsRename}
+use Rattle.meta_requests.specs.Completions.{AreCompletions}
+use Rattle.meta_requests.specs.Folding.{AreFolds}
 use Rattle.meta_requests.specs.Highlights.{AreHighlights}
 use Rattle.meta_requests.specs.Names.{IsContextIn, LacksDocument}
 use Rattle.meta_requests.specs.Refusals.{IsPrepared}
+use Rattle.meta_requests.specs.Semantic.{AreSemanticTokens}
 use Rattle.meta_requests.specs.Symbols.{AreSymbols, AreWorkspaceSymbols}
 use Rattle.meta_requests.specs.declared.context.Context.{Context}
 use Rattle.meta_service.specs.Replies.{IsError}
@@ -48,11 +51,14 @@ request_of method = request_among method_names method
 -- an answer to a request about a document
 abbrev pub IsAnswerOf : RequestMethod → Context → Data → Answer → Type 0
 IsAnswerOf request.DocumentSymbol context params a = AreSymbols context a
+IsAnswerOf request.FoldingRange context params a = AreFolds context a
 IsAnswerOf request.Definition context params a = AreDefinitions context params a
 IsAnswerOf request.References context params a = AreReferences context params a
 IsAnswerOf request.DocumentHighlight context params a = AreHighlights context params a
 IsAnswerOf request.PrepareRename context params a = IsPrepared context params a
 IsAnswerOf request.Rename context params a = IsRename context params a
+IsAnswerOf request.Completion context params a = AreCompletions context a
+IsAnswerOf request.SemanticTokens context params a = AreSemanticTokens context a
 IsAnswerOf _ context params a = Unit {0}
 
 -- an answer to a request about the open document that parameters name, or an error where they name none

@@ -1,4 +1,7 @@
 //! Messages on standard error.
+ghost use Rattle.std.specs.Prelude.{◌≡◌, ◌++◌, IfOk, codes, string_bytes};
+ghost use Rattle.tool_support.specs.Escapes.{escaped_bytes};
+
 use meta_base::grammar::Rule;
 use meta_base::runtime::{Error, InputLocation};
 use meta_reader::rules::common_name;
@@ -17,7 +20,10 @@ pub fn cannot_read(alloc: Global, name: &str, why: &io::Error) -> Result<String,
 }
 
 /// Returns the message that a file can't be read, since it is not UTF-8.
-pub fn is_not_utf8(alloc: Global, name: &str) -> Result<String, AllocError> {
+pub fn is_not_utf8(alloc: Global, name: &str) -> Result<String, AllocError>
+    ensures { IfOk result (λ message. string_bytes message
+        ≡ codes "cannot read " ++ escaped_bytes name.now ++ codes ": it is not UTF-8\n") }
+{
     let name = escape(alloc, name)?;
     format!(in alloc; "cannot read {name}: it is not UTF-8\n")
 }
@@ -29,7 +35,10 @@ pub fn cannot_write(alloc: Global, name: &str, why: &io::Error) -> Result<String
 }
 
 /// Returns the message that a file is left alone, since its formatted text would be another grammar.
-pub fn cannot_format(alloc: Global, name: &str) -> Result<String, AllocError> {
+pub fn cannot_format(alloc: Global, name: &str) -> Result<String, AllocError>
+    ensures { IfOk result (λ message. string_bytes message ≡ codes "cannot format " ++ escaped_bytes name.now
+        ++ codes ": its formatted text would have other tokens or comments\n") }
+{
     let name = escape(alloc, name)?;
     format!(in alloc;
         "cannot format {name}: its formatted text would have other tokens or comments\n"

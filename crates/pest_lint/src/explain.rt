@@ -110,7 +110,8 @@ fn explanation_of_tokens(code: Code) -> &'static str {
             "The optimizer turns (x ~ y)* ~ x into x ~ (y ~ x)*, which matches more.\n\n    \
              a = { (b ~ \",\")* ~ b }\n    b = { \"x\" }\n\n\
              As it is written, this fails on \"x,\"; pest takes the x. An x that cannot fail is not told, \
-             nor is an Atomic rule with (!c ~ n)*."
+             nor is an Atomic rule with (!c ~ n)*. A note gives a text on which the rule ends otherwise, \
+             where a search among short texts finds one; none in a grammar of more than 200 rules."
         }
         Code::KeywordName => {
             "A rule is named as a keyword of Rust. Reported only with --warn all.\n\n    \
@@ -121,6 +122,12 @@ fn explanation_of_tokens(code: Code) -> &'static str {
             "A rule is named as a builtin, and takes its place. Or it is named as one of pest 1, as any, \
              eoi or whitespace, and is a rule like others. Reported only with --warn all.\n\n    \
              LETTER = { 'a'..'z' }\n    whitespace = _{ \" \" }"
+        }
+        Code::RepeatedBody => {
+            "A rule has the type and the body of one before it. Reported only with --warn all, since two \
+             names may be meant. A literal, a call, and more than 256 signs are not compared.\n\n    \
+             count = @{ ASCII_DIGIT+ }\n    number = @{ ASCII_DIGIT+ }\n\n\
+             Let one call the other, or take one away."
         }
         _ => {
             "An expression succeeds on no text.\n\n    a = { ANY* ~ \"x\" }\n\n\

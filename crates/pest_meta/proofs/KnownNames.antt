@@ -13,11 +13,11 @@ use Rattle.meta_base.proofs.SomeRule.{each_rule}
 use Rattle.meta_base.proofs.StepsKeepOutcomes.{Matched, each_body, each_pair, neither, two}
 use Rattle.meta_base.proofs.ListingKeepsGrammars.{Finished, Finishes}
 use Rattle.meta_base.specs.Language.Builtins.{Named, Property, builtins, builtin_of, is_one_of, looked_up, property_names, general_categories, binary_properties, scripts}
-use Rattle.meta_base.specs.Language.Expression.{Expression, Grammar, Ident, Part, Rule, RuleType, rule_of}
+use Rattle.meta_base.specs.Language.Expression.{Grammar, Ident, Part, Rule, rule_of}
 use Rattle.meta_base.specs.Language.KnownNames.{HasKnownNames}
 use Rattle.meta_base.specs.Language.Text.{Text}
 use Rattle.meta_base.specs.Language.WellFormed.{InSomeRule}
-use Rattle.meta_base.specs.Rewritings.Rewriting.{Chain, Changed, EachBody, Many, Rewrites, Within, also_rule, done, later, no_rules, no_step, one_step, step, this}
+use Rattle.meta_base.specs.Rewritings.Rewriting.{Chain, Changed, EachBody, Many, Rewrites, also_rule, done, later, no_rules, no_step, one_step, step, this}
 use Rattle.meta_names.specs.Names.{is_builtin}
 use Rattle.pest_meta.proofs.NothingNew.{NamesNothingNew, finish_here, names_along, step_here}
 use Rattle.pest_meta.specs.Promises.{AreBuiltinsOf}

@@ -35,6 +35,7 @@ use Rattle.meta_optimizer.specs.Written.{AreWrittenOut}
 use Rattle.meta_base.specs.Rewritings.Rewriting.{SameOutcomes}
 use Rattle.std.specs.declared.alloc.Global.{Global}
 use Rattle.std.specs.declared.vec.Vec.{Vec}
+use Rattle.pest_meta.specs.WithSpans.{SpellsWithSpans}
 use Rattle.pest_meta.specs.Written.{IsWritten, SpellsAccepted}
 use Rattle.pest_meta.specs.Spelling.{AreAccepted, AreFlawed, AreRejected, AreReadAsRules, HasAnswer, HasRefusal, HasTrees, HaveFindings, IsAnswer, complaints_in, HasWrongRules, IsMisnamed, IsNoGrammar, IsRefusal, IsRefusedGrammar, SpellsGrammar}
 
@@ -180,3 +181,39 @@ pub written : {E : Type 0} (text : List ℕ) (spelled : Grammar) (answer : Resul
     → IfOk answer (λ rules. IsWritten text (optimized_rules_of rules.items))
 written text spelled (Ok rules) a w o = record { spelled = spelled; accepted = a; written_out = w; outcomes = o }
 written text spelled (Err e) a w o = o
+
+-- what is accepted, with spans
+pub spells_with_spans : (text : List ℕ) (pairs : Pairs Rule) (builtins : List (Bor (List ℕ))) (rules : List SpannedRule)
+    → pairs_text pairs ≡ text → AreOfAGrammar pairs → complaints_of pairs ≡ [] → AreWrittenAt (first_calls_of pairs) builtins
+    → AreReadAs pairs rules → AreAccepted (pairs_text pairs) (named (pairs_trees pairs)) (rules_without_spans rules)
+    → SpellsWithSpans text builtins rules
+spells_with_spans text pairs builtins rules t h e u r a =
+    subst (λ v. SpellsWithSpans v builtins rules) t (record {
+      trees = named (pairs_trees pairs);
+      of_text = h;
+      well_named = e;
+      uses = u;
+      read = r;
+      accepted = a;
+    })
+
+-- the optimized rules of rules with spans, where there are some
+pub optimized_spans : {E : Type 0} (rules : List SpannedRule) (plain : Grammar) (answer : Result (Vec OptimizedRule Global) E)
+    → plain ≡ rules_without_spans rules → IfOk answer (λ answer. IsOptimized plain (optimized_rules_of answer.items))
+    → IfOk answer (λ answer. IsOptimized (rules_without_spans rules) (optimized_rules_of answer.items))
+optimized_spans rules plain answer e o = subst (λ g. IfOk answer (λ answer. IsOptimized g (optimized_rules_of answer.items))) e o
+
+-- they are the answer for the text that spells the rules
+pub optimized_answer : {E : Type 0} (rules : List SpannedRule) (answer : Result (Vec OptimizedRule Global) E)
+    → IfOk answer (λ answer. IsOptimized (rules_without_spans rules) (optimized_rules_of answer.items))
+    → IfOk answer (λ answer. (text : List ℕ) (builtins : List (Bor (List ℕ))) → SpellsWithSpans text builtins rules → IsAnswer text builtins answer.items)
+optimized_answer rules (Ok answer) o = λ text builtins s. record {
+  trees = s.trees;
+  of_text = s.of_text;
+  well_named = s.well_named;
+  uses = s.uses;
+  spelled = rules_without_spans rules;
+  accepted = s.accepted;
+  optimized = o;
+}
+optimized_answer rules (Err x) o = tt

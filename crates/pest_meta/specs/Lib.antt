@@ -3,4 +3,5 @@ pub mod Laws
 pub mod Promises
 pub mod Reports
 pub mod Spelling
+pub mod WithSpans
 pub mod Written

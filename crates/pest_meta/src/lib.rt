@@ -5,6 +5,7 @@ pub mod ast;
 pub mod laws;
 pub mod parser;
 mod report;
+mod spanned;
 pub mod validator;
 mod written;
 
@@ -27,6 +28,7 @@ use optimizer::OptimizedRule;
 use parser::{PestParser, consume_rules};
 pub use report::{Report, unwrap_or_report};
 use runtime::Fault;
+pub use spanned::{optimize_with_spans, parse_with_spans};
 use std::alloc::Global;
 pub use written::parse_as_written;
 

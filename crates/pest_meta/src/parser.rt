@@ -4,6 +4,9 @@ ghost use Rattle.meta_ast.specs.Ast.{rules_of};
 ghost use Rattle.meta_base.specs.Pieces.NamedTrees.{named};
 ghost use Rattle.meta_base.specs.Pieces.Pairs.{pairs_text, pairs_trees};
 ghost use Rattle.meta_base.specs.Language.WellFormed.{HasReadableCounts};
+ghost use Rattle.meta_reader.specs.Refusals.{AreReadAs};
+ghost use Rattle.meta_spanned.specs.Erasure.{rules_without_spans};
+ghost use Rattle.meta_spanned.specs.Nodes.{rule_views};
 ghost use Rattle.meta_syntax.specs.Parses.{AreOfAGrammar};
 ghost use Rattle.pest_meta.specs.Spelling.{AreAccepted, AreRejected};
 
@@ -32,6 +35,24 @@ pub fn consume_rules(alloc: Global, pairs: Pairs<'_, Rule>) -> Result<Vec<ast::R
     ensures counts { IfOk result (λ rules. HasReadableCounts (rules_of rules.items)) }
     ensures refused { IfErr result (AreRejected (pairs_text pairs.entry) (named (pairs_trees pairs.entry))) }
 {
+    let rules = consume_valid_rules(alloc, pairs)?;
+    Ok(erase_spans(alloc, rules)?)
+}
+
+/// Returns the rules that the pairs of a grammar's text spell, in order, with the spans of their nodes, where
+/// nothing is found in them. `pairs` are all those of a parse of a text by `grammar_rules`. Errors are
+/// those of `consume_rules`.
+pub(crate) fn consume_valid_rules<'i>(
+    alloc: Global,
+    pairs: Pairs<'i, Rule>,
+) -> Result<Vec<ParserRule<'i>>, Fault>
+    requires { AreOfAGrammar pairs }
+    ensures read { IfOk result (λ rules. AreReadAs pairs.entry (rule_views rules.items)) }
+    ensures accepted { IfOk result
+        (λ rules. AreAccepted (pairs_text pairs.entry) (named (pairs_trees pairs.entry))
+        (rules_without_spans (rule_views rules.items))) }
+    ensures refused { IfErr result (AreRejected (pairs_text pairs.entry) (named (pairs_trees pairs.entry))) }
+{
     let text = pairs.get_input();
     let rules = consume_rules_with_spans(alloc, pairs)?;
     let rules = Deep { value: rules };
@@ -39,5 +60,5 @@ pub fn consume_rules(alloc: Global, pairs: Pairs<'_, Rule>) -> Result<Vec<ast::R
     if !errors.is_empty() {
         return Err(Fault::Grammar(errors));
     }
-    Ok(erase_spans(alloc, rules.into_inner())?)
+    Ok(rules.into_inner())
 }

@@ -1,7 +1,7 @@
 /*
- * The front end for pest grammars: the rules of a grammar's text, its errors,
- * and its optimized rules. docs/FORMAT.md has the JSON that goes in and comes
- * out.
+ * The front end for pest grammars: the rules of a grammar's text, its errors and
+ * warnings, its optimized rules, and their matches. docs/FORMAT.md has the JSON
+ * that goes in and comes out.
  *
  * A call reads texts, each a pointer and a length in bytes, and writes into
  * `out`, a buffer of `out_len` bytes (or numbers, where it says so). It returns
@@ -138,6 +138,13 @@ typedef struct pest_meta_entry {
     size_t pos;     /* the position, in bytes */
     size_t partner; /* the index of the entry at the other end of the token */
 } pest_meta_entry;
+
+/* The diagnostics of a grammar, as pest-lint prints them in JSON ("Diagnostics"):
+ * the errors with which it is refused, or else its warnings, a line for each.
+ * Never refused: errors are an answer too, with status 0. An answer of no line
+ * says that the grammar is accepted, without a warning. */
+uint8_t pest_meta_diagnostics(const uint8_t *text, size_t text_len, uint8_t *out, size_t out_len,
+                              size_t *needed);
 
 /* The number of the format, and the version of the original crate
  * ("Versions"). Never refused. */

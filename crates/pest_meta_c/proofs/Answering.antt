@@ -57,6 +57,11 @@ nodes_answered text json pairs rules same h flawless read written = subst (λ v.
   written = written;
 })
 
+-- what holds of a text holds of it as an answer, unless memory is wanting
+pub answered_so : (P : List ℕ → Type 0) (text : Result (String Global) AllocError) (outcome : Result (String Global) why.CallError) → IfOk text (λ t. P (string_bytes t)) → IfOk outcome (λ t. text ≡ Ok t) → IfOk outcome (λ t. P (string_bytes t))
+answered_so P text (Ok t) h same = subst (λ r. IfOk r (λ u. P (string_bytes u))) same h
+answered_so P text (Err reason) h same = tt
+
 -- JSON of which this holds is answered, unless memory is wanting
 pub answered_from : (P : List ℕ → Type 0) (d : Data) (json : Result (String Global) AllocError) (outcome : Result (String Global) why.CallError) → IfOk json (λ text. string_bytes text ≡ compact_text d) → ((bytes : List ℕ) → bytes ≡ compact_text d → P bytes)
     → IfOk outcome (λ text. json ≡ Ok text) → IfOk outcome (λ text. P (string_bytes text))

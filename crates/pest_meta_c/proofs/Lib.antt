@@ -1,3 +1,4 @@
 pub mod Answering
 pub mod HandedOver
+pub mod Lining
 pub mod Telling

@@ -1,4 +1,5 @@
 pub mod Answers
+pub mod Diagnostics
 pub mod Handing
 pub mod Outcomes
 pub mod Refusals

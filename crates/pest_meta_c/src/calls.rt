@@ -5,9 +5,11 @@ ghost use Rattle.meta_base.specs.Pieces.Pairs.{pairs_text};
 ghost use Rattle.meta_syntax.specs.Parses.{AreOfAGrammar};
 ghost use Rattle.pest_meta.specs.Spelling.{IsNoGrammar, IsRefusal};
 ghost use Rattle.pest_meta_c.specs.Answers.{AreKeywordErrors, AreNames, AreNodes, AreOptimized, AreRules, AreTokenNumbers, AreTokens, IsGrammar, IsPrepared, IsVersion, IsWhole};
+ghost use Rattle.pest_meta_c.specs.Diagnostics.{AreDiagnostics};
 ghost use Rattle.pest_meta_c.specs.Outcomes.{IsRefusalOf, RefusesNumbers, RefusesWith};
 ghost use Rattle.pest_meta_c.specs.Refusals.{DoesNotMatch, HasNoMatch, HasNoNames, HasNoNodes, HasNoRules, HasNoTokens, IsNoJson, IsRefused, Never, ReportsSuch};
 
+use crate::diagnostics::diagnostics_lines;
 use crate::outcome::{BytesOutcome, CallError, NumbersError, NumbersOutcome, Outcome, to_refusal};
 use meta_ast::deep::Deep;
 use meta_ast::{ast, optimized};
@@ -204,6 +206,14 @@ pub(crate) fn prepare(alloc: Global, json: &str) -> BytesOutcome
         Ok(()) => Ok(bytes),
         Err(_) => Err(CallError::Memory),
     }
+}
+
+/// Returns the diagnostics of a text.
+pub(crate) fn diagnostics(alloc: Global, text: &str) -> Outcome
+    ensures answered { IfOk result (λ lines. AreDiagnostics text.now (string_bytes lines)) }
+    ensures refused { IfErr result (RefusesWith Never) }
+{
+    to_outcome(diagnostics_lines(alloc, text))
 }
 
 /// Returns the number of the format, and the version of the original crate.

@@ -4,12 +4,14 @@
 //! Inputs are UTF-8; outputs are JSON (docs/FORMAT.md) with positions in bytes. Every call returns a status:
 //! 0 for an answer, and 1 for a refusal, with JSON at the start of `out` and its length in `needed`; 2 for an
 //! allocation failure and 3 for an input that is not UTF-8, with nothing written and 0 in `needed`; 4 where
-//! `out` is too small, with nothing written and the length of the JSON in `needed`. `pest_meta_grammar`
-//! and `pest_meta_prepare` answer in binary form, `pest_meta_token_numbers`, `pest_meta_match` and
-//! `pest_meta_match_prepared` with numbers; the last two have more statuses.
+//! `out` is too small, with nothing written and the length of the JSON in `needed`. `pest_meta_diagnostics`
+//! answers in lines of JSON, `pest_meta_grammar` and `pest_meta_prepare` in binary form, and
+//! `pest_meta_token_numbers`, `pest_meta_match` and `pest_meta_match_prepared` with numbers; the last two
+//! have more statuses.
 #![tactic(auto)]
 
 mod calls;
+mod diagnostics;
 mod handing;
 mod outcome;
 
@@ -17,6 +19,8 @@ ghost use Rattle.std.specs.Prelude.{◌≡◌, ◌≢◌, chars};
 ghost use Rattle.std.specs.Str.{IsUtf8};
 ghost use Rattle.pest_meta_c.specs.Answers.{AreKeywordErrors, AreNames, AreNodes, AreOptimized, AreRules, AreTokenNumbers, AreTokens, IsGrammar, IsPrepared, IsVersion, IsWhole};
 ghost use Rattle.matcher_tokens.specs.Outcomes.{IsMatchOutcome, IsPreparedOutcome};
+ghost use Rattle.pest_meta.specs.Spelling.{HasAnswer};
+ghost use Rattle.pest_meta_c.specs.Diagnostics.{AreDiagnostics};
 ghost use Rattle.pest_meta_c.specs.Handing.{HandsOver, HandsOverMatch, HandsOverNumbers};
 ghost use Rattle.pest_meta_c.specs.Refusals.{HasNoMatch, HasNoNames, HasNoNodes, HasNoRules, HasNoTokens, IsNoJson, IsRefused, Never};
 
@@ -265,6 +269,26 @@ pub extern "C" fn pest_meta_match_prepared(
             hand_over_match(out, needed, match_prepared(alloc, rules, rule, text, steps))
         }
         _ => no_text(needed),
+    }
+}
+
+/// Writes the diagnostics of a grammar's text, a line of JSON for each: the errors with which it is refused,
+/// or else its warnings. An answer of no line says that it is accepted.
+#[unsafe(no_mangle)]
+pub extern "C" fn pest_meta_diagnostics(
+    alloc: Global,
+    text: &[u8],
+    out: &mut [u8],
+    needed: &mut usize,
+) -> u8
+    ensures hands { HandsOver (AreDiagnostics text.now) Never out.old out.new needed.new result }
+    ensures accepted { result ≡ 0 → needed.new ≡ 0 → HasAnswer text.now }
+    ensures text { result ≢ 3 → IsUtf8 text.now }
+    ensures no_text { result ≡ 3 → IsUtf8 text.now → ⊥ }
+{
+    match str::from_utf8(text) {
+        Ok(text) => hand_over(out, needed, calls::diagnostics(alloc, text)),
+        Err(_) => no_text(needed),
     }
 }
 

@@ -1,6 +1,6 @@
 -- How a run ends, by what comes of the rule.
-use Rattle.std.proofs.Common.{◌≡◌, ◌≢◌, ◌⊎◌, inl, inr, sym, ◌∙◌, ℕ, ◌+◌, ◌≤◌, List, ◌++◌, Option, Result, Ok, Err, IfOk, IfErr, codes, string_bytes, arith, subst}
-use Rattle.std.specs.Prelude.{IsErrAnd, chars}
+use Rattle.std.proofs.Common.{◌≡◌, ◌≢◌, ◌⊎◌, inl, inr, sym, ◌∙◌, ℕ, ◌+◌, ◌≤◌, List, Option, Result, Ok, Err, IfOk, IfErr, codes, string_bytes, arith, subst}
+use Rattle.std.specs.Prelude.{IsErrAnd, chars, option_map}
 use Rattle.std.specs.declared.alloc.Global.{Global}
 use Rattle.std.specs.declared.string.String.{String}
 use Rattle.meta_base.specs.Language.Expression.{Grammar, Ident}
@@ -16,9 +16,9 @@ use Rattle.pest_run.specs.Ends.{EndsAs}
 use Rattle.matcher_support.specs.Sets.{is_in_property}
 use Rattle.meta_matcher.specs.Answers.{start_of}
 use Rattle.tool_support.specs.Escapes.{escaped_lines}
-use Rattle.pest_run.specs.Messages.{no_rule_text}
+use Rattle.pest_run.specs.Messages.{no_rule_text, steps_text}
 use Rattle.pest_run.specs.Outcomes.{IsOutcome, IsShown}
-use Rattle.pest_run.specs.Written.{AreMatched, AreRun, PrintsTrees, ReportsReason, ReportsRefusal, ReportsStop, WritesLine, empty_stack, no_match, no_rule, refused, too_many_steps, unknown_name, wide_bound}
+use Rattle.pest_run.specs.Written.{AreMatched, AreRun, NotesEnd, PrintsTrees, ReportsReason, ReportsRefusal, ReportsStop, WritesLine, empty_stack, no_match, no_rule, refused, too_many_steps, unknown_name, wide_bound}
 use Rattle.pest_run.specs.declared.arguments.Format.{Format}
 use Rattle.pest_run.specs.declared.arguments.RuleForm.{RuleForm}
 use Rattle.pest_run.specs.declared.arguments.RuleForm.TheVariants as form_is
@@ -34,15 +34,15 @@ neither n k (inl z) e f h = f (sym e ∙ z)
 neither n k (inr z) e f h = h (sym e ∙ z)
 
 -- rules by which a text is matched, and which match it
-record Matched (form : RuleForm) (grammar rule text : List ℕ) (format : Format) (lines : List ℕ) : Type 0 where
+record Matched (form : RuleForm) (grammar rule text : List ℕ) (format : Format) (lines : List ℕ) (note : Option (List ℕ)) : Type 0 where
   pub rules : Grammar
   pub matched : AreMatched form grammar rules
-  pub shows : IsShown rules rule text format lines
+  pub shows : IsShown rules rule text format lines note
 
 -- what rules match as they are run, those that the text spells match
-matched : (form : RuleForm) (grammar rule text : List ℕ) (format : Format) (rules : Grammar) (lines : List ℕ)
-    → AreRun form grammar rules → IsShown rules rule text format lines → Matched form grammar rule text format lines
-matched form_is.Written grammar rule text format rules lines a i =
+matched : (form : RuleForm) (grammar rule text : List ℕ) (format : Format) (rules : Grammar) (lines : List ℕ) (note : Option (List ℕ))
+    → AreRun form grammar rules → IsShown rules rule text format lines note → Matched form grammar rule text format lines note
+matched form_is.Written grammar rule text format rules lines _ a i =
     let spelled : IsWritten grammar rules = a in
     record {
       rules = spelled.spelled;
@@ -52,53 +52,71 @@ matched form_is.Written grammar rule text format rules lines a i =
         trees = i.trees;
         matches = (spelled.outcomes is_in_property (Ident (chars rule)) NonAtomicMode (start_of text) (Success i.end_ i.trees)).1 i.matches;
         lines_show = i.lines_show;
+        note_tells = i.note_tells;
       };
     }
-matched form_is.Optimized grammar rule text format rules lines a i = record { rules = rules; matched = a; shows = i }
+matched form_is.Optimized grammar rule text format rules lines _ a i = record { rules = rules; matched = a; shows = i }
 
 -- where the status is 0, trees were printed
-pub prints : {X E : Type 0} (o : Outcome) (grammar rule text : List ℕ) (format : Format) (form : RuleForm) (rules : Grammar) (told : Result X E) (status : ℕ)
-    (old_out new_out old new : Option (List ℕ)) → AreRun form grammar rules → IsOutcome rules rule text format o
-    → EndsAs o status told old_out new_out old new → status ≡ 0 → PrintsTrees form grammar rule text format old_out new_out
-prints (is.Shown lines) grammar rule text format form rules told status old_out new_out old new a i e zero =
-    let m = matched form grammar rule text format rules (string_bytes lines) a i in
-    record { rules = m.rules; matched = m.matched; lines = string_bytes lines; shows = m.shows; gained = e.1 zero }
-prints (is.Failed report) grammar rule text format form rules told status old_out new_out old new a i e zero = absurd (apart status 0 1 zero e.0 (omega arith))
-prints (is.NoRule said) grammar rule text format form rules told status old_out new_out old new a i e zero = absurd (apart status 0 1 zero e.0 (omega arith))
-prints is.OutOfSteps grammar rule text format form rules told status old_out new_out old new a i e zero = absurd (apart status 0 5 zero e.0 (omega arith))
-prints is.EmptyStack grammar rule text format form rules told status old_out new_out old new a i e zero = absurd (apart status 0 5 zero e.0 (omega arith))
-prints is.UnknownName grammar rule text format form rules told status old_out new_out old new a i e zero = absurd (apart status 0 5 zero e.0 (omega arith))
-prints is.Bound grammar rule text format form rules told status old_out new_out old new a i e zero = absurd (apart status 0 5 zero e.0 (omega arith))
-prints is.Memory grammar rule text format form rules told status old_out new_out old new a i e zero = absurd (apart status 0 2 zero e (omega arith))
+pub prints : {X E : Type 0} (o : Outcome) (grammar rule text : List ℕ) (format : Format) (form : RuleForm) (rules : Grammar) (limit : ℕ) (told : Result X E) (same : Type 0) (status : ℕ)
+    (old_out new_out old new : Option (List ℕ)) → AreRun form grammar rules → IsOutcome rules rule text format limit o
+    → EndsAs o same status told old_out new_out old new → status ≡ 0 → PrintsTrees form grammar rule text format old_out new_out
+prints (is.Shown lines note) grammar rule text format form rules limit told same status old_out new_out old new a i e zero =
+    let m = matched form grammar rule text format rules (string_bytes lines) (option_map string_bytes note) a i in
+    record { rules = m.rules; matched = m.matched; lines = string_bytes lines; note = option_map string_bytes note; shows = m.shows; gained = e.1 zero }
+prints (is.Failed report) grammar rule text format form rules limit told same status old_out new_out old new a i e zero = absurd (apart status 0 1 zero e.0 (omega arith))
+prints (is.NoRule said) grammar rule text format form rules limit told same status old_out new_out old new a i e zero = absurd (apart status 0 1 zero e.0 (omega arith))
+prints (is.OutOfSteps said) grammar rule text format form rules limit told same status old_out new_out old new a i e zero = absurd (apart status 0 5 zero e.0 (omega arith))
+prints is.EmptyStack grammar rule text format form rules limit told same status old_out new_out old new a i e zero = absurd (apart status 0 5 zero e.0 (omega arith))
+prints is.UnknownName grammar rule text format form rules limit told same status old_out new_out old new a i e zero = absurd (apart status 0 5 zero e.0 (omega arith))
+prints is.Bound grammar rule text format form rules limit told same status old_out new_out old new a i e zero = absurd (apart status 0 5 zero e.0 (omega arith))
+prints is.Memory grammar rule text format form rules limit told same status old_out new_out old new a i e zero = absurd (apart status 0 2 zero e (omega arith))
+
+-- and the note on their end was written
+pub notes : {X E : Type 0} (o : Outcome) (grammar rule text : List ℕ) (format : Format) (form : RuleForm) (rules : Grammar) (limit : ℕ) (told : Result X E) (same : Type 0) (status : ℕ)
+    (old_out new_out old new : Option (List ℕ)) → AreRun form grammar rules → IsOutcome rules rule text format limit o
+    → EndsAs o same status told old_out new_out old new → status ≡ 0 → NotesEnd form grammar rule text format same told old new
+notes (is.Shown lines note) grammar rule text format form rules limit told same status old_out new_out old new a i e zero =
+    let m = matched form grammar rule text format rules (string_bytes lines) (option_map string_bytes note) a i in
+    record { rules = m.rules; matched = m.matched; lines = string_bytes lines; note = option_map string_bytes note; shows = m.shows; line = e.2 zero }
+notes (is.Failed report) grammar rule text format form rules limit told same status old_out new_out old new a i e zero = absurd (apart status 0 1 zero e.0 (omega arith))
+notes (is.NoRule said) grammar rule text format form rules limit told same status old_out new_out old new a i e zero = absurd (apart status 0 1 zero e.0 (omega arith))
+notes (is.OutOfSteps said) grammar rule text format form rules limit told same status old_out new_out old new a i e zero = absurd (apart status 0 5 zero e.0 (omega arith))
+notes is.EmptyStack grammar rule text format form rules limit told same status old_out new_out old new a i e zero = absurd (apart status 0 5 zero e.0 (omega arith))
+notes is.UnknownName grammar rule text format form rules limit told same status old_out new_out old new a i e zero = absurd (apart status 0 5 zero e.0 (omega arith))
+notes is.Bound grammar rule text format form rules limit told same status old_out new_out old new a i e zero = absurd (apart status 0 5 zero e.0 (omega arith))
+notes is.Memory grammar rule text format form rules limit told same status old_out new_out old new a i e zero = absurd (apart status 0 2 zero e (omega arith))
 
 -- where it is 1, a reason was told
-pub tells : {X E : Type 0} (o : Outcome) (grammar rule text : List ℕ) (format : Format) (form : RuleForm) (rules : Grammar) (told : Result X E) (status : ℕ)
-    (old_out new_out old new : Option (List ℕ)) → AreRun form grammar rules → IsOutcome rules rule text format o
-    → EndsAs o status told old_out new_out old new → status ≡ 1 → ReportsReason form grammar rule text told old new
-tells (is.Shown lines) grammar rule text format form rules told status old_out new_out old new a i e one = absurd (neither status 1 e.0 one (omega arith) (omega arith))
-tells (is.Failed report) grammar rule text format form rules told status old_out new_out old new a i e one =
+pub tells : {X E : Type 0} (o : Outcome) (grammar rule text : List ℕ) (format : Format) (form : RuleForm) (rules : Grammar) (limit : ℕ) (told : Result X E) (same : Type 0) (status : ℕ)
+    (old_out new_out old new : Option (List ℕ)) → AreRun form grammar rules → IsOutcome rules rule text format limit o
+    → EndsAs o same status told old_out new_out old new → status ≡ 1 → ReportsReason form grammar rule text told old new
+tells (is.Shown lines _) grammar rule text format form rules limit told same status old_out new_out old new a i e one = absurd (neither status 1 e.0 one (omega arith) (omega arith))
+tells (is.Failed report) grammar rule text format form rules limit told same status old_out new_out old new a i e one =
     record { message = string_bytes report; reason = no_match rules (string_bytes report) a i; line = e.1 }
-tells (is.NoRule said) grammar rule text format form rules told status old_out new_out old new a i e one =
+tells (is.NoRule said) grammar rule text format form rules limit told same status old_out new_out old new a i e one =
     let P : List ℕ → Type 0 = λ t. WritesLine t told old new in
     record { message = no_rule_text rules rule; reason = no_rule rules a i.0; line = subst P i.1 e.1 }
-tells is.OutOfSteps grammar rule text format form rules told status old_out new_out old new a i e one = absurd (apart status 1 5 one e.0 (omega arith))
-tells is.EmptyStack grammar rule text format form rules told status old_out new_out old new a i e one = absurd (apart status 1 5 one e.0 (omega arith))
-tells is.UnknownName grammar rule text format form rules told status old_out new_out old new a i e one = absurd (apart status 1 5 one e.0 (omega arith))
-tells is.Bound grammar rule text format form rules told status old_out new_out old new a i e one = absurd (apart status 1 5 one e.0 (omega arith))
-tells is.Memory grammar rule text format form rules told status old_out new_out old new a i e one = absurd (apart status 1 2 one e (omega arith))
+tells (is.OutOfSteps said) grammar rule text format form rules limit told same status old_out new_out old new a i e one = absurd (apart status 1 5 one e.0 (omega arith))
+tells is.EmptyStack grammar rule text format form rules limit told same status old_out new_out old new a i e one = absurd (apart status 1 5 one e.0 (omega arith))
+tells is.UnknownName grammar rule text format form rules limit told same status old_out new_out old new a i e one = absurd (apart status 1 5 one e.0 (omega arith))
+tells is.Bound grammar rule text format form rules limit told same status old_out new_out old new a i e one = absurd (apart status 1 5 one e.0 (omega arith))
+tells is.Memory grammar rule text format form rules limit told same status old_out new_out old new a i e one = absurd (apart status 1 2 one e (omega arith))
 
 -- where it is 5, why the matcher was stopped was told
-pub stops : {X E : Type 0} (o : Outcome) (grammar rule text : List ℕ) (format : Format) (form : RuleForm) (rules : Grammar) (told : Result X E) (status : ℕ)
-    (old_out new_out old new : Option (List ℕ)) → AreRun form grammar rules → IsOutcome rules rule text format o
-    → EndsAs o status told old_out new_out old new → status ≡ 5 → ReportsStop form grammar rule text told old new
-stops (is.Shown lines) grammar rule text format form rules told status old_out new_out old new a i e five = absurd (neither status 5 e.0 five (omega arith) (omega arith))
-stops (is.Failed report) grammar rule text format form rules told status old_out new_out old new a i e five = absurd (apart status 1 5 e.0 five (omega arith))
-stops (is.NoRule said) grammar rule text format form rules told status old_out new_out old new a i e five = absurd (apart status 1 5 e.0 five (omega arith))
-stops is.OutOfSteps grammar rule text format form rules told status old_out new_out old new a i e five = record { rules = rules; are = a; message = codes "the text takes too many steps"; stop = too_many_steps i; line = e.1 }
-stops is.EmptyStack grammar rule text format form rules told status old_out new_out old new a i e five = record { rules = rules; are = a; message = codes "PEEK or POP found nothing on the stack"; stop = empty_stack i; line = e.1 }
-stops is.UnknownName grammar rule text format form rules told status old_out new_out old new a i e five = record { rules = rules; are = a; message = codes "the grammar calls a rule that is not known"; stop = unknown_name i; line = e.1 }
-stops is.Bound grammar rule text format form rules told status old_out new_out old new a i e five = record { rules = rules; are = a; message = codes "a range of the grammar has a bound that is no character"; stop = wide_bound i; line = e.1 }
-stops is.Memory grammar rule text format form rules told status old_out new_out old new a i e five = absurd (apart status 2 5 e five (omega arith))
+pub stops : {X E : Type 0} (o : Outcome) (grammar rule text : List ℕ) (format : Format) (form : RuleForm) (rules : Grammar) (limit : ℕ) (told : Result X E) (same : Type 0) (status : ℕ)
+    (old_out new_out old new : Option (List ℕ)) → AreRun form grammar rules → IsOutcome rules rule text format limit o
+    → EndsAs o same status told old_out new_out old new → status ≡ 5 → ReportsStop form grammar rule text limit told old new
+stops (is.Shown lines _) grammar rule text format form rules limit told same status old_out new_out old new a i e five = absurd (neither status 5 e.0 five (omega arith) (omega arith))
+stops (is.Failed report) grammar rule text format form rules limit told same status old_out new_out old new a i e five = absurd (apart status 1 5 e.0 five (omega arith))
+stops (is.NoRule said) grammar rule text format form rules limit told same status old_out new_out old new a i e five = absurd (apart status 1 5 e.0 five (omega arith))
+stops (is.OutOfSteps said) grammar rule text format form rules limit told same status old_out new_out old new a i e five =
+    let P : List ℕ → Type 0 = λ t. WritesLine t told old new in
+    record { rules = rules; are = a; message = steps_text limit; stop = too_many_steps i.0; line = subst P i.1 e.1 }
+stops is.EmptyStack grammar rule text format form rules limit told same status old_out new_out old new a i e five = record { rules = rules; are = a; message = codes "PEEK or POP found nothing on the stack"; stop = empty_stack i; line = e.1 }
+stops is.UnknownName grammar rule text format form rules limit told same status old_out new_out old new a i e five = record { rules = rules; are = a; message = codes "the grammar calls a rule that is not known"; stop = unknown_name i; line = e.1 }
+stops is.Bound grammar rule text format form rules limit told same status old_out new_out old new a i e five = record { rules = rules; are = a; message = codes "a range of the grammar has a bound that is no character"; stop = wide_bound i; line = e.1 }
+stops is.Memory grammar rule text format form rules limit told same status old_out new_out old new a i e five = absurd (apart status 2 5 e five (omega arith))
 
 -- where there is a text, the outcome was a refusal, and the text reports it
 pub refusal : {X Y E : Type 0} (grammar : List ℕ) (outcome : Result X Fault) (answer : Result X Report) (message : String Global) (told : Result Y E) (old new : Option (List ℕ))

@@ -3,3 +3,4 @@ pub mod Came
 pub mod Names
 pub mod RuleNames
 pub mod Listed
+pub mod MatchedForms

@@ -1,3 +1,4 @@
+pub mod Steps
 pub mod Json
 pub mod RuleNames
 pub mod Messages
@@ -5,3 +6,4 @@ pub mod Outcomes
 pub mod Written
 pub mod Ends
 pub mod Listing
+pub mod Forms

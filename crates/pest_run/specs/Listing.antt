@@ -1,5 +1,5 @@
 -- The list of a grammar's rules.
-use Rattle.std.specs.Prelude.{◌≡◌, ℕ, List, Option, string_bytes, ⊤}
+use Rattle.std.specs.Prelude.{◌≡◌, ℕ, List, Option, None, string_bytes, ⊤}
 use Rattle.std.specs.Io.KnownBytes.{Appends}
 use Rattle.meta_base.specs.Language.Expression.{Grammar}
 use Rattle.pest_meta.specs.Written.{SpellsAccepted}
@@ -9,7 +9,7 @@ use Rattle.pest_run.specs.declared.outcomes.Outcome.TheVariants as is
 
 -- the lines show the names of the rules, or an allocation failed
 abbrev pub IsListOutcome : Grammar → Outcome → Type 0
-IsListOutcome g (is.Shown lines) = string_bytes lines ≡ name_lines g
+IsListOutcome g (is.Shown lines note) = (string_bytes lines ≡ name_lines g) × (note ≡ None)
 IsListOutcome g is.Memory = ⊤
 IsListOutcome g _ = ⊥
 

@@ -1,7 +1,9 @@
 -- Messages about a rule, a text and files.
-use Rattle.std.specs.Prelude.{ℕ, ◌==◌, Bool, List, [], ◌∷◌, ◌++◌, codes, encode_utf8_all, if◌then◌else◌, length, take}
+use Rattle.std.specs.Prelude.{ℕ, ◌==◌, ◌||◌, not, Bool, List, [], ◌∷◌, ◌++◌, bytes_eq, codes, encode_utf8_all, if◌then◌else◌, length, take}
+use Rattle.std.specs.Fmt.{decimal}
 use Rattle.meta_base.specs.Language.Expression.{Grammar}
 use Rattle.meta_base.specs.Language.Text.{Text}
+use Rattle.meta_base.specs.Pieces.LineColumn.{line_column}
 use Rattle.tool_support.specs.Escapes.{escaped_bytes}
 use Rattle.pest_run.specs.RuleNames.{near_names}
 
@@ -30,6 +32,32 @@ suggestion (n ∷ ns) =
 abbrev pub no_rule_text : Grammar → List ℕ → List ℕ
 no_rule_text g name =
     codes "the grammar has no rule " ++ escaped_bytes name ++ suggestion (take 5 (near_names g name))
+
+-- that a match was stopped after so many steps
+abbrev pub steps_text : ℕ → List ℕ
+steps_text steps =
+    codes "the match was stopped after " ++ (decimal steps ++ codes " steps; --steps N allows N")
+
+-- more than a line's end is left of a text
+abbrev pub is_more : List ℕ → Bool
+is_more rest = not (length rest == 0 || bytes_eq rest (codes "\n") || bytes_eq rest (codes "\r\n"))
+
+-- a line and a column
+abbrev pub place_text : ℕ × ℕ → List ℕ
+place_text place = decimal place.0 ++ (codes ":" ++ decimal place.1)
+
+-- that a match ends at a position, and the text at another
+abbrev pub note_between : ℕ × ℕ → ℕ × ℕ → List ℕ
+note_between end_ last =
+    codes "note: matched up to " ++ place_text end_ ++ codes ", the text ends at " ++ place_text last
+
+-- that a match ends at a byte position of a text
+abbrev pub end_text : List ℕ → ℕ → List ℕ
+end_text text end_ = note_between (line_column text end_) (line_column text (length text))
+
+-- that the optimized rules match
+abbrev pub optimized_text : List ℕ
+optimized_text = codes "note: the optimized rules, which pest runs, match this text: see --optimized"
 
 -- that a file can't be read, and why
 abbrev pub unread_text : List ℕ → List ℕ → List ℕ

@@ -1,5 +1,5 @@
 -- The outcome of a rule on a text.
-use Rattle.std.specs.Prelude.{◌≡◌, ◌<◌, ◌-◌, ◌^◌, ℕ, List, ◌++◌, None, codes, string_bytes, ⊤}
+use Rattle.std.specs.Prelude.{◌≡◌, ◌<◌, ℕ, List, ◌++◌, Option, Some, None, codes, drop, if◌then◌else◌, option_map, string_bytes, ⊤}
 use Rattle.std.specs.Str.{chars}
 use Rattle.meta_base.specs.Language.Expression.{Grammar, Ident, rule_of}
 use Rattle.meta_base.specs.Language.Expected.{expected}
@@ -24,7 +24,7 @@ use Rattle.matcher_support.specs.Shown.{shown}
 use Rattle.matcher_support.specs.Values.{answer_data}
 use Rattle.tool_support.specs.Escapes.{escaped_lines}
 use Rattle.pest_run.specs.Json.{escaped_json}
-use Rattle.pest_run.specs.Messages.{failure_message, no_rule_text}
+use Rattle.pest_run.specs.Messages.{end_text, failure_message, is_more, no_rule_text, steps_text}
 use Rattle.pest_run.specs.declared.arguments.Format.{Format}
 use Rattle.pest_run.specs.declared.arguments.Format.TheVariants as format_is
 use Rattle.pest_run.specs.declared.outcomes.Outcome.{Outcome}
@@ -38,12 +38,21 @@ trees_text format_is.Lines text end_ trees = lines_of 0 trees
 trees_text format_is.Json text end_ trees =
     escaped_json (compact_text (answer_data text end_ trees)) ++ codes "\n"
 
--- the rule, called at the start of the text, succeeds, and the lines show its trees
-pub record IsShown (g : Grammar) (rule text : List ℕ) (format : Format) (lines : List ℕ) : Type 0 where
+-- the note on a match that ends at a position: as text, where more than a line's end of the text is left
+abbrev pub end_note : Format → List ℕ → ℕ → Option (List ℕ)
+end_note format_is.Text text end_ = if is_more (drop end_ text) then Some (end_text text end_) else None
+end_note format_is.Json text end_ = None
+end_note format_is.Lines text end_ = None
+
+-- the rule, called at the start of the text, succeeds, the lines show its trees, and the note, if there is
+-- one, where it ends
+pub record IsShown (g : Grammar) (rule text : List ℕ) (format : Format) (lines : List ℕ)
+    (note : Option (List ℕ)) : Type 0 where
   pub end_ : State
   pub trees : Trees
   pub matches : Has g (chars rule) text is_in_property (Success end_ trees)
   pub lines_show : lines ≡ trees_text format text end_.position trees
+  pub note_tells : note ≡ end_note format text end_.position
 
 -- the text of an error at a position of a text, where these names are expected, with escapes of hidden
 -- characters
@@ -66,10 +75,10 @@ HasNoRule g rule = rule_of g (chars rule) ≡ None
 abbrev pub HasNoOutcome : Grammar → List ℕ → List ℕ → Type 0
 HasNoOutcome g rule text = (o : Result) → Has g (chars rule) text is_in_property o → ⊥
 
--- for each outcome of the rule the matcher may take more than 2^64 - 1 steps
-abbrev pub TakesTooManySteps : Grammar → List ℕ → List ℕ → Type 0
-TakesTooManySteps g rule text = (o : Result) (found : Has g (chars rule) text is_in_property o)
-    → 2 ^ 64 - 1 < most_steps found
+-- for each outcome of the rule the matcher may take more steps than the limit
+abbrev pub TakesTooManySteps : Grammar → List ℕ → List ℕ → ℕ → Type 0
+TakesTooManySteps g rule text limit = (o : Result) (found : Has g (chars rule) text is_in_property o)
+    → limit < most_steps found
 
 -- some rule calls a name that no rule has, and that is no builtin's with a known set
 abbrev pub CallsUnknownName : Grammar → Type 0
@@ -79,11 +88,13 @@ CallsUnknownName g = (n : Text) × InSomeRule g (Ident n) × IsUnknown has_set g
 abbrev pub HasWrongBound : Grammar → Type 0
 HasWrongBound g = (t : Text) × IsBoundOf (InSomeRule g) t × IsNoCharacter t
 
--- the outcome of a run that the matcher stopped
-abbrev pub stopped_outcome : Stop → Outcome
-stopped_outcome stop.Memory = is.Memory
-stopped_outcome stop.OutOfSteps = is.OutOfSteps
-stopped_outcome stop.EmptyStack = is.EmptyStack
+-- the outcome says why the matcher stopped a run of so many steps at most, or reports an allocation failure
+abbrev pub IsStopReport : Stop → ℕ → Outcome → Type 0
+IsStopReport stop.Memory limit o = o ≡ is.Memory
+IsStopReport stop.EmptyStack limit o = o ≡ is.EmptyStack
+IsStopReport stop.OutOfSteps limit (is.OutOfSteps message) = string_bytes message ≡ steps_text limit
+IsStopReport stop.OutOfSteps limit is.Memory = ⊤
+IsStopReport stop.OutOfSteps limit _ = ⊥
 
 -- the outcome of rules that can't be run
 abbrev pub unfit_outcome : Unfit → Outcome
@@ -97,6 +108,14 @@ IsFailureReport text place names (is.Failed report) = string_bytes report ≡ fa
 IsFailureReport text place names is.Memory = ⊤
 IsFailureReport text place names _ = ⊥
 
+-- the outcome shows the trees of a match that ends at a position, or reports an allocation failure
+abbrev pub IsMatchReport : List ℕ → Format → ℕ → Trees → Outcome → Type 0
+IsMatchReport text format end_ trees (is.Shown lines note) =
+    (string_bytes lines ≡ trees_text format text end_ trees)
+    × (option_map string_bytes note ≡ end_note format text end_)
+IsMatchReport text format end_ trees is.Memory = ⊤
+IsMatchReport text format end_ trees _ = ⊥
+
 -- the outcome says that no rule has the name, or reports an allocation failure
 abbrev pub IsNoRuleReport : Grammar → List ℕ → Outcome → Type 0
 IsNoRuleReport g rule (is.NoRule message) = string_bytes message ≡ no_rule_text g rule
@@ -105,13 +124,15 @@ IsNoRuleReport g rule _ = ⊥
 
 -- the outcome is that of the rule on the text, or says why the rules can't be run; an allocation failure is
 -- not constrained
-abbrev pub IsOutcome : Grammar → List ℕ → List ℕ → Format → Outcome → Type 0
-IsOutcome g rule text format (is.Shown lines) = IsShown g rule text format (string_bytes lines)
-IsOutcome g rule text format (is.Failed report) = HasFailed g rule text (string_bytes report)
-IsOutcome g rule text format (is.NoRule message) =
+abbrev pub IsOutcome : Grammar → List ℕ → List ℕ → Format → ℕ → Outcome → Type 0
+IsOutcome g rule text format limit (is.Shown lines note) =
+    IsShown g rule text format (string_bytes lines) (option_map string_bytes note)
+IsOutcome g rule text format limit (is.Failed report) = HasFailed g rule text (string_bytes report)
+IsOutcome g rule text format limit (is.NoRule message) =
     HasNoRule g rule × (string_bytes message ≡ no_rule_text g rule)
-IsOutcome g rule text format is.OutOfSteps = TakesTooManySteps g rule text
-IsOutcome g rule text format is.EmptyStack = HasNoOutcome g rule text
-IsOutcome g rule text format is.UnknownName = CallsUnknownName g
-IsOutcome g rule text format is.Bound = HasWrongBound g
-IsOutcome g rule text format is.Memory = ⊤
+IsOutcome g rule text format limit (is.OutOfSteps message) =
+    TakesTooManySteps g rule text limit × (string_bytes message ≡ steps_text limit)
+IsOutcome g rule text format limit is.EmptyStack = HasNoOutcome g rule text
+IsOutcome g rule text format limit is.UnknownName = CallsUnknownName g
+IsOutcome g rule text format limit is.Bound = HasWrongBound g
+IsOutcome g rule text format limit is.Memory = ⊤

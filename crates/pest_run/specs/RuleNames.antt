@@ -1,5 +1,5 @@
 -- Names of rules, and those that are near a name.
-use Rattle.std.specs.Prelude.{ℕ, ◌/◌, Bool, true, false, List, [], ◌∷◌, ◌++◌, bytes_eq, codes, encode_utf8_all, filter, if◌then◌else◌, length, map, nat_le, nat_lt, take}
+use Rattle.std.specs.Prelude.{ℕ, ◌/◌, Bool, true, false, List, ◌++◌, bytes_eq, codes, encode_utf8_all, filter, if◌then◌else◌, length, map, nat_le, nat_lt}
 use Rattle.std.specs.Char.{to_ascii_lowercase}
 use Rattle.std.specs.List.{flat_map}
 use Rattle.std.specs.Str.{chars}

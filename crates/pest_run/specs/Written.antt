@@ -11,7 +11,7 @@ use Rattle.pest_meta.specs.Reports.{report_text}
 use Rattle.pest_meta.specs.Spelling.{IsAnswer, IsRefusedWith}
 use Rattle.pest_meta.specs.Written.{IsWritten, SpellsAccepted}
 use Rattle.tool_support.specs.Escapes.{escaped_lines}
-use Rattle.pest_run.specs.Messages.{no_rule_text, unread_text}
+use Rattle.pest_run.specs.Messages.{no_rule_text, steps_text, unread_text}
 use Rattle.pest_run.specs.Outcomes.{CallsUnknownName, HasFailed, HasNoOutcome, HasNoRule, HasWrongBound, IsShown, TakesTooManySteps}
 use Rattle.pest_run.specs.declared.arguments.Format.{Format}
 use Rattle.pest_run.specs.declared.arguments.RuleForm.{RuleForm}
@@ -75,8 +75,25 @@ pub record PrintsTrees (form : RuleForm) (grammar rule text : List ℕ) (format 
   pub rules : Grammar
   pub matched : AreMatched form grammar rules
   pub lines : List ℕ
-  pub shows : IsShown rules rule text format lines
+  pub note : Option (List ℕ)
+  pub shows : IsShown rules rule text format lines note
   pub gained : Appends old new lines
+
+-- a note is a line; where there is none, the writer is the same
+abbrev pub WritesNote : {X E : Type 0} → Option (List ℕ) → Type 0 → Result X E
+    → Option (List ℕ) → Option (List ℕ) → Type 0
+WritesNote None same written old new = same
+WritesNote (Some note) same written old new = WritesLine note written old new
+
+-- the rule of the grammar matches the text, and the note on its end was written
+pub record NotesEnd {X E : Type 0} (form : RuleForm) (grammar rule text : List ℕ) (format : Format)
+    (same : Type 0) (written : Result X E) (old new : Option (List ℕ)) : Type 0 where
+  pub rules : Grammar
+  pub matched : AreMatched form grammar rules
+  pub lines : List ℕ
+  pub note : Option (List ℕ)
+  pub shows : IsShown rules rule text format lines note
+  pub line : WritesNote note same written old new
 
 -- the reason why there are no trees, and its text: the grammar is refused, and its report is the text; or
 -- it has no rule of that name; or the rule fails, and the text shows its furthest position and the expected
@@ -98,18 +115,20 @@ pub record ReportsReason {X E : Type 0} (form : RuleForm) (grammar rule text : L
 
 -- the reason why the matcher was stopped on the text, and its text: too many steps; or the rule has no
 -- outcome and `PEEK` or `POP` met the empty stack; or the rules can't be run, for an unknown name or a bound
-pub data IsStop (g : Grammar) (rule text : List ℕ) : List ℕ → Type 0 where
-  too_many_steps : TakesTooManySteps g rule text → IsStop g rule text (codes "the text takes too many steps")
-  empty_stack : HasNoOutcome g rule text → IsStop g rule text (codes "PEEK or POP found nothing on the stack")
-  unknown_name : CallsUnknownName g → IsStop g rule text (codes "the grammar calls a rule that is not known")
+pub data IsStop (g : Grammar) (rule text : List ℕ) (limit : ℕ) : List ℕ → Type 0 where
+  too_many_steps : TakesTooManySteps g rule text limit → IsStop g rule text limit (steps_text limit)
+  empty_stack : HasNoOutcome g rule text
+      → IsStop g rule text limit (codes "PEEK or POP found nothing on the stack")
+  unknown_name : CallsUnknownName g
+      → IsStop g rule text limit (codes "the grammar calls a rule that is not known")
   wide_bound : HasWrongBound g
-      → IsStop g rule text (codes "a range of the grammar has a bound that is no character")
+      → IsStop g rule text limit (codes "a range of the grammar has a bound that is no character")
 
 -- the grammar is accepted, the matcher was stopped on the text, and the reason is the line
-pub record ReportsStop {X E : Type 0} (form : RuleForm) (grammar rule text : List ℕ) (written : Result X E)
-    (old new : Option (List ℕ)) : Type 0 where
+pub record ReportsStop {X E : Type 0} (form : RuleForm) (grammar rule text : List ℕ) (limit : ℕ)
+    (written : Result X E) (old new : Option (List ℕ)) : Type 0 where
   pub rules : Grammar
   pub are : AreRun form grammar rules
   pub message : List ℕ
-  pub stop : IsStop rules rule text message
+  pub stop : IsStop rules rule text limit message
   pub line : WritesLine message written old new

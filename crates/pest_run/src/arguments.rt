@@ -1,7 +1,9 @@
 //! The command line.
-ghost use Rattle.std.specs.Prelude.{◌≡◌, None, Some, codes, false, true};
+ghost use Rattle.std.specs.Prelude.{◌≡◌, ℕ, List, None, Some, codes, false, true};
 ghost use Rattle.clap.specs.Matches.{first_value, found_of, one_text};
+ghost use Rattle.pest_run.specs.Steps.{CountsSteps, step_limit};
 
+use clap::builder::ValueParser;
 use clap::{Arg, ArgAction, ArgMatches, Command};
 use std::alloc::{AllocError, Global};
 use tool_support::version::VERSION;
@@ -23,6 +25,19 @@ pub enum RuleForm {
     Optimized,
 }
 
+/// The rule to match, the form of the rules, the format of the trees, and the limit of the steps.
+#[derive(Clone, Copy)]
+pub struct Request<'a> {
+    /// The name of the rule that is to match the text.
+    pub rule: &'a str,
+    /// The format of the printed trees.
+    pub format: Format,
+    /// The form in which the rules of the grammar are run.
+    pub form: RuleForm,
+    /// The greatest number of steps; where none is given, the text's length sets it.
+    pub steps: Option<u64>,
+}
+
 /// Returns the command line that the program accepts.
 pub fn command<'a>(alloc: Global) -> Result<Command<'a>, AllocError> {
     let format = Arg::new(alloc, "format")
@@ -42,6 +57,14 @@ pub fn command<'a>(alloc: Global) -> Result<Command<'a>, AllocError> {
         .action(ArgAction::SetTrue)
         .conflicts_with("RULE")?
         .help("Print the names of the grammar's rules, a line each, and match no text");
+    let steps = Arg::new(alloc, "steps")
+        .long("steps")
+        .value_name("N")
+        .value_parser(ValueParser::unsigned(1, u64::MAX))
+        .help(
+            "Stop a match after N steps; where it is not given, after 100000 for each byte of the text \
+             and 100000000 more",
+        );
     let grammar = Arg::new(alloc, "GRAMMAR")
         .required(true)
         .help("The file of a grammar");
@@ -62,6 +85,7 @@ pub fn command<'a>(alloc: Global) -> Result<Command<'a>, AllocError> {
         )
         .arg(format)?
         .arg(optimized)?
+        .arg(steps)?
         .arg(list)?
         .arg(grammar)?
         .arg(rule)?
@@ -111,4 +135,32 @@ pub fn asks_for_rules(matches: &ArgMatches<'_>) -> bool
     ensures missing { one_text (found_of matches.now) (codes "list-rules") ≡ None → result ≡ false }
 {
     matches.get_flag("list-rules")
+}
+
+/// Returns the greatest number of steps that a command line asks for, if it does.
+pub fn steps_of(matches: &ArgMatches<'_>) -> Option<u64>
+    ensures missing { one_text (found_of matches.now) (codes "steps") ≡ None → result ≡ None }
+    ensures value { (t : List ℕ) → one_text (found_of matches.now) (codes "steps") ≡ Some t
+        → CountsSteps t result }
+{
+    matches.get_one("steps")
+}
+
+/// The steps that each byte of a text is allowed where no limit is given.
+const STEPS_PER_BYTE: u64 = 100_000;
+
+/// The bytes by which every text counts for longer.
+const MORE_BYTES: u64 = 1_000;
+
+/// Returns the greatest number of steps on a text of this length: the given one, or else one that no rule
+/// reaches which takes linear time.
+pub fn step_limit(steps: Option<u64>, length: usize) -> u64
+    ensures { result ≡ step_limit steps length }
+{
+    match steps {
+        Some(steps) => steps,
+        None => (length as u64)
+            .saturating_add(MORE_BYTES)
+            .saturating_mul(STEPS_PER_BYTE),
+    }
 }

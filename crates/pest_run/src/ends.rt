@@ -1,6 +1,6 @@
 //! Ends of a run.
-ghost use Rattle.std.specs.Prelude.{◌≡◌, ◌⊎◌, IsErr, IsOk, codes, true};
-ghost use Rattle.pest_run.specs.Written.{WritesLine};
+ghost use Rattle.std.specs.Prelude.{◌≡◌, ◌⊎◌, IsErr, IsOk, codes, option_map, string_bytes, true};
+ghost use Rattle.pest_run.specs.Written.{WritesLine, WritesNote};
 ghost use Rattle.tool_support.specs.Escapes.{escaped_lines};
 ghost use Rattle.tool_support.specs.Statuses.{status_code};
 
@@ -37,11 +37,18 @@ pub fn report_refusal<E: Write>(alloc: Global, report: &str, err: &mut Output<E>
     }
 }
 
-/// Ends a run after its lines were printed, and reports a write of them that was refused.
-pub fn exit_after_write<E: Write>(err: &mut Output<E>, outcome: Result<(), RefusedWrite>) -> RunExit
+/// Ends a run after its lines were printed, and writes a note, if there is one; or reports that the write of
+/// the lines was refused.
+pub fn exit_after_write<E: Write>(
+    err: &mut Output<E>,
+    outcome: Result<(), RefusedWrite>,
+    note: Option<String>,
+) -> RunExit
     ensures known { (result.status ≡ 0) ⊎ (result.status ≡ 4) }
     ensures printed { IsOk outcome → result.status ≡ 0 }
-    ensures silent { IsOk outcome → err.new ≡ err.old }
+    ensures noted { IsOk outcome
+        → WritesNote (option_map string_bytes note) (err.new ≡ err.old) result.write_result
+        (E.contents err.old.writer) (E.contents err.new.writer) }
     ensures unwritten { IsErr outcome → result.status ≡ 4 }
     ensures tells { IsErr outcome
         → WritesLine (codes "cannot write") result.write_result
@@ -50,9 +57,12 @@ pub fn exit_after_write<E: Write>(err: &mut Output<E>, outcome: Result<(), Refus
     ensures refused_line { IsErr result.write_result → err.new.refused ≡ true }
 {
     match outcome {
-        Ok(()) => RunExit {
-            status: Status::Done.code(),
-            write_result: Ok(()),
+        Ok(()) => match note {
+            Some(note) => exit_with(err, note.as_str(), Status::Done),
+            None => RunExit {
+                status: Status::Done.code(),
+                write_result: Ok(()),
+            },
         },
         Err(_) => exit_with(err, "cannot write", Status::Unwritable),
     }

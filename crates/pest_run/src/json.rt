@@ -1,4 +1,4 @@
-//! JSON with escapes of hidden characters.
+//! JSON without hidden characters.
 ghost use Rattle.std.specs.Prelude.{◌≡◌, ◌++◌, ◌<◌, IfOk, OnOk, encode_utf8_all, string_bytes};
 ghost use Rattle.meta_ast.specs.Printing.{hex_digit};
 ghost use Rattle.pest_run.specs.Json.{escaped_json, json_character, json_escape};

@@ -1,4 +1,4 @@
-//! The list of a grammar's rules.
+//! Lists of rules' names.
 ghost use Rattle.std.specs.Prelude.{◌≡◌, ◌≢◌, ◌≤◌, IsErr, IsOk, codes, true};
 ghost use Rattle.meta_ast.specs.Optimized.{optimized_rules_of};
 ghost use Rattle.pest_run.specs.Ends.{IsStatus};
@@ -102,7 +102,7 @@ fn list_outcome(alloc: Global, rules: &[OptimizedRule]) -> Outcome
     ensures { IsListOutcome (optimized_rules_of rules.now) result }
 {
     match name_lines(alloc, rules) {
-        Ok(lines) => Outcome::Shown(lines),
+        Ok(lines) => Outcome::Shown { lines, note: None },
         Err(_) => Outcome::Memory,
     }
 }

@@ -9,6 +9,7 @@ ghost use Rattle.pest_run.specs.Written.{IsReadable, PrintsTrees};
 
 mod arguments;
 mod ends;
+mod forms;
 mod json;
 mod listing;
 mod messages;
@@ -17,9 +18,10 @@ mod rule_names;
 mod run;
 mod sources;
 
-use arguments::{asks_for_rules, command, form_of, format_of};
+use arguments::{Request, RuleForm, asks_for_rules, command, form_of, format_of, steps_of};
+use forms::note_forms;
 use listing::list_file;
-use run::{Request, run_files};
+use run::run_files;
 use sources::Source;
 use std::alloc::AllocError;
 use std::env;
@@ -57,6 +59,9 @@ fn match_files(
     let mut out = Output::new(rt.stdout());
     let mut err = Output::new(rt.stderr());
     let exit = run_files(rt.alloc(), grammar, text, request, &mut out, &mut err);
+    if exit.status == Status::Found.code() && matches!(request.form, RuleForm::Written) {
+        let _ = note_forms(rt.alloc(), grammar, text, request, &mut err);
+    }
     exit.status
 }
 
@@ -112,6 +117,7 @@ fn answer(rt: &HostRuntime) -> Result<u8, clap::Error> {
         rule: matches.get_str("RULE").unwrap_or(""),
         format: format_of(&matches),
         form: form_of(&matches),
+        steps: steps_of(&matches),
     };
     Ok(match_files(rt, &grammar, &text, request))
 }

@@ -1,12 +1,13 @@
-//! Messages, with escapes of hidden characters.
+//! Messages without hidden characters.
 ghost use Rattle.std.specs.Prelude.{◌≡◌, ◌==◌, ◌++◌, IfOk, OnOk, encode_utf8_all, length, string_bytes};
-ghost use Rattle.std.specs.Str.{chars};
+ghost use Rattle.std.specs.Str.{IsCharBoundary, chars};
 ghost use Rattle.meta_matcher.specs.ExpectedNames.{name_texts};
 ghost use Rattle.meta_ast.specs.Optimized.{optimized_rules_of};
-ghost use Rattle.pest_run.specs.Messages.{failure_message, name_separator, no_rule_text, other_names, suggestion, unread_text};
+ghost use Rattle.pest_run.specs.Messages.{end_text, failure_message, is_more, name_separator, no_rule_text, note_between, other_names, place_text, steps_text, suggestion, unread_text};
 
 use crate::rule_names::near_names;
 use meta_ast::optimized::OptimizedRule;
+use meta_base::runtime::Position;
 use std::alloc::{AllocError, Global};
 use tool_support::escape::escape;
 
@@ -59,6 +60,61 @@ pub fn unread_message(alloc: Global, name: &str, why: &str) -> Result<String, Al
     message.push_str(": ")?;
     message.push_str(shown_why.as_str())?;
     Ok(message)
+}
+
+/// Returns the message that a match was stopped after so many steps. The only error is an allocation failure.
+pub fn steps_message(alloc: Global, steps: u64) -> Result<String, AllocError>
+    ensures { IfOk result (λ message. string_bytes message ≡ steps_text steps) }
+{
+    format!(in alloc; "the match was stopped after {steps} steps; --steps N allows N")
+}
+
+/// Returns whether more than a line's end is left of a text.
+pub fn is_more(rest: &str) -> bool
+    ensures { result ≡ is_more rest.now }
+{
+    !(rest.is_empty() || rest == "\n" || rest == "\r\n")
+}
+
+/// Returns the note that a match ends at a byte position between two characters, and where the text ends. The
+/// only error is an allocation failure.
+pub fn end_message(alloc: Global, text: &str, end: usize) -> Result<String, AllocError>
+    requires { IsCharBoundary text.now end }
+    ensures { IfOk result (λ note. string_bytes note ≡ end_text text.now end) }
+{
+    let Some(end) = Position::new(text, end) else {
+        unreachable!()
+    };
+    let Some(last) = Position::new(text, text.len()) else {
+        unreachable!()
+    };
+    note_between(alloc, end.line_col(), last.line_col())
+}
+
+/// Returns the note that a match ends at the first of two positions, and its text at the second. The only
+/// error is an allocation failure.
+fn note_between(
+    alloc: Global,
+    end: (usize, usize),
+    last: (usize, usize),
+) -> Result<String, AllocError>
+    ensures { IfOk result (λ note. string_bytes note ≡ note_between end last) }
+{
+    let shown_end = show_place(alloc, end)?;
+    let shown_last = show_place(alloc, last)?;
+    let mut note = String::from_str(alloc, "note: matched up to ")?;
+    note.push_str(shown_end.as_str())?;
+    note.push_str(", the text ends at ")?;
+    note.push_str(shown_last.as_str())?;
+    Ok(note)
+}
+
+/// Returns a line and a column as text. The only error is an allocation failure.
+fn show_place(alloc: Global, place: (usize, usize)) -> Result<String, AllocError>
+    ensures { IfOk result (λ text. string_bytes text ≡ place_text place) }
+{
+    let (line, column) = place;
+    format!(in alloc; "{line}:{column}")
 }
 
 /// Returns the message for a text where these names are expected, in pest's words. The only error is an

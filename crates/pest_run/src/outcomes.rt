@@ -1,5 +1,5 @@
 //! The outcome of a rule on a text.
-ghost use Rattle.std.specs.Prelude.{◌≡◌, IfOk, string_bytes};
+ghost use Rattle.std.specs.Prelude.{◌≡◌, IfOk, option_map, string_bytes};
 ghost use Rattle.meta_ast.specs.Optimized.{optimized_rules_of};
 ghost use Rattle.meta_base.specs.Language.State.{Trees};
 ghost use Rattle.meta_base.specs.Pieces.Span.{position_offset, position_text};
@@ -9,11 +9,11 @@ ghost use Rattle.meta_syntax.specs.Entries.{entries_of};
 ghost use Rattle.std.specs.Str.{IsCharBoundary};
 ghost use Rattle.matcher_support.specs.Shown.{shown};
 ghost use Rattle.tool_support.specs.Escapes.{escaped_lines};
-ghost use Rattle.pest_run.specs.Outcomes.{IsFailureReport, IsNoRuleReport, IsOutcome, failure_text, stopped_outcome, trees_text, unfit_outcome};
+ghost use Rattle.pest_run.specs.Outcomes.{IsFailureReport, IsMatchReport, IsNoRuleReport, IsOutcome, IsStopReport, end_note, failure_text, trees_text, unfit_outcome};
 
 use crate::arguments::Format;
 use crate::json::escape_json;
-use crate::messages::{failure_message, no_rule_message};
+use crate::messages::{end_message, failure_message, is_more, no_rule_message, steps_message};
 use matcher_engine::matcher::Matcher;
 use matcher_program::compile::Unfit;
 use matcher_support::json::tree_json;
@@ -29,20 +29,17 @@ use pest_meta::optimizer::OptimizedRule;
 use std::alloc::{AllocError, Global};
 use tool_support::escape::escape_lines;
 
-/// The greatest number of steps, which no run reaches.
-const STEPS: u64 = u64::MAX;
-
 /// The outcome of a rule on a text.
 #[derive(Drop)]
 pub enum Outcome {
-    /// The rule matches, and these lines show the trees.
-    Shown(String),
+    /// The rule matches, and these lines show the trees. The note says that the match ends before the text.
+    Shown { lines: String, note: Option<String> },
     /// The rule fails; the report has the position and the expected set.
     Failed(String),
     /// The grammar has no rule of that name, and the message says so.
     NoRule(String),
-    /// The run takes more steps than the matcher may take.
-    OutOfSteps,
+    /// The run takes more steps than the matcher may take, and the message says so.
+    OutOfSteps(String),
     /// `PEEK` or `POP` met the empty stack, and the rule has no outcome on the text.
     EmptyStack,
     /// The rules call a name that is neither a rule's nor a builtin's.
@@ -53,38 +50,81 @@ pub enum Outcome {
     Memory,
 }
 
-/// Runs the rule of that name on a text, and returns the outcome.
+/// Runs the rule of that name on a text, in so many steps at most, and returns the outcome.
 pub fn outcome_of(
     alloc: Global,
     rules: &[OptimizedRule],
     rule: &str,
     text: &str,
     format: Format,
+    steps: u64,
 ) -> Outcome
-    ensures { IsOutcome (optimized_rules_of rules.now) rule.now text.now format result }
+    ensures { IsOutcome (optimized_rules_of rules.now) rule.now text.now format steps result }
 {
     let matcher = match Matcher::new(alloc, rules, &UnicodeProperties) {
         Ok(matcher) => matcher,
         Err(unfit) => return unfit_outcome(unfit),
     };
-    match matcher.parse(alloc, rule, text, STEPS) {
-        Ok(found) => match lines_of(alloc, text, &found, format) {
-            Ok(lines) => Outcome::Shown(lines),
-            Err(_) => Outcome::Memory,
-        },
+    match matcher.parse(alloc, rule, text, steps) {
+        Ok(found) => shown_outcome(alloc, text, &found, format),
         Err(Refusal::UnknownRule(_)) => no_rule_outcome(alloc, rules, rule),
         Err(Refusal::NoMatch(place)) => {
             match matcher
                 .interpreter
-                .expected_at(alloc, rule, text, place, STEPS)
+                .expected_at(alloc, rule, text, place, steps)
             {
                 Ok(names) => failed_outcome(alloc, text, place, &names),
                 Err(Refusal::UnknownRule(_)) => no_rule_outcome(alloc, rules, rule),
                 Err(Refusal::NoMatch(_)) => unreachable!(),
-                Err(Refusal::Stopped(stop)) => stopped_outcome(stop),
+                Err(Refusal::Stopped(stop)) => stopped_outcome(alloc, stop, steps),
             }
         }
-        Err(Refusal::Stopped(stop)) => stopped_outcome(stop),
+        Err(Refusal::Stopped(stop)) => stopped_outcome(alloc, stop, steps),
+    }
+}
+
+/// Returns the outcome of a rule that matches a text, up to a byte position between two characters.
+fn shown_outcome(alloc: Global, text: &str, found: &Found<'_>, format: Format) -> Outcome
+    requires { IsCharBoundary text.now found.now.end }
+    ensures { (trees : Trees) → seen found.now.entries.items ≡ entries_of 0 trees
+        → IsMatchReport text.now format found.now.end trees result }
+{
+    match lines_of(alloc, text, found, format) {
+        Ok(lines) => match note_of(alloc, text, found.end, format) {
+            Ok(note) => Outcome::Shown { lines, note },
+            Err(_) => Outcome::Memory,
+        },
+        Err(_) => Outcome::Memory,
+    }
+}
+
+/// Returns the note on a match that ends before its text, where the trees are shown as text: the other
+/// formats have the end. The only error is an allocation failure.
+fn note_of(
+    alloc: Global,
+    text: &str,
+    end: usize,
+    format: Format,
+) -> Result<Option<String>, AllocError>
+    requires { IsCharBoundary text.now end }
+    ensures { IfOk result (λ note. option_map string_bytes note ≡ end_note format text.now end) }
+{
+    match format {
+        Format::Text => text_note(alloc, text, end),
+        Format::Json | Format::Lines => Ok(None),
+    }
+}
+
+/// Returns the note on a match that ends before its text, if more than a line's end is left. The only error
+/// is an allocation failure.
+fn text_note(alloc: Global, text: &str, end: usize) -> Result<Option<String>, AllocError>
+    requires { IsCharBoundary text.now end }
+    ensures { IfOk result (λ note. option_map string_bytes note ≡ end_note Format.Text text.now end) }
+{
+    if is_more(&text[end..]) {
+        Ok(Some(end_message(alloc, text, end)?))
+    } else {
+        Ok(None)
     }
 }
 
@@ -172,13 +212,16 @@ fn report_at(alloc: Global, place: Position<'_>, names: &[&str]) -> Result<Strin
     Ok(escape_lines(alloc, report.as_str())?)
 }
 
-/// Returns the outcome of a run that was stopped.
-fn stopped_outcome(stop: Stop) -> Outcome
-    ensures { result ≡ stopped_outcome stop }
+/// Returns the outcome of a run that was stopped, of so many steps at most.
+fn stopped_outcome(alloc: Global, stop: Stop, steps: u64) -> Outcome
+    ensures { IsStopReport stop steps result }
 {
     match stop {
         Stop::Memory => Outcome::Memory,
-        Stop::OutOfSteps => Outcome::OutOfSteps,
+        Stop::OutOfSteps => match steps_message(alloc, steps) {
+            Ok(message) => Outcome::OutOfSteps(message),
+            Err(_) => Outcome::Memory,
+        },
         Stop::EmptyStack => Outcome::EmptyStack,
     }
 }

@@ -1,11 +1,12 @@
-//! The program after its files are read.
-ghost use Rattle.std.specs.Prelude.{◌≡◌, ◌≢◌, ◌≤◌, IfErr, IfOk, IsErr, IsOk, codes, true};
+//! The program on read files.
+ghost use Rattle.std.specs.Prelude.{◌≡◌, ◌≢◌, ◌≤◌, IfErr, IfOk, IsErr, IsOk, codes, length, true};
 ghost use Rattle.meta_ast.specs.Optimized.{optimized_rules_of};
 ghost use Rattle.pest_meta.specs.Spelling.{IsRefusal};
 ghost use Rattle.pest_run.specs.Ends.{EndsAs, IsStatus};
-ghost use Rattle.pest_run.specs.Written.{AreRun, IsReadable, PrintsTrees, ReportsReason, ReportsStop, ReportsUnread, WritesLine};
+ghost use Rattle.pest_run.specs.Steps.{step_limit};
+ghost use Rattle.pest_run.specs.Written.{AreRun, IsReadable, NotesEnd, PrintsTrees, ReportsReason, ReportsStop, ReportsUnread, WritesLine};
 
-use crate::arguments::{Format, RuleForm};
+use crate::arguments::{Request, RuleForm, step_limit};
 use crate::ends::{RunExit, exit_after_write, exit_with, report_refusal};
 use crate::outcomes::{Outcome, outcome_of};
 use crate::sources::{Source, text_of, unreadable};
@@ -16,17 +17,6 @@ use std::alloc::Global;
 use std::io::Write;
 use tool_support::output::Output;
 use tool_support::status::Status;
-
-/// The rule to match, the form of the rules, and the format of the trees.
-#[derive(Clone, Copy)]
-pub struct Request<'a> {
-    /// The name of the rule that is to match the text.
-    pub rule: &'a str,
-    /// The format of the printed trees.
-    pub format: Format,
-    /// The form in which the rules of the grammar are run.
-    pub form: RuleForm,
-}
 
 /// Matches a text by the requested rule of a grammar, both read from files, and prints the trees to `out`, as
 /// `run` does. A file that can't be read or is not UTF-8 is reported on `err` with its name and the reason
@@ -49,7 +39,10 @@ pub fn run_files<W: Write, E: Write>(
     ensures unprinted { result.status ≢ 0 → result.status ≢ 4 → out.new ≡ out.old }
     ensures taken { result.status ≡ 0 → out.new.refused ≡ out.old.refused }
     ensures refused_write { result.status ≡ 4 → out.new.refused ≡ true }
-    ensures silent { result.status ≡ 0 → err.new ≡ err.old }
+    ensures noted { result.status ≡ 0
+        → NotesEnd request.entry.form grammar.now.bytes.items request.entry.rule.now
+        text.now.bytes.items request.entry.format (err.new ≡ err.old) result.write_result
+        (E.contents err.old.writer) (E.contents err.new.writer) }
     ensures reason { result.status ≡ 1
         → ReportsReason request.entry.form grammar.now.bytes.items request.entry.rule.now text.now.bytes.items
         result.write_result
@@ -62,8 +55,8 @@ pub fn run_files<W: Write, E: Write>(
         (E.contents err.old.writer) (E.contents err.new.writer) }
     ensures stopped { result.status ≡ 5
         → ReportsStop request.entry.form grammar.now.bytes.items request.entry.rule.now
-        text.now.bytes.items result.write_result
-        (E.contents err.old.writer) (E.contents err.new.writer) }
+        text.now.bytes.items (step_limit request.entry.steps (length text.now.bytes.items))
+        result.write_result (E.contents err.old.writer) (E.contents err.new.writer) }
     ensures tells_unread { result.status ≡ 3
         → ReportsUnread grammar.now text.now result.write_result
         (E.contents err.old.writer) (E.contents err.new.writer) }
@@ -79,7 +72,8 @@ pub fn run_files<W: Write, E: Write>(
     run(alloc, rules, input, request, out, err)
 }
 
-/// Matches a text by the requested rule of a grammar, and prints the trees to `out` (0).
+/// Matches a text by the requested rule of a grammar, and prints the trees to `out` (0). As text, a note on
+/// `err` says where the match ends, if more than a line's end of the text is left.
 ///
 /// Otherwise one text with a line break at its end goes to `err`: the report of a grammar that is refused,
 /// that the grammar has no such rule, or the furthest position at which the rule fails with the expected set
@@ -100,7 +94,10 @@ pub fn run<W: Write, E: Write>(
     ensures unprinted { result.status ≢ 0 → result.status ≢ 4 → out.new ≡ out.old }
     ensures taken { result.status ≡ 0 → out.new.refused ≡ out.old.refused }
     ensures refused_write { result.status ≡ 4 → out.new.refused ≡ true }
-    ensures silent { result.status ≡ 0 → err.new ≡ err.old }
+    ensures noted { result.status ≡ 0
+        → NotesEnd request.entry.form grammar.now request.entry.rule.now text.now request.entry.format
+        (err.new ≡ err.old) result.write_result
+        (E.contents err.old.writer) (E.contents err.new.writer) }
     ensures reason { result.status ≡ 1
         → ReportsReason request.entry.form grammar.now request.entry.rule.now text.now result.write_result
         (E.contents err.old.writer) (E.contents err.new.writer) }
@@ -111,14 +108,16 @@ pub fn run<W: Write, E: Write>(
         → WritesLine (codes "cannot write") result.write_result
         (E.contents err.old.writer) (E.contents err.new.writer) }
     ensures stopped { result.status ≡ 5
-        → ReportsStop request.entry.form grammar.now request.entry.rule.now text.now result.write_result
+        → ReportsStop request.entry.form grammar.now request.entry.rule.now text.now
+        (step_limit request.entry.steps (length text.now)) result.write_result
         (E.contents err.old.writer) (E.contents err.new.writer) }
     ensures told { IsOk result.write_result → err.new.refused ≡ err.old.refused }
     ensures refused_line { IsErr result.write_result → err.new.refused ≡ true }
 {
     match unwrap_or_report(alloc, read_rules(alloc, grammar, request.form)) {
         Ok(rules) => {
-            let outcome = outcome_of(alloc, &rules, request.rule, text, request.format);
+            let steps = step_limit(request.steps, text.len());
+            let outcome = outcome_of(alloc, &rules, request.rule, text, request.format, steps);
             release(rules);
             print_outcome(outcome, out, err)
         }
@@ -128,7 +127,7 @@ pub fn run<W: Write, E: Write>(
 }
 
 /// Returns the rules of a grammar in the form in which they are run. Errors: those of `parse_and_optimize`.
-fn read_rules(alloc: Global, grammar: &str, form: RuleForm) -> Result<Vec<OptimizedRule>, Fault>
+pub fn read_rules(alloc: Global, grammar: &str, form: RuleForm) -> Result<Vec<OptimizedRule>, Fault>
     ensures rules { IfOk result (λ rules. AreRun form grammar.now (optimized_rules_of rules.items)) }
     ensures refused { IfErr result (IsRefusal grammar.now) }
 {
@@ -148,13 +147,12 @@ pub fn print_outcome<W: Write, E: Write>(
     err: &mut Output<E>,
 ) -> RunExit
     ensures known { IsStatus result.status }
-    ensures ends { EndsAs outcome result.status result.write_result
+    ensures ends { EndsAs outcome (err.new ≡ err.old) result.status result.write_result
         (W.contents out.old.writer) (W.contents out.new.writer)
         (E.contents err.old.writer) (E.contents err.new.writer) }
     ensures unprinted { result.status ≢ 0 → result.status ≢ 4 → out.new ≡ out.old }
     ensures taken { result.status ≡ 0 → out.new.refused ≡ out.old.refused }
     ensures refused_write { result.status ≡ 4 → out.new.refused ≡ true }
-    ensures silent { result.status ≡ 0 → err.new ≡ err.old }
     ensures tells_memory { result.status ≡ 2
         → WritesLine (codes "out of memory") result.write_result
         (E.contents err.old.writer) (E.contents err.new.writer) }
@@ -165,10 +163,13 @@ pub fn print_outcome<W: Write, E: Write>(
     ensures refused_line { IsErr result.write_result → err.new.refused ≡ true }
 {
     match outcome {
-        Outcome::Shown(lines) => exit_after_write(err, out.write_text(lines.as_str())),
+        Outcome::Shown { lines, note } => {
+            let written = out.write_text(lines.as_str());
+            exit_after_write(err, written, note)
+        }
         Outcome::Failed(report) => exit_with(err, report.as_str(), Status::Found),
         Outcome::NoRule(message) => exit_with(err, message.as_str(), Status::Found),
-        Outcome::OutOfSteps => exit_with(err, "the text takes too many steps", Status::Stopped),
+        Outcome::OutOfSteps(message) => exit_with(err, message.as_str(), Status::Stopped),
         Outcome::EmptyStack => exit_with(
             err,
             "PEEK or POP found nothing on the stack",

@@ -1,4 +1,4 @@
-//! The files that the program reads.
+//! Files that are read.
 ghost use Rattle.std.specs.Prelude.{◌≡◌, ◌↔◌, IfSome, IsErr, IsOk, IsSome, true};
 ghost use Rattle.pest_run.specs.Written.{IsReadable, WritesUnread, why_unread};
 

@@ -1,9 +1,12 @@
 use Rattle.meta_spanned.specs.Nodes.{rule_views}
 use Rattle.meta_warnings.specs.Lists.{texts_of}
-use Rattle.meta_diagnostics.proofs.Diagnosing.{of_pairs}
+use Rattle.meta_diagnostics.proofs.Diagnosing.{of_rules}
 use Rattle.meta_diagnostics.proofs.diagnose_accepted.Goals as goal
 
-pub returns : goal.returns
-returns c =
-    of_pairs c.args.has_all (texts_of c.args.starts.now) c.args.text.now c.in_ok-pairs.pairs (rule_views c.in_ok-rules.rules.items) c.in_ok-diagnostics.diagnostics.items c.in_ok-left.left.items
-    c.in_ok-pairs.ensures.text c.in_ok-pairs.ensures.spelled c.in_ok-rules.ensures.rules (rw c.deref.ensures.value at c.in_ok-diagnostics.ensures) (rw c.deref-2.ensures.value at c.in_ok-left.ensures)
+pub returns-clause-warnings : goal.returns-clause-warnings
+returns-clause-warnings c =
+    of_rules c.args.has_all (texts_of c.args.starts.now) c.args.text.now (rule_views c.args.rules.items) c.in_ok-diagnostics.diagnostics.items c.in_ok-left.left.items
+    (rw c.deref.ensures.value at c.in_ok-diagnostics.ensures) (rw c.deref-2.ensures.value at c.in_ok-left.ensures)
+
+pub returns-clause-answer : goal.returns-clause-answer
+returns-clause-answer c = (rw c.into_inner.ensures at c.in_ok-find_answer.ensures) c.args.text.now

@@ -1,15 +1,17 @@
+use Rattle.meta_spanned.specs.Nodes.{rule_views}
 use Rattle.meta_warnings.specs.Lists.{texts_of}
 use Rattle.meta_diagnostics.proofs.Diagnosing.{answered, answered_refused, diagnosed_accepted, diagnosed_refused}
 use Rattle.meta_diagnostics.proofs.diagnose_with.Goals as goal
 
 pub returns-in-Ok-clause-diagnosis : goal.returns-in-Ok-clause-diagnosis
 returns-in-Ok-clause-diagnosis c =
-    diagnosed_accepted c.args.has_all (texts_of c.args.starts.now) c.args.text.now c.diagnose_accepted.result c.memory_only.result
-    (c.in-Ok.field-0-0.items, c.in-Ok.rules.items, c.in-Ok.ensures.answer) c.diagnose_accepted.ensures c.memory_only.ensures
+    diagnosed_accepted c.args.has_all (texts_of c.args.starts.now) c.args.text.now c.in-Ok.field-0-0.items (rule_views c.in-Ok.rules.items) c.diagnose_accepted.result
+    c.in-Ok.ensures.rules c.diagnose_accepted.ensures.warnings c.diagnose_accepted.ensures.answer
 
 pub returns-in-Ok-clause-accepted : goal.returns-in-Ok-clause-accepted
 returns-in-Ok-clause-accepted c =
-    answered c.args.text.now c.memory_only.result (c.in-Ok.field-0-0.items, c.in-Ok.rules.items, c.in-Ok.ensures.answer)
+    answered c.args.text.now c.in-Ok.field-0-0.items (rule_views c.in-Ok.rules.items) c.diagnose_accepted.result
+    c.in-Ok.ensures.rules c.diagnose_accepted.ensures.answer
 
 pub returns-in-Err-Grammar-clause-diagnosis : goal.returns-in-Err-Grammar-clause-diagnosis
 returns-in-Err-Grammar-clause-diagnosis c =

@@ -1,12 +1,9 @@
-use Rattle.std.proofs.Common.{map}
-use Rattle.diagnostic_data.specs.Reports.{ReportsWarning}
-use Rattle.diagnostic_data.proofs.Zips.{zip_both}
-use Rattle.meta_spanned.specs.Nodes.{piece_of}
+use Rattle.meta_spanned.specs.Nodes.{rule_views}
+use Rattle.meta_warnings.specs.Lists.{texts_of}
+use Rattle.meta_diagnostics.proofs.Listing.{all_reported}
 use Rattle.meta_diagnostics.proofs.warn_of.Goals as goal
 
 pub returns : goal.returns
-returns c = record {
-  lists = map piece_of c.in_ok-names.names.items;
-  found = c.in_ok-names.ensures;
-  each = rw c.in_ok-append.ensures.items (zip_both ReportsWarning _ _ _ _ c.in_ok-diagnostics.ensures (rw c.deref.ensures.value at c.in_ok-others.ensures));
-}
+returns c =
+    all_reported c.args.has_all (texts_of c.args.starts.now) c.args.text.now (rule_views c.args.rules.now) c.in_ok-names.names.items c.in_ok-diagnostics.diagnostics.items c.in_ok-others.others.items _
+    c.in_ok-names.ensures c.in_ok-diagnostics.ensures (rw c.deref.ensures.value at c.in_ok-others.ensures) c.in_ok-append.ensures.items

@@ -1,4 +1,4 @@
-use Rattle.std.proofs.Common.{◌≡◌, ◌∙◌, ap, arith, sym}
+use Rattle.std.proofs.Common.{◌∙◌, ap, arith, sym}
 use Rattle.meta_spanned.proofs.Places.{span_of-view}
 use Rattle.diagnostic_data.proofs.allowances.allowance_at.Goals as goal
 

@@ -1,4 +1,3 @@
-use Rattle.std.proofs.Common.{◌++◌}
 use Rattle.diagnostic_data.specs.Reports.{ReportsWarning}
 use Rattle.diagnostic_data.proofs.Zips.{zip_both}
 use Rattle.diagnostic_data.proofs.warnings.add_code.Goals as goal

@@ -1,5 +1,13 @@
-use Rattle.diagnostic_data.proofs.Zips.{reported_code}
+use Rattle.std.proofs.Common.{◌∙◌, map, subst, sym}
+use Rattle.std.specs.List.{AllZip}
+use Rattle.diagnostic_data.specs.Codes.{warning}
+use Rattle.diagnostic_data.specs.Reports.{ReportsWarning}
+use Rattle.diagnostic_data.proofs.Zips.{no_spans}
+use Rattle.meta_spanned.specs.Nodes.{rule_views}
+use Rattle.meta_warnings.specs.Lists.{texts_of}
 use Rattle.diagnostic_data.proofs.warnings.diagnose_code.Goals as goal
 
-pub returns : goal.returns
-returns c = reported_code c.args.code c.in_ok-spans.spans.items _ c.report_spans.result c.in_ok-spans.ensures (rw c.deref.ensures.value at c.report_spans.ensures)
+pub returns-in-Error : goal.returns-in-Error
+returns-in-Error c =
+    let none = no_spans c.args.code (texts_of c.args.starts.now) (rule_views c.args.rules.now) (sym c.severity.ensures ∙ c.in-Error.is) in
+    subst (λ spans. AllZip ReportsWarning (map (warning c.args.code) spans) c.new.result.items) (sym none) (rw c.new.ensures.items tt)

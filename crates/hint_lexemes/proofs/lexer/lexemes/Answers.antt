@@ -1,4 +1,4 @@
-use Rattle.std.proofs.Common.{◌≡◌, ◌<◌, ◌≤◌, List, [], ◌∷◌, ◌++◌, append-nil, ap, arith, length, subst, sym}
+use Rattle.std.proofs.Common.{◌≡◌, ◌≤◌, [], ◌∷◌, ◌++◌, append-nil, ap, arith, length, subst, sym}
 use Rattle.hint_lexemes.specs.Lexemes.{AreInOrder}
 use Rattle.hint_lexemes.specs.declared.lexer.Lexeme.{Lexeme}
 use Rattle.hint_lexemes.proofs.InOrder.{lower, one_more}

@@ -2,7 +2,8 @@ use Rattle.std.proofs.Common.{◌≡◌, ◌∙◌, ◌<◌, None, arith, false,
 use Rattle.std.proofs.lemmas.Grind.{common_steps}
 use Rattle.meta_base.specs.Language.Expression.{comment, rule_of}
 use Rattle.matcher_program.specs.Programs.{IsSkippedRule}
-use Rattle.matcher_compiler.specs.Plans.{IsBlankSet, SkipsAs, grammar_in}
+use Rattle.matcher_sets.specs.Forms.{grammar_in}
+use Rattle.matcher_compiler.specs.Plans.{IsBlankSet, SkipsAs}
 use Rattle.matcher_compiler.proofs.Skipping.{skips_ready}
 use Rattle.matcher_compiler.proofs.compile.blank_plan.Goals as goal
 

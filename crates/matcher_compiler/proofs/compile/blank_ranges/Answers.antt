@@ -3,7 +3,7 @@ use Rattle.matcher_code.specs.Reading.{is_covered}
 use Rattle.meta_base.specs.Language.Expression.{whitespace}
 use Rattle.matcher_program.specs.Programs.{IsSkippedRule}
 use Rattle.matcher_compiler.proofs.Skipping.{no_blanks}
-use Rattle.matcher_compiler.specs.Plans.{grammar_in}
+use Rattle.matcher_sets.specs.Forms.{grammar_in}
 use Rattle.matcher_compiler.proofs.compile.blank_ranges.Goals as goal
 
 pub returns-in-None : goal.returns-in-None

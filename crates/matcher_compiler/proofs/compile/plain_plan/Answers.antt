@@ -1,7 +1,8 @@
 use Rattle.std.proofs.Common.{subst, sym}
 use Rattle.meta_base.specs.Language.Expression.{comment, whitespace}
 use Rattle.matcher_program.specs.Programs.{IsSkippedRule}
-use Rattle.matcher_compiler.specs.Plans.{SkipsAs, grammar_in}
+use Rattle.matcher_sets.specs.Forms.{grammar_in}
+use Rattle.matcher_compiler.specs.Plans.{SkipsAs}
 use Rattle.matcher_compiler.proofs.Skipping.{tight_nowhere}
 use Rattle.matcher_compiler.proofs.compile.plain_plan.Goals as goal
 

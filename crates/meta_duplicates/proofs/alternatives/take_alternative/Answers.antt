@@ -1,4 +1,4 @@
-use Rattle.std.proofs.Common.{◌≡◌, [], ◌∷◌, ◌++◌, ap, length, map}
+use Rattle.std.proofs.Common.{[], ◌∷◌, ◌++◌, ap, length}
 use Rattle.meta_duplicates.proofs.Stacks.{no_choice, spans_along, spans_more}
 use Rattle.meta_spanned.specs.Nodes.{piece_of, view, view_at}
 use Rattle.meta_spanned.specs.Walk.{waiting}

@@ -1,4 +1,4 @@
-use Rattle.std.proofs.Common.{◌≡◌, ◌∙◌, ◌<◌, ◌≤◌, [], ◌++◌, ap, sym, refl, rules, arith, append-nil, length}
+use Rattle.std.proofs.Common.{◌≡◌, ◌∙◌, ◌<◌, [], ◌++◌, ap, sym, refl, rules, append-nil, length}
 use Rattle.std.specs.Prelude.{flat_map}
 use Rattle.meta_duplicates.specs.Keys.{key, sign}
 use Rattle.meta_duplicates.proofs.Unique.{not_longer, signs_are_key, too_long}

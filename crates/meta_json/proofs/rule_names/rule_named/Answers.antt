@@ -1,4 +1,4 @@
-use Rattle.std.proofs.Common.{ap, rules, sym, tests, ◌∙◌}
+use Rattle.std.proofs.Common.{rules, sym, tests, ◌∙◌}
 use Rattle.std.proofs.lemmas.Iterator.{YieldsList-from_slice}
 use Rattle.std.proofs.lemmas.Iterator.Consumers.{YieldsList-from_copied}
 use Rattle.std.proofs.lemmas.Iterator.Search.{find_from_yields_List}

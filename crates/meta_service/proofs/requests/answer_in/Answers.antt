@@ -5,7 +5,7 @@ pub returns-in-DocumentSymbol : goal.returns-in-DocumentSymbol
 returns-in-DocumentSymbol c = rw c.in-DocumentSymbol.is c.document_symbols.ensures
 
 pub returns-in-FoldingRange : goal.returns-in-FoldingRange
-returns-in-FoldingRange c = rw c.in-FoldingRange.is (any_answer c.folding_ranges.result)
+returns-in-FoldingRange c = rw c.in-FoldingRange.is c.folding_ranges.ensures
 
 pub returns-in-SelectionRange : goal.returns-in-SelectionRange
 returns-in-SelectionRange c = rw c.in-SelectionRange.is (any_answer c.selection_ranges.result)
@@ -29,7 +29,7 @@ pub returns-in-Hover : goal.returns-in-Hover
 returns-in-Hover c = rw c.in-Hover.is (any_answer c.hover.result)
 
 pub returns-in-Completion : goal.returns-in-Completion
-returns-in-Completion c = rw c.in-Completion.is (any_answer c.completions.result)
+returns-in-Completion c = rw c.in-Completion.is c.completions.ensures
 
 pub returns-in-Formatting : goal.returns-in-Formatting
 returns-in-Formatting c = rw c.in-Formatting.is (any_answer c.format_document.result)
@@ -41,4 +41,4 @@ pub returns-in-CodeAction : goal.returns-in-CodeAction
 returns-in-CodeAction c = rw c.in-CodeAction.is (any_answer c.code_actions.result)
 
 pub returns-in-SemanticTokens : goal.returns-in-SemanticTokens
-returns-in-SemanticTokens c = rw c.in-SemanticTokens.is (any_answer c.semantic_tokens.result)
+returns-in-SemanticTokens c = rw c.in-SemanticTokens.is c.semantic_tokens.ensures

@@ -1,11 +1,24 @@
-use Rattle.std.proofs.Common.{◌≡◌, subst, sym}
+use Rattle.std.proofs.Common.{subst, sym}
 use Rattle.meta_ast.specs.Optimized.{optimized_rules_of}
 use Rattle.meta_base.specs.Language.Expression.{Grammar}
 use Rattle.matcher_program.specs.Programs.{grammar_of}
-use Rattle.pest_run.specs.Outcomes.{HasNoRule, IsOutcome, stopped_outcome}
+use Rattle.pest_run.specs.Outcomes.{HasNoRule, IsOutcome}
 use Rattle.pest_run.specs.declared.outcomes.Outcome.{Outcome}
-use Rattle.pest_run.proofs.Came.{at_character, failed, stopped, unfit, unknown}
+use Rattle.pest_run.proofs.Came.{at_character, ends_at_character, failed, shows, stopped, unfit, unknown}
 use Rattle.pest_run.proofs.outcomes.outcome_of.Goals as goal
+
+-- a match
+pub shown_outcome-requires : goal.shown_outcome-requires
+shown_outcome-requires c =
+    let program = c.in-Ok.matcher.interpreter.program in
+    ends_at_character (grammar_of program.rows.items) program.properties.items _ c.args.text.now c.in-Ok-parse.found.end c.in-Ok-parse.found.entries.items c.utf8.text c.in-Ok.ensures.fits c.in-Ok-parse.ensures.matched
+
+pub returns-in-Ok-parse : goal.returns-in-Ok-parse
+returns-in-Ok-parse c =
+    let program = c.in-Ok.matcher.interpreter.program in
+    let P : Grammar → Type 0 = λ g. IsOutcome g c.args.rule.now c.args.text.now c.args.format c.args.steps c.shown_outcome.result in
+    subst P c.in-Ok.ensures.means
+    (shows (grammar_of program.rows.items) program.properties.items c.args.rule.now c.args.text.now c.args.format c.args.steps c.in-Ok-parse.found.end c.in-Ok-parse.found.entries.items c.shown_outcome.result c.in-Ok.ensures.fits c.in-Ok-parse.ensures.matched c.shown_outcome.ensures)
 
 pub returns-in-Ok-expected_at : goal.returns-in-Ok-expected_at
 returns-in-Ok-expected_at c =
@@ -13,9 +26,9 @@ returns-in-Ok-expected_at c =
     let refused = rw c.in-Err-NoMatch.field-0-is at c.in-Err-NoMatch.ensures.refused in
     let names = rw c.in-Err-NoMatch.field-0-is at c.in-Ok-expected_at.ensures.expected in
     let told = rw (c.deref.ensures.value, c.in-Err-NoMatch.field-0-is) at c.failed_outcome.ensures in
-    let P : Grammar → Type 0 = λ g. IsOutcome g c.args.rule.now c.args.text.now c.args.format c.failed_outcome.result in
+    let P : Grammar → Type 0 = λ g. IsOutcome g c.args.rule.now c.args.text.now c.args.format c.args.steps c.failed_outcome.result in
     subst P c.in-Ok.ensures.means
-    (failed (grammar_of program.rows.items) program.properties.items c.args.rule.now c.args.text.now c.args.format c.in-Err-NoMatch.place c.in-Ok-expected_at.names.items c.failed_outcome.result c.in-Ok.ensures.fits refused names told)
+    (failed (grammar_of program.rows.items) program.properties.items c.args.rule.now c.args.text.now c.args.format c.args.steps c.in-Err-NoMatch.place c.in-Ok-expected_at.names.items c.failed_outcome.result c.in-Ok.ensures.fits refused names told)
 
 pub failed_outcome-requires : goal.failed_outcome-requires
 failed_outcome-requires c =
@@ -30,10 +43,9 @@ returns-in-Err-NoMatch c =
     let program = c.in-Ok.matcher.interpreter.program in
     let why = c.in-Err-Stopped-expected_at.stop in
     let says = rw c.in-Err-Stopped-expected_at.field-0-is at c.in-Err-Stopped-expected_at.ensures.refused in
-    let same : c.stopped_outcome.result ≡ stopped_outcome why = c.stopped_outcome.ensures in
-    let P : Outcome → Type 0 = λ o. IsOutcome (optimized_rules_of c.args.rules.now) c.args.rule.now c.args.text.now c.args.format o in
-    let Q : Grammar → Type 0 = λ g. IsOutcome g c.args.rule.now c.args.text.now c.args.format (stopped_outcome why) in
-    subst P (sym same) (subst Q c.in-Ok.ensures.means (stopped (grammar_of program.rows.items) program.properties.items c.args.rule.now c.args.text.now c.args.format why c.in-Ok.ensures.fits says))
+    let told = c.stopped_outcome.ensures in
+    let Q : Grammar → Type 0 = λ g. IsOutcome g c.args.rule.now c.args.text.now c.args.format c.args.steps c.stopped_outcome.result in
+    subst Q c.in-Ok.ensures.means (stopped (grammar_of program.rows.items) program.properties.items c.args.rule.now c.args.text.now c.args.format c.args.steps why c.stopped_outcome.result c.in-Ok.ensures.fits says told)
 
 -- the same of the match
 pub returns : goal.returns
@@ -41,26 +53,25 @@ returns c =
     let program = c.in-Ok.matcher.interpreter.program in
     let why = c.in-Err-Stopped.stop in
     let says = rw c.in-Err-Stopped.field-0-is at c.in-Err-Stopped.ensures.refused in
-    let same : c.stopped_outcome-in-Err-Stopped.result ≡ stopped_outcome why = rw c.in-Err-Stopped.field-0-is at c.stopped_outcome-in-Err-Stopped.ensures in
-    let P : Outcome → Type 0 = λ o. IsOutcome (optimized_rules_of c.args.rules.now) c.args.rule.now c.args.text.now c.args.format o in
-    let Q : Grammar → Type 0 = λ g. IsOutcome g c.args.rule.now c.args.text.now c.args.format (stopped_outcome why) in
-    subst P (sym same) (subst Q c.in-Ok.ensures.means (stopped (grammar_of program.rows.items) program.properties.items c.args.rule.now c.args.text.now c.args.format why c.in-Ok.ensures.fits says))
+    let told = rw c.in-Err-Stopped.field-0-is at c.stopped_outcome-in-Err-Stopped.ensures in
+    let Q : Grammar → Type 0 = λ g. IsOutcome g c.args.rule.now c.args.text.now c.args.format c.args.steps c.stopped_outcome-in-Err-Stopped.result in
+    subst Q c.in-Ok.ensures.means (stopped (grammar_of program.rows.items) program.properties.items c.args.rule.now c.args.text.now c.args.format c.args.steps why c.stopped_outcome-in-Err-Stopped.result c.in-Ok.ensures.fits says told)
 
 -- no rule of that name
 pub returns-in-Err-UnknownRule : goal.returns-in-Err-UnknownRule
 returns-in-Err-UnknownRule c =
     let told = rw c.in-Err-UnknownRule.field-0-is at c.in-Err-UnknownRule.ensures.refused in
     let R : Grammar → Type 0 = λ g. HasNoRule g c.args.rule.now in
-    unknown (optimized_rules_of c.args.rules.now) c.args.rule.now c.args.text.now c.args.format c.no_rule_outcome.result (subst R c.in-Ok.ensures.means told.0) c.no_rule_outcome.ensures
+    unknown (optimized_rules_of c.args.rules.now) c.args.rule.now c.args.text.now c.args.format c.args.steps c.no_rule_outcome.result (subst R c.in-Ok.ensures.means told.0) c.no_rule_outcome.ensures
 
 pub returns-in-Err-UnknownRule-expected_at : goal.returns-in-Err-UnknownRule-expected_at
 returns-in-Err-UnknownRule-expected_at c =
     let told = rw c.in-Err-UnknownRule-expected_at.field-0-is at c.in-Err-UnknownRule-expected_at.ensures.refused in
     let R : Grammar → Type 0 = λ g. HasNoRule g c.args.rule.now in
-    unknown (optimized_rules_of c.args.rules.now) c.args.rule.now c.args.text.now c.args.format c.no_rule_outcome-in-Err-UnknownRule-expected_at.result (subst R c.in-Ok.ensures.means told.0) c.no_rule_outcome-in-Err-UnknownRule-expected_at.ensures
+    unknown (optimized_rules_of c.args.rules.now) c.args.rule.now c.args.text.now c.args.format c.args.steps c.no_rule_outcome-in-Err-UnknownRule-expected_at.result (subst R c.in-Ok.ensures.means told.0) c.no_rule_outcome-in-Err-UnknownRule-expected_at.ensures
 
 -- rules that can't be run
 pub returns-in-Err : goal.returns-in-Err
 returns-in-Err c =
-    let P : Outcome → Type 0 = λ o. IsOutcome (optimized_rules_of c.args.rules.now) c.args.rule.now c.args.text.now c.args.format o in
-    subst P (sym c.unfit_outcome.ensures) (unfit (optimized_rules_of c.args.rules.now) c.args.rule.now c.args.text.now c.args.format c.in-Err.unfit c.in-Err.ensures.refused)
+    let P : Outcome → Type 0 = λ o. IsOutcome (optimized_rules_of c.args.rules.now) c.args.rule.now c.args.text.now c.args.format c.args.steps o in
+    subst P (sym c.unfit_outcome.ensures) (unfit (optimized_rules_of c.args.rules.now) c.args.rule.now c.args.text.now c.args.format c.args.steps c.in-Err.unfit c.in-Err.ensures.refused)

@@ -1,8 +1,8 @@
-use Rattle.std.proofs.Common.{ℕ, List, Err, ap, ◌∙◌, string_bytes, subst}
+use Rattle.std.proofs.Common.{ℕ, List, Err, ap, ◌∙◌, subst}
 use Rattle.meta_ast.specs.Optimized.{optimized_rules_of}
 use Rattle.tool_support.specs.Escapes.{escaped_lines}
-use Rattle.pest_run.specs.Written.{WritesLine}
-use Rattle.pest_run.proofs.Ended.{prints, refusal, refusal_is_reason, stops, tells, value}
+use Rattle.pest_run.specs.Written.{ReportsStop, WritesLine}
+use Rattle.pest_run.proofs.Ended.{notes, prints, refusal, refusal_is_reason, stops, tells, value}
 use Rattle.pest_run.proofs.run.run.Goals as goal
 
 pub returns-in-Ok-clause-printed : goal.returns-in-Ok-clause-printed
@@ -11,7 +11,15 @@ returns-in-Ok-clause-printed g c =
     let reported = c.unwrap_or_report in
     let answers = value parsed.result reported.result _ _ parsed.ensures.rules reported.ensures.value reported.ensures.report c.in-Ok.is in
     let comes = rw c.deref.ensures.value at c.outcome_of-outcome.ensures in
-    prints c.outcome_of-outcome.result c.args.grammar.now c.args.request.rule.now c.args.text.now c.args.request.format c.args.request.form (optimized_rules_of c.in-Ok.rules.items) c.print_outcome.result.write_result c.print_outcome.result.status _ _ _ _ answers comes c.print_outcome.ensures.ends
+    prints c.outcome_of-outcome.result c.args.grammar.now c.args.request.rule.now c.args.text.now c.args.request.format c.args.request.form (optimized_rules_of c.in-Ok.rules.items) _ c.print_outcome.result.write_result _ c.print_outcome.result.status _ _ _ _ answers comes c.print_outcome.ensures.ends
+
+pub returns-in-Ok-clause-noted : goal.returns-in-Ok-clause-noted
+returns-in-Ok-clause-noted g c =
+    let parsed = c.read_rules in
+    let reported = c.unwrap_or_report in
+    let answers = value parsed.result reported.result _ _ parsed.ensures.rules reported.ensures.value reported.ensures.report c.in-Ok.is in
+    let comes = rw c.deref.ensures.value at c.outcome_of-outcome.ensures in
+    notes c.outcome_of-outcome.result c.args.grammar.now c.args.request.rule.now c.args.text.now c.args.request.format c.args.request.form (optimized_rules_of c.in-Ok.rules.items) _ c.print_outcome.result.write_result _ c.print_outcome.result.status _ _ _ _ answers comes c.print_outcome.ensures.ends
 
 pub returns-in-Ok-clause-reason : goal.returns-in-Ok-clause-reason
 returns-in-Ok-clause-reason g c =
@@ -19,7 +27,7 @@ returns-in-Ok-clause-reason g c =
     let reported = c.unwrap_or_report in
     let answers = value parsed.result reported.result _ _ parsed.ensures.rules reported.ensures.value reported.ensures.report c.in-Ok.is in
     let comes = rw c.deref.ensures.value at c.outcome_of-outcome.ensures in
-    tells c.outcome_of-outcome.result c.args.grammar.now c.args.request.rule.now c.args.text.now c.args.request.format c.args.request.form (optimized_rules_of c.in-Ok.rules.items) c.print_outcome.result.write_result c.print_outcome.result.status _ _ _ _ answers comes c.print_outcome.ensures.ends
+    tells c.outcome_of-outcome.result c.args.grammar.now c.args.request.rule.now c.args.text.now c.args.request.format c.args.request.form (optimized_rules_of c.in-Ok.rules.items) _ c.print_outcome.result.write_result _ c.print_outcome.result.status _ _ _ _ answers comes c.print_outcome.ensures.ends
 
 pub returns-in-Ok-clause-stopped : goal.returns-in-Ok-clause-stopped
 returns-in-Ok-clause-stopped g c =
@@ -27,7 +35,11 @@ returns-in-Ok-clause-stopped g c =
     let reported = c.unwrap_or_report in
     let answers = value parsed.result reported.result _ _ parsed.ensures.rules reported.ensures.value reported.ensures.report c.in-Ok.is in
     let comes = rw c.deref.ensures.value at c.outcome_of-outcome.ensures in
-    stops c.outcome_of-outcome.result c.args.grammar.now c.args.request.rule.now c.args.text.now c.args.request.format c.args.request.form (optimized_rules_of c.in-Ok.rules.items) c.print_outcome.result.write_result c.print_outcome.result.status _ _ _ _ answers comes c.print_outcome.ensures.ends
+    let old = g.E.Write.contents c.args.err.now.writer in
+    let new = g.E.Write.contents c.print_outcome.new.err.writer in
+    let S : ℕ → Type 0 = λ n. ReportsStop c.args.request.form c.args.grammar.now c.args.request.rule.now c.args.text.now n c.print_outcome.result.write_result old new in
+    λ five. subst S c.step_limit-steps.ensures
+    (stops c.outcome_of-outcome.result c.args.grammar.now c.args.request.rule.now c.args.text.now c.args.request.format c.args.request.form (optimized_rules_of c.in-Ok.rules.items) c.step_limit-steps.result c.print_outcome.result.write_result _ c.print_outcome.result.status _ _ _ _ answers comes c.print_outcome.ensures.ends five)
 
 pub returns-in-Err-Text-clause-reason : goal.returns-in-Err-Text-clause-reason
 returns-in-Err-Text-clause-reason g c =

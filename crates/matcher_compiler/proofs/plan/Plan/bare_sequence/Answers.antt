@@ -2,9 +2,9 @@ use Rattle.std.proofs.Common.{sym, subst}
 use Rattle.matcher_layout.specs.Laid as lay
 use Rattle.meta_base.specs.Language.Expression.{Seq}
 use Rattle.meta_base.specs.Language.Meaning.{Run}
-use Rattle.matcher_compiler.specs.Modes.{mode_of}
+use Rattle.matcher_sets.specs.Modes.{mode_of}
 use Rattle.matcher_compiler.specs.Names.{number_in}
-use Rattle.matcher_compiler.specs.Plans.{grammar_in}
+use Rattle.matcher_sets.specs.Forms.{grammar_in}
 use Rattle.matcher_compiler.proofs.Growing.{point_as}
 use Rattle.matcher_compiler.proofs.plan.Plan.bare_sequence.Goals as goal
 

@@ -1,9 +1,9 @@
 use Rattle.std.proofs.Common.{◌∙◌}
 use Rattle.matcher_layout.specs.Laid as lay
 use Rattle.matcher_layout.specs.Laid.{skip_set}
-use Rattle.matcher_compiler.proofs.Leaves.{all_as}
+use Rattle.matcher_sets.proofs.Leaves.{all_as}
 use Rattle.matcher_compiler.specs.Names.{number_in}
-use Rattle.matcher_compiler.specs.Plans.{grammar_in}
+use Rattle.matcher_sets.specs.Forms.{grammar_in}
 use Rattle.matcher_compiler.proofs.plan.Plan.blanks_of.Goals as goal
 
 pub returns-clause-later : goal.returns-clause-later

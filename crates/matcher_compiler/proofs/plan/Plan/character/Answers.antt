@@ -1,9 +1,9 @@
 use Rattle.meta_base.specs.Language.Matching.{character_outcome}
 use Rattle.matcher_layout.specs.Laid as lay
 use Rattle.matcher_compiler.proofs.Growing.{later_twice}
-use Rattle.matcher_compiler.proofs.Leaves.{one_as}
+use Rattle.matcher_sets.proofs.Leaves.{one_as}
 use Rattle.matcher_compiler.specs.Names.{number_in}
-use Rattle.matcher_compiler.specs.Plans.{grammar_in}
+use Rattle.matcher_sets.specs.Forms.{grammar_in}
 use Rattle.matcher_compiler.proofs.plan.Plan.character.Goals as goal
 
 pub returns-clause-later : goal.returns-clause-later

@@ -1,7 +1,6 @@
 use Rattle.matcher_compiler.proofs.Skipping.{comment_is_rule, comment_laid}
-use Rattle.std.specs.Prelude.{OnOk}
 use Rattle.matcher_compiler.specs.Names.{number_in}
-use Rattle.matcher_compiler.specs.Plans.{grammar_in}
+use Rattle.matcher_sets.specs.Forms.{grammar_in}
 use Rattle.matcher_compiler.proofs.plan.Plan.comment_call.Goals as goal
 
 pub call-requires-clause-meant : goal.call-requires-clause-meant

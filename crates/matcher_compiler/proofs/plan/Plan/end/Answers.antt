@@ -4,11 +4,11 @@ use Rattle.matcher_layout.specs.Laid as lay
 use Rattle.matcher_layout.proofs.Ends.{end_performs}
 use Rattle.meta_base.specs.Language.FurthestFailure.{place_of}
 use Rattle.meta_base.specs.Language.Matching.{end_outcome}
-use Rattle.matcher_compiler.proofs.Leaves.{end_outcome_of}
+use Rattle.matcher_sets.proofs.Leaves.{end_outcome_of}
 use Rattle.matcher_compiler.proofs.Calling.{end_number, open_row}
-use Rattle.matcher_compiler.specs.Modes.{mode_of}
+use Rattle.matcher_sets.specs.Modes.{mode_of}
 use Rattle.matcher_compiler.specs.Names.{number_in}
-use Rattle.matcher_compiler.specs.Plans.{grammar_in}
+use Rattle.matcher_sets.specs.Forms.{grammar_in}
 use Rattle.matcher_compiler.proofs.plan.Plan.end.Goals as goal
 
 pub returns-clause-later : goal.returns-clause-later

@@ -2,8 +2,9 @@ use Rattle.std.proofs.Common.{◌∙◌, ap, ap₂, chars, subst, sym}
 use Rattle.std.specs.Prelude.{OnOk}
 use Rattle.meta_base.specs.Language.Expression.{Choice, Insens, NegPred, NodeTag, Opt, PosPred, Rep, RepOnce, RestoreOnErr, Seq, Str}
 use Rattle.meta_base.specs.Language.Meaning.{Run}
-use Rattle.matcher_compiler.specs.Modes.{mode_of}
-use Rattle.matcher_compiler.specs.Plans.{LaysAt, said}
+use Rattle.matcher_sets.specs.Modes.{mode_of}
+use Rattle.matcher_sets.specs.Forms.{said}
+use Rattle.matcher_compiler.specs.Plans.{LaysAt}
 use Rattle.matcher_compiler.proofs.plan.Plan.form.Goals as goal
 
 pub returns-in-Str-clause-lays : goal.returns-in-Str-clause-lays

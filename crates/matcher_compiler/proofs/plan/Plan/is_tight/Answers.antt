@@ -1,7 +1,8 @@
 use Rattle.std.proofs.Common.{subst, sym}
 use Rattle.matcher_layout.specs.Laid.{IsTight}
-use Rattle.matcher_compiler.specs.Modes.{mode_of}
-use Rattle.matcher_compiler.specs.Plans.{SkipsAs, grammar_in}
+use Rattle.matcher_sets.specs.Modes.{mode_of}
+use Rattle.matcher_sets.specs.Forms.{grammar_in}
+use Rattle.matcher_compiler.specs.Plans.{SkipsAs}
 use Rattle.matcher_compiler.proofs.Skipping.{tight_atomic, tight_compound}
 use Rattle.matcher_compiler.proofs.plan.Plan.is_tight.Goals as goal
 

@@ -6,7 +6,7 @@ use Rattle.matcher_layout.proofs.AnyCase.{any_case_performs}
 use Rattle.meta_base.specs.Language.Matching.{text_outcome}
 use Rattle.meta_base.specs.Language.Meaning.{insens}
 use Rattle.matcher_compiler.specs.Names.{number_in}
-use Rattle.matcher_compiler.specs.Plans.{grammar_in}
+use Rattle.matcher_sets.specs.Forms.{grammar_in}
 use Rattle.matcher_compiler.proofs.plan.Plan.literal_in_any_case.Goals as goal
 
 pub returns-clause-later : goal.returns-clause-later

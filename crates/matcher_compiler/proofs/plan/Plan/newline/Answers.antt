@@ -2,9 +2,9 @@ use Rattle.matcher_layout.specs.Laid as lay
 use Rattle.matcher_layout.proofs.Newlines.{newline_performs}
 use Rattle.meta_base.specs.Language.Matching.{newline_outcome}
 use Rattle.matcher_compiler.proofs.Growing.{later_twice}
-use Rattle.matcher_compiler.proofs.Leaves.{newline_outcome_of}
+use Rattle.matcher_sets.proofs.Leaves.{newline_outcome_of}
 use Rattle.matcher_compiler.specs.Names.{number_in}
-use Rattle.matcher_compiler.specs.Plans.{grammar_in}
+use Rattle.matcher_sets.specs.Forms.{grammar_in}
 use Rattle.matcher_compiler.proofs.plan.Plan.newline.Goals as goal
 
 pub returns-clause-later : goal.returns-clause-later

@@ -2,12 +2,12 @@ use Rattle.std.proofs.Common.{◌∙◌, ◌&&◌, ap₂}
 use Rattle.std.specs.Prelude.{not}
 use Rattle.meta_base.specs.Language.Matching.{character_outcome}
 use Rattle.matcher_layout.specs.Laid as lay
-use Rattle.matcher_compiler.proofs.Excluding.{other_matches}
+use Rattle.matcher_sets.proofs.Excluding.{other_matches}
 use Rattle.matcher_compiler.proofs.Growing.{later_twice}
-use Rattle.matcher_compiler.proofs.Leaves.{one_as}
-use Rattle.matcher_compiler.specs.Modes.{mode_of}
+use Rattle.matcher_sets.proofs.Leaves.{one_as}
+use Rattle.matcher_sets.specs.Modes.{mode_of}
 use Rattle.matcher_compiler.specs.Names.{number_in}
-use Rattle.matcher_compiler.specs.Plans.{grammar_in, said}
+use Rattle.matcher_sets.specs.Forms.{grammar_in, said}
 use Rattle.matcher_compiler.proofs.plan.Plan.other_character.Goals as goal
 
 pub returns-clause-later : goal.returns-clause-later

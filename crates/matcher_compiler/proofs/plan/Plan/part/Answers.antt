@@ -2,8 +2,9 @@ use Rattle.std.proofs.Common.{◌≡◌, ◌<◌, arith, get_or, length, subst, 
 use Rattle.std.specs.Prelude.{OnOk}
 use Rattle.std.proofs.lemmas.Grind.{common_steps}
 use Rattle.meta_base.specs.Language.Meaning.{Run}
-use Rattle.matcher_compiler.specs.Modes.{mode_of}
-use Rattle.matcher_compiler.specs.Plans.{IsBoundPart, LaysAt, grammar_in, task_in}
+use Rattle.matcher_sets.specs.Modes.{mode_of}
+use Rattle.matcher_sets.specs.Forms.{grammar_in}
+use Rattle.matcher_compiler.specs.Plans.{IsBoundPart, LaysAt, task_in}
 use Rattle.matcher_program.specs.Programs.{name_at, names_of}
 use Rattle.matcher_compiler.proofs.Calling.{body_said}
 use Rattle.matcher_compiler.proofs.Naming.{meant_of}

@@ -7,9 +7,9 @@ use Rattle.meta_base.specs.Language.Meaning as by
 use Rattle.meta_base.specs.Language.State.{None', Success, moved}
 use Rattle.matcher_layout.specs.Laid as lay
 use Rattle.matcher_compiler.proofs.Growing.{later_twice}
-use Rattle.matcher_compiler.proofs.Searching.{search_as}
+use Rattle.matcher_sets.proofs.Searching.{search_as}
 use Rattle.matcher_compiler.specs.Names.{number_in}
-use Rattle.matcher_compiler.specs.Plans.{grammar_in}
+use Rattle.matcher_sets.specs.Forms.{grammar_in}
 use Rattle.matcher_compiler.proofs.plan.Plan.search_for.Goals as goal
 
 pub returns-clause-later : goal.returns-clause-later

@@ -7,7 +7,7 @@ use Rattle.matcher_layout.specs.Laid as lay
 use Rattle.matcher_layout.proofs.Until.{until_performs}
 use Rattle.matcher_compiler.proofs.Growing.{later_twice}
 use Rattle.matcher_compiler.specs.Names.{number_in}
-use Rattle.matcher_compiler.specs.Plans.{grammar_in}
+use Rattle.matcher_sets.specs.Forms.{grammar_in}
 use Rattle.matcher_compiler.proofs.plan.Plan.search_from.Goals as goal
 
 pub returns-clause-later : goal.returns-clause-later

@@ -2,10 +2,10 @@ use Rattle.std.proofs.Common.{◌∙◌, subst, sym}
 use Rattle.matcher_layout.specs.Laid as lay
 use Rattle.matcher_layout.specs.Laid.{HasOutcome, skip_set}
 use Rattle.meta_base.specs.Language.Meaning.{Skipping}
-use Rattle.matcher_compiler.proofs.Leaves.{all_as}
+use Rattle.matcher_sets.proofs.Leaves.{all_as}
 use Rattle.matcher_compiler.proofs.Skipping.{blanks_alone}
 use Rattle.matcher_compiler.specs.Names.{number_in}
-use Rattle.matcher_compiler.specs.Plans.{grammar_in}
+use Rattle.matcher_sets.specs.Forms.{grammar_in}
 use Rattle.matcher_compiler.proofs.plan.Plan.skip_blanks.Goals as goal
 
 pub returns-clause-later : goal.returns-clause-later

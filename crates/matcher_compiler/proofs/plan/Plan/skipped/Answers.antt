@@ -4,7 +4,7 @@ use Rattle.meta_base.specs.Language.Meaning.{Run, skipped}
 use Rattle.meta_base.specs.Language.State.{Between}
 use Rattle.matcher_compiler.proofs.Growing.{later_twice}
 use Rattle.matcher_compiler.specs.Names.{number_in}
-use Rattle.matcher_compiler.specs.Plans.{grammar_in}
+use Rattle.matcher_sets.specs.Forms.{grammar_in}
 use Rattle.matcher_compiler.proofs.plan.Plan.skipped.Goals as goal
 
 pub returns-clause-later : goal.returns-clause-later

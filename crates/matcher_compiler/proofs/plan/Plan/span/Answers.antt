@@ -2,10 +2,10 @@ use Rattle.matcher_layout.specs.Laid as lay
 use Rattle.matcher_layout.specs.Laid.{skip_set}
 use Rattle.matcher_layout.proofs.Characters.{span_of_set}
 use Rattle.matcher_compiler.proofs.Growing.{later_twice}
-use Rattle.matcher_compiler.proofs.Leaves.{all_as}
-use Rattle.matcher_compiler.specs.Modes.{mode_of}
+use Rattle.matcher_sets.proofs.Leaves.{all_as}
+use Rattle.matcher_sets.specs.Modes.{mode_of}
 use Rattle.matcher_compiler.specs.Names.{number_in}
-use Rattle.matcher_compiler.specs.Plans.{grammar_in, said}
+use Rattle.matcher_sets.specs.Forms.{grammar_in, said}
 use Rattle.matcher_compiler.proofs.plan.Plan.span.Goals as goal
 
 pub returns-clause-later : goal.returns-clause-later

@@ -2,9 +2,9 @@ use Rattle.std.proofs.Common.{◌==◌, if◌then◌else◌}
 use Rattle.matcher_layout.specs.Laid as lay
 use Rattle.matcher_layout.proofs.Ends.{start_performs}
 use Rattle.meta_base.specs.Language.State.{Failure, None', Success}
-use Rattle.matcher_compiler.proofs.Leaves.{start_outcome}
+use Rattle.matcher_sets.proofs.Leaves.{start_outcome}
 use Rattle.matcher_compiler.specs.Names.{number_in}
-use Rattle.matcher_compiler.specs.Plans.{grammar_in}
+use Rattle.matcher_sets.specs.Forms.{grammar_in}
 use Rattle.matcher_compiler.proofs.plan.Plan.start.Goals as goal
 
 pub returns-clause-later : goal.returns-clause-later

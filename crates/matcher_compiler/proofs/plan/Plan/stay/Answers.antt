@@ -1,9 +1,9 @@
 use Rattle.std.proofs.Common.{◌≡◌, arith, subst}
 use Rattle.meta_base.specs.Language.Meaning.{Skipping}
 use Rattle.matcher_layout.specs.Laid as lay
-use Rattle.matcher_compiler.specs.Modes.{mode_of}
+use Rattle.matcher_sets.specs.Modes.{mode_of}
 use Rattle.matcher_compiler.specs.Names.{number_in}
-use Rattle.matcher_compiler.specs.Plans.{grammar_in}
+use Rattle.matcher_sets.specs.Forms.{grammar_in}
 use Rattle.matcher_compiler.proofs.plan.Plan.stay.Goals as goal
 
 pub returns-then-at : goal.returns-then-at

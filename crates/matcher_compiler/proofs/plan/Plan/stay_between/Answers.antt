@@ -3,7 +3,7 @@ use Rattle.meta_base.specs.Language.Meaning.{Skipping}
 use Rattle.meta_base.specs.Language.State.{Between}
 use Rattle.matcher_layout.specs.Laid as lay
 use Rattle.matcher_compiler.specs.Names.{number_in}
-use Rattle.matcher_compiler.specs.Plans.{grammar_in}
+use Rattle.matcher_sets.specs.Forms.{grammar_in}
 use Rattle.matcher_compiler.proofs.Skipping.{tight_between}
 use Rattle.matcher_compiler.proofs.plan.Plan.stay_between.Goals as goal
 

@@ -1,0 +1,71 @@
+-- Searches for characters.
+use Rattle.std.proofs.Common.{◌≡◌, refl, sym, ◌∙◌, ap, ap₂, subst, ℕ, suc, ◌<◌, List, [], ◌∷◌, ◌++◌, Bool, true, false, ◌||◌, ◌==◌, arith, eqb-true, get_or, length, map, nat_eq, take, if◌then◌else◌}
+use Rattle.std.specs.Prelude.{not}
+use Rattle.std.proofs.Math.Bool.{and-true}
+use Rattle.std.proofs.Math.Seq.{take-suc}
+use Rattle.std.proofs.Math.Utf8.{scalar, scalars}
+use Rattle.std.proofs.lemmas.Bool.{and_parts}
+use Rattle.std.proofs.lemmas.List.{map-append}
+use Rattle.std.specs.declared.string.String.{String}
+use Rattle.std.specs.declared.alloc.Global.{Global}
+use Rattle.meta_ast.specs.Ast.{text_of}
+use Rattle.meta_base.specs.Language.Matching.{any_begins, begins, distance, starts_in}
+use Rattle.meta_base.specs.Language.State.{None', Success, moved}
+use Rattle.meta_base.specs.Language.Text.{Text}
+use Rattle.matcher_code.specs.declared.code.Code.{Code}
+use Rattle.matcher_code.specs.declared.code.Op.TheVariants as op
+use Rattle.matcher_code.specs.Reading.{is_covered}
+use Rattle.matcher_code.specs.Sets.{IsSetOf}
+use Rattle.matcher_layout.specs.Laid.{Performs, at_label, span_of}
+use Rattle.matcher_layout.specs.Reached.{Comes}
+use Rattle.matcher_layout.proofs.Sets.{all_performs}
+use Rattle.matcher_sets.proofs.Leaves.{below, rest_scalars}
+
+pub any-append : (ts us : List Text) (v : Text) → any_begins (ts ++ us) v ≡ (any_begins ts v || any_begins us v)
+any-append [] us v = refl
+any-append (t ∷ ts) us v = ap (λ b. begins nat_eq t v || b) (any-append ts us v) ∙ or_assoc (begins nat_eq t v) (any_begins ts v) (any_begins us v)
+  where
+    or_assoc : (a b c : Bool) → (a || (b || c)) ≡ ((a || b) || c)
+    or_assoc true b c = refl
+    or_assoc false b c = refl
+
+pub or_none : (b : Bool) → (b || false) ≡ b
+or_none true = refl
+or_none false = refl
+
+one_begins : (t : Text) (c : ℕ) (u : Text) → (length t == 1) ≡ true → begins nat_eq t (c ∷ u) ≡ starts_in (λ d. nat_eq d c) t
+one_begins [] c u h = cc
+one_begins (x ∷ y ∷ t) c u h = let z = eqb-true (length (x ∷ y ∷ t)) 1 h in absurd (omega (arith, z))
+one_begins (x ∷ []) c u h = and-true (nat_eq x c)
+
+-- one text more
+pub one_text_more : (texts : List (String Global)) (i : ℕ) (t : String Global) (c : ℕ) (u : Text) (old new : Bool) → i < length texts → get_or texts i t ≡ t
+    → (length (text_of t) == 1) ≡ true → any_begins (map text_of (take i texts)) (c ∷ u) ≡ old → new ≡ (old || starts_in (λ d. nat_eq d c) (text_of t))
+    → any_begins (map text_of (take (suc i) texts)) (c ∷ u) ≡ new
+one_text_more texts i t c u old new l here one e f =
+    ap (λ ts. any_begins (map text_of ts) (c ∷ u)) (take-suc texts i t l ∙ ap (λ x. take i texts ++ x ∷ []) here)
+    ∙ (ap (λ ts. any_begins ts (c ∷ u)) (map_append (take i texts) t)
+    ∙ (any-append (map text_of (take i texts)) (text_of t ∷ []) (c ∷ u)
+    ∙ (ap₂ (λ a b. a || b) e (or_none (begins nat_eq (text_of t) (c ∷ u)) ∙ one_begins (text_of t) c u one) ∙ sym f)))
+  where
+    map_append : (xs : List (String Global)) (x : String Global) → map text_of (xs ++ x ∷ []) ≡ map text_of xs ++ text_of x ∷ []
+    map_append xs x = simp map-append
+
+module _ (ranges : List (ℕ × ℕ)) (ts : List Text) (covers : (c : ℕ) (u : Text) → c < 1114112 → is_covered ranges c ≡ not (any_begins ts (c ∷ u))) where
+  goes : (a b : Bool) (n d : ℕ) → a ≡ not b → n ≡ d → (if a then suc n else 0) ≡ (if b then 0 else suc d)
+  goes a true n d e f = ap (λ x. if x then suc n else 0) e
+  goes a false n d e f = ap (λ x. if x then suc n else 0) e ∙ ap suc f
+
+  span_is_distance : (cs : Text) → scalars cs ≡ true → span_of (is_covered ranges) cs ≡ distance ts cs
+  span_is_distance [] u = refl
+  span_is_distance (c ∷ cs) u =
+      let k = and_parts (scalar c) (scalars cs) u in
+      goes (is_covered ranges c) (any_begins ts (c ∷ cs)) (span_of (is_covered ranges) cs) (distance ts cs) (covers c cs (below c k.0)) (span_is_distance cs k.1)
+
+  -- the operation `All` of the other characters goes on to the first of these
+  pub search_as : (code : Code) (number : Text → ℕ) → at_label code 0 ≡ op.Fail → (i : ℕ) → IsSetOf code i ranges → (l n w : ℕ) → at_label code l ≡ op.All i n
+      → Performs code number l n w (λ s. Success (moved (distance ts s.rest) s) None') (λ s. 0)
+  search_as code number fail i is l n w h text s c at safe =
+      subst (λ o. Comes code text number l n w o 0 1 8 c)
+      (ap (λ k. Success (moved k s) None') (span_is_distance s.rest (rest_scalars ranges (is_covered ranges) (λ x k. refl) text s c.at at)))
+      (all_performs code i ranges is number fail l n w h text s c at safe)

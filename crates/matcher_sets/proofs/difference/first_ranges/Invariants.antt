@@ -1,0 +1,12 @@
+use Rattle.meta_base.specs.Language.State.{Classes}
+use Rattle.matcher_program.specs.Programs.{Fits}
+use Rattle.matcher_sets.specs.Differences.{BeginsWith}
+use Rattle.matcher_sets.specs.Forms.{IsBoundIn}
+use Rattle.matcher_sets.proofs.Choosing.{IsRest}
+use Rattle.matcher_sets.proofs.difference.first_ranges.Given as goal
+
+abbrev pub invariant-alternatives : goal.invariant-alternatives
+invariant-alternatives l = record {
+  bound : IsBoundIn l.program l.rest;
+  rests : (classes : Classes) → Fits l.program.properties.items classes → IsRest (BeginsWith l.program classes) l.form l.rest l.ranges.items;
+}

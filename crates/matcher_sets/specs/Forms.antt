@@ -1,0 +1,16 @@
+-- Forms of a program, and what they mean.
+use Rattle.meta_base.specs.Language.Expression.{Expression, Grammar}
+use Rattle.matcher_program.specs.declared.form.Form.{Form}
+use Rattle.matcher_program.specs.declared.form.Program.{Program}
+use Rattle.matcher_program.specs.Programs.{IsBound, expression_of, grammar_of, names_of}
+
+-- the grammar of a program, and the names of its rules
+abbrev pub grammar_in : Program → Grammar
+grammar_in p = grammar_of p.rows.items
+
+abbrev pub said : Program → Form → Expression
+said p f = expression_of (names_of p.rows.items) f
+
+-- the names in a form mean what they are resolved to
+abbrev pub IsBoundIn : Program → Form → Type 0
+IsBoundIn p f = IsBound (grammar_in p) (names_of p.rows.items) p.properties.items f

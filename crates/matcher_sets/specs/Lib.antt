@@ -1,0 +1,4 @@
+pub mod Modes
+pub mod Forms
+pub mod Ranges
+pub mod Differences

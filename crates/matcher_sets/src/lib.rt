@@ -1,0 +1,7 @@
+//! Sets of characters as ranges, for forms and for texts.
+#![tactic(auto)]
+
+pub mod difference;
+pub mod modes;
+mod ranges;
+pub mod texts;

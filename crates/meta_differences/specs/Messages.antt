@@ -1,0 +1,31 @@
+-- Messages of differences.
+use Rattle.std.specs.Prelude.{◌≡◌, ℕ, List, ◌++◌, codes, encode_utf8_all, string_bytes, take}
+use Rattle.std.specs.Str.{chars}
+use Rattle.meta_ast.specs.Printing.{literal}
+use Rattle.meta_base.specs.Language.Text.{Text}
+use Rattle.meta_differences.specs.Differences.{ShowsDifference}
+use Rattle.meta_differences.specs.declared.difference.Difference.{Difference}
+use Rattle.meta_differences.specs.declared.difference.RuleEnd.{RuleEnd}
+use Rattle.meta_differences.specs.declared.difference.RuleEnd.TheVariants as rule_end
+use Rattle.tool_support.specs.Escapes.{escaped_bytes}
+
+-- a text in double quotes (34), with escapes
+abbrev pub quoted : List ℕ → List ℕ
+quoted text = encode_utf8_all (literal 34 (chars text))
+
+-- that a rule fails, or which part of a text it matches
+abbrev pub end_message : List ℕ → RuleEnd → List ℕ
+end_message text rule_end.Failure = codes "fails"
+end_message text (rule_end.At end_) = codes "matches " ++ quoted (take end_ text)
+
+-- both ends on a text, with escapes of hidden characters
+abbrev pub difference_message : Difference → List ℕ
+difference_message d = escaped_bytes (codes "on " ++ quoted (string_bytes d.text) ++ codes " the rule "
+    ++ end_message (string_bytes d.text) d.written ++ codes " as written, and "
+    ++ end_message (string_bytes d.text) d.optimized ++ codes " as pest runs it")
+
+-- a message says of some text on which the rule of a name ends otherwise how it ends
+pub record ReportsDifference (grammar : List ℕ) (n : Text) (message : List ℕ) : Type 0 where
+  pub difference : Difference
+  pub shows : ShowsDifference grammar n difference
+  pub same : message ≡ difference_message difference

@@ -1,0 +1,44 @@
+use Rattle.meta_json.proofs.Lacking.{bare_missing, no_wrappers}
+use Rattle.meta_json.proofs.ast.ExprFromNodes.of_node.Goals as goal
+
+pub returns-in_err-one_operand-in-PosPred-clause-refused : goal.returns-in_err-one_operand-in-PosPred-clause-refused
+returns-in_err-one_operand-in-PosPred-clause-refused c = bare_missing _ _ _ _ c.in_err-one_operand-in-PosPred.field-0.0 c.in-PosPred.is c.from_residual-in_err-one_operand-in-PosPred.ensures.1 c.in_err-one_operand-in-PosPred.ensures.refused
+
+pub returns-in_err-one_operand-in-NegPred-clause-refused : goal.returns-in_err-one_operand-in-NegPred-clause-refused
+returns-in_err-one_operand-in-NegPred-clause-refused c = bare_missing _ _ _ _ c.in_err-one_operand-in-NegPred.field-0.0 c.in-NegPred.is c.from_residual-in_err-one_operand-in-NegPred.ensures.1 c.in_err-one_operand-in-NegPred.ensures.refused
+
+pub returns-in_err-one_operand-in-Opt-clause-refused : goal.returns-in_err-one_operand-in-Opt-clause-refused
+returns-in_err-one_operand-in-Opt-clause-refused c = bare_missing _ _ _ _ c.in_err-one_operand-in-Opt.field-0.0 c.in-Opt.is c.from_residual-in_err-one_operand-in-Opt.ensures.1 c.in_err-one_operand-in-Opt.ensures.refused
+
+pub returns-in_err-one_operand-in-Rep-clause-refused : goal.returns-in_err-one_operand-in-Rep-clause-refused
+returns-in_err-one_operand-in-Rep-clause-refused c = bare_missing _ _ _ _ c.in_err-one_operand-in-Rep.field-0.0 c.in-Rep.is c.from_residual-in_err-one_operand-in-Rep.ensures.1 c.in_err-one_operand-in-Rep.ensures.refused
+
+pub returns-in_err-one_operand-in-RepOnce-clause-refused : goal.returns-in_err-one_operand-in-RepOnce-clause-refused
+returns-in_err-one_operand-in-RepOnce-clause-refused c = bare_missing _ _ _ _ c.in_err-one_operand-in-RepOnce.field-0.0 c.in-RepOnce.is c.from_residual-in_err-one_operand-in-RepOnce.ensures.1 c.in_err-one_operand-in-RepOnce.ensures.refused
+
+pub returns-in_err-one_operand-in-RepExact-clause-refused : goal.returns-in_err-one_operand-in-RepExact-clause-refused
+returns-in_err-one_operand-in-RepExact-clause-refused c = bare_missing _ _ _ _ c.in_err-one_operand-in-RepExact.field-0.0 c.in-RepExact.is c.from_residual-in_err-one_operand-in-RepExact.ensures.1 c.in_err-one_operand-in-RepExact.ensures.refused
+
+pub returns-in_err-one_operand-in-RepMin-clause-refused : goal.returns-in_err-one_operand-in-RepMin-clause-refused
+returns-in_err-one_operand-in-RepMin-clause-refused c = bare_missing _ _ _ _ c.in_err-one_operand-in-RepMin.field-0.0 c.in-RepMin.is c.from_residual-in_err-one_operand-in-RepMin.ensures.1 c.in_err-one_operand-in-RepMin.ensures.refused
+
+pub returns-in_err-one_operand-in-RepMax-clause-refused : goal.returns-in_err-one_operand-in-RepMax-clause-refused
+returns-in_err-one_operand-in-RepMax-clause-refused c = bare_missing _ _ _ _ c.in_err-one_operand-in-RepMax.field-0.0 c.in-RepMax.is c.from_residual-in_err-one_operand-in-RepMax.ensures.1 c.in_err-one_operand-in-RepMax.ensures.refused
+
+pub returns-in_err-one_operand-in-RepMinMax-clause-refused : goal.returns-in_err-one_operand-in-RepMinMax-clause-refused
+returns-in_err-one_operand-in-RepMinMax-clause-refused c = bare_missing _ _ _ _ c.in_err-one_operand-in-RepMinMax.field-0.0 c.in-RepMinMax.is c.from_residual-in_err-one_operand-in-RepMinMax.ensures.1 c.in_err-one_operand-in-RepMinMax.ensures.refused
+
+pub returns-in_err-one_operand-in-Push-clause-refused : goal.returns-in_err-one_operand-in-Push-clause-refused
+returns-in_err-one_operand-in-Push-clause-refused c = bare_missing _ _ _ _ c.in_err-one_operand-in-Push.field-0.0 c.in-Push.is c.from_residual-in_err-one_operand-in-Push.ensures.1 c.in_err-one_operand-in-Push.ensures.refused
+
+pub returns-in_err-one_operand-in-NodeTag-clause-refused : goal.returns-in_err-one_operand-in-NodeTag-clause-refused
+returns-in_err-one_operand-in-NodeTag-clause-refused c = bare_missing _ _ _ _ c.in_err-one_operand-in-NodeTag.field-0.0 c.in-NodeTag.is c.from_residual-in_err-one_operand-in-NodeTag.ensures.1 c.in_err-one_operand-in-NodeTag.ensures.refused
+
+pub returns-in_err-left-in-Seq-clause-refused : goal.returns-in_err-left-in-Seq-clause-refused
+returns-in_err-left-in-Seq-clause-refused c = bare_missing _ _ _ _ c.in_err-left-in-Seq.field-0.0 c.in-Seq.is c.from_residual-in_err-left-in-Seq.ensures.1 c.in_err-left-in-Seq.ensures.refused
+
+pub returns-in_err-left-in-Choice-clause-refused : goal.returns-in_err-left-in-Choice-clause-refused
+returns-in_err-left-in-Choice-clause-refused c = bare_missing _ _ _ _ c.in_err-left-in-Choice.field-0.0 c.in-Choice.is c.from_residual-in_err-left-in-Choice.ensures.1 c.in_err-left-in-Choice.ensures.refused
+
+pub returns-in-RestoreOnErr-clause-refused : goal.returns-in-RestoreOnErr-clause-refused
+returns-in-RestoreOnErr-clause-refused c = rw c.in-RestoreOnErr.is (no_wrappers _)

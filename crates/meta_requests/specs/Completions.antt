@@ -1,0 +1,55 @@
+-- Completions.
+use Rattle.std.specs.Prelude.{◌≡◌, ℕ, List, [], ◌∷◌, ◌++◌, Bool, true, false, codes, map}
+use Rattle.serde_json.specs.Data.{Data, array, member, no_members, number, object, string, unsigned}
+use Rattle.serde_json.specs.View.{items_of, view}
+use Rattle.language_protocol.specs.declared.messages.Answer.{Answer}
+use Rattle.language_protocol.specs.declared.messages.Answer.TheVariants as answer
+use Rattle.meta_base.specs.Language.Builtins.{property_names}
+use Rattle.meta_requests.specs.BuiltinDocs.{builtin_docs}
+use Rattle.meta_requests.specs.Shown.{shown}
+use Rattle.meta_requests.specs.declared.completions.CallForm.{CallForm}
+use Rattle.meta_requests.specs.declared.context.Context.{Context}
+use Rattle.meta_symbols.specs.declared.outline.Definition.{Definition}
+
+-- a label, and the protocol's number of its kind
+abbrev pub label_item : ℕ → List ℕ → Data
+label_item kind label = object (member (codes "kind") (number (unsigned kind))
+    (member (codes "label") (string label) no_members))
+
+-- a constant, and what it is
+abbrev pub constant_item : List ℕ × List ℕ → Data
+constant_item entry = object (member (codes "detail") (string entry.1)
+    (member (codes "kind") (number (unsigned 21)) (member (codes "label") (string entry.0) no_members)))
+
+abbrev pub rule_item : Context → Definition → Data
+rule_item context definition = label_item 3 (shown context.text.now definition.name)
+
+abbrev pub property_item : List ℕ → Data
+property_item name = constant_item (name, codes "a character with this Unicode property")
+
+-- the forms with arguments, each with its snippet
+abbrev pub call_forms : List (List ℕ × List ℕ)
+call_forms =
+    (codes "PUSH", codes "PUSH(${1:expression})")
+    ∷ (codes "PUSH_LITERAL", codes "PUSH_LITERAL(\"${1:text}\")")
+    ∷ (codes "PEEK", codes "PEEK[${1:start}..${2:end}]")
+    ∷ []
+
+abbrev pub form_of : CallForm → List ℕ × List ℕ
+form_of form = (form.label.now, form.snippet.now)
+
+-- a form, as a snippet or not
+abbrev pub form_item : Bool → List ℕ × List ℕ → Data
+form_item true form = object (member (codes "insertText") (string form.1)
+    (member (codes "insertTextFormat") (number (unsigned 2))
+    (member (codes "kind") (number (unsigned 14)) (member (codes "label") (string form.0) no_members))))
+form_item false form = label_item 14 form.0
+
+-- the rules of a document, the builtins, and the forms with arguments
+abbrev pub items_in : Context → List Data
+items_in context = ((map (rule_item context) context.definitions.items ++ map constant_item builtin_docs)
+    ++ map property_item property_names) ++ map (form_item context.client.has_snippets) call_forms
+
+abbrev pub AreCompletions : Context → Answer → Type 0
+AreCompletions context (answer.Result v) = view v ≡ array (items_of (items_in context))
+AreCompletions context (answer.Error code reason) = ⊥

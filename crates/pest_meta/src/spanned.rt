@@ -1,0 +1,52 @@
+//! Accepted rules with spans.
+ghost use Rattle.std.specs.Prelude.{ℕ, List, IfErr, IfOk};
+ghost use Rattle.std.specs.Borrow.{Bor};
+ghost use Rattle.meta_ast.specs.Optimized.{optimized_rules_of};
+ghost use Rattle.meta_base.specs.Pieces.Faults.{IsMemory};
+ghost use Rattle.meta_optimizer.specs.Passes.{IsOptimized};
+ghost use Rattle.meta_spanned.specs.Erasure.{rules_without_spans};
+ghost use Rattle.meta_spanned.specs.Nodes.{rule_views};
+ghost use Rattle.pest_meta.specs.Spelling.{IsAnswer, IsRefusal};
+ghost use Rattle.pest_meta.specs.WithSpans.{SpellsWithSpans};
+
+use crate::parser::{ParserRule, PestParser, consume_valid_rules};
+use meta_base::grammar::Rule;
+use meta_base::runtime::Fault;
+use meta_names::collect_builtins;
+use meta_optimizer::{OptimizedRule, optimize};
+use meta_spanned::erase_spans;
+use std::alloc::Global;
+
+/// Parses a grammar; returns the builtins that it uses, and its rules with the spans of their nodes, as
+/// `parser::consume_rules_with_spans` reads them. `optimize_with_spans` makes these the answer of
+/// `parse_and_optimize`. Errors are those of `parse_and_optimize`, for the same texts.
+pub fn parse_with_spans<'i>(
+    alloc: Global,
+    grammar: &'i str,
+) -> Result<(Vec<&'i str>, Vec<ParserRule<'i>>), Fault>
+    ensures rules { IfOk result (λ answer.
+        SpellsWithSpans grammar.entry.now answer.0.items (rule_views answer.1.items)) }
+    ensures refused { IfErr result (IsRefusal grammar.entry.now) }
+{
+    let pairs = PestParser::parse(alloc, Rule::grammar_rules, grammar)?;
+    let builtins = collect_builtins(alloc, &pairs)?;
+    let rules = consume_valid_rules(alloc, pairs)?;
+    Ok((builtins, rules))
+}
+
+/// Returns the optimized rules of rules with spans. The rules that `parse_with_spans` returns for a text give
+/// the answer for this text. The only fault is an allocation failure.
+pub fn optimize_with_spans(
+    alloc: Global,
+    rules: Vec<ParserRule<'_>>,
+) -> Result<Vec<OptimizedRule>, Fault>
+    ensures rules { IfOk result (λ answer. IsOptimized
+        (rules_without_spans (rule_views rules.entry.items)) (optimized_rules_of answer.items)) }
+    ensures answer { IfOk result (λ answer. (text : List ℕ) (builtins : List (Bor (List ℕ)))
+        → SpellsWithSpans text builtins (rule_views rules.entry.items)
+        → IsAnswer text builtins answer.items) }
+    ensures memory { IfErr result IsMemory }
+{
+    let plain = erase_spans(alloc, rules)?;
+    optimize(alloc, plain)
+}
