@@ -10,7 +10,7 @@ use Rattle.meta_base.specs.Language.Text.{Text}
 use Rattle.meta_binary.specs.Format.{optimized_rules_bytes}
 use Rattle.meta_binary.specs.Indices.{HasIndices}
 use Rattle.meta_json.specs.Reading.{AreOptimizedRules}
-use Rattle.meta_json.specs.Refusals.{IsRefusedText}
+use Rattle.meta_json.specs.Refusals.{IsRefusedAsOptimized}
 use Rattle.meta_json.specs.declared.refusal.Refusal.TheVariants as refusal
 use Rattle.meta_json.specs.declared.refusal.RefusalLocation.{RefusalLocation}
 use Rattle.meta_json.specs.declared.refusal.RefusalReason.{RefusalReason}
@@ -83,10 +83,10 @@ IsOutcomeBy Are Unread rule text steps is.NoRules = Unread
 IsOutcomeBy Are Unread rule text steps is.Memory = ⊤
 IsOutcomeBy Are Unread rule text steps o = OfRules Are (λ g. IsRunOutcome g rule text steps o)
 
--- the JSON is refused as a list of rules
+-- the JSON is refused as a list of optimized rules
 abbrev pub HasNoRules : List ℕ → Type 0
 HasNoRules json =
-    (place : RefusalLocation) × (why : RefusalReason) × IsRefusedText json (refusal.Text place why)
+    (place : RefusalLocation) × (why : RefusalReason) × IsRefusedAsOptimized json (refusal.Text place why)
 
 -- the outcome is that of the rule of the rules in JSON on the text
 abbrev pub IsMatchOutcome : List ℕ → Text → List ℕ → ℕ → MatchOutcome → Type 0

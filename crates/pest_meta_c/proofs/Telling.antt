@@ -21,7 +21,7 @@ use Rattle.meta_syntax.specs.Parses.{AreOfAGrammar, ParseRefuses}
 use Rattle.pest_meta.proofs.Spelled.{fails_so, flawed}
 use Rattle.pest_meta.specs.Spelling.{AreFlawed, AreRejected, HaveFindings, IsMisnamed, IsNoGrammar, IsRefusal, IsRefusedWith}
 use Rattle.pest_meta_c.specs.Outcomes.{IsFaultRefusal, IsRefusalOf, RefusesWith}
-use Rattle.meta_json.specs.Refusals.{IsRefusedText}
+use Rattle.meta_json.specs.declared.refusal.Refusal.{Refusal}
 use Rattle.meta_json.specs.declared.refusal.Refusal.TheVariants as refusal_is
 use Rattle.pest_meta_c.specs.Refusals.{HasNoTokens, IsNoJson, OfTrees, ReportsSuch}
 use Rattle.pest_meta_c.specs.declared.outcome.CallError as why
@@ -94,7 +94,7 @@ pub unknown : (text name : List ℕ) (told : why.CallError) → IsOfNoRule name 
 unknown text name why_is.Memory none t = tt
 unknown text name (why_is.Refused json) none t = inl (record { none = none; written = t })
 
--- JSON that has no rules
-pub no_json : (text : List ℕ) (place : RefusalLocation) (reason : RefusalReason) (told : why.CallError) → IsRefusedText text (refusal_is.Text place reason) → IsRefusalOf place reason told → RefusesWith (IsNoJson text) told
-no_json text place reason why_is.Memory r t = tt
-no_json text place reason (why_is.Refused json) r t = (place, reason, r, t)
+-- JSON that is refused
+pub no_json : (Refuses : List ℕ → Refusal → Type 0) (text : List ℕ) (place : RefusalLocation) (reason : RefusalReason) (told : why.CallError) → Refuses text (refusal_is.Text place reason) → IsRefusalOf place reason told → RefusesWith (IsNoJson Refuses text) told
+no_json Refuses text place reason why_is.Memory r t = tt
+no_json Refuses text place reason (why_is.Refused json) r t = (place, reason, r, t)

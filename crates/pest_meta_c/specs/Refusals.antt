@@ -6,10 +6,11 @@ use Rattle.meta_base.specs.Pieces.MetaRules.{name_of}
 use Rattle.meta_base.specs.declared.grammar.Rule.{Rule}
 use Rattle.meta_base.specs.declared.grammar.Rule.TheVariants as rule_is
 use Rattle.meta_base.specs.declared.runtime.errors.Error.{Error}
-use Rattle.meta_json.specs.Refusals.{IsRefusedText, refusal_data}
+use Rattle.meta_json.specs.Refusals.{IsRefusedAsOptimized, IsRefusedAsRules, refusal_data}
 use Rattle.meta_json.specs.RuleNames.{IsOfNoRule}
 use Rattle.meta_json.specs.declared.refusal.RefusalLocation.{RefusalLocation}
 use Rattle.meta_json.specs.declared.refusal.RefusalLocation.TheVariants as place_is
+use Rattle.meta_json.specs.declared.refusal.Refusal.{Refusal}
 use Rattle.meta_json.specs.declared.refusal.Refusal.TheVariants as refusal_is
 use Rattle.meta_json.specs.declared.refusal.RefusalReason.{RefusalReason}
 use Rattle.meta_json.specs.declared.refusal.RefusalReason.TheVariants as why_is
@@ -70,11 +71,18 @@ HasNoRules text json = ReportsSuch text
 abbrev pub IsRefused : List ℕ → List ℕ → Type 0
 IsRefused text json = ReportsSuch text (IsRefusedWith text) json
 
--- the bytes are the reason why a text has no rules, and its location: no JSON, no list, or an error in a rule
-abbrev pub IsNoJson : List ℕ → List ℕ → Type 0
-IsNoJson text json = (place : RefusalLocation) × (why : RefusalReason)
-    × IsRefusedText text (refusal_is.Text place why)
+-- the bytes are a reason to refuse the text, and its location
+abbrev pub IsNoJson : (List ℕ → Refusal → Type 0) → List ℕ → List ℕ → Type 0
+IsNoJson Refuses text json = (place : RefusalLocation) × (why : RefusalReason)
+    × Refuses text (refusal_is.Text place why)
     × (json ≡ compact_text (refusal_data place why))
+
+-- why a text has no rules, and no optimized rules: no JSON, no list, or a value that is no rule
+abbrev pub IsNoRules : List ℕ → List ℕ → Type 0
+IsNoRules = IsNoJson IsRefusedAsRules
+
+abbrev pub IsNoOptimized : List ℕ → List ℕ → Type 0
+IsNoOptimized = IsNoJson IsRefusedAsOptimized
 
 -- nothing is refused
 abbrev pub Never : List ℕ → Type 0

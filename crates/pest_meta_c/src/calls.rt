@@ -7,7 +7,7 @@ ghost use Rattle.pest_meta.specs.Spelling.{IsNoGrammar, IsRefusal};
 ghost use Rattle.pest_meta_c.specs.Answers.{AreKeywordErrors, AreNames, AreNodes, AreOptimized, AreRules, AreTokenNumbers, AreTokens, IsGrammar, IsPrepared, IsVersion, IsWhole};
 ghost use Rattle.pest_meta_c.specs.Diagnostics.{AreDiagnostics};
 ghost use Rattle.pest_meta_c.specs.Outcomes.{IsRefusalOf, RefusesNumbers, RefusesWith};
-ghost use Rattle.pest_meta_c.specs.Refusals.{DoesNotMatch, HasNoMatch, HasNoNames, HasNoNodes, HasNoRules, HasNoTokens, IsNoJson, IsRefused, Never, ReportsSuch};
+ghost use Rattle.pest_meta_c.specs.Refusals.{DoesNotMatch, HasNoMatch, HasNoNames, HasNoNodes, HasNoRules, HasNoTokens, IsNoOptimized, IsNoRules, IsRefused, Never, ReportsSuch};
 
 use crate::diagnostics::diagnostics_lines;
 use crate::outcome::{BytesOutcome, CallError, NumbersError, NumbersOutcome, Outcome, to_refusal};
@@ -128,7 +128,7 @@ pub(crate) fn nodes(alloc: Global, text: &str) -> Outcome
 /// Optimizes rules in JSON.
 pub(crate) fn optimize(alloc: Global, json: &str) -> Outcome
     ensures answered { IfOk result (λ answer. AreOptimized json.now (string_bytes answer)) }
-    ensures refused { IfErr result (RefusesWith (IsNoJson json.now)) }
+    ensures refused { IfErr result (RefusesWith (IsNoRules json.now)) }
 {
     let rules = match read_rules(alloc, json) {
         Ok(rules) => rules,
@@ -194,7 +194,7 @@ fn grammar_bytes(alloc: Global, text: &str) -> Result<Vec<u8>, Fault>
 /// Returns optimized rules in JSON in binary form.
 pub(crate) fn prepare(alloc: Global, json: &str) -> BytesOutcome
     ensures answered { IfOk result (λ bytes. IsPrepared json.now bytes.items) }
-    ensures refused { IfErr result (RefusesWith (IsNoJson json.now)) }
+    ensures refused { IfErr result (RefusesWith (IsNoOptimized json.now)) }
 {
     let rules = match read_optimized_rules(alloc, json) {
         Ok(rules) => Deep { value: rules },

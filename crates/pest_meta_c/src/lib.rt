@@ -22,7 +22,7 @@ ghost use Rattle.matcher_tokens.specs.Outcomes.{IsMatchOutcome, IsPreparedOutcom
 ghost use Rattle.pest_meta.specs.Spelling.{HasAnswer};
 ghost use Rattle.pest_meta_c.specs.Diagnostics.{AreDiagnostics};
 ghost use Rattle.pest_meta_c.specs.Handing.{HandsOver, HandsOverMatch, HandsOverNumbers};
-ghost use Rattle.pest_meta_c.specs.Refusals.{HasNoMatch, HasNoNames, HasNoNodes, HasNoRules, HasNoTokens, IsNoJson, IsRefused, Never};
+ghost use Rattle.pest_meta_c.specs.Refusals.{HasNoMatch, HasNoNames, HasNoNodes, HasNoRules, HasNoTokens, IsNoOptimized, IsNoRules, IsRefused, Never};
 
 use handing::{hand_over, hand_over_bytes, hand_over_match, hand_over_numbers, no_text};
 use matcher_tokens::run::{match_prepared, match_text};
@@ -152,7 +152,7 @@ pub extern "C" fn pest_meta_optimize(
     out: &mut [u8],
     needed: &mut usize,
 ) -> u8
-    ensures hands { HandsOver (AreOptimized rules.now) (IsNoJson rules.now)
+    ensures hands { HandsOver (AreOptimized rules.now) (IsNoRules rules.now)
         out.old out.new needed.new result }
     ensures text { result ≢ 3 → IsUtf8 rules.now }
     ensures no_text { result ≡ 3 → IsUtf8 rules.now → ⊥ }
@@ -236,7 +236,7 @@ pub extern "C" fn pest_meta_prepare(
     out: &mut [u8],
     needed: &mut usize,
 ) -> u8
-    ensures hands { HandsOver (IsPrepared rules.now) (IsNoJson rules.now)
+    ensures hands { HandsOver (IsPrepared rules.now) (IsNoOptimized rules.now)
         out.old out.new needed.new result }
     ensures text { result ≢ 3 → IsUtf8 rules.now }
     ensures no_text { result ≡ 3 → IsUtf8 rules.now → ⊥ }

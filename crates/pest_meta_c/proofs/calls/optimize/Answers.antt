@@ -3,6 +3,7 @@ use Rattle.serde_json.specs.Written.{compact_text}
 use Rattle.meta_json.specs.Format.{optimized_rules_data}
 use Rattle.pest_meta_c.specs.Answers.{AreOptimized}
 use Rattle.pest_meta_c.proofs.Answering.{answered_from}
+use Rattle.meta_json.specs.Refusals.{IsRefusedAsRules}
 use Rattle.pest_meta_c.proofs.Telling.{no_json}
 use Rattle.pest_meta_c.proofs.calls.optimize.Goals as goal
 
@@ -21,5 +22,5 @@ returns-in-Ok-optimize-clause-answered c =
 
 pub returns-in-Err-Text-clause-refused : goal.returns-in-Err-Text-clause-refused
 returns-in-Err-Text-clause-refused c =
-    let why = rw c.in-Err-Text.field-0-is at c.in-Err-Text.ensures.refused in
-    no_json c.args.json.now c.in-Err-Text.place c.in-Err-Text.why c.json_refusal.result why c.json_refusal.ensures
+    let why = rw c.in-Err-Text.field-0-is at c.in-Err-Text.ensures.exact in
+    no_json IsRefusedAsRules c.args.json.now c.in-Err-Text.place c.in-Err-Text.why c.json_refusal.result why c.json_refusal.ensures

@@ -1,5 +1,6 @@
 use Rattle.std.proofs.Common.{◌++◌, ◌∙◌, ap}
 use Rattle.meta_binary.specs.Format.{optimized_rules_bytes}
+use Rattle.meta_json.specs.Refusals.{IsRefusedAsOptimized}
 use Rattle.pest_meta_c.proofs.Telling.{no_json}
 use Rattle.pest_meta_c.proofs.calls.prepare.Goals as goal
 
@@ -13,5 +14,5 @@ returns-in-Ok-push_optimized_rules-clause-answered c = record {
 
 pub returns-in-Err-Text-clause-refused : goal.returns-in-Err-Text-clause-refused
 returns-in-Err-Text-clause-refused c =
-    let why = rw c.in-Err-Text.field-0-is at c.in-Err-Text.ensures.refused in
-    no_json c.args.json.now c.in-Err-Text.place c.in-Err-Text.why c.json_refusal.result why c.json_refusal.ensures
+    let why = rw c.in-Err-Text.field-0-is at c.in-Err-Text.ensures.exact in
+    no_json IsRefusedAsOptimized c.args.json.now c.in-Err-Text.place c.in-Err-Text.why c.json_refusal.result why c.json_refusal.ensures
