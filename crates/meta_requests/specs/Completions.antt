@@ -4,8 +4,10 @@ use Rattle.serde_json.specs.Data.{Data, array, member, no_members, number, objec
 use Rattle.serde_json.specs.View.{items_of, view}
 use Rattle.language_protocol.specs.declared.messages.Answer.{Answer}
 use Rattle.language_protocol.specs.declared.messages.Answer.TheVariants as answer
-use Rattle.meta_base.specs.Language.Builtins.{property_names}
-use Rattle.meta_requests.specs.BuiltinDocs.{builtin_docs}
+use Rattle.meta_base.specs.Language.Builtins.{builtins, property_names}
+use Rattle.meta_builtins.specs.Builtins.{entry_of, name_of}
+use Rattle.meta_builtins.specs.declared.builtin.Builtin.{Builtin}
+use Rattle.meta_requests.specs.BuiltinDocs.{doc_of}
 use Rattle.meta_requests.specs.Shown.{shown}
 use Rattle.meta_requests.specs.declared.completions.CallForm.{CallForm}
 use Rattle.meta_requests.specs.declared.context.Context.{Context}
@@ -20,6 +22,9 @@ label_item kind label = object (member (codes "kind") (number (unsigned kind))
 abbrev pub constant_item : List ℕ × List ℕ → Data
 constant_item entry = object (member (codes "detail") (string entry.1)
     (member (codes "kind") (number (unsigned 21)) (member (codes "label") (string entry.0) no_members)))
+
+abbrev pub builtin_item : Builtin → Data
+builtin_item b = constant_item (name_of b, doc_of b)
 
 abbrev pub rule_item : Context → Definition → Data
 rule_item context definition = label_item 3 (shown context.text.now definition.name)
@@ -45,11 +50,13 @@ form_item true form = object (member (codes "insertText") (string form.1)
     (member (codes "kind") (number (unsigned 14)) (member (codes "label") (string form.0) no_members))))
 form_item false form = label_item 14 form.0
 
--- the rules of a document, the builtins, and the forms with arguments
-abbrev pub items_in : Context → List Data
-items_in context = ((map (rule_item context) context.definitions.items ++ map constant_item builtin_docs)
+-- the rules of a document, builtins, and the forms with arguments
+abbrev pub items_in : Context → List Builtin → List Data
+items_in context bs = ((map (rule_item context) context.definitions.items ++ map builtin_item bs)
     ++ map property_item property_names) ++ map (form_item context.client.has_snippets) call_forms
 
+-- these, with the builtins of the language's list
 abbrev pub AreCompletions : Context → Answer → Type 0
-AreCompletions context (answer.Result v) = view v ≡ array (items_of (items_in context))
+AreCompletions context (answer.Result v) = (bs : List Builtin) × (map entry_of bs ≡ builtins)
+    × (view v ≡ array (items_of (items_in context bs)))
 AreCompletions context (answer.Error code reason) = ⊥

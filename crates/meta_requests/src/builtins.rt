@@ -1,120 +1,55 @@
 //! Meanings of builtins.
-ghost use Rattle.std.specs.Prelude.{◌≡◌, map, option_map};
+ghost use Rattle.std.specs.Prelude.{◌≡◌, IfNone, IfSome, false};
+ghost use Rattle.meta_base.specs.Language.Builtins.{is_one_of};
+ghost use Rattle.meta_builtins.specs.Builtins.{builtin_names};
 ghost use Rattle.meta_requests.specs.BuiltinDocs as spec;
+ghost use Rattle.meta_requests.specs.BuiltinDocs.{IsDocOf};
 
-/// A builtin, and what it matches.
-#[derive(Clone, Copy)]
-pub struct BuiltinDoc {
-    pub name: &'static str,
-    pub doc: &'static str,
-}
+use meta_builtins::{Builtin, CharSet};
 
-/// The builtins other than Unicode properties, and what they match.
-static BUILTIN_DOCS: [BuiltinDoc; 19] = [
-    BuiltinDoc {
-        name: "ANY",
-        doc: "any character",
-    },
-    BuiltinDoc {
-        name: "SOI",
-        doc: "the start of the text",
-    },
-    BuiltinDoc {
-        name: "EOI",
-        doc: "the end of the text",
-    },
-    BuiltinDoc {
-        name: "PEEK",
-        doc: "the text on top of the stack, which stays there",
-    },
-    BuiltinDoc {
-        name: "POP",
-        doc: "the text on top of the stack, which is removed",
-    },
-    BuiltinDoc {
-        name: "DROP",
-        doc: "nothing; removes the top of the stack",
-    },
-    BuiltinDoc {
-        name: "PEEK_ALL",
-        doc: "all texts of the stack from the top down, which stay there",
-    },
-    BuiltinDoc {
-        name: "POP_ALL",
-        doc: "all texts of the stack from the top down, which are removed",
-    },
-    BuiltinDoc {
-        name: "NEWLINE",
-        doc: "`\\n`, `\\r\\n` or `\\r`",
-    },
-    BuiltinDoc {
-        name: "ASCII_DIGIT",
-        doc: "`'0'..'9'`",
-    },
-    BuiltinDoc {
-        name: "ASCII_NONZERO_DIGIT",
-        doc: "`'1'..'9'`",
-    },
-    BuiltinDoc {
-        name: "ASCII_BIN_DIGIT",
-        doc: "`'0'..'1'`",
-    },
-    BuiltinDoc {
-        name: "ASCII_OCT_DIGIT",
-        doc: "`'0'..'7'`",
-    },
-    BuiltinDoc {
-        name: "ASCII_HEX_DIGIT",
-        doc: "`'0'..'9'`, `'a'..'f'` or `'A'..'F'`",
-    },
-    BuiltinDoc {
-        name: "ASCII_ALPHA_LOWER",
-        doc: "`'a'..'z'`",
-    },
-    BuiltinDoc {
-        name: "ASCII_ALPHA_UPPER",
-        doc: "`'A'..'Z'`",
-    },
-    BuiltinDoc {
-        name: "ASCII_ALPHA",
-        doc: "`'a'..'z'` or `'A'..'Z'`",
-    },
-    BuiltinDoc {
-        name: "ASCII_ALPHANUMERIC",
-        doc: "`'0'..'9'`, `'a'..'z'` or `'A'..'Z'`",
-    },
-    BuiltinDoc {
-        name: "ASCII",
-        doc: "`'\\x00'..'\\x7F'`",
-    },
-];
-
-/// Returns the builtins other than Unicode properties.
-pub fn builtin_docs() -> &'static [BuiltinDoc]
-    ensures names { map spec.name_of result.now ≡ spec.builtin_names }
-    ensures docs { map spec.entry_of result.now ≡ spec.builtin_docs }
-{
-    &BUILTIN_DOCS
-}
-
-/// Returns what a builtin other than a Unicode property matches.
+/// Returns what the builtin of a name matches, or `None` if no builtin but perhaps a Unicode property has it.
 pub fn builtin_doc(name: &str) -> Option<&'static str>
-    ensures { option_map (λ doc. doc.now) result ≡ spec.doc_of name.now }
+    ensures told { IfSome result (λ doc. IsDocOf name.now doc.now) }
+    ensures unknown { IfNone result (is_one_of builtin_names name.now ≡ false) }
 {
-    doc_among(builtin_docs(), name)
+    match Builtin::from_name(name) {
+        Some(builtin) => Some(describe(builtin)),
+        None => None,
+    }
 }
 
-/// Returns what the builtin of a name matches, if it is among these.
-fn doc_among(builtins: &[BuiltinDoc], name: &str) -> Option<&'static str>
-    ensures { option_map (λ doc. doc.now) result
-        ≡ spec.doc_among (map spec.entry_of builtins.now) name.now }
+/// Returns what a builtin matches.
+pub(crate) fn describe(builtin: Builtin) -> &'static str
+    ensures { result.now ≡ spec.doc_of builtin }
 {
-    let mut rest = builtins;
-    while let Some((builtin, after)) = rest.split_first() {
-        if builtin.name == name {
-            return Some(builtin.doc);
-        }
-        rest = after;
+    match builtin {
+        Builtin::Set(set) => describe_set(set),
+        Builtin::Soi => "the start of the text",
+        Builtin::Eoi => "the end of the text",
+        Builtin::Newline => "`\\n`, `\\r\\n` or `\\r`",
+        Builtin::Peek => "the text on top of the stack, which stays there",
+        Builtin::Pop => "the text on top of the stack, which is removed",
+        Builtin::Drop => "nothing; removes the top of the stack",
+        Builtin::PeekAll => "all texts of the stack from the top down, which stay there",
+        Builtin::PopAll => "all texts of the stack from the top down, which are removed",
     }
-    None
+}
+
+/// Returns what the builtin of a set of characters matches.
+fn describe_set(set: CharSet) -> &'static str
+    ensures { result.now ≡ spec.doc_of_set set }
+{
+    match set {
+        CharSet::Any => "any character",
+        CharSet::AsciiDigit => "`'0'..'9'`",
+        CharSet::AsciiNonzeroDigit => "`'1'..'9'`",
+        CharSet::AsciiBinDigit => "`'0'..'1'`",
+        CharSet::AsciiOctDigit => "`'0'..'7'`",
+        CharSet::AsciiHexDigit => "`'0'..'9'`, `'a'..'f'` or `'A'..'F'`",
+        CharSet::AsciiAlphaLower => "`'a'..'z'`",
+        CharSet::AsciiAlphaUpper => "`'A'..'Z'`",
+        CharSet::AsciiAlpha => "`'a'..'z'` or `'A'..'Z'`",
+        CharSet::AsciiAlphanumeric => "`'0'..'9'`, `'a'..'z'` or `'A'..'Z'`",
+        CharSet::Ascii => "`'\\x00'..'\\x7F'`",
+    }
 }

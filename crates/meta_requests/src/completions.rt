@@ -1,13 +1,13 @@
 //! Completions.
 ghost use Rattle.std.specs.Prelude.{◌≡◌, ◌++◌, ◌∷◌, [], IfOk, OnOk, map};
-ghost use Rattle.meta_requests.specs.BuiltinDocs as docs;
 ghost use Rattle.meta_requests.specs.Completions as spec;
 ghost use Rattle.meta_requests.specs.Completions.{AreCompletions};
 ghost use Rattle.serde_json.specs.View.{view};
 
-use crate::builtins::{BuiltinDoc, builtin_docs};
+use crate::builtins::describe;
 use crate::context::Context;
 use language_protocol::messages::Answer;
+use meta_builtins::Builtin;
 use meta_names::unicode_property_names;
 use meta_symbols::Definition;
 use serde_json::{Value, json};
@@ -54,17 +54,21 @@ fn call_forms() -> &'static [CallForm]
 pub fn completions(alloc: Global, context: &Context<'_>) -> Result<Answer, AllocError>
     ensures { IfOk result (AreCompletions context.now) }
 {
-    let items = items_in(alloc, context)?;
+    let items = items_in(alloc, context, Builtin::all())?;
     Ok(Answer::Result(Value::Array(items)))
 }
 
-/// Returns what can be written in a document, each as a value.
-fn items_in(alloc: Global, context: &Context<'_>) -> Result<Vec<Value>, AllocError>
-    ensures { IfOk result (λ items. map view items.items ≡ spec.items_in context.now) }
+/// Returns what can be written in a document, of builtins these, each as a value.
+fn items_in(
+    alloc: Global,
+    context: &Context<'_>,
+    builtins: &[Builtin],
+) -> Result<Vec<Value>, AllocError>
+    ensures { IfOk result (λ items. map view items.items ≡ spec.items_in context.now builtins.now) }
 {
     let mut items = Vec::new(alloc);
     push_rules(alloc, context, &context.definitions, &mut items)?;
-    push_builtins(alloc, builtin_docs(), &mut items)?;
+    push_builtins(alloc, builtins, &mut items)?;
     push_properties(alloc, unicode_property_names(), &mut items)?;
     push_forms(alloc, call_forms(), context.client.has_snippets, &mut items)?;
     Ok(items)
@@ -99,19 +103,26 @@ fn label_item(alloc: Global, label: &str, kind: u64) -> Result<Value, AllocError
 /// Adds builtins.
 fn push_builtins(
     alloc: Global,
-    builtins: &[BuiltinDoc],
+    builtins: &[Builtin],
     items: &mut Vec<Value>,
 ) -> Result<(), AllocError>
     ensures { OnOk result (map view items.new.items
-        ≡ map view items.old.items ++ map spec.constant_item (map docs.entry_of builtins.now)) }
+        ≡ map view items.old.items ++ map spec.builtin_item builtins.now) }
 {
     let mut rest = builtins;
     while let Some((builtin, after)) = rest.split_first() {
-        let item = constant_item(alloc, builtin.name, builtin.doc)?;
+        let item = builtin_item(alloc, *builtin)?;
         items.push(item)?;
         rest = after;
     }
     Ok(())
+}
+
+/// Returns a builtin as a completion.
+fn builtin_item(alloc: Global, builtin: Builtin) -> Result<Value, AllocError>
+    ensures { IfOk result (λ v. view v ≡ spec.builtin_item builtin) }
+{
+    constant_item(alloc, builtin.name(), describe(builtin))
 }
 
 /// Returns a constant as a completion.

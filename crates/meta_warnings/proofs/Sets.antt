@@ -9,8 +9,13 @@ use Rattle.meta_base.specs.Language.Builtins.{Property, builtin_of, is_one_of, p
 use Rattle.meta_base.specs.Language.Text.{Text}
 use Rattle.meta_builtins.specs.Builtins.{builtin_names, meaning_of, name_of}
 use Rattle.meta_builtins.specs.declared.builtin.Builtin.{Builtin}
-use Rattle.meta_builtins.proofs.BuiltinLemmas.{named_meaning, other_meaning}
+use Rattle.meta_builtins.proofs.Ascii.{ascii_chars}
+use Rattle.meta_builtins.proofs.BuiltinLemmas.{name_ascii, named_meaning, other_meaning}
 use Rattle.meta_warnings.specs.Tokens.{is_set, is_single}
+
+-- the characters of a builtin's name
+pub name_characters : (b : Builtin) (t : List ℕ) → t ≡ name_of b → chars t ≡ name_of b
+name_characters b t e = ap chars e ∙ ascii_chars (name_of b) (name_ascii b)
 
 -- the name of a builtin of code
 pub listed_set : (b : Builtin) (n : Text) (r : Bool) → n ≡ name_of b → r ≡ is_set (Some (meaning_of b)) → r ≡ is_set (builtin_of n)

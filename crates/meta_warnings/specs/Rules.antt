@@ -1,8 +1,11 @@
 -- Rules that no other rule calls.
-use Rattle.std.specs.Prelude.{List, [], ◌∷◌, Bool, false, not, ◌&&◌, ◌||◌, if◌then◌else◌, bytes_eq, codes, flat_map}
+use Rattle.std.specs.Prelude.{ℕ, List, [], ◌∷◌, Bool, false, not, ◌&&◌, ◌||◌, if◌then◌else◌, bytes_eq, codes, flat_map}
+use Rattle.std.specs.Str.{str_eq_ignore_ascii_case}
 use Rattle.meta_base.specs.Language.Text.{Text}
 use Rattle.meta_base.specs.Language.Expression.{Expression, Ident}
 use Rattle.meta_base.specs.Language.Builtins.{is_one_of}
+use Rattle.meta_builtins.specs.Builtins.{name_of}
+use Rattle.meta_builtins.specs.declared.builtin.Builtin.TheVariants.{Soi, Eoi}
 use Rattle.meta_spanned.specs.Walk.{preorder}
 pub use Rattle.meta_spanned.specs.Spanned.{SpannedRule}
 use Rattle.meta_spanned.specs.Spanned.{Span, Spanned, Leaf}
@@ -29,9 +32,14 @@ is_called (r ∷ rs) n = calls_another r n || is_called rs n
 abbrev pub needs_no_call : Text → Bool
 needs_no_call n = bytes_eq n (codes "WHITESPACE") || bytes_eq n (codes "COMMENT")
 
+-- bytes that are one of these names but for the case of letters
+abbrev pub is_blank_name_in_any_case : List ℕ → Bool
+is_blank_name_in_any_case n =
+    str_eq_ignore_ascii_case n (codes "WHITESPACE") || str_eq_ignore_ascii_case n (codes "COMMENT")
+
 -- the builtins at the ends of a text: a rule that calls one is a start
 abbrev pub names_end : List Text → Bool
-names_end ns = is_one_of ns (codes "SOI") || is_one_of ns (codes "EOI")
+names_end ns = is_one_of ns (name_of Soi) || is_one_of ns (name_of Eoi)
 
 abbrev pub is_start : SpannedRule → Bool
 is_start r = names_end (flat_map name_called (preorder r.body))
@@ -50,7 +58,7 @@ uncalled_at f r = if is_uncalled f r then r.span ∷ [] else []
 
 -- a start is asked for, or a rule calls a builtin at an end of the text
 abbrev pub knows_start : (Text → Bool) → Bool
-knows_start f = f (codes "SOI") || f (codes "EOI")
+knows_start f = f (name_of Soi) || f (name_of Eoi)
 
 -- where none is known: the rules after the first, which is the start unless it is needed
 abbrev pub after_first : (Text → Bool) → List SpannedRule → List SpannedRule

@@ -1,11 +1,13 @@
 -- Suspect nodes by the relation of matching.
-use Rattle.std.specs.Prelude.{◌≡◌, true, ℕ, codes, None}
+use Rattle.std.specs.Prelude.{◌≡◌, true, ℕ, None}
 use Rattle.meta_base.specs.Language.Expression.{Grammar, rule_of}
 use Rattle.meta_base.specs.Language.Expression as bare
 use Rattle.meta_base.specs.Language.Meaning.{Matches}
 use Rattle.meta_base.specs.Language.Places.{IsStateIn}
 use Rattle.meta_base.specs.Language.State.{Classes, Mode, IsRuleMode, State, Trees, Success, Failure}
 use Rattle.meta_base.specs.Language.Text.{Text}
+use Rattle.meta_builtins.specs.CharSets.{set_name}
+use Rattle.meta_builtins.specs.declared.char_set.CharSet.TheVariants.{Any}
 use Rattle.meta_spanned.specs.Erasure.{without_spans}
 use Rattle.meta_spanned.specs.Spanned.{Span, Spanned, One, PosPred, Opt, RepMinMax}
 use Rattle.meta_warnings.specs.Laws.{IsSameEverywhere}
@@ -31,6 +33,6 @@ IdleOptionChangesNothing = (span : Span) (x : Spanned) → is_idle_test (One spa
 -- an unmatchable node succeeds nowhere in a text, in the body of no rule, where no rule is called `ANY`
 abbrev pub UnmatchableNeverSucceeds : Type 0
 UnmatchableNeverSucceeds = (x : Spanned) → is_unmatchable x ≡ true
-    → (g : Grammar) → rule_of g (codes "ANY") ≡ None → (classes : Classes) (m : Mode) → IsRuleMode m
+    → (g : Grammar) → rule_of g (set_name Any) ≡ None → (classes : Classes) (m : Mode) → IsRuleMode m
     → (text : Text) (s t : State) (us : Trees) → IsStateIn text s
     → Matches g classes (without_spans x) m s (Success t us) → ⊥

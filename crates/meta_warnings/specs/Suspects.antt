@@ -1,7 +1,9 @@
 -- Nodes that are suspect by themselves.
-use Rattle.std.specs.Prelude.{List, [], ◌∷◌, Bool, true, false, ◌&&◌, if◌then◌else◌, nat_lt, bytes_eq, codes, flat_map}
+use Rattle.std.specs.Prelude.{List, [], ◌∷◌, Bool, true, false, ◌&&◌, if◌then◌else◌, nat_lt, bytes_eq, flat_map}
 use Rattle.meta_base.specs.Language.Text.{Text}
 use Rattle.meta_base.specs.Language.Expression.{Expression, Str, Insens, Range, Ident}
+use Rattle.meta_builtins.specs.CharSets.{set_name}
+use Rattle.meta_builtins.specs.declared.char_set.CharSet.TheVariants.{Any}
 use Rattle.meta_spanned.specs.Spanned.{Span, Spanned, SpannedRule, Leaf, One, Two, PosPred, NegPred, Opt, Rep, RepOnce, RepMax, RepMinMax, Seq, span_of}
 use Rattle.meta_spanned.specs.Walk.{preorder}
 use Rattle.meta_warnings.specs.declared.suspects.Suspect.{Suspect}
@@ -30,7 +32,7 @@ has_character [] = false
 has_character (c ∷ t) = true
 
 abbrev pub is_any_name : Expression → Bool
-is_any_name (Ident n) = bytes_eq n (codes "ANY")
+is_any_name (Ident n) = bytes_eq n (set_name Any)
 is_any_name _ = false
 
 abbrev pub is_any : Spanned → Bool

@@ -1,10 +1,12 @@
 -- Repetitions of characters between which blanks are skipped.
-use Rattle.std.specs.Prelude.{ℕ, List, [], ◌∷◌, Option, Some, None, Bool, true, false, not, ◌&&◌, ◌||◌, if◌then◌else◌, nat_lt, bytes_eq, codes, flat_map}
+use Rattle.std.specs.Prelude.{ℕ, List, [], ◌∷◌, Option, Some, None, Bool, true, false, not, ◌&&◌, ◌||◌, if◌then◌else◌, nat_lt, bytes_eq, flat_map}
 use Rattle.std.specs.List.{list_all, list_any}
 use Rattle.meta_base.specs.Language.Text.{Text}
 use Rattle.meta_base.specs.Language.Builtins.{Builtin, builtin_of, is_one_of}
 use Rattle.meta_base.specs.Language.Builtins as builtin
 use Rattle.meta_base.specs.Language.Expression.{Expression, Str, Insens, Range, Ident}
+use Rattle.meta_builtins.specs.CharSets.{set_name}
+use Rattle.meta_builtins.specs.declared.char_set.CharSet.TheVariants.{Any, Ascii}
 use Rattle.meta_spanned.specs.Spanned.{Span, Spanned, SpannedRule, Leaf, One, Two, Choice, Rep, RepOnce, RepExact, RepMin, RepMax, RepMinMax, span_of}
 use Rattle.meta_spanned.specs.Walk.{preorder}
 use Rattle.meta_warnings.specs.Rules.{needs_no_call}
@@ -32,7 +34,7 @@ is_set _ = false
 -- a builtin that is one, but not that of all, and not that of all in ASCII
 abbrev pub is_class_name : Text → Bool
 is_class_name n =
-    not (bytes_eq n (codes "ANY")) && (not (bytes_eq n (codes "ASCII")) && is_set (builtin_of n))
+    not (bytes_eq n (set_name Any)) && (not (bytes_eq n (set_name Ascii)) && is_set (builtin_of n))
 
 -- a class of characters: a range, such a builtin, or a call of such a rule (`f`: their names)
 abbrev pub is_class_leaf : (Text → Bool) → Expression → Bool

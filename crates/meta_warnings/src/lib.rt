@@ -14,6 +14,6 @@ mod tokens;
 
 pub use crate::choices::unreachable_alternatives;
 pub use crate::ranges::reversed_ranges;
-pub use crate::rules::uncalled_rules;
+pub use crate::rules::{is_blank_name, is_blank_name_in_any_case, uncalled_rules};
 pub use crate::suspects::{Suspect, suspect_spans};
 pub use crate::tokens::blanks_in_tokens;

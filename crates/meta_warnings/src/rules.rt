@@ -1,18 +1,25 @@
 //! Rules that no other rule calls.
 ghost use Rattle.std.specs.Prelude.{◌≡◌, ◌≤◌, ◌++◌, ◌&&◌, ◌||◌, Bool, IfOk, OnOk, List, ℕ, bytes_eq, drop, flat_map, length, map, not};
-ghost use Rattle.std.specs.Str.{IsAscii, IsUtf8, chars};
+ghost use Rattle.std.specs.Str.{IsAscii, IsUtf8, chars, str_eq_ignore_ascii_case};
 ghost use Rattle.meta_ast.specs.Ast.{text_of};
 ghost use Rattle.meta_base.specs.Language.Builtins.{is_one_of};
 ghost use Rattle.meta_base.specs.Language.Text.{Text};
+ghost use Rattle.meta_builtins.specs.Builtins.{name_of};
 ghost use Rattle.meta_spanned.specs.Nodes.{piece_of, rule_view, rule_views, view};
 ghost use Rattle.meta_warnings.specs.Lists.{HasNames, has_name, texts_of};
 ghost use Rattle.meta_warnings.specs.Rules as spec;
 
 use meta_ast::texts::same_text;
 use meta_base::runtime::Span;
+use meta_builtins::Builtin;
 use meta_spanned::{ParserExpr, ParserNode, ParserRule, push_operands};
 use std::alloc::{AllocError, Global};
 use std::collections::HashSet;
+
+/// The names of the rules that are skipped between others, without a call.
+const WHITESPACE: &str = "WHITESPACE";
+
+const COMMENT: &str = "COMMENT";
 
 /// The spans of the names of rules that are not needed, in order. A rule is needed if a rule of another name
 /// calls it, if it is among `starts`, if it calls `SOI` or `EOI`, or if it is `WHITESPACE` or `COMMENT`.
@@ -39,15 +46,14 @@ pub fn uncalled_rules<'n, 'i>(
 fn knows_start(needed: &HashSet<&str>) -> bool
     ensures { (f : Text → Bool) → HasNames f needed.now → result ≡ spec.knows_start f }
 {
-    has_literal(needed, "SOI") || has_literal(needed, "EOI")
+    has_builtin(needed, Builtin::Soi) || has_builtin(needed, Builtin::Eoi)
 }
 
-/// Whether a literal is among these names.
-fn has_literal(needed: &HashSet<&str>, literal: &str) -> bool
-    requires { IsAscii literal.now }
-    ensures { (f : Text → Bool) → HasNames f needed.now → result ≡ f literal.now }
+/// Whether the name of a builtin is among these names.
+fn has_builtin(needed: &HashSet<&str>, builtin: Builtin) -> bool
+    ensures { (f : Text → Bool) → HasNames f needed.now → result ≡ f (name_of builtin) }
 {
-    needed.contains(&literal)
+    needed.contains(&builtin.name())
 }
 
 /// The index after the first rule that is no `WHITESPACE` or `COMMENT`, or the length where that one is
@@ -219,22 +225,50 @@ fn is_end(node: &ParserNode<'_>) -> bool
     ensures { result ≡ spec.names_end (spec.name_called (view node.now)) }
 {
     match &node.expr {
-        ParserExpr::Ident(name) => is_literal(name, "SOI") || is_literal(name, "EOI"),
+        ParserExpr::Ident(name) => is_named(name, Builtin::Soi) || is_named(name, Builtin::Eoi),
         _ => false,
     }
+}
+
+/// Whether a name is a builtin's.
+pub(crate) fn is_named(name: &String, builtin: Builtin) -> bool
+    ensures { result ≡ bytes_eq (text_of name.now) (name_of builtin) }
+{
+    name.as_str() == builtin.name()
 }
 
 /// Whether a name is that of a rule which is skipped between others, without a call.
 pub(crate) fn needs_no_call(name: &String) -> bool
     ensures { result ≡ spec.needs_no_call (text_of name.now) }
 {
-    is_literal(name, "WHITESPACE") || is_literal(name, "COMMENT")
+    is_blank_name(name.as_str())
+}
+
+/// Whether a name is `WHITESPACE` or `COMMENT`, whose rules are skipped between others without a call.
+pub fn is_blank_name(name: &str) -> bool
+    ensures { result ≡ spec.needs_no_call (chars name.now) }
+{
+    is_literal(name, WHITESPACE) || is_literal(name, COMMENT)
+}
+
+/// Whether a name is one of these two but for the case of its letters.
+pub fn is_blank_name_in_any_case(name: &str) -> bool
+    ensures { result ≡ spec.is_blank_name_in_any_case name.now }
+{
+    is_literal_in_any_case(name, WHITESPACE) || is_literal_in_any_case(name, COMMENT)
 }
 
 /// Whether a name is a literal's text.
-pub(crate) fn is_literal(name: &String, literal: &str) -> bool
+fn is_literal(name: &str, literal: &str) -> bool
     requires { IsAscii literal.now }
-    ensures { result ≡ bytes_eq (text_of name.now) literal.now }
+    ensures { result ≡ bytes_eq (chars name.now) literal.now }
 {
-    name.as_str() == literal
+    name == literal
+}
+
+/// Whether a name is a literal's text but for the case of its letters.
+fn is_literal_in_any_case(name: &str, literal: &str) -> bool
+    ensures { result ≡ str_eq_ignore_ascii_case name.now literal.now }
+{
+    name.eq_ignore_ascii_case(literal)
 }

@@ -4,8 +4,9 @@ ghost use Rattle.std.specs.Str.{chars};
 ghost use Rattle.meta_spanned.specs.Nodes.{piece_of, rule_views, view};
 ghost use Rattle.meta_warnings.specs.Suspects as spec;
 
-use crate::rules::is_literal;
+use crate::rules::is_named;
 use meta_base::runtime::Span;
+use meta_builtins::{Builtin, CharSet};
 use meta_spanned::{ParserExpr, ParserNode, ParserRule, push_operands};
 use std::alloc::{AllocError, Global};
 
@@ -185,7 +186,7 @@ fn is_any(node: &ParserNode<'_>) -> bool
     ensures { result ≡ spec.is_any (view node.now) }
 {
     match &node.expr {
-        ParserExpr::Ident(name) => is_literal(name, "ANY"),
+        ParserExpr::Ident(name) => is_named(name, Builtin::Set(CharSet::Any)),
         _ => false,
     }
 }

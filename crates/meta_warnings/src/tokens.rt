@@ -9,10 +9,10 @@ ghost use Rattle.meta_spanned.specs.Nodes.{piece_of, rule_view, rule_views, view
 ghost use Rattle.meta_warnings.specs.Lists.{HasNames, texts_of};
 ghost use Rattle.meta_warnings.specs.Tokens as spec;
 
-use crate::rules::{is_literal, names_of, needs_no_call};
+use crate::rules::{is_named, names_of, needs_no_call};
 use crate::skipping::{is_among, reached_names, roots_of, skips};
 use meta_base::runtime::Span;
-use meta_builtins::Builtin;
+use meta_builtins::{Builtin, CharSet};
 use meta_names::is_builtin;
 use meta_spanned::{ParserExpr, ParserNode, ParserRule, push_operands};
 use std::alloc::{AllocError, Global};
@@ -230,7 +230,9 @@ fn is_class_node(node: &ParserNode<'_>, classes: &HashSet<&str>) -> bool
 fn is_class_name(name: &String) -> bool
     ensures { result ≡ spec.is_class_name (text_of name.now) }
 {
-    !is_literal(name, "ANY") && !is_literal(name, "ASCII") && is_set_name(name)
+    !is_named(name, Builtin::Set(CharSet::Any))
+        && !is_named(name, Builtin::Set(CharSet::Ascii))
+        && is_set_name(name)
 }
 
 /// Whether a name is a builtin's that is a set of characters.
@@ -250,7 +252,14 @@ fn is_set(builtin: Builtin) -> bool
 {
     match builtin {
         Builtin::Set(_) => true,
-        _ => false,
+        Builtin::Soi
+        | Builtin::Eoi
+        | Builtin::Newline
+        | Builtin::Peek
+        | Builtin::Pop
+        | Builtin::Drop
+        | Builtin::PeekAll
+        | Builtin::PopAll => false,
     }
 }
 

@@ -1,6 +1,4 @@
-use Rattle.std.proofs.Common.{ap, ◌∙◌}
-use Rattle.meta_requests.specs.BuiltinDocs.{doc_among}
 use Rattle.meta_requests.proofs.builtins.builtin_doc.Goals as goal
 
-pub returns : goal.returns
-returns c = c.doc_among.ensures ∙ ap (λ docs. doc_among docs c.args.name.now) c.builtin_docs.ensures.docs
+pub returns-in-Some-clause-told : goal.returns-in-Some-clause-told
+returns-in-Some-clause-told c = (c.in-Some.builtin, c.in-Some.ensures.written, c.describe.ensures)

@@ -1,7 +1,10 @@
-use Rattle.std.proofs.Common.{◌∙◌, ap, nat_eq}
-use Rattle.meta_ast.proofs.Characters.{literal_eq}
-use lib.Pointwise.{pointwise}
+use Rattle.std.proofs.Common.{◌∙◌, ap, bytes_eq, chars}
+use Rattle.std.proofs.lemmas.Str.{chars-IsAscii}
+use Rattle.meta_ast.proofs.Characters.{bytes_text_eq}
 use Rattle.meta_warnings.proofs.rules.is_literal.Goals as goal
 
 pub returns : goal.returns
-returns c = c.eq.ensures ∙ ap (λ t. pointwise nat_eq t c.args.literal.now) c.as_str.ensures.value ∙ literal_eq c.args.name.now c.args.literal.now c.requires
+returns c =
+    c.eq.ensures
+    ∙ (bytes_text_eq c.args.name.now c.args.literal.now c.utf8.name c.utf8.literal
+    ∙ ap (bytes_eq (chars c.args.name.now)) (chars-IsAscii c.args.literal.now c.requires))
