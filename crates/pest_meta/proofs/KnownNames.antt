@@ -2,29 +2,23 @@
 use Prim.Native.Nat.{zero}
 use Rattle.std.proofs.Common.{◌≡◌, ℕ, suc, ◌<◌, List, [], ◌∷◌, Option, Some, None, Bool, true, false, if◌then◌else◌, ◌||◌, map, refl, sym, subst, ap, ◌∙◌, bytes_eq, chars, arith}
 use Rattle.std.proofs.lemmas.Bool.{ltb-true}
-use Rattle.std.proofs.lemmas.List.Elements.{All-nil, All-cons, All-head, All-tail, All-contains}
+use Rattle.std.proofs.lemmas.List.Elements.{All-head, All-tail}
 use Rattle.std.proofs.lemmas.Slice.Eq.{bytes_eq-Decides}
 use Rattle.std.proofs.lemmas.Str.{chars-IsAscii}
 use Rattle.std.specs.Borrow.{Bor}
 use Rattle.std.specs.List.{All}
 use Rattle.std.specs.Prelude.{◌&&◌, is_some, nat_lt, slice_index}
 use Rattle.meta_base.proofs.Basics.{first_of_both, second_of_both}
-use Rattle.meta_base.proofs.SomeRule.{each_rule}
-use Rattle.meta_base.proofs.StepsKeepOutcomes.{Matched, each_body, each_pair, neither, two}
-use Rattle.meta_base.proofs.ListingKeepsGrammars.{Finished, Finishes}
+use Rattle.meta_base.proofs.StepsKeepOutcomes.{Matched, each_pair, neither, two}
+use Rattle.meta_base.proofs.ListingKeepsGrammars.{Finished}
 use Rattle.meta_base.specs.Language.Builtins.{Named, Property, builtins, builtin_of, is_one_of, looked_up, property_names, general_categories, binary_properties, scripts}
-use Rattle.meta_base.specs.Language.Expression.{Grammar, Ident, Part, Rule, rule_of}
+use Rattle.meta_base.specs.Language.Expression.{Grammar, Ident, Rule, rule_of}
 use Rattle.meta_base.specs.Language.KnownNames.{HasKnownNames}
 use Rattle.meta_base.specs.Language.Text.{Text}
-use Rattle.meta_base.specs.Language.WellFormed.{InSomeRule}
-use Rattle.meta_base.specs.Rewritings.Rewriting.{Chain, Changed, EachBody, Many, Rewrites, also_rule, done, later, no_rules, no_step, one_step, step, this}
+use Rattle.meta_base.specs.Rewritings.Rewriting.{Chain, EachBody}
 use Rattle.meta_names.specs.Names.{is_builtin}
-use Rattle.pest_meta.proofs.NothingNew.{NamesNothingNew, finish_here, names_along, step_here}
+use Rattle.pest_meta.proofs.NothingNew.{HasNothingNew, kept_by_all, stands_in}
 use Rattle.pest_meta.specs.Promises.{AreBuiltinsOf}
-
--- each name in a body stands in some rule of g
-abbrev NamesWithin : Grammar → Rule → Type 0
-NamesWithin g r = (n : Text) → Part r.body (Ident n) → InSomeRule g (Ident n)
 
 -- 1. the names of builtins are written in ASCII, so their characters are their bytes
 abbrev is_plain : List ℕ → Bool
@@ -105,37 +99,13 @@ named_builtin g (name ∷ names) n a h e =
 pub spelled_known : (g : Grammar) (names : List (Bor (List ℕ))) → AreBuiltinsOf g names → HasKnownNames g
 spelled_known g names a n i none e = named_builtin g names n a.outside (a.complete n i none) e
 
--- 3. bodies that name nothing new keep it so
-named_before : (g : Grammar) {rs qs : Grammar} → EachBody NamesNothingNew rs qs → All (NamesWithin g) rs → All (NamesWithin g) qs
-named_before g no_rules a = All-nil (NamesWithin g)
-named_before g (also_rule {r = r} {rs = rs} x e) a =
-    All-cons (NamesWithin g) _ _ (λ n i. All-head (NamesWithin g) r rs a n (x n i)) (named_before g e (All-tail (NamesWithin g) r rs a))
-
-none_before : {p q : Option Rule} → Matched NamesNothingNew p q → q ≡ None → p ≡ None
+-- 3. changes that bring in no name keep it so
+none_before : {p q : Option Rule} → Matched HasNothingNew p q → q ≡ None → p ≡ None
 none_before neither e = refl
 none_before (two x) e = cc
 
-known_on : (g h : Grammar) → EachBody NamesNothingNew g h → HasKnownNames g → HasKnownNames h
-known_on g h e k n i none b =
-    let within = named_before g e (each_rule (NamesWithin g) g (λ r c m j. (r, c, j))) in
-    k n (All-contains (NamesWithin g) h i.0 within i.1 n i.2) (none_before (each_pair NamesNothingNew e n) none) b
-
--- 4. along steps, and behind the listing and the wrappers
-same_names : (rs : Grammar) → EachBody NamesNothingNew rs rs
-same_names [] = no_rules
-same_names (r ∷ rs) = also_rule {b = r.body} (λ n i. i) (same_names rs)
-
-step_names : {g rs qs : Grammar} → Changed g rs qs → EachBody NamesNothingNew rs qs
-step_names {g} (this {r = r} {rs = rs} w) =
-    also_rule (names_along (Rewrites g r.type_of) (λ N c d x. step_here N x) r.type_of _ _ (one_step w no_step)) (same_names rs)
-step_names (later {r = r} c) = also_rule {b = r.body} (λ n i. i) (step_names c)
-
-steps_known : (g h : Grammar) → Chain g h → HasKnownNames g → HasKnownNames h
-steps_known g h done k = k
-steps_known g h (step {h = i} s d) k = steps_known i h d (known_on g i (step_names s) k)
-
-finished_known : (g h : Grammar) → Finished g h → HasKnownNames g → HasKnownNames h
-finished_known g h e = known_on g h (each_body (λ y. Many Finishes) NamesNothingNew (λ y a b m. names_along Finishes (λ N c d x. finish_here N x) y a b m) e)
+pub known_on : (g h : Grammar) → EachBody HasNothingNew g h → HasKnownNames g → HasKnownNames h
+known_on g h e k n i none b = k n (stands_in g h e (Ident n) tt i) (none_before (each_pair HasNothingNew e n) none) b
 
 pub answer_known : (g reached answer : Grammar) → Chain g reached → Finished reached answer → HasKnownNames g → HasKnownNames answer
-answer_known g reached answer c f k = finished_known reached answer f (steps_known g reached c k)
+answer_known g reached answer c f k = kept_by_all HasKnownNames known_on g reached answer c f k

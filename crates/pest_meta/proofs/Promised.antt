@@ -14,7 +14,7 @@ use Rattle.meta_base.proofs.Termination.{ends}
 use Rattle.meta_base.proofs.ListingKeepsGrammars.{Finished, finished_grammar, finished_plain, finished_well_formed, wrapped_listing_finishes}
 use Rattle.meta_base.proofs.SomeRule.{names_readable}
 use Rattle.meta_base.proofs.StepsKeepGrammars.{grammar_along, plain_along, well_formed_along}
-use Rattle.meta_names.specs.GrammarNames.{calls}
+use Rattle.meta_names.specs.GrammarNames.{AreWrittenAt, calls, definitions, first_calls}
 use Rattle.meta_spanned.specs.Erasure.{rules_without_spans}
 use Rattle.meta_spanned.specs.Spanned.{SpannedRule}
 use Rattle.meta_reader.proofs.ReadableCounts.{counts_readable}
@@ -23,14 +23,15 @@ use Rattle.meta_reader.specs.Reading.{ReadsRules}
 use Rattle.meta_restorer.specs.Agreeing.{WrappersSuffice}
 use Rattle.pest_meta.proofs.Builtins.{builtins_outside}
 use Rattle.pest_meta.proofs.Called.{each_is_called}
+use Rattle.pest_meta.proofs.CharacterBounds.{answer_bounds, read_bounds}
 use Rattle.pest_meta.proofs.Fitting.{AreSound, fits_given, handed_down}
 use Rattle.pest_meta.proofs.KnownNames.{answer_known, spelled_known}
 use Rattle.pest_meta.proofs.NothingNew.{finished_suffice, steps_suffice}
 use Rattle.pest_meta.proofs.Spelled.{spells_once}
 use Rattle.pest_meta.proofs.WellNamed.{defined_texts, distinct_read, keeps_any, names_are_texts, no_keyword_read}
 use Rattle.pest_meta.proofs.WholeCharacters.{trees_on_characters}
-use Rattle.pest_meta.specs.Promises.{AreBuiltinsOf, EndsFromEverywhere, HasOutcomesOf, IsWellFormedGrammar, OfSpelled}
-use Rattle.pest_meta.specs.Spelling.{IsAnswer, SpellsGrammar, complaints_in}
+use Rattle.pest_meta.specs.Promises.{AreBuiltinsOf, EndsFromEverywhere, HasCharacterBounds, HasOutcomesOf, IsWellFormedGrammar, OfSpelled}
+use Rattle.pest_meta.specs.Spelling.{AreReadAsRules, HasTrees, IsAnswer, SpellsGrammar, complaints_in}
 
 module _ (text : List ℕ) (utf8 : IsUtf8 text) (us : Trees) (sound : AreSound text us) (h : complaints_in text us ≡ []) (rs : List SpannedRule) (d : ReadsRules text us rs) where
   fits : (p : Expression) → InSomeRule (rules_without_spans rs) p → FitsItsTypes p
@@ -46,6 +47,17 @@ module _ (text : List ℕ) (utf8 : IsUtf8 text) (us : Trees) (sound : AreSound t
     fits = fits;
   }
 
+-- the names that trees call and do not define are the builtins of the rules
+pub read_builtins : (text : List ℕ) (utf8 : IsUtf8 text) (trees : Trees) (rules : Grammar) (builtins : List (Bor (List ℕ)))
+    → HasTrees text trees → complaints_in text trees ≡ [] → AreWrittenAt (first_calls (definitions text trees) (calls text trees)) builtins
+    → AreReadAsRules text trees rules → AreBuiltinsOf rules builtins
+read_builtins text utf8 trees rules builtins h none uses give =
+    let on = trees_on_characters text utf8 trees h in
+    subst (λ g. AreBuiltinsOf g builtins) (sym give.same) (record {
+      outside = builtins_outside give.reads on none builtins uses;
+      complete = each_is_called give.reads builtins uses;
+    })
+
 module _ (text : List ℕ) (utf8 : IsUtf8 text) (builtins : List (Bor (List ℕ))) (answer : List OptimizedRule) (a : IsAnswer text builtins answer) where
   -- a grammar that the text spells is the one that was accepted
   the_same : (g : Grammar) → SpellsGrammar text g → a.spelled ≡ g
@@ -59,13 +71,7 @@ module _ (text : List ℕ) (utf8 : IsUtf8 text) (builtins : List (Bor (List ℕ)
 
   -- the names that are answered are its builtins
   accepted_builtins : AreBuiltinsOf a.spelled builtins
-  accepted_builtins =
-      let give = a.accepted.give in
-      let on = trees_on_characters text utf8 a.trees a.of_text in
-      subst (λ g. AreBuiltinsOf g builtins) (sym give.same) (record {
-        outside = builtins_outside give.reads on a.well_named builtins a.uses;
-        complete = each_is_called give.reads builtins a.uses;
-      })
+  accepted_builtins = read_builtins text utf8 a.trees a.spelled builtins a.of_text a.well_named a.uses a.accepted.give
 
   pub answers_builtins : OfSpelled text (λ g. AreBuiltinsOf g builtins)
   answers_builtins g s = subst (λ h. AreBuiltinsOf h builtins) (the_same g s) accepted_builtins
@@ -79,6 +85,14 @@ module _ (text : List ℕ) (utf8 : IsUtf8 text) (builtins : List (Bor (List ℕ)
       let o = a.optimized in
       answer_known a.spelled o.reached (optimized_rules_of answer) o.chain
       (wrapped_listing_finishes o.reached (optimized_rules_of answer) o.lists) (spelled_known a.spelled builtins accepted_builtins)
+
+  -- the bounds of their ranges are characters
+  pub answers_bounds : HasCharacterBounds (optimized_rules_of answer)
+  answers_bounds =
+      let o = a.optimized in
+      answer_bounds a.spelled o.reached (optimized_rules_of answer) o.chain
+      (wrapped_listing_finishes o.reached (optimized_rules_of answer) o.lists)
+      (read_bounds text utf8 a.trees a.spelled a.of_text a.accepted.give)
 
   optimized_outcomes : HasOutcomesOf a.spelled (optimized_rules_of answer)
   optimized_outcomes =

@@ -1,6 +1,7 @@
 -- Laws of what a text spells.
 use Rattle.std.specs.Prelude.{◌≡◌, ℕ, List, map}
 use Rattle.std.specs.Borrow.{Bor}
+use Rattle.std.specs.Str.{IsUtf8}
 use Rattle.meta_ast.specs.Optimized.{optimized_rules_of}
 use Rattle.meta_ast.specs.declared.optimized.OptimizedRule.{OptimizedRule}
 use Rattle.meta_base.specs.Language.Expression.{Expression, Grammar, RuleType}
@@ -65,3 +66,8 @@ abbrev pub HasOneListOfRules : Type 0
 HasOneListOfRules = (text : List ℕ) (builtins others : List (Bor (List ℕ)))
     (answer rules : List OptimizedRule) → IsAnswer text builtins answer → IsAnswer text others rules
     → optimized_rules_of answer ≡ optimized_rules_of rules
+
+-- this holds of the rules of each answer
+abbrev pub OfAnswers : (Grammar → Type 0) → Type 0
+OfAnswers P = (text : List ℕ) (builtins : List (Bor (List ℕ))) (answer : List OptimizedRule) → IsUtf8 text
+    → IsAnswer text builtins answer → P (optimized_rules_of answer)

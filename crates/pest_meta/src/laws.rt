@@ -1,5 +1,6 @@
 //! Laws over the definitions alone.
 ghost use Rattle.meta_base.specs.Language.Expression.{Grammar};
+ghost use Rattle.meta_base.specs.Language.KnownNames.{HasKnownNames};
 ghost use Rattle.meta_base.specs.Rewritings.Listing.{EachListed};
 ghost use Rattle.meta_base.specs.Rewritings.Rewriting.{Chain, IsDone, Joins, Rotates, SkipsUntil};
 ghost use Rattle.meta_base.specs.Rewritings.Wrapping.{EachRestored, RestoresTo};
@@ -7,7 +8,8 @@ ghost use Rattle.meta_optimizer.specs.Passes.{IsFactoring, IsUnrolling};
 ghost use Rattle.meta_restorer.specs.Agreeing.{WrappersSuffice};
 ghost use Rattle.pest_meta.specs.Laws.{FlawedGiveNothing, HasOneListOfBuiltins, HasOneListOfRules, HasOneListOfTrees};
 ghost use Rattle.pest_meta.specs.Laws.{HasOneOptimization, HasOneRefusal, HasOneResult, HasTreesOrFails, IsNotBoth};
-ghost use Rattle.pest_meta.specs.Laws.{NamesComeFirst, SpellsOneGrammar};
+ghost use Rattle.pest_meta.specs.Laws.{NamesComeFirst, OfAnswers, SpellsOneGrammar};
+ghost use Rattle.pest_meta.specs.Promises.{HasCharacterBounds};
 
 /// Proves that a text spells one list of rules at most.
 pub fn spells_one_grammar()
@@ -56,4 +58,11 @@ pub fn wrappers_still_suffice()
     ensures steps { (g h : Grammar) → Chain g h → WrappersSuffice g → WrappersSuffice h }
     ensures listing { (g h : Grammar) → EachListed g h → WrappersSuffice g → WrappersSuffice h }
     ensures wrappers { (g h : Grammar) → EachRestored g h → WrappersSuffice g → WrappersSuffice h }
+{}
+
+/// Proves that the rules of an answer call nothing but rules and builtins, and that both bounds of each
+/// range in them are one character. So it is with those of `optimize_with_spans`.
+pub fn answers_can_be_run()
+    ensures known_names { OfAnswers HasKnownNames }
+    ensures character_bounds { OfAnswers HasCharacterBounds }
 {}

@@ -14,8 +14,8 @@ ghost use Rattle.meta_ast.specs.Optimized.{optimized_rules_of};
 ghost use Rattle.meta_base.specs.Language.KnownNames.{HasKnownNames};
 ghost use Rattle.meta_base.specs.Language.WellFormed.{IsPlain};
 ghost use Rattle.meta_stack_loops.specs.Certain.{AreReports};
-ghost use Rattle.pest_meta.specs.Promises.{AreBuiltinsOf, EndsFromEverywhere, HasOutcomesOf, IsWellFormedGrammar};
-ghost use Rattle.pest_meta.specs.Promises.{OfRead, OfSpelled};
+ghost use Rattle.pest_meta.specs.Promises.{AreBuiltinsOf, EndsFromEverywhere, HasCharacterBounds, HasOutcomesOf};
+ghost use Rattle.pest_meta.specs.Promises.{IsWellFormedGrammar, OfRead, OfSpelled};
 ghost use Rattle.meta_restorer.specs.Agreeing.{AgreesLoosely, WrappersSuffice};
 ghost use Rattle.pest_meta.specs.Spelling.{HasRefusal, IsAnswer, IsRefusal};
 
@@ -38,10 +38,11 @@ pub use written::parse_as_written;
 /// of their first calls, as they are written there; all are pest's own, or names of Unicode properties. The
 /// rules are those that the text spells, in order, with their names and types. Their bodies are rewritten,
 /// by steps that keep what they do from every start, then listed, which may change what some of them match,
-/// and then given wrappers. They call nothing but rules and builtins. If the text's grammar is plain, every
-/// rule has exactly one outcome from every start. If the text's `WHITESPACE` and `COMMENT` reach no `POP`
-/// and no `POP_ALL`, it does not matter for the answered rules what a failed `POP` or `POP_ALL` leaves of
-/// the stack. The stack pass reports nothing for an accepted text.
+/// and then given wrappers. They call nothing but rules and builtins, and both bounds of each range are one
+/// character. If the text's grammar is plain, every rule has exactly one outcome from every start. If the
+/// text's `WHITESPACE` and `COMMENT` reach no `POP` and no `POP_ALL`, it does not matter for the answered
+/// rules what a failed `POP` or `POP_ALL` leaves of the stack. The stack pass reports nothing for an
+/// accepted text.
 ///
 /// Errors: an allocation failure; one syntax error if the text is no grammar; the errors of
 /// `validator::validate_pairs` if its names are not in order; and the errors of `parser::consume_rules`, with
@@ -58,6 +59,8 @@ pub fn parse_and_optimize<'i>(
     ensures outcomes { IfOk result (λ answer. OfSpelled grammar.entry.now
         (λ rules. HasOutcomesOf rules (optimized_rules_of answer.1.items))) }
     ensures known_names { IfOk result (λ answer. HasKnownNames (optimized_rules_of answer.1.items)) }
+    ensures character_bounds { IfOk result
+        (λ answer. HasCharacterBounds (optimized_rules_of answer.1.items)) }
     ensures ends { IfOk result (λ answer. OfSpelled grammar.entry.now
         (λ rules. IsPlain rules → EndsFromEverywhere rules)) }
     ensures answer_ends { IfOk result (λ answer. OfSpelled grammar.entry.now

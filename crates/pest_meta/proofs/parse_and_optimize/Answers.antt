@@ -1,7 +1,7 @@
 use Rattle.std.proofs.lemmas.Result.{err_from_is_err_and}
 use Rattle.meta_ast.specs.Ast.{rules_of}
 use Rattle.pest_meta.proofs.Spelled.{answered, answered_without_reports, misnamed, no_grammar, not_both, rejected}
-use Rattle.pest_meta.proofs.Promised.{answer_ends, answer_suffices, answers_builtins, answers_known, answers_outcomes, spelled_ends, spells_grammar}
+use Rattle.pest_meta.proofs.Promised.{answer_ends, answer_suffices, answers_bounds, answers_builtins, answers_known, answers_outcomes, spelled_ends, spells_grammar}
 use Rattle.pest_meta.proofs.parse_and_optimize.Goals as goal
 
 pub returns-in_err-pairs-clause-refused : goal.returns-in_err-pairs-clause-refused
@@ -41,6 +41,9 @@ returns-clause-outcomes c = answers_outcomes c.args.grammar.now c.utf8.grammar _
 
 pub returns-clause-known_names : goal.returns-clause-known_names
 returns-clause-known_names c = answers_known c.args.grammar.now c.utf8.grammar _ _ (returns-clause-answer c)
+
+pub returns-clause-character_bounds : goal.returns-clause-character_bounds
+returns-clause-character_bounds c = answers_bounds c.args.grammar.now c.utf8.grammar _ _ (returns-clause-answer c)
 
 pub returns-clause-ends : goal.returns-clause-ends
 returns-clause-ends c = λ g s. spelled_ends g (spells_grammar c.args.grammar.now c.utf8.grammar _ _ (returns-clause-answer c) g s)
