@@ -15,8 +15,9 @@ use Rattle.matcher_program.specs.declared.form.Program.{Program}
 use Rattle.matcher_program.specs.declared.form.Row.{Row}
 use Rattle.matcher_program.specs.Programs.{IsRuleOf, name_at, names_of, rule_of_row}
 use Rattle.matcher_compiler.specs.Names.{HasOwnNames, number_in, or_end}
-use Rattle.matcher_sets.specs.Forms.{IsBoundIn, grammar_in, said}
-use Rattle.matcher_compiler.specs.Plans.{IsSoundProgram, body_in, no_rule}
+use Rattle.matcher_sets.specs.Forms.{IsSoundProgram, grammar_in, said}
+use Rattle.matcher_sets.proofs.Rules.{in_mode, made, named, same}
+use Rattle.matcher_compiler.specs.Plans.{body_in, no_rule}
 
 no_place : (g : Grammar) (n : Text) → rule_of g n ≡ None → last_place g n ≡ None
 no_place [] n h = refl
@@ -42,39 +43,18 @@ end_number p k h e =
     ∙ ap (λ o. or_end o true (length (grammar_in p))) (sym (no_place (grammar_in p) (codes "EOI") h)))
 
 module _ (p : Program) (rule : ℕ) (row : Row) (within : rule < length p.rows.items) (is : row ≡ get_or p.rows.items rule row) where
-  abbrev pub made : Rule
-  made = rule_of_row (names_of p.rows.items) row
-
-  pub same : get_or (grammar_in p) rule no_rule ≡ made
-  same = get_or-map (rule_of_row (names_of p.rows.items)) p.rows.items rule row no_rule within ∙ ap (rule_of_row (names_of p.rows.items)) (sym is)
-
-  pub named : name_at (names_of p.rows.items) rule ≡ text_of row.name
-  named = get_or-map (λ r. text_of r.name) p.rows.items rule row [] within ∙ ap (λ r. text_of r.name) (sym is)
-
   pub body_said : body_in p rule ≡ said p row.body
-  body_said = ap (λ r. r.body) same
+  body_said = ap (λ r. r.body) (same p rule row within is no_rule)
 
-  pub row_bound : IsSoundProgram p → IsBoundIn p row.body
-  row_bound sound = subst (λ r. IsBoundIn p r.body) (sym is) ((sound.rows rule row within).bound)
-
-  pub number_is : HasOwnNames p → number_in (grammar_in p) made.name ≡ rule
+  pub number_is : HasOwnNames p → number_in (grammar_in p) (made p rule row within is).name ≡ rule
   number_is own =
-      ap (λ n. number_in (grammar_in p) n) (sym named)
+      ap (λ n. number_in (grammar_in p) n) (sym (named p rule row within is))
       ∙ ap (λ o. or_end o (is_eoi (name_at (names_of p.rows.items) rule)) (length (grammar_in p))) (own rule within)
-
-  pub meant_is : IsRuleOf (grammar_in p) (name_at (names_of p.rows.items) rule) rule
-      → rule_of (grammar_in p) (name_at (names_of p.rows.items) rule) ≡ Some made
-  meant_is meant = meant.meant no_rule ∙ ap Some same
-
-  pub in_mode : IsSoundProgram p → (m inner : Mode) → inner ≡ mode_in (rule_type_of row.kind) row.blank m → inner ≡ body_mode made m
-  in_mode sound m inner e =
-      let b : row.blank ≡ (bytes_eq (text_of row.name) whitespace || bytes_eq (text_of row.name) comment) =
-      subst (λ r. r.blank ≡ (bytes_eq (text_of r.name) whitespace || bytes_eq (text_of r.name) comment)) (sym is) ((sound.rows rule row within).blank) in
-      e ∙ ap (λ x. mode_in (rule_type_of row.kind) x m) b
 
   pub body_point : IsSoundProgram p → (laid : List lay.Point) (m inner : Mode) (first last : ℕ)
       → inner ≡ mode_in (rule_type_of row.kind) row.blank m → IsPoint laid (Run inner (body_in p rule)) first last 0
-      → IsPoint laid (Run (body_mode made m) made.body) first last 0
+      → IsPoint laid (Run (body_mode (made p rule row within is) m) (made p rule row within is).body) first last 0
   body_point sound laid m inner first last e x =
-      subst (λ k. IsPoint laid (Run k made.body) first last 0) (in_mode sound m inner e)
+      let r = made p rule row within is in
+      subst (λ k. IsPoint laid (Run k r.body) first last 0) (in_mode p rule row within is sound m inner e)
       (subst (λ b. IsPoint laid (Run inner b) first last 0) body_said x)

@@ -23,9 +23,9 @@ use Rattle.matcher_compiler.specs.declared.plan.Skips.TheVariants as skips
 use Rattle.matcher_sets.specs.declared.modes.Atomicity.TheVariants as mode
 use Rattle.matcher_sets.specs.Modes.{mode_of}
 use Rattle.matcher_sets.specs.Differences.{MatchesOne}
-use Rattle.matcher_sets.specs.Forms.{grammar_in, said}
-use Rattle.matcher_compiler.specs.Plans.{IsBlankSet, IsSoundProgram, SkipsAs, blanks, no_rule}
-use Rattle.matcher_compiler.proofs.Calling.{made, same}
+use Rattle.matcher_sets.specs.Forms.{IsSoundProgram, grammar_in, said}
+use Rattle.matcher_compiler.specs.Plans.{IsBlankSet, SkipsAs, blanks, no_rule}
+use Rattle.matcher_sets.proofs.Rules.{made, same}
 
 white_is_no_end : is_eoi whitespace ≡ false
 unfolding whitespace
@@ -83,7 +83,7 @@ pub blanks_any : (p : Program) (i : ℕ) (row : Row) (classes : Classes) (set : 
 blanks_any p i row classes set sound white within is silent matches =
     let r = made p i row within is in
     let w = subst (IsSkippedRule (grammar_in p) whitespace) white sound.whitespace_is in
-    let meant : rule_of (grammar_in p) whitespace ≡ Some r = w.meant no_rule ∙ ap Some (same p i row within is) in
+    let meant : rule_of (grammar_in p) whitespace ≡ Some r = w.meant no_rule ∙ ap Some (same p i row within is no_rule) in
     let k = blank_mode (bytes_eq r.name whitespace || bytes_eq r.name comment) in
     let m : mode_of k.0 ≡ body_mode r Between = k.1 ∙ ap (λ y. mode_in y (bytes_eq r.name whitespace || bytes_eq r.name comment) Between) (sym silent) in
     let z = subst (λ z. HasOutcome (grammar_in p) classes (Run z (said p row.body)) (character_outcome set) (λ s. 0)) m (matches k.0) in

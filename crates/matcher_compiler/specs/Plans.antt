@@ -1,6 +1,6 @@
 -- Plans of programs: points and demands, and what a program does that meets them.
 use Rattle.std.specs.Prelude.{◌≡◌, ◌<◌, ℕ, Bool, List, [], ◌∷◌, None, get_or, length, map, All, IsUtf8, chars, ⊤}
-use Rattle.meta_base.specs.Language.Expression.{Expression, Ident, Normal, Rep, Rule, Seq, Str, comment, rule_of, whitespace}
+use Rattle.meta_base.specs.Language.Expression.{Expression, Grammar, Ident, Normal, Rep, Rule, Seq, Str, comment, rule_of, whitespace}
 use Rattle.meta_base.specs.Language.Meaning.{Run, Skipping, Task, once_or_more, skipped}
 use Rattle.meta_base.specs.Language.State as language
 use Rattle.meta_base.specs.Language.Text.{Text}
@@ -10,9 +10,9 @@ use Rattle.matcher_code.specs.declared.code.Op.TheVariants as op
 use Rattle.matcher_code.specs.Reading.{char_len, text_of}
 use Rattle.matcher_code.specs.Sets.{IsSetOf}
 use Rattle.matcher_program.specs.declared.form.Program.{Program}
-use Rattle.matcher_program.specs.Programs.{Fits, IsSound, name_at, names_of}
+use Rattle.matcher_program.specs.Programs.{Fits, name_at, names_of}
 use Rattle.matcher_layout.specs.Laid as lay
-use Rattle.matcher_layout.specs.Laid.{HasOutcome, IsEnd, IsPoint, IsTight, Lays, at_label, skip_set}
+use Rattle.matcher_layout.specs.Laid.{Enters, HasOutcome, IsEnd, IsPoint, IsTight, Lays, at_label, skip_set}
 use Rattle.matcher_compiler.specs.declared.plan.Plan.{Plan}
 use Rattle.matcher_compiler.specs.declared.plan.Skips.{Skips}
 use Rattle.matcher_compiler.specs.declared.plan.Skips.TheVariants as skips
@@ -31,10 +31,6 @@ use Rattle.matcher_sets.specs.Ranges.{Covers}
 -- a stand-in for a rule that a grammar does not have
 abbrev pub no_rule : Rule
 no_rule = record { name = []; type_of = Normal; body = Str [] }
-
--- the names of the rules mean what they are resolved to
-abbrev pub IsSoundProgram : Program → Type 0
-IsSoundProgram p = IsSound p.rows.items p.properties.items p.whitespace p.comment
 
 -- the body of the rule of a number
 abbrev pub body_in : Program → ℕ → Expression
@@ -158,7 +154,25 @@ LaysAt p plan k at = (classes : Classes) → Fits p.properties.items classes
     → (code : Code) (laid : List lay.Point) → Meets p plan code laid
     → Lays (grammar_in p) classes code (number_in (grammar_in p)) laid k at.label at.next at.way
 
--- so it has for the task of a point
+-- so it goes on from the place to the task at a label
+abbrev pub EntersAt : Program → Plan → Task → Place → ℕ → Type 0
+EntersAt p plan k at first = (classes : Classes) → Fits p.properties.items classes
+    → (code : Code) (laid : List lay.Point) → Meets p plan code laid
+    → Enters (grammar_in p) classes code k at.label first at.way
+
+-- so it goes on from the place to a point that does the task
+pub record IsEntered (g : Grammar) (classes : Classes) (code : Code) (laid : List lay.Point) (k : Task)
+    (at : Place) : Type 0 where
+  pub first : ℕ
+  pub entered : Enters g classes code k at.label first at.way
+  pub point : IsPoint laid k first at.next at.way
+
+abbrev pub BeginsAt : Program → Plan → Task → Place → Type 0
+BeginsAt p plan k at = (classes : Classes) → Fits p.properties.items classes
+    → (code : Code) (laid : List lay.Point) → Meets p plan code laid
+    → IsEntered (grammar_in p) classes code laid k at
+
+-- so it has code for the task of a point
 abbrev pub LaysPoint : Program → Plan → Point → Type 0
 LaysPoint p plan x = LaysAt p plan (task_in p x.part (mode_of x.at.mode)) x.at
 

@@ -10,8 +10,8 @@ ghost use Rattle.matcher_program.specs.Programs.{IsRuleOf, name_at, names_of};
 ghost use Rattle.matcher_program.specs.declared.form.Program.{Program};
 ghost use Rattle.matcher_sets.specs.Modes.{mode_of};
 ghost use Rattle.matcher_compiler.specs.Names.{HasOwnNames};
-ghost use Rattle.matcher_sets.specs.Forms.{grammar_in};
-ghost use Rattle.matcher_compiler.specs.Plans.{IsLater, IsSoundProgram, LaysAt, Meets, body_in};
+ghost use Rattle.matcher_sets.specs.Forms.{IsSoundProgram, grammar_in};
+ghost use Rattle.matcher_compiler.specs.Plans.{IsLater, LaysAt, Meets, body_in};
 
 use crate::forms::FAIL;
 use crate::plan::Plan;

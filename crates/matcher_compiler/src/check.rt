@@ -101,6 +101,14 @@ fn is_same_leaf(one: Op, other: Op) -> bool
             } => set == set2 && next == next2 && fail == fail2,
             _ => false,
         },
+        Op::IsOne { set, next, fail } => match other {
+            Op::IsOne {
+                set: set2,
+                next: next2,
+                fail: fail2,
+            } => set == set2 && next == next2 && fail == fail2,
+            _ => false,
+        },
         Op::All { set, next } => match other {
             Op::All {
                 set: set2,

@@ -6,7 +6,8 @@ ghost use Rattle.matcher_code.specs.Sets.{IsAligned};
 ghost use Rattle.matcher_program.specs.declared.form.Program.{Program};
 ghost use Rattle.matcher_compiler.specs.Compiled.{AreMet, HasEnds, HasEntries, IsCodeOf, IsEmpty};
 ghost use Rattle.matcher_compiler.specs.declared.plan.Skips.TheVariants as skips;
-ghost use Rattle.matcher_compiler.specs.Plans.{AreBlanks, IsLater, IsReady, IsSoundProgram, Meets, laid_point};
+ghost use Rattle.matcher_compiler.specs.Plans.{AreBlanks, IsLater, IsReady, Meets, laid_point};
+ghost use Rattle.matcher_sets.specs.Forms.{IsSoundProgram};
 
 use crate::check::{has_ends, meets_all};
 use crate::names::has_own_names;
@@ -16,6 +17,7 @@ use matcher_code::code::{Code, Op, Ranges};
 use matcher_code::sets::add_set;
 use matcher_program::form::{Form, Program, Row};
 use matcher_sets::difference::choice_ranges;
+use matcher_sets::heads::rule_heads;
 use matcher_sets::modes::Atomicity;
 use meta_ast::ast::RuleType;
 use std::alloc::Global;
@@ -291,7 +293,8 @@ pub fn compile(alloc: Global, program: &Program) -> Result<Code, NotCompiled>
     let mut plan = first_plan(alloc, program)?;
     plan_ends(&mut plan)?;
     plan_entries(program, &mut plan)?;
-    plan.plan(alloc, program)?;
+    let heads = rule_heads(alloc, program)?;
+    plan.plan(alloc, program, &heads)?;
     let code = finish(alloc, plan)?;
     Ok(code)
 }

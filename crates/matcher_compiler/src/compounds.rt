@@ -4,14 +4,17 @@ ghost use Rattle.meta_base.specs.Language.Expression.{Choice, Expression, NegPre
 ghost use Rattle.meta_base.specs.Language.Meaning.{Run, Skipping};
 ghost use Rattle.meta_base.specs.Language.State.{NonAtomicMode};
 ghost use Rattle.matcher_sets.specs.Modes.{mode_of};
-ghost use Rattle.matcher_sets.specs.Forms.{IsBoundIn, said};
-ghost use Rattle.matcher_compiler.specs.Plans.{HasParts, IsBoundPart, IsLater, IsReady, IsTightIn, LaysAt, task_in};
+ghost use Rattle.matcher_sets.specs.Forms.{IsBoundIn, IsSoundProgram, said};
+ghost use Rattle.matcher_sets.specs.Heads.{AreHeads};
+ghost use Rattle.matcher_compiler.specs.Plans.{BeginsAt, HasParts, IsBoundPart, IsLater, IsReady, IsTightIn, LaysAt, task_in};
 
 use crate::forms::FAIL;
 use crate::plan::Plan;
 use crate::points::{Demand, NotCompiled, Part, Place};
 use matcher_code::code::Op;
 use matcher_program::form::{Form, Program};
+use matcher_sets::heads::Heads;
+use std::alloc::Global;
 
 impl<'p> Plan<'p> {
     /// Plans a lookahead: where its body matches, the run goes on at `found`, and else at `missed`.
@@ -188,15 +191,50 @@ impl<'p> Plan<'p> {
         }
     }
 
+    /// Plans an alternative, after a test of its first character if that spares something. The labels from
+    /// `own` on are free.
+    fn alternative(
+        &mut self,
+        alloc: Global,
+        program: &Program,
+        heads: &Heads,
+        form: &'p Form,
+        at: Place,
+        own: u32,
+    ) -> Result<(), NotCompiled>
+        requires sound { IsSoundProgram program.now }
+        requires heads { AreHeads program.now heads.now }
+        requires bound { IsBoundIn program.now form.now }
+        ensures later { OnOk result (IsLater program.now self.old self.new) }
+        ensures begins { OnOk result (BeginsAt program.now self.new
+            (Run (mode_of at.mode) (said program.now form.entry.now)) at) }
+    {
+        let label = self.enter(alloc, program, heads, form, at, own)?;
+        self.point(
+            Part::Form(form),
+            Place {
+                mode: at.mode,
+                label,
+                next: at.next,
+                way: at.way,
+            },
+        )?;
+        Ok(())
+    }
+
     /// Plans the alternatives of a choice.
     pub(crate) fn choice(
         &mut self,
+        alloc: Global,
         program: &Program,
+        heads: &Heads,
         left: &'p Form,
         right: &'p Form,
         at: Place,
         own: u32,
     ) -> Result<(), NotCompiled>
+        requires sound { IsSoundProgram program.now }
+        requires heads { AreHeads program.now heads.now }
         requires left_bound { IsBoundIn program.now left.now }
         requires right_bound { IsBoundIn program.now right.now }
         ensures later { OnOk result (IsLater program.now self.old self.new) }
@@ -206,34 +244,35 @@ impl<'p> Plan<'p> {
         if own == FAIL {
             return Err(NotCompiled::Unsupported);
         }
-        self.point(
-            Part::Form(left),
-            Place {
-                mode: at.mode,
-                label: at.label,
-                next: at.next,
-                way: own,
-            },
-        )?;
-        self.point(
-            Part::Form(right),
-            Place {
-                mode: at.mode,
-                label: own,
-                next: at.next,
-                way: at.way,
-            },
-        )?;
+        let first = Place {
+            mode: at.mode,
+            label: at.label,
+            next: at.next,
+            way: own,
+        };
+        let second = Place {
+            mode: at.mode,
+            label: own,
+            next: at.next,
+            way: at.way,
+        };
+        self.alternative(alloc, program, heads, left, first, own.saturating_add(1))?;
+        self.alternative(alloc, program, heads, right, second, own.saturating_add(3))?;
         Ok(())
     }
 
     /// Plans an option.
     pub(crate) fn option(
         &mut self,
+        alloc: Global,
         program: &Program,
+        heads: &Heads,
         body: &'p Form,
         at: Place,
+        own: u32,
     ) -> Result<(), NotCompiled>
+        requires sound { IsSoundProgram program.now }
+        requires heads { AreHeads program.now heads.now }
         requires bound { IsBoundIn program.now body.now }
         ensures later { OnOk result (IsLater program.now self.old self.new) }
         ensures lays { OnOk result (LaysAt program.now self.new (Run (mode_of at.mode)
@@ -242,15 +281,13 @@ impl<'p> Plan<'p> {
         if at.next == FAIL {
             return Err(NotCompiled::Unsupported);
         }
-        self.point(
-            Part::Form(body),
-            Place {
-                mode: at.mode,
-                label: at.label,
-                next: at.next,
-                way: at.next,
-            },
-        )?;
+        let tried = Place {
+            mode: at.mode,
+            label: at.label,
+            next: at.next,
+            way: at.next,
+        };
+        self.alternative(alloc, program, heads, body, tried, own)?;
         Ok(())
     }
 

@@ -5,8 +5,8 @@ ghost use Rattle.meta_base.specs.Language.Meaning.{Run, Skipping, skipped};
 ghost use Rattle.meta_base.specs.Language.State.{Between, NonAtomicMode};
 ghost use Rattle.matcher_sets.specs.Modes.{mode_of};
 ghost use Rattle.matcher_compiler.specs.Names.{HasOwnNames};
-ghost use Rattle.matcher_sets.specs.Forms.{grammar_in};
-ghost use Rattle.matcher_compiler.specs.Plans.{IsBlankSet, IsLater, IsReady, IsSoundProgram, IsTightIn, LaysAt, blanks, one_comment};
+ghost use Rattle.matcher_sets.specs.Forms.{IsSoundProgram, grammar_in};
+ghost use Rattle.matcher_compiler.specs.Plans.{IsBlankSet, IsLater, IsReady, IsTightIn, LaysAt, blanks, one_comment};
 
 use crate::forms::FAIL;
 use crate::plan::{Plan, Skips};

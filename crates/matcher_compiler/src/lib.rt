@@ -5,6 +5,7 @@ mod calls;
 mod check;
 pub mod compile;
 mod compounds;
+mod firsts;
 mod forms;
 mod gaps;
 pub mod names;

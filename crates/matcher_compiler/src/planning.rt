@@ -5,21 +5,23 @@ ghost use Rattle.meta_base.specs.Language.Meaning.{Run, once_or_more};
 ghost use Rattle.matcher_program.specs.declared.form.Form.TheVariants as form;
 ghost use Rattle.matcher_sets.specs.Modes.{mode_of};
 ghost use Rattle.matcher_compiler.specs.Names.{HasOwnNames};
-ghost use Rattle.matcher_sets.specs.Forms.{IsBoundIn, said};
-ghost use Rattle.matcher_compiler.specs.Plans.{AreBound, IsBoundPart, IsLater, IsReady, IsSoundProgram, IsTightIn, LaysAt, LaysPoint, task_in};
+ghost use Rattle.matcher_sets.specs.Forms.{IsBoundIn, IsSoundProgram, said};
+ghost use Rattle.matcher_sets.specs.Heads.{AreHeads};
+ghost use Rattle.matcher_compiler.specs.Plans.{AreBound, IsBoundPart, IsLater, IsReady, IsTightIn, LaysAt, LaysPoint, task_in};
 ghost use Rattle.matcher_compiler.specs.declared.points.Point.{Point};
 
 use crate::plan::Plan;
 use crate::points::{NotCompiled, Part, Place, Point};
 use matcher_program::form::{Form, Program};
 use matcher_sets::difference::{choice_ranges, refused_ranges};
+use matcher_sets::heads::Heads;
 use matcher_sets::modes::Atomicity;
 use std::alloc::Global;
 
 /// Returns the first of the labels of a point's own.
 fn own_labels(rules: usize, number: usize) -> u32 {
     let label = number
-        .saturating_mul(4)
+        .saturating_mul(5)
         .saturating_add(rules.saturating_mul(13))
         .saturating_add(3);
     if label < 0xffff_fff0 { label as u32 } else { 0 }
@@ -294,12 +296,15 @@ impl<'p> Plan<'p> {
         &mut self,
         alloc: Global,
         program: &Program,
+        heads: &Heads,
         form: &Form,
         left: &'p Form,
         right: &'p Form,
         at: Place,
         own: u32,
     ) -> Result<(), NotCompiled>
+        requires sound { IsSoundProgram program.now }
+        requires heads { AreHeads program.now heads.now }
         requires bound { IsBoundIn program.now form.now }
         requires left_bound { IsBoundIn program.now left.now }
         requires right_bound { IsBoundIn program.now right.now }
@@ -312,7 +317,7 @@ impl<'p> Plan<'p> {
         let made = choice_ranges(alloc, program, form)?;
         match made {
             Some(ranges) => self.character(program, form, ranges, at),
-            None => self.choice(program, left, right, at, own),
+            None => self.choice(alloc, program, heads, left, right, at, own),
         }
     }
 
@@ -321,11 +326,13 @@ impl<'p> Plan<'p> {
         &mut self,
         alloc: Global,
         program: &Program,
+        heads: &Heads,
         form: &'p Form,
         at: Place,
         own: u32,
     ) -> Result<(), NotCompiled>
         requires sound { IsSoundProgram program.now }
+        requires heads { AreHeads program.now heads.now }
         requires names { HasOwnNames program.now }
         requires few { length program.now.rows.items ≤ 4096 }
         requires ready { IsReady program.now self.old }
@@ -348,9 +355,9 @@ impl<'p> Plan<'p> {
             Form::NegPred(body) => self.not_ahead(program, body, at, own),
             Form::Seq(first, second) => { self.two(alloc, program, first, second, at, own) }
             Form::Choice(left, right) => {
-                self.alternatives(alloc, program, form, left, right, at, own)
+                self.alternatives(alloc, program, heads, form, left, right, at, own)
             }
-            Form::Opt(body) => self.option(program, body, at),
+            Form::Opt(body) => self.option(alloc, program, heads, body, at, own),
             Form::Rep(body) => self.turns(alloc, program, body, at, own),
             Form::RepOnce(body) => self.once_or_more(program, body, at),
             Form::Tag(body, tag) => self.tag(program, body, tag.as_str(), at),
@@ -365,10 +372,12 @@ impl<'p> Plan<'p> {
         &mut self,
         alloc: Global,
         program: &'p Program,
+        heads: &Heads,
         point: Point<'p>,
         own: u32,
     ) -> Result<(), NotCompiled>
         requires sound { IsSoundProgram program.now }
+        requires heads { AreHeads program.now heads.now }
         requires names { HasOwnNames program.now }
         requires few { length program.now.rows.items ≤ 4096 }
         requires ready { IsReady program.now self.old }
@@ -379,11 +388,11 @@ impl<'p> Plan<'p> {
     {
         let at = point.at;
         match point.part {
-            Part::Form(form) => self.form(alloc, program, form, at, own),
+            Part::Form(form) => self.form(alloc, program, heads, form, at, own),
             Part::OnceOrMore(body) => { self.once_and_turns(program, body, at, own) }
             Part::Repetition(body) => self.turns(alloc, program, body, at, own),
             Part::Body(rule) => match program.rows.get(rule) {
-                Some(row) => self.form(alloc, program, &row.body, at, own),
+                Some(row) => self.form(alloc, program, heads, &row.body, at, own),
                 None => Err(NotCompiled::Unsupported),
             },
             Part::Rule(rule) => self.call(program, rule, at),
@@ -398,8 +407,14 @@ impl<'p> Plan<'p> {
     }
 
     /// Plans the parts of each point.
-    pub(crate) fn plan(&mut self, alloc: Global, program: &'p Program) -> Result<(), NotCompiled>
+    pub(crate) fn plan(
+        &mut self,
+        alloc: Global,
+        program: &'p Program,
+        heads: &Heads,
+    ) -> Result<(), NotCompiled>
         requires sound { IsSoundProgram program.now }
+        requires heads { AreHeads program.now heads.now }
         requires names { HasOwnNames program.now }
         requires few { length program.now.rows.items ≤ 4096 }
         requires ready { IsReady program.now self.old }
@@ -414,7 +429,7 @@ impl<'p> Plan<'p> {
                 Some(point) => *point,
                 None => return Ok(()),
             };
-            self.part(alloc, program, point, own_labels(rules, number))?;
+            self.part(alloc, program, heads, point, own_labels(rules, number))?;
         }
         Err(NotCompiled::Unsupported)
     }

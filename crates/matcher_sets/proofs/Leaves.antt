@@ -1,7 +1,7 @@
 -- Leaf expressions, and the operations that match them.
-use Rattle.std.proofs.Common.{◌≡◌, refl, ◌∙◌, ap, ap₂, subst, ℕ, suc, ◌<◌, List, [], ◌∷◌, Bool, true, false, ◌&&◌, ◌==◌, Some, None, inl, inr, length, drop, codes, nat_eq, arith, if◌then◌else◌, eqb-true}
+use Rattle.std.proofs.Common.{◌≡◌, refl, ◌∙◌, ap, ap₂, subst, ℕ, suc, ◌<◌, List, [], ◌∷◌, Bool, true, false, ◌&&◌, ◌==◌, Some, None, length, drop, codes, nat_eq, arith, if◌then◌else◌, eqb-true}
 use Rattle.std.proofs.Math.Bool.{and-false, and-true}
-use Rattle.std.proofs.Math.Utf8.{scalar, scalar_cases, scalars}
+use Rattle.std.proofs.Math.Utf8.{scalar, scalars}
 use Rattle.std.proofs.lemmas.Bool.{and_parts}
 use Rattle.std.proofs.lemmas.Str.{scalars-chars}
 use Rattle.meta_ast.specs.Ast.{text_of}
@@ -20,7 +20,7 @@ use Rattle.matcher_code.specs.Sets.{IsSetOf}
 use Rattle.matcher_layout.specs.Laid.{HasOutcome, Performs, at_label, skip_set, span_of}
 use Rattle.matcher_layout.specs.Reached.{Comes, IsAt}
 use Rattle.matcher_layout.proofs.Characters.{choice_of_sets}
-use Rattle.matcher_layout.proofs.Sets.{all_performs, one_performs}
+use Rattle.matcher_layout.proofs.Sets.{all_performs, below, one_performs}
 use Rattle.matcher_program.specs.declared.form.Class.{Class}
 use Rattle.matcher_program.specs.declared.form.Class.TheVariants as class
 use Rattle.matcher_program.specs.declared.form.Form.{Form}
@@ -34,9 +34,6 @@ use Rattle.matcher_sets.specs.Ranges.{Covers}
 use Rattle.matcher_sets.specs.Forms.{IsBoundIn, grammar_in, said}
 
 -- characters that ranges cover, of a text
-pub below : (c : ℕ) → scalar c ≡ true → c < 1114112
-below c h = elim (scalar_cases c h) [ inl a ↦ omega (arith, a) | inr b ↦ b.1 ]
-
 module _ (ranges : List (ℕ × ℕ)) (set : ℕ → Bool) (covers : Covers ranges set) where
   covered_head : (cs : Text) → scalars cs ≡ true → starts_in (is_covered ranges) cs ≡ starts_in set cs
   covered_head [] u = refl

@@ -6,3 +6,5 @@ pub mod Excluding
 pub mod Properties
 pub mod Searching
 pub mod Starting
+pub mod Heading
+pub mod Rules

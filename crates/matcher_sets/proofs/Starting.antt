@@ -26,7 +26,7 @@ taken texts i t l here =
 pub none_start : (ranges : List (ℕ × ℕ)) → StartIn ranges []
 none_start ranges = record { none_empty = refl; covered = λ c u l h. cc }
 
-same_self : (c : ℕ) → nat_eq c c ≡ true
+pub same_self : (c : ℕ) → nat_eq c c ≡ true
 same_self c = grind arith
 
 is_not_empty : (t : Text) (c : ℕ) → ((d : ℕ) → starts_in (λ e. nat_eq e d) t ≡ nat_eq c d) → begins nat_eq t [] ≡ false

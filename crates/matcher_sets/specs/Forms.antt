@@ -2,7 +2,7 @@
 use Rattle.meta_base.specs.Language.Expression.{Expression, Grammar}
 use Rattle.matcher_program.specs.declared.form.Form.{Form}
 use Rattle.matcher_program.specs.declared.form.Program.{Program}
-use Rattle.matcher_program.specs.Programs.{IsBound, expression_of, grammar_of, names_of}
+use Rattle.matcher_program.specs.Programs.{IsBound, IsSound, expression_of, grammar_of, names_of}
 
 -- the grammar of a program, and the names of its rules
 abbrev pub grammar_in : Program → Grammar
@@ -14,3 +14,7 @@ said p f = expression_of (names_of p.rows.items) f
 -- the names in a form mean what they are resolved to
 abbrev pub IsBoundIn : Program → Form → Type 0
 IsBoundIn p f = IsBound (grammar_in p) (names_of p.rows.items) p.properties.items f
+
+-- the names of the rules mean what they are resolved to
+abbrev pub IsSoundProgram : Program → Type 0
+IsSoundProgram p = IsSound p.rows.items p.properties.items p.whitespace p.comment

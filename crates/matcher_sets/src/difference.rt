@@ -199,7 +199,7 @@ fn push_newline(ranges: &mut Ranges) -> Result<bool, AllocError>
 
 /// Appends the ranges of the characters with which a form begins, if one such tells that it succeeds. Returns
 /// whether it does.
-fn push_firsts(
+pub(crate) fn push_firsts(
     alloc: Global,
     program: &Program,
     ranges: &mut Ranges,

@@ -2,6 +2,7 @@
 #![tactic(auto)]
 
 pub mod difference;
+pub mod heads;
 pub mod modes;
 mod ranges;
 pub mod texts;

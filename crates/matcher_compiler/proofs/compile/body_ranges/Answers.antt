@@ -1,7 +1,7 @@
 use Rattle.std.proofs.Common.{subst, sym}
 use Rattle.matcher_sets.specs.Differences.{MatchesOne}
 use Rattle.matcher_sets.specs.Forms.{IsBoundIn}
-use Rattle.matcher_compiler.proofs.Calling.{row_bound}
+use Rattle.matcher_sets.proofs.Rules.{row_bound}
 use Rattle.matcher_compiler.proofs.Skipping.{blanks_any}
 use Rattle.matcher_compiler.proofs.compile.body_ranges.Goals as goal
 

@@ -1,6 +1,7 @@
 use Rattle.matcher_compiler.proofs.Growing.{later_twice}
 use Rattle.matcher_layout.specs.Laid as lay
-use Rattle.matcher_compiler.proofs.Calling.{body_point, made, meant_is}
+use Rattle.matcher_sets.proofs.Rules.{made, meant_is}
+use Rattle.matcher_compiler.proofs.Calling.{body_point}
 use Rattle.matcher_sets.specs.Modes.{mode_of}
 use Rattle.matcher_compiler.proofs.plan.Plan.silent_call.Goals as goal
 

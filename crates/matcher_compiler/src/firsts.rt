@@ -1,0 +1,137 @@
+//! Tests before expressions.
+ghost use Rattle.std.specs.Prelude.{◌≡◌, IfOk, List, OnOk, false};
+ghost use Rattle.meta_base.specs.Language.Meaning.{Run};
+ghost use Rattle.matcher_code.specs.declared.code.Code.{Code};
+ghost use Rattle.matcher_layout.specs.Laid as lay;
+ghost use Rattle.matcher_layout.specs.Laid.{GoesTo};
+ghost use Rattle.matcher_program.specs.declared.form.Program.{Program};
+ghost use Rattle.matcher_sets.specs.Forms.{IsBoundIn, IsSoundProgram, said};
+ghost use Rattle.matcher_sets.specs.Heads.{AreHeads, HasHead};
+ghost use Rattle.matcher_sets.specs.Modes.{mode_of};
+ghost use Rattle.matcher_compiler.specs.Plans.{EntersAt, IsLater, Meets};
+
+use crate::forms::FAIL;
+use crate::plan::Plan;
+use crate::points::{NotCompiled, Place};
+use matcher_code::code::{Op, Ranges};
+use matcher_program::form::{Form, Program};
+use matcher_sets::heads::{Head, Heads, head_of};
+use std::alloc::Global;
+
+/// Returns whether a test may spare more than it takes: the form is a call, or has several parts.
+fn is_long(form: &Form) -> bool {
+    matches!(form, Form::Call(_) | Form::Seq(_, _) | Form::RepOnce(_))
+}
+
+/// Returns whether ranges have nearly all characters.
+fn is_wide(ranges: &Ranges) -> bool {
+    for (low, high) in ranges {
+        if (*high).saturating_sub(*low) > 0x10_0000 {
+            return true;
+        }
+    }
+    false
+}
+
+impl<'p> Plan<'p> {
+    /// Returns the label at which a failure goes on at `way`, after an operation at the label `note` if it is
+    /// recorded.
+    fn miss(&mut self, noted: bool, way: u32, note: u32) -> Result<u32, NotCompiled>
+        ensures later { OnOk result ((p : Program) → IsLater p self.old self.new) }
+        ensures goes { IfOk result (λ miss. (p : Program) (code : Code) (laid : List lay.Point)
+            → Meets p self.new code laid → GoesTo code noted miss way) }
+    {
+        if noted {
+            self.operation(note, Op::Note { next: way })?;
+            Ok(note)
+        } else {
+            Ok(way)
+        }
+    }
+
+    /// Plans a test of the next character before a form. Returns the label at which the form begins then. The
+    /// labels from `own` on are free.
+    fn test(
+        &mut self,
+        program: &Program,
+        form: &Form,
+        head: Head,
+        at: Place,
+        own: u32,
+    ) -> Result<u32, NotCompiled>
+        requires head { HasHead program.now (mode_of at.mode) (said program.now form.now) head }
+        requires fails { head.empty ≡ false }
+        ensures later { OnOk result (IsLater program.now self.old self.new) }
+        ensures enters { IfOk result (EntersAt program.now self.new
+            (Run (mode_of at.mode) (said program.now form.now)) at) }
+    {
+        let Head {
+            ranges,
+            empty: _,
+            noted,
+        } = head;
+        let note = own.saturating_add(1);
+        let miss = self.miss(noted, at.way, note)?;
+        let set = self.set(ranges)?;
+        self.operation(
+            at.label,
+            Op::IsOne {
+                set,
+                next: own,
+                fail: miss,
+            },
+        )?;
+        Ok(own)
+    }
+
+    /// Plans a test of the next character before a form with a head, if it tells more than that there is one.
+    fn test_if_narrow(
+        &mut self,
+        program: &Program,
+        form: &Form,
+        head: Head,
+        at: Place,
+        own: u32,
+    ) -> Result<u32, NotCompiled>
+        requires head { HasHead program.now (mode_of at.mode) (said program.now form.now) head }
+        ensures later { OnOk result (IsLater program.now self.old self.new) }
+        ensures enters { IfOk result (EntersAt program.now self.new
+            (Run (mode_of at.mode) (said program.now form.now)) at) }
+    {
+        if head.empty {
+            return Ok(at.label);
+        }
+        if is_wide(&head.ranges) {
+            return Ok(at.label);
+        }
+        self.test(program, form, head, at, own)
+    }
+
+    /// Plans a test of the next character before a form, if it spares something. Returns the label at which
+    /// the form begins. The labels from `own` on are free.
+    pub(crate) fn enter(
+        &mut self,
+        alloc: Global,
+        program: &Program,
+        heads: &Heads,
+        form: &Form,
+        at: Place,
+        own: u32,
+    ) -> Result<u32, NotCompiled>
+        requires sound { IsSoundProgram program.now }
+        requires heads { AreHeads program.now heads.now }
+        requires bound { IsBoundIn program.now form.now }
+        ensures later { OnOk result (IsLater program.now self.old self.new) }
+        ensures enters { IfOk result (EntersAt program.now self.new
+            (Run (mode_of at.mode) (said program.now form.now)) at) }
+    {
+        if at.way == FAIL || !is_long(form) {
+            return Ok(at.label);
+        }
+        let made = head_of(alloc, program, heads, form, at.mode)?;
+        match made {
+            Some(head) => self.test_if_narrow(program, form, head, at, own),
+            None => Ok(at.label),
+        }
+    }
+}

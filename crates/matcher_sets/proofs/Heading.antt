@@ -1,0 +1,243 @@
+-- The characters with which expressions begin.
+use Rattle.std.proofs.Common.{◌≡◌, refl, sym, ◌∙◌, ap, ap₂, subst, ℕ, zero, suc, ◌<◌, List, [], ◌∷◌, ◌++◌, Bool, true, false, ◌||◌, ◌&&◌, inl, inr, None, Some, arith, get_or, length, nat_eq, if◌then◌else◌}
+use Rattle.std.specs.Prelude.{Err, IfOk, IfSome, Ok, Option, Result, max}
+use Rattle.std.proofs.Math.ListN.{set}
+use Rattle.std.proofs.lemmas.Bool.{cases_lt}
+use Rattle.std.proofs.lemmas.List.{get_or-set_other, get_or-set_same}
+use Rattle.meta_ast.specs.Ast.{rule_type_of}
+use Rattle.meta_base.specs.Language.Builtins.{is_between}
+use Rattle.meta_base.specs.Language.Expression.{Choice, Expression, Grammar, Ident, Opt, RepOnce, Rule, Seq, Str, rule_of}
+use Rattle.meta_base.specs.Language.FurthestFailure.{furthest, place_of}
+use Rattle.meta_base.specs.Language.Matching.{begins, starts_in}
+use Rattle.meta_base.specs.Language.Meaning as by
+use Rattle.meta_base.specs.Language.Meaning.{Does, Run, body_mode, gives_token, mode_in, seen_from}
+use Rattle.meta_base.specs.Language.State.{Classes, Failure, Mode, None', Outcome, State, Success, moved}
+use Rattle.meta_base.specs.Language.Text.{Text}
+use Rattle.matcher_code.specs.Reading.{is_covered}
+use Rattle.matcher_layout.specs.Laid.{FailsOutside, IsTight, Misses}
+use Rattle.matcher_program.specs.declared.form.Form.{Form}
+use Rattle.matcher_program.specs.declared.form.Program.{Program}
+use Rattle.matcher_program.specs.declared.form.Row.{Row}
+use Rattle.matcher_program.specs.Programs.{Fits}
+use Rattle.matcher_sets.specs.declared.heads.Head.{Head}
+use Rattle.matcher_sets.specs.declared.modes.Atomicity.{Atomicity}
+use Rattle.matcher_sets.specs.Differences.{AddsFirsts, is_success}
+use Rattle.matcher_sets.specs.Forms.{IsSoundProgram, grammar_in, said}
+use Rattle.matcher_sets.specs.Heads.{AreHeadsIn, HasHead, IsCall, IsJoin, TakesNothing}
+use Rattle.matcher_sets.specs.Modes.{mode_of}
+use Rattle.matcher_sets.specs.Ranges.{Adds}
+use Rattle.matcher_sets.proofs.Ranging.{between_same, covered-append, or_none}
+use Rattle.matcher_sets.proofs.Rules.{in_mode, made}
+use Rattle.matcher_sets.proofs.Starting.{same_self}
+
+neither : (a b : Bool) → (a || b) ≡ false → (a ≡ false) × (b ≡ false)
+neither true b h = cc
+neither false b h = (refl, h)
+
+pub misses_parts : (xs ys : List (ℕ × ℕ)) (cs : Text) → Misses (xs ++ ys) cs → Misses xs cs × Misses ys cs
+misses_parts xs ys [] h = (tt, tt)
+misses_parts xs ys (c ∷ cs) h =
+    let k = neither (is_covered xs c) (is_covered ys c) (sym (covered-append xs ys c) ∙ h.1) in ((h.0, k.0), (h.0, k.1))
+
+misses_starts : (ranges : List (ℕ × ℕ)) (set : ℕ → Bool) → Adds [] ranges set → (cs : Text) → Misses ranges cs → starts_in set cs ≡ false
+misses_starts ranges set adds [] h = refl
+misses_starts ranges set adds (c ∷ cs) h = sym (adds c h.0) ∙ h.1
+
+greater_place : (a b : Bool) (i : ℕ) → max (if a then i else 0) (if b then i else 0) ≡ (if (a || b) then i else 0)
+greater_place true true i = omega arith
+greater_place true false i = omega arith
+greater_place false true i = omega arith
+greater_place false false i = refl
+
+between_parts : (a k b : ℕ) → k ≡ 0 → max a (max k b) ≡ max a b
+between_parts a k b h = omega (arith, h)
+
+module _ (g : Grammar) (classes : Classes) (m : Mode) where
+  module _ (a b : Expression) where
+    pub left_takes : (xs : List (ℕ × ℕ)) (n : Bool) → TakesNothing g classes (Run m a) xs true n → TakesNothing g classes (Run m (Choice a b)) xs true n
+    left_takes xs n x s h = let u = x s h in (by.left u.0, u.1)
+
+    pub either_takes : (xs ys : List (ℕ × ℕ)) (n e k : Bool) → TakesNothing g classes (Run m a) xs false n → TakesNothing g classes (Run m b) ys e k
+        → TakesNothing g classes (Run m (Choice a b)) (xs ++ ys) e (n || k)
+    either_takes xs ys n e k x y s h =
+        let i = misses_parts xs ys s.rest h in
+        let u = x s i.0 in
+        let v = y s i.1 in
+        (by.right u.0 v.0, ap₂ (λ p q. max p q) u.1 v.1 ∙ greater_place n k s.position)
+
+    pub first_fails : (xs : List (ℕ × ℕ)) (n : Bool) → TakesNothing g classes (Run m a) xs false n → TakesNothing g classes (Run m (Seq a b)) xs false n
+    first_fails xs n x s h = let u = x s h in (by.seq_first u.0, u.1)
+
+    pub both_take : (xs ys : List (ℕ × ℕ)) (n e k : Bool) → IsTight g classes m → TakesNothing g classes (Run m a) xs true n → TakesNothing g classes (Run m b) ys e k
+        → TakesNothing g classes (Run m (Seq a b)) (xs ++ ys) e (n || k)
+    both_take xs ys n true k tight x y s h =
+        let i = misses_parts xs ys s.rest h in
+        let u = x s i.0 in
+        let t = tight s in
+        let v = y s i.1 in
+        (by.seq u.0 t.0 v.0, between_parts (furthest u.0) (furthest t.0) (furthest v.0) t.1 ∙ (ap₂ (λ p q. max p q) u.1 v.1 ∙ greater_place n k s.position))
+    both_take xs ys n false k tight x y s h =
+        let i = misses_parts xs ys s.rest h in
+        let u = x s i.0 in
+        let t = tight s in
+        let v = y s i.1 in
+        (by.seq_second u.0 t.0 v.0, between_parts (furthest u.0) (furthest t.0) (furthest v.0) t.1 ∙ (ap₂ (λ p q. max p q) u.1 v.1 ∙ greater_place n k s.position))
+
+  pub option_takes : (a : Expression) (xs : List (ℕ × ℕ)) (e n : Bool) → TakesNothing g classes (Run m a) xs e n → TakesNothing g classes (Run m (Opt a)) xs true n
+  option_takes a xs true n x s h = let u = x s h in (by.opt u.0, u.1)
+  option_takes a xs false n x s h = let u = x s h in (by.opt_none u.0, u.1)
+
+  pub once_takes : (a : Expression) (xs : List (ℕ × ℕ)) (n : Bool) → TakesNothing g classes (Run m a) xs false n → TakesNothing g classes (Run m (RepOnce a)) xs false n
+  once_takes a xs n x s h = let u = x s h in (by.rep_once (by.seq_first u.0), u.1)
+
+  pub call_takes : (x : Text) (r : Rule) (xs : List (ℕ × ℕ)) (n counts : Bool) → rule_of g x ≡ Some r → counts ≡ (seen_from m && gives_token r.type_of m)
+      → TakesNothing g classes (Run (body_mode r m) r.body) xs false n → TakesNothing g classes (Run m (Ident x)) xs false (counts || n)
+  call_takes x r xs n counts e c y s h =
+      let u = y s h in
+      (by.call e u.0, ap₂ (λ p q. max p q) (ap (λ b. place_of b s Failure) (sym c)) u.1 ∙ greater_place counts n s.position)
+
+  -- a literal, by its first character
+  begins_not : (t : Text) (c : ℕ) (cs : Text) → ((d : ℕ) → starts_in (λ e. nat_eq e d) t ≡ nat_eq c d) → Misses ((c, c) ∷ []) cs → begins nat_eq t cs ≡ false
+  begins_not [] c cs first h = let z : false ≡ true = first c ∙ same_self c in cc
+  begins_not (x ∷ t) c [] first h = refl
+  begins_not (x ∷ t) c (d ∷ cs) first h =
+      ap (λ b. b && begins nat_eq t cs) (first d ∙ (sym (between_same c d) ∙ (sym (or_none (is_between c c d)) ∙ h.1)))
+
+  pub literal_takes : (t : Text) (c : ℕ) → ((d : ℕ) → starts_in (λ e. nat_eq e d) t ≡ nat_eq c d)
+      → (xs : List (ℕ × ℕ)) → Adds [] xs (is_between c c) → TakesNothing g classes (Run m (Str t)) xs false false
+  literal_takes t c first xs adds s h =
+      let k : begins nat_eq t s.rest ≡ false = begins_not t c s.rest first (one s.rest h) in
+      let P : Bool → Type 0 = λ b. (d : Does g classes (Run m (Str t)) s (if b then Success (moved (length t) s) None' else Failure)) × (furthest d ≡ 0) in
+      subst P k (by.str, refl)
+    where
+      one : (cs : Text) → Misses xs cs → Misses ((c, c) ∷ []) cs
+      one [] h = tt
+      one (d ∷ cs) h = (h.0, or_none (is_between c c d) ∙ (sym (adds d h.0) ∙ h.1))
+
+-- a form that begins with one of some characters
+pub firsts_take : (p : Program) (f : Form) (m : Atomicity) (ranges : List (ℕ × ℕ)) → AddsFirsts p f [] ranges → (classes : Classes) → Fits p.properties.items classes
+    → TakesNothing (grammar_in p) classes (Run (mode_of m) (said p f)) ranges false false
+firsts_take p f m ranges h classes fits s miss =
+    let x = h classes fits in
+    let y = x.holds m s in
+    go y.outcome y.found y.quiet (y.told ∙ misses_starts ranges x.characters x.adds s.rest miss)
+  where
+    go : (o : Outcome) (d : Does (grammar_in p) classes (Run (mode_of m) (said p f)) s o) → furthest d ≡ 0 → is_success o ≡ false
+        → (d' : Does (grammar_in p) classes (Run (mode_of m) (said p f)) s Failure) × (furthest d' ≡ 0)
+    go Failure d q e = (d, q)
+    go (Success t us) d q e = cc
+
+-- where a form never succeeds without taking something
+pub fails_outside : (p : Program) (m : Mode) (e : Expression) (h : Head) → HasHead p m e h → h.empty ≡ false → (classes : Classes) → Fits p.properties.items classes
+    → FailsOutside (grammar_in p) classes (Run m e) h.ranges.items h.noted
+fails_outside p m e h x q classes fits = subst (λ b. TakesNothing (grammar_in p) classes (Run m e) h.ranges.items b h.noted) q (x.takes classes fits)
+
+-- heads by those of the parts
+module _ (p : Program) (m : Mode) (a b : Expression) where
+  with_empty : (h : Head) {v w : Bool} (e : Expression) (classes : Classes) → v ≡ w
+      → TakesNothing (grammar_in p) classes (Run m e) h.ranges.items v h.noted → TakesNothing (grammar_in p) classes (Run m e) h.ranges.items w h.noted
+  with_empty h e classes q x = subst (λ v. TakesNothing (grammar_in p) classes (Run m e) h.ranges.items v h.noted) q x
+
+  pub left_head : (h : Head) → h.empty ≡ true → HasHead p m a h → HasHead p m (Choice a b) h
+  left_head h q x = record {
+    takes = λ classes fits.
+        with_empty h (Choice a b) classes (sym q) (left_takes (grammar_in p) classes m a b h.ranges.items h.noted (with_empty h a classes q (x.takes classes fits)));
+  }
+
+  pub first_head : (h : Head) → h.empty ≡ false → HasHead p m a h → HasHead p m (Seq a b) h
+  first_head h q x = record {
+    takes = λ classes fits.
+        with_empty h (Seq a b) classes (sym q) (first_fails (grammar_in p) classes m a b h.ranges.items h.noted (with_empty h a classes q (x.takes classes fits)));
+  }
+
+  joined_as : (e : Expression) (classes : Classes) (h k j : Head) → IsJoin h k j
+      → TakesNothing (grammar_in p) classes (Run m e) (h.ranges.items ++ k.ranges.items) k.empty (h.noted || k.noted)
+      → TakesNothing (grammar_in p) classes (Run m e) j.ranges.items j.empty j.noted
+  joined_as e classes h k j q x =
+      subst (λ r. TakesNothing (grammar_in p) classes (Run m e) r j.empty j.noted) (sym q.ranges)
+      (subst (λ v. TakesNothing (grammar_in p) classes (Run m e) (h.ranges.items ++ k.ranges.items) v j.noted) (sym q.empty)
+      (subst (λ n. TakesNothing (grammar_in p) classes (Run m e) (h.ranges.items ++ k.ranges.items) k.empty n) (sym q.noted) x))
+
+  pub either_head : (h k j : Head) → h.empty ≡ false → IsJoin h k j → HasHead p m a h → HasHead p m b k → HasHead p m (Choice a b) j
+  either_head h k j q joined x y = record {
+    takes = λ classes fits.
+        joined_as (Choice a b) classes h k j joined (either_takes (grammar_in p) classes m a b h.ranges.items k.ranges.items h.noted k.empty k.noted
+        (with_empty h a classes q (x.takes classes fits)) (y.takes classes fits));
+  }
+
+  pub both_head : (h k j : Head) → h.empty ≡ true → IsJoin h k j → ((classes : Classes) → IsTight (grammar_in p) classes m) → HasHead p m a h → HasHead p m b k
+      → HasHead p m (Seq a b) j
+  both_head h k j q joined tight x y = record {
+    takes = λ classes fits.
+        joined_as (Seq a b) classes h k j joined (both_take (grammar_in p) classes m a b h.ranges.items k.ranges.items h.noted k.empty k.noted (tight classes)
+        (with_empty h a classes q (x.takes classes fits)) (y.takes classes fits));
+  }
+
+  pub option_head : (h j : Head) → j.ranges.items ≡ h.ranges.items → j.empty ≡ true → j.noted ≡ h.noted → HasHead p m a h → HasHead p m (Opt a) j
+  option_head h j r q n x = record {
+    takes = λ classes fits.
+        with_empty j (Opt a) classes (sym q) (subst (λ n. TakesNothing (grammar_in p) classes (Run m (Opt a)) j.ranges.items true n) (sym n)
+        (subst (λ r. TakesNothing (grammar_in p) classes (Run m (Opt a)) r true h.noted) (sym r)
+        (option_takes (grammar_in p) classes m a h.ranges.items h.empty h.noted (x.takes classes fits))));
+  }
+
+  pub once_head : (h : Head) → h.empty ≡ false → HasHead p m a h → HasHead p m (RepOnce a) h
+  once_head h q x = record {
+    takes = λ classes fits.
+        with_empty h (RepOnce a) classes (sym q) (once_takes (grammar_in p) classes m a h.ranges.items h.noted (with_empty h a classes q (x.takes classes fits)));
+  }
+
+pub call_head : (p : Program) (m : Mode) (x : Text) (r : Rule) (body head : Head) (counts : Bool) → rule_of (grammar_in p) x ≡ Some r
+    → counts ≡ (seen_from m && gives_token r.type_of m) → HasHead p (body_mode r m) r.body body → IsCall body counts head → HasHead p m (Ident x) head
+call_head p m x r body head counts e c has is = record {
+  takes = λ classes fits.
+      let y = subst (λ v. TakesNothing (grammar_in p) classes (Run (body_mode r m) r.body) body.ranges.items v body.noted) is.takes (has.takes classes fits) in
+      let z = call_takes (grammar_in p) classes m x r body.ranges.items body.noted counts e c y in
+      subst (λ n. TakesNothing (grammar_in p) classes (Run m (Ident x)) head.ranges.items head.empty n) (sym is.noted)
+      (subst (λ v. TakesNothing (grammar_in p) classes (Run m (Ident x)) head.ranges.items v (counts || body.noted)) (sym is.fails)
+      (subst (λ r. TakesNothing (grammar_in p) classes (Run m (Ident x)) r false (counts || body.noted)) (sym is.ranges) z));
+}
+
+-- the head of a body
+pub row_has : (p : Program) (rule : ℕ) (row : Row) (within : rule < length p.rows.items) (is : row ≡ get_or p.rows.items rule row) → IsSoundProgram p
+    → (m inner : Mode) → inner ≡ mode_in (rule_type_of row.kind) row.blank m → (heads : List (Option Head)) → AreHeadsIn p inner heads
+    → (body : Head) → get_or heads rule None ≡ Some body → HasHead p (body_mode (made p rule row within is) m) (made p rule row within is).body body
+row_has p rule row within is sound m inner e heads are body k =
+    let x : HasHead p inner (said p (get_or p.rows.items rule row).body) body =
+    subst (λ o. IfSome o (HasHead p inner (said p (get_or p.rows.items rule row).body))) k (are rule row within) in
+    let y = subst (λ r. HasHead p inner (said p r.body) body) (sym is) x in
+    subst (λ z. HasHead p z (said p row.body) body) (in_mode p rule row within is sound m inner e) y
+
+-- what holds of a value that is made
+pub if_made : {A E : Type 0} {P Q : A → Type 0} (r : Result (Option A) E) → ((x : A) → P x → Q x) → IfOk r (λ made. IfSome made P) → IfOk r (λ made. IfSome made Q)
+if_made (Ok (Some x)) f h = f x h
+if_made (Ok None) f h = tt
+if_made (Err e) f h = tt
+
+-- another head of a body
+pub heads_put : (p : Program) (m : Mode) (list new : List (Option Head)) (rule : ℕ) (head : Option Head) → new ≡ set list rule head → rule < length list
+    → AreHeadsIn p m list → ((d : Row) → rule < length p.rows.items → IfSome head (HasHead p m (said p (get_or p.rows.items rule d).body))) → AreHeadsIn p m new
+heads_put p m list new rule head e within are one i d l = elim (cases_lt i rule) [
+  | inl a ↦ other (λ q. omega (arith, a, q))
+  | inr a ↦ elim (cases_lt rule i) [ inl b ↦ other (λ q. omega (arith, b, q)) | inr b ↦ here (omega (arith, a, b)) ]
+]
+  where
+    other : (i ≡ rule → ⊥) → IfSome (get_or new i None) (HasHead p m (said p (get_or p.rows.items i d).body))
+    other apart =
+        subst (λ o. IfSome o (HasHead p m (said p (get_or p.rows.items i d).body))) (sym (ap (λ x. get_or x i None) e ∙ get_or-set_other list rule i head None apart)) (are i d l)
+
+    here : rule ≡ i → IfSome (get_or new i None) (HasHead p m (said p (get_or p.rows.items i d).body))
+    here q =
+        subst (λ j. IfSome (get_or new j None) (HasHead p m (said p (get_or p.rows.items j d).body))) q
+        (subst (λ o. IfSome o (HasHead p m (said p (get_or p.rows.items rule d).body))) (sym (ap (λ x. get_or x rule None) e ∙ get_or-set_same list rule head None within))
+        (one d (omega (arith, q, l))))
+
+-- lists without a head
+pub none_more : {A : Type 0} (xs : List (Option A)) (k : ℕ) → ((j : ℕ) → get_or xs j None ≡ None) → get_or (xs ++ None ∷ []) k None ≡ None
+none_more [] zero h = refl
+none_more [] (suc k) h = refl
+none_more (x ∷ xs) zero h = h 0
+none_more (x ∷ xs) (suc k) h = none_more xs k (λ j. h (suc j))
+
+pub no_heads : (p : Program) (m : Mode) (list : List (Option Head)) → ((k : ℕ) → get_or list k None ≡ None) → AreHeadsIn p m list
+no_heads p m list h i d l = subst (λ o. IfSome o (HasHead p m (said p (get_or p.rows.items i d).body))) (sym (h i)) tt

@@ -1,0 +1,15 @@
+use Rattle.matcher_sets.specs.Modes.{mode_of}
+use Rattle.matcher_sets.proofs.Heading.{call_head, if_made, row_has}
+use Rattle.matcher_sets.proofs.Rules.{made, meant_is}
+use Rattle.matcher_sets.proofs.heads.row_head.Goals as goal
+
+pub returns-in-Some : goal.returns-in-Some
+returns-in-Some c =
+    let p = c.args.program.now in
+    let m = mode_of c.args.mode in
+    let r = c.requires in
+    let body = row_has p c.args.rule c.args.row.now r.within r.is r.sound m (mode_of c.body_mode-inner.result) c.body_mode-inner.ensures
+    c.heads_in-known.result.now (c.heads_in-known.ensures p r.heads) c.in-Some.body.now c.in-Some.ensures in
+    if_made c.called_head.result
+    (λ head is. call_head p m _ (made p c.args.rule c.args.row.now r.within r.is) c.in-Some.body.now head c.is_counted-counts.result
+    (meant_is p c.args.rule c.args.row.now r.within r.is r.meant) c.is_counted-counts.ensures body is) c.called_head.ensures

@@ -1,0 +1,51 @@
+-- The characters with which forms begin.
+use Rattle.std.specs.Prelude.{◌≡◌, ◌<◌, ◌++◌, ◌||◌, ℕ, Bool, true, false, List, Option, None, IfSome, get_or, length}
+use Rattle.meta_base.specs.Language.Expression.{Expression, Grammar}
+use Rattle.meta_base.specs.Language.FurthestFailure.{furthest, place_of}
+use Rattle.meta_base.specs.Language.Meaning.{Does, Run, Task}
+use Rattle.meta_base.specs.Language.State.{AtomicMode, Classes, CompoundAtomicMode, Failure, Mode, NonAtomicMode, None', Outcome, State, Success}
+use Rattle.matcher_layout.specs.Laid.{Misses}
+use Rattle.matcher_program.specs.declared.form.Program.{Program}
+use Rattle.matcher_program.specs.declared.form.Row.{Row}
+use Rattle.matcher_program.specs.Programs.{Fits}
+use Rattle.matcher_sets.specs.declared.heads.Head.{Head}
+use Rattle.matcher_sets.specs.declared.heads.Heads.{Heads}
+use Rattle.matcher_sets.specs.Forms.{grammar_in, said}
+
+-- a success that takes nothing, or a failure
+abbrev pub nothing_taken : Bool → State → Outcome
+nothing_taken true s = Success s None'
+nothing_taken false s = Failure
+
+-- where no character of the ranges is next, the task takes nothing, and records a failure there or none
+abbrev pub TakesNothing : Grammar → Classes → Task → List (ℕ × ℕ) → (empty noted : Bool) → Type 0
+TakesNothing g classes k ranges empty noted = (s : State) → Misses ranges s.rest
+    → (d : Does g classes k s (nothing_taken empty s)) × (furthest d ≡ place_of noted s Failure)
+
+-- so it is of an expression in a mode, where properties have the sets of the program
+pub record HasHead (p : Program) (m : Mode) (e : Expression) (h : Head) : Type 0 where
+  pub takes : (classes : Classes) → Fits p.properties.items classes
+      → TakesNothing (grammar_in p) classes (Run m e) h.ranges.items h.empty h.noted
+
+-- a head has the characters of two, and is the second where none of them is next
+pub record IsJoin (first second head : Head) : Type 0 where
+  pub ranges : head.ranges.items ≡ first.ranges.items ++ second.ranges.items
+  pub empty : head.empty ≡ second.empty
+  pub noted : head.noted ≡ (first.noted || second.noted)
+
+-- a head is that of a call of a body that takes something where it succeeds
+pub record IsCall (body : Head) (counts : Bool) (head : Head) : Type 0 where
+  pub takes : body.empty ≡ false
+  pub fails : head.empty ≡ false
+  pub ranges : head.ranges.items ≡ body.ranges.items
+  pub noted : head.noted ≡ (counts || body.noted)
+
+-- so it is of the bodies of rules, where a head is known
+abbrev pub AreHeadsIn : Program → Mode → List (Option Head) → Type 0
+AreHeadsIn p m heads = (i : ℕ) (d : Row) → i < length p.rows.items
+    → IfSome (get_or heads i None) (HasHead p m (said p (get_or p.rows.items i d).body))
+
+pub record AreHeads (p : Program) (heads : Heads) : Type 0 where
+  pub non_atomic : AreHeadsIn p NonAtomicMode heads.non_atomic.items
+  pub atomic : AreHeadsIn p AtomicMode heads.atomic.items
+  pub compound_atomic : AreHeadsIn p CompoundAtomicMode heads.compound_atomic.items
