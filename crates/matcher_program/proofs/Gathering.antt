@@ -7,7 +7,6 @@ use Rattle.std.specs.List.{All, Contains}
 use Rattle.std.specs.Prelude.{flat_map, string_bytes}
 use Rattle.std.specs.declared.alloc.Global.{Global}
 use Rattle.std.specs.declared.string.String.{String}
-use Rattle.meta_ast.specs.Ast.{text_of}
 use Rattle.meta_ast.specs.Optimized.{optimized_expression_of, optimized_rule_of, optimized_rules_of}
 use Rattle.meta_ast.specs.declared.optimized.OptimizedExpr.{OptimizedExpr}
 use Rattle.meta_ast.specs.declared.optimized.OptimizedExpr.TheVariants as code

@@ -16,7 +16,7 @@ use Rattle.meta_base.specs.Language.Text.{Text}
 use Rattle.meta_base.specs.Language.WellFormed.{InSomeRule}
 use Rattle.meta_base.specs.Rewritings.Equality.{text_eq-Decides}
 use Rattle.matcher_program.proofs.Compiling.{is_property_of}
-use Rattle.matcher_program.specs.Refusals.{IsNoBuiltin, IsNoCharacter, IsReason, IsUnknown, IsWithin, KnowsProperties, IsWrong, IsWrongBound, IsWrongIn, has_property}
+use Rattle.matcher_program.specs.Refusals.{HasCharacterBounds, IsNoBuiltin, IsNoCharacter, IsReason, IsUnknown, IsWithin, KnowsProperties, IsWrong, IsWrongBound, IsWrongIn, has_property}
 use Rattle.matcher_program.specs.declared.compile.Unfit.{Unfit}
 use Rattle.matcher_program.specs.declared.compile.Unfit.TheVariants as unfit
 use Rattle.meta_ast.specs.Optimized.{optimized_expression_of, optimized_rule_of, optimized_rules_of}
@@ -166,3 +166,10 @@ program_refused knows ps qs rules others r u e p o f h =
 pub no_unknown : (knows : Text → Bool) (g : Grammar) → HasKnownNames g → KnowsProperties knows → (n : Text) → InSomeRule g (Ident n) → IsUnknown knows g n → ⊥
 no_unknown knows g k p n i (none, inl e) = k n i none e
 no_unknown knows g k p n i (none, inr (e, f)) = true_is_false (sym (p n e) ∙ f)
+
+-- and are refused for memory alone, where bounds are characters
+pub only_memory : (knows : Text → Bool) (g : Grammar) → HasKnownNames g → HasCharacterBounds g → KnowsProperties knows → (u : Unfit) → IsReason knows g u → u ≡ unfit.Memory
+only_memory knows g k b p unfit.Memory h = refl
+only_memory knows g k b p (unfit.UnknownName n) h = absurd (no_unknown knows g k p (text_of n) h.0 h.1)
+only_memory knows g k b p (unfit.Bound t) ((v, inl i), wrong) = absurd (wrong (b (text_of t) v i).0)
+only_memory knows g k b p (unfit.Bound t) ((v, inr i), wrong) = absurd (wrong (b v (text_of t) i).1)

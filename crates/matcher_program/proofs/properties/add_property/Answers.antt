@@ -1,4 +1,4 @@
-use Rattle.std.proofs.Common.{ap, chars, sym, ◌∙◌}
+use Rattle.std.proofs.Common.{ap, chars}
 use Rattle.matcher_program.proofs.Refusing.{found_there, last_there, others_there}
 use Rattle.matcher_program.proofs.properties.add_property.Goals as goal
 
