@@ -102,7 +102,7 @@ module _ {text : List ℕ} {us : Trees} {rs : List SpannedRule} (d : ReadsRules 
     (h : name_complaints (definitions text us) (calls text us) ≡ []) where
   none_unknown : undefined_calls (definitions text us) (calls text us) ≡ []
   none_unknown =
-      nothing_said (codes "rule ") (codes " is undefined") _
+      nothing_said _ (undefined_calls (definitions text us) (calls text us))
       (empty_second (pest_keyword_complaints (definitions text us) ++ duplicate_complaints (definitions text us)) (undefined_complaints (definitions text us) (calls text us)) h)
 
   abbrev IsBeside : List ℕ → Type 0

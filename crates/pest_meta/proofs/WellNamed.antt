@@ -13,10 +13,10 @@ use Rattle.meta_base.specs.Language.Builtins.{is_one_of}
 use Rattle.meta_base.specs.Language.Expression.{Grammar, rule_of}
 use Rattle.meta_base.specs.Language.Grammar.{HasDistinctNames, keywords}
 use Rattle.meta_base.specs.Rewritings.Rewriting.{KeepsAny}
-use Rattle.meta_base.specs.Pieces.Saying.{Span, piece, written}
+use Rattle.meta_base.specs.Pieces.Saying.{Complaint, Span, piece, written}
 use Rattle.meta_base.specs.Language.State.{Trees, None', Tree}
 use Rattle.meta_names.specs.GrammarNames.{defined_by, definitions, name_complaints}
-use Rattle.meta_names.specs.Names.{later_places, places_of, pest_keyword_complaints, duplicate_complaints, undefined_complaints, said}
+use Rattle.meta_names.specs.Names.{later_places, places_of, pest_keyword_complaints, duplicate_complaints, undefined_complaints}
 use Rattle.meta_spanned.specs.Erasure.{rules_without_spans}
 use Rattle.meta_spanned.specs.Spanned.{SpannedRule}
 use Rattle.meta_base.specs.Language.Text.{IsText}
@@ -156,9 +156,9 @@ distinct before (place ∷ places) (r ∷ rules) e u h =
     let none : rule_of rules (chars (written place)) ≡ None = no_rule before (written place) places rules u.0 (tails e) u.1 (none_met (written place ∷ before) places one.1) in
     (subst (λ n. rule_of rules n ≡ None) (sym (heads e)) none, distinct (written place ∷ before) places rules (tails e) u.1 one.1)
 
-pub nothing_said : (before after : List ℕ) (places : List Span) → said before after places ≡ [] → places ≡ []
-nothing_said before after [] h = refl
-nothing_said before after (place ∷ places) h = cc
+pub nothing_said : (say : Span → Complaint) (places : List Span) → map say places ≡ [] → places ≡ []
+nothing_said say [] h = refl
+nothing_said say (place ∷ places) h = cc
 
 module _ {text : List ℕ} {us : Trees} {rs : List SpannedRule} (d : ReadsRules text us rs) (u : AreTexts (definitions text us)) (calls : List Span)
     (h : name_complaints (definitions text us) calls ≡ []) where
@@ -167,11 +167,11 @@ module _ {text : List ℕ} {us : Trees} {rs : List SpannedRule} (d : ReadsRules 
 
   of_keywords : places_of keywords (definitions text us) ≡ []
   of_keywords =
-      nothing_said [] (codes " is a pest keyword") _ (empty_first (pest_keyword_complaints (definitions text us)) (duplicate_complaints (definitions text us)) first_two)
+      nothing_said _ (places_of keywords (definitions text us)) (empty_first (pest_keyword_complaints (definitions text us)) (duplicate_complaints (definitions text us)) first_two)
 
   of_duplicates : later_places [] (definitions text us) ≡ []
   of_duplicates =
-      nothing_said (codes "rule ") (codes " already defined") _ (empty_second (pest_keyword_complaints (definitions text us)) (duplicate_complaints (definitions text us)) first_two)
+      nothing_said _ (later_places [] (definitions text us)) (empty_second (pest_keyword_complaints (definitions text us)) (duplicate_complaints (definitions text us)) first_two)
 
   -- rules of trees without complaints on their names: none is a keyword, and they are distinct
   pub no_keyword_read : All (λ r. is_one_of keywords r.name ≡ false) (rules_without_spans rs)
