@@ -7,6 +7,7 @@ pub mod NoArguments
 pub mod NoNodes
 pub mod NoRules
 pub mod PlacedFloats
+pub mod ReadNodes
 pub mod Reasons
 pub mod Refused
 pub mod RuleNames

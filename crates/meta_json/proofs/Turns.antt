@@ -32,3 +32,13 @@ pub ruleset put_last = (now_in_turn_last, now_in_turn_last_two, heft_now_last)
 pub written_on : (values : List Value) (v : Value) (all next ops rest waiting new : List Data) → map view values ++ waiting ≡ all → waiting ≡ next ++ rest → (view v ∷ ops) ≡ next → new ≡ ops ++ rest → map view (values ++ (v ∷ [])) ++ new ≡ all
 written_on values v all next ops rest waiting new h i j k =
     ap (λ t. t ++ new) (map-append view values (v ∷ [])) ∙ (append_assoc (map view values) (view v ∷ []) new ∙ (ap (λ t. map view values ++ (view v ∷ t)) k ∙ (ap (λ t. map view values ++ (t ++ rest)) j ∙ (ap (λ t. map view values ++ t) (sym i) ∙ h))))
+
+-- the same where the operands are what is left of it
+pub written_next : (old written all next ops rest waiting new : List Data) → old ++ waiting ≡ all → waiting ≡ next ++ rest → written ++ ops ≡ old ++ next → new ≡ ops ++ rest → written ++ new ≡ all
+written_next old written all next ops rest waiting new h i k j =
+    ap (λ t. written ++ t) j ∙ (sym (append_assoc written ops rest) ∙ (ap (λ t. t ++ rest) k ∙ (append_assoc old next rest ∙ (ap (λ t. old ++ t) (sym i) ∙ h))))
+
+-- a node before its operands, behind what is written
+pub written_top : (values : List Value) (v : Value) (d : Data) (ops all : List Data) → view v ≡ d → d ∷ ops ≡ all → map view (values ++ (v ∷ [])) ++ ops ≡ map view values ++ all
+written_top values v d ops all h k =
+    ap (λ t. t ++ ops) (map-append view values (v ∷ [])) ∙ (append_assoc (map view values) (view v ∷ []) ops ∙ ap (λ t. map view values ++ t) (ap (λ x. x ∷ ops) h ∙ k))

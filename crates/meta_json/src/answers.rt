@@ -31,7 +31,8 @@ fn answer_value(
 ) -> Result<Value, AllocError>
     ensures { IfOk result (λ value. view value ≡ answer_data builtins.now rules.now) }
 {
-    let builtins = names_value(alloc, builtins)?;
-    let rules = optimized_rules_value(alloc, rules)?;
-    json!(in alloc; {"builtins": builtins, "rules": rules})
+    json!(in alloc; {
+        "builtins": names_value(alloc, builtins)?,
+        "rules": optimized_rules_value(alloc, rules)?
+    })
 }

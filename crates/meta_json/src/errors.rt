@@ -1,12 +1,15 @@
 //! Errors and names as JSON.
-ghost use Rattle.std.specs.Prelude.{◌≡◌, IfOk, string_bytes};
-ghost use Rattle.serde_json.specs.View.{view};
+ghost use Rattle.std.specs.Prelude.{◌≡◌, IfOk, OnOk, codes, string_bytes};
+ghost use Rattle.serde_json.specs.Data.{member, object, put as with_member, string};
+ghost use Rattle.serde_json.specs.View.{members_view, view};
 ghost use Rattle.serde_json.specs.Written.{compact_text};
-ghost use Rattle.meta_json.specs.Errors.{error_data, errors_data, line_col_data, location_data, names_data, pair_data, rule_names_data};
+ghost use Rattle.meta_base.specs.Pieces.PrintedError.{error_line};
+ghost use Rattle.meta_json.specs.Errors.{error_data, error_members, errors_data, line_col_data, location_data, message_members, names_data, pair_data, rule_names_data};
 
+use crate::members::put_text;
 use meta_base::grammar::Rule;
 use meta_base::runtime::{Error, ErrorVariant, InputLocation, LineColLocation};
-use serde_json::{Value, json};
+use serde_json::{Map, Value, json, put};
 use std::alloc::{AllocError, Global};
 
 /// Returns errors as JSON; syntax errors have the expected rules. The only error is an allocation failure.
@@ -70,28 +73,76 @@ fn rule_names_value(alloc: Global, rules: &[Rule]) -> Result<Value, AllocError>
 fn error_value(alloc: Global, error: &Error<Rule>, expected: &[Rule]) -> Result<Value, AllocError>
     ensures { IfOk result (λ value. view value ≡ error_data expected.now error.now) }
 {
-    let location = location_value(alloc, error.location)?;
-    let line_col = line_col_value(alloc, error.line_col)?;
     match &error.variant {
-        ErrorVariant::ParsingError => {
-            let expected = rule_names_value(alloc, expected)?;
-            json!(in alloc; {
-                "expected": expected,
-                "kind": "parsing",
-                "line": error.line(),
-                "line_col": line_col,
-                "location": location,
-                "message": "unknown parsing error"
-            })
-        }
-        ErrorVariant::CustomError { message } => json!(in alloc; {
-            "kind": "custom",
-            "line": error.line(),
-            "line_col": line_col,
-            "location": location,
-            "message": message
-        }),
+        ErrorVariant::ParsingError => syntax_error_value(alloc, error, expected),
+        ErrorVariant::CustomError { message } => custom_error_value(alloc, error, message.as_str()),
     }
+}
+
+/// Returns a syntax error as a value.
+fn syntax_error_value(
+    alloc: Global,
+    error: &Error<Rule>,
+    expected: &[Rule],
+) -> Result<Value, AllocError>
+    ensures { let places = line_col_data error.now.line_col in
+        let location = location_data error.now.location in
+        IfOk result (λ value. view value ≡ object (error_members expected.now ErrorVariant.ParsingError
+        (message_members (error_line error.now) places location))) }
+{
+    let mut members = Map::new(alloc);
+    let expected = rule_names_value(alloc, expected)?;
+    put(&mut members, alloc, "expected", expected)?;
+    put_text(alloc, &mut members, "kind", "parsing")?;
+    put_message(alloc, &mut members, error, "unknown parsing error")?;
+    Ok(Value::Object(members))
+}
+
+/// Returns an error with a message of its own as a value.
+fn custom_error_value(
+    alloc: Global,
+    error: &Error<Rule>,
+    message: &str,
+) -> Result<Value, AllocError>
+    ensures { let places = line_col_data error.now.line_col in
+        let location = location_data error.now.location in
+        IfOk result (λ value. view value ≡ object (member (codes "kind") (string (codes "custom"))
+        (message_members (error_line error.now) places location message.now))) }
+{
+    let mut members = Map::new(alloc);
+    put_text(alloc, &mut members, "kind", "custom")?;
+    put_message(alloc, &mut members, error, message)?;
+    Ok(Value::Object(members))
+}
+
+/// Adds the members of an error's line, of its location and of a message.
+fn put_message(
+    alloc: Global,
+    members: &mut Map<String, Value>,
+    error: &Error<Rule>,
+    message: &str,
+) -> Result<(), AllocError>
+    ensures { let places = line_col_data error.now.line_col in
+        let location = location_data error.now.location in
+        OnOk result (members_view members.new.entries
+        ≡ with_member (codes "message") (string message.now) (with_member (codes "location") location
+        (with_member (codes "line_col") places (with_member (codes "line") (string (error_line error.now))
+        (members_view members.old.entries))))) }
+{
+    put_text(alloc, members, "line", error.line())?;
+    put(
+        members,
+        alloc,
+        "line_col",
+        line_col_value(alloc, error.line_col)?,
+    )?;
+    put(
+        members,
+        alloc,
+        "location",
+        location_value(alloc, error.location)?,
+    )?;
+    put_text(alloc, members, "message", message)
 }
 
 /// Returns the location of an error, as a value.
@@ -109,14 +160,9 @@ fn line_col_value(alloc: Global, places: LineColLocation) -> Result<Value, Alloc
     ensures { IfOk result (λ value. view value ≡ line_col_data places) }
 {
     match places {
-        LineColLocation::Pos(place) => {
-            let place = pair_value(alloc, place)?;
-            json!(in alloc; [place])
-        }
+        LineColLocation::Pos(place) => { json!(in alloc; [pair_value(alloc, place)?]) }
         LineColLocation::Span(start, end) => {
-            let start = pair_value(alloc, start)?;
-            let end = pair_value(alloc, end)?;
-            json!(in alloc; [start, end])
+            json!(in alloc; [pair_value(alloc, start)?, pair_value(alloc, end)?])
         }
     }
 }

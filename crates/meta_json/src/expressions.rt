@@ -40,13 +40,13 @@ pub(crate) trait FromNodes: AsNodes + Release {
     /// first.
     fn of_node(
         alloc: Global,
-        node: JsonNode<'_>,
+        node: &JsonNode<'_>,
         operands: &mut Deep<Vec<Self>>,
     ) -> Result<Self, Unread>
         ensures expr { IfOk result (λ expr. Self.nodes expr ++ in_turn Self.nodes operands.new.value.items
-            ≡ node_data node.entry ∷ in_turn Self.nodes operands.old.value.items) }
+            ≡ node_data node.now ∷ in_turn Self.nodes operands.old.value.items) }
         ensures refused { IfErr result (λ unread. OnReason unread (AreOfNone Self.nodes
-            (node_data node.entry ∷ in_turn Self.nodes operands.old.value.items))) };
+            (node_data node.now ∷ in_turn Self.nodes operands.old.value.items))) };
 }
 
 /// Returns the nodes of an expression in preorder, as values.
@@ -58,11 +58,25 @@ pub(crate) fn nodes_of<E: AsNodes>(alloc: Global, expr: &E) -> Result<Vec<Value>
     let mut waiting = Vec::new(alloc);
     waiting.push(expr)?;
     while let Some(next) = waiting.pop() {
-        let (node, operands) = next.top(alloc)?;
-        values.push(node.to_value(alloc)?)?;
+        let operands = write_top(alloc, next, &mut values)?;
         put(&mut waiting, operands)?;
     }
     Ok(values)
+}
+
+/// Appends the node at the top of an expression, and returns the operands.
+fn write_top<'a, E: AsNodes>(
+    alloc: Global,
+    expr: &'a E,
+    values: &mut Vec<Value>,
+) -> Result<NodeOperands<'a, E>, AllocError>
+    ensures written { IfOk result (λ operands. map view values.new.items ++ nodes_of_operands E.nodes operands
+        ≡ map view values.old.items ++ E.nodes expr.entry.now) }
+    ensures lighter { IfOk result (λ operands. heft_of_operands E.heft operands < E.heft expr.entry.now) }
+{
+    let (node, operands) = expr.top(alloc)?;
+    values.push(node.to_value(alloc)?)?;
+    Ok(operands)
 }
 
 /// Pushes operands on a worklist, the first of them last.
@@ -128,7 +142,8 @@ fn expression_with<E: FromNodes>(
     ensures refused { IfErr result (λ unread. OnReason unread (IsUnreadNode E.nodes (view node.now)
         (in_turn E.nodes operands.old.value.items))) }
 {
-    let expr = E::of_node(alloc, JsonNode::of_value(alloc, node)?, operands)?;
+    let node = JsonNode::of_value(alloc, node)?;
+    let expr = E::of_node(alloc, &node, operands)?;
     operands.push(Deep { value: expr })?;
     Ok(())
 }

@@ -6,6 +6,7 @@ mod ast;
 mod errors;
 mod expressions;
 pub mod laws;
+mod members;
 mod nodes;
 mod optimized;
 mod placed;

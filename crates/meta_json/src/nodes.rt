@@ -14,7 +14,7 @@ use serde_json::{Value, json};
 use std::alloc::{AllocError, Global};
 
 /// A node of an expression: its form and its arguments, without its operands.
-#[derive(Debug, Drop)]
+#[derive(Drop)]
 pub(crate) enum JsonNode<'a> {
     Str(&'a str),
     Insens(&'a str),
@@ -47,7 +47,7 @@ impl<'a> JsonNode<'a> {
         match self {
             JsonNode::Str(text) => with_text(alloc, "str", text),
             JsonNode::Insens(text) => with_text(alloc, "insens", text),
-            JsonNode::Range(low, high) => json!(in alloc; ["range", *low, *high]),
+            JsonNode::Range(low, high) => range_value(alloc, low, high),
             JsonNode::Ident(name) => with_text(alloc, "ident", name),
             JsonNode::PeekSlice(start, end) => slice_value(alloc, *start, *end),
             JsonNode::PosPred => alone(alloc, "pos_pred"),
@@ -60,8 +60,7 @@ impl<'a> JsonNode<'a> {
             JsonNode::RepExact(count) => with_count(alloc, "rep_exact", *count),
             JsonNode::RepMin(least) => with_count(alloc, "rep_min", *least),
             JsonNode::RepMax(greatest) => with_count(alloc, "rep_max", *greatest),
-            JsonNode::RepMinMax(least, greatest) =>
-                json!(in alloc; ["rep_min_max", *least, *greatest]),
+            JsonNode::RepMinMax(least, greatest) => limits_value(alloc, *least, *greatest),
             JsonNode::Skip(texts) => skip_value(alloc, texts),
             JsonNode::Push => alone(alloc, "push"),
             JsonNode::PushLiteral(text) => with_text(alloc, "push_literal", text),
@@ -107,6 +106,22 @@ fn with_count(alloc: Global, form: &str, count: u32) -> Result<Value, AllocError
     ensures { IfOk result (λ value. view value ≡ form_with form.now (count_data count)) }
 {
     json!(in alloc; [form, count])
+}
+
+/// Returns a range.
+fn range_value(alloc: Global, low: &str, high: &str) -> Result<Value, AllocError>
+    ensures { IfOk result (λ value. view value
+        ≡ form_with_two (codes "range") (string low.now) (string high.now)) }
+{
+    json!(in alloc; ["range", low, high])
+}
+
+/// Returns a repetition with both limits.
+fn limits_value(alloc: Global, least: u32, greatest: u32) -> Result<Value, AllocError>
+    ensures { IfOk result (λ value. view value
+        ≡ form_with_two (codes "rep_min_max") (count_data least) (count_data greatest)) }
+{
+    json!(in alloc; ["rep_min_max", least, greatest])
 }
 
 /// Returns a slice of the stack.

@@ -19,49 +19,46 @@ impl AsNodes for OptimizedExpr {
         &self,
         alloc: Global,
     ) -> Result<(JsonNode<'_>, NodeOperands<'_, OptimizedExpr>), AllocError> {
-        match self {
-            OptimizedExpr::Str(text) => Ok((JsonNode::Str(text.as_str()), NodeOperands::None)),
-            OptimizedExpr::Insens(text) => Ok((
-                JsonNode::Insens(text.as_str()),
-                NodeOperands::None,
-            )),
-            OptimizedExpr::Range(low, high) => Ok((
+        Ok(match self {
+            OptimizedExpr::Str(text) => (JsonNode::Str(text.as_str()), NodeOperands::None),
+            OptimizedExpr::Insens(text) => (JsonNode::Insens(text.as_str()), NodeOperands::None),
+            OptimizedExpr::Range(low, high) => (
                 JsonNode::Range(low.as_str(), high.as_str()),
                 NodeOperands::None,
-            )),
-            OptimizedExpr::Ident(name) => Ok((JsonNode::Ident(name.as_str()), NodeOperands::None)),
-            OptimizedExpr::PeekSlice(start, end) => Ok((
+            ),
+            OptimizedExpr::Ident(name) => (JsonNode::Ident(name.as_str()), NodeOperands::None),
+            OptimizedExpr::PeekSlice(start, end) => (
                 JsonNode::PeekSlice(*start, *end),
                 NodeOperands::None,
-            )),
-            OptimizedExpr::PosPred(inner) => Ok((JsonNode::PosPred, NodeOperands::One(inner))),
-            OptimizedExpr::NegPred(inner) => Ok((JsonNode::NegPred, NodeOperands::One(inner))),
-            OptimizedExpr::Seq(left, right) => Ok((JsonNode::Seq, NodeOperands::Two(left, right))),
-            OptimizedExpr::Choice(left, right) => Ok((
+            ),
+            OptimizedExpr::PosPred(inner) => (JsonNode::PosPred, NodeOperands::One(inner)),
+            OptimizedExpr::NegPred(inner) => (JsonNode::NegPred, NodeOperands::One(inner)),
+            OptimizedExpr::Seq(left, right) => (JsonNode::Seq, NodeOperands::Two(left, right)),
+            OptimizedExpr::Choice(left, right) => (
                 JsonNode::Choice,
                 NodeOperands::Two(left, right),
-            )),
-            OptimizedExpr::Opt(inner) => Ok((JsonNode::Opt, NodeOperands::One(inner))),
-            OptimizedExpr::Rep(inner) => Ok((JsonNode::Rep, NodeOperands::One(inner))),
-            OptimizedExpr::RepOnce(inner) => Ok((JsonNode::RepOnce, NodeOperands::One(inner))),
-            OptimizedExpr::RestoreOnErr(inner) => Ok((
+            ),
+            OptimizedExpr::Opt(inner) => (JsonNode::Opt, NodeOperands::One(inner)),
+            OptimizedExpr::Rep(inner) => (JsonNode::Rep, NodeOperands::One(inner)),
+            OptimizedExpr::RepOnce(inner) => (JsonNode::RepOnce, NodeOperands::One(inner)),
+            OptimizedExpr::RestoreOnErr(inner) => (
                 JsonNode::RestoreOnErr,
                 NodeOperands::One(inner),
-            )),
-            OptimizedExpr::Skip(texts) => Ok((
+            ),
+            OptimizedExpr::Skip(texts) => (
                 JsonNode::Skip(copies(alloc, texts.as_slice())?),
                 NodeOperands::None,
-            )),
-            OptimizedExpr::Push(inner) => Ok((JsonNode::Push, NodeOperands::One(inner))),
-            OptimizedExpr::PushLiteral(text) => Ok((
+            ),
+            OptimizedExpr::Push(inner) => (JsonNode::Push, NodeOperands::One(inner)),
+            OptimizedExpr::PushLiteral(text) => (
                 JsonNode::PushLiteral(text.as_str()),
                 NodeOperands::None,
-            )),
-            OptimizedExpr::NodeTag(inner, tag) => Ok((
+            ),
+            OptimizedExpr::NodeTag(inner, tag) => (
                 JsonNode::NodeTag(tag.as_str()),
                 NodeOperands::One(inner),
-            )),
-        }
+            ),
+        })
     }
 }
 
@@ -69,47 +66,45 @@ impl FromNodes for OptimizedExpr {
     #[tactic(auto, using(crate::proofs::Turns::in_turn_last, crate::proofs::Turns::in_turn_last_two))]
     fn of_node(
         alloc: Global,
-        node: JsonNode<'_>,
+        node: &JsonNode<'_>,
         operands: &mut Deep<Vec<OptimizedExpr>>,
     ) -> Result<OptimizedExpr, Unread> {
-        match node {
-            JsonNode::Str(text) => Ok(OptimizedExpr::Str(String::from_str(alloc, text)?)),
-            JsonNode::Insens(text) => Ok(OptimizedExpr::Insens(String::from_str(alloc, text)?)),
+        Ok(match node {
+            JsonNode::Str(text) => OptimizedExpr::Str(String::from_str(alloc, text)?),
+            JsonNode::Insens(text) => OptimizedExpr::Insens(String::from_str(alloc, text)?),
             JsonNode::Range(low, high) => {
                 let low = String::from_str(alloc, low)?;
-                Ok(OptimizedExpr::Range(low, String::from_str(alloc, high)?))
+                OptimizedExpr::Range(low, String::from_str(alloc, high)?)
             }
-            JsonNode::Ident(name) => Ok(OptimizedExpr::Ident(String::from_str(alloc, name)?)),
-            JsonNode::PeekSlice(start, end) => Ok(OptimizedExpr::PeekSlice(start, end)),
-            JsonNode::PosPred => Ok(OptimizedExpr::PosPred(one_operand(alloc, operands)?)),
-            JsonNode::NegPred => Ok(OptimizedExpr::NegPred(one_operand(alloc, operands)?)),
+            JsonNode::Ident(name) => OptimizedExpr::Ident(String::from_str(alloc, name)?),
+            JsonNode::PeekSlice(start, end) => OptimizedExpr::PeekSlice(*start, *end),
+            JsonNode::PosPred => OptimizedExpr::PosPred(one_operand(alloc, operands)?),
+            JsonNode::NegPred => OptimizedExpr::NegPred(one_operand(alloc, operands)?),
             JsonNode::Seq => {
                 let (left, right) = two_operands(alloc, operands)?;
-                Ok(OptimizedExpr::Seq(left, right))
+                OptimizedExpr::Seq(left, right)
             }
             JsonNode::Choice => {
                 let (left, right) = two_operands(alloc, operands)?;
-                Ok(OptimizedExpr::Choice(left, right))
+                OptimizedExpr::Choice(left, right)
             }
-            JsonNode::Opt => Ok(OptimizedExpr::Opt(one_operand(alloc, operands)?)),
-            JsonNode::Rep => Ok(OptimizedExpr::Rep(one_operand(alloc, operands)?)),
-            JsonNode::RepOnce => Ok(OptimizedExpr::RepOnce(one_operand(alloc, operands)?)),
-            JsonNode::Skip(texts) => Ok(OptimizedExpr::Skip(texts)),
-            JsonNode::Push => Ok(OptimizedExpr::Push(one_operand(alloc, operands)?)),
+            JsonNode::Opt => OptimizedExpr::Opt(one_operand(alloc, operands)?),
+            JsonNode::Rep => OptimizedExpr::Rep(one_operand(alloc, operands)?),
+            JsonNode::RepOnce => OptimizedExpr::RepOnce(one_operand(alloc, operands)?),
+            JsonNode::Skip(texts) => OptimizedExpr::Skip(copies(alloc, texts)?),
+            JsonNode::Push => OptimizedExpr::Push(one_operand(alloc, operands)?),
             JsonNode::PushLiteral(text) => {
-                Ok(OptimizedExpr::PushLiteral(String::from_str(alloc, text)?))
+                OptimizedExpr::PushLiteral(String::from_str(alloc, text)?)
             }
             JsonNode::NodeTag(tag) => {
                 let tag = String::from_str(alloc, tag)?;
-                Ok(OptimizedExpr::NodeTag(one_operand(alloc, operands)?, tag))
+                OptimizedExpr::NodeTag(one_operand(alloc, operands)?, tag)
             }
-            JsonNode::RestoreOnErr => Ok(OptimizedExpr::RestoreOnErr(one_operand(
-                alloc, operands,
-            )?)),
+            JsonNode::RestoreOnErr => OptimizedExpr::RestoreOnErr(one_operand(alloc, operands)?),
             JsonNode::RepExact(_)
             | JsonNode::RepMin(_)
             | JsonNode::RepMax(_)
-            | JsonNode::RepMinMax(_, _) => { Err(Unread::Reason(RefusalReason::Form)) }
-        }
+            | JsonNode::RepMinMax(_, _) => { return Err(Unread::Reason(RefusalReason::Form)) }
+        })
     }
 }

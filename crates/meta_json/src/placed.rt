@@ -8,11 +8,12 @@ ghost use Rattle.meta_spanned.specs.Nodes.{piece_of, view};
 ghost use Rattle.meta_json.specs.Placed.{nodes_of_placed, placed_rule_data, placed_rules_data, span_data, spans_data};
 
 use crate::expressions::{AsNodes, NodeOperands, nodes_of};
+use crate::members::put_text;
 use crate::nodes::JsonNode;
 use crate::rules::name_of_type;
 use meta_base::runtime::Span;
 use meta_spanned::{ParserExpr, ParserNode, ParserRule, push_operands};
-use serde_json::{Value, json};
+use serde_json::{Map, Value, json, put};
 use std::alloc::{AllocError, Global};
 
 /// Returns rules with the spans of their names and nodes as JSON. The only error is an allocation failure.
@@ -38,16 +39,16 @@ fn placed_rules_value(alloc: Global, rules: &[ParserRule<'_>]) -> Result<Value, 
 fn placed_rule_value(alloc: Global, rule: &ParserRule<'_>) -> Result<Value, AllocError>
     ensures { IfOk result (λ value. value_view value ≡ placed_rule_data rule.now) }
 {
+    let mut members = Map::new(alloc);
     let nodes = nodes_of(alloc, &rule.node)?;
-    let spans = spans_value(alloc, &rule.node)?;
+    put(&mut members, alloc, "expr", Value::Array(nodes))?;
+    put_text(alloc, &mut members, "name", rule.name.as_str())?;
     let name_span = span_value(alloc, &rule.span)?;
-    json!(in alloc; {
-        "expr": Value::Array(nodes),
-        "name": rule.name.as_str(),
-        "name_span": name_span,
-        "spans": spans,
-        "type": name_of_type(rule.ty)
-    })
+    put(&mut members, alloc, "name_span", name_span)?;
+    let spans = spans_value(alloc, &rule.node)?;
+    put(&mut members, alloc, "spans", spans)?;
+    put_text(alloc, &mut members, "type", name_of_type(rule.ty))?;
+    Ok(Value::Object(members))
 }
 
 /// Returns the spans of a node and its descendants in preorder, as a value.

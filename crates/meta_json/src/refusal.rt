@@ -6,7 +6,8 @@ ghost use Rattle.meta_json.specs.declared.refusal.Refusal.TheVariants.{Memory};
 ghost use Rattle.meta_json.specs.declared.refusal.Unread.TheVariants as unread_is;
 ghost use Rattle.meta_json.specs.Refusals.{at_node, in_rule, message_data, message_of, refusal_data};
 
-use serde_json::{Value, json};
+use crate::members::{put_size, put_text};
+use serde_json::{Map, Value};
 use std::alloc::{AllocError, AllocFailed, Global};
 
 /// The reason of a refusal.
@@ -85,7 +86,7 @@ impl From<AllocError> for Refusal {
 }
 
 /// The refusal of a part of a value.
-#[derive(Debug, Drop)]
+#[derive(Drop)]
 pub(crate) enum Unread {
     Memory,
     Reason(RefusalReason),
@@ -148,14 +149,23 @@ pub fn refusal_text(
 fn refusal_value(alloc: Global, place: RefusalLocation, message: &str) -> Result<Value, AllocError>
     ensures { IfOk result (λ value. view value ≡ message_data place message.now) }
 {
+    let mut members = Map::new(alloc);
+    put_text(alloc, &mut members, "message", message)?;
     match place {
         RefusalLocation::Text(line, column) => {
-            json!(in alloc; {"column": column, "line": line, "message": message})
+            put_size(alloc, &mut members, "column", column)?;
+            put_size(alloc, &mut members, "line", line)?;
+            Ok(Value::Object(members))
         }
-        RefusalLocation::Whole => json!(in alloc; {"message": message}),
-        RefusalLocation::Rule(rule) => json!(in alloc; {"message": message, "rule": rule}),
+        RefusalLocation::Whole => Ok(Value::Object(members)),
+        RefusalLocation::Rule(rule) => {
+            put_size(alloc, &mut members, "rule", rule)?;
+            Ok(Value::Object(members))
+        }
         RefusalLocation::Node(rule, node) => {
-            json!(in alloc; {"message": message, "node": node, "rule": rule})
+            put_size(alloc, &mut members, "node", node)?;
+            put_size(alloc, &mut members, "rule", rule)?;
+            Ok(Value::Object(members))
         }
     }
 }

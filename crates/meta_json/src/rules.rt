@@ -12,11 +12,12 @@ ghost use Rattle.meta_json.specs.Reading.{AreOptimizedRules, AreRules, members_o
 ghost use Rattle.meta_json.specs.Unread.{IsUnreadRule};
 
 use crate::expressions::{AsNodes, FromNodes, expression_of, nodes_of};
+use crate::members::put_text;
 use crate::refusal::{Refusal, RefusalLocation, RefusalReason, Unread};
 use meta_ast::ast::{Rule, RuleType};
 use meta_ast::deep::Deep;
 use meta_ast::optimized::OptimizedRule;
-use serde_json::{Value, json};
+use serde_json::{Map, Value, put};
 use std::alloc::{AllocError, Global};
 
 /// Returns rules as JSON. The only error is an allocation failure.
@@ -71,8 +72,12 @@ fn rule_value<E: AsNodes>(
 ) -> Result<Value, AllocError>
     ensures { IfOk result (λ value. view value ≡ rule_data name.now ty (E.nodes body.now)) }
 {
+    let mut members = Map::new(alloc);
     let nodes = nodes_of(alloc, body)?;
-    json!(in alloc; {"expr": Value::Array(nodes), "name": name, "type": name_of_type(ty)})
+    put(&mut members, alloc, "expr", Value::Array(nodes))?;
+    put_text(alloc, &mut members, "name", name)?;
+    put_text(alloc, &mut members, "type", name_of_type(ty))?;
+    Ok(Value::Object(members))
 }
 
 /// Returns the name of a type.

@@ -32,4 +32,4 @@ pub returns-in_err-left-in-Choice-clause-refused : goal.returns-in_err-left-in-C
 returns-in_err-left-in-Choice-clause-refused c = optimized_missing _ _ _ _ c.in_err-left-in-Choice.field-0.0 c.in-Choice.is c.from_residual-in_err-left-in-Choice.ensures.1 c.in_err-left-in-Choice.ensures.refused
 
 pub returns-in-RepExact-clause-refused : goal.returns-in-RepExact-clause-refused
-returns-in-RepExact-clause-refused c = no_counted c.args.node _ c.in-RepExact.is
+returns-in-RepExact-clause-refused c = no_counted c.args.node.now _ c.in-RepExact.is
