@@ -1,7 +1,7 @@
 //! Fixes of a text's syntax errors, applied one after another.
 #![tactic(auto)]
 
-ghost use Rattle.std.specs.Prelude.{◌≡◌, ℕ, List, IfOk, IfSome, string_bytes, true};
+ghost use Rattle.std.specs.Prelude.{◌≡◌, ◌≤◌, ℕ, List, IfOk, IfSome, string_bytes, true};
 ghost use Rattle.lint_fixes.specs.Fixes.{AreFixed, IsApplied, IsErrorOf, IsFixed, IsFurther};
 ghost use Rattle.meta_base.specs.declared.grammar.Rule.TheVariants.{grammar_rules};
 ghost use Rattle.meta_syntax.specs.Parses.{FailsAt, IsSyntaxError};
@@ -39,6 +39,7 @@ struct Fixed {
 pub fn mend(alloc: Global, text: &str) -> Result<Mended, AllocError>
     ensures fixed { IfOk result (λ mended. AreFixed text.now mended.count (string_bytes mended.text)) }
     ensures error { IfOk result (λ mended. IsErrorOf (string_bytes mended.text) mended.error) }
+    ensures most { IfOk result (λ mended. mended.count ≤ 100) }
 {
     let error = find_error(alloc, text)?;
     let mut mended = Mended {
