@@ -1,5 +1,5 @@
 -- Ends of rules, from the answers of the matcher.
-use Rattle.std.proofs.Common.{◌≡◌, ℕ, List, subst, sym}
+use Rattle.std.proofs.Common.{ℕ, List}
 use Rattle.matcher_program.specs.Programs.{Fits}
 use Rattle.matcher_program.specs.declared.form.Property.{Property}
 use Rattle.matcher_support.specs.Sets.{is_in_property}

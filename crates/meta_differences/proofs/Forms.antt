@@ -1,12 +1,12 @@
 -- The rules of a grammar in both forms.
-use Rattle.std.proofs.Common.{◌≡◌, List, ℕ, Err, IfOk, IfSome, None, Ok, Option, Result, Some, subst, sym}
+use Rattle.std.proofs.Common.{◌≡◌, List, ℕ, Err, IfNone, IfOk, IfSome, None, Ok, Option, Result, Some, refl, subst, sym}
 use Rattle.std.specs.Borrow.{Bor}
 use Rattle.meta_ast.specs.Optimized.{optimized_rules_of}
 use Rattle.meta_ast.specs.declared.optimized.OptimizedRule.{OptimizedRule}
 use Rattle.meta_base.specs.Language.Expression.{Grammar}
 use Rattle.meta_base.specs.Language.Text.{Text}
 use Rattle.meta_matcher.specs.declared.matcher.Matcher.{Matcher}
-use Rattle.meta_differences.specs.Differences.{AreForms, AreOptimized, Distinguishes, IsRunnable, ShowsDifference, matcher_grammar}
+use Rattle.meta_differences.specs.Differences.{AreForms, AreOptimized, CannotRun, Distinguishes, IsRunnable, LacksForms, ShowsDifference, as_optimized, matcher_grammar}
 use Rattle.meta_differences.specs.declared.comparer.RunnableForms.{RunnableForms}
 use Rattle.meta_differences.specs.declared.difference.Difference.{Difference}
 use Rattle.pest_meta.specs.Spelling.{IsAnswer}
@@ -24,6 +24,13 @@ optimized_as grammar builtins answer (Ok (Some matcher)) a e = record {
 }
 optimized_as grammar builtins answer (Ok None) a e = tt
 optimized_as grammar builtins answer (Err x) a e = tt
+
+-- the optimizer's rules cannot be run
+pub lacks_optimized : {E : Type 0} (grammar : List ℕ) (builtins : List (Bor (List ℕ))) (answer : List OptimizedRule) (result : Result (Option Matcher) E) → IsAnswer grammar builtins answer
+    → IfOk result (λ found. IfNone found (CannotRun (optimized_rules_of answer))) → IfOk result (λ found. IfNone found (LacksForms grammar))
+lacks_optimized grammar builtins answer (Ok (Some matcher)) a h = tt
+lacks_optimized grammar builtins answer (Ok None) a h = as_optimized (optimized_rules_of answer) (record { builtins = builtins; answer = answer; answers = a; same = refl }) h
+lacks_optimized grammar builtins answer (Err x) a h = tt
 
 -- both matchers
 pub both_forms : (grammar : List ℕ) (rules : Grammar) (forms : RunnableForms) → IsWritten grammar rules → matcher_grammar forms.written ≡ rules → IsRunnable forms.written → AreOptimized grammar (matcher_grammar forms.optimized) → IsRunnable forms.optimized

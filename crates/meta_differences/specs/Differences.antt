@@ -2,7 +2,10 @@
 use Rattle.std.specs.Prelude.{◌≡◌, ◌≢◌, ℕ, List, IfSome, string_bytes}
 use Rattle.std.specs.Borrow.{Bor}
 use Rattle.matcher_program.specs.Programs.{Fits, grammar_of}
-use Rattle.matcher_support.specs.Sets.{is_in_property}
+use Rattle.matcher_program.specs.Refusals.{IsReason}
+use Rattle.matcher_program.specs.declared.compile.Unfit.{Unfit}
+use Rattle.matcher_program.specs.declared.compile.Unfit.TheVariants as unfit
+use Rattle.matcher_support.specs.Sets.{has_set, is_in_property}
 use Rattle.meta_ast.specs.Optimized.{optimized_rules_of}
 use Rattle.meta_ast.specs.declared.optimized.OptimizedRule.{OptimizedRule}
 use Rattle.meta_base.specs.Language.Expression.{Grammar}
@@ -15,7 +18,7 @@ use Rattle.meta_differences.specs.declared.comparer.RunnableForms.{RunnableForms
 use Rattle.meta_differences.specs.declared.difference.Difference.{Difference}
 use Rattle.meta_differences.specs.declared.difference.RuleEnd.{RuleEnd}
 use Rattle.meta_differences.specs.declared.difference.RuleEnd.TheVariants as rule_end
-use Rattle.pest_meta.specs.Spelling.{IsAnswer}
+use Rattle.pest_meta.specs.Spelling.{HasRefusal, IsAnswer}
 use Rattle.pest_meta.specs.Written.{IsWritten}
 
 -- the rule of a name, called at the start of a text, fails, or matches the bytes before this one
@@ -60,6 +63,16 @@ pub record AreForms (grammar : List ℕ) (forms : RunnableForms) : Type 0 where
   pub are_optimized : AreOptimized grammar (matcher_grammar forms.optimized)
   pub written : IsRunnable forms.written
   pub optimized : IsRunnable forms.optimized
+
+-- rules cannot be run: a name in them is unknown, or a bound of a range is not one character
+abbrev pub CannotRun : Grammar → Type 0
+CannotRun rules = (why : Unfit) × (why ≢ unfit.Memory) × IsReason has_set rules why
+
+-- why a grammar has not both forms: it is refused, or one of them cannot be run
+pub data LacksForms (grammar : List ℕ) : Type 0 where
+  refusal : HasRefusal grammar → LacksForms grammar
+  as_written : (rules : Grammar) → IsWritten grammar rules → CannotRun rules → LacksForms grammar
+  as_optimized : (rules : Grammar) → AreOptimized grammar rules → CannotRun rules → LacksForms grammar
 
 abbrev pub IsComparer : Comparer → Type 0
 IsComparer comparer = IfSome comparer.forms (AreForms comparer.grammar.now)

@@ -1,6 +1,6 @@
 -- Messages of differences.
-use Rattle.std.specs.Prelude.{◌≡◌, ℕ, List, ◌++◌, codes, encode_utf8_all, string_bytes, take}
-use Rattle.std.specs.Str.{chars}
+use Rattle.std.specs.Prelude.{◌≡◌, ◌⊎◌, ℕ, List, ◌++◌, codes, encode_utf8_all, string_bytes, take}
+use Rattle.std.specs.Str.{IsCharBoundary, chars}
 use Rattle.meta_ast.specs.Printing.{literal}
 use Rattle.meta_base.specs.Language.Text.{Text}
 use Rattle.meta_differences.specs.Differences.{ShowsDifference}
@@ -23,6 +23,14 @@ abbrev pub difference_message : Difference → List ℕ
 difference_message d = escaped_bytes (codes "on " ++ quoted (string_bytes d.text) ++ codes " the rule "
     ++ end_message (string_bytes d.text) d.written ++ codes " as written, and "
     ++ end_message (string_bytes d.text) d.optimized ++ codes " as pest runs it")
+
+-- an end is within a character of the text, or behind it
+abbrev pub IsCut : List ℕ → RuleEnd → Type 0
+IsCut text rule_end.Failure = ⊥
+IsCut text (rule_end.At end_) = ¬ (IsCharBoundary text end_)
+
+abbrev pub HasCutEnd : Difference → Type 0
+HasCutEnd d = IsCut (string_bytes d.text) d.written ⊎ IsCut (string_bytes d.text) d.optimized
 
 -- a message says of some text on which the rule of a name ends otherwise how it ends
 pub record ReportsDifference (grammar : List ℕ) (n : Text) (message : List ℕ) : Type 0 where

@@ -1,8 +1,10 @@
 //! Rules in two forms.
-ghost use Rattle.std.specs.Prelude.{◌≡◌, IfOk, IfSome, chars};
+ghost use Rattle.std.specs.Prelude.{◌≡◌, IfNone, IfOk, IfSome, chars};
 ghost use Rattle.meta_ast.specs.Optimized.{optimized_rules_of};
 ghost use Rattle.meta_differences.specs.Differences.{AreForms, AreOptimized, Distinguishes, EndsAs};
-ghost use Rattle.meta_differences.specs.Differences.{IsComparer, IsRunnable, ShowsDifference, matcher_grammar};
+ghost use Rattle.meta_differences.specs.Differences.{CannotRun, IsComparer, IsRunnable, LacksForms, ShowsDifference};
+ghost use Rattle.meta_differences.specs.Differences.{matcher_grammar};
+ghost use Rattle.pest_meta.specs.Spelling.{HasRefusal};
 ghost use Rattle.pest_meta.specs.Written.{IsWritten};
 
 use crate::difference::{Difference, RuleEnd};
@@ -41,6 +43,7 @@ impl<'t> Comparer<'t> {
     pub fn new(alloc: Global, grammar: &'t str) -> Result<Comparer<'t>, AllocError>
         ensures grammar { IfOk result (λ comparer. comparer.grammar.now ≡ grammar.entry.now) }
         ensures forms { IfOk result IsComparer }
+        ensures lacking { IfOk result (λ comparer. IfNone comparer.forms (LacksForms grammar.entry.now)) }
     {
         let forms = forms_of(alloc, grammar)?;
         Ok(Comparer { grammar, forms })
@@ -138,7 +141,8 @@ fn end_of(
 
 /// Reads and compiles the rules of a grammar, or returns none where it is refused, or they cannot be run.
 fn forms_of(alloc: Global, grammar: &str) -> Result<Option<RunnableForms>, AllocError>
-    ensures { IfOk result (λ found. IfSome found (AreForms grammar.now)) }
+    ensures forms { IfOk result (λ found. IfSome found (AreForms grammar.now)) }
+    ensures lacking { IfOk result (λ found. IfNone found (LacksForms grammar.now)) }
 {
     let Some(rules) = written_rules(alloc, grammar)? else {
         return Ok(None);
@@ -161,8 +165,9 @@ fn written_rules(
     alloc: Global,
     grammar: &str,
 ) -> Result<Option<Deep<Vec<OptimizedRule>>>, AllocError>
-    ensures { IfOk result (λ found. IfSome found (λ rules.
+    ensures rules { IfOk result (λ found. IfSome found (λ rules.
         IsWritten grammar.now (optimized_rules_of rules.value.items))) }
+    ensures refused { IfOk result (λ found. IfNone found (HasRefusal grammar.now)) }
 {
     match parse_as_written(alloc, grammar) {
         Ok(rules) => Ok(Some(Deep { value: rules })),
@@ -177,6 +182,7 @@ fn optimized_matcher(alloc: Global, grammar: &str) -> Result<Option<Matcher>, Al
     ensures optimized { IfOk result (λ found. IfSome found (λ matcher.
         AreOptimized grammar.now (matcher_grammar matcher))) }
     ensures runnable { IfOk result (λ found. IfSome found IsRunnable) }
+    ensures lacking { IfOk result (λ found. IfNone found (LacksForms grammar.now)) }
 {
     match parse_and_optimize(alloc, grammar) {
         Ok((_, rules)) => {
@@ -193,10 +199,11 @@ fn compile(alloc: Global, rules: &[OptimizedRule]) -> Result<Option<Matcher>, Al
     ensures means { IfOk result (λ found. IfSome found (λ matcher.
         matcher_grammar matcher ≡ optimized_rules_of rules.now)) }
     ensures runnable { IfOk result (λ found. IfSome found IsRunnable) }
+    ensures unfit { IfOk result (λ found. IfNone found (CannotRun (optimized_rules_of rules.now))) }
 {
     match Matcher::new(alloc, rules, &UnicodeProperties) {
         Ok(matcher) => Ok(Some(matcher)),
         Err(Unfit::Memory) => Err(AllocError),
-        Err(_) => Ok(None),
+        Err(Unfit::UnknownName(_) | Unfit::Bound(_)) => Ok(None),
     }
 }

@@ -1,6 +1,7 @@
 //! Two ends on a text.
-ghost use Rattle.std.specs.Prelude.{◌≡◌, ◌++◌, IfOk, IfSome, codes, string_bytes};
+ghost use Rattle.std.specs.Prelude.{◌≡◌, ◌++◌, IfNone, IfOk, IfSome, codes, string_bytes};
 ghost use Rattle.meta_differences.specs.Messages as spec;
+ghost use Rattle.meta_differences.specs.Messages.{HasCutEnd, IsCut};
 
 use matcher_support::literal::Literal;
 use std::alloc::{AllocError, Global};
@@ -29,8 +30,9 @@ impl Difference {
     /// Returns a line that shows the text and both ends, with hidden characters as escapes; none if an end is
     /// within a character. The only error is an allocation failure.
     pub fn message(&self, alloc: Global) -> Result<Option<String>, AllocError>
-        ensures { IfOk result (λ found. IfSome found (λ message.
+        ensures text { IfOk result (λ found. IfSome found (λ message.
             string_bytes message ≡ spec.difference_message self.now)) }
+        ensures told { IfOk result (λ found. IfNone found (HasCutEnd self.now)) }
     {
         let text = self.text.as_str();
         let Some(written) = end_message(alloc, text, self.written)? else {
@@ -49,23 +51,24 @@ impl Difference {
 
 /// Returns the words for an end on a text, or none if it is within a character.
 fn end_message(alloc: Global, text: &str, end: RuleEnd) -> Result<Option<String>, AllocError>
-    ensures { IfOk result (λ found. IfSome found (λ message.
+    ensures text { IfOk result (λ found. IfSome found (λ message.
         string_bytes message ≡ spec.end_message text.now end)) }
+    ensures told { IfOk result (λ found. IfNone found (IsCut text.now end)) }
 {
     match end {
         RuleEnd::Failure => Ok(Some(String::from_str(alloc, "fails")?)),
         RuleEnd::At(end) => match text.get(..end) {
-            Some(part) => matched_message(alloc, part),
+            Some(part) => Ok(Some(matched_message(alloc, part)?)),
             None => Ok(None),
         },
     }
 }
 
 /// Returns the words for a match of this part.
-fn matched_message(alloc: Global, part: &str) -> Result<Option<String>, AllocError>
-    ensures { IfOk result (λ found. IfSome found (λ message.
-        string_bytes message ≡ codes "matches " ++ spec.quoted part.now)) }
+fn matched_message(alloc: Global, part: &str) -> Result<String, AllocError>
+    ensures { IfOk result (λ message.
+        string_bytes message ≡ codes "matches " ++ spec.quoted part.now) }
 {
     let quoted = Literal(part);
-    Ok(Some(format!(in alloc; "matches {quoted}")?))
+    format!(in alloc; "matches {quoted}")
 }

@@ -1,5 +1,10 @@
 //! Pieces of a rule.
+ghost use Rattle.std.specs.Prelude.{◌≡◌, length, true};
+ghost use Rattle.std.specs.List.{list_all};
+ghost use Rattle.meta_builtins.specs.CharSets.{has_character};
+
 use meta_ast::optimized::{OptimizedExpr, OptimizedRule};
+use meta_builtins::{Builtin, CharSet};
 use std::alloc::{AllocError, Global};
 use std::collections::HashMap;
 
@@ -164,13 +169,36 @@ fn own_text<'e>(bodies: &RuleBodies<'_>, part: &'e OptimizedExpr) -> &'e str {
 
 /// A character of a builtin's set, and nothing for one that takes nothing on the empty stack.
 fn builtin_text(name: &str) -> &'static str {
+    match Builtin::from_name(name) {
+        Some(Builtin::Set(set)) => sample_character(set),
+        Some(Builtin::Newline) => "\n",
+        Some(Builtin::Soi | Builtin::Eoi) => "",
+        Some(Builtin::Peek | Builtin::PeekAll | Builtin::Pop | Builtin::PopAll | Builtin::Drop) =>
+            "",
+        None => property_text(name),
+    }
+}
+
+/// A character of a set.
+fn sample_character(set: CharSet) -> &'static str
+    ensures one { length result.now ≡ 1 }
+    ensures contained { list_all (has_character set) result.now ≡ true }
+{
+    match set {
+        CharSet::AsciiDigit | CharSet::AsciiNonzeroDigit => "1",
+        CharSet::AsciiBinDigit | CharSet::AsciiOctDigit | CharSet::AsciiHexDigit => "1",
+        CharSet::AsciiAlphaUpper => "A",
+        CharSet::Any | CharSet::Ascii | CharSet::AsciiAlphanumeric => "a",
+        CharSet::AsciiAlpha | CharSet::AsciiAlphaLower => "a",
+    }
+}
+
+/// A character with a Unicode property, where the name is one of a few, and else `a`.
+fn property_text(name: &str) -> &'static str {
     match name {
-        "SOI" | "EOI" | "PEEK" | "PEEK_ALL" | "POP" | "POP_ALL" | "DROP" => "",
-        "NEWLINE" => "\n",
         "WHITE_SPACE" | "SPACE_SEPARATOR" => " ",
-        "ASCII_ALPHA_UPPER" | "UPPERCASE" | "UPPERCASE_LETTER" => "A",
-        "NUMBER" | "DECIMAL_NUMBER" => "1",
-        _ if name.ends_with("DIGIT") => "1",
+        "UPPERCASE" | "UPPERCASE_LETTER" => "A",
+        "NUMBER" | "DECIMAL_NUMBER" | "HEX_DIGIT" => "1",
         _ => "a",
     }
 }
