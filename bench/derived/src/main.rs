@@ -1,27 +1,123 @@
-//! How long the parser takes that pest_derive makes of examples/json.pest: derived FILE.. . It prints for each file
-//! its bytes, the milliseconds of one parse, the least of several, and the million bytes a second.
-use pest::Parser;
-use std::time::{Duration, Instant};
+//! How long the parsers take that pest_derive makes of the grammars of bench/matching: derived NAME TEXT [TURNS].
+//!
+//! NAME is a grammar's, TEXT names a file. Without TURNS it prints how many tokens the parser finds, and a checksum of
+//! them, or where it fails. With TURNS the text is parsed so many times, and a line has its bytes, the milliseconds of
+//! processor time that one parse takes, the least of all, and the million bytes a second. bench/matching writes the
+//! grammars.
+use pest::error::InputLocation;
+use pest::iterators::Pairs;
+use pest::{Parser, RuleType, Token};
 
-/// So many times each text is parsed.
-const TURNS: usize = 9;
+/// The factor of the checksum, which is that of FNV-1a.
+const FACTOR: u64 = 0x100_0000_01b3;
 
-#[derive(pest_derive::Parser)]
-#[grammar = "../../../examples/json.pest"]
-struct Json;
+/// What the checksum takes in for the end of a tree.
+const END: u64 = 256;
+
+extern "C" {
+    /// The processor time of this process, in microseconds.
+    fn clock() -> i64;
+}
+
+fn now() -> i64 {
+    unsafe { clock() }
+}
+
+/// Takes a value into a checksum.
+fn mix(sum: u64, value: u64) -> u64 {
+    (sum ^ value).wrapping_mul(FACTOR)
+}
+
+/// The number of tokens, and a checksum of their rules and positions.
+fn checksum<R: RuleType>(pairs: Pairs<R>) -> (usize, u64) {
+    let mut count = 0;
+    let mut sum = 0;
+    for token in pairs.tokens() {
+        count += 1;
+        sum = match token {
+            Token::Start { rule, pos } => {
+                let name = format!("{rule:?}");
+                let named = name.bytes().fold(sum, |sum, byte| mix(sum, u64::from(byte)));
+                mix(named, pos.pos() as u64)
+            }
+            Token::End { pos, .. } => mix(mix(sum, END), pos.pos() as u64),
+        };
+    }
+    (count, sum)
+}
+
+/// Prints what a parser finds in a text.
+fn describe<P: Parser<R>, R: RuleType>(rule: R, text: &str) {
+    match P::parse(rule, text) {
+        Ok(pairs) => {
+            let (count, sum) = checksum(pairs);
+            println!("{count} tokens, {sum}");
+        }
+        Err(error) => match error.location {
+            InputLocation::Pos(place) => println!("no match, at byte {place}"),
+            InputLocation::Span((start, _)) => println!("no match, at byte {start}"),
+        },
+    }
+}
+
+/// Prints what so many parses of a text take, at the least.
+fn measure<P: Parser<R>, R: RuleType>(rule: R, text: &str, turns: u32) {
+    let mut least = i64::MAX;
+    for _ in 0..turns {
+        let start = now();
+        let pairs = P::parse(rule, text);
+        least = least.min(now() - start);
+        drop(pairs.expect("a text that the grammar has"));
+    }
+    let bytes = text.len();
+    let milliseconds = least as f64 / 1e3;
+    let rate = bytes as f64 / least as f64;
+    println!("{bytes:>9} bytes {milliseconds:>10.3} ms {rate:>8.1} MB/s");
+}
+
+fn run<P: Parser<R>, R: RuleType>(rule: R, text: &str, turns: Option<u32>) {
+    match turns {
+        Some(turns) => measure::<P, R>(rule, text, turns),
+        None => describe::<P, R>(rule, text),
+    }
+}
+
+macro_rules! parsers {
+    ($($name:ident $start:ident $grammar:tt)*) => {
+        $(mod $name {
+            #[derive(pest_derive::Parser)]
+            #[grammar = $grammar]
+            pub struct Derived;
+        })*
+
+        fn run_named(name: &str, text: &str, turns: Option<u32>) {
+            match name {
+                $(stringify!($name) => run::<$name::Derived, _>($name::Rule::$start, text, turns),)*
+                _ => panic!("no grammar {name}"),
+            }
+        }
+    };
+}
+
+parsers! {
+    json json "../../../out/bench/grammars/json.pest"
+    json_comments json "../../../out/bench/grammars/json_comments.pest"
+    json_characters json "../../../out/bench/grammars/json_characters.pest"
+    toml toml "../../../out/bench/grammars/toml.pest"
+    csv file "../../../out/bench/grammars/csv.pest"
+    lua chunk "../../../out/bench/grammars/lua.pest"
+    lua_levels chunk "../../../out/bench/grammars/lua_levels.pest"
+    ladder program "../../../out/bench/grammars/ladder.pest"
+    indentation outline "../../../out/bench/grammars/indentation.pest"
+}
 
 fn main() {
-    for file in std::env::args().skip(1) {
-        let text = std::fs::read_to_string(&file).expect("a file of text");
-        let mut least = Duration::MAX;
-        for _ in 0..TURNS {
-            let start = Instant::now();
-            let pairs = Json::parse(Rule::json, &text);
-            least = least.min(start.elapsed());
-            drop(pairs.expect("a text that the grammar has"));
-        }
-        let milliseconds = least.as_secs_f64() * 1e3;
-        let rate = text.len() as f64 / 1e6 / least.as_secs_f64();
-        println!("{:>9} bytes {milliseconds:>10.3} ms {rate:>8.1} MB/s", text.len());
-    }
+    let words: Vec<String> = std::env::args().skip(1).collect();
+    let (name, file, turns) = match &words[..] {
+        [name, file] => (name, file, None),
+        [name, file, turns] => (name, file, Some(turns.parse().expect("the number of turns"))),
+        _ => panic!("derived NAME TEXT [TURNS]"),
+    };
+    let text = std::fs::read_to_string(file).expect("a file of text");
+    run_named(name, &text, turns);
 }
