@@ -11,7 +11,7 @@ use Rattle.meta_base.specs.Language.FurthestFailure.{furthest, place_of}
 use Rattle.meta_base.specs.Language.Matching.{begins, starts_in}
 use Rattle.meta_base.specs.Language.Meaning as by
 use Rattle.meta_base.specs.Language.Meaning.{Does, Run, body_mode, gives_token, mode_in, seen_from}
-use Rattle.meta_base.specs.Language.State.{Classes, Failure, Mode, None', Outcome, State, Success, moved}
+use Rattle.meta_base.specs.Language.State.{Classes, Failure, Mode, None', Outcome, Success, moved}
 use Rattle.meta_base.specs.Language.Text.{Text}
 use Rattle.matcher_code.specs.Reading.{is_covered}
 use Rattle.matcher_layout.specs.Laid.{FailsOutside, IsTight, Misses}

@@ -1,5 +1,5 @@
 -- Leaf expressions, and the operations that match them.
-use Rattle.std.proofs.Common.{◌≡◌, refl, ◌∙◌, ap, ap₂, subst, ℕ, suc, ◌<◌, List, [], ◌∷◌, Bool, true, false, ◌&&◌, ◌==◌, Some, None, length, drop, codes, nat_eq, arith, if◌then◌else◌, eqb-true}
+use Rattle.std.proofs.Common.{◌≡◌, refl, ◌∙◌, ap, ap₂, subst, ℕ, suc, List, [], ◌∷◌, Bool, true, false, ◌&&◌, ◌==◌, Some, None, length, drop, codes, nat_eq, arith, if◌then◌else◌, eqb-true}
 use Rattle.std.proofs.Math.Bool.{and-false, and-true}
 use Rattle.std.proofs.Math.Utf8.{scalar, scalars}
 use Rattle.std.proofs.lemmas.Bool.{and_parts}

@@ -1,5 +1,5 @@
 -- Rules by their numbers.
-use Rattle.std.proofs.Common.{◌≡◌, sym, ◌∙◌, ap, subst, ℕ, ◌<◌, ◌||◌, List, [], Some, bytes_eq, get_or, length}
+use Rattle.std.proofs.Common.{◌≡◌, sym, ◌∙◌, ap, subst, ℕ, ◌<◌, ◌||◌, [], Some, bytes_eq, get_or, length}
 use Rattle.std.proofs.lemmas.List.{get_or-map}
 use Rattle.meta_ast.specs.Ast.{rule_type_of, text_of}
 use Rattle.meta_base.specs.Language.Expression.{Rule, comment, rule_of, whitespace}
