@@ -11,7 +11,9 @@ use Rattle.meta_base.specs.Pieces.Saying.{Span, Complaint, IsErrorAt, AreErrorsF
 use Rattle.meta_base.specs.declared.grammar.Rule.{Rule}
 use Rattle.meta_base.specs.declared.runtime.errors.Error.{Error}
 use Rattle.meta_base.specs.declared.runtime.places.Span as code
-use Rattle.meta_names.specs.Names.{later_places, first_places, said}
+use Rattle.meta_messages.specs.Messages.{about}
+use Rattle.meta_messages.specs.declared.Message.{Message}
+use Rattle.meta_names.specs.Names.{later_places, first_places, complaints}
 use Rattle.meta_names.specs.NameSets.{NameSet, HasNames}
 
 -- the same text
@@ -121,15 +123,15 @@ first_less all before found x rest others e b a =
     a ∙ ap (λ r. map now found ++ map written r) (ap (first_places before) e ∙ first_none before x others b)
 
 -- one more error, at the first of the places that are left
-pub told_more : (before after : Text) (all : List Complaint) (rest others : List Span) (x : Span) (errors : List (Error Rule)) (e : Error Rule) → rest ≡ x ∷ others → IsErrorAt (before ++ written x ++ after) x e
-    → ((more : List (Error Rule)) → AreErrorsFor (said before after rest) more → AreErrorsFor all (errors ++ more))
-    → (more : List (Error Rule)) → AreErrorsFor (said before after others) more → AreErrorsFor all ((errors ++ e ∷ []) ++ more)
-told_more before after all rest others x errors e left s told more t = rw append_assoc (told (e ∷ more) (rw left (s, t)))
+pub told_more : (message : Message) (all : List Complaint) (rest others : List Span) (x : Span) (errors : List (Error Rule)) (e : Error Rule) → rest ≡ x ∷ others → IsErrorAt (about message (written x)) x e
+    → ((more : List (Error Rule)) → AreErrorsFor (complaints message rest) more → AreErrorsFor all (errors ++ more))
+    → (more : List (Error Rule)) → AreErrorsFor (complaints message others) more → AreErrorsFor all ((errors ++ e ∷ []) ++ more)
+told_more message all rest others x errors e left s told more t = rw append_assoc (told (e ∷ more) (rw left (s, t)))
 
 -- where there is no place, nothing is said
-pub nothing_said : (before after : Text) (places : List code.Span) → (length places == 0) ≡ true → AreErrorsFor (said before after (map piece_of places)) []
-nothing_said before after [] e = tt
-nothing_said before after (x ∷ places) e = absurd (grind (arith, nat_tests, e))
+pub nothing_said : (message : Message) (places : List code.Span) → (length places == 0) ≡ true → AreErrorsFor (complaints message (map piece_of places)) []
+nothing_said message [] e = tt
+nothing_said message (x ∷ places) e = absurd (grind (arith, nat_tests, e))
 
 -- errors that tell one thing after another
 pub tell_both : (xs ys : List Complaint) (es fs : List (Error Rule)) → AreErrorsFor xs es → AreErrorsFor ys fs → AreErrorsFor (xs ++ ys) (es ++ fs)

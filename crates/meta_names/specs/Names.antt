@@ -4,6 +4,9 @@ use Rattle.meta_base.specs.Language.Text.{Text}
 use Rattle.meta_base.specs.Language.Builtins.{is_one_of, builtin_of}
 use Rattle.meta_base.specs.Language.Grammar.{keywords}
 use Rattle.meta_base.specs.Pieces.Saying.{Span, written, Complaint}
+use Rattle.meta_messages.specs.Messages.{prefix, suffix}
+use Rattle.meta_messages.specs.declared.Message.{Message}
+use Rattle.meta_messages.specs.declared.Message.TheVariants as message_is
 
 -- the words that Rust keeps for itself
 unfoldable pub rust_keywords : List Text
@@ -57,22 +60,26 @@ abbrev pub said : Text → Text → List Span → List Complaint
 said before after places =
     map (λ place. record { message = before ++ written place ++ after; span = place }) places
 
+-- an error with this message about the name of each piece
+abbrev pub complaints : Message → List Span → List Complaint
+complaints message places = said (prefix message) (suffix message) places
+
 -- definitions that are keywords of Rust
 abbrev pub rust_keyword_complaints : List Span → List Complaint
 rust_keyword_complaints definitions =
-    said [] (codes " is a rust keyword") (places_of rust_keywords definitions)
+    complaints message_is.RustKeyword (places_of rust_keywords definitions)
 
 -- definitions that are keywords of pest
 abbrev pub pest_keyword_complaints : List Span → List Complaint
 pest_keyword_complaints definitions =
-    said [] (codes " is a pest keyword") (places_of keywords definitions)
+    complaints message_is.PestKeyword (places_of keywords definitions)
 
 -- definitions with an equal name before them
 abbrev pub duplicate_complaints : List Span → List Complaint
 duplicate_complaints definitions =
-    said (codes "rule ") (codes " already defined") (later_places [] definitions)
+    complaints message_is.AlreadyDefined (later_places [] definitions)
 
 -- calls of names that are neither defined nor a builtin
 abbrev pub undefined_complaints : List Span → List Span → List Complaint
 undefined_complaints definitions calls =
-    said (codes "rule ") (codes " is undefined") (undefined_calls definitions calls)
+    complaints message_is.Undefined (undefined_calls definitions calls)

@@ -7,6 +7,7 @@ use crate::said::{errors, errors_in};
 use crate::tables::{is_among, pest_keywords, rust_keywords};
 use meta_base::grammar::Rule;
 use meta_base::runtime::{Error, Fault, Span};
+use meta_messages::Message;
 use std::alloc::{AllocError, Global};
 use std::collections::HashSet;
 
@@ -21,7 +22,7 @@ pub fn validate_rust_keywords(
     ensures memory { IfErr result (λ fault. fault ≡ Fault.Memory alloc_error) }
 {
     let words = places_of(alloc, rust_keywords(), definitions)?;
-    errors(alloc, "", " is a rust keyword", &words)
+    errors(alloc, Message::RustKeyword, &words)
 }
 
 /// Reports `NAME is a pest keyword` at each of these definitions whose name pest reserves, in their order.
@@ -35,7 +36,7 @@ pub fn validate_pest_keywords(
     ensures memory { IfErr result (λ fault. fault ≡ Fault.Memory alloc_error) }
 {
     let words = places_of(alloc, pest_keywords(), definitions)?;
-    errors(alloc, "", " is a pest keyword", &words)
+    errors(alloc, Message::PestKeyword, &words)
 }
 
 /// Reports `rule NAME already defined` at each of these definitions that has an earlier one of its name, in
@@ -49,7 +50,7 @@ pub fn validate_already_defined(
     ensures memory { IfErr result (λ fault. fault ≡ Fault.Memory alloc_error) }
 {
     let again = later(alloc, definitions)?;
-    errors(alloc, "rule ", " already defined", &again)
+    errors(alloc, Message::AlreadyDefined, &again)
 }
 
 /// Collects the errors of `validate_pest_keywords`, for definitions that are all in one text.
@@ -64,7 +65,7 @@ pub(crate) fn pest_keywords_in(
     ensures memory { IfErr result (λ fault. fault ≡ Fault.Memory alloc_error) }
 {
     let found = places_of(alloc, pest_keywords(), definitions)?;
-    errors_in(alloc, text, "", " is a pest keyword", &found)
+    errors_in(alloc, text, Message::PestKeyword, &found)
 }
 
 /// Collects the errors of `validate_already_defined`, for definitions that are all in one text.
@@ -79,7 +80,7 @@ pub(crate) fn already_defined_in(
     ensures memory { IfErr result (λ fault. fault ≡ Fault.Memory alloc_error) }
 {
     let found = later(alloc, definitions)?;
-    errors_in(alloc, text, "rule ", " already defined", &found)
+    errors_in(alloc, text, Message::AlreadyDefined, &found)
 }
 
 /// Collects the spans whose name occurs at an earlier span, in their order.

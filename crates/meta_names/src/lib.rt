@@ -11,5 +11,5 @@ mod undefined;
 
 pub use keywords::{validate_already_defined, validate_pest_keywords, validate_rust_keywords};
 pub use pairs::{collect_builtins, validate_pairs};
-pub use tables::{is_builtin, unicode_property_names};
+pub use tables::{comment_name, is_builtin, unicode_property_names, whitespace_name};
 pub use undefined::validate_undefined;

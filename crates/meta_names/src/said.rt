@@ -1,63 +1,60 @@
 //! The errors that say the same of several names.
-ghost use Rattle.std.specs.Prelude.{◌++◌, ◌≡◌, IfErr, IfOk, alloc_error, map};
+ghost use Rattle.std.specs.Prelude.{◌≡◌, IfErr, IfOk, alloc_error, map};
 ghost use Rattle.meta_base.specs.Pieces.Saying.{IsErrorAt, AreErrorsFor, piece_of, written};
 ghost use Rattle.meta_base.specs.Pieces.Span.{span_text};
 ghost use Rattle.meta_base.specs.Pieces.Survey.{survey_text};
-ghost use Rattle.meta_names.specs.Names.{AreIn, said};
+ghost use Rattle.meta_messages.specs.Messages.{about};
+ghost use Rattle.meta_names.specs.Names.{AreIn, complaints};
 
 use meta_base::grammar::Rule;
 use meta_base::runtime::{Error, ErrorVariant, Fault, Span, Survey};
+use meta_messages::Message;
 use std::alloc::{AllocError, Global};
 
-/// Makes an error about the name at a span, with the message `before`, name, `after`. The only error is
-/// allocation failure.
-fn error(alloc: Global, before: &str, after: &str, place: Span<'_>) -> Result<Error<Rule>, Fault>
+/// Makes an error with this message about the name at a span. The only error is allocation failure.
+fn error(alloc: Global, message: Message, place: Span<'_>) -> Result<Error<Rule>, Fault>
     ensures says { IfOk result
-        (IsErrorAt (before.now ++ written (piece_of place.entry) ++ after.now) (piece_of place.entry)) }
+        (IsErrorAt (about message (written (piece_of place.entry))) (piece_of place.entry)) }
     ensures memory { IfErr result (λ fault. fault ≡ Fault.Memory alloc_error) }
 {
-    let name = place.as_str();
-    let message = format!(in alloc; "{before}{name}{after}")?;
+    let message = message.about(alloc, place.as_str())?;
     Error::new_from_span(alloc, ErrorVariant::CustomError { message }, place)
 }
 
-/// Makes an error about the name at each of these spans, in their order, with the message `before`, name,
-/// `after`. The only error is allocation failure.
+/// Makes an error with this message about the name at each of these spans, in their order. The only error is
+/// allocation failure.
 pub(crate) fn errors(
     alloc: Global,
-    before: &str,
-    after: &str,
+    message: Message,
     places: &[Span<'_>],
 ) -> Result<Vec<Error<Rule>>, Fault>
     ensures told { IfOk result (λ errors.
-        AreErrorsFor (said before.now after.now (map piece_of places.now)) errors.items) }
+        AreErrorsFor (complaints message (map piece_of places.now)) errors.items) }
     ensures memory { IfErr result (λ fault. fault ≡ Fault.Memory alloc_error) }
 {
     let mut errors = Vec::new(alloc);
     for place in places {
-        let error = error(alloc, before, after, *place)?;
+        let error = error(alloc, message, *place)?;
         errors.push(error)?;
     }
     Ok(errors)
 }
 
-/// Makes an error about the name at a span of a surveyed text, with the message `before`, name, `after`.
-/// The only error is allocation failure.
+/// Makes an error with this message about the name at a span of a surveyed text. The only error is allocation
+/// failure.
 fn error_in(
     alloc: Global,
     survey: &mut Survey<'_>,
-    before: &str,
-    after: &str,
+    message: Message,
     place: Span<'_>,
 ) -> Result<Error<Rule>, Fault>
     requires in_text { span_text place ≡ survey_text survey.old }
     ensures says { IfOk result
-        (IsErrorAt (before.now ++ written (piece_of place.entry) ++ after.now) (piece_of place.entry)) }
+        (IsErrorAt (about message (written (piece_of place.entry))) (piece_of place.entry)) }
     ensures memory { IfErr result (λ fault. fault ≡ Fault.Memory alloc_error) }
     ensures survey { survey_text survey.new ≡ survey_text survey.old }
 {
-    let name = place.as_str();
-    let message = format!(in alloc; "{before}{name}{after}")?;
+    let message = message.about(alloc, place.as_str())?;
     Error::new_in_survey(alloc, ErrorVariant::CustomError { message }, survey, place)
 }
 
@@ -65,13 +62,12 @@ fn error_in(
 pub(crate) fn errors_in(
     alloc: Global,
     text: &str,
-    before: &str,
-    after: &str,
+    message: Message,
     places: &[Span<'_>],
 ) -> Result<Vec<Error<Rule>>, Fault>
     requires in_text { AreIn text.now (map piece_of places.now) }
     ensures told { IfOk result (λ errors.
-        AreErrorsFor (said before.now after.now (map piece_of places.now)) errors.items) }
+        AreErrorsFor (complaints message (map piece_of places.now)) errors.items) }
     ensures memory { IfErr result (λ fault. fault ≡ Fault.Memory alloc_error) }
 {
     let mut errors = Vec::new(alloc);
@@ -80,7 +76,7 @@ pub(crate) fn errors_in(
     }
     let mut survey = Survey::new(alloc, text)?;
     for place in places {
-        let error = error_in(alloc, &mut survey, before, after, *place)?;
+        let error = error_in(alloc, &mut survey, message, *place)?;
         errors.push(error)?;
     }
     Ok(errors)

@@ -1,6 +1,8 @@
 //! The tables of names.
 ghost use Rattle.std.specs.Prelude.{◌≡◌, chars, map};
+ghost use Rattle.std.specs.Str.{IsAscii};
 ghost use Rattle.meta_base.specs.Language.Builtins.{is_one_of, property_names};
+ghost use Rattle.meta_base.specs.Language.Expression.{comment, whitespace};
 ghost use Rattle.meta_base.specs.Language.Grammar.{keywords};
 ghost use Rattle.meta_names.specs.Names as spec;
 
@@ -145,6 +147,24 @@ pub fn unicode_property_names() -> &'static [&'static str]
     ensures { map (λ name. name.now) result.now ≡ property_names }
 {
     &PROPERTY_NAMES
+}
+
+/// Returns the name of the rule for white space, which is skipped between the parts of a sequence.
+#[tactic(auto, unfolding(meta_base::specs::Language::Expression::whitespace))]
+pub fn whitespace_name() -> &'static str
+    ensures named { result.now ≡ whitespace }
+    ensures ascii { IsAscii result.now }
+{
+    "WHITESPACE"
+}
+
+/// Returns the name of the rule for comments, which is skipped likewise.
+#[tactic(auto, unfolding(meta_base::specs::Language::Expression::comment))]
+pub fn comment_name() -> &'static str
+    ensures named { result.now ≡ comment }
+    ensures ascii { IsAscii result.now }
+{
+    "COMMENT"
 }
 
 /// Returns the names that pest reserves.

@@ -8,6 +8,7 @@ use crate::said::{errors, errors_in};
 use crate::tables::is_builtin;
 use meta_base::grammar::Rule;
 use meta_base::runtime::{Error, Fault, Span};
+use meta_messages::Message;
 use std::alloc::{AllocError, Global};
 use std::collections::HashSet;
 
@@ -25,7 +26,7 @@ pub fn validate_undefined<'i>(
     ensures memory { IfErr result (λ fault. fault ≡ Fault.Memory alloc_error) }
 {
     let undefined = collect_undefined(alloc, definitions, called)?;
-    errors(alloc, "rule ", " is undefined", &undefined)
+    errors(alloc, Message::Undefined, &undefined)
 }
 
 /// Collects the errors of `validate_undefined`, for calls that are all in one text.
@@ -43,7 +44,7 @@ pub(crate) fn undefined_in<'i>(
     ensures memory { IfErr result (λ fault. fault ≡ Fault.Memory alloc_error) }
 {
     let found = collect_undefined(alloc, definitions, called)?;
-    errors_in(alloc, text, "rule ", " is undefined", &found)
+    errors_in(alloc, text, Message::Undefined, &found)
 }
 
 /// Collects the calls whose name is neither defined nor a builtin's, in their order.

@@ -1,5 +1,5 @@
 -- The promises about the reports.
-use Rattle.std.specs.Prelude.{◌≡◌, ◌↔◌, ℕ, suc, ◌+◌, ◌<◌, List, [], Some, Bool, true, false, slice_get, map, codes, IsPermutation}
+use Rattle.std.specs.Prelude.{◌≡◌, ◌↔◌, ℕ, suc, ◌+◌, ◌<◌, List, [], Some, Bool, true, false, slice_get, map, IsPermutation}
 use Rattle.std.specs.Ordering.{is_lt, ordering_then, nat_cmp}
 use Rattle.meta_base.specs.Pieces.Saying.{Complaint, AreErrorsFor}
 use Rattle.meta_base.specs.declared.grammar.Rule.{Rule}
@@ -7,6 +7,8 @@ use Rattle.meta_base.specs.declared.runtime.errors.Error.{Error}
 use Rattle.meta_base.specs.Language.Text.{Text}
 use Rattle.meta_base.specs.Language.WellFormed.{IsNullable}
 use Rattle.meta_fixpoint.specs.Least.{is_set_at}
+use Rattle.meta_messages.specs.Messages.{about, repeated_expression}
+use Rattle.meta_messages.specs.declared.Message.TheVariants as message_is
 use Rattle.meta_spanned.specs.Erasure.{rules_without_spans, without_spans}
 use Rattle.meta_spanned.specs.Spanned.{Span, Spanned, SpannedRule}
 use Rattle.meta_spanned.specs.declared.node.ParserRule.{ParserRule}
@@ -41,10 +43,7 @@ IsRising spans = (i : ℕ) (s u : Span) → slice_get spans i ≡ Some s → sli
 
 -- the message and span that report a repetition
 abbrev pub complaint_at : Span → Complaint
-complaint_at s = record {
-  message = codes "expression inside repetition is non-progressing and will repeat infinitely";
-  span = s;
-}
+complaint_at s = record { message = about message_is.NonProgressing repeated_expression; span = s }
 
 -- `sorted` has the spans of `found`, ordered by position
 pub record IsSorted (found sorted : List Span) : Type 0 where

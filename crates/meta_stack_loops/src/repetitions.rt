@@ -32,6 +32,8 @@ use meta_analysis::{Analysis, Facts, Names, facts_of, names_of, tabulate};
 use meta_base::grammar::Rule;
 use meta_base::runtime::{Error, ErrorVariant, Fault, Span, Survey};
 use meta_fixpoint::is_set;
+use meta_messages::{Message, repeated_expression};
+use meta_names::{comment_name, whitespace_name};
 use meta_spanned::ParserRule;
 use meta_stack_domain::Stack;
 use std::alloc::{AllocError, Global};
@@ -78,7 +80,7 @@ fn is_skipping<'i>(rules: &[ParserRule<'i>], names: &Names) -> bool
     requires { KnowsRules rules.now names.now }
     ensures { result ≡ skips_in (grammar_of rules.now) }
 {
-    is_defined(rules, names, "WHITESPACE") || is_defined(rules, names, "COMMENT")
+    is_defined(rules, names, whitespace_name()) || is_defined(rules, names, comment_name())
 }
 
 /// Whether the implicit whitespace leaves the stack alone, by the flags of nodes that change it.
@@ -92,8 +94,8 @@ fn leaves_stack<'i>(
     ensures { result ≡ (not (name_flag (grammar_of rules.now) roots.now flags.now whitespace)
         && not (name_flag (grammar_of rules.now) roots.now flags.now comment)) }
 {
-    !is_body_set(rules, names, roots, flags, "WHITESPACE")
-        && !is_body_set(rules, names, roots, flags, "COMMENT")
+    !is_body_set(rules, names, roots, flags, whitespace_name())
+        && !is_body_set(rules, names, roots, flags, comment_name())
 }
 
 /// Returns which nodes may take nothing, copied from the facts that are lent, or computed if none are.
@@ -411,8 +413,7 @@ fn error_at<'i>(
         AreErrorsFor (complaint_at (piece_of span.entry) ∷ []) (error ∷ [])) }
     ensures memory { IfErr result (λ fault. fault ≡ Fault.Memory alloc_error) }
 {
-    let text = "expression inside repetition is non-progressing and will repeat infinitely";
-    let message = String::from_str(alloc, text)?;
+    let message = Message::NonProgressing.about(alloc, repeated_expression())?;
     let variant = ErrorVariant::CustomError { message };
     let error = Error::new_where_surveyed(alloc, variant, survey, span)?;
     Ok(error)

@@ -26,11 +26,11 @@ use Rattle.meta_validator.proofs.Reports.{accepted}
 use Rattle.meta_validator.proofs.Walk.{no_walk}
 
 whitespace_name : is_skipped_name whitespace ≡ true
-unfolding whitespace
+unfolding whitespace comment
 whitespace_name = refl
 
 comment_name : is_skipped_name comment ≡ true
-unfolding comment
+unfolding whitespace comment
 comment_name = refl
 
 skipped_name : (n : Text) → IsSkipped n → is_skipped_name n ≡ true

@@ -2,7 +2,7 @@
 use Rattle.std.proofs.Common.{◌≡◌, ◌⊎◌, inl, inr, ℕ, zero, suc, ◌+◌, ◌<◌, ◌≤◌, List, [], ◌∷◌, ◌++◌, Option, Some, None, slice_get, length, string_bytes, refl, sym, ◌∙◌, ap, subst, arith}
 use Rattle.std.specs.List.{range_with_len}
 use Rattle.std.specs.Option.{option_map}
-use Rattle.std.proofs.lemmas.List.{append_assoc, length-map}
+use Rattle.std.proofs.lemmas.List.{length-map}
 use Rattle.std.proofs.lemmas.Option.{slice_get-map, slice_get_past}
 use Rattle.std.proofs.lemmas.Str.{encodes-chars, IsUtf8-string_bytes}
 use Rattle.meta_fixpoint.proofs.LeastLemmas.{item_at}
@@ -44,12 +44,6 @@ all_below P n f p k h = elim (compared k n) [ same_place e ↦ subst P (sym e) p
     apart_below zero (suc n) h d = omega arith
     apart_below (suc k) zero h d = absurd (omega arith)
     apart_below (suc k) (suc n) h d = let r = apart_below k n (omega arith) (λ e. d (ap suc e)) in omega arith
-
--- a text that is put together piece by piece
-pub of_six : (a b c d e f m n p q r t : List ℕ) → m ≡ a → n ≡ m ++ b → p ≡ n ++ c → q ≡ p ++ d → r ≡ q ++ e → t ≡ r ++ f → t ≡ a ++ (b ++ (c ++ (d ++ (e ++ f))))
-of_six a b c d e f m n p q r t h i j k l o =
-    (o ∙ ap (λ z. z ++ f) (l ∙ ap (λ z. z ++ e) (k ∙ ap (λ z. z ++ d) (j ∙ ap (λ z. z ++ c) (i ∙ ap (λ z. z ++ b) h)))))
-    ∙ (append_assoc ((((a ++ b) ++ c) ++ d)) e f ∙ (append_assoc ((a ++ b) ++ c) d (e ++ f) ∙ (append_assoc (a ++ b) c (d ++ (e ++ f)) ∙ append_assoc a b (c ++ (d ++ (e ++ f))))))
 
 -- 2. rules of code
 module _ (rules : List ParserRule) where

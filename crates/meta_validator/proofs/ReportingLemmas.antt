@@ -1,5 +1,5 @@
 -- What is reported by the facts is what is found.
-use Rattle.std.proofs.Common.{length, ◌≡◌, ℕ, ◌+◌, ◌<◌, List, [], ◌∷◌, ◌++◌, take, get_or, Option, Some, None, Bool, true, false, if◌then◌else◌, nat_eq, slice_get, refl, sym, ◌∙◌, ap, subst, codes, string_bytes}
+use Rattle.std.proofs.Common.{length, ◌≡◌, ℕ, ◌+◌, ◌<◌, List, [], ◌∷◌, ◌++◌, take, get_or, Option, Some, None, Bool, true, false, if◌then◌else◌, nat_eq, slice_get, refl, sym, ◌∙◌, ap, subst, string_bytes}
 use Rattle.std.specs.Option.{option_map}
 use Rattle.std.proofs.lemmas.List.{append_assoc, append-nil, take_more, map-append}
 use Rattle.std.proofs.lemmas.Option.{slice_get_within, get_or_from_slice_get, slice_get-map}
@@ -16,6 +16,8 @@ use Rattle.meta_spanned.specs.declared.node.ParserRule.{ParserRule}
 use Rattle.meta_spanned.proofs.Places.{span_at}
 use Rattle.meta_fixpoint.specs.Least.{is_set_at}
 use Rattle.meta_fixpoint.proofs.LeastLemmas.{item_at}
+use Rattle.meta_messages.specs.Messages.{about, repeated_expression, unreachable_choices}
+use Rattle.meta_messages.specs.declared.Message.TheVariants as message_is
 use Rattle.meta_analysis.specs.Facts.{AreFacts}
 use Rattle.meta_validator.specs.Findings.{Finding, found_at, is_skipped_name, last_alternative, Reports, reports_none, reports_at, OfRepeated, never_fails, takes_nothing, goes_on, OfRepetition, repetition, no_repetition, OfChoice, unreachable, reachable, no_choice, OfSkipped, skipped, not_skipped}
 use Rattle.meta_analysis.specs.Names.{grammar_of, is_end}
@@ -98,7 +100,7 @@ module _ (rules : List ParserRule) (facts : Facts) (right : AreFacts rules facts
   repeated_right : (subject : List ℕ) (place : Span) (i : ℕ) (e : Expression) → Represents (kind_in G) kinds i e → OfRepeated G subject place e (repeated_at facts subject place i)
   repeated_right subject place i e s = go (is_set_at facts.certain.items i) refl (is_set_at facts.nullable.items i) refl
     where
-      go : (b : Bool) → is_set_at facts.certain.items i ≡ b → (c : Bool) → is_set_at facts.nullable.items i ≡ c → OfRepeated G subject place e (if b then found_at place (subject ++ codes " cannot fail and will repeat infinitely") ∷ [] else if c then found_at place (subject ++ codes " is non-progressing and will repeat infinitely") ∷ [] else [])
+      go : (b : Bool) → is_set_at facts.certain.items i ≡ b → (c : Bool) → is_set_at facts.nullable.items i ≡ c → OfRepeated G subject place e (if b then found_at place (about message_is.CannotFail subject) ∷ [] else if c then found_at place (about message_is.NonProgressing subject) ∷ [] else [])
       go true h c k = never_fails ((right.certain i e s).0 h)
       go false h true k = takes_nothing (λ d. clash _ ((right.certain i e s).1 d) h) ((right.nullable i e s).0 k)
       go false h false k = goes_on (λ d. clash _ ((right.nullable i e s).1 d) k)
@@ -113,8 +115,8 @@ module _ (rules : List ParserRule) (facts : Facts) (right : AreFacts rules facts
   wrap_repetition s Push x j e = no_repetition refl
   wrap_repetition s (Tag t) x j e = no_repetition refl
   wrap_repetition s (RepMax n) x j e = no_repetition refl
-  wrap_repetition s Rep x j e = repetition refl (repeated_right (codes "expression inside repetition") s j (without_spans x) (says_at j x e))
-  wrap_repetition s RepOnce x j e = repetition refl (repeated_right (codes "expression inside repetition") s j (without_spans x) (says_at j x e))
+  wrap_repetition s Rep x j e = repetition refl (repeated_right repeated_expression s j (without_spans x) (says_at j x e))
+  wrap_repetition s RepOnce x j e = repetition refl (repeated_right repeated_expression s j (without_spans x) (says_at j x e))
   wrap_repetition s (RepExact n) x j e = go (nat_eq n 0)
     where
       go : (b : Bool) → AsRepetition (One s (RepExact n) x) (wrap_kind (if b then wraps.Free else wraps.Inside) j)
@@ -128,8 +130,8 @@ module _ (rules : List ParserRule) (facts : Facts) (right : AreFacts rules facts
   wrap_repetition s (RepMin n) x j e = go (nat_eq n 0)
     where
       go : (b : Bool) → AsRepetition (One s (RepMin n) x) (wrap_kind (if b then wraps.Again else wraps.OnceAgain) j)
-      go true = repetition refl (repeated_right (codes "expression inside repetition") s j (without_spans x) (says_at j x e))
-      go false = repetition refl (repeated_right (codes "expression inside repetition") s j (without_spans x) (says_at j x e))
+      go true = repetition refl (repeated_right repeated_expression s j (without_spans x) (says_at j x e))
+      go false = repetition refl (repeated_right repeated_expression s j (without_spans x) (says_at j x e))
 
   kind_repetition : (i : ℕ) (x : Spanned) (k : NodeKind) → Fits (kind_in G) nodes i k x → AsRepetition x k
   kind_repetition i (Leaf s e) k fit = subst (λ z. AsRepetition (Leaf s e) z) (sym fit.1)
@@ -170,8 +172,8 @@ module _ (rules : List ParserRule) (facts : Facts) (right : AreFacts rules facts
     unreachable_right s x y a e = let (p, at, same) = span_got a (last_alternative x) e in
         subst (λ o. OfChoice G (Two s Choice x y) (alternative_at facts a o)) (sym at) (go p same (is_set_at facts.certain.items a) refl)
       where
-        go : (p : code_span.Span) → piece_of p ≡ span_of (last_alternative x) → (b : Bool) → is_set_at facts.certain.items a ≡ b → OfChoice G (Two s Choice x y) (if b then found_at (piece_of p) (codes "expression cannot fail; following choices cannot be reached") ∷ [] else [])
-        go p same true h = subst (λ z. OfChoice G (Two s Choice x y) (found_at z (codes "expression cannot fail; following choices cannot be reached") ∷ [])) (sym same)
+        go : (p : code_span.Span) → piece_of p ≡ span_of (last_alternative x) → (b : Bool) → is_set_at facts.certain.items a ≡ b → OfChoice G (Two s Choice x y) (if b then found_at (piece_of p) unreachable_choices ∷ [] else [])
+        go p same true h = subst (λ z. OfChoice G (Two s Choice x y) (found_at z unreachable_choices ∷ [])) (sym same)
             (unreachable ((right.certain a (without_spans (last_alternative x)) (says_at a (last_alternative x) e)).0 h))
         go p same false h = reachable (λ d. clash _ ((right.certain a (without_spans (last_alternative x)) (says_at a (last_alternative x) e)).1 d) h)
 

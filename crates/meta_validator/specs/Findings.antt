@@ -1,13 +1,15 @@
 -- The findings of the validator: repetitions that never end, alternatives that are never reached, skipped
 -- rules that may take nothing, left recursion, and tags on pieces that give no token.
-use Rattle.std.specs.Prelude.{◌≡◌, ℕ, ◌+◌, Some, None, slice_get, filter, not, ◌&&◌, IsPermutation, List, [], ◌∷◌, ◌++◌, map, Bool, true, false, ◌||◌, bytes_eq, codes, length}
+use Rattle.std.specs.Prelude.{◌≡◌, ℕ, ◌+◌, Some, None, slice_get, filter, not, ◌&&◌, IsPermutation, List, [], ◌∷◌, ◌++◌, map, Bool, true, false, ◌||◌, bytes_eq, length}
 use Rattle.std.specs.List.{range_with_len}
 use Rattle.std.specs.Ordering.{is_lt, ordering_then, nat_cmp}
 use Rattle.std.specs.Str.{encode_utf8_all}
 use Rattle.meta_base.specs.Pieces.Saying.{Complaint}
 use Rattle.meta_base.specs.Language.Text.{Text}
-use Rattle.meta_base.specs.Language.Expression.{Expression, Grammar}
+use Rattle.meta_base.specs.Language.Expression.{Expression, Grammar, whitespace, comment}
 use Rattle.meta_base.specs.Language.WellFormed.{IsNullable, CannotFail, Leads}
+use Rattle.meta_messages.specs.Messages.{about, repeated_expression, unreachable_choices}
+use Rattle.meta_messages.specs.declared.Message.TheVariants as message_is
 use Rattle.meta_spanned.specs.Erasure.{without_spans, rules_without_spans}
 use Rattle.meta_spanned.specs.Spanned.{Span, span_of, Spanned, One, Two, Unary, Rep, RepOnce, RepMin, Choice, SpannedRule}
 use Rattle.meta_analysis.specs.Nodes.{every_node}
@@ -42,7 +44,7 @@ last_alternative (Two s Choice x y) = y
 last_alternative x = x
 
 abbrev pub is_skipped_name : Text → Bool
-is_skipped_name n = bytes_eq n (codes "WHITESPACE") || bytes_eq n (codes "COMMENT")
+is_skipped_name n = bytes_eq n whitespace || bytes_eq n comment
 
 -- the findings at all of these, one after another
 pub data Reports {X : Type 0} (R : X → List Finding → Type 0) : List X → List Finding → Type 0 where
@@ -54,17 +56,15 @@ module _ (g : Grammar) where
   -- the findings of an expression that is repeated without end
   pub data OfRepeated (subject : List ℕ) (place : Span) (e : Expression) : List Finding → Type 0 where
     never_fails : CannotFail g e
-        → OfRepeated subject place e
-        (found_at place (subject ++ codes " cannot fail and will repeat infinitely") ∷ [])
+        → OfRepeated subject place e (found_at place (about message_is.CannotFail subject) ∷ [])
     takes_nothing : (CannotFail g e → ⊥) → IsNullable g e
-        → OfRepeated subject place e
-        (found_at place (subject ++ codes " is non-progressing and will repeat infinitely") ∷ [])
+        → OfRepeated subject place e (found_at place (about message_is.NonProgressing subject) ∷ [])
     goes_on : (IsNullable g e → ⊥) → OfRepeated subject place e []
 
   -- the findings of a node as a repetition
   pub data OfRepetition : Spanned → List Finding → Type 0 where
     repetition : {s : Span} {f : Unary} {x : Spanned} {fs : List Finding} → is_endless f ≡ true
-        → OfRepeated (codes "expression inside repetition") s (without_spans x) fs
+        → OfRepeated repeated_expression s (without_spans x) fs
         → OfRepetition (One s f x) fs
     no_repetition : {x : Spanned} → is_repetition x ≡ false → OfRepetition x []
 
@@ -72,8 +72,7 @@ module _ (g : Grammar) where
   pub data OfChoice : Spanned → List Finding → Type 0 where
     unreachable : {s : Span} {x y : Spanned} → CannotFail g (without_spans (last_alternative x))
         → OfChoice (Two s Choice x y)
-        (found_at (span_of (last_alternative x))
-        (codes "expression cannot fail; following choices cannot be reached") ∷ [])
+        (found_at (span_of (last_alternative x)) unreachable_choices ∷ [])
     reachable : {s : Span} {x y : Spanned} → (CannotFail g (without_spans (last_alternative x)) → ⊥)
         → OfChoice (Two s Choice x y) []
     no_choice : {x : Spanned} → is_choice x ≡ false → OfChoice x []
@@ -119,8 +118,7 @@ pub record IsSortedBySpan (found sorted : List Finding) : Type 0 where
 
 -- the finding of a repetition that never ends for another reason than that its body may take nothing
 abbrev pub endless_at : Span → Finding
-endless_at place =
-    found_at place (codes "expression inside repetition is non-progressing and will repeat infinitely")
+endless_at place = found_at place (about message_is.NonProgressing repeated_expression)
 
 -- all findings in rules: repetitions, then those that are known to be endless, then choices, then skipped
 -- rules, then left recursion, of which there is a finding exactly where left calls have a cycle; then

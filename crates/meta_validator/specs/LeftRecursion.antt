@@ -1,12 +1,13 @@
 -- Left recursion, as the validator searches it: depth first from the body of a rule in the order of the
 -- text, and through the rules called.
-use Rattle.std.specs.Prelude.{◌≡◌, ◌⊎◌, ℕ, List, [], ◌∷◌, ◌++◌, Option, Some, None, slice_get, codes, flat_map}
+use Rattle.std.specs.Prelude.{◌≡◌, ◌⊎◌, ℕ, List, [], ◌∷◌, ◌++◌, Option, Some, None, slice_get, flat_map}
 use Rattle.std.specs.List.{Contains}
 use Rattle.std.specs.Str.{encode_utf8_all}
 use Rattle.meta_base.specs.Pieces.Saying.{written}
 use Rattle.meta_base.specs.Language.Text.{Text}
 use Rattle.meta_base.specs.Language.Expression.{Expression, Ident, Grammar, last_place}
 use Rattle.meta_base.specs.Language.WellFormed.{IsNullable, CannotFail}
+use Rattle.meta_messages.specs.Messages.{arrow, left_recursion}
 use Rattle.meta_spanned.specs.Erasure.{without_spans, rules_without_spans}
 use Rattle.meta_spanned.specs.Spanned.{Span, Spanned, Leaf, One, Two, Unary, Binary, Seq, Choice, SpannedRule}
 use Rattle.meta_validator.specs.Walk.{without}
@@ -68,11 +69,10 @@ module _ (rules : List SpannedRule) where
 
   -- the names of the rules of a trail, with an arrow after every name
   abbrev pub arrows : List ℕ → List ℕ
-  arrows trail = flat_map (λ k. name_at (slice_get rules k) ++ codes " -> ") trail
+  arrows trail = flat_map (λ k. name_at (slice_get rules k) ++ arrow) trail
 
   -- the message of a call that closes a trail: the call as it is written, and the names of the trail up
   -- to that of the first rule again
   abbrev pub trail_message : SpannedRule → Closed → List ℕ
-  trail_message first closed = codes "rule " ++ (written closed.call ++ (codes " is left-recursive ("
-      ++ (arrows closed.trail ++ (encode_utf8_all first.name
-      ++ codes "); pest::pratt_parser might be useful in this case"))))
+  trail_message first closed =
+      left_recursion (written closed.call) (arrows closed.trail ++ encode_utf8_all first.name)

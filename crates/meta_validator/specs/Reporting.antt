@@ -1,11 +1,13 @@
 -- Findings, computed from the facts.
-use Rattle.std.specs.Prelude.{◌≡◌, ℕ, List, [], ◌∷◌, ◌++◌, map, Option, Some, None, if◌then◌else◌, slice_get, string_bytes, codes}
+use Rattle.std.specs.Prelude.{◌≡◌, ℕ, List, [], ◌∷◌, ◌++◌, map, Option, Some, None, if◌then◌else◌, slice_get, string_bytes}
 use Rattle.meta_ast.specs.Ast.{text_of}
 use Rattle.meta_spanned.specs.Nodes.{piece_of}
 use Rattle.meta_spanned.specs.Spanned.{Span, span_of}
 use Rattle.meta_spanned.specs.declared.node.ParserRule.{ParserRule}
 use Rattle.meta_base.specs.declared.runtime.places.Span as code_span
 use Rattle.meta_fixpoint.specs.Least.{is_set_at}
+use Rattle.meta_messages.specs.Messages.{about, repeated_expression, unreachable_choices}
+use Rattle.meta_messages.specs.declared.Message.TheVariants as message_is
 use Rattle.meta_validator.specs.Findings.{Finding, found_at, is_skipped_name}
 use Rattle.meta_analysis.specs.Nodes.{all_nodes}
 use Rattle.meta_analysis.specs.declared.facts.Facts.{Facts}
@@ -28,17 +30,15 @@ AreSpans rules spans = map piece_of spans ≡ map span_of (all_nodes rules)
 abbrev pub repeated_at : Facts → List ℕ → Span → ℕ → List Finding
 repeated_at facts subject place j =
     if is_set_at facts.certain.items j
-    then found_at place (subject ++ codes " cannot fail and will repeat infinitely") ∷ []
+    then found_at place (about message_is.CannotFail subject) ∷ []
     else if is_set_at facts.nullable.items j
-    then found_at place (subject ++ codes " is non-progressing and will repeat infinitely") ∷ []
+    then found_at place (about message_is.NonProgressing subject) ∷ []
     else []
 
 -- of a node as a repetition
 abbrev pub repetition_at : Facts → Span → Option NodeKind → List Finding
-repetition_at facts place (Some (is.Again j)) =
-    repeated_at facts (codes "expression inside repetition") place j
-repetition_at facts place (Some (is.OnceAgain j)) =
-    repeated_at facts (codes "expression inside repetition") place j
+repetition_at facts place (Some (is.Again j)) = repeated_at facts repeated_expression place j
+repetition_at facts place (Some (is.OnceAgain j)) = repeated_at facts repeated_expression place j
 repetition_at facts place _ = []
 
 -- the last alternative of the node j, if it is a choice, or else j
@@ -51,8 +51,7 @@ abbrev pub alternative_at : Facts → ℕ → Option code_span.Span → List Fin
 alternative_at facts a None = []
 alternative_at facts a (Some s) =
     if is_set_at facts.certain.items a
-    then found_at (piece_of s) (codes "expression cannot fail; following choices cannot be reached") ∷ []
-    else []
+    then found_at (piece_of s) unreachable_choices ∷ [] else []
 
 abbrev pub unreachable_at : Facts → List code_span.Span → ℕ → List Finding
 unreachable_at facts spans a = alternative_at facts a (slice_get spans a)

@@ -1,7 +1,8 @@
 -- Findings of tags on pieces that give no token.
-use Rattle.std.specs.Prelude.{ℕ, List, [], ◌∷◌, Option, Some, None, Bool, true, false, codes, flat_map}
+use Rattle.std.specs.Prelude.{ℕ, List, [], ◌∷◌, Option, Some, None, Bool, true, false, flat_map}
 use Rattle.meta_base.specs.Language.Text.{Text}
 use Rattle.meta_base.specs.Language.Expression.{Expression, Ident, RuleType, Silent, Rule, Grammar, rule_of}
+use Rattle.meta_messages.specs.Messages.{tag_on_builtin, tag_on_silent_rule}
 use Rattle.meta_names.specs.Names.{is_builtin}
 use Rattle.meta_spanned.specs.Erasure.{rules_without_spans}
 use Rattle.meta_spanned.specs.Spanned.{Span, Spanned, Leaf, One, Two, Tag, SpannedRule, span_of}
@@ -20,13 +21,13 @@ name_within (One s f x) = name_within x
 name_within (Two s f x y) = None
 
 abbrev pub of_type : RuleType → Option (List ℕ)
-of_type Silent = Some (codes "tags on silent rules will not appear in the output")
+of_type Silent = Some tag_on_silent_rule
 of_type _ = None
 
 -- the message of a tag on a name that means a rule, or else a builtin
 abbrev pub of_meant : Option Rule → Bool → Option (List ℕ)
 of_meant (Some r) builtin = of_type r.type_of
-of_meant None true = Some (codes "tags on built-in rules will not appear in the output")
+of_meant None true = Some tag_on_builtin
 of_meant None false = None
 
 abbrev pub told_at : Span → Option (List ℕ) → List Complaint

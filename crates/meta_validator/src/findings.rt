@@ -1,9 +1,11 @@
 //! Findings besides left recursion: repetitions that never end, alternatives that are never reached, and
 //! skipped rules that may take nothing.
-ghost use Rattle.std.specs.Prelude.{◌≡◌, ◌++◌, ◌∷◌, [], IfOk, OnOk, map, string_bytes, slice_get, List, Option};
+ghost use Rattle.std.specs.Prelude.{◌≡◌, ◌++◌, ◌∷◌, [], IfOk, OnOk, map, slice_get, List, Option};
+ghost use Rattle.meta_ast.specs.Ast.{text_of};
 ghost use Rattle.meta_spanned.specs.Nodes.{piece_of, rule_views};
 ghost use Rattle.meta_analysis.specs.Facts.{AreFacts};
-ghost use Rattle.meta_validator.specs.Findings.{found_at, OfRepetition, OfChoice, OfSkipped, Reports};
+ghost use Rattle.meta_messages.specs.Messages.{about};
+ghost use Rattle.meta_validator.specs.Findings.{found_at, is_skipped_name, OfRepetition, OfChoice, OfSkipped, Reports};
 ghost use Rattle.meta_analysis.specs.Names.{grammar_of};
 ghost use Rattle.meta_spanned.specs.declared.node.ParserRule.{ParserRule};
 ghost use Rattle.meta_analysis.specs.Nodes.{all_nodes};
@@ -13,6 +15,8 @@ ghost use Rattle.meta_validator.specs.Reporting.{findings_of, AreSpans, repeated
 use meta_analysis::{Facts, NodeKind, Table, is_literal};
 use meta_base::runtime::Span;
 use meta_fixpoint::is_set;
+use meta_messages::{Message, repeated_expression, unreachable_choices};
+use meta_names::{comment_name, whitespace_name};
 use meta_spanned::ParserRule;
 use std::alloc::{AllocError, Global};
 
@@ -23,27 +27,33 @@ pub struct Finding<'i> {
     pub span: Span<'i>,
 }
 
-/// Concatenates two texts.
-pub(crate) fn concatenate(alloc: Global, first: &str, second: &str) -> Result<String, AllocError>
-    ensures { IfOk result (λ text. string_bytes text ≡ first.now ++ second.now) }
-{
-    let mut text = String::from_str(alloc, first)?;
-    text.push_str(second)?;
-    Ok(text)
-}
-
-/// Adds a finding, whose message is the subject and the text `said` after it.
+/// Adds a finding with this message.
 fn add<'i>(
     alloc: Global,
-    subject: &str,
-    said: &str,
+    message: &str,
     span: Span<'i>,
     found: &mut Vec<Finding<'i>>,
 ) -> Result<(), AllocError>
     ensures { OnOk result (findings_of found.new.items
-        ≡ findings_of found.old.items ++ found_at (piece_of span.entry) (subject.now ++ said.now) ∷ []) }
+        ≡ findings_of found.old.items ++ found_at (piece_of span.entry) message.now ∷ []) }
 {
-    let message = concatenate(alloc, subject, said)?;
+    let message = String::from_str(alloc, message)?;
+    found.push(Finding { message, span })?;
+    Ok(())
+}
+
+/// Adds a finding with this message about a subject.
+fn add_about<'i>(
+    alloc: Global,
+    message: Message,
+    subject: &str,
+    span: Span<'i>,
+    found: &mut Vec<Finding<'i>>,
+) -> Result<(), AllocError>
+    ensures { OnOk result (findings_of found.new.items
+        ≡ findings_of found.old.items ++ found_at (piece_of span.entry) (about message subject.now) ∷ []) }
+{
+    let message = message.about(alloc, subject)?;
     found.push(Finding { message, span })?;
     Ok(())
 }
@@ -75,21 +85,9 @@ fn report_repeated<'i>(
         ≡ findings_of found.old.items ++ repeated_at facts.now subject.now (piece_of span.entry) body) }
 {
     if is_set(facts.certain.as_slice(), body) {
-        add(
-            alloc,
-            subject,
-            " cannot fail and will repeat infinitely",
-            span,
-            found,
-        )?;
+        add_about(alloc, Message::CannotFail, subject, span, found)?;
     } else if is_set(facts.nullable.as_slice(), body) {
-        add(
-            alloc,
-            subject,
-            " is non-progressing and will repeat infinitely",
-            span,
-            found,
-        )?;
+        add_about(alloc, Message::NonProgressing, subject, span, found)?;
     }
     Ok(())
 }
@@ -110,14 +108,7 @@ fn report_repetition<'i>(
         Some(NodeKind::OnceAgain(body)) => body,
         _ => return Ok(()),
     };
-    report_repeated(
-        alloc,
-        facts,
-        "expression inside repetition",
-        span,
-        body,
-        found,
-    )?;
+    report_repeated(alloc, facts, repeated_expression(), span, body, found)?;
     Ok(())
 }
 
@@ -175,13 +166,7 @@ fn report_alternative<'i>(
     if alternative < spans.len() {
         let span = spans[alternative];
         if is_set(facts.certain.as_slice(), alternative) {
-            add(
-                alloc,
-                "expression cannot fail; ",
-                "following choices cannot be reached",
-                span,
-                found,
-            )?;
+            add(alloc, unreachable_choices(), span, found)?;
         }
     }
     Ok(())
@@ -233,6 +218,13 @@ pub(crate) fn choices<'i>(
     Ok(found)
 }
 
+/// Whether rules of that name are skipped.
+fn is_skipped(name: &String) -> bool
+    ensures { result ≡ is_skipped_name (text_of name.now) }
+{
+    is_literal(name, whitespace_name()) || is_literal(name, comment_name())
+}
+
 /// Adds the findings of a rule as one that is skipped.
 fn report_skipped<'i>(
     alloc: Global,
@@ -245,7 +237,7 @@ fn report_skipped<'i>(
         ≡ findings_of found.old.items ++ skipped_at facts.now rule.now root) }
 {
     if let Some(body) = root {
-        if is_literal(&rule.name, "WHITESPACE") || is_literal(&rule.name, "COMMENT") {
+        if is_skipped(&rule.name) {
             report_repeated(
                 alloc,
                 facts,

@@ -1,11 +1,12 @@
 //! The search for left recursion from rules on a cycle of left calls: an iterative depth-first search in
 //! the order of the text that enters no rule twice. One walk serves all rules, and is reset after each.
-ghost use Rattle.std.specs.Prelude.{◌≡◌, ℕ, false, ◌<◌, ◌+◌, ◌++◌, ◌∷◌, [], List, Option, Some, None, true, IfOk, OnOk, IfNone, IfSome, length, slice_get, slice_set, string_bytes, codes};
+ghost use Rattle.std.specs.Prelude.{◌≡◌, ℕ, false, ◌<◌, ◌+◌, ◌++◌, ◌∷◌, [], List, Option, Some, None, true, IfOk, OnOk, IfNone, IfSome, length, slice_get, slice_set, string_bytes};
 ghost use Rattle.meta_base.specs.Language.Text.{Text};
 ghost use Rattle.meta_base.specs.Language.WellFormed.{Leads};
 ghost use Rattle.meta_spanned.specs.Nodes.{rule_views, rule_view, piece_of};
 ghost use Rattle.meta_spanned.specs.Spanned.{SpannedRule};
 ghost use Rattle.meta_fixpoint.specs.Least.{is_set_at};
+ghost use Rattle.meta_messages.specs.Messages as spec;
 ghost use Rattle.meta_validator.specs.Cycles.{NoneRises};
 ghost use Rattle.meta_analysis.specs.Facts.{AreFacts};
 ghost use Rattle.meta_validator.specs.Findings.{OfRecursion, Reports, places};
@@ -26,6 +27,7 @@ use crate::passing::passing;
 use meta_analysis::{Facts, Names, NodeKind, rule_of_name};
 use meta_base::runtime::Span;
 use meta_fixpoint::is_set;
+use meta_messages::{arrow, left_recursion};
 use meta_spanned::ParserRule;
 use std::alloc::{AllocError, Global};
 use std::mem;
@@ -303,12 +305,12 @@ fn push_arrow<'i>(
     place: usize,
 ) -> Result<(), AllocError>
     ensures { OnOk result (string_bytes text.new ≡ string_bytes text.old
-        ++ (name_at (slice_get (rule_views rules.now) place) ++ codes " -> ")) }
+        ++ (name_at (slice_get (rule_views rules.now) place) ++ spec.arrow)) }
 {
     if place < rules.len() {
         text.push_str(rules[place].name.as_str())?;
     }
-    text.push_str(" -> ")?;
+    text.push_str(arrow())?;
     Ok(())
 }
 
@@ -340,14 +342,9 @@ fn recursion_message<'i>(
         ≡ trail_message (rule_views rules.now) (rule_view first.now)
         (record { trail = trail.now; call = piece_of call.entry })) }
 {
-    let arrows = arrows_of(alloc, rules, trail)?;
-    let mut message = String::from_str(alloc, "rule ")?;
-    message.push_str(call.as_str())?;
-    message.push_str(" is left-recursive (")?;
-    message.push_str(arrows.as_str())?;
-    message.push_str(first.name.as_str())?;
-    message.push_str("); pest::pratt_parser might be useful in this case")?;
-    Ok(message)
+    let mut cycle = arrows_of(alloc, rules, trail)?;
+    cycle.push_str(first.name.as_str())?;
+    left_recursion(alloc, call.as_str(), cycle.as_str())
 }
 
 /// Reports whether the rule at an index is the last of its name.

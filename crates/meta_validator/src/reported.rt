@@ -16,6 +16,7 @@ use crate::tags::tags;
 use meta_analysis::Analysis;
 use meta_base::grammar::Rule;
 use meta_base::runtime::{Error, ErrorVariant, Fault, Span, Survey};
+use meta_messages::{Message, repeated_expression};
 use meta_spanned::ParserRule;
 use std::alloc::{AllocError, Global};
 
@@ -24,10 +25,9 @@ fn endless_findings<'i>(alloc: Global, endless: &[Span<'i>]) -> Result<Vec<Findi
     ensures { IfOk result (λ found.
         findings_of found.items ≡ map endless_at (map piece_of endless.now)) }
 {
-    let text = "expression inside repetition is non-progressing and will repeat infinitely";
     let mut found = Vec::new(alloc);
     for span in endless {
-        let message = String::from_str(alloc, text)?;
+        let message = Message::NonProgressing.about(alloc, repeated_expression())?;
         found.push(Finding {
             message,
             span: *span,

@@ -12,6 +12,7 @@ ghost use Rattle.meta_validator.specs.Tags as spec;
 use crate::findings::Finding;
 use meta_analysis::{Names, rule_of_name};
 use meta_ast::ast::RuleType;
+use meta_messages::{tag_on_builtin, tag_on_silent_rule};
 use meta_names::is_builtin;
 use meta_spanned::{ParserExpr, ParserNode, ParserRule, push_operands};
 use std::alloc::{AllocError, Global};
@@ -104,12 +105,12 @@ fn message_of_name<'i>(
 {
     match rule_named(rules, names, name) {
         Some(rule) => match rule.ty {
-            RuleType::Silent => Some("tags on silent rules will not appear in the output"),
+            RuleType::Silent => Some(tag_on_silent_rule()),
             _ => None,
         },
         None => {
             if is_builtin(name.as_str()) {
-                Some("tags on built-in rules will not appear in the output")
+                Some(tag_on_builtin())
             } else {
                 None
             }

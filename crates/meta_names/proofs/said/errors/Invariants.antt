@@ -2,9 +2,9 @@ use Rattle.std.proofs.Common.{List, ◌++◌, map, drop}
 use Rattle.meta_base.specs.Pieces.Saying.{AreErrorsFor, piece_of}
 use Rattle.meta_base.specs.declared.grammar.Rule.{Rule}
 use Rattle.meta_base.specs.declared.runtime.errors.Error.{Error}
-use Rattle.meta_names.specs.Names.{said}
+use Rattle.meta_names.specs.Names.{complaints}
 use Rattle.meta_names.proofs.said.errors.Given as goal
 
 abbrev pub invariant-loop-place : goal.invariant-loop-place
-invariant-loop-place l = (more : List (Error Rule)) → AreErrorsFor (said l.before l.after (map piece_of (drop l.place-index l.places))) more
-    → AreErrorsFor (said l.before l.after (map piece_of l.places)) (l.errors.items ++ more)
+invariant-loop-place l = (more : List (Error Rule)) → AreErrorsFor (complaints l.message (map piece_of (drop l.place-index l.places))) more
+    → AreErrorsFor (complaints l.message (map piece_of l.places)) (l.errors.items ++ more)

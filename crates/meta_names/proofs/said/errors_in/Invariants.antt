@@ -3,13 +3,13 @@ use Rattle.meta_base.specs.Pieces.Saying.{AreErrorsFor, piece_of}
 use Rattle.meta_base.specs.Pieces.Survey.{survey_text}
 use Rattle.meta_base.specs.declared.grammar.Rule.{Rule}
 use Rattle.meta_base.specs.declared.runtime.errors.Error.{Error}
-use Rattle.meta_names.specs.Names.{AreIn, said}
+use Rattle.meta_names.specs.Names.{AreIn, complaints}
 use Rattle.meta_names.proofs.said.errors_in.Given as goal
 
 abbrev pub invariant-loop-place : goal.invariant-loop-place
 invariant-loop-place l = record {
   text : survey_text l.survey ≡ l.text;
   in_text : AreIn l.text (map piece_of (drop l.place-index l.places));
-  told : (more : List (Error Rule)) → AreErrorsFor (said l.before l.after (map piece_of (drop l.place-index l.places))) more
-      → AreErrorsFor (said l.before l.after (map piece_of l.places)) (l.errors.items ++ more);
+  told : (more : List (Error Rule)) → AreErrorsFor (complaints l.message (map piece_of (drop l.place-index l.places))) more
+      → AreErrorsFor (complaints l.message (map piece_of l.places)) (l.errors.items ++ more);
 }

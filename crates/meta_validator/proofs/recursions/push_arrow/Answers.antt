@@ -1,6 +1,7 @@
-use Rattle.std.proofs.Common.{◌≡◌, ◌∙◌, ◌++◌, ap, sym, slice_get, get_or, Some, string_bytes, codes, arith}
+use Rattle.std.proofs.Common.{◌≡◌, ◌∙◌, ◌++◌, ap, sym, slice_get, get_or, Some, string_bytes, arith}
 use Rattle.std.proofs.lemmas.List.{append_assoc, append-nil}
 use Rattle.std.proofs.lemmas.Option.{slice_get-get_or}
+use Rattle.meta_messages.specs.Messages.{arrow}
 use Rattle.meta_spanned.specs.Nodes.{rule_views}
 use Rattle.meta_validator.specs.LeftRecursion.{name_at}
 use Rattle.meta_validator.proofs.RecursionLemmas.{name_there, no_name}
@@ -20,4 +21,4 @@ returns c =
           ap (λ z. string_bytes z) w.text-is ∙ (w.in_ok-push_str.ensures.bytes ∙ ap (λ z. old ++ z) (w.as_str.ensures.value ∙ sym (name_there rs place rule at)))
       | else-place-rules w ↦ ap (λ z. string_bytes z) w.text-is ∙ (sym (append-nil old) ∙ ap (λ z. old ++ z) (sym (no_name rs place (omega arith))))
     ] in
-    c.in_ok-push_str-2.ensures.bytes ∙ (ap (λ z. z ++ codes " -> ") named ∙ append_assoc old name (codes " -> "))
+    c.in_ok-push_str-2.ensures.bytes ∙ (ap (λ z. string_bytes c.if-place-rules.text ++ z) c.arrow.ensures ∙ (ap (λ z. z ++ arrow) named ∙ append_assoc old name arrow))
