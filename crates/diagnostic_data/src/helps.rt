@@ -6,6 +6,7 @@ ghost use Rattle.diagnostic_data.specs.declared.codes.Code.TheVariants as code;
 
 use crate::codes::{Code, Severity};
 use meta_hints::Help;
+use meta_warnings::{is_blank_name, is_blank_name_in_any_case};
 use std::alloc::{AllocError, Global};
 
 /// The help for a code about the message of an error or a part of the text, which may be the same as one
@@ -94,7 +95,7 @@ fn endless_text(message: &str) -> &'static str
 fn uncalled_text(name: &str) -> &'static str
     ensures { is_one_of (helps_of code.UncalledRule) result.now ≡ true }
 {
-    if is_small_name_of_blanks(name) {
+    if is_blank_name_in_any_case(name) {
         "what is skipped between expressions has the name in capitals"
     } else {
         "where matching starts with it, name it by `--start`"
@@ -168,14 +169,12 @@ fn allowance_text(allowed: Option<Code>) -> &'static str
     }
 }
 
-/// Whether an endless repetition is that of WHITESPACE or COMMENT.
+/// Whether an endless repetition is that of WHITESPACE or COMMENT, with whose name its message begins.
 fn is_of_blanks(message: &str) -> bool {
-    message.starts_with("WHITESPACE ") || message.starts_with("COMMENT ")
-}
-
-/// Whether a name is WHITESPACE or COMMENT, but for its case.
-fn is_small_name_of_blanks(name: &str) -> bool {
-    name.eq_ignore_ascii_case("WHITESPACE") || name.eq_ignore_ascii_case("COMMENT")
+    match message.split_once(' ') {
+        Some((name, _)) => is_blank_name(name),
+        None => false,
+    }
 }
 
 /// Whether a name begins with a small letter.

@@ -1,7 +1,9 @@
 //! Definitions, and what undefined names may mean.
-ghost use Rattle.std.specs.Prelude.{IfOk, IfSome};
+ghost use Rattle.std.specs.Prelude.{◌≡◌, IfOk, IfSome, map};
 ghost use Rattle.diagnostic_data.specs.Helps.{IsSuggestion};
+ghost use Rattle.meta_builtins.specs.Builtins.{builtin_names};
 
+use meta_builtins::{Builtin, CharSet};
 use meta_hints::{Help, Related, definitions, nearest_name};
 use meta_names::unicode_property_names;
 use std::alloc::{AllocError, Global};
@@ -10,29 +12,6 @@ use std::collections::HashMap;
 /// Undefined names for which another is looked for, at most so many in a text.
 const NAMES_LOOKED_UP: usize = 20;
 
-/// The builtins that are no Unicode properties.
-const BUILTINS: [&str; 19] = [
-    "ANY",
-    "SOI",
-    "EOI",
-    "PEEK",
-    "PEEK_ALL",
-    "POP",
-    "POP_ALL",
-    "DROP",
-    "NEWLINE",
-    "ASCII",
-    "ASCII_DIGIT",
-    "ASCII_NONZERO_DIGIT",
-    "ASCII_BIN_DIGIT",
-    "ASCII_OCT_DIGIT",
-    "ASCII_HEX_DIGIT",
-    "ASCII_ALPHA_LOWER",
-    "ASCII_ALPHA_UPPER",
-    "ASCII_ALPHA",
-    "ASCII_ALPHANUMERIC",
-];
-
 /// The definitions of a text.
 #[derive(Drop)]
 pub(crate) struct Definitions<'t> {
@@ -40,6 +19,8 @@ pub(crate) struct Definitions<'t> {
     first: HashMap<&'t str, (usize, usize)>,
     /// The names in order.
     names: Vec<&'t str>,
+    /// The names of builtins that are no Unicode properties.
+    builtins: Vec<&'static str>,
     /// How many undefined names were looked up.
     count: usize,
 }
@@ -47,6 +28,7 @@ pub(crate) struct Definitions<'t> {
 impl<'t> Definitions<'t> {
     /// The definitions of a text.
     pub(crate) fn new(alloc: Global, text: &'t str) -> Result<Definitions<'t>, AllocError> {
+        let builtins = names_of_builtins(alloc)?;
         let mut first = HashMap::new(alloc);
         let mut names = Vec::new(alloc);
         for (start, end) in &definitions(alloc, text)? {
@@ -59,6 +41,7 @@ impl<'t> Definitions<'t> {
         Ok(Definitions {
             first,
             names,
+            builtins,
             count: 0,
         })
     }
@@ -98,7 +81,7 @@ impl<'t> Definitions<'t> {
         if let Some(known) = known_elsewhere(name) {
             return did_you_mean(alloc, known, start, end);
         }
-        if let Some(nearest) = nearest_name(alloc, name, &BUILTINS)? {
+        if let Some(nearest) = nearest_name(alloc, name, &self.builtins)? {
             return did_you_mean(alloc, nearest, start, end);
         }
         match nearest_name(alloc, name, unicode_property_names())? {
@@ -108,18 +91,51 @@ impl<'t> Definitions<'t> {
     }
 }
 
+/// The names of builtins that are no Unicode properties.
+fn names_of_builtins(alloc: Global) -> Result<Vec<&'static str>, AllocError>
+    ensures { IfOk result (λ names. map (λ name. name.now) names.items ≡ builtin_names) }
+{
+    let mut names = Vec::new(alloc);
+    for builtin in Builtin::all() {
+        names.push(builtin.name())?;
+    }
+    Ok(names)
+}
+
 /// The builtin or the string that other notations call by a name.
 fn known_elsewhere(name: &str) -> Option<&'static str> {
+    match builtin_elsewhere(name) {
+        Some(builtin) => Some(builtin.name()),
+        None => property_elsewhere(name),
+    }
+}
+
+/// The builtin that other notations call by a name.
+fn builtin_elsewhere(name: &str) -> Option<Builtin> {
     match name {
-        "digit" | "Digit" | "DIGIT" | "digits" => Some("ASCII_DIGIT"),
-        "alpha" | "ALPHA" | "letter" | "ASCII_LETTER" => Some("ASCII_ALPHA"),
-        "alnum" | "ALNUM" | "alphanumeric" | "ASCII_ALNUM" => Some("ASCII_ALPHANUMERIC"),
-        "ASCII_ALPHANUM" | "ASCII_ALPHA_NUMERIC" => Some("ASCII_ALPHANUMERIC"),
-        "xdigit" | "HEXDIG" | "hex_digit" | "ASCII_HEX" => Some("ASCII_HEX_DIGIT"),
-        "nl" | "NL" | "eol" | "EOL" | "CRLF" | "newline" => Some("NEWLINE"),
-        "eof" | "EOF" | "end" | "END" => Some("EOI"),
-        "bof" | "BOF" | "BOI" | "start" | "START" => Some("SOI"),
-        "_" | "anychar" | "char" | "dot" | "ANYCHAR" => Some("ANY"),
+        "nl" | "NL" | "eol" | "EOL" | "CRLF" | "newline" => Some(Builtin::Newline),
+        "eof" | "EOF" | "end" | "END" => Some(Builtin::Eoi),
+        "bof" | "BOF" | "BOI" | "start" | "START" => Some(Builtin::Soi),
+        _ => set_elsewhere(name).map(Builtin::Set),
+    }
+}
+
+/// The set of characters that other notations call by a name.
+fn set_elsewhere(name: &str) -> Option<CharSet> {
+    match name {
+        "digit" | "Digit" | "DIGIT" | "digits" => Some(CharSet::AsciiDigit),
+        "alpha" | "ALPHA" | "letter" | "ASCII_LETTER" => Some(CharSet::AsciiAlpha),
+        "alnum" | "ALNUM" | "alphanumeric" | "ASCII_ALNUM" => Some(CharSet::AsciiAlphanumeric),
+        "ASCII_ALPHANUM" | "ASCII_ALPHA_NUMERIC" => Some(CharSet::AsciiAlphanumeric),
+        "xdigit" | "HEXDIG" | "hex_digit" | "ASCII_HEX" => Some(CharSet::AsciiHexDigit),
+        "_" | "anychar" | "char" | "dot" | "ANYCHAR" => Some(CharSet::Any),
+        _ => None,
+    }
+}
+
+/// The Unicode property or the string that other notations call by a name.
+fn property_elsewhere(name: &str) -> Option<&'static str> {
+    match name {
         "Lu" => Some("UPPERCASE_LETTER"),
         "Ll" => Some("LOWERCASE_LETTER"),
         "L" => Some("LETTER"),
