@@ -1,5 +1,5 @@
 -- Ranges of forms that match one character, or that tell whether one of some is next.
-use Rattle.std.specs.Prelude.{◌≡◌, ℕ, suc, Bool, true, false, List, nat_le, if◌then◌else◌}
+use Rattle.std.specs.Prelude.{◌≡◌, ◌⊎◌, ℕ, suc, Bool, true, false, List, nat_le, if◌then◌else◌}
 use Rattle.meta_base.specs.Language.Expression.{Grammar}
 use Rattle.meta_base.specs.Language.FurthestFailure.{furthest}
 use Rattle.meta_base.specs.Language.Matching.{character_outcome, starts_in}
@@ -22,6 +22,10 @@ is_below from c = nat_le (suc c) from
 
 abbrev pub is_above : ℕ → ℕ → Bool
 is_above to c = nat_le (suc to) c
+
+-- two forms are the sides of a choice, in one order or the other
+abbrev pub AreSides : (left right one other : Form) → Type 0
+AreSides left right one other = (one ≡ right) × (other ≡ left) ⊎ (one ≡ left) × (other ≡ right)
 
 -- a form has the expression of a set
 pub record IsIncludedIn (p : Program) (f set : Form) : Type 0 where

@@ -5,7 +5,7 @@ ghost use Rattle.matcher_code.specs.Reading.{is_covered};
 ghost use Rattle.matcher_program.specs.Programs.{is_set};
 ghost use Rattle.matcher_program.specs.declared.form.Program.{Program};
 ghost use Rattle.matcher_program.specs.declared.form.Form.TheVariants as form;
-ghost use Rattle.matcher_sets.specs.Differences.{AddsFirsts, AddsForm, HasFirsts, HasRanges, HasRefused, IsIncluded, is_above, is_below};
+ghost use Rattle.matcher_sets.specs.Differences.{AddsFirsts, AddsForm, AreSides, HasFirsts, HasRanges, HasRefused, IsIncluded, is_above, is_below};
 ghost use Rattle.matcher_sets.specs.Ranges.{Adds, Covers};
 ghost use Rattle.matcher_sets.specs.Forms.{IsBoundIn};
 
@@ -163,7 +163,18 @@ fn push_set(
     }
 }
 
-/// Returns the ranges of a choice of sets of characters, whose left alternative may be one again, or `None`
+/// Returns the alternative of a choice whose ranges are taken next, and the other one, which is looked into.
+/// Choices nest on the left as they are written, on the right as they are optimized.
+fn alternative_and_rest<'f>(left: &'f Form, right: &'f Form) -> (&'f Form, &'f Form)
+    ensures { AreSides left.entry.now right.entry.now result.0.now result.1.now }
+{
+    match right {
+        Form::Choice(_, _) => (left, right),
+        _ => (right, left),
+    }
+}
+
+/// Returns the ranges of a choice of sets of characters, of which one may be such a choice again, or `None`
 /// if it is another form, or the ranges are too many.
 pub fn choice_ranges(
     alloc: Global,
@@ -176,10 +187,11 @@ pub fn choice_ranges(
     let mut ranges = Vec::new(alloc);
     let mut rest = form;
     'alternatives: while let Form::Choice(left, right) = rest {
-        if ranges.len() > MOST_RANGES || !push_set(alloc, program, &mut ranges, right)? {
+        let (alternative, other) = alternative_and_rest(left, right);
+        if ranges.len() > MOST_RANGES || !push_set(alloc, program, &mut ranges, alternative)? {
             return Ok(None);
         }
-        rest = left;
+        rest = other;
     }
     if !push_set(alloc, program, &mut ranges, rest)? {
         return Ok(None);
@@ -224,10 +236,11 @@ fn first_ranges(alloc: Global, program: &Program, form: &Form) -> Result<Option<
     let mut ranges = Vec::new(alloc);
     let mut rest = form;
     'alternatives: while let Form::Choice(left, right) = rest {
-        if ranges.len() > MOST_RANGES || !push_firsts(alloc, program, &mut ranges, right)? {
+        let (alternative, other) = alternative_and_rest(left, right);
+        if ranges.len() > MOST_RANGES || !push_firsts(alloc, program, &mut ranges, alternative)? {
             return Ok(None);
         }
-        rest = left;
+        rest = other;
     }
     if !push_firsts(alloc, program, &mut ranges, rest)? {
         return Ok(None);

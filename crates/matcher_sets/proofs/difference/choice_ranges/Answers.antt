@@ -3,7 +3,7 @@ use Rattle.std.proofs.lemmas.Grind.{common_steps}
 use Rattle.meta_base.specs.Language.Expression.{Choice}
 use Rattle.matcher_sets.specs.Differences.{MatchesOne}
 use Rattle.matcher_sets.specs.Forms.{IsBoundIn, said}
-use Rattle.matcher_sets.proofs.Choosing.{IsRest, last_one, no_rest, one_less}
+use Rattle.matcher_sets.proofs.Choosing.{IsRest, bound_sides, last_one, no_rest, one_less_of_two}
 use Rattle.matcher_sets.proofs.Excluding.{matches_joined}
 use Rattle.matcher_sets.proofs.difference.choice_ranges.Goals as goal
 
@@ -18,19 +18,25 @@ pub push_set-requires : goal.push_set-requires
 push_set-requires c =
     let p = c.args.program.now in
     let b = subst (λ f. IsBoundIn p f) c.in-Choice.is c.alternatives.invariant.bound in
-    record { bound = subst (λ f. IsBoundIn p f) (sym c.deref.ensures) b.1 }
+    let sides = c.alternative_and_rest in
+    record {
+      bound = (bound_sides p c.deref.result.now c.deref-in-Choice.result.now sides.result.0.now sides.result.1.now sides.ensures
+          (subst (λ f. IsBoundIn p f) (sym c.deref.ensures) b.0) (subst (λ f. IsBoundIn p f) (sym c.deref-in-Choice.ensures) b.1)).0;
+    }
 
 pub alternatives-preserved : goal.alternatives-preserved
 alternatives-preserved c =
     let p = c.args.program.now in
     let b = subst (λ f. IsBoundIn p f) c.in-Choice.is c.alternatives.invariant.bound in
+    let sides = c.alternative_and_rest in
     let t : c.in_ok-push_set.field-0 ≡ true = grind (arith, common_steps) in
     record {
-      bound = subst (λ f. IsBoundIn p f) (sym c.deref-rest.ensures) b.0;
+      bound = (bound_sides p c.deref.result.now c.deref-in-Choice.result.now sides.result.0.now sides.result.1.now sides.ensures
+          (subst (λ f. IsBoundIn p f) (sym c.deref.ensures) b.0) (subst (λ f. IsBoundIn p f) (sym c.deref-in-Choice.ensures) b.1)).1;
       rests = λ classes fits.
-          one_less p (MatchesOne p classes) c.args.form.now c.alternatives.rest.now c.alternatives.ranges.items c.push_set.new.ranges.items (c.alternatives.invariant.rests classes fits)
-          (matches_joined p classes) c.deref-rest.result.now c.deref.result.now (c.in_ok-push_set.ensures t classes fits)
-          (ap (said p) c.in-Choice.is ∙ ap₂ (λ a e. Choice (said p a) (said p e)) (sym c.deref-rest.ensures) (sym c.deref.ensures));
+          one_less_of_two p (MatchesOne p classes) c.args.form.now c.alternatives.rest.now c.alternatives.ranges.items c.push_set.new.ranges.items (c.alternatives.invariant.rests classes fits)
+          (matches_joined p classes) c.deref.result.now c.deref-in-Choice.result.now sides.result.0.now sides.result.1.now sides.ensures (c.in_ok-push_set.ensures t classes fits)
+          (ap (said p) c.in-Choice.is ∙ ap₂ (λ a e. Choice (said p a) (said p e)) (sym c.deref.ensures) (sym c.deref-in-Choice.ensures));
     }
 
 pub returns : goal.returns
