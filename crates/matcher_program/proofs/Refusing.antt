@@ -11,12 +11,13 @@ use Rattle.std.proofs.lemmas.Bool.{false_from_ne_true}
 use Rattle.meta_ast.specs.Ast.{text_of}
 use Rattle.meta_base.specs.Language.Builtins.{Property as PropertyOf, builtin_of, is_one_of, property_names}
 use Rattle.meta_base.specs.Language.Expression.{Expression, Grammar, Ident, Part, Range, rule_of, whole}
+use Rattle.meta_base.specs.Language.CharacterBounds.{HasCharacterBounds}
 use Rattle.meta_base.specs.Language.KnownNames.{HasKnownNames}
 use Rattle.meta_base.specs.Language.Text.{Text}
 use Rattle.meta_base.specs.Language.WellFormed.{InSomeRule}
 use Rattle.meta_base.specs.Rewritings.Equality.{text_eq-Decides}
 use Rattle.matcher_program.proofs.Compiling.{is_property_of}
-use Rattle.matcher_program.specs.Refusals.{HasCharacterBounds, IsNoBuiltin, IsNoCharacter, IsReason, IsUnknown, IsWithin, KnowsProperties, IsWrong, IsWrongBound, IsWrongIn, has_property}
+use Rattle.matcher_program.specs.Refusals.{IsNoBuiltin, IsNoCharacter, IsReason, IsUnknown, IsWithin, KnowsProperties, IsWrong, IsWrongBound, IsWrongIn, has_property}
 use Rattle.matcher_program.specs.declared.compile.Unfit.{Unfit}
 use Rattle.matcher_program.specs.declared.compile.Unfit.TheVariants as unfit
 use Rattle.meta_ast.specs.Optimized.{optimized_expression_of, optimized_rule_of, optimized_rules_of}

@@ -21,11 +21,6 @@ IsUnknown knows g n = (rule_of g n ≡ None) × IsNoBuiltin knows n
 abbrev pub KnowsProperties : (Text → Bool) → Type 0
 KnowsProperties knows = (n : Text) → builtin_of n ≡ Some (PropertyOf n) → knows n ≡ true
 
--- both bounds of each range are one character
-abbrev pub HasCharacterBounds : Grammar → Type 0
-HasCharacterBounds g = (low high : Text) → InSomeRule g (Range low high)
-    → (length low ≡ 1) × (length high ≡ 1)
-
 -- a text that is not one character
 abbrev pub IsNoCharacter : Text → Type 0
 IsNoCharacter t = length t ≢ 1

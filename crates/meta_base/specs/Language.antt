@@ -1,5 +1,6 @@
 -- Grammars, and the meaning of their expressions.
 pub mod Builtins
+pub mod CharacterBounds
 pub mod Expected
 pub mod Expression
 pub mod FurthestFailure

@@ -22,7 +22,7 @@ pub enum Builtin {
     Pop,
     /// The removal of the top entry.
     Drop,
-    /// The texts of all entries, from the bottom to the top.
+    /// The texts of all entries, from the top to the bottom.
     PeekAll,
     /// The texts of all entries, which are removed.
     PopAll,

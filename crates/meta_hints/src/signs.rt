@@ -8,6 +8,7 @@ use crate::mistakes::{LiteralMistake, Mistake, OuterMistake, SignMistake};
 use crate::outer::{fix_outer, say_outer};
 use crate::terms::{at_term, late_modifier};
 use hint_lexemes::{Lexeme, LexemeClass, Site, ends_term, is_sign, starts_term};
+use meta_builtins::{Builtin, CharSet};
 use std::alloc::{AllocError, Global};
 
 /// A remedy without a fix.
@@ -244,7 +245,8 @@ fn at_dot(alloc: Global, site: &Site<'_>, here: Lexeme) -> Result<Option<Remedy>
     if ends_term(before) {
         return Ok(say_sign(SignMistake::DottedName));
     }
-    fix_sign(alloc, SignMistake::Dot, here.start, here.end, "ANY")
+    let any = CharSet::Any.name();
+    fix_sign(alloc, SignMistake::Dot, here.start, here.end, any)
 }
 
 /// The remedy of two dots: between strings, or with a bound that is missing.
@@ -380,8 +382,8 @@ fn at_backslash(
 ) -> Result<Option<Remedy>, AllocError> {
     let name = site.next_lexeme(1);
     let replacement = match site.text_of(name) {
-        "d" => "ASCII_DIGIT",
-        "n" => "NEWLINE",
+        "d" => CharSet::AsciiDigit.name(),
+        "n" => Builtin::Newline.name(),
         "s" => "(\" \" | \"\\t\" | NEWLINE)",
         "w" => "(ASCII_ALPHANUMERIC | \"_\")",
         _ => return Ok(say_sign(SignMistake::RegexEscape)),

@@ -4,6 +4,7 @@ use crate::literals::{after_character, inner_of, range_of_strings, say_literal};
 use crate::mistakes::{LiteralMistake, Mistake, SignMistake, TermMistake};
 use crate::signs::say_sign;
 use hint_lexemes::{Lexeme, LexemeClass, Site, ends_term, is_sign};
+use meta_builtins::Builtin;
 use std::alloc::{AllocError, Global};
 
 /// A remedy without a fix.
@@ -149,9 +150,19 @@ fn after_builtin(name: &str, is_called: bool) -> Option<Remedy> {
     match name {
         "PUSH" if !is_called => say_term(TermMistake::Push),
         "PUSH_LITERAL" if !is_called => say_term(TermMistake::PushLiteral),
-        "PEEK" if is_called => say_term(TermMistake::Peek),
-        "POP" | "DROP" | "PEEK_ALL" | "POP_ALL" if is_called => say_term(TermMistake::Pop),
+        _ if is_called => called_builtin(Builtin::from_name(name)?),
         _ => None,
+    }
+}
+
+/// The remedy of a builtin that is called with parentheses.
+fn called_builtin(builtin: Builtin) -> Option<Remedy> {
+    match builtin {
+        Builtin::Peek => say_term(TermMistake::Peek),
+        Builtin::Pop | Builtin::Drop | Builtin::PeekAll | Builtin::PopAll => {
+            say_term(TermMistake::Pop)
+        }
+        Builtin::Set(_) | Builtin::Soi | Builtin::Eoi | Builtin::Newline => None,
     }
 }
 

@@ -17,7 +17,7 @@ use Rattle.meta_reader.specs.Reading.{Postfix, Terminal, literal_value}
 use Rattle.meta_reader.proofs.ReadParts.{IsHandedDown, IsGiven, parts_so}
 use Rattle.pest_meta.proofs.CharacterTrees.{HoldCharacters, trees_hold}
 use Rattle.pest_meta.proofs.NothingNew.{HasNothingNew, kept_by_all, stands_in}
-use Rattle.pest_meta.specs.Promises.{HasCharacterBounds}
+use Rattle.meta_base.specs.Language.CharacterBounds.{HasCharacterBounds}
 use Rattle.pest_meta.specs.Spelling.{AreReadAsRules, HasTrees}
 
 -- 1. where they are read

@@ -6,6 +6,7 @@ use Rattle.meta_ast.specs.Optimized.{optimized_rules_of}
 use Rattle.meta_ast.specs.declared.optimized.OptimizedRule.{OptimizedRule}
 use Rattle.meta_base.specs.Language.Expression.{Expression, Grammar}
 use Rattle.meta_base.specs.Language.Grammar.{FitsItsTypes, IsGrammar}
+use Rattle.meta_base.specs.Language.CharacterBounds.{HasCharacterBounds}
 use Rattle.meta_base.specs.Language.KnownNames.{HasKnownNames}
 use Rattle.meta_base.specs.Language.State.{Trees}
 use Rattle.meta_base.specs.Language.WellFormed.{InSomeRule, IsPlain}
@@ -30,7 +31,7 @@ use Rattle.pest_meta.proofs.NothingNew.{finished_suffice, steps_suffice}
 use Rattle.pest_meta.proofs.Spelled.{spells_once}
 use Rattle.pest_meta.proofs.WellNamed.{defined_texts, distinct_read, keeps_any, names_are_texts, no_keyword_read}
 use Rattle.pest_meta.proofs.WholeCharacters.{trees_on_characters}
-use Rattle.pest_meta.specs.Promises.{AreBuiltinsOf, EndsFromEverywhere, HasCharacterBounds, HasOutcomesOf, IsWellFormedGrammar, OfSpelled}
+use Rattle.pest_meta.specs.Promises.{AreBuiltinsOf, EndsFromEverywhere, HasOutcomesOf, IsWellFormedGrammar, OfSpelled}
 use Rattle.pest_meta.specs.Spelling.{AreReadAsRules, HasTrees, IsAnswer, SpellsGrammar, complaints_in}
 
 module _ (text : List ℕ) (utf8 : IsUtf8 text) (us : Trees) (sound : AreSound text us) (h : complaints_in text us ≡ []) (rs : List SpannedRule) (d : ReadsRules text us rs) where

@@ -21,7 +21,7 @@ use Rattle.pest_meta.proofs.CharacterBounds.{bounds_on, read_bounds}
 use Rattle.pest_meta.proofs.KnownNames.{known_on, spelled_known}
 use Rattle.pest_meta.proofs.NothingNew.{HasNothingNew, kept_by_unrolling}
 use Rattle.pest_meta.proofs.Promised.{read_builtins}
-use Rattle.pest_meta.specs.Promises.{HasCharacterBounds}
+use Rattle.meta_base.specs.Language.CharacterBounds.{HasCharacterBounds}
 use Rattle.pest_meta.specs.Spelling.{AreAccepted}
 
 module _ {E : Type 0} (text : List ℕ) (utf8 : IsUtf8 text) (pairs : Pairs Rule) (builtins : List (Bor (List ℕ))) (rules : Grammar) (answer : Result (Vec OptimizedRule Global) E)

@@ -1,8 +1,8 @@
 -- Promises about the grammar that an accepted text spells, and about the answered rules.
-use Rattle.std.specs.Prelude.{◌≡◌, ℕ, List, None, true, All, chars, length, map}
+use Rattle.std.specs.Prelude.{◌≡◌, ℕ, List, None, true, All, chars, map}
 use Rattle.std.specs.Borrow.{Bor}
 use Rattle.meta_base.specs.Language.Builtins.{is_one_of}
-use Rattle.meta_base.specs.Language.Expression.{Grammar, Ident, Range, rule_of}
+use Rattle.meta_base.specs.Language.Expression.{Grammar, Ident, rule_of}
 use Rattle.meta_base.specs.Language.Grammar.{IsGrammar}
 use Rattle.meta_base.specs.Rewritings.Rewriting.{Chain, EachBody, SameOutcomes}
 use Rattle.meta_base.specs.Language.State.{Classes, Trees}
@@ -29,11 +29,6 @@ pub record AreBuiltinsOf (g : Grammar) (names : List (Bor (List ℕ))) : Type 0 
   pub outside : All (λ name. (is_builtin name.now ≡ true) × (rule_of g (chars name.now) ≡ None)) names
   pub complete : (n : Text) → InSomeRule g (Ident n) → rule_of g n ≡ None
       → is_one_of (map (λ name. chars name.now) names) n ≡ true
-
--- both bounds of each range are one character
-abbrev pub HasCharacterBounds : Grammar → Type 0
-HasCharacterBounds g = (low high : Text) → InSomeRule g (Range low high)
-    → (length low ≡ 1) × (length high ≡ 1)
 
 -- g is a grammar, and well-formed
 abbrev pub IsWellFormedGrammar : Grammar → Type 0

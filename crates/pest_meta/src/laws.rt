@@ -1,4 +1,5 @@
 //! Laws over the definitions alone.
+ghost use Rattle.meta_base.specs.Language.CharacterBounds.{HasCharacterBounds};
 ghost use Rattle.meta_base.specs.Language.Expression.{Grammar};
 ghost use Rattle.meta_base.specs.Language.KnownNames.{HasKnownNames};
 ghost use Rattle.meta_base.specs.Rewritings.Listing.{EachListed};
@@ -9,7 +10,6 @@ ghost use Rattle.meta_restorer.specs.Agreeing.{WrappersSuffice};
 ghost use Rattle.pest_meta.specs.Laws.{FlawedGiveNothing, HasOneListOfBuiltins, HasOneListOfRules, HasOneListOfTrees};
 ghost use Rattle.pest_meta.specs.Laws.{HasOneOptimization, HasOneRefusal, HasOneResult, HasTreesOrFails, IsNotBoth};
 ghost use Rattle.pest_meta.specs.Laws.{NamesComeFirst, OfAnswers, SpellsOneGrammar};
-ghost use Rattle.pest_meta.specs.Promises.{HasCharacterBounds};
 
 /// Proves that a text spells one list of rules at most.
 pub fn spells_one_grammar()

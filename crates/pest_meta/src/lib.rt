@@ -11,10 +11,11 @@ mod written;
 
 ghost use Rattle.std.specs.Prelude.{[], IfErr, IfOk};
 ghost use Rattle.meta_ast.specs.Optimized.{optimized_rules_of};
+ghost use Rattle.meta_base.specs.Language.CharacterBounds.{HasCharacterBounds};
 ghost use Rattle.meta_base.specs.Language.KnownNames.{HasKnownNames};
 ghost use Rattle.meta_base.specs.Language.WellFormed.{IsPlain};
 ghost use Rattle.meta_stack_loops.specs.Certain.{AreReports};
-ghost use Rattle.pest_meta.specs.Promises.{AreBuiltinsOf, EndsFromEverywhere, HasCharacterBounds, HasOutcomesOf};
+ghost use Rattle.pest_meta.specs.Promises.{AreBuiltinsOf, EndsFromEverywhere, HasOutcomesOf};
 ghost use Rattle.pest_meta.specs.Promises.{IsWellFormedGrammar, OfRead, OfSpelled};
 ghost use Rattle.meta_restorer.specs.Agreeing.{AgreesLoosely, WrappersSuffice};
 ghost use Rattle.pest_meta.specs.Spelling.{HasRefusal, IsAnswer, IsRefusal};

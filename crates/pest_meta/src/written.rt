@@ -1,8 +1,8 @@
 //! The rules of a grammar as they are written, in the form that runs.
 ghost use Rattle.std.specs.Prelude.{IfErr, IfOk};
 ghost use Rattle.meta_ast.specs.Optimized.{optimized_rules_of};
+ghost use Rattle.meta_base.specs.Language.CharacterBounds.{HasCharacterBounds};
 ghost use Rattle.meta_base.specs.Language.KnownNames.{HasKnownNames};
-ghost use Rattle.pest_meta.specs.Promises.{HasCharacterBounds};
 ghost use Rattle.pest_meta.specs.Spelling.{IsRefusal};
 ghost use Rattle.pest_meta.specs.Written.{IsWritten};
 
