@@ -5,7 +5,7 @@ use Rattle.std.proofs.lemmas.List.{length_push}
 use Rattle.meta_fixpoint.specs.Least.{is_set_at}
 use Rattle.meta_stack_loops.specs.Leading.{IsOperandOf, LeadsToCall, to_call, by_body, by_operand, LeadsFrom, LeadsBack, Owns, AreOwned, AreLinks, AreLed, IsOnward, owner_in, leader_in, turned}
 use Rattle.meta_stack_loops.specs.Table.{called_by, parts_of}
-use Rattle.meta_stack_loops.specs.declared.calls.Link.{Link}
+use Rattle.meta_graph.specs.declared.links.Link.{Link}
 use Rattle.meta_stack_loops.specs.declared.table.PassNode.{PassNode}
 use Rattle.meta_stack_loops.specs.declared.table.Parts.{Parts}
 use Rattle.meta_fixpoint.proofs.LeastLemmas.{set_or_one}

@@ -2,7 +2,7 @@
 use Rattle.std.specs.Prelude.{◌≡◌, ◌↔◌, ◌⊎◌, ℕ, ◌+◌, ◌<◌, ◌≤◌, List, Option, Some, None, Bool, true, false, slice_get, length, unwrap_or, ⊤}
 use Rattle.meta_fixpoint.specs.Least.{is_set_at}
 use Rattle.meta_stack_loops.specs.Table.{called_by, parts_of}
-use Rattle.meta_stack_loops.specs.declared.calls.Link.{Link}
+use Rattle.meta_graph.specs.declared.links.Link.{Link}
 use Rattle.meta_stack_loops.specs.declared.table.NodeKind.TheVariants as is
 use Rattle.meta_stack_loops.specs.declared.table.PassNode.{PassNode}
 use Rattle.meta_stack_loops.specs.declared.table.Parts.{Parts}

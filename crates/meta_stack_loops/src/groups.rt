@@ -1,12 +1,27 @@
 //! Rules that certainly reach themselves: their leader reaches them, and they reach their leader (a check
 //! of the components).
 ghost use Rattle.std.specs.Prelude.{◌≡◌, ℕ, IfOk, Some, false, true, slice_get};
+ghost use Rattle.meta_stack_loops.specs.Leading as spec;
 ghost use Rattle.meta_stack_loops.specs.Leading.{AreLed, AreLinks, IsOnward, LeadsBack, leader_in};
 
-use crate::calls::{Groups, Link, orient};
 use crate::table::PassNode;
 use meta_fixpoint::is_set;
+use meta_graph::{Components, Link};
 use std::alloc::{AllocError, Global};
+
+/// Returns the link, or the reverse link.
+fn orient(link: Link, down: bool) -> Link
+    ensures { result ≡ spec.turned down link }
+{
+    if down {
+        link
+    } else {
+        Link {
+            source: link.target,
+            target: link.source,
+        }
+    }
+}
 
 /// Returns the leader of a rule.
 fn leader_of(leaders: &[usize], rule: usize) -> usize
@@ -129,7 +144,7 @@ pub(crate) fn recursive_by<'n, 'i>(
     roots: &[usize],
     nodes: &[PassNode<'n, 'i>],
     links: &[Link],
-    groups: &Groups,
+    groups: &Components,
 ) -> Result<Vec<bool>, AllocError>
     requires { AreLinks nodes.now roots.now links.now }
     ensures { IfOk result (λ flags. (r : ℕ) → slice_get flags.items r ≡ Some true

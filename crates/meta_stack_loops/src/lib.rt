@@ -2,7 +2,6 @@
 #![tactic(auto)]
 
 mod apart;
-mod calls;
 mod copies;
 mod facts;
 mod groups;

@@ -2,8 +2,8 @@
 ghost use Rattle.std.specs.Prelude.{◌≡◌, IfOk, OnOk, Some};
 ghost use Rattle.meta_stack_loops.specs.Leading.{AreLinks, AreOwned, LeadsFrom, Owns, owner_in};
 
-use crate::calls::Link;
 use crate::table::{NodeKind, Parts, PassNode};
+use meta_graph::Link;
 use std::alloc::{AllocError, Global};
 
 /// Returns the rule whose body is known to have a node.

@@ -3,12 +3,12 @@ ghost use Rattle.std.specs.Prelude.{◌≡◌, ◌↔◌, ◌<◌, ◌≤◌, �
 ghost use Rattle.meta_stack_loops.specs.Leading.{AreCalls, AreRaised, AreRanked, CallFalls, IsRanked, LeadsBack, PartsFall, bit, rank_in};
 ghost use Rattle.meta_stack_loops.specs.Table.{called_by, parts_of};
 
-use crate::calls::groups_of;
 use crate::facts::{Question, answers, is_root_set};
 use crate::groups::recursive_by;
 use crate::owners::links_of;
 use crate::table::{Parts, PassNode};
 use meta_fixpoint::is_set;
+use meta_graph::find_components;
 use std::alloc::{AllocError, Global};
 
 /// Recursive rules and the ranks of nodes.
@@ -150,15 +150,11 @@ fn search_calls<'n, 'i>(
 fn ranks_of_nodes<'n, 'i>(
     alloc: Global,
     nodes: &[PassNode<'n, 'i>],
-    ranks: &[Option<usize>],
+    ranks: &[usize],
 ) -> Result<Vec<usize>, AllocError> {
     let mut found = Vec::with_capacity(alloc, nodes.len())?;
     for node in nodes {
-        let rank = match ranks.get(node.rule) {
-            Some(Some(rank)) => *rank,
-            _ => 0,
-        };
-        found.push(rank)?;
+        found.push(rank_of(ranks, node.rule))?;
     }
     Ok(found)
 }
@@ -174,7 +170,7 @@ pub(crate) fn calls_of<'n, 'i>(
     ensures { IfOk result (λ calls. AreCalls nodes.now roots.now calls.recursive.items calls.ranks.items) }
 {
     let links = links_of(alloc, roots, nodes)?;
-    let groups = groups_of(alloc, links.as_slice(), roots.len())?;
+    let groups = find_components(alloc, links.as_slice(), roots.len())?;
     let recursive = recursive_by(alloc, roots, nodes, links.as_slice(), &groups)?;
     let ranks = ranks_of_nodes(alloc, nodes, groups.ranks.as_slice())?;
     if are_ranked(roots, nodes, recursive.as_slice(), ranks.as_slice()) {

@@ -1,11 +1,12 @@
 //! The stack pass, the entry points.
-ghost use Rattle.std.specs.Prelude.{◌≡◌, ◌<◌, ◌&&◌, not, IfOk, IfErr, IfSome, OnOk, MatchOption, alloc_error, map, is_some, [], ◌∷◌};
+ghost use Rattle.std.specs.Prelude.{◌≡◌, ◌<◌, ◌&&◌, not, IfOk, IfErr, IfSome, OnOk, MatchOption, alloc_error, map, is_some, List, [], ◌∷◌};
 ghost use Rattle.std.specs.List.{filter};
 ghost use Rattle.std.specs.Str.{IsAscii};
 ghost use Rattle.meta_base.specs.Language.Expression.{whitespace, comment, last_place};
 ghost use Rattle.meta_base.specs.Pieces.Saying.{AreErrorsFor};
 ghost use Rattle.meta_fixpoint.specs.Least.{is_set_at};
 ghost use Rattle.meta_spanned.specs.Nodes.{rule_views, piece_of};
+ghost use Rattle.meta_spanned.specs.declared.node.ParserRule.{ParserRule};
 ghost use Rattle.meta_analysis.specs.Facts.{AreFacts, AreNullable};
 ghost use Rattle.meta_analysis.specs.Analysis.{IsAnalysis};
 ghost use Rattle.meta_stack_domain.specs.Reports.{skips_in};
@@ -19,7 +20,6 @@ ghost use Rattle.meta_stack_loops.specs.Reportable.{FindsMore, IsToVisit};
 ghost use Rattle.meta_stack_loops.specs.Visiting.{FindsAll, Keeps};
 
 use crate::apart::apart_of;
-use crate::calls::numbers;
 use crate::facts::{Question, answers, is_root_set, nodes_of_rule};
 use crate::kinds::nodes_with_kinds;
 use crate::memory::Memory;
@@ -32,6 +32,7 @@ use meta_analysis::{Analysis, Facts, Names, facts_of, names_of, tabulate};
 use meta_base::grammar::Rule;
 use meta_base::runtime::{Error, ErrorVariant, Fault, Span, Survey};
 use meta_fixpoint::is_set;
+use meta_graph::numbers;
 use meta_messages::{Message, repeated_expression};
 use meta_names::{comment_name, whitespace_name};
 use meta_spanned::ParserRule;
@@ -49,16 +50,10 @@ const MOST_TURNS: usize = ABSTRACT_STACKS + 1;
 const SEARCHED_TURNS: usize = 64;
 
 /// Whether the flag of the body of the rule of that name is set.
-fn is_body_set<'i>(
-    rules: &[ParserRule<'i>],
-    names: &Names,
-    roots: &[usize],
-    flags: &[bool],
-    name: &str,
-) -> bool
-    requires known { KnowsRules rules.now names.now }
-    requires ascii { IsAscii name.now }
-    ensures { result ≡ body_flag roots.now flags.now (last_place (grammar_of rules.now) name.now) }
+fn is_body_set(names: &Names, roots: &[usize], flags: &[bool], name: &str) -> bool
+    requires { IsAscii name.now }
+    ensures { (rules : List ParserRule) → KnowsRules rules names.now
+        → result ≡ body_flag roots.now flags.now (last_place (grammar_of rules) name.now) }
 {
     match names.place_of(name) {
         Some(rule) => is_root_set(roots, flags, rule),
@@ -67,35 +62,30 @@ fn is_body_set<'i>(
 }
 
 /// Whether there is a rule of that name.
-fn is_defined<'i>(rules: &[ParserRule<'i>], names: &Names, name: &str) -> bool
-    requires known { KnowsRules rules.now names.now }
-    requires ascii { IsAscii name.now }
-    ensures { result ≡ is_some (last_place (grammar_of rules.now) name.now) }
+fn is_defined(names: &Names, name: &str) -> bool
+    requires { IsAscii name.now }
+    ensures { (rules : List ParserRule) → KnowsRules rules names.now
+        → result ≡ is_some (last_place (grammar_of rules) name.now) }
 {
     names.place_of(name).is_some()
 }
 
 /// Whether something may be skipped between the parts of a sequence.
-fn is_skipping<'i>(rules: &[ParserRule<'i>], names: &Names) -> bool
-    requires { KnowsRules rules.now names.now }
-    ensures { result ≡ skips_in (grammar_of rules.now) }
+fn is_skipping(names: &Names) -> bool
+    ensures { (rules : List ParserRule) → KnowsRules rules names.now
+        → result ≡ skips_in (grammar_of rules) }
 {
-    is_defined(rules, names, whitespace_name()) || is_defined(rules, names, comment_name())
+    is_defined(names, whitespace_name()) || is_defined(names, comment_name())
 }
 
 /// Whether the implicit whitespace leaves the stack alone, by the flags of nodes that change it.
-fn leaves_stack<'i>(
-    rules: &[ParserRule<'i>],
-    names: &Names,
-    roots: &[usize],
-    flags: &[bool],
-) -> bool
-    requires { KnowsRules rules.now names.now }
-    ensures { result ≡ (not (name_flag (grammar_of rules.now) roots.now flags.now whitespace)
-        && not (name_flag (grammar_of rules.now) roots.now flags.now comment)) }
+fn leaves_stack(names: &Names, roots: &[usize], flags: &[bool]) -> bool
+    ensures { (rules : List ParserRule) → KnowsRules rules names.now
+        → result ≡ (not (name_flag (grammar_of rules) roots.now flags.now whitespace)
+        && not (name_flag (grammar_of rules) roots.now flags.now comment)) }
 {
-    !is_body_set(rules, names, roots, flags, whitespace_name())
-        && !is_body_set(rules, names, roots, flags, comment_name())
+    !is_body_set(names, roots, flags, whitespace_name())
+        && !is_body_set(names, roots, flags, comment_name())
 }
 
 /// Returns which nodes may take nothing, copied from the facts that are lent, or computed if none are.
@@ -156,7 +146,7 @@ fn to_visit_in<'n, 'i>(
         roots.as_slice(),
         nodes.as_slice(),
     )?;
-    if !leaves_stack(rules, names, roots.as_slice(), changing.as_slice()) {
+    if !leaves_stack(names, roots.as_slice(), changing.as_slice()) {
         return Ok(None);
     }
     let nullable = nullable_flags(alloc, rules, names, table, lent)?;
@@ -167,7 +157,7 @@ fn to_visit_in<'n, 'i>(
         recursive,
         ranks,
         nullable,
-        skips: is_skipping(rules, names),
+        skips: is_skipping(names),
         limit: MOST_TURNS,
         turns: SEARCHED_TURNS,
     };

@@ -3,138 +3,24 @@
 //! leads to a lower number, no cycle exists. Where a cycle exists, levels in place of the order decide
 //! which rules are on none: no left call leads to a higher level, and those of such a rule lead to lower
 //! ones.
-ghost use Rattle.std.specs.Prelude.{◌≡◌, ◌<◌, ◌≤◌, ◌+◌, ◌*◌, IfOk, OnOk, length, true};
+ghost use Rattle.std.specs.Prelude.{◌≡◌, ◌<◌, ◌+◌, IfOk, List, true};
 ghost use Rattle.meta_base.specs.Language.Text.{Text};
 ghost use Rattle.meta_base.specs.Language.WellFormed.{Leads};
-ghost use Rattle.meta_fixpoint.specs.Least.{unset};
+ghost use Rattle.meta_spanned.specs.declared.node.ParserRule.{ParserRule};
 ghost use Rattle.meta_analysis.specs.Facts.{AreFacts};
 ghost use Rattle.meta_analysis.specs.Names.{grammar_of};
 ghost use Rattle.meta_validator.specs.Cycles.{AllFall, Falls, FallsFrom, IsBelowRoot, NoneRises, rank_at};
 
+use crate::relations::{Relation, links_of};
 use meta_analysis::{Facts, NodeKind};
 use meta_fixpoint::is_set;
-use meta_spanned::ParserRule;
+use meta_graph::postorder;
 use std::alloc::{AllocError, Global};
 
-/// A step of the depth-first search.
-#[derive(Clone, Copy)]
-pub enum SearchStep {
-    Enter(usize),
-    Leave(usize),
-}
-
-fn enter_root(facts: &Facts, steps: &mut Vec<SearchStep>, rule: usize) -> Result<(), AllocError>
-    ensures { OnOk result (steps.new.len ≤ steps.old.len + 1) }
-{
-    if let Some(root) = facts.table.roots.get(rule) {
-        steps.push(SearchStep::Enter(*root))?;
-    }
-    Ok(())
-}
-
-/// Pushes the nodes to which a node's left calls lead directly on the worklist.
-fn enter_operands(
-    facts: &Facts,
-    steps: &mut Vec<SearchStep>,
-    kind: NodeKind,
-) -> Result<(), AllocError>
-    ensures { OnOk result (steps.new.len ≤ steps.old.len + 2) }
-{
-    match kind {
-        NodeKind::Taking | NodeKind::Still | NodeKind::End => Ok(()),
-        NodeKind::Call(rule) | NodeKind::EndCall(rule) => enter_root(facts, steps, rule),
-        NodeKind::Ahead(body)
-        | NodeKind::NotAhead(body)
-        | NodeKind::Free(body)
-        | NodeKind::Inside(body)
-        | NodeKind::Again(body)
-        | NodeKind::OnceAgain(body) => {
-            steps.push(SearchStep::Enter(body))?;
-            Ok(())
-        }
-        NodeKind::Seq(first, second) => {
-            steps.push(SearchStep::Enter(first))?;
-            if is_set(facts.nullable.as_slice(), first) {
-                steps.push(SearchStep::Enter(second))?;
-            }
-            Ok(())
-        }
-        NodeKind::Choice(first, second) => {
-            steps.push(SearchStep::Enter(first))?;
-            steps.push(SearchStep::Enter(second))?;
-            Ok(())
-        }
-    }
-}
-
-/// Enters a node that was not seen yet.
-fn enter(
-    facts: &Facts,
-    seen: &mut Vec<bool>,
-    steps: &mut Vec<SearchStep>,
-    node: usize,
-) -> Result<(), AllocError>
-    ensures fewer { OnOk result (4 * unset seen.new.items + length steps.new.items
-        ≤ 4 * unset seen.old.items + length steps.old.items) }
-{
-    if node >= seen.len() || node >= facts.table.kinds.len() {
-        return Ok(());
-    }
-    if is_set(seen.as_slice(), node) {
-        return Ok(());
-    }
-    seen[node] = true;
-    steps.push(SearchStep::Leave(node))?;
-    enter_operands(facts, steps, facts.table.kinds[node])?;
-    Ok(())
-}
-
-/// The state of a depth-first search.
-#[derive(Drop)]
-struct Search {
-    /// The number of a node, greater for a node that was left later.
-    order: Vec<usize>,
-    seen: Vec<bool>,
-    steps: Vec<SearchStep>,
-    /// The number of the node that is left next.
-    clock: usize,
-}
-
-/// Leaves a node.
-fn leave(search: &mut Search, node: usize)
-    ensures seen { search.new.seen ≡ search.old.seen }
-    ensures steps { search.new.steps ≡ search.old.steps }
-{
-    if let Some(number) = search.order.get_mut(node) {
-        *number = search.clock;
-        search.clock = search.clock.saturating_add(1);
-    }
-}
-
-/// Searches from a node.
-fn search_from(facts: &Facts, search: &mut Search, node: usize) -> Result<(), AllocError> {
-    search.steps.push(SearchStep::Enter(node))?;
-    while let Some(step) = search.steps.pop() {
-        match step {
-            SearchStep::Enter(node) => enter(facts, &mut search.seen, &mut search.steps, node)?,
-            SearchStep::Leave(node) => leave(search, node),
-        }
-    }
-    Ok(())
-}
-
-/// Numbers all nodes in the order in which a depth-first search leaves them.
+/// Numbers all nodes in the order in which a depth-first search along left calls leaves them.
 fn number_nodes(alloc: Global, facts: &Facts) -> Result<Vec<usize>, AllocError> {
-    let mut search = Search {
-        order: vec![in alloc; 0; facts.table.kinds.len()]?,
-        seen: vec![in alloc; false; facts.table.kinds.len()]?,
-        steps: Vec::new(alloc),
-        clock: 1,
-    };
-    for node in 0..facts.table.kinds.len() {
-        search_from(facts, &mut search, node)?;
-    }
-    Ok(search.order)
+    let links = links_of(alloc, facts, Relation::LeftCalls)?;
+    postorder(alloc, links.as_slice(), facts.table.kinds.len())
 }
 
 /// Returns the number of a node.
@@ -234,13 +120,9 @@ pub(crate) fn falls_from(facts: &Facts, levels: &[usize], rule: usize) -> bool
 }
 
 /// Reports whether no rule is left-recursive; yes is definite.
-pub(crate) fn has_no_cycle<'i>(
-    alloc: Global,
-    rules: &[ParserRule<'i>],
-    facts: &Facts,
-) -> Result<bool, AllocError>
-    requires { AreFacts rules.now facts.now }
-    ensures { IfOk result (λ yes. yes ≡ true → (n : Text) → Leads (grammar_of rules.now) n n → ⊥) }
+pub(crate) fn has_no_cycle(alloc: Global, facts: &Facts) -> Result<bool, AllocError>
+    ensures { IfOk result (λ yes. yes ≡ true → (rules : List ParserRule) → AreFacts rules facts.now
+        → (n : Text) → Leads (grammar_of rules) n n → ⊥) }
 {
     let order = number_nodes(alloc, facts)?;
     let falls = all_fall(facts, order.as_slice());

@@ -130,14 +130,12 @@ pub(crate) fn spans_of<'i>(
 /// Collects the findings of all nodes as repetitions.
 pub(crate) fn repetitions<'i>(
     alloc: Global,
-    rules: &[ParserRule<'i>],
     facts: &Facts,
     spans: &[Span<'i>],
 ) -> Result<Vec<Finding<'i>>, AllocError>
-    requires facts { AreFacts rules.now facts.now }
-    requires spans { AreSpans rules.now spans.now }
-    ensures { IfOk result (λ found. Reports (OfRepetition (grammar_of rules.now))
-        (all_nodes rules.now) (findings_of found.items)) }
+    ensures { IfOk result (λ found. (rules : List ParserRule) → AreFacts rules facts.now
+        → AreSpans rules spans.now
+        → Reports (OfRepetition (grammar_of rules)) (all_nodes rules) (findings_of found.items)) }
 {
     let mut found = Vec::new(alloc);
     for node in 0..spans.len() {
@@ -202,14 +200,12 @@ fn report_choice<'i>(
 /// Collects the findings of all nodes as choices.
 pub(crate) fn choices<'i>(
     alloc: Global,
-    rules: &[ParserRule<'i>],
     facts: &Facts,
     spans: &[Span<'i>],
 ) -> Result<Vec<Finding<'i>>, AllocError>
-    requires facts { AreFacts rules.now facts.now }
-    requires spans { AreSpans rules.now spans.now }
-    ensures { IfOk result (λ found. Reports (OfChoice (grammar_of rules.now))
-        (all_nodes rules.now) (findings_of found.items)) }
+    ensures { IfOk result (λ found. (rules : List ParserRule) → AreFacts rules facts.now
+        → AreSpans rules spans.now
+        → Reports (OfChoice (grammar_of rules)) (all_nodes rules) (findings_of found.items)) }
 {
     let mut found = Vec::new(alloc);
     for node in 0..spans.len() {

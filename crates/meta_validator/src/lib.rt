@@ -8,6 +8,7 @@ pub mod laws;
 mod levels;
 mod passing;
 mod recursions;
+mod relations;
 mod reported;
 mod tags;
 pub mod validator;

@@ -1,6 +1,7 @@
 //! Nullability of all nodes where a call of a node's own rule takes something, as least fixpoints.
-ghost use Rattle.std.specs.Prelude.{◌≡◌, ℕ, ◌+◌, ◌<◌, ◌≤◌, Some, true, false, IfOk, OnOk, length, slice_get};
+ghost use Rattle.std.specs.Prelude.{◌≡◌, ℕ, ◌+◌, ◌<◌, ◌≤◌, Some, true, false, IfOk, List, OnOk, length, slice_get};
 ghost use Rattle.meta_fixpoint.specs.Least.{is_set_at};
+ghost use Rattle.meta_spanned.specs.declared.node.ParserRule.{ParserRule};
 ghost use Rattle.meta_analysis.specs.Facts.{AreFacts};
 ghost use Rattle.meta_validator.specs.Levels.{AllRest, AreSettled, IsSettled, own_answer, own_answer_at};
 ghost use Rattle.meta_analysis.specs.RightAnswers.{AreSound, AreClosed};
@@ -11,7 +12,6 @@ use crate::cycles::number_at;
 use crate::levels::levels_of;
 use meta_analysis::{Facts, KindTable, NodeKind, Question, answers_to};
 use meta_fixpoint::{find_listeners, is_set};
-use meta_spanned::ParserRule;
 use std::alloc::{AllocError, Global};
 
 /// Returns the kind of a node where calls of a rule count as neither.
@@ -137,20 +137,19 @@ fn own_flag_at(facts: &Facts, rule: usize, flags: &[bool], node: usize) -> bool
 }
 
 /// Adds the flags of the nodes of a rule's body, computed from those of their operands.
-fn add_own_flags<'i>(
-    rules: &[ParserRule<'i>],
+fn add_own_flags(
     facts: &Facts,
     levels: &[usize],
     rule: usize,
     root: usize,
     flags: &mut Vec<bool>,
 ) -> Result<(), AllocError>
-    requires facts { AreFacts rules.now facts.now }
     requires levels { AllRest facts.now levels.now }
     requires root { slice_get facts.now.table.roots.items rule ≡ Some root }
     requires settled { AreSettled facts.now levels.now rule (length flags.old.items) root }
-    ensures { OnOk result (ArePassingBelow rules.now facts.now.table.roots.items rule flags.old.items
-        → ArePassingBelow rules.now facts.now.table.roots.items (rule + 1) flags.new.items) }
+    ensures { OnOk result ((rules : List ParserRule) → AreFacts rules facts.now
+        → ArePassingBelow rules facts.now.table.roots.items rule flags.old.items
+        → ArePassingBelow rules facts.now.table.roots.items (rule + 1) flags.new.items) }
 {
     while flags.len() <= root {
         let flag = own_flag_at(facts, rule, flags.as_slice(), flags.len());
@@ -160,36 +159,34 @@ fn add_own_flags<'i>(
 }
 
 /// Adds the flags of the nodes of the body of a rule that takes something: they are the facts.
-fn add_facts<'i>(
-    rules: &[ParserRule<'i>],
+fn add_facts(
     facts: &Facts,
     rule: usize,
     root: usize,
     flags: &mut Vec<bool>,
 ) -> Result<(), AllocError>
-    requires facts { AreFacts rules.now facts.now }
     requires root { slice_get facts.now.table.roots.items rule ≡ Some root }
     requires takes { is_set_at facts.now.nullable.items root ≡ false }
-    ensures { OnOk result (ArePassingBelow rules.now facts.now.table.roots.items rule flags.old.items
-        → ArePassingBelow rules.now facts.now.table.roots.items (rule + 1) flags.new.items) }
+    ensures { OnOk result ((rules : List ParserRule) → AreFacts rules facts.now
+        → ArePassingBelow rules facts.now.table.roots.items rule flags.old.items
+        → ArePassingBelow rules facts.now.table.roots.items (rule + 1) flags.new.items) }
 {
     add_flags(facts.nullable.as_slice(), root, flags)?;
     Ok(())
 }
 
 /// Adds the flags of the nodes of a rule's body, computed with those of all nodes.
-fn add_answers<'i>(
+fn add_answers(
     alloc: Global,
-    rules: &[ParserRule<'i>],
     facts: &Facts,
     rule: usize,
     root: usize,
     flags: &mut Vec<bool>,
 ) -> Result<(), AllocError>
-    requires facts { AreFacts rules.now facts.now }
     requires root { slice_get facts.now.table.roots.items rule ≡ Some root }
-    ensures { OnOk result (ArePassingBelow rules.now facts.now.table.roots.items rule flags.old.items
-        → ArePassingBelow rules.now facts.now.table.roots.items (rule + 1) flags.new.items) }
+    ensures { OnOk result ((rules : List ParserRule) → AreFacts rules facts.now
+        → ArePassingBelow rules facts.now.table.roots.items rule flags.old.items
+        → ArePassingBelow rules facts.now.table.roots.items (rule + 1) flags.new.items) }
 {
     let answers = answers_without(alloc, facts, rule)?;
     add_flags(answers.as_slice(), root, flags)?;
@@ -199,43 +196,38 @@ fn add_answers<'i>(
 /// Adds the flags of the nodes of a rule's body. Only where the rule may take nothing do they differ from
 /// the facts. All nodes are needed only where the rule leads back to itself by other rules that may take
 /// nothing.
-fn add_rule<'i>(
+fn add_rule(
     alloc: Global,
-    rules: &[ParserRule<'i>],
     facts: &Facts,
     levels: &[usize],
     rule: usize,
     flags: &mut Vec<bool>,
 ) -> Result<(), AllocError>
-    requires facts { AreFacts rules.now facts.now }
     requires levels { AllRest facts.now levels.now }
     requires inside { rule < facts.now.table.roots.len }
-    ensures { OnOk result (ArePassingBelow rules.now facts.now.table.roots.items rule flags.old.items
-        → ArePassingBelow rules.now facts.now.table.roots.items (rule + 1) flags.new.items) }
+    ensures { OnOk result ((rules : List ParserRule) → AreFacts rules facts.now
+        → ArePassingBelow rules facts.now.table.roots.items rule flags.old.items
+        → ArePassingBelow rules facts.now.table.roots.items (rule + 1) flags.new.items) }
 {
     let root = facts.table.root_at(rule);
     if !is_set(facts.nullable.as_slice(), root) {
-        return add_facts(rules, facts, rule, root, flags);
+        return add_facts(facts, rule, root, flags);
     }
     if are_settled(facts, levels, rule, flags.len(), root) {
-        return add_own_flags(rules, facts, levels, rule, root, flags);
+        return add_own_flags(facts, levels, rule, root, flags);
     }
-    add_answers(alloc, rules, facts, rule, root, flags)
+    add_answers(alloc, facts, rule, root, flags)
 }
 
 /// Computes which nodes may take nothing where a call of the rule in whose body they are takes something.
-pub(crate) fn passing<'i>(
-    alloc: Global,
-    rules: &[ParserRule<'i>],
-    facts: &Facts,
-) -> Result<Vec<bool>, AllocError>
-    requires { AreFacts rules.now facts.now }
-    ensures { IfOk result (λ flags. ArePassing rules.now facts.now.table.roots.items flags.items) }
+pub(crate) fn passing(alloc: Global, facts: &Facts) -> Result<Vec<bool>, AllocError>
+    ensures { IfOk result (λ flags. (rules : List ParserRule) → AreFacts rules facts.now
+        → ArePassing rules facts.now.table.roots.items flags.items) }
 {
     let levels = levels_of(alloc, facts)?;
     let mut flags = Vec::new(alloc);
     for rule in 0..facts.table.roots.len() {
-        add_rule(alloc, rules, facts, levels.as_slice(), rule, &mut flags)?;
+        add_rule(alloc, facts, levels.as_slice(), rule, &mut flags)?;
     }
     Ok(flags)
 }

@@ -448,7 +448,7 @@ fn closed_trails<'i>(
         → place < length rules.now → NeverComesBack rules.now facts.now.table.roots.items place) }
 {
     let levels = left_levels(alloc, facts)?;
-    let passing = passing(alloc, rules, facts)?;
+    let passing = passing(alloc, facts)?;
     let guide = Guide {
         facts,
         passing: passing.as_slice(),
@@ -487,7 +487,7 @@ pub(crate) fn recursions<'i>(
     ensures some { IfOk result (λ found. (findings_of found.items ≡ [] → ⊥) → (n : Text)
         × Leads (grammar_of rules.now) n n) }
 {
-    let falls = has_no_cycle(alloc, rules, facts)?;
+    let falls = has_no_cycle(alloc, facts)?;
     if falls {
         return Ok(Vec::new(alloc));
     }

@@ -52,10 +52,10 @@ fn all_findings<'i>(
 {
     let facts = &groundwork.facts;
     let spans = spans_of(alloc, &groundwork.table)?;
-    let found = repetitions(alloc, rules, facts, spans.as_slice())?;
+    let found = repetitions(alloc, facts, spans.as_slice())?;
     let known = endless_findings(alloc, endless)?;
     let found = append_findings(found, known)?;
-    let choices = choices(alloc, rules, facts, spans.as_slice())?;
+    let choices = choices(alloc, facts, spans.as_slice())?;
     let found = append_findings(found, choices)?;
     let skips = skips(alloc, rules, facts)?;
     let found = append_findings(found, skips)?;

@@ -2,7 +2,7 @@ use Rattle.std.proofs.Common.{◌≡◌, ◌<◌, Some, true, sym, subst, rules,
 use Rattle.std.proofs.Math.ListN.{set}
 use Rattle.std.proofs.lemmas.Option.{slice_get-get_or}
 use Rattle.meta_stack_loops.specs.Leading.{AreLed, IsOnward, turned}
-use Rattle.meta_stack_loops.specs.declared.calls.Link.{Link}
+use Rattle.meta_graph.specs.declared.links.Link.{Link}
 use Rattle.meta_stack_loops.proofs.GroupLemmas.{one_led}
 use Rattle.meta_stack_loops.proofs.groups.go_on.Goals as goal
 

@@ -4,9 +4,9 @@ use Rattle.meta_analysis.proofs.NameLemmas.{ascii_place}
 use Rattle.meta_stack_loops.proofs.repetitions.is_body_set.Goals as goal
 
 pub returns-in-Some : goal.returns-in-Some
-returns-in-Some c = c.is_root_set.ensures ∙ ap (body_flag c.args.roots.now c.args.flags.now)
-    (sym c.in-Some.is ∙ (c.place_of.ensures ∙ ascii_place c.args.rules.now c.args.names.now c.args.name.now c.requires.known c.requires.ascii))
+returns-in-Some c = λ rs known. c.is_root_set.ensures ∙ ap (body_flag c.args.roots.now c.args.flags.now)
+    (sym c.in-Some.is ∙ (c.place_of.ensures ∙ ascii_place rs c.args.names.now c.args.name.now known c.requires))
 
 pub returns-in-None : goal.returns-in-None
-returns-in-None c = ap (body_flag c.args.roots.now c.args.flags.now)
-    (sym c.in-None.is ∙ (c.place_of.ensures ∙ ascii_place c.args.rules.now c.args.names.now c.args.name.now c.requires.known c.requires.ascii))
+returns-in-None c = λ rs known. ap (body_flag c.args.roots.now c.args.flags.now)
+    (sym c.in-None.is ∙ (c.place_of.ensures ∙ ascii_place rs c.args.names.now c.args.name.now known c.requires))

@@ -3,4 +3,4 @@ use Rattle.meta_analysis.proofs.NameLemmas.{ascii_place}
 use Rattle.meta_stack_loops.proofs.repetitions.is_defined.Goals as goal
 
 pub returns : goal.returns
-returns c = c.is_some.ensures ∙ ap is_some (c.place_of.ensures ∙ ascii_place c.args.rules.now c.args.names.now c.args.name.now c.requires.known c.requires.ascii)
+returns c = λ rs known. c.is_some.ensures ∙ ap is_some (c.place_of.ensures ∙ ascii_place rs c.args.names.now c.args.name.now known c.requires)

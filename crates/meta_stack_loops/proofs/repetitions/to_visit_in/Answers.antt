@@ -55,7 +55,7 @@ returns-then-not-leaves_stack c =
     let alters : SkippingAltersStack g = is_changed c.args.rules.now c.in_ok-nodes.nodes.items c.in_ok-roots.roots.items (tabled_at _ _ _ _ _ c.in_ok-roots.ensures c.in_ok-nodes.ensures) flags
     (sound_at asks.AltersStack _ _ _ _ flags c.as_slice-6.ensures.value c.as_slice-5.ensures.value c.in_ok-changing.ensures.sound)
     (closed_at asks.AltersStack _ _ _ _ flags c.as_slice-6.ensures.value c.as_slice-5.ensures.value c.in_ok-changing.ensures.closed)
-    (ap₂ leaves (sym c.as_slice-7.ensures.value) (sym c.as_slice-8.ensures.value) ∙ (sym c.leaves_stack.ensures ∙ c.if-not-leaves_stack.true)) in
+    (ap₂ leaves (sym c.as_slice-7.ensures.value) (sym c.as_slice-8.ensures.value) ∙ (sym (c.leaves_stack.ensures c.args.rules.now c.requires.known) ∙ c.if-not-leaves_stack.true)) in
     record { silent = λ s. refl; plain = λ n. absurd (n alters) }
 
 pub returns : goal.returns
@@ -66,13 +66,13 @@ returns c =
     let calm : SkippingAltersStack g → ⊥ = is_calm c.args.rules.now c.in_ok-nodes.nodes.items c.in_ok-roots.roots.items (tabled_at _ _ _ _ _ c.in_ok-roots.ensures c.in_ok-nodes.ensures) flags
     (sound_at asks.AltersStack _ _ _ _ flags c.as_slice-6.ensures.value c.as_slice-5.ensures.value c.in_ok-changing.ensures.sound)
     (closed_at asks.AltersStack _ _ _ _ flags c.as_slice-6.ensures.value c.as_slice-5.ensures.value c.in_ok-changing.ensures.closed)
-    (ap₂ leaves (sym c.as_slice-7.ensures.value) (sym c.as_slice-8.ensures.value) ∙ (sym c.leaves_stack.ensures ∙ c.if-not-leaves_stack.false)) in
+    (ap₂ leaves (sym c.as_slice-7.ensures.value) (sym c.as_slice-8.ensures.value) ∙ (sym (c.leaves_stack.ensures c.args.rules.now c.requires.known) ∙ c.if-not-leaves_stack.false)) in
     let reportable = c.in_ok-reportable.reportable.items in
     let may = may_at _ _ _ _ reportable c.as_slice-2.ensures.value c.as_slice.ensures.value c.in_ok-reportable.ensures in record {
       silent = silent c.args.rules.now c.in_ok-nodes.nodes.items c.in_ok-roots.roots.items (tabled_at _ _ _ _ _ c.in_ok-roots.ensures c.in_ok-nodes.ensures) reportable may;
       table = as_it_should c.args.rules.now _ (record {
         tabled = tabled_at _ _ _ _ _ c.in_ok-roots.ensures c.in_ok-nodes.ensures;
-        skips = c.is_skipping.ensures;
+        skips = c.is_skipping.ensures c.args.rules.now c.requires.known;
         nullable = c.in_ok-nullable.ensures;
         calls = calls_at _ _ _ _ _ _ c.as_slice-10.ensures.value c.as_slice-9.ensures.value c.in_ok-recursive.ensures;
         calm = calm;

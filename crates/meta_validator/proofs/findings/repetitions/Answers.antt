@@ -9,18 +9,18 @@ use Rattle.meta_validator.proofs.ReportingLemmas.{repetition_step}
 use Rattle.meta_validator.proofs.findings.repetitions.Goals as goal
 
 pub loop-node-init : goal.loop-node-init
-loop-node-init c =
-    let R = OfRepetition (grammar_of c.args.rules.now) in
-    subst (λ z. Reports R (take 0 (all_nodes c.args.rules.now)) (findings_of z)) (sym c.new-found.ensures.items) reports_none
+loop-node-init c = λ rs right at.
+    let R = OfRepetition (grammar_of rs) in
+    subst (λ z. Reports R (take 0 (all_nodes rs)) (findings_of z)) (sym c.new-found.ensures.items) reports_none
 
 pub loop-node-preserved : goal.loop-node-preserved
-loop-node-preserved c =
-    let R = OfRepetition (grammar_of c.args.rules.now) in
+loop-node-preserved c = λ rs right are.
+    let R = OfRepetition (grammar_of rs) in
     let i = c.loop-node.node in
     let spans = c.args.spans.now in
     let s = get_or spans i c.index-spans-node.result in
     let at : slice_get spans i ≡ Some s = slice_get-get_or spans i _ c.loop-node-test.true in
-    let h = repetition_step c.args.rules.now c.args.facts.now c.requires.facts spans c.requires.spans i s (findings_of c.loop-node.found.items) at c.loop-node.invariant in
-    subst (λ z. Reports R (take (i + 1) (all_nodes c.args.rules.now)) z)
+    let h = repetition_step rs c.args.facts.now right spans are i s (findings_of c.loop-node.found.items) at (c.loop-node.invariant rs right are) in
+    subst (λ z. Reports R (take (i + 1) (all_nodes rs)) z)
     (sym (c.in_ok-report_repetition.ensures ∙ (ap (λ k. findings_of c.loop-node.found.items ++ repetition_at c.args.facts.now (piece_of c.index-spans-node.result) k) c.kind_of_node.ensures
     ∙ ap (λ r. findings_of c.loop-node.found.items ++ repetition_at c.args.facts.now (piece_of r) (slice_get c.args.facts.now.table.kinds.items i)) c.index-spans-node.is))) h

@@ -1,9 +1,12 @@
-use Rattle.std.proofs.Common.{take}
+use Rattle.std.proofs.Common.{List, take}
+use Rattle.meta_spanned.specs.declared.node.ParserRule.{ParserRule}
+use Rattle.meta_analysis.specs.Facts.{AreFacts}
 use Rattle.meta_validator.specs.Findings.{OfRepetition, Reports}
 use Rattle.meta_analysis.specs.Names.{grammar_of}
 use Rattle.meta_analysis.specs.Nodes.{all_nodes}
-use Rattle.meta_validator.specs.Reporting.{findings_of}
+use Rattle.meta_validator.specs.Reporting.{AreSpans, findings_of}
 use Rattle.meta_validator.proofs.findings.repetitions.Given as goal
 
 abbrev pub invariant-loop-node : goal.invariant-loop-node
-invariant-loop-node l = Reports (OfRepetition (grammar_of l.rules)) (take l.node (all_nodes l.rules)) (findings_of l.found.items)
+invariant-loop-node l = (rules : List ParserRule) → AreFacts rules l.facts → AreSpans rules l.spans
+    → Reports (OfRepetition (grammar_of rules)) (take l.node (all_nodes rules)) (findings_of l.found.items)

@@ -6,10 +6,8 @@ use Rattle.meta_validator.proofs.RegionLemmas.{rule_at}
 use Rattle.meta_validator.proofs.passing.add_answers.Goals as goal
 
 pub returns : goal.returns
-returns c = λ below.
-    let rs = c.args.rules.now in
+returns c = λ rs right below.
     let facts = c.args.facts.now in
-    let right = c.requires.facts in
     let m = c.args.rule in
     let (rule, here) = rule_at rs facts.table.roots.items right.tabled.roots m c.args.root c.requires.root in
     let without_it = c.in_ok-answers.ensures in

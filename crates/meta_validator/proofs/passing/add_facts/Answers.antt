@@ -7,10 +7,8 @@ use Rattle.meta_validator.proofs.ReportingLemmas.{says_at}
 use Rattle.meta_validator.proofs.passing.add_facts.Goals as goal
 
 pub returns : goal.returns
-returns c = λ below.
-    let rs = c.args.rules.now in
+returns c = λ rs right below.
     let facts = c.args.facts.now in
-    let right = c.requires.facts in
     let m = c.args.rule in
     let root = c.args.root in
     let (rule, here) = rule_at rs facts.table.roots.items right.tabled.roots m root c.requires.root in

@@ -11,7 +11,6 @@ use Rattle.meta_validator.proofs.passing.add_own_flags.Goals as goal
 
 pub loop-flags-preserved : goal.loop-flags-preserved
 loop-flags-preserved c =
-    let rs = c.args.rules.now in
     let facts = c.args.facts.now in
     let old = c.args.flags.now.items in
     let flags = c.loop-flags.flags.items in
@@ -29,16 +28,14 @@ loop-flags-preserved c =
       grown = omega arith;
       within = λ h. omega arith;
       kept = λ i l. ap (λ z. is_set_at z i) e ∙ (set_before flags b i (omega arith) ∙ inv.kept i l);
-      right = λ h. subst (λ z. ArePassingSoFar rs facts.table.roots.items z c.args.rule) (sym e)
-          (own_more rs facts c.requires.facts c.args.levels.now c.requires.levels c.args.rule c.args.root (length old) c.requires.root c.requires.settled flags b grown w is_flag (inv.right h));
+      right = λ rs right h. subst (λ z. ArePassingSoFar rs facts.table.roots.items z c.args.rule) (sym e)
+          (own_more rs facts right c.args.levels.now c.requires.levels c.args.rule c.args.root (length old) c.requires.root c.requires.settled flags b grown w is_flag (inv.right rs right h));
     }
 
 pub returns : goal.returns
-returns c = λ below.
-    let rs = c.args.rules.now in
+returns c = λ rs right below.
     let facts = c.args.facts.now in
-    let right = c.requires.facts in
     let inv = c.loop-flags.invariant in
     let (rule, here) = rule_at rs facts.table.roots.items right.tabled.roots c.args.rule c.args.root c.requires.root in
     passing_next rs facts.table.roots.items right.tabled.roots c.args.rule c.args.root c.args.flags.now.items c.loop-flags.flags.items c.requires.root
-    inv.kept (λ h. let w = inv.within h in let a = c.loop-flags-test.false in let d = c.len.ensures in omega arith) inv.right rule here below
+    inv.kept (λ h. let w = inv.within h in let a = c.loop-flags-test.false in let d = c.len.ensures in omega arith) (inv.right rs right) rule here below

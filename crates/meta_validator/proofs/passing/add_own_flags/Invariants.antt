@@ -1,5 +1,7 @@
-use Rattle.std.proofs.Common.{◌≡◌, ◌+◌, ◌-◌, ◌<◌, ◌≤◌, ℕ, length, vec_len}
+use Rattle.std.proofs.Common.{◌≡◌, ◌+◌, ◌-◌, ◌<◌, ◌≤◌, ℕ, List, length, vec_len}
 use Rattle.meta_fixpoint.specs.Least.{is_set_at}
+use Rattle.meta_spanned.specs.declared.node.ParserRule.{ParserRule}
+use Rattle.meta_analysis.specs.Facts.{AreFacts}
 use Rattle.meta_validator.specs.Regions.{ArePassingSoFar}
 use Rattle.meta_analysis.specs.Roots.{first_of}
 use Rattle.meta_validator.proofs.passing.add_own_flags.Given as goal
@@ -9,7 +11,8 @@ invariant-loop-flags l = record {
   grown : length l.fn.flags.items ≤ length l.flags.items;
   within : length l.fn.flags.items ≤ l.root + 1 → length l.flags.items ≤ l.root + 1;
   kept : (i : ℕ) → i < length l.fn.flags.items → is_set_at l.flags.items i ≡ is_set_at l.fn.flags.items i;
-  right : length l.fn.flags.items ≡ first_of l.facts.table.roots.items l.rule → ArePassingSoFar l.rules l.facts.table.roots.items l.flags.items l.rule;
+  right : (rules : List ParserRule) → AreFacts rules l.facts → length l.fn.flags.items ≡ first_of l.facts.table.roots.items l.rule
+      → ArePassingSoFar rules l.facts.table.roots.items l.flags.items l.rule;
 }
 
 abbrev pub decreases-loop-flags : goal.decreases-loop-flags

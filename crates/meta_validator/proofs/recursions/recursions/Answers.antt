@@ -9,7 +9,7 @@ use Rattle.meta_validator.proofs.recursions.recursions.Goals as goal
 pub returns-then-falls-clause-exact : goal.returns-then-falls-clause-exact
 returns-then-falls-clause-exact c =
     let V = rule_views c.args.rules.now in
-    subst (λ z. Reports (OfRecursion V) (places V) (findings_of z)) (sym c.new.ensures.items) (none_found c.args.rules.now (c.in_ok-falls.ensures c.if-falls.true))
+    subst (λ z. Reports (OfRecursion V) (places V) (findings_of z)) (sym c.new.ensures.items) (none_found c.args.rules.now (c.in_ok-falls.ensures c.if-falls.true c.args.rules.now c.requires.facts))
 
 pub returns-clause-none : goal.returns-clause-none
 returns-clause-none c = λ e n l. none_leads c.args.rules.now c.args.facts.now.table.roots.items (c.in_ok-found.ensures.none e) n l

@@ -1,6 +1,6 @@
-use Rattle.std.proofs.Common.{List, [], ◌∷◌, refl, ◌≡◌, ◌∙◌, sym, ap, ◌++◌}
+use Rattle.std.proofs.Common.{List, [], ◌∷◌, refl, ◌≡◌, ◌∙◌, sym, ap, subst, ◌++◌}
 use Rattle.std.proofs.lemmas.List.{append_assoc}
-use Rattle.meta_validator.specs.Reporting.{findings_of}
+use Rattle.meta_validator.specs.Reporting.{AreSpans, findings_of}
 use Rattle.meta_validator.proofs.EmptyLemmas.{empty_well_formed}
 use Rattle.meta_validator.proofs.reported.all_findings.Goals as goal
 
@@ -25,6 +25,9 @@ without_second (u ∷ us) es bs h = cc
 
 pub returns-clause-found : goal.returns-clause-found
 returns-clause-found c =
+    let rs = c.args.rules.now in
+    let right = c.requires.groundwork.facts in
+    let spans : AreSpans rs c.in_ok-spans.spans.items = c.in_ok-spans.ensures rs c.requires.groundwork.tabled in
     let fs = findings_of c.in_ok-found.found.items in
     let js = findings_of c.in_ok-known.known.items in
     let gs = findings_of c.in_ok-choices.choices.items in
@@ -36,8 +39,8 @@ returns-clause-found c =
       choices = gs;
       skips = hs;
       recursions = ks;
-      of_repetitions = c.in_ok-found.ensures;
-      of_choices = c.in_ok-choices.ensures;
+      of_repetitions = c.in_ok-found.ensures rs right (subst (AreSpans rs) (sym c.as_slice.ensures.value) spans);
+      of_choices = c.in_ok-choices.ensures rs right (subst (AreSpans rs) (sym c.as_slice-2.ensures.value) spans);
       of_skips = c.in_ok-skips.ensures;
       of_recursions = c.in_ok-recursions.ensures.exact;
       of_cycles = c.in_ok-recursions.ensures.none;
@@ -47,6 +50,9 @@ returns-clause-found c =
 
 pub returns-clause-accepted : goal.returns-clause-accepted
 returns-clause-accepted c = λ e.
+    let rs = c.args.rules.now in
+    let right = c.requires.groundwork.facts in
+    let spans : AreSpans rs c.in_ok-spans.spans.items = c.in_ok-spans.ensures rs c.requires.groundwork.tabled in
     let fs = findings_of c.in_ok-found.found.items in
     let js = findings_of c.in_ok-known.known.items in
     let gs = findings_of c.in_ok-choices.choices.items in
@@ -54,5 +60,5 @@ returns-clause-accepted c = λ e.
     let ks = findings_of c.in_ok-recursions.recursions.items in
     let ts = findings_of c.in_ok-tags.tags.items in
     let all = in_turn fs js gs hs ks ts _ _ _ _ (findings_of c.in_ok-found-6.found.items) c.in_ok-found-2.ensures c.in_ok-found-3.ensures c.in_ok-found-4.ensures c.in_ok-found-5.ensures c.in_ok-found-6.ensures in
-    empty_well_formed c.args.rules.now c.args.groundwork.now.facts c.requires.groundwork.facts fs gs hs ks
-    c.in_ok-found.ensures c.in_ok-skips.ensures c.in_ok-recursions.ensures.none (without_last fs gs hs ks ts (without_second fs js (gs ++ (hs ++ (ks ++ ts))) (sym all ∙ e)))
+    empty_well_formed rs c.args.groundwork.now.facts right fs gs hs ks
+    (c.in_ok-found.ensures rs right (subst (AreSpans rs) (sym c.as_slice.ensures.value) spans)) c.in_ok-skips.ensures c.in_ok-recursions.ensures.none (without_last fs gs hs ks ts (without_second fs js (gs ++ (hs ++ (ks ++ ts))) (sym all ∙ e)))
