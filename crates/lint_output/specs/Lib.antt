@@ -1,2 +1,6 @@
-pub mod Numbers
+pub mod Annotations
+pub mod Json
+pub mod Locations
 pub mod Prints
+pub mod Sarif
+pub mod Visible

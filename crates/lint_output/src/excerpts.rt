@@ -1,4 +1,7 @@
 //! Excerpts of lines.
+ghost use Rattle.std.specs.Prelude.{◌≡◌, ◌++◌, [], IfOk, OnOk, codes, if◌then◌else◌, string_bytes};
+ghost use Rattle.lint_output.specs.Prints.{margin};
+
 use crate::Origin;
 use crate::visible::{push_visible, visible_width};
 use std::alloc::{AllocError, Global};
@@ -76,14 +79,19 @@ pub(crate) fn push_excerpt(
     out.push('\n')
 }
 
-/// Adds as many blanks as a number has digits.
-pub(crate) fn push_margin(
-    alloc: Global,
-    number: usize,
-    out: &mut String,
-) -> Result<(), AllocError> {
+/// As many blanks as a number has digits.
+pub(crate) fn margin_of(alloc: Global, number: usize) -> Result<String, AllocError>
+    ensures { IfOk result (λ text. string_bytes text ≡ margin number) }
+{
     let digits = number.to_string(alloc)?;
-    push_repeated(alloc, " ", digits.len(), out)
+    " ".repeat(alloc, digits.len())
+}
+
+/// Adds as many blanks as a number has digits.
+fn push_margin(alloc: Global, number: usize, out: &mut String) -> Result<(), AllocError>
+    ensures { OnOk result (string_bytes out.new ≡ string_bytes out.old ++ margin number) }
+{
+    out.push_str(margin_of(alloc, number)?.as_str())
 }
 
 /// Adds a text so many times.
@@ -104,7 +112,9 @@ fn push_cut(text: &str, excerpt: Excerpt, out: &mut String) -> Result<(), AllocE
 }
 
 /// Dots where a line is cut, or nothing.
-fn dots(is_cut: bool) -> &'static str {
+fn dots(is_cut: bool) -> &'static str
+    ensures { result.now ≡ (if is_cut then codes "..." else []) }
+{
     if is_cut { "..." } else { "" }
 }
 

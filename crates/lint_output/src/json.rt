@@ -1,13 +1,18 @@
 //! Lines of JSON.
-ghost use Rattle.std.specs.Prelude.{◌≡◌, IfOk, map, string_bytes};
-ghost use Rattle.lint_output.specs.Numbers.{named, place_numbers};
+ghost use Rattle.std.specs.Prelude.{◌≡◌, ◌++◌, IfOk, codes, false, map, string_bytes};
+ghost use Rattle.serde_json.specs.Data.{array, string};
+ghost use Rattle.serde_json.specs.View.{items_of, members_view, view};
+ghost use Rattle.serde_json.specs.Written.{compact_text, has_float};
+ghost use Rattle.lint_output.specs.Json.{fix_data, help_data, last_members, later_members, line_data, located_line};
+ghost use Rattle.lint_output.specs.Json.{mended_data, part_data, related_data};
+ghost use Rattle.lint_output.specs.Locations.{IsIndexOf};
 ghost use Rattle.lint_output.specs.Prints.{IsLine};
 
 use crate::Origin;
 use crate::lines::Location;
-use crate::objects::{put_numbers, put_texts, put_value};
+use crate::objects::{put_size, put_text};
 use diagnostic_data::{Diagnostic, Fix, Help, Related};
-use serde_json::{Map, Value};
+use serde_json::{Map, Value, json, put};
 use std::alloc::{AllocError, Global};
 
 /// A diagnostic as a line of JSON.
@@ -16,90 +21,96 @@ pub fn to_json_line(
     origin: Origin<'_>,
     diagnostic: &Diagnostic,
 ) -> Result<String, AllocError>
-    ensures { IfOk result (λ line. IsLine (string_bytes line)) }
+    ensures shape { IfOk result (λ line. IsLine (string_bytes line)) }
+    ensures text { IfOk result (λ line. IsIndexOf origin.entry.text.now origin.entry.lines.now
+        → string_bytes line
+        ≡ compact_text (line_data origin.entry.name.now origin.entry.text.now diagnostic.now) ++ codes "\n") }
 {
-    let value = diagnostic_value(alloc, origin, diagnostic)?;
-    let line = value.to_string(alloc)?;
-    format!(in alloc; "{line}\n")
-}
-
-/// A diagnostic as an object.
-fn diagnostic_value(
-    alloc: Global,
-    origin: Origin<'_>,
-    diagnostic: &Diagnostic,
-) -> Result<Value, AllocError> {
-    let mut object = Map::new(alloc);
-    put_heading(alloc, origin, diagnostic, &mut object)?;
-    put_places(alloc, origin, diagnostic, &mut object)?;
-    let expected = names_value(alloc, &diagnostic.expected);
-    put_value(alloc, &mut object, "expected", expected)?;
-    let related = related_value(alloc, origin, &diagnostic.related);
-    put_value(alloc, &mut object, "related", related)?;
-    let help = help_value(alloc, &diagnostic.help);
-    put_value(alloc, &mut object, "help", help)?;
-    put_value(
-        alloc,
-        &mut object,
-        "fix",
-        fix_value(alloc, &diagnostic.help),
-    )?;
-    Ok(Value::Object(object))
-}
-
-/// Puts the file, severity, code and message of a diagnostic into an object.
-fn put_heading(
-    alloc: Global,
-    origin: Origin<'_>,
-    diagnostic: &Diagnostic,
-    object: &mut Map<String, Value>,
-) -> Result<(), AllocError> {
-    let texts = [
-        ("file", origin.name),
-        ("kind", diagnostic.severity.name()),
-        ("code", diagnostic.code.name()),
-        ("message", diagnostic.message.as_str()),
-    ];
-    put_texts(alloc, object, &texts)
-}
-
-/// Puts the bytes, lines and columns of a diagnostic into an object.
-fn put_places(
-    alloc: Global,
-    origin: Origin<'_>,
-    diagnostic: &Diagnostic,
-    object: &mut Map<String, Value>,
-) -> Result<(), AllocError> {
+    let related = related_value(alloc, origin, &diagnostic.related)?;
     let first = origin.lines.locate(origin.text, diagnostic.start);
     let last = origin.lines.locate(origin.text, diagnostic.end);
-    put_numbers(
-        alloc,
-        object,
-        &numbers_of(diagnostic.start, diagnostic.end, first, last),
-    )
+    let value = diagnostic_value(alloc, origin.name, diagnostic, related, first, last)?;
+    to_line(alloc, &value)
 }
 
-/// The bytes, lines and columns of a span that begins and ends at these locations, by name.
-fn numbers_of(
-    start: usize,
-    end: usize,
+/// A value as a line of JSON.
+pub(crate) fn to_line(alloc: Global, value: &Value) -> Result<String, AllocError>
+    ensures shape { IfOk result (λ line. IsLine (string_bytes line)) }
+    ensures text { IfOk result (λ line. has_float (view value.now) ≡ false
+        → string_bytes line ≡ compact_text (view value.now) ++ codes "\n") }
+{
+    let mut line = value.to_string(alloc)?;
+    line.push_str("\n")?;
+    Ok(line)
+}
+
+/// A diagnostic between two locations of a file as an object, with the other parts that matter.
+fn diagnostic_value(
+    alloc: Global,
+    name: &str,
+    diagnostic: &Diagnostic,
+    related: Value,
     first: Location,
     last: Location,
-) -> [(&'static str, usize); 6]
-    ensures { map (λ number. named number.0.now number.1) result ≡ place_numbers start end first last }
+) -> Result<Value, AllocError>
+    ensures { IfOk result (λ value.
+        view value ≡ located_line name.now diagnostic.now (view related) first last) }
 {
-    [
-        ("start", start),
-        ("end", end),
-        ("line", first.line),
-        ("column", first.column),
-        ("end_line", last.line),
-        ("end_column", last.column),
-    ]
+    let mut members = later_members(alloc, name, diagnostic, related, first, last)?;
+    put_size(alloc, &mut members, "end_column", last.column)?;
+    put_size(alloc, &mut members, "end", diagnostic.end)?;
+    put_size(alloc, &mut members, "column", first.column)?;
+    put_text(alloc, &mut members, "code", diagnostic.code.name())?;
+    Ok(Value::Object(members))
+}
+
+/// The members of a diagnostic from `end_line` on.
+fn later_members(
+    alloc: Global,
+    name: &str,
+    diagnostic: &Diagnostic,
+    related: Value,
+    first: Location,
+    last: Location,
+) -> Result<Map<String, Value>, AllocError>
+    ensures { IfOk result (λ members. members_view members.entries
+        ≡ later_members name.now diagnostic.now (view related) first last) }
+{
+    let mut members = last_members(alloc, diagnostic, related, first)?;
+    let help = help_value(alloc, &diagnostic.help)?;
+    put(&mut members, alloc, "help", help)?;
+    let fix = mended_value(alloc, &diagnostic.help)?;
+    put(&mut members, alloc, "fix", fix)?;
+    put_text(alloc, &mut members, "file", name)?;
+    let expected = names_value(alloc, &diagnostic.expected)?;
+    put(&mut members, alloc, "expected", expected)?;
+    put_size(alloc, &mut members, "end_line", last.line)?;
+    Ok(members)
+}
+
+/// The members of a diagnostic from `kind` on.
+fn last_members(
+    alloc: Global,
+    diagnostic: &Diagnostic,
+    related: Value,
+    first: Location,
+) -> Result<Map<String, Value>, AllocError>
+    ensures { IfOk result (λ members.
+        members_view members.entries ≡ last_members diagnostic.now (view related) first) }
+{
+    let mut members = Map::new(alloc);
+    put_size(alloc, &mut members, "start", diagnostic.start)?;
+    put(&mut members, alloc, "related", related)?;
+    put_text(alloc, &mut members, "message", diagnostic.message.as_str())?;
+    put_size(alloc, &mut members, "line", first.line)?;
+    put_text(alloc, &mut members, "kind", diagnostic.severity.name())?;
+    Ok(members)
 }
 
 /// Names as an array.
-fn names_value(alloc: Global, names: &[&str]) -> Result<Value, AllocError> {
+fn names_value(alloc: Global, names: &[&str]) -> Result<Value, AllocError>
+    ensures { IfOk result (λ value. view value ≡ array (items_of (map (λ name. string name.now) names.now))) }
+{
     let mut values = Vec::new(alloc);
     for name in names {
         values.push(Value::try_from_str(alloc, name)?)?;
@@ -112,31 +123,35 @@ fn related_value(
     alloc: Global,
     origin: Origin<'_>,
     related: &[Related],
-) -> Result<Value, AllocError> {
+) -> Result<Value, AllocError>
+    ensures { IfOk result (λ value. IsIndexOf origin.entry.text.now origin.entry.lines.now
+        → view value ≡ related_data origin.entry.text.now related.now) }
+{
     let mut values = Vec::new(alloc);
     for item in related {
-        values.push(part_value(alloc, origin, item)?)?;
+        let first = origin.lines.locate(origin.text, item.start);
+        values.push(part_value(alloc, item, first)?)?;
     }
     Ok(Value::Array(values))
 }
 
-/// A part of a text as an object.
-fn part_value(alloc: Global, origin: Origin<'_>, item: &Related) -> Result<Value, AllocError> {
-    let location = origin.lines.locate(origin.text, item.start);
-    let numbers = [
-        ("start", item.start),
-        ("end", item.end),
-        ("line", location.line),
-        ("column", location.column),
-    ];
-    let mut object = Map::new(alloc);
-    put_numbers(alloc, &mut object, &numbers)?;
-    put_texts(alloc, &mut object, &[("message", item.message.as_str())])?;
-    Ok(Value::Object(object))
+/// A part of a text, at a location, as an object.
+fn part_value(alloc: Global, item: &Related, first: Location) -> Result<Value, AllocError>
+    ensures { IfOk result (λ value. view value ≡ part_data item.now first) }
+{
+    json!(in alloc; {
+        "start": item.start,
+        "end": item.end,
+        "line": first.line,
+        "column": first.column,
+        "message": item.message.as_str()
+    })
 }
 
 /// The message of a help, or null.
-fn help_value(alloc: Global, help: &Option<Help>) -> Result<Value, AllocError> {
+fn help_value(alloc: Global, help: &Option<Help>) -> Result<Value, AllocError>
+    ensures { IfOk result (λ value. view value ≡ help_data help.now) }
+{
     match help {
         Some(help) => Value::try_from_str(alloc, help.message.as_str()),
         None => Ok(Value::Null),
@@ -144,25 +159,25 @@ fn help_value(alloc: Global, help: &Option<Help>) -> Result<Value, AllocError> {
 }
 
 /// The fix of a help, or null.
-fn fix_value(alloc: Global, help: &Option<Help>) -> Result<Value, AllocError> {
+fn mended_value(alloc: Global, help: &Option<Help>) -> Result<Value, AllocError>
+    ensures { IfOk result (λ value. view value ≡ mended_data help.now) }
+{
     match help {
-        Some(Help { fix: Some(fix), .. }) => value_of_fix(alloc, fix),
-        _ => Ok(Value::Null),
+        Some(help) => fix_value(alloc, &help.fix),
+        None => Ok(Value::Null),
     }
 }
 
-/// A fix as an object.
-fn value_of_fix(alloc: Global, fix: &Fix) -> Result<Value, AllocError> {
-    let mut object = Map::new(alloc);
-    put_numbers(
-        alloc,
-        &mut object,
-        &[("start", fix.start), ("end", fix.end)],
-    )?;
-    put_texts(
-        alloc,
-        &mut object,
-        &[("replacement", fix.replacement.as_str())],
-    )?;
-    Ok(Value::Object(object))
+/// A fix as an object, or null.
+fn fix_value(alloc: Global, fix: &Option<Fix>) -> Result<Value, AllocError>
+    ensures { IfOk result (λ value. view value ≡ fix_data fix.now) }
+{
+    match fix {
+        Some(fix) => json!(in alloc; {
+            "start": fix.start,
+            "end": fix.end,
+            "replacement": fix.replacement.as_str()
+        }),
+        None => Ok(Value::Null),
+    }
 }

@@ -1,4 +1,7 @@
 //! Lines and columns.
+ghost use Rattle.std.specs.Prelude.{◌≡◌, ◌+◌, ◌<◌, ℕ, IfOk, List, OnOk, get_or, length};
+ghost use Rattle.lint_output.specs.Locations.{AreCheckpoints, IsIndexOf, location_at};
+
 use std::alloc::{AllocError, Global};
 
 /// How many bytes are between two checkpoints.
@@ -20,32 +23,39 @@ pub struct LineIndex {
 
 impl LineIndex {
     /// The index of a text.
-    pub fn new(alloc: Global, text: &str) -> Result<LineIndex, AllocError> {
+    pub fn new(alloc: Global, text: &str) -> Result<LineIndex, AllocError>
+        ensures { IfOk result (IsIndexOf text.now) }
+    {
         let bytes = text.as_bytes();
         let mut checkpoints = Vec::new(alloc);
         let mut location = FIRST;
         for at in 0..bytes.len() {
-            if at % STEP == 0 {
-                checkpoints.push(location)?;
-            }
+            add_checkpoint(location, at, &mut checkpoints)?;
             location = step(location, bytes, at);
         }
-        if bytes.len() % STEP == 0 {
-            checkpoints.push(location)?;
-        }
+        add_checkpoint(location, bytes.len(), &mut checkpoints)?;
         Ok(LineIndex { checkpoints })
     }
 
-    /// The location of a byte of the text that the index is of.
-    pub fn locate(&self, text: &str, position: usize) -> Location {
+    /// The location of a byte of the text that the index is of, or of its end for one behind it.
+    pub fn locate(&self, text: &str, position: usize) -> Location
+        ensures { IsIndexOf text.now self.now → result ≡ location_at text.now position }
+    {
         let bytes = text.as_bytes();
         let last = position.min(bytes.len());
         let index = last / STEP;
-        let mut location = self.checkpoints.get(index).copied().unwrap_or(FIRST);
+        let mut location = self.checkpoint(index);
         for at in index * STEP..last {
             location = step(location, bytes, at);
         }
         location
+    }
+
+    /// The location of the checkpoint of an index, or that of a text's first byte.
+    fn checkpoint(&self, index: usize) -> Location
+        ensures { result ≡ get_or self.now.checkpoints.items index FIRST }
+    {
+        self.checkpoints.get(index).copied().unwrap_or(FIRST)
     }
 }
 
@@ -56,15 +66,35 @@ const FIRST: Location = Location {
     line_start: 0,
 };
 
+/// Adds the location of a byte to the checkpoints, if it is one of these.
+fn add_checkpoint(
+    location: Location,
+    at: usize,
+    checkpoints: &mut Vec<Location>,
+) -> Result<(), AllocError>
+    ensures { OnOk result ((text : List ℕ) → location ≡ location_at text at
+        → AreCheckpoints text at checkpoints.old.items
+        → AreCheckpoints text (at + 1) checkpoints.new.items) }
+{
+    if at % STEP != 0 {
+        return Ok(());
+    }
+    checkpoints.push(location)?;
+    Ok(())
+}
+
 /// The location of the byte after one.
-fn step(location: Location, bytes: &[u8], at: usize) -> Location {
-    match bytes.get(at).copied() {
-        Some(b'\n') => Location {
+fn step(location: Location, bytes: &[u8], at: usize) -> Location
+    requires { at < length bytes.now }
+    ensures { location ≡ location_at bytes.now at → result ≡ location_at bytes.now (at + 1) }
+{
+    match bytes[at] {
+        b'\n' => Location {
             line: location.line.saturating_add(1),
             column: 1,
-            line_start: at.saturating_add(1),
+            line_start: at + 1,
         },
-        Some(128..=191) => location,
+        128..=191 => location,
         _ => Location {
             column: location.column.saturating_add(1),
             ..location

@@ -1,53 +1,34 @@
-//! Objects of JSON, member by member.
-use serde_json::{Map, Value, put};
+//! Members of JSON objects.
+ghost use Rattle.std.specs.Prelude.{◌≡◌, OnOk};
+ghost use Rattle.serde_json.specs.Data.{put as with_member, string};
+ghost use Rattle.serde_json.specs.View.{members_view};
+ghost use Rattle.lint_output.specs.Sarif.{size_data};
+
+use serde_json::{Map, Number, Value, put};
 use std::alloc::{AllocError, Global};
 
-/// Puts a member into an object, unless its value was refused memory.
-pub(crate) fn put_value(
+/// Puts a member with a text into an object.
+pub(crate) fn put_text(
     alloc: Global,
-    object: &mut Map<String, Value>,
+    members: &mut Map<String, Value>,
     name: &str,
-    value: Result<Value, AllocError>,
-) -> Result<(), AllocError> {
-    put(object, alloc, name, value?)
+    text: &str,
+) -> Result<(), AllocError>
+    ensures { OnOk result (members_view members.new.entries
+        ≡ with_member name.now (string text.now) (members_view members.old.entries)) }
+{
+    put(members, alloc, name, Value::try_from_str(alloc, text)?)
 }
 
-/// Puts a member for each of these texts into an object.
-pub(crate) fn put_texts(
+/// Puts a member with a number into an object.
+pub(crate) fn put_size(
     alloc: Global,
-    object: &mut Map<String, Value>,
-    texts: &[(&str, &str)],
-) -> Result<(), AllocError> {
-    for (name, text) in texts {
-        put_value(alloc, object, name, Value::try_from_str(alloc, text))?;
-    }
-    Ok(())
-}
-
-/// Puts a member for each of these numbers into an object.
-pub(crate) fn put_numbers(
-    alloc: Global,
-    object: &mut Map<String, Value>,
-    numbers: &[(&str, usize)],
-) -> Result<(), AllocError> {
-    for (name, number) in numbers {
-        put(object, alloc, name, Value::from(*number))?;
-    }
-    Ok(())
-}
-
-/// The object of one member, unless its value was refused memory.
-pub(crate) fn object_of(
-    alloc: Global,
+    members: &mut Map<String, Value>,
     name: &str,
-    value: Result<Value, AllocError>,
-) -> Result<Value, AllocError> {
-    let mut object = Map::new(alloc);
-    put_value(alloc, &mut object, name, value)?;
-    Ok(Value::Object(object))
-}
-
-/// The object of one text.
-pub(crate) fn text_object(alloc: Global, name: &str, text: &str) -> Result<Value, AllocError> {
-    object_of(alloc, name, Value::try_from_str(alloc, text))
+    size: usize,
+) -> Result<(), AllocError>
+    ensures { OnOk result (members_view members.new.entries
+        ≡ with_member name.now (size_data size) (members_view members.old.entries)) }
+{
+    put(members, alloc, name, Value::Number(Number::from(size)))
 }

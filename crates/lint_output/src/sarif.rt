@@ -1,8 +1,15 @@
 //! Logs of SARIF 2.1.0.
+ghost use Rattle.std.specs.Prelude.{◌≡◌, ◌++◌, IfOk, codes, false, string_bytes};
+ghost use Rattle.serde_json.specs.View.{items_view, view};
+ghost use Rattle.serde_json.specs.Written.{compact_text, items_have_float};
+ghost use Rattle.lint_output.specs.Locations.{IsIndexOf};
+ghost use Rattle.lint_output.specs.Sarif.{located_data, log_data, place_data, region_data, result_data, run_data};
+
 use crate::Origin;
-use crate::objects::{object_of, put_numbers, put_texts, put_value, text_object};
+use crate::json::to_line;
+use crate::lines::Location;
 use diagnostic_data::Diagnostic;
-use serde_json::{Map, Value};
+use serde_json::{Value, json};
 use std::alloc::{AllocError, Global};
 
 /// A diagnostic as a result of a log.
@@ -10,95 +17,94 @@ pub fn sarif_result(
     alloc: Global,
     origin: Origin<'_>,
     diagnostic: &Diagnostic,
-) -> Result<Value, AllocError> {
-    let mut result = Map::new(alloc);
-    let code = diagnostic.code.name();
-    let level = diagnostic.severity.name();
-    put_texts(alloc, &mut result, &[("ruleId", code), ("level", level)])?;
-    let message = text_object(alloc, "text", diagnostic.message.as_str());
-    put_value(alloc, &mut result, "message", message)?;
-    let locations = locations_value(alloc, origin, diagnostic);
-    put_value(alloc, &mut result, "locations", locations)?;
-    Ok(Value::Object(result))
+) -> Result<Value, AllocError>
+    ensures { IfOk result (λ value. IsIndexOf origin.entry.text.now origin.entry.lines.now
+        → view value ≡ result_data origin.entry.name.now origin.entry.text.now diagnostic.now) }
+{
+    let first = origin.lines.locate(origin.text, diagnostic.start);
+    let last = origin.lines.locate(origin.text, diagnostic.end);
+    located_value(alloc, origin.name, diagnostic, first, last)
 }
 
-/// The one location of a diagnostic, in an array.
-fn locations_value(
+/// A diagnostic between two locations of a file.
+fn located_value(
     alloc: Global,
-    origin: Origin<'_>,
+    name: &str,
     diagnostic: &Diagnostic,
-) -> Result<Value, AllocError> {
-    let location = location_value(alloc, origin, diagnostic);
-    one_value(alloc, object_of(alloc, "physicalLocation", location))
+    first: Location,
+    last: Location,
+) -> Result<Value, AllocError>
+    ensures { IfOk result (λ value. view value ≡ located_data name.now diagnostic.now first last) }
+{
+    let place = place_value(alloc, name, diagnostic.start, first, last)?;
+    json!(in alloc; {
+        "ruleId": diagnostic.code.name(),
+        "level": diagnostic.severity.name(),
+        "message": {"text": diagnostic.message.as_str()},
+        "locations": [{"physicalLocation": place}]
+    })
 }
 
-/// The file of a diagnostic, and its region there.
-fn location_value(
+/// A file, and the region of it between two locations.
+fn place_value(
     alloc: Global,
-    origin: Origin<'_>,
-    diagnostic: &Diagnostic,
-) -> Result<Value, AllocError> {
-    let mut location = Map::new(alloc);
-    let file = text_object(alloc, "uri", origin.name);
-    put_value(alloc, &mut location, "artifactLocation", file)?;
-    let region = region_value(alloc, origin, diagnostic);
-    put_value(alloc, &mut location, "region", region)?;
-    Ok(Value::Object(location))
+    name: &str,
+    start: usize,
+    first: Location,
+    last: Location,
+) -> Result<Value, AllocError>
+    ensures { IfOk result (λ value. view value ≡ place_data name.now start first last) }
+{
+    let region = region_value(alloc, start, first, last)?;
+    json!(in alloc; {"artifactLocation": {"uri": name}, "region": region})
 }
 
-/// The lines, columns and bytes of a diagnostic.
+/// The region between two locations, of which the first is this byte.
 fn region_value(
     alloc: Global,
-    origin: Origin<'_>,
-    diagnostic: &Diagnostic,
-) -> Result<Value, AllocError> {
-    let start = origin.lines.locate(origin.text, diagnostic.start);
-    let end = origin.lines.locate(origin.text, diagnostic.end);
-    let numbers = [
-        ("startLine", start.line),
-        ("startColumn", start.column),
-        ("endLine", end.line),
-        ("endColumn", end.column),
-        ("byteOffset", diagnostic.start),
-    ];
-    let mut region = Map::new(alloc);
-    put_numbers(alloc, &mut region, &numbers)?;
-    Ok(Value::Object(region))
-}
-
-/// A value in an array, unless it was refused memory.
-fn one_value(alloc: Global, value: Result<Value, AllocError>) -> Result<Value, AllocError> {
-    let mut values = Vec::new(alloc);
-    values.push(value?)?;
-    Ok(Value::Array(values))
+    start: usize,
+    first: Location,
+    last: Location,
+) -> Result<Value, AllocError>
+    ensures { IfOk result (λ value. view value ≡ region_data start first last) }
+{
+    json!(in alloc; {
+        "startLine": first.line,
+        "startColumn": first.column,
+        "endLine": last.line,
+        "endColumn": last.column,
+        "byteOffset": start
+    })
 }
 
 /// A log with these results, and a line feed.
-pub fn sarif_log(alloc: Global, results: Vec<Value>) -> Result<String, AllocError> {
-    let log = log_value(alloc, run_value(alloc, results))?;
-    let mut text = log.to_string(alloc)?;
-    text.push('\n')?;
-    Ok(text)
+pub fn sarif_log(alloc: Global, results: Vec<Value>) -> Result<String, AllocError>
+    ensures { IfOk result (λ text. items_have_float (items_view results.items) ≡ false
+        → string_bytes text ≡ compact_text (log_data (items_view results.items)) ++ codes "\n") }
+{
+    let log = log_value(alloc, results)?;
+    to_line(alloc, &log)
 }
 
-/// A log with one run.
-fn log_value(alloc: Global, run: Result<Value, AllocError>) -> Result<Value, AllocError> {
-    let texts = [
-        ("$schema", "https://json.schemastore.org/sarif-2.1.0.json"),
-        ("version", "2.1.0"),
-    ];
-    let mut log = Map::new(alloc);
-    put_value(alloc, &mut log, "runs", one_value(alloc, run))?;
-    put_texts(alloc, &mut log, &texts)?;
-    Ok(Value::Object(log))
+/// A log with one run, of these results.
+fn log_value(alloc: Global, results: Vec<Value>) -> Result<Value, AllocError>
+    ensures { IfOk result (λ value. view value ≡ log_data (items_view results.items)) }
+{
+    let run = run_value(alloc, results)?;
+    json!(in alloc; {
+        "$schema": "https://json.schemastore.org/sarif-2.1.0.json",
+        "version": "2.1.0",
+        "runs": [run]
+    })
 }
 
 /// A run of the linter with these results.
-fn run_value(alloc: Global, results: Vec<Value>) -> Result<Value, AllocError> {
-    let mut run = Map::new(alloc);
-    put_value(alloc, &mut run, "results", Ok(Value::Array(results)))?;
-    let driver = text_object(alloc, "name", "pest-lint");
-    put_value(alloc, &mut run, "tool", object_of(alloc, "driver", driver))?;
-    put_texts(alloc, &mut run, &[("columnKind", "unicodeCodePoints")])?;
-    Ok(Value::Object(run))
+fn run_value(alloc: Global, results: Vec<Value>) -> Result<Value, AllocError>
+    ensures { IfOk result (λ value. view value ≡ run_data (items_view results.items)) }
+{
+    json!(in alloc; {
+        "tool": {"driver": {"name": "pest-lint"}},
+        "columnKind": "unicodeCodePoints",
+        "results": Value::Array(results)
+    })
 }

@@ -1,6 +1,7 @@
 //! Diagnostics in a style.
 ghost use Rattle.std.specs.Prelude.{IfOk, string_bytes};
-ghost use Rattle.lint_output.specs.Prints.{IsPrinted};
+ghost use Rattle.lint_output.specs.Locations.{IsIndexOf};
+ghost use Rattle.lint_output.specs.Prints.{IsExact, IsPrinted};
 
 use crate::github::to_annotation;
 use crate::json::to_json_line;
@@ -16,7 +17,9 @@ pub fn print_diagnostic(
     diagnostic: &Diagnostic,
     style: Style,
 ) -> Result<String, AllocError>
-    ensures { IfOk result (λ text. IsPrinted style diagnostic.now (string_bytes text)) }
+    ensures shape { IfOk result (λ text. IsPrinted style diagnostic.now (string_bytes text)) }
+    ensures exact { IfOk result (λ text. IsIndexOf origin.entry.text.now origin.entry.lines.now
+        → IsExact style origin.entry.name.now origin.entry.text.now diagnostic.now (string_bytes text)) }
 {
     match style {
         Style::Text(has_colour) => to_text(alloc, origin, diagnostic, has_colour),

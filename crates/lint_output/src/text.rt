@@ -1,10 +1,13 @@
 //! Blocks of text.
 ghost use Rattle.std.specs.Prelude.{◌≡◌, IfOk, string_bytes};
-ghost use Rattle.lint_output.specs.Prints.{IsBlock, heading};
+ghost use Rattle.lint_output.specs.Locations.{IsIndexOf, location_at};
+ghost use Rattle.lint_output.specs.Prints as spec;
+ghost use Rattle.lint_output.specs.Prints.{IsBlock, IsPlacedBlock, block, heading};
 
 use crate::Origin;
-use crate::excerpts::{excerpt_at, part, push_excerpt, push_margin};
-use crate::visible::push_visible;
+use crate::excerpts::{excerpt_at, margin_of, part, push_excerpt};
+use crate::lines::Location;
+use crate::visible::{push_visible, to_visible};
 use diagnostic_data::{Diagnostic, Fix, Help, Related, Severity};
 use std::alloc::{AllocError, Global};
 
@@ -17,15 +20,50 @@ pub fn to_text(
     diagnostic: &Diagnostic,
     has_colour: bool,
 ) -> Result<String, AllocError>
-    ensures { IfOk result (λ text. IsBlock has_colour diagnostic.now (string_bytes text)) }
+    ensures shape { IfOk result (λ text. IsBlock has_colour diagnostic.now (string_bytes text)) }
+    ensures places { IfOk result (λ text. IsIndexOf origin.entry.text.now origin.entry.lines.now
+        → IsPlacedBlock has_colour origin.entry.name.now diagnostic.now
+        (location_at origin.entry.text.now diagnostic.now.start) (string_bytes text)) }
+{
+    let first = origin.lines.locate(origin.text, diagnostic.start);
+    let rest = details(alloc, origin, diagnostic, has_colour)?;
+    let rest = rest.as_str();
+    block_of(alloc, origin.name, diagnostic, first, rest, has_colour)
+}
+
+/// A block of a diagnostic that begins at a location of a file, with what is printed below that.
+fn block_of(
+    alloc: Global,
+    name: &str,
+    diagnostic: &Diagnostic,
+    first: Location,
+    rest: &str,
+    has_colour: bool,
+) -> Result<String, AllocError>
+    ensures { IfOk result (λ text.
+        string_bytes text ≡ block has_colour name.now diagnostic.now first rest.now) }
 {
     let heading = heading_of(diagnostic.severity, has_colour);
     let code = diagnostic.code.name();
-    let rest = details(alloc, origin, diagnostic, has_colour)?;
-    format!(in alloc; "{heading}[{code}]: {rest}\n")
+    let top = top_lines(alloc, name, diagnostic.message.as_str(), first)?;
+    format!(in alloc; "{heading}[{code}]: {top}{rest}\n")
 }
 
-/// The message of a diagnostic, and what is printed below it.
+/// A message, and the line of a file, line and column below it.
+fn top_lines(
+    alloc: Global,
+    name: &str,
+    message: &str,
+    first: Location,
+) -> Result<String, AllocError>
+    ensures { IfOk result (λ text. string_bytes text ≡ spec.top_lines name.now message.now first) }
+{
+    let message = to_visible(alloc, message)?;
+    let place = place_line(alloc, name, first)?;
+    format!(in alloc; "{message}\n{place}\n")
+}
+
+/// The excerpt of a diagnostic, the other parts that matter, and the help.
 fn details(
     alloc: Global,
     origin: Origin<'_>,
@@ -33,26 +71,12 @@ fn details(
     has_colour: bool,
 ) -> Result<String, AllocError> {
     let mut out = String::new(alloc);
-    push_details(alloc, origin, diagnostic, has_colour, &mut out)?;
-    Ok(out)
-}
-
-/// Adds the message of a diagnostic, and what is printed below it.
-fn push_details(
-    alloc: Global,
-    origin: Origin<'_>,
-    diagnostic: &Diagnostic,
-    has_colour: bool,
-    out: &mut String,
-) -> Result<(), AllocError> {
-    push_visible(diagnostic.message.as_str(), out)?;
-    out.push('\n')?;
-    push_place(alloc, origin, diagnostic.start, diagnostic.end, out)?;
-    push_related(alloc, origin, &diagnostic.related, out)?;
-    match &diagnostic.help {
-        Some(help) => push_help(origin, help, has_colour, out),
-        None => Ok(()),
+    push_excerpt(alloc, origin, diagnostic.start, diagnostic.end, &mut out)?;
+    push_related(alloc, origin, &diagnostic.related, &mut out)?;
+    if let Some(help) = &diagnostic.help {
+        push_help(origin, help, has_colour, &mut out)?;
     }
+    Ok(out)
 }
 
 /// A severity's name, in its colour where that is asked for.
@@ -67,6 +91,15 @@ fn heading_of(severity: Severity, has_colour: bool) -> &'static str
     }
 }
 
+/// A file, line and column, after an arrow.
+fn place_line(alloc: Global, name: &str, first: Location) -> Result<String, AllocError>
+    ensures { IfOk result (λ text. string_bytes text ≡ spec.place_line name.now first) }
+{
+    let margin = margin_of(alloc, first.line)?;
+    let name = to_visible(alloc, name)?;
+    format!(in alloc; "{margin}--> {name}:{}:{}", first.line, first.column)
+}
+
 /// Adds the file, line and column of a span, and its line with a mark.
 fn push_place(
     alloc: Global,
@@ -75,11 +108,9 @@ fn push_place(
     end: usize,
     out: &mut String,
 ) -> Result<(), AllocError> {
-    let location = origin.lines.locate(origin.text, start);
-    push_margin(alloc, location.line, out)?;
-    out.push_str("--> ")?;
-    push_visible(origin.name, out)?;
-    write!(out, ":{}:{}\n", location.line, location.column)?;
+    let first = origin.lines.locate(origin.text, start);
+    out.push_str(place_line(alloc, origin.name, first)?.as_str())?;
+    out.push('\n')?;
     push_excerpt(alloc, origin, start, end, out)
 }
 

@@ -1,2 +1,4 @@
 pub mod Keeping
+pub mod Logging
 pub mod Printing
+pub mod Telling

@@ -1,5 +1,5 @@
 -- What is printed of diagnostics and of files, one after another.
-use Rattle.std.proofs.Common.{◌≡◌, ◌≢◌, ◌⊎◌, inl, inr, ℕ, zero, suc, ◌+◌, ◌<◌, ◌≤◌, List, [], ◌∷◌, ◌++◌, All, Bool, true, false, ◌||◌, Option, Some, None, if◌then◌else◌, length, drop, take, get_or, max, sym, ap, ◌∙◌, add-one, append_assoc, append-nil, drop-cons, subst, arith, refl}
+use Rattle.std.proofs.Common.{◌≡◌, ◌≢◌, ◌⊎◌, inl, inr, ℕ, zero, suc, ◌+◌, ◌<◌, ◌≤◌, List, [], ◌∷◌, ◌++◌, All, Bool, true, false, ◌||◌, Option, Some, None, if◌then◌else◌, length, drop, take, get_or, max, sym, ap, ◌∙◌, add-one, append_assoc, append-nil, drop-cons, string_bytes, subst, arith, refl}
 use Rattle.std.proofs.lemmas.List.{drop_all, take_all, take_more}
 use Rattle.std.proofs.lemmas.List.Elements.{All-append}
 use Rattle.std.specs.List.{AllZip, list_any}
@@ -72,15 +72,15 @@ pub clean_status : (deny : Bool) (ds : List Diagnostic) (b : Bool) → b ≡ lis
 clean_status deny ds b e h = subst (λ (x : Bool). ◌≡◌ {A = ℕ} 0 (if x then 1 else 0)) (sym h ∙ e) refl
 
 -- a file's text is shown, and of one that can't be read nothing
-pub shown_text : (asked : Asked) (style : Style) (source : Source) (text : List ℕ) (status : ℕ) (old new : Option (List ℕ)) → IsReadable source → text ≡ source.bytes.items
-    → (bytes : List ℕ) × ShowsText asked style text bytes status × Appends old new bytes → Gains asked style source status old new
-shown_text asked style source text status old new readable same h =
-    (h.0, read h.0 status readable (subst (λ t. ShowsText asked style t h.0 status) same h.1), h.2)
+pub shown_text : (asked : Asked) (style : Style) (source : Source) (name text : List ℕ) (status : ℕ) (old new : Option (List ℕ)) → IsReadable source → name ≡ string_bytes source.name → text ≡ source.bytes.items
+    → (bytes : List ℕ) × ShowsText asked style name text bytes status × Appends old new bytes → Gains asked style source status old new
+shown_text asked style source name text status old new readable called same h =
+    (h.0, read h.0 status readable (subst (λ n. ShowsText asked style n source.bytes.items h.0 status) called (subst (λ t. ShowsText asked style name t h.0 status) same h.1)), h.2)
 
 pub shown_unread : (asked : Asked) (style : Style) (source : Source) (old : Option (List ℕ)) → (IsReadable source → ⊥) → Gains asked style source 3 old old
 shown_unread asked style source old refuse = ([], unread refuse, no_gain old)
 
 -- the diagnostics of a text are printed, all of them
-pub text_shown : (asked : Asked) (style : Style) (text : List ℕ) (ds : List Diagnostic) (status : ℕ) (old new : Option (List ℕ)) → IsDiagnosisWith asked.all asked.starts text ds → status ≡ status_of asked.deny ds
-    → (bytes : List ℕ) × ArePrinted style ds bytes × Appends old new bytes → (bytes : List ℕ) × ShowsText asked style text bytes status × Appends old new bytes
-text_shown asked style text ds status old new d whole h = (h.0, record { diagnostics = ds; diagnosis = d; printed = h.1; whole = whole }, h.2)
+pub text_shown : (asked : Asked) (style : Style) (name text : List ℕ) (ds : List Diagnostic) (status : ℕ) (old new : Option (List ℕ)) → IsDiagnosisWith asked.all asked.starts text ds → status ≡ status_of asked.deny ds
+    → (bytes : List ℕ) × ArePrinted style name text ds bytes × Appends old new bytes → (bytes : List ℕ) × ShowsText asked style name text bytes status × Appends old new bytes
+text_shown asked style name text ds status old new d whole h = (h.0, record { diagnostics = ds; diagnosis = d; printed = h.1; whole = whole }, h.2)

@@ -1,2 +1,5 @@
 pub mod Fixing
+pub mod Logs
+pub mod Pages
+pub mod Reports
 pub mod Shows

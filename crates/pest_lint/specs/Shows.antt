@@ -1,16 +1,14 @@
 -- The bytes that the program writes of files, and its status.
-use Rattle.std.specs.Prelude.{◌≡◌, ℕ, List, [], ◌∷◌, ◌++◌, Bool, ◌||◌, None, Option, IsUtf8, if◌then◌else◌, max, string_bytes, ⊤}
+use Rattle.std.specs.Prelude.{◌≡◌, ℕ, List, [], ◌∷◌, ◌++◌, Bool, ◌||◌, None, Option, IsUtf8, if◌then◌else◌, max, string_bytes}
 use Rattle.std.specs.List.{AllZip, list_any}
 use Rattle.std.specs.Io.KnownBytes.{Appends}
 use Rattle.diagnostic_data.specs.Reports.{is_error}
 use Rattle.diagnostic_data.specs.declared.diagnostic.Diagnostic.{Diagnostic}
-use Rattle.lint_output.specs.Prints.{IsPrinted}
+use Rattle.lint_output.specs.Prints.{IsExact}
 use Rattle.lint_output.specs.declared.Style.{Style}
 use Rattle.meta_base.specs.Language.Text.{Text}
 use Rattle.meta_diagnostics.specs.Diagnosis.{IsDiagnosisWith}
 use Rattle.meta_warnings.specs.Lists.{texts_of}
-use Rattle.pest_lint.specs.declared.arguments.Format.{Format}
-use Rattle.pest_lint.specs.declared.arguments.Format.TheVariants as format
 use Rattle.pest_lint.specs.declared.arguments.Settings.{Settings}
 use Rattle.pest_lint.specs.declared.lint.Source.{Source}
 use Rattle.pest_meta.specs.Spelling.{HasAnswer}
@@ -48,23 +46,24 @@ abbrev pub joined : List (List ℕ) → List ℕ
 joined [] = []
 joined (text ∷ texts) = text ++ joined texts
 
--- all diagnostics are printed, in order
-abbrev pub ArePrinted : Style → List Diagnostic → List ℕ → Type 0
-ArePrinted style diagnostics bytes = (texts : List (List ℕ))
-    × AllZip (IsPrinted style) diagnostics texts × (bytes ≡ joined texts)
+-- all diagnostics of the text of a file of this name are printed, in order
+abbrev pub ArePrinted : Style → List ℕ → List ℕ → List Diagnostic → List ℕ → Type 0
+ArePrinted style name text diagnostics bytes = (texts : List (List ℕ))
+    × AllZip (IsExact style name text) diagnostics texts × (bytes ≡ joined texts)
 
 -- a text's diagnostics are written, and the status is theirs
-pub record ShowsText (asked : Asked) (style : Style) (text bytes : List ℕ) (status : ℕ) : Type 0 where
+pub record ShowsText (asked : Asked) (style : Style) (name text bytes : List ℕ) (status : ℕ) : Type 0 where
   pub diagnostics : List Diagnostic
   pub diagnosis : IsDiagnosisWith asked.all asked.starts text diagnostics
-  pub printed : ArePrinted style diagnostics bytes
+  pub printed : ArePrinted style name text diagnostics bytes
   pub whole : status ≡ status_of asked.deny diagnostics
 
 -- of a file: nothing is written of one that can't be read or is not UTF-8 (3)
 pub data Shows (asked : Asked) (style : Style) (source : Source) : List ℕ → ℕ → Type 0 where
   unread : (IsReadable source → ⊥) → Shows asked style source [] 3
   read : (bytes : List ℕ) (status : ℕ) → IsReadable source
-      → ShowsText asked style source.bytes.items bytes status → Shows asked style source bytes status
+      → ShowsText asked style (string_bytes source.name) source.bytes.items bytes status
+      → Shows asked style source bytes status
 
 -- a writer gained what is shown of a file
 abbrev pub Gains : Asked → Style → Source → ℕ → Option (List ℕ) → Option (List ℕ) → Type 0
@@ -91,8 +90,3 @@ pub record GainsAll (asked : Asked) (style : Style) (sources : List Source) (sta
   pub each : AllZip (λ source look. Shows asked style source look.bytes look.status) sources looks
   pub whole : status ≡ highest looks
   pub gained : Appends old new (bytes_of looks)
-
--- a writer gained all of that where diagnostics are printed one after another; of a log nothing is said
-abbrev pub GainsIn : Format → Asked → List Source → ℕ → Option (List ℕ) → Option (List ℕ) → Type 0
-GainsIn (format.Stream style) asked sources status old new = GainsAll asked style sources status old new
-GainsIn format.Log asked sources status old new = ⊤

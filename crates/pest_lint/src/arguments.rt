@@ -5,6 +5,7 @@ ghost use Rattle.clap.specs.Matches.{first_value, found_of, one_text};
 use clap::{Arg, ArgAction, ArgMatches, Command};
 use lint_output::Style;
 use std::alloc::{AllocError, Global};
+use tool_support::version::VERSION;
 
 /// The form in which diagnostics are printed.
 #[derive(Clone, Copy, Debug, PartialEq, Eq)]
@@ -34,13 +35,9 @@ const STATUSES: &str =
 
 /// The arguments that the program takes.
 pub fn command<'a>(alloc: Global) -> Result<Command<'a>, AllocError> {
-    let files = Arg::new(alloc, "FILE")
-        .action(ArgAction::Append)
-        .num_args(1..)
-        .help("A grammar, a folder with grammars (*.pest), or - for standard input");
     Command::new(alloc, "pest-lint")
         .bin_name("pest-lint")?
-        .version("2.9.5")
+        .version(VERSION)
         .about("Reports what is wrong with pest grammars, and how to mend it")
         .after_help(STATUSES)
         .arg(format_argument(alloc))?
@@ -54,11 +51,13 @@ pub fn command<'a>(alloc: Global) -> Result<Command<'a>, AllocError> {
         ))?
         .arg(start_argument(alloc))?
         .arg(explain_argument(alloc))?
-        .arg(files)
+        .arg(file_argument(alloc))
 }
 
 /// `--format`.
-fn format_argument<'a>(alloc: Global) -> Arg<'a> {
+fn format_argument<'a>(alloc: Global) -> Arg<'a>
+    ensures { result.id.now ≡ codes "format" }
+{
     Arg::new(alloc, "format")
         .long("format")
         .value_parser(["text", "json", "sarif", "github"].as_slice())
@@ -67,7 +66,9 @@ fn format_argument<'a>(alloc: Global) -> Arg<'a> {
 }
 
 /// `--color`.
-fn colour_argument<'a>(alloc: Global) -> Arg<'a> {
+fn colour_argument<'a>(alloc: Global) -> Arg<'a>
+    ensures { result.id.now ≡ codes "color" }
+{
     Arg::new(alloc, "color")
         .long("color")
         .value_parser(["auto", "always", "never"].as_slice())
@@ -76,7 +77,9 @@ fn colour_argument<'a>(alloc: Global) -> Arg<'a> {
 }
 
 /// `--start`.
-fn start_argument<'a>(alloc: Global) -> Arg<'a> {
+fn start_argument<'a>(alloc: Global) -> Arg<'a>
+    ensures { result.id.now ≡ codes "start" }
+{
     Arg::new(alloc, "start")
         .long("start")
         .value_name("NAME")
@@ -85,7 +88,9 @@ fn start_argument<'a>(alloc: Global) -> Arg<'a> {
 }
 
 /// `--warn`.
-fn warn_argument<'a>(alloc: Global) -> Arg<'a> {
+fn warn_argument<'a>(alloc: Global) -> Arg<'a>
+    ensures { result.id.now ≡ codes "warn" }
+{
     Arg::new(alloc, "warn")
         .long("warn")
         .value_name("all")
@@ -94,15 +99,29 @@ fn warn_argument<'a>(alloc: Global) -> Arg<'a> {
 }
 
 /// `--explain`.
-fn explain_argument<'a>(alloc: Global) -> Arg<'a> {
+fn explain_argument<'a>(alloc: Global) -> Arg<'a>
+    ensures { result.id.now ≡ codes "explain" }
+{
     Arg::new(alloc, "explain")
         .long("explain")
         .value_name("CODE")
         .help("Explain a diagnostic, as pest::left_recursion, and end")
 }
 
+/// The files.
+fn file_argument<'a>(alloc: Global) -> Arg<'a>
+    ensures { result.id.now ≡ codes "FILE" }
+{
+    Arg::new(alloc, "FILE")
+        .action(ArgAction::Append)
+        .num_args(1..)
+        .help("A grammar, a folder with grammars (*.pest), or - for standard input")
+}
+
 /// A flag of this name.
-fn flag<'a>(alloc: Global, name: &'static str, help: &'static str) -> Arg<'a> {
+fn flag<'a>(alloc: Global, name: &'static str, help: &'static str) -> Arg<'a>
+    ensures { result.id.now ≡ name.now }
+{
     Arg::new(alloc, name)
         .long(name)
         .action(ArgAction::SetTrue)

@@ -3,10 +3,12 @@ ghost use Rattle.std.specs.Prelude.{◌≡◌, ◌≢◌, ◌≤◌, ◌⊎◌, 
 ghost use Rattle.std.specs.Io.KnownBytes.{Appends};
 ghost use Rattle.std.specs.List.{list_any};
 ghost use Rattle.diagnostic_data.specs.Reports.{is_error};
+ghost use Rattle.lint_output.specs.Locations.{IsIndexOf};
 ghost use Rattle.meta_diagnostics.specs.Diagnosis.{IsDiagnosisWith};
 ghost use Rattle.meta_warnings.specs.Lists.{texts_of};
+ghost use Rattle.pest_lint.specs.Reports.{Tells, memory_line, reason, unreadable_line};
 ghost use Rattle.pest_lint.specs.Shows as spec;
-ghost use Rattle.pest_lint.specs.Shows.{ArePrinted, Gains, GainsAll, GainsIn, IsClean, IsReadable, ShowsText, asked_of};
+ghost use Rattle.pest_lint.specs.Shows.{ArePrinted, Gains, GainsAll, IsClean, IsReadable, ShowsText, asked_of};
 ghost use Rattle.pest_meta.specs.Spelling.{HasAnswer};
 
 use crate::arguments::{Format, Settings};
@@ -107,23 +109,39 @@ pub fn text_of(source: &Source) -> Option<&str>
 
 /// Reports a file that can't be read, and answers its status.
 pub fn report_unreadable<E: Write>(alloc: Global, source: &Source, err: &mut Output<E>) -> u8
-    ensures { result ≡ 3 }
+    ensures status { result ≡ 3 }
+    ensures told { Tells (unreadable_line source.now)
+        (E.contents err.old.writer) (E.contents err.new.writer) err.new.refused }
 {
-    let why = match &source.why {
-        Some(why) => why.as_str(),
-        None => "it is not UTF-8",
+    let Ok(name) = to_visible(alloc, source.name.as_str()) else {
+        return UNREADABLE;
     };
-    if let Ok(name) = to_visible(alloc, source.name.as_str()) {
-        let _ = err.write_line(&["cannot read ", name.as_str(), ": ", why]);
-    }
+    let name = name.as_str();
+    let why = reason_of(source);
+    let _ = err.write_line(&["cannot read ", name, ": ", why]);
     UNREADABLE
 }
 
-/// Reports that an allocation failed at a file.
-pub fn report_memory<E: Write>(alloc: Global, source: &Source, err: &mut Output<E>) {
-    if let Ok(name) = to_visible(alloc, source.name.as_str()) {
-        let _ = err.write_line(&["out of memory at ", name.as_str()]);
+/// Why a file can't be read.
+fn reason_of(source: &Source) -> &str
+    ensures { result.now ≡ reason source.entry.now.why }
+{
+    match &source.why {
+        Some(why) => why.as_str(),
+        None => "it is not UTF-8",
     }
+}
+
+/// Reports that an allocation failed at a file.
+pub fn report_memory<E: Write>(alloc: Global, source: &Source, err: &mut Output<E>)
+    ensures { Tells (memory_line source.now)
+        (E.contents err.old.writer) (E.contents err.new.writer) err.new.refused }
+{
+    let Ok(name) = to_visible(alloc, source.name.as_str()) else {
+        return;
+    };
+    let name = name.as_str();
+    let _ = err.write_line(&["out of memory at ", name]);
 }
 
 /// Diagnoses a text, prints what is found, and answers its status.
@@ -138,7 +156,7 @@ fn print_text<W: Write>(
     ensures known { (result ≡ 0) ⊎ ((result ≡ 1) ⊎ ((result ≡ 2) ⊎ (result ≡ 4))) }
     ensures clean { result ≡ 0 → HasAnswer text.now }
     ensures shows { result ≢ 2 → result ≢ 4 → (bytes : List ℕ)
-        × ShowsText (asked_of settings.entry) style text.now bytes result
+        × ShowsText (asked_of settings.entry) style name.now text.now bytes result
         × Appends (W.contents out.old.writer) (W.contents out.new.writer) bytes }
     ensures taken { result ≢ 4 → out.new.refused ≡ out.old.refused }
     ensures refused_write { result ≡ 4 → out.new.refused ≡ true }
@@ -215,7 +233,8 @@ fn print_all<W: Write>(
     out: &mut Output<W>,
 ) -> u8
     ensures known { (result ≡ 0) ⊎ ((result ≡ 2) ⊎ (result ≡ 4)) }
-    ensures shows { result ≡ 0 → (bytes : List ℕ) × ArePrinted style diagnostics.now bytes
+    ensures shows { IsIndexOf origin.entry.text.now origin.entry.lines.now → result ≡ 0 → (bytes : List ℕ)
+        × ArePrinted style origin.entry.name.now origin.entry.text.now diagnostics.now bytes
         × Appends (W.contents out.old.writer) (W.contents out.new.writer) bytes }
     ensures taken { result ≢ 4 → out.new.refused ≡ out.old.refused }
     ensures refused_write { result ≡ 4 → out.new.refused ≡ true }

@@ -1,6 +1,12 @@
 //! One log of all files, as SARIF.
-ghost use Rattle.std.specs.Prelude.{◌≡◌, ◌≢◌, ◌≤◌, All, OnOk, true};
-ghost use Rattle.pest_lint.specs.Shows.{IsClean};
+ghost use Rattle.std.specs.Prelude.{◌≡◌, ◌≢◌, ◌≤◌, ◌++◌, All, List, OnOk, codes, false, map, true};
+ghost use Rattle.std.specs.Io.KnownBytes.{Appends};
+ghost use Rattle.serde_json.specs.Data.{Data};
+ghost use Rattle.serde_json.specs.View.{items_view, view};
+ghost use Rattle.serde_json.specs.Written.{compact_text, items_have_float};
+ghost use Rattle.lint_output.specs.Sarif.{log_data, result_data};
+ghost use Rattle.pest_lint.specs.Logs.{GainsLog, Logs};
+ghost use Rattle.pest_lint.specs.Shows.{IsClean, asked_of};
 
 use crate::arguments::Settings;
 use crate::lint::{
@@ -27,6 +33,8 @@ pub fn log_files<W: Write, E: Write>(
 ) -> u8
     ensures known { result ≤ 4 }
     ensures clean { result ≡ 0 → All IsClean sources.now }
+    ensures logs { result ≢ 2 → result ≢ 4 → GainsLog (asked_of settings.entry) sources.now result
+        (W.contents out.old.writer) (W.contents out.new.writer) }
     ensures taken { result ≢ 4 → out.new.refused ≡ out.old.refused }
     ensures refused_write { result ≡ 4 → out.new.refused ≡ true }
 {
@@ -53,6 +61,8 @@ fn log_file<E: Write>(
 ) -> u8
     ensures known { result ≤ 3 }
     ensures clean { result ≡ 0 → IsClean source.now }
+    ensures logs { result ≢ 2 → (added : List Data) × Logs (asked_of settings.entry) source.now added result
+        × (map view results.new.items ≡ map view results.old.items ++ added) }
 {
     let Some(text) = text_of(source) else {
         return report_unreadable(alloc, source, err);
@@ -74,7 +84,10 @@ fn add_results(
     text: &str,
     diagnostics: &[Diagnostic],
     results: &mut Vec<Value>,
-) -> Result<(), AllocError> {
+) -> Result<(), AllocError>
+    ensures { OnOk result (map view results.new.items
+        ≡ map view results.old.items ++ map (result_data name.now text.now) diagnostics.now) }
+{
     let lines = LineIndex::new(alloc, text)?;
     let origin = Origin {
         name,
@@ -90,6 +103,10 @@ fn add_results(
 /// Prints the log of these results. Answers 0, or why it was not printed.
 fn print_log<W: Write>(alloc: Global, results: Vec<Value>, out: &mut Output<W>) -> u8
     ensures known { result ≤ 4 }
+    ensures done { result ≢ 2 → result ≢ 4 → result ≡ 0 }
+    ensures logs { result ≡ 0 → items_have_float (items_view results.items) ≡ false
+        → Appends (W.contents out.old.writer) (W.contents out.new.writer)
+        (compact_text (log_data (items_view results.items)) ++ codes "\n") }
     ensures taken { result ≢ 4 → out.new.refused ≡ out.old.refused }
     ensures refused_write { result ≡ 4 → out.new.refused ≡ true }
 {

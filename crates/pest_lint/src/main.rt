@@ -2,7 +2,8 @@
 #![tactic(auto)]
 
 ghost use Rattle.std.specs.Prelude.{◌≡◌, ◌≢◌, ◌≤◌, All, None};
-ghost use Rattle.pest_lint.specs.Shows.{GainsIn, IsClean, asked_of};
+ghost use Rattle.pest_lint.specs.Logs.{GainsIn};
+ghost use Rattle.pest_lint.specs.Shows.{IsClean, asked_of};
 
 mod arguments;
 mod explain;
@@ -13,7 +14,7 @@ mod sources;
 
 use arguments::{Format, Settings, command, is_all, settings_of};
 use clap::ArgMatches;
-use explain::explanation;
+use explain::page_text;
 use fixes::fix_files;
 use lint::{CLEAN, MEMORY, Source, UNREADABLE, UNWRITABLE, print_files};
 use log::log_files;
@@ -70,9 +71,10 @@ fn print_page(rt: &HostRuntime, name: &str) -> u8 {
         let _ = eprintln!(rt; "no diagnostic has this code; one is pest::left_recursion");
         return UNREADABLE;
     };
-    let name = code.name();
-    let severity = code.severity().name();
-    match println!(rt; "{name} ({severity})\n\n{}", explanation(code)) {
+    let Ok(page) = page_text(rt.alloc(), code) else {
+        return MEMORY;
+    };
+    match print!(rt; "{page}") {
         Ok(()) => CLEAN,
         Err(_) => UNWRITABLE,
     }
@@ -104,12 +106,21 @@ fn run(rt: &HostRuntime, matches: &ArgMatches<'_>) -> Result<u8, AllocError> {
     let starts = starts_of(rt.alloc(), matches)?;
     let settings = settings_of(matches, has_colour(rt, matches.get_str("color")), &starts);
     let mut sources = read_sources(rt, names)?;
-    let fixed = if matches.get_flag("fix") {
-        fix_files(rt, &mut sources)?
-    } else {
-        CLEAN
-    };
+    let fixed = fix_asked(rt, matches, &mut sources)?;
     Ok(fixed.max(lint_files(rt, &sources, settings)))
+}
+
+/// Fixes files where that is asked for, and answers the status.
+fn fix_asked(
+    rt: &HostRuntime,
+    matches: &ArgMatches<'_>,
+    sources: &mut [Source],
+) -> Result<u8, AllocError> {
+    if matches.get_flag("fix") {
+        fix_files(rt, sources)
+    } else {
+        Ok(CLEAN)
+    }
 }
 
 /// The status for the words of the command line.
@@ -120,14 +131,13 @@ fn answer(rt: &HostRuntime) -> Result<u8, clap::Error> {
         return Ok(UNREADABLE);
     };
     let words: Vec<String> = words.collect(alloc)?;
-    let matches = match command(alloc)?.try_get_matches_from(words.as_slice()) {
-        Ok(matches) => matches,
+    match command(alloc)?.try_get_matches_from(words.as_slice()) {
+        Ok(matches) => Ok(run(rt, &matches)?),
         Err(error) => {
             let _ = error.print(rt);
-            return Ok(if error.use_stderr() { UNREADABLE } else { 0 });
+            Ok(if error.use_stderr() { UNREADABLE } else { 0 })
         }
-    };
-    Ok(run(rt, &matches)?)
+    }
 }
 
 fn main(rt: HostRuntime) -> ExitCode {

@@ -1,4 +1,6 @@
 //! Reading files and folders.
+ghost use Rattle.std.specs.Prelude.{◌≡◌, [], IfOk, IsSome, string_bytes};
+
 use crate::lint::Source;
 use std::alloc::AllocError;
 use std::fs;
@@ -27,7 +29,9 @@ fn is_folder(rt: &HostRuntime, name: &str) -> bool {
 }
 
 /// The file of a name, or standard input for `-`.
-fn read_source(rt: &HostRuntime, name: &str) -> Result<Source, AllocError> {
+fn read_source(rt: &HostRuntime, name: &str) -> Result<Source, AllocError>
+    ensures { IfOk result (λ source. string_bytes source.name ≡ name.now) }
+{
     match read_input(rt, name) {
         Ok(bytes) => Ok(Source {
             name: String::from_str(rt.alloc(), name)?,
@@ -39,7 +43,11 @@ fn read_source(rt: &HostRuntime, name: &str) -> Result<Source, AllocError> {
 }
 
 /// A file or a folder that can't be read, for an error.
-fn unread(rt: &HostRuntime, name: &str, error: &io::Error) -> Result<Source, AllocError> {
+fn unread(rt: &HostRuntime, name: &str, error: &io::Error) -> Result<Source, AllocError>
+    ensures name { IfOk result (λ source. string_bytes source.name ≡ name.now) }
+    ensures bytes { IfOk result (λ source. source.bytes.items ≡ []) }
+    ensures why { IfOk result (λ source. IsSome source.why) }
+{
     let alloc = rt.alloc();
     let why = match error.kind() {
         ErrorKind::InvalidFilename => String::from_str(alloc, "a name in it is not UTF-8")?,

@@ -238,6 +238,7 @@ fn pairs_of<'i>(alloc: Global, text: &'i str) -> Result<Pairs<'i, Rule>, CallErr
 
 /// Returns JSON as an answer, or the allocation failure.
 fn to_outcome(json: Result<String, AllocError>) -> Outcome
+    ensures given { IfOk json (λ text. result ≡ Ok text) }
     ensures answered { IfOk result (λ text. json ≡ Ok text) }
     ensures memory { IfErr result (λ why. why ≡ CallError.Memory) }
 {

@@ -9,12 +9,12 @@ loop-diagnostic-preserved g c =
     let gains : P (string_bytes c.in-Ok.text) = subst P c.as_str.ensures.value c.in-Ok-write_text.ensures.gained in
     record {
       taken = c.in-Ok-write_text.ensures.taken ∙ c.loop-diagnostic.invariant.taken;
-      rest = λ texts final each gained.
-          c.loop-diagnostic.invariant.rest (string_bytes c.in-Ok.text ∷ texts) final
-          (zip_next _ c.args.diagnostics.now c.loop-diagnostic.diagnostic-index c.diagnostic-item.result _ texts c.diagnostic-item.is c.loop-diagnostic-test.true c.in-Ok.ensures each)
+      rest = λ indexed texts final each gained.
+          c.loop-diagnostic.invariant.rest indexed (string_bytes c.in-Ok.text ∷ texts) final
+          (zip_next _ c.args.diagnostics.now c.loop-diagnostic.diagnostic-index c.diagnostic-item.result _ texts c.diagnostic-item.is c.loop-diagnostic-test.true (c.in-Ok.ensures.exact indexed) each)
           (both_gains _ _ final _ _ gains gained);
     }
 
 pub returns-clause-shows : goal.returns-clause-shows
-returns-clause-shows g c = λ zero.
-    c.loop-diagnostic.invariant.rest [] _ (zip_end _ c.args.diagnostics.now c.loop-diagnostic.diagnostic-index c.loop-diagnostic-test.false) (no_gain _)
+returns-clause-shows g c = λ indexed zero.
+    c.loop-diagnostic.invariant.rest indexed [] _ (zip_end _ c.args.diagnostics.now c.loop-diagnostic.diagnostic-index c.loop-diagnostic-test.false) (no_gain _)

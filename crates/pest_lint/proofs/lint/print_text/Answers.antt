@@ -9,6 +9,6 @@ returns-clause-clean g c = λ zero.
 
 pub returns-clause-shows : goal.returns-clause-shows
 returns-clause-shows g c = λ not_two not_four.
-    text_shown (asked_of c.args.settings) c.args.style c.args.text.now c.in-Ok.diagnostics.items c.status_of.result _ _
+    text_shown (asked_of c.args.settings) c.args.style c.args.name.now c.args.text.now c.in-Ok.diagnostics.items c.status_of.result _ _
     c.in-Ok.ensures.diagnosis (c.status_of.ensures ∙ ap (status_of c.args.settings.deny_warnings) c.deref-2.ensures.value)
-    (rw c.deref.ensures.value at (c.print_all-status.ensures.shows c.if-status-ne-CLEAN.false))
+    (rw c.deref.ensures.value at (c.print_all-status.ensures.shows c.in-Ok-new.ensures c.if-status-ne-CLEAN.false))

@@ -7,7 +7,7 @@ loop-diagnostic-init c = begins c.args.diagnostics.now _ c.new-lines.ensures.byt
 
 pub loop-diagnostic-preserved : goal.loop-diagnostic-preserved
 loop-diagnostic-preserved c =
-    one_more c.args.diagnostics.now c.loop-diagnostic.diagnostic-index c.diagnostic-item.result (string_bytes c.loop-diagnostic.lines) (string_bytes c.in_ok-line.line) _ c.diagnostic-item.is c.loop-diagnostic-test.true c.in_ok-line.ensures
+    one_more c.args.diagnostics.now c.loop-diagnostic.diagnostic-index c.diagnostic-item.result (string_bytes c.loop-diagnostic.lines) (string_bytes c.in_ok-line.line) _ c.diagnostic-item.is c.loop-diagnostic-test.true c.in_ok-line.ensures.shape
     (c.in_ok-push_str.ensures.bytes ∙ ap (λ t. string_bytes c.loop-diagnostic.lines ++ t) c.as_str.ensures.value)
     c.loop-diagnostic.invariant
 

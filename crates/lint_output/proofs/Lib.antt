@@ -1,0 +1,4 @@
+pub mod Floats
+pub mod Locating
+pub mod Placing
+pub mod Values

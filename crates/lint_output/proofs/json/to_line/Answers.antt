@@ -1,0 +1,5 @@
+use Rattle.std.proofs.Common.{◌∙◌, ◌++◌, ap, codes}
+use Rattle.lint_output.proofs.json.to_line.Goals as goal
+
+pub returns-clause-text : goal.returns-clause-text
+returns-clause-text c = λ none. c.in_ok-push_str.ensures.bytes ∙ ap (λ line. line ++ codes "\n") (c.in_ok-line.ensures.text none)

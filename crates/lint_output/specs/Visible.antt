@@ -1,0 +1,27 @@
+-- Texts as they are shown.
+use Rattle.std.specs.Prelude.{ℕ, ◌+◌, ◌==◌, ◌||◌, Bool, List, [], ◌∷◌, codes, encode_utf8_all, if◌then◌else◌, nat_lt}
+use Rattle.std.specs.List.{flat_map}
+use Rattle.std.specs.Str.{chars}
+use Rattle.tool_support.specs.Escapes.{is_between}
+
+-- a control character past ASCII, or one that is invisible or turns the direction of a line
+abbrev pub is_hidden : ℕ → Bool
+is_hidden c = is_between 0x80 0x9f c || is_between 0x200b 0x200f c || is_between 0x2028 0x202e c
+    || is_between 0x2066 0x2069 c || c == 0xfeff
+
+-- a character, or a picture of one that might change how the others are shown
+abbrev pub picture : ℕ → ℕ
+picture c = if nat_lt c 0x20 then c + 0x2400
+    else if c == 0x7f then 0x2421
+    else if is_hidden c then 0xfffd else c
+
+-- the same, and four blanks for a tab
+abbrev pub shown : ℕ → List ℕ
+shown c = if c == 9 then codes "    " else picture c ∷ []
+
+-- a text in which each character is written so
+abbrev pub written_by : (ℕ → List ℕ) → List ℕ → List ℕ
+written_by write text = encode_utf8_all (flat_map write (chars text))
+
+abbrev pub visible : List ℕ → List ℕ
+visible text = written_by shown text

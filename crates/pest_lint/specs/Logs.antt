@@ -1,0 +1,57 @@
+-- The log that the program writes of files.
+use Rattle.std.specs.Prelude.{◌≡◌, ℕ, List, [], ◌∷◌, ◌++◌, Option, codes, map, max, string_bytes}
+use Rattle.std.specs.List.{AllZip}
+use Rattle.std.specs.Io.KnownBytes.{Appends}
+use Rattle.serde_json.specs.Data.{Data}
+use Rattle.serde_json.specs.View.{items_of}
+use Rattle.serde_json.specs.Written.{compact_text}
+use Rattle.diagnostic_data.specs.declared.diagnostic.Diagnostic.{Diagnostic}
+use Rattle.lint_output.specs.Sarif.{log_data, result_data}
+use Rattle.meta_diagnostics.specs.Diagnosis.{IsDiagnosisWith}
+use Rattle.pest_lint.specs.Shows.{Asked, GainsAll, IsReadable, status_of}
+use Rattle.pest_lint.specs.declared.arguments.Format.{Format}
+use Rattle.pest_lint.specs.declared.arguments.Format.TheVariants as format
+use Rattle.pest_lint.specs.declared.lint.Source.{Source}
+
+-- the results of a file's diagnostics
+abbrev pub results_of : Source → List Diagnostic → List Data
+results_of source diagnostics = map (result_data (string_bytes source.name) source.bytes.items) diagnostics
+
+-- of a file: nothing is logged of one that can't be read or is not UTF-8 (3)
+pub data Logs (asked : Asked) (source : Source) : List Data → ℕ → Type 0 where
+  unread : (IsReadable source → ⊥) → Logs asked source [] 3
+  read : (diagnostics : List Diagnostic) → IsReadable source
+      → IsDiagnosisWith asked.all asked.starts source.bytes.items diagnostics
+      → Logs asked source (results_of source diagnostics) (status_of asked.deny diagnostics)
+
+-- the results that are logged of a file, and its status
+pub record Part : Type 0 where
+  pub results : List Data
+  pub status : ℕ
+
+abbrev pub all_results : List Part → List Data
+all_results [] = []
+all_results (part ∷ parts) = part.results ++ all_results parts
+
+abbrev pub highest_part : List Part → ℕ
+highest_part [] = 0
+highest_part (part ∷ parts) = max part.status (highest_part parts)
+
+-- these are the results of each file, in order, and the status is the highest of theirs
+pub record AreLogged (asked : Asked) (sources : List Source) (status : ℕ) (results : List Data) : Type 0 where
+  pub parts : List Part
+  pub each : AllZip (λ source part. Logs asked source part.results part.status) sources parts
+  pub whole : status ≡ highest_part parts
+  pub in_order : results ≡ all_results parts
+
+-- a writer gained a log with the results of each file
+pub record GainsLog (asked : Asked) (sources : List Source) (status : ℕ) (old new : Option (List ℕ))
+    : Type 0 where
+  pub results : List Data
+  pub logged : AreLogged asked sources status results
+  pub gained : Appends old new (compact_text (log_data (items_of results)) ++ codes "\n")
+
+-- a writer gained all of that
+abbrev pub GainsIn : Format → Asked → List Source → ℕ → Option (List ℕ) → Option (List ℕ) → Type 0
+GainsIn (format.Stream style) asked sources status old new = GainsAll asked style sources status old new
+GainsIn format.Log asked sources status old new = GainsLog asked sources status old new
