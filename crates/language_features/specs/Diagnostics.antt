@@ -1,5 +1,5 @@
 -- Diagnostics as JSON.
-use Rattle.std.specs.Prelude.{ℕ, ℤ, List, [], ◌∷◌, ◌++◌, Bool, true, false, Option, Some, None, codes, map, string_bytes}
+use Rattle.std.specs.Prelude.{ℕ, ℤ, List, [], ◌++◌, Bool, true, false, Option, Some, None, codes, map, string_bytes}
 use Rattle.diagnostic_data.specs.Codes.{code_name}
 use Rattle.diagnostic_data.specs.declared.codes.Code.{Code}
 use Rattle.diagnostic_data.specs.declared.codes.Code.TheVariants as code

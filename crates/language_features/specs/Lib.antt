@@ -1,2 +1,5 @@
+pub mod Actions
 pub mod Diagnostics
+pub mod Formatting
+pub mod Hovers
 pub mod Remedies

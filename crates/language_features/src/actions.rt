@@ -1,4 +1,10 @@
 //! Code actions: the remedies of diagnostics.
+ghost use Rattle.std.specs.Prelude.{◌≡◌, ◌++◌, ◌∷◌, [], IfOk, List, OnOk, map};
+ghost use Rattle.language_features.specs.Actions as spec;
+ghost use Rattle.language_features.specs.Actions.{AddsAction, AreActions, AreActionsAt, AreActionsOf, IsActionFor};
+ghost use Rattle.serde_json.specs.Data.{Data};
+ghost use Rattle.serde_json.specs.View.{view};
+
 use crate::diagnostics::diagnostic_value;
 use crate::remedies::{Remedy, remedy_of};
 use language_protocol::messages::{Answer, ErrorCode};
@@ -7,6 +13,7 @@ use language_protocol::values::workspace_edit_value;
 use meta_diagnostics::{Diagnostic, Options, diagnose};
 use meta_requests::context::Context;
 use meta_requests::locations::edit_at;
+use meta_symbols::Extent;
 use serde_json::{Value, json};
 use std::alloc::{AllocError, Global};
 
@@ -18,27 +25,78 @@ pub fn code_actions(
     alloc: Global,
     context: &Context<'_>,
     params: &Value,
-) -> Result<Answer, AllocError> {
+) -> Result<Answer, AllocError>
+    ensures { IfOk result (AreActions context.now (view params.now)) }
+{
     let Some(extent) = context.extent(params) else {
         return Ok(Answer::Error(ErrorCode::InvalidParams, "no range"));
     };
-    let mut actions = Vec::new(alloc);
     if !is_asked_for(params) {
-        return Ok(Answer::Result(Value::Array(actions)));
+        return Ok(Answer::Result(Value::Array(Vec::new(alloc))));
     }
-    let diagnostics = diagnose(alloc, context.text, Options { starts: &[] })?;
-    for diagnostic in &diagnostics {
-        let is_touched = diagnostic.start <= extent.end && extent.start <= diagnostic.end;
-        if is_touched && actions.len() < MOST_ACTIONS {
-            push_action(alloc, context, diagnostic, &mut actions)?;
-        }
-    }
-    Ok(Answer::Result(Value::Array(actions)))
+    Ok(Answer::Result(actions_at(alloc, context, extent)?))
 }
 
 /// Whether quick fixes are asked for.
-fn is_asked_for(params: &Value) -> bool {
+fn is_asked_for(params: &Value) -> bool
+    ensures { result ≡ spec.is_asked_for (view params.now) }
+{
     params.pointer("/context/only").is_none() || lists_at(params, "/context/only", "quickfix")
+}
+
+/// Returns the remedies of the diagnostics that an extent touches, as a value.
+fn actions_at(alloc: Global, context: &Context<'_>, extent: Extent) -> Result<Value, AllocError>
+    ensures { IfOk result (λ v. AreActionsAt context.now extent (view v)) }
+{
+    let diagnostics = diagnose(alloc, context.text, Options { starts: &[] })?;
+    let actions = actions_of(alloc, context, extent, &diagnostics)?;
+    Ok(Value::Array(actions))
+}
+
+/// Returns the remedies of those of some diagnostics that an extent touches, at most 20.
+fn actions_of(
+    alloc: Global,
+    context: &Context<'_>,
+    extent: Extent,
+    diagnostics: &[Diagnostic],
+) -> Result<Vec<Value>, AllocError>
+    ensures { IfOk result (λ actions.
+        AreActionsOf context.now extent 20 diagnostics.now (map view actions.items)) }
+{
+    let mut actions = Vec::new(alloc);
+    let mut rest = diagnostics;
+    while let Some((diagnostic, after)) = rest.split_first() {
+        if actions.len() >= MOST_ACTIONS {
+            return Ok(actions);
+        }
+        push_touched(alloc, context, extent, diagnostic, &mut actions)?;
+        rest = after;
+    }
+    Ok(actions)
+}
+
+/// Adds the remedy of a diagnostic, where an extent touches it.
+fn push_touched(
+    alloc: Global,
+    context: &Context<'_>,
+    extent: Extent,
+    diagnostic: &Diagnostic,
+    actions: &mut Vec<Value>,
+) -> Result<(), AllocError>
+    ensures { OnOk result (AddsAction context.now extent diagnostic.now
+        (map view actions.old.items) (map view actions.new.items)) }
+{
+    if !is_touched(extent, diagnostic) {
+        return Ok(());
+    }
+    push_action(alloc, context, diagnostic, actions)
+}
+
+/// Whether a diagnostic touches an extent.
+fn is_touched(extent: Extent, diagnostic: &Diagnostic) -> bool
+    ensures { result ≡ spec.is_touched extent diagnostic.now }
+{
+    diagnostic.start <= extent.end && extent.start <= diagnostic.end
 }
 
 /// Adds the remedy of a diagnostic, where it has one.
@@ -47,10 +105,29 @@ fn push_action(
     context: &Context<'_>,
     diagnostic: &Diagnostic,
     actions: &mut Vec<Value>,
-) -> Result<(), AllocError> {
+) -> Result<(), AllocError>
+    ensures { OnOk result ((values : List Data) × IsActionFor context.now diagnostic.now values
+        × (map view actions.new.items ≡ map view actions.old.items ++ values)) }
+{
     if let Some(remedy) = remedy_of(alloc, context, diagnostic)? {
-        actions.push(action_value(alloc, context, diagnostic, &remedy)?)?;
+        push_remedy(alloc, context, diagnostic, &remedy, actions)?;
     }
+    Ok(())
+}
+
+/// Adds the remedy of a diagnostic.
+fn push_remedy(
+    alloc: Global,
+    context: &Context<'_>,
+    diagnostic: &Diagnostic,
+    remedy: &Remedy,
+    actions: &mut Vec<Value>,
+) -> Result<(), AllocError>
+    ensures { OnOk result (map view actions.new.items ≡ map view actions.old.items
+        ++ spec.action_data context.now diagnostic.now remedy.now ∷ []) }
+{
+    let action = action_value(alloc, context, diagnostic, remedy)?;
+    actions.push(action)?;
     Ok(())
 }
 
@@ -60,7 +137,9 @@ fn action_value(
     context: &Context<'_>,
     diagnostic: &Diagnostic,
     remedy: &Remedy,
-) -> Result<Value, AllocError> {
+) -> Result<Value, AllocError>
+    ensures { IfOk result (λ v. view v ≡ spec.action_data context.now diagnostic.now remedy.now) }
+{
     let edit = remedy_value(alloc, context, remedy)?;
     let has_related = context.client.has_related;
     let value = diagnostic_value(alloc, &context.index, context.uri, has_related, diagnostic)?;
@@ -74,12 +153,11 @@ fn action_value(
 }
 
 /// Returns the edit of a remedy as a value.
-fn remedy_value(
-    alloc: Global,
-    context: &Context<'_>,
-    remedy: &Remedy,
-) -> Result<Value, AllocError> {
+fn remedy_value(alloc: Global, context: &Context<'_>, remedy: &Remedy) -> Result<Value, AllocError>
+    ensures { IfOk result (λ v. view v ≡ spec.remedy_data context.now remedy.now) }
+{
     let mut edits = Vec::new(alloc);
-    edits.push(edit_at(alloc, context, remedy.extent, remedy.replacement.as_str())?)?;
+    let edit = edit_at(alloc, context, remedy.extent, remedy.replacement.as_str())?;
+    edits.push(edit)?;
     workspace_edit_value(alloc, context.uri, edits)
 }

@@ -3,6 +3,7 @@ use meta_analysis::{Analysis, Joint, Node, Shape, UnaryOperator, analyze};
 use meta_ast::deep::Deep;
 use meta_base::grammar::Rule;
 use meta_base::runtime::Fault;
+use meta_builtins::Builtin;
 use meta_spanned::ParserExpr;
 use pest_meta::parser::{consume_rules_with_spans, parse};
 use std::alloc::{AllocError, Global};
@@ -176,12 +177,25 @@ fn visit_leaf(
     }
 }
 
-/// Adds a builtin, if it takes a character.
+/// Adds a builtin, if it may take a character.
 fn push_builtin(name: &str, first: &mut FirstSet) -> Result<(), AllocError> {
-    if matches!(name, "SOI" | "EOI" | "DROP") {
-        return Ok(());
+    match Builtin::from_name(name) {
+        Some(builtin) if takes_nothing(builtin) => Ok(()),
+        _ => first.push(name),
     }
-    first.push(name)
+}
+
+/// Whether a builtin never takes a character.
+fn takes_nothing(builtin: Builtin) -> bool {
+    match builtin {
+        Builtin::Soi | Builtin::Eoi | Builtin::Drop => true,
+        Builtin::Set(_)
+        | Builtin::Newline
+        | Builtin::Peek
+        | Builtin::Pop
+        | Builtin::PeekAll
+        | Builtin::PopAll => false,
+    }
 }
 
 /// Adds a literal, if it is not empty.

@@ -1,20 +1,27 @@
 //! Formatting.
+ghost use Rattle.std.specs.Prelude.{◌≡◌, ◌++◌, ◌∷◌, [], IfOk, OnOk, filter, map};
+ghost use Rattle.language_features.specs.Formatting as spec;
+ghost use Rattle.language_features.specs.Formatting.{AreFormatting, AreRangeFormatting, Formats};
+ghost use Rattle.language_features.specs.Formatting.{HasEdits, HasEditsWithin, HasValue, IsFormattedAs};
+ghost use Rattle.serde_json.specs.View.{view};
+
 use language_protocol::messages::{Answer, ErrorCode};
 use meta_base::runtime::Fault;
 use meta_format::{Formatted, LineEnds, Options, format};
-use meta_requests::context::Context;
+use meta_requests::context::{Context, shown};
 use meta_requests::locations::edit_at;
-use meta_symbols::{Edit, Extent, edits_between};
+use meta_symbols::{Definition, Edit, Extent, edits_between};
 use serde_json::Value;
 use std::alloc::{AllocError, Global};
 
 /// Returns the edits that format a document; none where it cannot be formatted.
-pub fn format_document(alloc: Global, context: &Context<'_>) -> Result<Answer, AllocError> {
-    let all = Extent {
-        start: 0,
-        end: context.text.len(),
-    };
-    format_extent(alloc, context, all)
+pub fn format_document(alloc: Global, context: &Context<'_>) -> Result<Answer, AllocError>
+    ensures { IfOk result (AreFormatting context.now) }
+{
+    match formatted_text(alloc, context.text)? {
+        Some(formatted) => all_edits(alloc, context, formatted.as_str()),
+        None => Ok(Answer::Result(Value::Null)),
+    }
 }
 
 /// Returns the edits that format the rules that a range touches.
@@ -22,42 +29,88 @@ pub fn format_range(
     alloc: Global,
     context: &Context<'_>,
     params: &Value,
-) -> Result<Answer, AllocError> {
+) -> Result<Answer, AllocError>
+    ensures { IfOk result (AreRangeFormatting context.now (view params.now)) }
+{
     let Some(extent) = context.extent(params) else {
         return Ok(Answer::Error(ErrorCode::InvalidParams, "no range"));
     };
-    format_extent(alloc, context, rules_around(context, extent))
+    let around = rules_around(&context.definitions, extent);
+    format_extent(alloc, context, around)
 }
 
-/// Returns the bytes of the definitions that an extent touches, or the extent itself.
-fn rules_around(context: &Context<'_>, extent: Extent) -> Extent {
+/// Returns the bytes of an extent and of the definitions that it touches.
+fn rules_around(definitions: &[Definition], extent: Extent) -> Extent
+    ensures { result ≡ spec.rules_around extent extent definitions.now }
+{
     let mut around = extent;
-    for definition in &context.definitions {
-        let whole = definition.whole;
-        if whole.start <= extent.end && extent.start <= whole.end {
-            around.start = around.start.min(whole.start);
-            around.end = around.end.max(whole.end);
-        }
+    let mut rest = definitions;
+    while let Some((definition, after)) = rest.split_first() {
+        around = with_touched(extent, around, definition.whole);
+        rest = after;
     }
     around
 }
 
+/// Returns an extent with a definition, if that touches another extent.
+fn with_touched(extent: Extent, around: Extent, whole: Extent) -> Extent
+    ensures { result ≡ spec.with_touched extent around whole }
+{
+    if do_touch(extent, whole) {
+        joined(around, whole)
+    } else {
+        around
+    }
+}
+
+/// Whether two extents touch.
+fn do_touch(extent: Extent, other: Extent) -> bool
+    ensures { result ≡ spec.do_touch extent other }
+{
+    other.start <= extent.end && extent.start <= other.end
+}
+
+/// Returns the bytes from the first start to the last end of two extents.
+fn joined(extent: Extent, other: Extent) -> Extent
+    ensures { result ≡ spec.joined extent other }
+{
+    Extent {
+        start: extent.start.min(other.start),
+        end: extent.end.max(other.end),
+    }
+}
+
 /// Returns the edits that format a document, those within an extent.
-fn format_extent(
-    alloc: Global,
-    context: &Context<'_>,
-    extent: Extent,
-) -> Result<Answer, AllocError> {
+fn format_extent(alloc: Global, context: &Context<'_>, extent: Extent) -> Result<Answer, AllocError>
+    ensures { IfOk result (Formats (HasEditsWithin extent) context.now) }
+{
+    match formatted_text(alloc, context.text)? {
+        Some(formatted) => edits_within(alloc, context, formatted.as_str(), extent),
+        None => Ok(Answer::Result(Value::Null)),
+    }
+}
+
+/// Returns the formatted text of a grammar, if it is formatted.
+fn formatted_text(alloc: Global, text: &str) -> Result<Option<String>, AllocError>
+    ensures { IfOk result (IsFormattedAs text.now) }
+{
     let mut options = Options::default();
     options.line_ends = LineEnds::OfFirstLine;
-    match format(alloc, context.text, options) {
-        Ok(Formatted::Text(formatted)) => {
-            edits_within(alloc, context, formatted.as_str(), extent)
-        }
-        Ok(Formatted::Unchanged) => Ok(Answer::Result(Value::Null)),
-        Err(Fault::Grammar(_)) => Ok(Answer::Result(Value::Null)),
+    match format(alloc, text, options) {
+        Ok(Formatted::Text(formatted)) => Ok(Some(formatted)),
+        Ok(Formatted::Unchanged) => Ok(None),
+        Err(Fault::Grammar(_)) => Ok(None),
         Err(Fault::Memory(error)) => Err(error),
     }
+}
+
+/// Returns the edits that make a document another text.
+fn all_edits(alloc: Global, context: &Context<'_>, formatted: &str) -> Result<Answer, AllocError>
+    ensures { IfOk result (HasValue (HasEdits context.now formatted.now)) }
+{
+    let edits = edits_between(alloc, context.text, formatted)?;
+    let value = edits_value(alloc, context, formatted, &edits)?;
+    Ok(Answer::Result(value))
 }
 
 /// Returns the edits within an extent that make a document another text.
@@ -66,27 +119,75 @@ fn edits_within(
     context: &Context<'_>,
     formatted: &str,
     extent: Extent,
-) -> Result<Answer, AllocError> {
+) -> Result<Answer, AllocError>
+    ensures { IfOk result (HasValue (HasEditsWithin extent context.now formatted.now)) }
+{
     let edits = edits_between(alloc, context.text, formatted)?;
-    let mut values = Vec::new(alloc);
-    for edit in &edits {
-        push_edit(alloc, context, formatted, edit, extent, &mut values)?;
-    }
-    Ok(Answer::Result(Value::Array(values)))
+    let within = edits_in(alloc, extent, &edits)?;
+    let value = edits_value(alloc, context, formatted, &within)?;
+    Ok(Answer::Result(value))
 }
 
-/// Adds an edit, if it is within an extent.
+/// Returns the edits that are within an extent.
+fn edits_in(alloc: Global, extent: Extent, edits: &[Edit]) -> Result<Vec<Edit>, AllocError>
+    ensures { IfOk result (λ within. within.items ≡ filter (spec.is_within extent) edits.now) }
+{
+    edits
+        .iter()
+        .copied()
+        .filter(|edit| is_within(extent, *edit))
+        .collect(alloc)
+}
+
+/// Whether an edit is within an extent.
+fn is_within(extent: Extent, edit: Edit) -> bool
+    ensures { result ≡ spec.is_within extent edit }
+{
+    extent.start <= edit.old.start && edit.old.end <= extent.end
+}
+
+/// Returns edits to a formatted text as a value.
+fn edits_value(
+    alloc: Global,
+    context: &Context<'_>,
+    formatted: &str,
+    edits: &[Edit],
+) -> Result<Value, AllocError>
+    ensures { IfOk result (λ v. view v ≡ spec.edits_data context.now formatted.now edits.now) }
+{
+    let mut values = Vec::new(alloc);
+    let mut rest = edits;
+    while let Some((edit, after)) = rest.split_first() {
+        push_edit(alloc, context, formatted, *edit, &mut values)?;
+        rest = after;
+    }
+    Ok(Value::Array(values))
+}
+
+/// Adds an edit to a formatted text.
 fn push_edit(
     alloc: Global,
     context: &Context<'_>,
     formatted: &str,
-    edit: &Edit,
-    extent: Extent,
+    edit: Edit,
     values: &mut Vec<Value>,
-) -> Result<(), AllocError> {
-    if extent.start <= edit.old.start && edit.old.end <= extent.end {
-        let replacement = formatted.get(edit.new.start..edit.new.end).unwrap_or("");
-        values.push(edit_at(alloc, context, edit.old, replacement)?)?;
-    }
+) -> Result<(), AllocError>
+    ensures { OnOk result (map view values.new.items
+        ≡ map view values.old.items ++ spec.edit_for context.now formatted.now edit ∷ []) }
+{
+    let value = edit_to(alloc, context, formatted, edit)?;
+    values.push(value)?;
     Ok(())
+}
+
+/// Returns an edit to a formatted text as a value.
+fn edit_to(
+    alloc: Global,
+    context: &Context<'_>,
+    formatted: &str,
+    edit: Edit,
+) -> Result<Value, AllocError>
+    ensures { IfOk result (λ v. view v ≡ spec.edit_for context.now formatted.now edit) }
+{
+    edit_at(alloc, context, edit.old, shown(formatted, edit.new))
 }

@@ -1,5 +1,8 @@
 -- Requests about documents.
 use Rattle.std.specs.Prelude.{◌≡◌, ◌⊎◌, ℕ, List, [], ◌∷◌, MatchBool, MatchOption, Option, bytes_eq, codes, find, option_map, unwrap_or}
+use Rattle.language_features.specs.Actions.{AreActions}
+use Rattle.language_features.specs.Formatting.{AreFormatting, AreRangeFormatting}
+use Rattle.language_features.specs.Hovers.{IsHover}
 use Rattle.language_protocol.specs.Asked.{text_in}
 use Rattle.language_protocol.specs.declared.client.Client.{Client}
 use Rattle.language_protocol.specs.declared.documents.Documents.{Documents}
@@ -57,7 +60,11 @@ IsAnswerOf request.References context params a = AreReferences context params a
 IsAnswerOf request.DocumentHighlight context params a = AreHighlights context params a
 IsAnswerOf request.PrepareRename context params a = IsPrepared context params a
 IsAnswerOf request.Rename context params a = IsRename context params a
+IsAnswerOf request.Hover context params a = IsHover context params a
 IsAnswerOf request.Completion context params a = AreCompletions context a
+IsAnswerOf request.Formatting context params a = AreFormatting context a
+IsAnswerOf request.RangeFormatting context params a = AreRangeFormatting context params a
+IsAnswerOf request.CodeAction context params a = AreActions context params a
 IsAnswerOf request.SemanticTokens context params a = AreSemanticTokens context a
 IsAnswerOf _ context params a = Unit {0}
 

@@ -1,2 +1,5 @@
+pub mod Lexing
 pub mod Names
+pub mod Nesting
 mod Reserved
+pub mod Runs

@@ -4,7 +4,7 @@ use Rattle.std.proofs.lemmas.List.Elements.{All-append, All-cons, All-nil}
 use Rattle.std.proofs.lemmas.Bool.Decides.{Decides-at}
 use Rattle.std.proofs.lemmas.Bool.{and_parts}
 use Rattle.std.proofs.lemmas.Slice.Eq.{bytes_eq-Decides}
-use Rattle.meta_symbols.specs.Occurrences.{extent_named, extent_of, is_name, is_occurrence, names_of, occurrence_at, occurrences}
+use Rattle.meta_symbols.specs.Occurrences.{extent_of, is_name, is_occurrence, names_of, occurrences}
 use Rattle.meta_symbols.specs.Parts.{IsNamed, part}
 use Rattle.meta_symbols.specs.declared.outline.Definition.{Definition}
 use Rattle.meta_symbols.specs.declared.tokens.Extent.{Extent}

@@ -1,5 +1,5 @@
 -- Names that are reserved.
-use Rattle.std.proofs.Common.{◌≡◌, ◌-◌, suc, ◌≤◌, ◌<◌, arith, ◌∙◌, ap, ℕ, List, [], ◌∷◌, Bool, true, false, cond, length, map, not, refl, subst}
+use Rattle.std.proofs.Common.{◌≡◌, ◌-◌, suc, ◌≤◌, arith, ◌∙◌, ap, ℕ, List, [], ◌∷◌, Bool, true, false, cond, length, map, not, refl, subst}
 use Rattle.std.proofs.lemmas.Bool.Decides.{nat_tests}
 use Rattle.std.proofs.Math.Seq.{take-length}
 use Rattle.std.specs.Prelude.{◌==◌, slice_range}

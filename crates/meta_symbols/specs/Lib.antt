@@ -1,7 +1,10 @@
 pub mod Edits
+pub mod Folds
 pub mod Laws
+pub mod Lexemes
 pub mod NewNames
 pub mod Occurrences
 pub mod Parts
 pub mod Renaming
+pub mod Selections
 pub mod Tokens

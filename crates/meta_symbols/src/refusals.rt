@@ -42,14 +42,14 @@ pub(crate) fn is_identifier(name: &[u8]) -> bool
 }
 
 /// Whether a byte can be the first of an identifier.
-fn is_first(byte: u8) -> bool
+pub(crate) fn is_first(byte: u8) -> bool
     ensures { result ≡ spec.is_first byte }
 {
     byte.is_ascii_alphabetic() || byte == b'_'
 }
 
 /// Whether a byte can be another of an identifier.
-fn is_other(byte: u8) -> bool
+pub(crate) fn is_other(byte: u8) -> bool
     ensures { result ≡ spec.is_other byte }
 {
     byte.is_ascii_alphanumeric() || byte == b'_'

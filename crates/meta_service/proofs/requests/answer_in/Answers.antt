@@ -26,19 +26,19 @@ pub returns-in-Rename : goal.returns-in-Rename
 returns-in-Rename c = rw c.in-Rename.is c.rename_rule.ensures
 
 pub returns-in-Hover : goal.returns-in-Hover
-returns-in-Hover c = rw c.in-Hover.is (any_answer c.hover.result)
+returns-in-Hover c = rw c.in-Hover.is c.hover.ensures
 
 pub returns-in-Completion : goal.returns-in-Completion
 returns-in-Completion c = rw c.in-Completion.is c.completions.ensures
 
 pub returns-in-Formatting : goal.returns-in-Formatting
-returns-in-Formatting c = rw c.in-Formatting.is (any_answer c.format_document.result)
+returns-in-Formatting c = rw c.in-Formatting.is c.format_document.ensures
 
 pub returns-in-RangeFormatting : goal.returns-in-RangeFormatting
-returns-in-RangeFormatting c = rw c.in-RangeFormatting.is (any_answer c.format_range.result)
+returns-in-RangeFormatting c = rw c.in-RangeFormatting.is c.format_range.ensures
 
 pub returns-in-CodeAction : goal.returns-in-CodeAction
-returns-in-CodeAction c = rw c.in-CodeAction.is (any_answer c.code_actions.result)
+returns-in-CodeAction c = rw c.in-CodeAction.is c.code_actions.ensures
 
 pub returns-in-SemanticTokens : goal.returns-in-SemanticTokens
 returns-in-SemanticTokens c = rw c.in-SemanticTokens.is c.semantic_tokens.ensures
