@@ -1,3 +1,4 @@
 pub mod Labels
 pub mod Marks
+pub mod Spaces
 pub mod Steps

@@ -2,6 +2,9 @@
 //!
 //! All lengths are pixels. A box's rail enters at its left side, and leaves at its right side. The boxes of
 //! a diagram are a list, in which each comes after its children.
+ghost use Rattle.std.specs.Prelude.{◌≡◌, ◌+◌, ◌++◌, IfOk, OnOk, flat_map, map};
+ghost use Rattle.meta_diagram.specs.Spaces.{capped, level, placed_box, with_entry};
+
 use std::alloc::{AllocError, Global};
 
 /// The content of a box.
@@ -68,7 +71,10 @@ pub struct Layout {
 
 impl Point {
     /// The point so far to the right and below.
-    pub fn plus(self, offset: Point) -> Point {
+    pub fn plus(self, offset: Point) -> Point
+        ensures x { result.x ≡ capped (self.x + offset.x) }
+        ensures y { result.y ≡ capped (self.y + offset.y) }
+    {
         Point {
             x: self.x.saturating_add(offset.x),
             y: self.y.saturating_add(offset.y),
@@ -86,7 +92,10 @@ impl Extent {
     };
 
     /// Where the rail leaves a box of this space, if it enters at a point.
-    pub fn exit(&self, entry: Point) -> Point {
+    pub fn exit(&self, entry: Point) -> Point
+        ensures x { result.x ≡ capped (entry.x + self.now.width) }
+        ensures y { result.y ≡ capped (entry.y + self.now.exit_y) }
+    {
         entry.plus(Point {
             x: self.width,
             y: self.exit_y,
@@ -94,7 +103,9 @@ impl Extent {
     }
 
     /// The space of a box that reaches as far above its rail as below.
-    pub fn level(width: u64, half_height: u64) -> Extent {
+    pub fn level(width: u64, half_height: u64) -> Extent
+        ensures { result ≡ level width half_height }
+    {
         Extent {
             width,
             ascent: half_height,
@@ -110,12 +121,49 @@ pub fn children_at<'b>(
     boxes: &'b [LayoutBox],
     entries: &[Point],
     parent: &LayoutBox,
-) -> Result<Vec<(&'b LayoutBox, Point)>, AllocError> {
+) -> Result<Vec<(&'b LayoutBox, Point)>, AllocError>
+    ensures { IfOk result (λ children. map (λ child. (child.0.now, child.1)) children.items
+        ≡ flat_map (placed_box boxes.entry.now entries.now) parent.now.children.items) }
+{
     let mut children = Vec::new(alloc);
     for index in &parent.children {
-        if let (Some(child), Some(entry)) = (boxes.get(*index), entries.get(*index)) {
-            children.push((child, *entry))?;
-        }
+        push_child(boxes, entries, *index, &mut children)?;
     }
     Ok(children)
+}
+
+/// Adds the box of an index, and where its rail enters, if there are both.
+fn push_child<'b>(
+    boxes: &'b [LayoutBox],
+    entries: &[Point],
+    index: usize,
+    children: &mut Vec<(&'b LayoutBox, Point)>,
+) -> Result<(), AllocError>
+    ensures { OnOk result (map (λ child. (child.0.now, child.1)) children.new.items
+        ≡ map (λ child. (child.0.now, child.1)) children.old.items
+        ++ placed_box boxes.entry.now entries.now index) }
+{
+    match boxes.get(index) {
+        Some(child) => push_with_entry(child, entries.get(index).copied(), children),
+        None => Ok(()),
+    }
+}
+
+/// Adds a box and where its rail enters, if this is known.
+fn push_with_entry<'b>(
+    child: &'b LayoutBox,
+    entry: Option<Point>,
+    children: &mut Vec<(&'b LayoutBox, Point)>,
+) -> Result<(), AllocError>
+    ensures { OnOk result (map (λ child. (child.0.now, child.1)) children.new.items
+        ≡ map (λ child. (child.0.now, child.1)) children.old.items
+        ++ with_entry (Some child.entry.now) entry) }
+{
+    match entry {
+        Some(entry) => {
+            children.push((child, entry))?;
+            Ok(())
+        }
+        None => Ok(()),
+    }
 }

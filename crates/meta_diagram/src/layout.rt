@@ -1,4 +1,7 @@
 //! The space that each box takes, and where its children are, from their own spaces.
+ghost use Rattle.std.specs.Prelude.{◌≡◌, ◌+◌, ◌*◌, max, true};
+ghost use Rattle.meta_diagram.specs.Spaces.{capped, is_text_box, level, text_width};
+
 use crate::boxes::{BoxContent, Extent, LayoutBox, Point};
 use unicode_width::UnicodeWidthStr;
 
@@ -26,7 +29,14 @@ pub fn lay_out(
     content: BoxContent,
     label: &str,
     children: &[usize],
-) -> Extent {
+) -> Extent
+    ensures rail { content ≡ BoxContent.Rail → result ≡ level RAIL 0 }
+    ensures text { is_text_box content ≡ true
+        → result ≡ level (capped (text_width label.now + 2 * PADDING)) HALF_BOX }
+    ensures no_children { is_text_box content ≡ true → offsets.new ≡ offsets.old }
+    ensures choice { content ≡ BoxContent.Choice → result.exit_y ≡ 0 }
+    ensures columns { content ≡ BoxContent.Columns → result.exit_y ≡ 0 }
+{
     let text = text_width(label);
     match content {
         BoxContent::Rail => Extent::level(RAIL, 0),
@@ -42,7 +52,9 @@ pub fn lay_out(
 }
 
 /// The width of a text.
-pub fn text_width(text: &str) -> u64 {
+pub fn text_width(text: &str) -> u64
+    ensures { result ≡ text_width text.now }
+{
     COLUMN.saturating_mul(text.width() as u64)
 }
 
@@ -158,7 +170,9 @@ fn row_extent(boxes: &[LayoutBox], items: &[usize]) -> Extent {
 }
 
 /// Lays out alternatives below one another, the first at the height of the rail.
-fn lay_out_choice(boxes: &[LayoutBox], offsets: &mut Vec<Point>, children: &[usize]) -> Extent {
+fn lay_out_choice(boxes: &[LayoutBox], offsets: &mut Vec<Point>, children: &[usize]) -> Extent
+    ensures { result.exit_y ≡ 0 }
+{
     let mut whole = Extent::EMPTY;
     for (place, index) in children.iter().enumerate() {
         let own = extent_of(boxes, *index);
@@ -176,7 +190,9 @@ fn lay_out_choice(boxes: &[LayoutBox], offsets: &mut Vec<Point>, children: &[usi
 }
 
 /// Lays out choices side by side, below a rail that leads to each and above one that leads away.
-fn lay_out_columns(boxes: &[LayoutBox], offsets: &mut Vec<Point>, children: &[usize]) -> Extent {
+fn lay_out_columns(boxes: &[LayoutBox], offsets: &mut Vec<Point>, children: &[usize]) -> Extent
+    ensures { result.exit_y ≡ 0 }
+{
     let row = row_extent(boxes, children);
     let y = row.ascent.saturating_add(GAP).saturating_add(2 * TURN);
     let mut x = 2 * TURN;
@@ -216,7 +232,9 @@ fn lay_out_loop(
 }
 
 /// How far below the rail of a loop its rail back is, where the child takes this space.
-pub fn back_rail(child: Extent) -> u64 {
+pub fn back_rail(child: Extent) -> u64
+    ensures { result ≡ capped (max child.descent (child.exit_y + TURN) + GAP) }
+{
     let below = child.exit_y.saturating_add(TURN);
     child.descent.max(below).saturating_add(GAP)
 }

@@ -1,4 +1,5 @@
 pub mod Asking
 pub mod Gaining
+pub mod Lending
 pub mod Linking
 pub mod Waiting

@@ -1,2 +1,5 @@
 pub mod Documents
 pub mod Links
+pub mod Modifiers
+pub mod Nullability
+pub mod Warnings

@@ -32,12 +32,18 @@ fn body_of<'r>(
     let mut tokens = expression_tokens(alloc, &rule.expr, numbers)?;
     let modifier = comment_of(rule.ty);
     if !modifier.is_empty() {
-        tokens.push(EbnfToken::Word(EbnfWord::Blank))?;
-        tokens.push(EbnfToken::Word(EbnfWord::CommentStart))?;
-        tokens.push(EbnfToken::Comment(modifier))?;
-        tokens.push(EbnfToken::Word(EbnfWord::CommentEnd))?;
+        push_comment(&mut tokens, modifier)?;
     }
     Ok(tokens)
+}
+
+/// Adds a blank and a comment.
+fn push_comment<'r>(tokens: &mut Vec<EbnfToken<'r>>, text: &'r str) -> Result<(), AllocError> {
+    tokens.push(EbnfToken::Word(EbnfWord::Blank))?;
+    tokens.push(EbnfToken::Word(EbnfWord::CommentStart))?;
+    tokens.push(EbnfToken::Comment(text))?;
+    tokens.push(EbnfToken::Word(EbnfWord::CommentEnd))?;
+    Ok(())
 }
 
 /// The comment on the modifier of a rule.

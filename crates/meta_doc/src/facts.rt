@@ -3,11 +3,12 @@ ghost use Rattle.std.specs.Prelude.{IfOk, length};
 ghost use Rattle.meta_doc.specs.Links.{AreFactsBelow};
 
 use crate::callers::find_callers;
-use crate::first_sets::{FirstSet, find_first_set, is_implicit, is_nullable};
+use crate::first_sets::{FirstSet, find_first_set, is_nullable};
 use crate::source::RuleSource;
 use crate::warnings::{RuleWarning, find_warnings};
 use meta_analysis::analyze;
 use meta_spanned::ParserRule;
+use meta_warnings::is_blank_name;
 use std::alloc::{AllocError, Global};
 
 /// The facts of a rule.
@@ -37,11 +38,12 @@ pub fn find_facts<'i>(
     let mut warnings = find_warnings(alloc, sources, rules)?;
     let mut facts = Vec::new(alloc);
     for (number, rule) in rules.iter().enumerate().rev() {
+        let first_set = find_first_set(alloc, &analysis, rules, number)?;
         let called_by = callers.pop().unwrap_or(Vec::new(alloc));
         facts.push(RuleFacts {
             callers: called_by,
-            is_implicit: is_implicit(rule.name.as_str()),
-            first_set: find_first_set(alloc, &analysis, rules, number)?,
+            is_implicit: is_blank_name(rule.name.as_str()),
+            first_set,
             is_nullable: is_nullable(&analysis, number),
             warnings: warnings.pop().unwrap_or(Vec::new(alloc)),
         })?;

@@ -1,8 +1,12 @@
 //! First sets: the terminals that may begin a rule, through the rules that it calls.
+ghost use Rattle.std.specs.Prelude.{◌≡◌, ◌+◌, ◌≤◌, IfOk, OnOk, false, length, slice_index_or};
+ghost use Rattle.meta_doc.specs.Nullability.{DecidesNullable};
+
 use meta_analysis::{Analysis, Joint, Shape, UnaryOperator};
 use meta_ast::ast::{Expr, RuleType};
 use meta_diagram::leaf_label;
 use meta_spanned::{ParserExpr, ParserRule};
+use meta_warnings::is_blank_name;
 use std::alloc::{AllocError, Global};
 
 /// The number of terminals that are shown.
@@ -31,7 +35,7 @@ struct Visit {
 struct FirstSearch<'s, 'n, 'i> {
     alloc: Global,
     analysis: &'s Analysis<'n, 'i>,
-    rules: &'s [ParserRule<'i>],
+    rules: &'n [ParserRule<'i>],
     /// The rules whose bodies were added to `waiting`.
     called: Vec<Visit>,
     /// The nodes that are still to be visited, the next one last.
@@ -39,20 +43,17 @@ struct FirstSearch<'s, 'n, 'i> {
     labels: Vec<String>,
 }
 
-/// Whether the rule of a name is called implicitly.
-pub fn is_implicit(name: &str) -> bool {
-    name == "WHITESPACE" || name == "COMMENT"
-}
-
 /// Finds the terminals and builtins that may begin a rule in non-atomic mode, at most twelve, within 400
 /// nodes. Implicit whitespace may follow an item that matches nothing, and comes last. The only error is an
 /// allocation failure.
-pub fn find_first_set<'s, 'i>(
+pub fn find_first_set<'n, 'i>(
     alloc: Global,
-    analysis: &'s Analysis<'_, 'i>,
-    rules: &'s [ParserRule<'i>],
+    analysis: &Analysis<'n, 'i>,
+    rules: &'n [ParserRule<'i>],
     rule: usize,
-) -> Result<FirstSet, AllocError> {
+) -> Result<FirstSet, AllocError>
+    ensures { IfOk result (λ first_set. length first_set.labels.items ≤ SHOWN) }
+{
     let mut search = FirstSearch {
         alloc,
         analysis,
@@ -65,23 +66,15 @@ pub fn find_first_set<'s, 'i>(
         number: rule,
         is_atomic: false,
     })?;
-    let mut has_more = true;
-    for _ in 0..VISITED {
-        let Some(node) = search.waiting.pop() else {
-            has_more = false;
-            break;
-        };
-        if search.labels.len() >= SHOWN {
-            break;
-        }
-        search.visit(node)?;
-    }
+    let has_more = search.run()?;
     let FirstSearch { labels, .. } = search;
     Ok(FirstSet { labels, has_more })
 }
 
 /// Whether a rule may match the empty text.
-pub fn is_nullable(analysis: &Analysis<'_, '_>, rule: usize) -> bool {
+pub fn is_nullable(analysis: &Analysis<'_, '_>, rule: usize) -> bool
+    ensures { DecidesNullable analysis.now rule result }
+{
     match analysis.table.roots.get(rule) {
         Some(root) => is_node_nullable(analysis, *root),
         None => false,
@@ -89,7 +82,9 @@ pub fn is_nullable(analysis: &Analysis<'_, '_>, rule: usize) -> bool {
 }
 
 /// Whether a node may match the empty text.
-fn is_node_nullable(analysis: &Analysis<'_, '_>, node: usize) -> bool {
+fn is_node_nullable(analysis: &Analysis<'_, '_>, node: usize) -> bool
+    ensures { result ≡ slice_index_or analysis.now.facts.nullable.items node false }
+{
     analysis.facts.nullable.get(node).copied().unwrap_or(false)
 }
 
@@ -111,8 +106,26 @@ fn may_repeat(operator: UnaryOperator) -> bool {
 }
 
 impl FirstSearch<'_, '_, '_> {
+    /// Visits the nodes that wait, until there are enough labels or visits. Returns whether more may come.
+    fn run(&mut self) -> Result<bool, AllocError>
+        ensures { OnOk result (length self.old.labels.items ≤ SHOWN → length self.new.labels.items ≤ SHOWN) }
+    {
+        for _visit in 0..VISITED {
+            let Some(node) = self.waiting.pop() else {
+                return Ok(false);
+            };
+            if self.labels.len() >= SHOWN {
+                return Ok(true);
+            }
+            self.visit(node)?;
+        }
+        Ok(true)
+    }
+
     /// Adds the body of a rule to the nodes that are still to be visited, unless it was added before.
-    fn enter_rule(&mut self, call: Visit) -> Result<(), AllocError> {
+    fn enter_rule(&mut self, call: Visit) -> Result<(), AllocError>
+        ensures { OnOk result (self.new.labels ≡ self.old.labels) }
+    {
         let call = Visit {
             is_atomic: self.is_body_atomic(call),
             ..call
@@ -121,13 +134,10 @@ impl FirstSearch<'_, '_, '_> {
             return Ok(());
         }
         self.called.push(call)?;
-        if let Some(root) = self.analysis.table.roots.get(call.number) {
-            self.waiting.push(Visit {
-                number: *root,
-                ..call
-            })?;
+        match self.analysis.table.roots.get(call.number) {
+            Some(root) => self.add_node(*root, call),
+            None => Ok(()),
         }
-        Ok(())
     }
 
     /// Whether the body of a rule that is called is in atomic mode.
@@ -137,14 +147,16 @@ impl FirstSearch<'_, '_, '_> {
         };
         match rule.ty {
             RuleType::Atomic | RuleType::CompoundAtomic => true,
-            _ if is_implicit(rule.name.as_str()) => true,
+            _ if is_blank_name(rule.name.as_str()) => true,
             RuleType::NonAtomic => false,
             RuleType::Normal | RuleType::Silent => call.is_atomic,
         }
     }
 
     /// Adds the body of the rule of a name, if there is one.
-    fn enter_name(&mut self, name: &str, is_atomic: bool) -> Result<(), AllocError> {
+    fn enter_name(&mut self, name: &str, is_atomic: bool) -> Result<(), AllocError>
+        ensures { OnOk result (self.new.labels ≡ self.old.labels) }
+    {
         match self.analysis.names.place_of(name) {
             Some(number) => self.enter_rule(Visit { number, is_atomic }),
             None => Ok(()),
@@ -152,7 +164,9 @@ impl FirstSearch<'_, '_, '_> {
     }
 
     /// Visits a node: adds its label, or the nodes inside it that may begin it.
-    fn visit(&mut self, visit: Visit) -> Result<(), AllocError> {
+    fn visit(&mut self, visit: Visit) -> Result<(), AllocError>
+        ensures { OnOk result (length self.new.labels.items ≤ length self.old.labels.items + 1) }
+    {
         let Some(node) = self.analysis.table.nodes.get(visit.number) else {
             return Ok(());
         };
@@ -160,16 +174,11 @@ impl FirstSearch<'_, '_, '_> {
             Shape::Leaf => self.visit_leaf(node.expr, visit.is_atomic),
             Shape::One(UnaryOperator::NegPred, _) => Ok(()),
             Shape::One(operator, inner) => {
-                if may_repeat(operator) && is_node_nullable(self.analysis, inner) {
-                    self.add_implicit(visit.is_atomic)?;
-                }
+                self.add_next_turn(operator, inner, visit)?;
                 self.add_node(inner, visit)
             }
             Shape::Two(Joint::Sequence, first, second) => {
-                if is_node_nullable(self.analysis, first) {
-                    self.add_implicit(visit.is_atomic)?;
-                    self.add_node(second, visit)?;
-                }
+                self.add_second(first, second, visit)?;
                 self.add_node(first, visit)
             }
             Shape::Two(Joint::Choice, first, second) => {
@@ -179,14 +188,46 @@ impl FirstSearch<'_, '_, '_> {
         }
     }
 
+    /// Adds what may be skipped before the next turn of a repetition, where a turn may match nothing.
+    fn add_next_turn(
+        &mut self,
+        operator: UnaryOperator,
+        inner: usize,
+        outer: Visit,
+    ) -> Result<(), AllocError>
+        ensures { OnOk result (self.new.labels ≡ self.old.labels) }
+    {
+        if may_repeat(operator) && is_node_nullable(self.analysis, inner) {
+            self.add_implicit(outer.is_atomic)
+        } else {
+            Ok(())
+        }
+    }
+
+    /// Adds the second operand of a sequence, and what may be skipped before it, if the first may match
+    /// nothing.
+    fn add_second(&mut self, first: usize, second: usize, outer: Visit) -> Result<(), AllocError>
+        ensures { OnOk result (self.new.labels ≡ self.old.labels) }
+    {
+        if !is_node_nullable(self.analysis, first) {
+            return Ok(());
+        }
+        self.add_implicit(outer.is_atomic)?;
+        self.add_node(second, outer)
+    }
+
     /// Adds a node inside of one that is visited.
-    fn add_node(&mut self, number: usize, outer: Visit) -> Result<(), AllocError> {
+    fn add_node(&mut self, number: usize, outer: Visit) -> Result<(), AllocError>
+        ensures { OnOk result (self.new.labels ≡ self.old.labels) }
+    {
         self.waiting.push(Visit { number, ..outer })?;
         Ok(())
     }
 
     /// Adds the rules that are called implicitly, in non-atomic mode.
-    fn add_implicit(&mut self, is_atomic: bool) -> Result<(), AllocError> {
+    fn add_implicit(&mut self, is_atomic: bool) -> Result<(), AllocError>
+        ensures { OnOk result (self.new.labels ≡ self.old.labels) }
+    {
         if is_atomic {
             return Ok(());
         }
@@ -195,7 +236,9 @@ impl FirstSearch<'_, '_, '_> {
     }
 
     /// Visits a node without operands.
-    fn visit_leaf(&mut self, expr: &ParserExpr<'_>, is_atomic: bool) -> Result<(), AllocError> {
+    fn visit_leaf(&mut self, expr: &ParserExpr<'_>, is_atomic: bool) -> Result<(), AllocError>
+        ensures { OnOk result (length self.new.labels.items ≤ length self.old.labels.items + 1) }
+    {
         if let ParserExpr::Ident(name) = expr {
             if self.analysis.names.place_of(name.as_str()).is_some() {
                 return self.enter_name(name.as_str(), is_atomic);
@@ -211,7 +254,9 @@ impl FirstSearch<'_, '_, '_> {
     }
 
     /// Adds a label that is not in the list.
-    fn add_label(&mut self, label: String) -> Result<(), AllocError> {
+    fn add_label(&mut self, label: String) -> Result<(), AllocError>
+        ensures { OnOk result (length self.new.labels.items ≤ length self.old.labels.items + 1) }
+    {
         for known in &self.labels {
             if known.as_str() == label.as_str() {
                 return Ok(());

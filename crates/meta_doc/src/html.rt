@@ -6,6 +6,7 @@ ghost use Rattle.meta_ast.specs.Ast.{rule_of_code, rules_of};
 ghost use Rattle.meta_markup.specs.Links.{AreLinksWithin, links_of};
 ghost use Rattle.meta_markup.specs.Pages.{AreNames, IsPage};
 ghost use Rattle.meta_doc.specs.Documents.{EndsWithSections, HasNoRule, HasNoneNamed, IsAskedFor, IsDiagramOf, IsDiagramOfRule, IsOneNamed};
+ghost use Rattle.meta_doc.specs.Modifiers.{meaning};
 ghost use Rattle.meta_doc.specs.Links.{diagram_links, other_rule, part_links, source_links};
 
 use crate::facts::RuleFacts;
@@ -260,7 +261,9 @@ fn push_modifier(markup: &mut MarkupBuilder<'_>, ty: RuleType) -> Result<(), All
 }
 
 /// Describes the modifier of a rule in a few words.
-pub fn meaning_of(ty: RuleType) -> &'static str {
+pub fn meaning_of(ty: RuleType) -> &'static str
+    ensures { result.now ≡ meaning ty }
+{
     match ty {
         RuleType::Normal => "",
         RuleType::Silent => "silent: gives no token",

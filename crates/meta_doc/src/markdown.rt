@@ -53,12 +53,7 @@ fn push_sections(
 fn introduce<'i>(alloc: Global, doc: &GrammarDoc<'i>) -> Result<MarkdownBuilder<'i>, AllocError> {
     let mut markdown = MarkdownBuilder::new(alloc);
     markdown.comment(&doc.source.comment)?;
-    for number in 0..doc.rules.value.len() {
-        markdown.word(MarkdownWord::Item)?;
-        markdown.put(MarkdownToken::RuleLink(number))?;
-        markdown.word(MarkdownWord::LineFeed)?;
-    }
-    markdown.word(MarkdownWord::LineFeed)?;
+    markdown.rules(doc.rules.value.len())?;
     Ok(markdown)
 }
 
@@ -69,20 +64,40 @@ fn describe<'i>(
     number: usize,
     rule: &ast::Rule,
 ) -> Result<MarkdownContents<'i>, AllocError> {
-    let mut before = MarkdownBuilder::new(alloc);
-    before.emphasis(meaning_of(rule.ty))?;
-    if let Some(source) = doc.source.rules.get(number) {
-        before.comment(&source.comment)?;
-        before.source(source)?;
-    }
-    let mut after = MarkdownBuilder::new(alloc);
-    if let Some(facts) = doc.facts.get(number) {
-        after.facts(facts)?;
-    }
+    let before = show_rule(alloc, doc, number, rule)?;
+    let after = show_facts(alloc, doc, number)?;
     Ok(MarkdownContents {
         before: before.tokens,
         after: after.tokens,
     })
+}
+
+/// What a modifier means, the comment and the text of a rule.
+fn show_rule<'i>(
+    alloc: Global,
+    doc: &GrammarDoc<'i>,
+    number: usize,
+    rule: &ast::Rule,
+) -> Result<MarkdownBuilder<'i>, AllocError> {
+    let mut markdown = MarkdownBuilder::new(alloc);
+    markdown.emphasis(meaning_of(rule.ty))?;
+    if let Some(source) = doc.source.rules.get(number) {
+        markdown.definition(source)?;
+    }
+    Ok(markdown)
+}
+
+/// The facts of a rule.
+fn show_facts<'i>(
+    alloc: Global,
+    doc: &GrammarDoc<'i>,
+    number: usize,
+) -> Result<MarkdownBuilder<'i>, AllocError> {
+    let mut markdown = MarkdownBuilder::new(alloc);
+    if let Some(facts) = doc.facts.get(number) {
+        markdown.facts(facts)?;
+    }
+    Ok(markdown)
 }
 
 impl<'t> MarkdownBuilder<'t> {
@@ -109,6 +124,16 @@ impl<'t> MarkdownBuilder<'t> {
         self.put(MarkdownToken::Text(text))
     }
 
+    /// Adds a list of links to the first so many rules.
+    fn rules(&mut self, count: usize) -> Result<(), AllocError> {
+        for number in 0..count {
+            self.word(MarkdownWord::Item)?;
+            self.put(MarkdownToken::RuleLink(number))?;
+            self.word(MarkdownWord::LineFeed)?;
+        }
+        self.word(MarkdownWord::LineFeed)
+    }
+
     /// Adds a paragraph that is emphasized, unless it is empty.
     fn emphasis(&mut self, text: &'t str) -> Result<(), AllocError> {
         if text.is_empty() {
@@ -130,6 +155,12 @@ impl<'t> MarkdownBuilder<'t> {
             return Ok(());
         }
         self.word(MarkdownWord::LineFeed)
+    }
+
+    /// Adds a rule with its comment.
+    fn definition(&mut self, source: &RuleSource<'t>) -> Result<(), AllocError> {
+        self.comment(&source.comment)?;
+        self.source(source)
     }
 
     /// Adds a rule as it is written.

@@ -66,20 +66,25 @@ pub fn read_source<'i>(
         end: 0,
         is_named: false,
     };
-    let mut waiting = vec![in alloc; pairs.trees()]?;
-    while let Some(trees) = waiting.pop() {
-        if let Some(tree) = first_tree(trees) {
-            reader.read(tree)?;
-            waiting.push(tree.others)?;
-            waiting.push(tree.inner)?;
-        }
-    }
-    reader.finish_rule()?;
+    reader.read_all(pairs)?;
     let SourceReader { source, .. } = reader;
     Ok(source)
 }
 
 impl<'i> SourceReader<'i> {
+    /// Reads the trees of pairs.
+    fn read_all(&mut self, pairs: &Pairs<'i, Rule>) -> Result<(), AllocError> {
+        let mut waiting = vec![in self.alloc; pairs.trees()]?;
+        while let Some(trees) = waiting.pop() {
+            if let Some(tree) = first_tree(trees) {
+                self.read(tree)?;
+                waiting.push(tree.others)?;
+                waiting.push(tree.inner)?;
+            }
+        }
+        self.finish_rule()
+    }
+
     /// Reads a tree, without the trees inside it.
     fn read(&mut self, tree: FirstTree<'_, Rule>) -> Result<(), AllocError> {
         match tree.rule {

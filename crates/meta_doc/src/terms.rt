@@ -5,7 +5,7 @@ use std::alloc::{AllocError, Global};
 use std::collections::HashMap;
 
 /// Where an expression is written.
-#[derive(Clone, Copy, PartialEq, Eq)]
+#[derive(Clone, Copy)]
 enum TermContext {
     /// As a whole, or as an alternative.
     Alternative,
@@ -13,6 +13,13 @@ enum TermContext {
     Item,
     /// Before an operator.
     Operand,
+}
+
+impl TermContext {
+    /// Whether an operator follows.
+    fn is_operand(self) -> bool {
+        matches!(self, TermContext::Operand)
+    }
 }
 
 /// A step of the walk.
@@ -61,7 +68,7 @@ impl<'e> TermWriter<'e> {
         numbers: &HashMap<String, usize>,
     ) -> Result<(), AllocError> {
         match step {
-            TermStep::Token(token) => Ok(self.tokens.push(token)?),
+            TermStep::Token(token) => self.token(token),
             TermStep::Visit(expr, context) => self.visit(expr, context, numbers),
         }
     }
@@ -79,13 +86,13 @@ impl<'e> TermWriter<'e> {
             Expr::Range(first, last) => self.range(first.as_str(), last.as_str()),
             Expr::Ident(name) => self.call(name.as_str(), context, numbers),
             Expr::Seq(left, right) => {
-                self.open(context == TermContext::Operand)?;
+                self.open(context.is_operand())?;
                 self.later(TermStep::Visit(right, TermContext::Item))?;
                 self.word_later(EbnfWord::Blank)?;
                 self.later(TermStep::Visit(left, TermContext::Item))
             }
             Expr::Choice(left, right) => {
-                self.open(context != TermContext::Alternative)?;
+                self.open(!matches!(context, TermContext::Alternative))?;
                 self.later(TermStep::Visit(right, TermContext::Alternative))?;
                 self.word_later(EbnfWord::Bar)?;
                 self.later(TermStep::Visit(left, TermContext::Alternative))
@@ -112,7 +119,7 @@ impl<'e> TermWriter<'e> {
                 self.repeat(inner, *m, Times::Between(*m, *n), context)
             }
             _ => {
-                self.open(context == TermContext::Operand)?;
+                self.open(context.is_operand())?;
                 self.remark(expr)
             }
         }
@@ -127,7 +134,7 @@ impl<'e> TermWriter<'e> {
     /// Writes a comment.
     fn comment(&mut self, text: EbnfToken<'e>) -> Result<(), AllocError> {
         self.word(EbnfWord::CommentStart)?;
-        self.tokens.push(text)?;
+        self.token(text)?;
         self.word(EbnfWord::CommentEnd)
     }
 
@@ -139,9 +146,9 @@ impl<'e> TermWriter<'e> {
         operand: &'e Expr,
         context: TermContext,
     ) -> Result<(), AllocError> {
-        self.open(context == TermContext::Operand)?;
+        self.open(context.is_operand())?;
         self.word(start)?;
-        self.tokens.push(EbnfToken::Comment(remark))?;
+        self.token(EbnfToken::Comment(remark))?;
         self.word(EbnfWord::CommentEnd)?;
         self.word(EbnfWord::Blank)?;
         self.later(TermStep::Visit(operand, TermContext::Item))
@@ -171,7 +178,7 @@ impl<'e> TermWriter<'e> {
         times: Times,
         context: TermContext,
     ) -> Result<(), AllocError> {
-        self.open(context == TermContext::Operand)?;
+        self.open(context.is_operand())?;
         if let Some(text) = times.text(self.alloc)? {
             self.word_later(EbnfWord::CommentEnd)?;
             self.later(TermStep::Token(EbnfToken::ComposedComment(text)))?;
@@ -190,15 +197,14 @@ impl<'e> TermWriter<'e> {
         numbers: &HashMap<String, usize>,
     ) -> Result<(), AllocError> {
         if numbers.contains_key(name) {
-            self.tokens.push(EbnfToken::Name(name))?;
-            return Ok(());
+            return self.token(EbnfToken::Name(name));
         }
         if name == "NEWLINE" {
             return self.word(EbnfWord::LineEnd);
         }
         let ranges = ranges_of(name);
         if ranges.is_empty() {
-            self.open(context == TermContext::Operand)?;
+            self.open(context.is_operand())?;
             return self.comment(EbnfToken::Comment(name));
         }
         self.word(EbnfWord::RangeStart)?;
@@ -219,18 +225,17 @@ impl<'e> TermWriter<'e> {
 
     /// Writes the bounds of a range.
     fn bounds(&mut self, first: char, last: char) -> Result<(), AllocError> {
-        self.tokens.push(EbnfToken::Bound(first))?;
+        self.token(EbnfToken::Bound(first))?;
         self.word(EbnfWord::RangeMiddle)?;
-        self.tokens.push(EbnfToken::Bound(last))?;
-        Ok(())
+        self.token(EbnfToken::Bound(last))
     }
 
     /// Writes a literal: strings of plain characters, and other characters between them.
     fn literal(&mut self, text: &'e str, context: TermContext) -> Result<(), AllocError> {
-        let has_parentheses = context == TermContext::Operand && !is_string(text);
+        let has_parentheses = context.is_operand() && !is_string(text);
         self.open(has_parentheses)?;
         if text.is_empty() {
-            self.tokens.push(EbnfToken::String(text))?;
+            self.token(EbnfToken::String(text))?;
         }
         let mut rest = text;
         for place in 0..text.len() {
@@ -250,13 +255,13 @@ impl<'e> TermWriter<'e> {
         let end = text.find(|c: char| !is_plain(c)).unwrap_or(text.len());
         let (plain, rest) = text.split_at(end);
         if !plain.is_empty() {
-            self.tokens.push(EbnfToken::String(plain))?;
+            self.token(EbnfToken::String(plain))?;
             return Ok(rest);
         }
         let mut others = rest.chars();
         match others.next() {
             Some('"') => self.word(EbnfWord::DoubleQuote)?,
-            Some(character) => self.tokens.push(EbnfToken::Numbered(character))?,
+            Some(character) => self.token(EbnfToken::Numbered(character))?,
             None => {}
         }
         Ok(others.as_str())
@@ -264,21 +269,26 @@ impl<'e> TermWriter<'e> {
 
     /// Writes a text that is matched in either case, letter by letter.
     fn either_case(&mut self, text: &'e str, context: TermContext) -> Result<(), AllocError> {
-        self.open(context == TermContext::Operand)?;
+        self.open(context.is_operand())?;
         if text.is_empty() {
-            self.tokens.push(EbnfToken::String(text))?;
+            self.token(EbnfToken::String(text))?;
         }
         for (place, character) in text.chars().enumerate() {
             if place > 0 {
                 self.word(EbnfWord::Blank)?;
             }
-            if character.is_ascii_alphabetic() {
-                self.tokens.push(EbnfToken::EitherCase(character))?;
-            } else {
-                self.tokens.push(EbnfToken::Numbered(character))?;
-            }
+            self.letter(character)?;
         }
         Ok(())
+    }
+
+    /// Writes a character that is matched in either case.
+    fn letter(&mut self, character: char) -> Result<(), AllocError> {
+        if character.is_ascii_alphabetic() {
+            self.token(EbnfToken::EitherCase(character))
+        } else {
+            self.token(EbnfToken::Numbered(character))
+        }
     }
 
     /// Writes a parenthesis, and adds the step that closes it, where there is to be one.
@@ -290,10 +300,15 @@ impl<'e> TermWriter<'e> {
         Ok(())
     }
 
+    /// Writes a token.
+    fn token(&mut self, token: EbnfToken<'e>) -> Result<(), AllocError> {
+        self.tokens.push(token)?;
+        Ok(())
+    }
+
     /// Writes a word.
     fn word(&mut self, word: EbnfWord) -> Result<(), AllocError> {
-        self.tokens.push(EbnfToken::Word(word))?;
-        Ok(())
+        self.token(EbnfToken::Word(word))
     }
 
     /// Adds a step.

@@ -1,4 +1,10 @@
 //! Warnings that are definite, by the rules in which they are.
+ghost use Rattle.std.specs.Prelude.{◌≡◌, List, IfOk, OnOk, length, map};
+ghost use Rattle.meta_base.specs.Pieces.Saying.{piece_of};
+ghost use Rattle.meta_doc.specs.Warnings.{AllSaid, AreWarnings, IsWarning};
+ghost use Rattle.meta_spanned.specs.Nodes.{rule_views};
+ghost use Rattle.meta_spanned.specs.Spanned.{SpannedRule};
+
 use crate::source::RuleSource;
 use meta_base::runtime::Span;
 use meta_spanned::ParserRule;
@@ -19,18 +25,58 @@ pub fn find_warnings<'i>(
     alloc: Global,
     sources: &[RuleSource<'i>],
     rules: &[ParserRule<'i>],
-) -> Result<Vec<Vec<RuleWarning<'i>>>, AllocError> {
+) -> Result<Vec<Vec<RuleWarning<'i>>>, AllocError>
+    ensures of_each_rule { IfOk result (λ lists. length lists.items ≡ length sources.now) }
+    ensures definite { IfOk result (λ lists. AreWarnings (rule_views rules.now) lists.items) }
+{
+    let mut warnings = no_warnings(alloc, sources.len())?;
+    add_alternatives(alloc, sources, rules, &mut warnings)?;
+    add_ranges(alloc, sources, rules, &mut warnings)?;
+    Ok(warnings)
+}
+
+/// No warnings for each of so many rules.
+fn no_warnings<'i>(alloc: Global, count: usize) -> Result<Vec<Vec<RuleWarning<'i>>>, AllocError>
+    ensures of_each_rule { IfOk result (λ lists. length lists.items ≡ count) }
+    ensures none { (rules : List SpannedRule) → IfOk result (λ lists. AreWarnings rules lists.items) }
+{
     let mut warnings: Vec<Vec<RuleWarning<'i>>> = Vec::new(alloc);
-    for _ in sources {
+    for _rule in 0..count {
         warnings.push(Vec::new(alloc))?;
     }
+    Ok(warnings)
+}
+
+/// Adds the warnings for alternatives that are never taken.
+fn add_alternatives<'i>(
+    alloc: Global,
+    sources: &[RuleSource<'i>],
+    rules: &[ParserRule<'i>],
+    warnings: &mut Vec<Vec<RuleWarning<'i>>>,
+) -> Result<(), AllocError>
+    ensures alike { OnOk result (length warnings.new.items ≡ length warnings.old.items) }
+    ensures definite { OnOk result (AreWarnings (rule_views rules.now) warnings.old.items
+        → AreWarnings (rule_views rules.now) warnings.new.items) }
+{
     let unreachable = unreachable_alternatives(alloc, rules)?;
     let message = "this alternative is never taken: one before it begins all that it matches";
-    add_warnings(sources, message, &unreachable, &mut warnings)?;
+    add_warnings(sources, message, &unreachable, warnings)
+}
+
+/// Adds the warnings for ranges that match nothing.
+fn add_ranges<'i>(
+    alloc: Global,
+    sources: &[RuleSource<'i>],
+    rules: &[ParserRule<'i>],
+    warnings: &mut Vec<Vec<RuleWarning<'i>>>,
+) -> Result<(), AllocError>
+    ensures alike { OnOk result (length warnings.new.items ≡ length warnings.old.items) }
+    ensures definite { OnOk result (AreWarnings (rule_views rules.now) warnings.old.items
+        → AreWarnings (rule_views rules.now) warnings.new.items) }
+{
     let reversed = reversed_ranges(alloc, rules)?;
     let message = "this range matches nothing: its first character is above its last";
-    add_warnings(sources, message, &reversed, &mut warnings)?;
-    Ok(warnings)
+    add_warnings(sources, message, &reversed, warnings)
 }
 
 /// Adds a warning with a message for each of these parts, to the rule in which it is.
@@ -39,16 +85,36 @@ fn add_warnings<'i>(
     message: &'static str,
     parts: &[Span<'i>],
     warnings: &mut Vec<Vec<RuleWarning<'i>>>,
-) -> Result<(), AllocError> {
+) -> Result<(), AllocError>
+    ensures alike { OnOk result (length warnings.new.items ≡ length warnings.old.items) }
+    ensures definite { OnOk result ((rules : List SpannedRule)
+        → AllSaid message.now (map piece_of parts.now) rules
+        → AreWarnings rules warnings.old.items → AreWarnings rules warnings.new.items) }
+{
     for part in parts {
         let start = part.start();
         let after = sources.partition_point(|rule| rule.start <= start);
-        if let Some(others) = warnings.get_mut(after.saturating_sub(1)) {
-            others.push(RuleWarning {
-                message,
-                text: part.as_str(),
-            })?;
-        }
+        let warning = RuleWarning {
+            message,
+            text: part.as_str(),
+        };
+        add_warning(after.saturating_sub(1), warning, warnings)?;
+    }
+    Ok(())
+}
+
+/// Adds a warning to those of the rule of a number, if there is one.
+fn add_warning<'i>(
+    rule: usize,
+    warning: RuleWarning<'i>,
+    warnings: &mut Vec<Vec<RuleWarning<'i>>>,
+) -> Result<(), AllocError>
+    ensures alike { OnOk result (length warnings.new.items ≡ length warnings.old.items) }
+    ensures definite { OnOk result ((rules : List SpannedRule) → IsWarning rules warning.entry
+        → AreWarnings rules warnings.old.items → AreWarnings rules warnings.new.items) }
+{
+    if let Some(others) = warnings.get_mut(rule) {
+        others.push(warning)?;
     }
     Ok(())
 }

@@ -1,4 +1,5 @@
 pub mod LeafTokens
+pub mod Ordering
 pub mod Readings
 pub mod SimilarReading
 pub mod SimilarTrees

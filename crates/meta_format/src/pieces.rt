@@ -1,4 +1,6 @@
 //! The pieces that a grammar is printed from, and the possible line ends between them.
+ghost use Rattle.std.specs.Prelude.{◌≡◌, ◌||◌, false, max, true};
+ghost use Rattle.meta_format.specs.Separators.{has_blank, has_operator, rank};
 
 /// A piece of the printed text.
 #[derive(Clone, Copy)]
@@ -71,7 +73,11 @@ pub enum Separator {
 
 impl Separator {
     /// Returns the separator before comments that lead an operand or an operator.
-    pub fn before_operand(self) -> Separator {
+    pub fn before_operand(self) -> Separator
+        ensures rank { rank result ≡ rank self }
+        ensures blank { has_blank result ≡ has_blank self }
+        ensures operand { has_operator result ≡ false }
+    {
         match self {
             Separator::Line { is_blank, .. } => Separator::Line {
                 is_blank,
@@ -82,7 +88,10 @@ impl Separator {
     }
 
     /// Returns the separator between such comments and an operator; nothing before an operand.
-    pub fn before_operator(self) -> Separator {
+    pub fn before_operator(self) -> Separator
+        ensures operator { has_operator self ≡ true → result ≡ self }
+        ensures operand { has_operator self ≡ false → result ≡ Separator.Nothing }
+    {
         match self {
             Separator::Line {
                 is_operator: true,
@@ -93,7 +102,11 @@ impl Separator {
     }
 
     /// Joins the separators of two neighbouring words into one that serves both.
-    pub fn join(self, other: Separator) -> Separator {
+    pub fn join(self, other: Separator) -> Separator
+        ensures rank { rank result ≡ max (rank self) (rank other) }
+        ensures blank { has_blank result ≡ (has_blank self || has_blank other) }
+        ensures operator { has_operator result ≡ (has_operator self || has_operator other) }
+    {
         match (self, other) {
             (
                 Separator::Line {

@@ -1,6 +1,7 @@
 //! The command line.
-ghost use Rattle.std.specs.Prelude.{◌≡◌, ◌≢◌, Some, codes};
+ghost use Rattle.std.specs.Prelude.{◌≡◌, ◌≢◌, ◌∷◌, [], IfOk, Some, codes};
 ghost use Rattle.clap.specs.Matches.{found_of, one_text};
+ghost use Rattle.pest_fmt.specs.Arguments.{argument_ids};
 
 use clap::{Arg, ArgAction, ArgMatches, Command};
 use meta_format::{LineEnds, Options};
@@ -45,35 +46,63 @@ impl Delivery {
 }
 
 /// Returns the command line that the program accepts.
-pub fn command<'a>(alloc: Global) -> Result<Command<'a>, AllocError> {
-    let check = Arg::new(alloc, "check")
-        .long("check")
-        .action(ArgAction::SetTrue)
-        .help("Change nothing, show what would change, and end with status 1 if anything would");
-    let stdout = Arg::new(alloc, "stdout")
-        .long("stdout")
-        .action(ArgAction::SetTrue)
-        .conflicts_with("check")?
-        .help("Write to standard output, and leave the files alone");
-    let keep = Arg::new(alloc, "keep-line-ends")
-        .long("keep-line-ends")
-        .action(ArgAction::SetTrue)
-        .help("End lines as the first line of each file ends, and not by a line feed alone");
-    let files = Arg::new(alloc, "FILE")
-        .action(ArgAction::Append)
-        .num_args(1..)
-        .help("A grammar; - or none is standard input, which goes to standard output");
+pub fn command<'a>(alloc: Global) -> Result<Command<'a>, AllocError>
+    ensures { IfOk result (λ command. argument_ids command
+        ≡ codes "check" ∷ codes "stdout" ∷ codes "keep-line-ends" ∷ codes "FILE" ∷ []) }
+{
     Command::new(alloc, "pest-fmt")
+        .bin_name("pest-fmt")?
         .version(VERSION)
         .about("Formats pest grammars")
         .after_help(
             "status: 0 done, 1 something would change or is no grammar, 2 out of memory, \
              3 a file or the command line can't be read, 4 a file or standard output can't be written",
         )
-        .arg(check)?
-        .arg(stdout)?
-        .arg(keep)?
-        .arg(files)
+        .arg(check_argument(alloc))?
+        .arg(stdout_argument(alloc)?)?
+        .arg(line_ends_argument(alloc))?
+        .arg(files_argument(alloc))
+}
+
+/// Returns `--check`.
+fn check_argument<'a>(alloc: Global) -> Arg<'a>
+    ensures { result.id.now ≡ codes "check" }
+{
+    Arg::new(alloc, "check")
+        .long("check")
+        .action(ArgAction::SetTrue)
+        .help("Change nothing, show what would change, and end with status 1 if anything would")
+}
+
+/// Returns `--stdout`.
+fn stdout_argument<'a>(alloc: Global) -> Result<Arg<'a>, AllocError>
+    ensures { IfOk result (λ argument. argument.id.now ≡ codes "stdout") }
+{
+    let stdout = Arg::new(alloc, "stdout")
+        .long("stdout")
+        .action(ArgAction::SetTrue)
+        .conflicts_with("check")?;
+    Ok(stdout.help("Write to standard output, and leave the files alone"))
+}
+
+/// Returns `--keep-line-ends`.
+fn line_ends_argument<'a>(alloc: Global) -> Arg<'a>
+    ensures { result.id.now ≡ codes "keep-line-ends" }
+{
+    Arg::new(alloc, "keep-line-ends")
+        .long("keep-line-ends")
+        .action(ArgAction::SetTrue)
+        .help("End lines as the first line of each file ends, and not by a line feed alone")
+}
+
+/// Returns the argument for the files.
+fn files_argument<'a>(alloc: Global) -> Arg<'a>
+    ensures { result.id.now ≡ codes "FILE" }
+{
+    Arg::new(alloc, "FILE")
+        .action(ArgAction::Append)
+        .num_args(1..)
+        .help("A grammar; - or none is standard input, which goes to standard output")
 }
 
 /// Returns the delivery that a command line asks for.

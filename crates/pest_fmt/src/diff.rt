@@ -1,4 +1,6 @@
 //! The difference of two texts, as a unified diff.
+ghost use Rattle.std.specs.Prelude.{◌≡◌, [], IfOk, string_bytes};
+
 use std::alloc::{AllocError, Global};
 
 /// The number of lines shown before and after a change.
@@ -111,10 +113,18 @@ fn add_run(runs: &mut Vec<Run>, run: Run) -> Result<(), AllocError> {
 }
 
 /// Returns the unified diff of two texts of a file, or nothing if they are equal.
-pub fn diff(alloc: Global, name: &str, old: &str, new: &str) -> Result<String, AllocError> {
+pub fn diff(alloc: Global, name: &str, old: &str, new: &str) -> Result<String, AllocError>
+    ensures { old.now ≡ new.now → IfOk result (λ changes. string_bytes changes ≡ []) }
+{
     if old == new {
-        return Ok(String::new(alloc));
+        Ok(String::new(alloc))
+    } else {
+        print_changes(alloc, name, old, new)
     }
+}
+
+/// Returns the unified diff of two texts of a file.
+fn print_changes(alloc: Global, name: &str, old: &str, new: &str) -> Result<String, AllocError> {
     let old_lines = lines_of(alloc, old)?;
     let new_lines = lines_of(alloc, new)?;
     let runs = runs_of(alloc, &old_lines, &new_lines)?;

@@ -7,14 +7,16 @@ use meta_base::runtime::{Error, InputLocation};
 use meta_reader::rules::common_name;
 use meta_syntax::grammar::PestParser;
 use std::alloc::{AllocError, Global};
-use std::io;
 use tool_support::escape::{escape, escape_lines};
 
 /// The greatest number of expected rules that a message names.
 const NAMED: usize = 5;
 
 /// Returns the message that a file can't be read, and why.
-pub fn cannot_read(alloc: Global, name: &str, why: &io::Error) -> Result<String, AllocError> {
+pub fn cannot_read(alloc: Global, name: &str, why: &str) -> Result<String, AllocError>
+    ensures { IfOk result (λ message. string_bytes message ≡ codes "cannot read "
+        ++ (escaped_bytes name.now ++ (codes ": " ++ (why.now ++ codes "\n")))) }
+{
     let name = escape(alloc, name)?;
     format!(in alloc; "cannot read {name}: {why}\n")
 }
@@ -29,7 +31,10 @@ pub fn is_not_utf8(alloc: Global, name: &str) -> Result<String, AllocError>
 }
 
 /// Returns the message that a file can't be written, and why.
-pub fn cannot_write(alloc: Global, name: &str, why: &io::Error) -> Result<String, AllocError> {
+pub fn cannot_write(alloc: Global, name: &str, why: &str) -> Result<String, AllocError>
+    ensures { IfOk result (λ message. string_bytes message ≡ codes "cannot write "
+        ++ (escaped_bytes name.now ++ (codes ": " ++ (why.now ++ codes "\n")))) }
+{
     let name = escape(alloc, name)?;
     format!(in alloc; "cannot write {name}: {why}\n")
 }

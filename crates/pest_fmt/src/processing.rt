@@ -2,7 +2,7 @@
 ghost use Rattle.std.specs.Prelude.{◌≡◌, ◌≢◌, IfOk, false};
 ghost use Rattle.std.specs.Io.KnownBytes.{Appends};
 ghost use Rattle.meta_format.specs.Formatting.{IsFormatted};
-ghost use Rattle.pest_fmt.specs.Processing.{IsReplacement, PrintsFormatted};
+ghost use Rattle.pest_fmt.specs.Processing.{IsKnown, IsKnownEnd, IsReplacement, PrintsFormatted};
 
 use crate::arguments::{Delivery, Target};
 use crate::diff::diff;
@@ -53,6 +53,7 @@ pub fn process<W: Write, E: Write>(
         → IsFormatted options.line_ends file.entry.text.now file.entry.text.now) }
     ensures replaced { IfOk result (IsReplacement options.line_ends delivery.target file.entry.text.now) }
     ensures unprinted { delivery.target ≡ Target.File → out.new ≡ out.old }
+    ensures ended { IfOk result IsKnownEnd }
 {
     match outcome_of(alloc, file.text, options)? {
         FileChange::Same => match delivery.target {
@@ -101,7 +102,8 @@ fn print_difference<W: Write>(
     delivery: Delivery,
     out: &mut Output<W>,
 ) -> Result<Status, AllocError>
-    ensures { IfOk result (λ status. status ≢ Status.Done) }
+    ensures changed { IfOk result (λ status. status ≢ Status.Done) }
+    ensures known { IfOk result IsKnown }
 {
     let name = escape(alloc, file.name)?;
     let changes = diff(alloc, name.as_str(), file.text, formatted)?;
@@ -118,8 +120,9 @@ fn print<W: Write>(
     delivery: Delivery,
     out: &mut Output<W>,
 ) -> Result<Status, AllocError>
-    ensures { IfOk result (λ status. delivery.is_to_terminal ≡ false → status ≡ Status.Done
+    ensures written { IfOk result (λ status. delivery.is_to_terminal ≡ false → status ≡ Status.Done
         → Appends (W.contents out.old.writer) (W.contents out.new.writer) text.now) }
+    ensures known { IfOk result IsKnown }
 {
     let written = if delivery.is_to_terminal {
         let shown = escape_lines(alloc, text)?;

@@ -1,5 +1,6 @@
 //! The program's work on each file.
-ghost use Rattle.std.specs.Prelude.{◌≡◌};
+ghost use Rattle.std.specs.Prelude.{◌≡◌, [], IfOk};
+ghost use Rattle.pest_fmt.specs.Processing.{IsKnown};
 
 use crate::arguments::{Delivery, Target};
 use crate::messages::{cannot_read, cannot_write, is_not_utf8};
@@ -19,15 +20,17 @@ pub fn format_files(
     names: &[&str],
     delivery: Delivery,
     options: Options,
-) -> Result<Status, AllocError> {
+) -> Result<Status, AllocError>
+    ensures known { IfOk result IsKnown }
+    ensures none { names.now ≡ [] → IfOk result (λ status. status ≡ Status.Done) }
+{
     let mut status = Status::Done;
     for name in names {
         let delivery = delivery.for_name(name);
         let one = format_file(rt, name, delivery, options)?;
         status = status.worse(one);
-        let is_written = !matches!(one, Status::Unwritable);
-        if !is_written && !matches!(delivery.target, Target::File) {
-            break;
+        if matches!(one, Status::Unwritable) && !matches!(delivery.target, Target::File) {
+            return Ok(status);
         }
     }
     Ok(status)
@@ -39,12 +42,15 @@ fn format_file(
     name: &str,
     delivery: Delivery,
     options: Options,
-) -> Result<Status, AllocError> {
+) -> Result<Status, AllocError>
+    ensures { IfOk result IsKnown }
+{
     let alloc = rt.alloc();
     let bytes = match read_input(rt, name) {
         Ok(bytes) => bytes,
         Err(error) => {
-            let message = cannot_read(alloc, name, &error)?;
+            let why = format!(in alloc; "{error}")?;
+            let message = cannot_read(alloc, name, why.as_str())?;
             return Ok(report(rt, message.as_str(), Status::Unreadable));
         }
     };
@@ -65,11 +71,15 @@ fn format_file(
 }
 
 /// Replaces a file by its formatted text.
-fn put_back(rt: &HostRuntime, name: &str, formatted: &str) -> Result<Status, AllocError> {
+fn put_back(rt: &HostRuntime, name: &str, formatted: &str) -> Result<Status, AllocError>
+    ensures { IfOk result IsKnown }
+{
     match replace(rt, name, formatted.as_bytes()) {
         Ok(()) => Ok(Status::Done),
         Err(error) => {
-            let message = cannot_write(rt.alloc(), name, &error)?;
+            let alloc = rt.alloc();
+            let why = format!(in alloc; "{error}")?;
+            let message = cannot_write(alloc, name, why.as_str())?;
             Ok(report(rt, message.as_str(), Status::Unwritable))
         }
     }

@@ -1,0 +1,12 @@
+use Rattle.std.proofs.Common.{◌≡◌, List, length, map}
+use Rattle.meta_base.specs.Pieces.Saying.{piece_of}
+use Rattle.meta_doc.specs.Warnings.{AllSaid, AreWarnings}
+use Rattle.meta_spanned.specs.Spanned.{SpannedRule}
+use Rattle.meta_doc.proofs.warnings.add_warnings.Given as goal
+
+abbrev pub invariant-loop-part : goal.invariant-loop-part
+invariant-loop-part l = record {
+  alike : length l.warnings.items ≡ length l.fn.warnings.items;
+  definite : (rules : List SpannedRule) → AllSaid l.message (map piece_of l.parts) rules
+      → AreWarnings rules l.fn.warnings.items → AreWarnings rules l.warnings.items;
+}

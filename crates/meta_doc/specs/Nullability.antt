@@ -1,0 +1,16 @@
+-- Which rules may match the empty text.
+use Rattle.std.specs.Prelude.{◌≡◌, ℕ, List, Bool, Some, slice_get}
+use Rattle.std.specs.Bool.{Decides}
+use Rattle.meta_analysis.specs.Analysis.{IsAnalysis}
+use Rattle.meta_analysis.specs.Names.{grammar_of}
+use Rattle.meta_analysis.specs.declared.analysis.Analysis.{Analysis}
+use Rattle.meta_base.specs.Language.WellFormed.{IsNullable}
+use Rattle.meta_spanned.specs.Erasure.{without_spans}
+use Rattle.meta_spanned.specs.Nodes.{view}
+use Rattle.meta_spanned.specs.declared.node.ParserRule.{ParserRule}
+
+-- the answer is whether the rule of a number may match the empty text, if there is such a rule
+abbrev pub DecidesNullable : Analysis → ℕ → Bool → Type 0
+DecidesNullable analysis number answer = (rules : List ParserRule) (rule : ParserRule)
+    → IsAnalysis rules analysis → slice_get rules number ≡ Some rule
+    → Decides answer (IsNullable (grammar_of rules) (without_spans (view rule.node)))
