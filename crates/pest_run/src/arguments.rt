@@ -40,40 +40,6 @@ pub struct Request<'a> {
 
 /// Returns the command line that the program accepts.
 pub fn command<'a>(alloc: Global) -> Result<Command<'a>, AllocError> {
-    let format = Arg::new(alloc, "format")
-        .long("format")
-        .value_parser(["text", "json", "lines"].as_slice())
-        .default_value("text")
-        .help("How the trees are written");
-    let optimized = Arg::new(alloc, "optimized")
-        .long("optimized")
-        .action(ArgAction::SetTrue)
-        .help(
-            "Match by the optimized rules, as pest's own parsers do; \
-             a rule like (x ~ y)* ~ x then matches more",
-        );
-    let list = Arg::new(alloc, "list-rules")
-        .long("list-rules")
-        .action(ArgAction::SetTrue)
-        .conflicts_with("RULE")?
-        .help("Print the names of the grammar's rules, a line each, and match no text");
-    let steps = Arg::new(alloc, "steps")
-        .long("steps")
-        .value_name("N")
-        .value_parser(ValueParser::unsigned(1, u64::MAX))
-        .help(
-            "Stop a match after N steps; where it is not given, after 100000 for each byte of the text \
-             and 100000000 more",
-        );
-    let grammar = Arg::new(alloc, "GRAMMAR")
-        .required(true)
-        .help("The file of a grammar");
-    let rule = Arg::new(alloc, "RULE")
-        .required_unless_present("list-rules")?
-        .help("The rule that the text is matched by");
-    let text = Arg::new(alloc, "TEXT")
-        .default_value("-")
-        .help("The file of the text; - is standard input");
     Command::new(alloc, "pest-run")
         .bin_name("pest-run")?
         .version(VERSION)
@@ -83,13 +49,74 @@ pub fn command<'a>(alloc: Global) -> Result<Command<'a>, AllocError> {
              or does not match the text, 2 out of memory, 3 a file or the command line can't be read, \
              4 output refused, 5 the run was stopped",
         )
-        .arg(format)?
-        .arg(optimized)?
-        .arg(steps)?
-        .arg(list)?
-        .arg(grammar)?
-        .arg(rule)?
-        .arg(text)
+        .arg(format_argument(alloc))?
+        .arg(optimized_argument(alloc))?
+        .arg(steps_argument(alloc))?
+        .arg(list_argument(alloc)?)?
+        .arg(grammar_argument(alloc))?
+        .arg(rule_argument(alloc)?)?
+        .arg(text_argument(alloc))
+}
+
+/// Returns `--format`.
+fn format_argument<'a>(alloc: Global) -> Arg<'a> {
+    Arg::new(alloc, "format")
+        .long("format")
+        .value_parser(["text", "json", "lines"].as_slice())
+        .default_value("text")
+        .help("How the trees are written")
+}
+
+/// Returns `--optimized`.
+fn optimized_argument<'a>(alloc: Global) -> Arg<'a> {
+    Arg::new(alloc, "optimized")
+        .long("optimized")
+        .action(ArgAction::SetTrue)
+        .help(
+            "Match by the optimized rules, as pest's own parsers do; \
+             a rule like (x ~ y)* ~ x then matches more",
+        )
+}
+
+/// Returns `--steps`.
+fn steps_argument<'a>(alloc: Global) -> Arg<'a> {
+    Arg::new(alloc, "steps")
+        .long("steps")
+        .value_name("N")
+        .value_parser(ValueParser::unsigned(1, u64::MAX))
+        .help(
+            "Stop a match after N steps; where it is not given, after 100000 for each byte of the text \
+             and 100000000 more",
+        )
+}
+
+/// Returns `--list-rules`.
+fn list_argument<'a>(alloc: Global) -> Result<Arg<'a>, AllocError> {
+    let list = Arg::new(alloc, "list-rules")
+        .long("list-rules")
+        .action(ArgAction::SetTrue)
+        .conflicts_with("RULE")?;
+    Ok(list.help("Print the names of the grammar's rules, a line each, and match no text"))
+}
+
+/// Returns the argument for the grammar.
+fn grammar_argument<'a>(alloc: Global) -> Arg<'a> {
+    Arg::new(alloc, "GRAMMAR")
+        .required(true)
+        .help("The file of a grammar")
+}
+
+/// Returns the argument for the rule.
+fn rule_argument<'a>(alloc: Global) -> Result<Arg<'a>, AllocError> {
+    let rule = Arg::new(alloc, "RULE").required_unless_present("list-rules")?;
+    Ok(rule.help("The rule that the text is matched by"))
+}
+
+/// Returns the argument for the text.
+fn text_argument<'a>(alloc: Global) -> Arg<'a> {
+    Arg::new(alloc, "TEXT")
+        .default_value("-")
+        .help("The file of the text; - is standard input")
 }
 
 /// Returns the format that a command line asks for.

@@ -19,6 +19,7 @@ mod run;
 mod sources;
 
 use arguments::{Request, RuleForm, asks_for_rules, command, form_of, format_of, steps_of};
+use clap::ArgMatches;
 use forms::note_forms;
 use listing::list_file;
 use run::run_files;
@@ -96,6 +97,22 @@ fn print_usage(rt: &HostRuntime, error: &clap::Error) -> Result<Status, AllocErr
     }
 }
 
+/// Does what a command line asks for, and returns the status.
+fn answer_request(rt: &HostRuntime, matches: &ArgMatches<'_>) -> Result<u8, AllocError> {
+    let grammar = source(rt, matches.get_str("GRAMMAR").unwrap_or(""))?;
+    if asks_for_rules(matches) {
+        return Ok(list_names(rt, &grammar));
+    }
+    let text = source(rt, matches.get_str("TEXT").unwrap_or("-"))?;
+    let request = Request {
+        rule: matches.get_str("RULE").unwrap_or(""),
+        format: format_of(matches),
+        form: form_of(matches),
+        steps: steps_of(matches),
+    };
+    Ok(match_files(rt, &grammar, &text, request))
+}
+
 /// Returns the status for the words of the command line.
 fn answer(rt: &HostRuntime) -> Result<u8, clap::Error> {
     let alloc = rt.alloc();
@@ -104,22 +121,10 @@ fn answer(rt: &HostRuntime) -> Result<u8, clap::Error> {
         return Ok(Status::Unreadable.code());
     };
     let words: Vec<String> = words.collect(alloc)?;
-    let matches = match command(alloc)?.try_get_matches_from(words.as_slice()) {
-        Ok(matches) => matches,
-        Err(error) => return Ok(print_usage(rt, &error)?.code()),
-    };
-    let grammar = source(rt, matches.get_str("GRAMMAR").unwrap_or(""))?;
-    if asks_for_rules(&matches) {
-        return Ok(list_names(rt, &grammar));
+    match command(alloc)?.try_get_matches_from(words.as_slice()) {
+        Ok(matches) => Ok(answer_request(rt, &matches)?),
+        Err(error) => Ok(print_usage(rt, &error)?.code()),
     }
-    let text = source(rt, matches.get_str("TEXT").unwrap_or("-"))?;
-    let request = Request {
-        rule: matches.get_str("RULE").unwrap_or(""),
-        format: format_of(&matches),
-        form: form_of(&matches),
-        steps: steps_of(&matches),
-    };
-    Ok(match_files(rt, &grammar, &text, request))
 }
 
 fn main(rt: HostRuntime) -> ExitCode {
