@@ -1,12 +1,13 @@
 -- The list of builtins, and the names in it.
-use Rattle.std.proofs.Common.{◌≡◌, ◌∙◌, ◌<◌, ◌≤◌, ◌+◌, ◌||◌, List, [], ◌∷◌, Bool, true, false, Some, if◌then◌else◌, ℕ, suc, refl, sym, ap, map, length, drop, get_or, bytes_eq, add-one}
+use Rattle.std.proofs.Common.{◌≡◌, ◌∙◌, ◌<◌, ◌≤◌, ◌+◌, ◌&&◌, ◌||◌, List, [], ◌∷◌, Bool, true, false, Some, if◌then◌else◌, ℕ, suc, refl, sym, ap, map, length, drop, get_or, bytes_eq, add-one}
 use Rattle.std.proofs.Math.Seq.{drop-cons}
 use Rattle.std.proofs.Math.ListN.{drop_of_length-le}
 use Rattle.std.specs.Str.{IsUtf8, chars}
+use Rattle.std.proofs.lemmas.Bool.{and_parts, false_from_ne_true}
 use Rattle.std.proofs.lemmas.Slice.Eq.{bytes_eq-Decides}
 use Rattle.meta_base.specs.Language.Text.{Text}
 use Rattle.meta_base.specs.Language.Builtins.{Named, builtin_of, builtins, is_one_of, looked_up}
-use Rattle.meta_builtins.specs.Builtins.{builtin_names, entry_of, meaning_of, name_of, property_of}
+use Rattle.meta_builtins.specs.Builtins.{begins_with_capital, builtin_names, entry_of, meaning_of, name_of, property_of}
 use Rattle.meta_builtins.specs.declared.builtin.Builtin.{Builtin}
 use Rattle.meta_builtins.specs.declared.builtin.Builtin.TheVariants as is
 use Rattle.meta_builtins.specs.declared.char_set.CharSet.TheVariants as set
@@ -104,3 +105,22 @@ unlisted bs v e h = ap (λ ns. is_one_of ns v) (sym (names_of_all bs e)) ∙ h
 
 pub unnamed : (v : Text) → IsUtf8 v → is_one_of builtin_names v ≡ false → is_one_of builtin_names (chars v) ≡ false
 unnamed v u h = sym (one_of_same builtin_names v names_ascii u) ∙ h
+
+-- the names of all begin with capital letters, so a name that does not is none of them
+abbrev all_capital : List Text → Bool
+all_capital [] = true
+all_capital (t ∷ ts) = begins_with_capital t && all_capital ts
+
+names_capital : all_capital builtin_names ≡ true
+unfolding builtins
+names_capital = refl
+
+other_names : (ts : List Text) (n : Text) → all_capital ts ≡ true → begins_with_capital n ≡ false → is_one_of ts n ≡ false
+other_names [] n h k = refl
+other_names (t ∷ ts) n h k =
+    let (i, j) = and_parts (begins_with_capital t) (all_capital ts) h in
+    let differs : bytes_eq t n ≡ false = false_from_ne_true (bytes_eq t n) (λ e. let same : t ≡ n = (bytes_eq-Decides t n).0 e in cc) in
+    ap (λ b. b || is_one_of ts n) differs ∙ other_names ts n j k
+
+pub not_capital : (n : Text) → begins_with_capital n ≡ false → is_one_of builtin_names n ≡ false
+not_capital n k = other_names builtin_names n names_capital k

@@ -1,5 +1,5 @@
 -- The builtins of code: their names, and what these mean in the language.
-use Rattle.std.specs.Prelude.{List, Option, Some, None, Bool, true, false, if◌then◌else◌, map, codes}
+use Rattle.std.specs.Prelude.{List, [], ◌∷◌, Option, Some, None, Bool, true, false, ◌&&◌, nat_lt, if◌then◌else◌, map, codes}
 use Rattle.meta_base.specs.Language.Text.{Text}
 use Rattle.meta_base.specs.Language.Builtins as language
 use Rattle.meta_base.specs.Language.Builtins.{Named, builtins, is_one_of, property_names}
@@ -66,3 +66,8 @@ changes_stack language.Pop = true
 changes_stack language.Drop = true
 changes_stack language.PeekAll = false
 changes_stack language.PopAll = true
+
+-- a text begins with a capital letter of ASCII
+abbrev pub begins_with_capital : Text → Bool
+begins_with_capital [] = false
+begins_with_capital (c ∷ t) = nat_lt 64 c && nat_lt c 91

@@ -1,7 +1,7 @@
 //! The builtins, by name.
 ghost use Rattle.std.specs.Prelude.{◌≡◌, IfNone, IfSome, chars, false, map};
 ghost use Rattle.meta_base.specs.Language.Builtins.{builtins, is_one_of};
-ghost use Rattle.meta_builtins.specs.Builtins.{builtin_names, changes_stack, entry_of, is_nullable, meaning_of, name_of};
+ghost use Rattle.meta_builtins.specs.Builtins.{begins_with_capital, builtin_names, changes_stack, entry_of, is_nullable, meaning_of, name_of};
 
 use crate::char_set::CharSet;
 
@@ -66,6 +66,9 @@ impl Builtin {
         ensures unwritten { IfNone result (is_one_of builtin_names name.now ≡ false) }
         ensures unnamed { IfNone result (is_one_of builtin_names (chars name.now) ≡ false) }
     {
+        if !begins_with_capital(name) {
+            return None;
+        }
         for builtin in Builtin::all() {
             if builtin.name() == name {
                 return Some(*builtin);
@@ -121,5 +124,15 @@ impl Builtin {
             | Builtin::Peek
             | Builtin::PeekAll => false,
         }
+    }
+}
+
+/// Reports whether a name begins with a capital letter of ASCII, as the names of all builtins do.
+fn begins_with_capital(name: &str) -> bool
+    ensures { result ≡ begins_with_capital name.now }
+{
+    match name.as_bytes().first() {
+        Some(first) => b'A' <= *first && *first <= b'Z',
+        None => false,
     }
 }

@@ -1,8 +1,13 @@
 use Rattle.std.proofs.Common.{◌≡◌, false, sym, ◌∙◌, ap, bytes_eq}
 use Rattle.meta_base.specs.Language.Builtins.{is_one_of}
 use Rattle.meta_builtins.specs.Builtins.{builtin_names, name_of}
-use Rattle.meta_builtins.proofs.BuiltinLemmas.{found_named, next_named, none_left, unlisted, unnamed}
+use Rattle.meta_builtins.proofs.BuiltinLemmas.{found_named, next_named, none_left, not_capital, unlisted, unnamed}
 use Rattle.meta_builtins.proofs.builtin.Builtin.from_name.Goals as goal
+
+pub returns-then-not-begins_with_capital : goal.returns-then-not-begins_with_capital
+returns-then-not-begins_with_capital c =
+    let listed = not_capital c.args.name.now (sym c.begins_with_capital.ensures ∙ c.if-not-begins_with_capital.true) in
+    record { written = tt; named = tt; unwritten = listed; unnamed = unnamed c.args.name.now c.utf8.name listed }
 
 pub returns-then-eq-clause-named : goal.returns-then-eq-clause-named
 returns-then-eq-clause-named c = found_named _ c.name.result.now c.args.name.now c.name.ensures (sym c.eq.ensures ∙ c.if-eq.true)
