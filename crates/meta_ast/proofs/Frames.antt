@@ -151,12 +151,12 @@ module _ {K F : Type 0} (closes : K → F → Expression → Expression → F �
 
 module _ {E S : Type 0} (says : E → Expression) where
   work_aside-last : (ks : List (WalkFrame E S)) (k : WalkFrame E S) → work_aside says (ks ++ (k ∷ [])) ≡ work_aside says ks + work_aside says (k ∷ [])
-  work_aside-last [] (frame.Around s) = omega arith
-  work_aside-last [] (frame.Before j x) = omega arith
-  work_aside-last [] (frame.After j x) = omega arith
-  work_aside-last (frame.Around s ∷ ks) k = let h = work_aside-last ks k in omega arith
-  work_aside-last (frame.Before j x ∷ ks) k = let h = work_aside-last ks k in omega arith
-  work_aside-last (frame.After j x ∷ ks) k = let h = work_aside-last ks k in omega arith
+  work_aside-last [] (frame.Around s room) = omega arith
+  work_aside-last [] (frame.Before j room x) = omega arith
+  work_aside-last [] (frame.After j x room) = omega arith
+  work_aside-last (frame.Around s room ∷ ks) k = let h = work_aside-last ks k in omega arith
+  work_aside-last (frame.Before j room x ∷ ks) k = let h = work_aside-last ks k in omega arith
+  work_aside-last (frame.After j x room ∷ ks) k = let h = work_aside-last ks k in omega arith
 
   module _ (stands_for : S → Unary) where
     -- less is left below an expression of no more than `n` nodes
@@ -165,29 +165,30 @@ module _ {E S : Type 0} (says : E → Expression) where
         let h : work_aside says ls ≡ work_aside says ks = ap (work_aside says) e in
         let i : 0 < count_of_nodes whole = some_node whole in
         omega arith
-    opens_less ks ls whole n (onward.Next x) b (one s p q) =
+    opens_less ks ls whole n (onward.Next x) b (one s room p q) =
         let h : count_of_nodes whole ≡ count_of_nodes (says x) + 1 = ap count_of_nodes p ∙ count_of_nodes-around (stands_for s) (says x) in
-        let i : work_aside says ls ≡ work_aside says ks + (1 + 0) = rw q (work_aside-last ks (frame.Around s)) in
+        let i : work_aside says ls ≡ work_aside says ks + (1 + 0) = rw q (work_aside-last ks (frame.Around s room)) in
         omega arith
-    opens_less ks ls whole n (onward.Next x) b (two j y p q) =
-        let h : count_of_nodes whole ≡ count_of_nodes (says x) + count_of_nodes (says y) + 1 = ap count_of_nodes p ∙ count_of_nodes-joined j (says x) (says y) in
-        let i : work_aside says ls ≡ work_aside says ks + (3 * count_of_nodes (says y) + 2 + 0) = rw q (work_aside-last ks (frame.Before j y)) in
+    opens_less ks ls whole n (onward.Next x) b (two j room y p q) =
+        let h : count_of_nodes whole ≡ count_of_nodes (says x) + count_of_nodes (says y.value) + 1 = ap count_of_nodes p ∙ count_of_nodes-joined j (says x) (says y.value) in
+        let i : work_aside says ls ≡ work_aside says ks + (3 * count_of_nodes (says y.value) + 2 + 0) = rw q (work_aside-last ks (frame.Before j room y)) in
         omega arith
 
     -- less is left once the last frame is closed, or its right side is met next
     pub closes_less : (ks ls ms : List (WalkFrame E S)) (d : E) (k : WalkFrame E S) (next : Onward E) → ms ≡ ks ++ (k ∷ []) → Closes says stands_for ks d k next ls → work_left says next ls < work_aside says ms
-    closes_less ks ls ms d (frame.Around s) (onward.Done x) m (enclosed p q) =
-        let h : work_aside says ms ≡ work_aside says ks + (1 + 0) = rw m (work_aside-last ks (frame.Around s)) in
+    closes_less ks ls ms d (frame.Around s room) (onward.Done x) m (enclosed p q) =
+        let h : work_aside says ms ≡ work_aside says ks + (1 + 0) = rw m (work_aside-last ks (frame.Around s room)) in
         let i : work_aside says ls ≡ work_aside says ks = ap (work_aside says) q in
         omega arith
-    closes_less ks ls ms d (frame.After j a) (onward.Done x) m (put_together p q) =
-        let h : work_aside says ms ≡ work_aside says ks + (1 + 0) = rw m (work_aside-last ks (frame.After j a)) in
+    closes_less ks ls ms d (frame.After j a room) (onward.Done x) m (put_together p q) =
+        let h : work_aside says ms ≡ work_aside says ks + (1 + 0) = rw m (work_aside-last ks (frame.After j a room)) in
         let i : work_aside says ls ≡ work_aside says ks = ap (work_aside says) q in
         omega arith
-    closes_less ks ls ms d (frame.Before j x) (onward.Next _) m (turned q) =
-        let h : work_aside says ms ≡ work_aside says ks + (3 * count_of_nodes (says x) + 2 + 0) = rw m (work_aside-last ks (frame.Before j x)) in
-        let i : work_aside says ls ≡ work_aside says ks + (1 + 0) = rw q (work_aside-last ks (frame.After j d)) in
+    closes_less ks ls ms d (frame.Before j room y) (onward.Next x) m (turned left rest p r q) =
+        let h : work_aside says ms ≡ work_aside says ks + (3 * count_of_nodes (says y.value) + 2 + 0) = rw m (work_aside-last ks (frame.Before j room y)) in
+        let i : work_aside says ls ≡ work_aside says ks + (1 + 0) = rw q (work_aside-last ks (frame.After j left rest)) in
+        let e : count_of_nodes (says x) ≡ count_of_nodes (says y.value) = ap (λ z. count_of_nodes (says z)) r in
         omega arith
-    closes_less ks ls ms d (frame.Around s) (onward.Next _) m c = elim c [ ]
-    closes_less ks ls ms d (frame.After j a) (onward.Next _) m c = elim c [ ]
-    closes_less ks ls ms d (frame.Before j x) (onward.Done _) m c = elim c [ ]
+    closes_less ks ls ms d (frame.Around s room) (onward.Next _) m c = elim c [ ]
+    closes_less ks ls ms d (frame.After j a room) (onward.Next _) m c = elim c [ ]
+    closes_less ks ls ms d (frame.Before j room y) (onward.Done _) m c = elim c [ ]

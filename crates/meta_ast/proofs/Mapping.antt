@@ -1,5 +1,6 @@
 -- How maps go on: one node more, one frame less; and how they stop.
 use Rattle.std.proofs.Common.{◌≡◌, List, [], ◌∷◌, ◌++◌, refl, ap, ◌∙◌, subst, sym, Result, Ok, Err}
+use Rattle.std.specs.Global.{Box}
 use Rattle.meta_base.specs.Language.Expression.{Expression}
 use Rattle.meta_base.specs.Language.Expression as e
 use Rattle.meta_base.specs.declared.runtime.faults.Fault.{Fault}
@@ -122,87 +123,89 @@ module _ {F E : Type 0} (says : E → Expression) (step : F → E → Result E F
 
   module _ {S : Type 0} (stands_for : S → Unary) where
     -- a node with one operand, which is to be met next
-    down_one : (ks ls : List (WalkFrame E S)) (s : S) (o y x : E) (f g : F) → step f o (Ok y) g → says y ≡ around (stands_for s) (says x) → ls ≡ ks ++ (frame.Around s ∷ [])
+    down_one : (ks ls : List (WalkFrame E S)) (s : S) (room : Box E) (o y x : E) (f g : F) → step f o (Ok y) g → says y ≡ around (stands_for s) (says x) → ls ≡ ks ++ (frame.Around s room ∷ [])
         → (w : Expression) (k : Progress F) → EndsTopDown says stands_for step (onward.Next x) ls (Ok g) w k → EndsTopDown says stands_for step (onward.Next o) ks (Ok f) w k
-    down_one ks ls s o y x f g c p q w k (d, h, t, a) =
-        let i = split_last (ClosesTopDown says stands_for step) ks (frame.Around s) h k d w (rw q at a) in
+    down_one ks ls s room o y x f g c p q w k (d, h, t, a) =
+        let i = split_last (ClosesTopDown says stands_for step) ks (frame.Around s room) h k d w (rw q at a) in
         (i.middle, i.state, rw (i.last.0, i.last.1) (met_around (stands_for s) (answers c) p t), i.others)
 
     -- a node with two, of which the left one is to be met next
-    down_two : (ks ls : List (WalkFrame E S)) (j : Joint) (o z x y : E) (f g : F) → step f o (Ok z) g → says z ≡ joined j (says x) (says y) → ls ≡ ks ++ (frame.Before j y ∷ [])
+    down_two : (ks ls : List (WalkFrame E S)) (j : Joint) (room y : Box E) (o z x : E) (f g : F) → step f o (Ok z) g → says z ≡ joined j (says x) (says y.value) → ls ≡ ks ++ (frame.Before j room y ∷ [])
         → (w : Expression) (k : Progress F) → EndsTopDown says stands_for step (onward.Next x) ls (Ok g) w k → EndsTopDown says stands_for step (onward.Next o) ks (Ok f) w k
-    down_two ks ls j o z x y f g c p q w k (d, h, t, a) =
-        let i = split_last (ClosesTopDown says stands_for step) ks (frame.Before j y) h k d w (rw q at a) in
+    down_two ks ls j room y o z x f g c p q w k (d, h, t, a) =
+        let i = split_last (ClosesTopDown says stands_for step) ks (frame.Before j room y) h k d w (rw q at a) in
         (i.middle, i.state, rw i.last.2 (met_joined j (answers c) p t i.last.1), i.others)
 
     -- the last frame is closed
-    up_around : (ks ls : List (WalkFrame E S)) (s : S) (x y : E) (f : Progress F) → says y ≡ around (stands_for s) (says x) → ls ≡ ks ++ (frame.Around s ∷ [])
+    up_around : (ks ls : List (WalkFrame E S)) (s : S) (room : Box E) (x y : E) (f : Progress F) → says y ≡ around (stands_for s) (says x) → ls ≡ ks ++ (frame.Around s room ∷ [])
         → (w : Expression) (k : Progress F) → AllClose (ClosesTopDown says stands_for step) ks f (says y) w k → AllClose (ClosesTopDown says stands_for step) ls f (says x) w k
-    up_around ks ls s x y f p q w k a = rw q (last_closes (ClosesTopDown says stands_for step) ks (frame.Around s) f k f (says x) (says y) w (p, refl) a)
+    up_around ks ls s room x y f p q w k a = rw q (last_closes (ClosesTopDown says stands_for step) ks (frame.Around s room) f k f (says x) (says y) w (p, refl) a)
 
-    up_after : (ks ls : List (WalkFrame E S)) (j : Joint) (l x y : E) (f : Progress F) → says y ≡ joined j (says l) (says x) → ls ≡ ks ++ (frame.After j l ∷ [])
+    up_after : (ks ls : List (WalkFrame E S)) (j : Joint) (l room : Box E) (x y : E) (f : Progress F) → says y ≡ joined j (says l.value) (says x) → ls ≡ ks ++ (frame.After j l room ∷ [])
         → (w : Expression) (k : Progress F) → AllClose (ClosesTopDown says stands_for step) ks f (says y) w k → AllClose (ClosesTopDown says stands_for step) ls f (says x) w k
-    up_after ks ls j l x y f p q w k a = rw q (last_closes (ClosesTopDown says stands_for step) ks (frame.After j l) f k f (says x) (says y) w (p, refl) a)
+    up_after ks ls j l room x y f p q w k a = rw q (last_closes (ClosesTopDown says stands_for step) ks (frame.After j l room) f k f (says x) (says y) w (p, refl) a)
 
     -- the left side is done, and the right one is to be met next
-    over_to_right : (ks ls ms : List (WalkFrame E S)) (j : Joint) (x y : E) (f : Progress F) → ls ≡ ks ++ (frame.After j x ∷ []) → ms ≡ ks ++ (frame.Before j y ∷ [])
-        → (w : Expression) (k : Progress F) → EndsTopDown says stands_for step (onward.Next y) ls f w k → AllClose (ClosesTopDown says stands_for step) ms f (says x) w k
-    over_to_right ks ls ms j x y f q r w k (d, h, t, a) =
-        let i = split_last (ClosesTopDown says stands_for step) ks (frame.After j x) h k d w (rw q at a) in
-        rw r (last_closes (ClosesTopDown says stands_for step) ks (frame.Before j y) f k i.state (says x) i.middle w (d, rw i.last.1 t, i.last.0) i.others)
+    over_to_right : (ks ls ms : List (WalkFrame E S)) (j : Joint) (x room y rest : Box E) (f : Progress F) → ls ≡ ks ++ (frame.After j x rest ∷ []) → ms ≡ ks ++ (frame.Before j room y ∷ [])
+        → (w : Expression) (k : Progress F) → EndsTopDown says stands_for step (onward.Next y.value) ls f w k → AllClose (ClosesTopDown says stands_for step) ms f (says x.value) w k
+    over_to_right ks ls ms j x room y rest f q r w k (d, h, t, a) =
+        let i = split_last (ClosesTopDown says stands_for step) ks (frame.After j x rest) h k d w (rw q at a) in
+        rw r (last_closes (ClosesTopDown says stands_for step) ks (frame.Before j room y) f k i.state (says x.value) i.middle w (d, rw i.last.1 t, i.last.0) i.others)
 
     -- from what is opened on, and from what is closed on, a map ends as before
     pub opens_top_down : (ks ls : List (WalkFrame E S)) (o y : E) (f g : F) (next : Onward E) → step f o (Ok y) g → Opens says stands_for (says y) ks next ls
         → (w : Expression) (k : Progress F) → EndsTopDown says stands_for step next ls (Ok g) w k → EndsTopDown says stands_for step (onward.Next o) ks (Ok f) w k
     opens_top_down ks ls o y f g (onward.Done x) c (leaf p q e) w k a = (says y, Ok g, met_leaf (answers c) q, rw (e, p) at a)
-    opens_top_down ks ls o y f g (onward.Next x) c (one s p q) w k t = down_one ks ls s o y x f g c p q w k t
-    opens_top_down ks ls o y f g (onward.Next x) c (two j z p q) w k t = down_two ks ls j o y x z f g c p q w k t
+    opens_top_down ks ls o y f g (onward.Next x) c (one s room p q) w k t = down_one ks ls s room o y x f g c p q w k t
+    opens_top_down ks ls o y f g (onward.Next x) c (two j room z p q) w k t = down_two ks ls j room z o y x f g c p q w k t
 
     pub closes_top_down : (ks ls ms : List (WalkFrame E S)) (d : E) (k : WalkFrame E S) (next : Onward E) (f : Progress F) → ms ≡ ks ++ (k ∷ []) → Closes says stands_for ks d k next ls
         → (w : Expression) (t : Progress F) → EndsTopDown says stands_for step next ls f w t → EndsTopDown says stands_for step (onward.Done d) ms f w t
-    closes_top_down ks ls ms d (frame.Around s) (onward.Done x) f m (enclosed p q) w t a = up_around ks ms s d x f p m w t (rw q at a)
-    closes_top_down ks ls ms d (frame.After j l) (onward.Done x) f m (put_together p q) w t a = up_after ks ms j l d x f p m w t (rw q at a)
-    closes_top_down ks ls ms d (frame.Before j x) (onward.Next _) f m (turned q) w t a = over_to_right ks ls ms j d x f q m w t a
-    closes_top_down ks ls ms d (frame.Around s) (onward.Next _) f m c w t a = elim c [ ]
-    closes_top_down ks ls ms d (frame.After j l) (onward.Next _) f m c w t a = elim c [ ]
-    closes_top_down ks ls ms d (frame.Before j x) (onward.Done _) f m c w t a = elim c [ ]
+    closes_top_down ks ls ms d (frame.Around s room) (onward.Done x) f m (enclosed p q) w t a = up_around ks ms s room d x f p m w t (rw q at a)
+    closes_top_down ks ls ms d (frame.After j l room) (onward.Done x) f m (put_together p q) w t a = up_after ks ms j l room d x f p m w t (rw q at a)
+    closes_top_down ks ls ms d (frame.Before j room y) (onward.Next x) f m (turned done rest p r q) w t a =
+        subst (λ z. AllClose (ClosesTopDown says stands_for step) ms f (says z) w t) p (over_to_right ks ls ms j done room y rest f q m w t (subst (λ z. EndsTopDown says stands_for step (onward.Next z) ls f w t) r a))
+    closes_top_down ks ls ms d (frame.Around s room) (onward.Next _) f m c w t a = elim c [ ]
+    closes_top_down ks ls ms d (frame.After j l room) (onward.Next _) f m c w t a = elim c [ ]
+    closes_top_down ks ls ms d (frame.Before j room y) (onward.Done _) f m c w t a = elim c [ ]
 
     -- the same of maps from the leaves up
-    open_one : (ks ls : List (WalkFrame E S)) (s : S) (o x : E) (f : Progress F) → says o ≡ around (stands_for s) (says x) → ls ≡ ks ++ (frame.Around s ∷ [])
+    open_one : (ks ls : List (WalkFrame E S)) (s : S) (room : Box E) (o x : E) (f : Progress F) → says o ≡ around (stands_for s) (says x) → ls ≡ ks ++ (frame.Around s room ∷ [])
         → (w : Expression) (k : Progress F) → EndsBottomUp says stands_for step (onward.Next x) ls f w k → EndsBottomUp says stands_for step (onward.Next o) ks f w k
-    open_one ks ls s o x f p q w k (d, h, t, a) =
-        let i = split_last (ClosesBottomUp says stands_for step) ks (frame.Around s) h k d w (rw q at a) in
+    open_one ks ls s room o x f p q w k (d, h, t, a) =
+        let i = split_last (ClosesBottomUp says stands_for step) ks (frame.Around s room) h k d w (rw q at a) in
         (i.middle, i.state, left_around (stands_for s) p t i.last, i.others)
 
-    open_two : (ks ls : List (WalkFrame E S)) (j : Joint) (o x y : E) (f : Progress F) → says o ≡ joined j (says x) (says y) → ls ≡ ks ++ (frame.Before j y ∷ [])
+    open_two : (ks ls : List (WalkFrame E S)) (j : Joint) (room y : Box E) (o x : E) (f : Progress F) → says o ≡ joined j (says x) (says y.value) → ls ≡ ks ++ (frame.Before j room y ∷ [])
         → (w : Expression) (k : Progress F) → EndsBottomUp says stands_for step (onward.Next x) ls f w k → EndsBottomUp says stands_for step (onward.Next o) ks f w k
-    open_two ks ls j o x y f p q w k (d, h, t, a) =
-        let i = split_last (ClosesBottomUp says stands_for step) ks (frame.Before j y) h k d w (rw q at a) in
+    open_two ks ls j room y o x f p q w k (d, h, t, a) =
+        let i = split_last (ClosesBottomUp says stands_for step) ks (frame.Before j room y) h k d w (rw q at a) in
         (i.middle, i.state, left_joined j p t i.last.2 i.last.3, i.others)
 
-    turn_to_right : (ks ls ms : List (WalkFrame E S)) (j : Joint) (x y : E) (f : Progress F) → ls ≡ ks ++ (frame.After j x ∷ []) → ms ≡ ks ++ (frame.Before j y ∷ [])
-        → (w : Expression) (k : Progress F) → EndsBottomUp says stands_for step (onward.Next y) ls f w k → AllClose (ClosesBottomUp says stands_for step) ms f (says x) w k
-    turn_to_right ks ls ms j x y f q r w k (d, h, t, a) =
-        let i = split_last (ClosesBottomUp says stands_for step) ks (frame.After j x) h k d w (rw q at a) in
-        rw r (last_closes (ClosesBottomUp says stands_for step) ks (frame.Before j y) f k i.state (says x) i.middle w (d, h, t, i.last) i.others)
+    turn_to_right : (ks ls ms : List (WalkFrame E S)) (j : Joint) (x room y rest : Box E) (f : Progress F) → ls ≡ ks ++ (frame.After j x rest ∷ []) → ms ≡ ks ++ (frame.Before j room y ∷ [])
+        → (w : Expression) (k : Progress F) → EndsBottomUp says stands_for step (onward.Next y.value) ls f w k → AllClose (ClosesBottomUp says stands_for step) ms f (says x.value) w k
+    turn_to_right ks ls ms j x room y rest f q r w k (d, h, t, a) =
+        let i = split_last (ClosesBottomUp says stands_for step) ks (frame.After j x rest) h k d w (rw q at a) in
+        rw r (last_closes (ClosesBottomUp says stands_for step) ks (frame.Before j room y) f k i.state (says x.value) i.middle w (d, h, t, i.last) i.others)
 
     pub opens_bottom_up : (ks ls : List (WalkFrame E S)) (o : E) (f : Progress F) (next : Onward E) → Opens says stands_for (says o) ks next ls
         → (w : Expression) (k : Progress F) → EndsBottomUp says stands_for step next ls f w k → EndsBottomUp says stands_for step (onward.Next o) ks f w k
     opens_bottom_up ks ls o f (onward.Done x) (leaf p q e) w k (d, r, b, a) = (d, r, left_leaf q (rw p at b), rw e at a)
-    opens_bottom_up ks ls o f (onward.Next x) (one s p q) w k t = open_one ks ls s o x f p q w k t
-    opens_bottom_up ks ls o f (onward.Next x) (two j y p q) w k t = open_two ks ls j o x y f p q w k t
+    opens_bottom_up ks ls o f (onward.Next x) (one s room p q) w k t = open_one ks ls s room o x f p q w k t
+    opens_bottom_up ks ls o f (onward.Next x) (two j room y p q) w k t = open_two ks ls j room y o x f p q w k t
 
     -- a call at what is done, and its frame closed
     pub closes_bottom_up : (ks ls ms : List (WalkFrame E S)) (o d : E) (k : WalkFrame E S) (next : Onward E) (f g : F) → step f o (Ok d) g → ms ≡ ks ++ (k ∷ []) → Closes says stands_for ks d k next ls
         → (w : Expression) (t : Progress F) → EndsBottomUp says stands_for step next ls (Ok g) w t → EndsBottomUp says stands_for step (onward.Done o) ms (Ok f) w t
-    closes_bottom_up ks ls ms o d (frame.Around s) (onward.Done x) f g c m (enclosed p q) w t (v, r, b, a) =
-        (says d, Ok g, answers c, rw m (last_closes (ClosesBottomUp says stands_for step) ks (frame.Around s) (Ok g) t r (says d) v w (rw p at b) (rw q at a)))
-    closes_bottom_up ks ls ms o d (frame.After j l) (onward.Done x) f g c m (put_together p q) w t (v, r, b, a) =
-        (says d, Ok g, answers c, rw m (last_closes (ClosesBottomUp says stands_for step) ks (frame.After j l) (Ok g) t r (says d) v w (rw p at b) (rw q at a)))
-    closes_bottom_up ks ls ms o d (frame.Before j x) (onward.Next _) f g c m (turned q) w t a = (says d, Ok g, answers c, turn_to_right ks ls ms j d x (Ok g) q m w t a)
-    closes_bottom_up ks ls ms o d (frame.Around s) (onward.Next _) f g c m h w t a = elim h [ ]
-    closes_bottom_up ks ls ms o d (frame.After j l) (onward.Next _) f g c m h w t a = elim h [ ]
-    closes_bottom_up ks ls ms o d (frame.Before j x) (onward.Done _) f g c m h w t a = elim h [ ]
+    closes_bottom_up ks ls ms o d (frame.Around s room) (onward.Done x) f g c m (enclosed p q) w t (v, r, b, a) =
+        (says d, Ok g, answers c, rw m (last_closes (ClosesBottomUp says stands_for step) ks (frame.Around s room) (Ok g) t r (says d) v w (rw p at b) (rw q at a)))
+    closes_bottom_up ks ls ms o d (frame.After j l room) (onward.Done x) f g c m (put_together p q) w t (v, r, b, a) =
+        (says d, Ok g, answers c, rw m (last_closes (ClosesBottomUp says stands_for step) ks (frame.After j l room) (Ok g) t r (says d) v w (rw p at b) (rw q at a)))
+    closes_bottom_up ks ls ms o d (frame.Before j room y) (onward.Next x) f g c m (turned done rest p r q) w t a =
+        (says d, Ok g, answers c, subst (λ z. AllClose (ClosesBottomUp says stands_for step) ms (Ok g) (says z) w t) p (turn_to_right ks ls ms j done room y rest (Ok g) q m w t (subst (λ z. EndsBottomUp says stands_for step (onward.Next z) ls (Ok g) w t) r a)))
+    closes_bottom_up ks ls ms o d (frame.Around s room) (onward.Next _) f g c m h w t a = elim h [ ]
+    closes_bottom_up ks ls ms o d (frame.After j l room) (onward.Next _) f g c m h w t a = elim h [ ]
+    closes_bottom_up ks ls ms o d (frame.Before j room y) (onward.Done _) f g c m h w t a = elim h [ ]
 
     -- a call answers a fault: all that is left stays
     pub record IsLeft (Closes : WalkFrame E S → Progress F → Expression → Expression → Progress F → Type 0) (ks : List (WalkFrame E S)) (fault : Fault) (d : Expression) : Type 0 where
@@ -211,23 +214,23 @@ module _ {F E : Type 0} (says : E → Expression) (step : F → E → Result E F
 
     left_top_down : (ks : List (WalkFrame E S)) (fault : Fault) (d : Expression) → IsLeft (ClosesTopDown says stands_for step) ks fault d
     left_top_down [] fault d = record { whole = d; closes = (refl, refl) }
-    left_top_down (frame.Around s ∷ ks) fault d =
+    left_top_down (frame.Around s room ∷ ks) fault d =
         let i = left_top_down ks fault d in record { whole = around (stands_for s) i.whole; closes = (i.whole, Err fault, i.closes, (refl, refl)) }
-    left_top_down (frame.Before j x ∷ ks) fault d =
+    left_top_down (frame.Before j room x ∷ ks) fault d =
         let i = left_top_down ks fault d in
-        record { whole = joined j i.whole (says x); closes = (i.whole, Err fault, i.closes, (says x, stays_top_down fault (says x), refl)) }
-    left_top_down (frame.After j x ∷ ks) fault d =
-        let i = left_top_down ks fault d in record { whole = joined j (says x) i.whole; closes = (i.whole, Err fault, i.closes, (refl, refl)) }
+        record { whole = joined j i.whole (says x.value); closes = (i.whole, Err fault, i.closes, (says x.value, stays_top_down fault (says x.value), refl)) }
+    left_top_down (frame.After j x room ∷ ks) fault d =
+        let i = left_top_down ks fault d in record { whole = joined j (says x.value) i.whole; closes = (i.whole, Err fault, i.closes, (refl, refl)) }
 
     left_bottom_up : (ks : List (WalkFrame E S)) (fault : Fault) (d : Expression) → IsLeft (ClosesBottomUp says stands_for step) ks fault d
     left_bottom_up [] fault d = record { whole = d; closes = (refl, refl) }
-    left_bottom_up (frame.Around s ∷ ks) fault d =
+    left_bottom_up (frame.Around s room ∷ ks) fault d =
         let i = left_bottom_up ks fault d in record { whole = around (stands_for s) i.whole; closes = (i.whole, Err fault, i.closes, stayed) }
-    left_bottom_up (frame.Before j x ∷ ks) fault d =
+    left_bottom_up (frame.Before j room x ∷ ks) fault d =
         let i = left_bottom_up ks fault d in
-        record { whole = joined j i.whole (says x); closes = (i.whole, Err fault, i.closes, (says x, Err fault, stays_bottom_up fault (says x), stayed)) }
-    left_bottom_up (frame.After j x ∷ ks) fault d =
-        let i = left_bottom_up ks fault d in record { whole = joined j (says x) i.whole; closes = (i.whole, Err fault, i.closes, stayed) }
+        record { whole = joined j i.whole (says x.value); closes = (i.whole, Err fault, i.closes, (says x.value, Err fault, stays_bottom_up fault (says x.value), stayed)) }
+    left_bottom_up (frame.After j x room ∷ ks) fault d =
+        let i = left_bottom_up ks fault d in record { whole = joined j (says x.value) i.whole; closes = (i.whole, Err fault, i.closes, stayed) }
 
     pub stops_at : (ks : List (WalkFrame E S)) (o : E) (f g : F) (fault : Fault) → step f o (Err fault) g → (w : Expression) × EndsTopDown says stands_for step (onward.Next o) ks (Ok f) w (Err fault)
     stops_at ks o f g fault c =

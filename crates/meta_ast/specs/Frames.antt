@@ -1,5 +1,6 @@
 -- Continuation frames of a walk: how it destructures expressions, and the context of its position.
 use Rattle.std.specs.Prelude.{◌≡◌, ℕ, ◌+◌, ◌*◌, List, [], ◌∷◌, ◌++◌, Result}
+use Rattle.std.specs.Global.{Box}
 use Rattle.meta_base.specs.Language.Text.{Text}
 use Rattle.meta_base.specs.Language.Expression.{Expression}
 use Rattle.meta_base.specs.Language.Expression as e
@@ -51,46 +52,49 @@ module _ {E S : Type 0} (says : E → Expression) (stands_for : S → Unary) whe
   -- the node is the expression, destructured
   abbrev pub IsOpened : Expression → Node E S → Type 0
   IsOpened whole (node.Leaf x) = (says x ≡ whole) × (operands whole ≡ [])
-  IsOpened whole (node.One s x) = whole ≡ around (stands_for s) (says x)
-  IsOpened whole (node.Two j x y) = whole ≡ joined j (says x) (says y)
+  IsOpened whole (node.One s x) = whole ≡ around (stands_for s) (says x.value)
+  IsOpened whole (node.Two j x y) = whole ≡ joined j (says x.value) (says y.value)
 
   -- the next node of a walk at an expression; its context is pushed after the frames `ks`
   pub data Opens (whole : Expression) (ks : List (WalkFrame E S)) : Onward E → List (WalkFrame E S)
       → Type 0 where
     leaf : {x : E} {ls : List (WalkFrame E S)}
         → says x ≡ whole → operands whole ≡ [] → ls ≡ ks → Opens whole ks (onward.Done x) ls
-    one : (s : S) {x : E} {ls : List (WalkFrame E S)}
-        → whole ≡ around (stands_for s) (says x) → ls ≡ ks ++ (frame.Around s ∷ [])
+    one : (s : S) (room : Box E) {x : E} {ls : List (WalkFrame E S)}
+        → whole ≡ around (stands_for s) (says x) → ls ≡ ks ++ (frame.Around s room ∷ [])
         → Opens whole ks (onward.Next x) ls
-    two : (j : Joint) {x : E} (y : E) {ls : List (WalkFrame E S)}
-        → whole ≡ joined j (says x) (says y) → ls ≡ ks ++ (frame.Before j y ∷ [])
+    two : (j : Joint) (room : Box E) {x : E} (y : Box E) {ls : List (WalkFrame E S)}
+        → whole ≡ joined j (says x) (says y.value) → ls ≡ ks ++ (frame.Before j room y ∷ [])
         → Opens whole ks (onward.Next x) ls
 
   -- the result of a frame that follows the frames `ks`, once `d` is done in it
   pub data Closes (ks : List (WalkFrame E S)) (d : E) : WalkFrame E S → Onward E → List (WalkFrame E S)
       → Type 0 where
-    enclosed : {s : S} {x : E} {ls : List (WalkFrame E S)}
-        → says x ≡ around (stands_for s) (says d) → ls ≡ ks → Closes ks d (frame.Around s) (onward.Done x) ls
-    put_together : {j : Joint} {a x : E} {ls : List (WalkFrame E S)}
-        → says x ≡ joined j (says a) (says d) → ls ≡ ks → Closes ks d (frame.After j a) (onward.Done x) ls
-    turned : {j : Joint} {x : E} {ls : List (WalkFrame E S)}
-        → ls ≡ ks ++ (frame.After j d ∷ []) → Closes ks d (frame.Before j x) (onward.Next x) ls
+    enclosed : {s : S} {room : Box E} {x : E} {ls : List (WalkFrame E S)}
+        → says x ≡ around (stands_for s) (says d) → ls ≡ ks
+        → Closes ks d (frame.Around s room) (onward.Done x) ls
+    put_together : {j : Joint} {a room : Box E} {x : E} {ls : List (WalkFrame E S)}
+        → says x ≡ joined j (says a.value) (says d) → ls ≡ ks
+        → Closes ks d (frame.After j a room) (onward.Done x) ls
+    turned : {j : Joint} {room y : Box E} (left rest : Box E) {x : E} {ls : List (WalkFrame E S)}
+        → left.value ≡ d → x ≡ y.value → ls ≡ ks ++ (frame.After j left rest ∷ [])
+        → Closes ks d (frame.Before j room y) (onward.Next x) ls
 
   module _ {F : Type 0} (step : F → E → Result E Fault → F → Type 0) where
     -- with `d` in its place a frame becomes `w`, while the calls lead from `s` to `t`: node before operands
     abbrev pub ClosesTopDown : WalkFrame E S → Progress F → Expression → Expression → Progress F → Type 0
-    ClosesTopDown (frame.Around u) s d w t = (w ≡ around (stands_for u) d) × (t ≡ s)
-    ClosesTopDown (frame.Before j x) s d w t =
-        (b : Expression) × TopDown says step s (says x) b t × (w ≡ joined j d b)
-    ClosesTopDown (frame.After j x) s d w t = (w ≡ joined j (says x) d) × (t ≡ s)
+    ClosesTopDown (frame.Around u room) s d w t = (w ≡ around (stands_for u) d) × (t ≡ s)
+    ClosesTopDown (frame.Before j room x) s d w t =
+        (b : Expression) × TopDown says step s (says x.value) b t × (w ≡ joined j d b)
+    ClosesTopDown (frame.After j x room) s d w t = (w ≡ joined j (says x.value) d) × (t ≡ s)
 
     -- one call at a finished frame, operands before node
     abbrev pub ClosesBottomUp : WalkFrame E S → Progress F → Expression → Expression → Progress F → Type 0
-    ClosesBottomUp (frame.Around u) s d w t = Becomes says step s (around (stands_for u) d) w t
-    ClosesBottomUp (frame.Before j x) s d w t =
-        (b : Expression) × (r : Progress F) × BottomUp says step s (says x) b r
+    ClosesBottomUp (frame.Around u room) s d w t = Becomes says step s (around (stands_for u) d) w t
+    ClosesBottomUp (frame.Before j room x) s d w t =
+        (b : Expression) × (r : Progress F) × BottomUp says step s (says x.value) b r
         × Becomes says step r (joined j d b) w t
-    ClosesBottomUp (frame.After j x) s d w t = Becomes says step s (joined j (says x) d) w t
+    ClosesBottomUp (frame.After j x room) s d w t = Becomes says step s (joined j (says x.value) d) w t
 
 -- `closes k s d w t`: with `d` in its place the frame `k` becomes `w`, while the calls lead from `s` to `t`
 module _ {K C : Type 0} (closes : K → C → Expression → Expression → C → Type 0) where
@@ -104,9 +108,9 @@ module _ {E : Type 0} (says : E → Expression) where
   -- how much there is to be done with the frames of a list
   abbrev pub work_aside : {S : Type 0} → List (WalkFrame E S) → ℕ
   work_aside [] = 0
-  work_aside (frame.Around s ∷ fs) = 1 + work_aside fs
-  work_aside (frame.Before j x ∷ fs) = 3 * count_of_nodes (says x) + 2 + work_aside fs
-  work_aside (frame.After j x ∷ fs) = 1 + work_aside fs
+  work_aside (frame.Around s room ∷ fs) = 1 + work_aside fs
+  work_aside (frame.Before j room x ∷ fs) = 3 * count_of_nodes (says x.value) + 2 + work_aside fs
+  work_aside (frame.After j x room ∷ fs) = 1 + work_aside fs
 
   -- how much there is to be done at all
   abbrev pub work_left : {S : Type 0} → Onward E → List (WalkFrame E S) → ℕ

@@ -11,7 +11,7 @@ ghost use Rattle.meta_ast.specs.Operands.{count_of_nodes};
 use crate::Fault;
 use crate::traversal::{Pass, Shrink, top_down};
 use meta_ast::ast::{Expr, Rule};
-use meta_ast::deep::Deep;
+use meta_ast::shape::Shaped;
 use std::alloc::{AllocError, Global};
 
 /// Returns the rule with `~` and `|` nested to the right: `(a ~ b) ~ c` becomes `a ~ (b ~ c)`, and so for
@@ -53,64 +53,58 @@ impl Pass for Rotator {
 }
 
 impl Shrink for Rotator {
-    fn shrink(&self, alloc: Global, expr: Expr) -> Result<Expr, AllocError> {
+    fn shrink(&self, _: Global, expr: Expr) -> Result<Expr, AllocError> {
         match expr {
-            Expr::Seq(left, right) => sequence(alloc, left, right),
-            Expr::Choice(left, right) => choice(alloc, left, right),
+            Expr::Seq(left, right) => Ok(sequence(left, right)),
+            Expr::Choice(left, right) => Ok(choice(left, right)),
             other => Ok(other),
         }
     }
 }
 
 // Makes `left ~ right`, and moves each `~` of the left side to the right.
-fn sequence(alloc: Global, left: Box<Expr>, right: Box<Expr>) -> Result<Expr, AllocError>
-    ensures gives { IfOk result
-        (λ e. Exhausted Rotates (Seq (expression_of left.value) (expression_of right.value))
-        (expression_of e)) }
-    ensures smaller { IfOk result
-        (λ e. count_of_nodes (expression_of e)
-        ≤ count_of_nodes (expression_of left.value) + count_of_nodes (expression_of right.value) + 1) }
+fn sequence(left: Box<Expr>, right: Box<Expr>) -> Expr
+    ensures gives { Exhausted Rotates (Seq (expression_of left.value) (expression_of right.value))
+        (expression_of result) }
+    ensures smaller { count_of_nodes (expression_of result)
+        ≤ count_of_nodes (expression_of left.value) + count_of_nodes (expression_of right.value) + 1 }
 {
     let mut left = left;
-    let mut right = Deep { value: right };
+    let mut right = right;
     'turn: loop {
-        match Box::into_inner(left) {
+        match Expr::take(&mut left) {
             Expr::Seq(first, second) => {
-                let first = Deep { value: first };
-                let moved = Expr::Seq(second, right.into_inner());
-                right = Deep { value: moved }.into_box(alloc)?;
-                left = first.into_inner();
+                let _ = Box::replace(&mut left, Expr::Seq(second, right));
+                right = left;
+                left = first;
             }
             other => {
-                let left = Deep { value: other }.into_box(alloc)?;
-                return Ok(Expr::Seq(left.into_inner(), right.into_inner()));
+                let _ = Box::replace(&mut left, other);
+                return Expr::Seq(left, right);
             }
         }
     }
 }
 
 // Makes `left | right`, and moves each `|` of the left side to the right.
-fn choice(alloc: Global, left: Box<Expr>, right: Box<Expr>) -> Result<Expr, AllocError>
-    ensures gives { IfOk result
-        (λ e. Exhausted Rotates (Choice (expression_of left.value) (expression_of right.value))
-        (expression_of e)) }
-    ensures smaller { IfOk result
-        (λ e. count_of_nodes (expression_of e)
-        ≤ count_of_nodes (expression_of left.value) + count_of_nodes (expression_of right.value) + 1) }
+fn choice(left: Box<Expr>, right: Box<Expr>) -> Expr
+    ensures gives { Exhausted Rotates (Choice (expression_of left.value) (expression_of right.value))
+        (expression_of result) }
+    ensures smaller { count_of_nodes (expression_of result)
+        ≤ count_of_nodes (expression_of left.value) + count_of_nodes (expression_of right.value) + 1 }
 {
     let mut left = left;
-    let mut right = Deep { value: right };
+    let mut right = right;
     'turn: loop {
-        match Box::into_inner(left) {
+        match Expr::take(&mut left) {
             Expr::Choice(first, second) => {
-                let first = Deep { value: first };
-                let moved = Expr::Choice(second, right.into_inner());
-                right = Deep { value: moved }.into_box(alloc)?;
-                left = first.into_inner();
+                let _ = Box::replace(&mut left, Expr::Choice(second, right));
+                right = left;
+                left = first;
             }
             other => {
-                let left = Deep { value: other }.into_box(alloc)?;
-                return Ok(Expr::Choice(left.into_inner(), right.into_inner()));
+                let _ = Box::replace(&mut left, other);
+                return Expr::Choice(left, right);
             }
         }
     }

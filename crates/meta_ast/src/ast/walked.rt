@@ -2,6 +2,7 @@
 ghost use Rattle.std.specs.Prelude.{◌≡◌, alloc_error, IfErr, IfOk};
 ghost use Rattle.meta_ast.specs.Ast.{expression_of};
 ghost use Rattle.meta_ast.specs.ExprWalks.{expressions_left, unary_of};
+ghost use Rattle.meta_ast.specs.Frames.{around, joined};
 ghost use Rattle.meta_ast.specs.Maps.{MapsTopDown, RefusesTopDown, MapsBottomUp, RefusesBottomUp, NeverGrows};
 ghost use Rattle.meta_ast.specs.Operands.{preorder};
 
@@ -9,7 +10,7 @@ use super::Expr;
 use super::shaped::Sign;
 use crate::deep::Deep;
 use crate::shape::{Joint, Shape, Shaped};
-use crate::walks::{Node, Tree, box_operand, map_bottom_up, map_top_down, take_first, two};
+use crate::walks::{Node, Tree, map_bottom_up, map_top_down, take_first};
 use meta_base::runtime::Fault;
 use std::alloc::{AllocError, Global};
 
@@ -107,21 +108,26 @@ impl Tree for Expr {
     fn open(self) -> Node<Expr, Sign> {
         match Shaped::open(self) {
             Shape::Leaf(leaf) => Node::Leaf(leaf),
-            Shape::One(sign, operand) => Node::One(sign, Box::into_inner(operand)),
-            Shape::Two(joint, left, right) => two(joint, left, right),
+            Shape::One(sign, operand) => Node::One(sign, operand),
+            Shape::Two(joint, left, right) => Node::Two(joint, left, right),
         }
     }
 
-    fn enclose(alloc: Global, sign: Sign, operand: Expr) -> Result<Expr, Fault> {
-        let operand = box_operand(alloc, Deep { value: operand })?.into_inner();
-        Ok(Shaped::enclose(sign, operand))
+    fn enclose(sign: Sign, operand: Box<Expr>) -> Expr
+        ensures { expression_of result ≡ around (unary_of sign) (expression_of operand.value) }
+    {
+        Shaped::enclose(sign, operand)
     }
 
-    fn join(alloc: Global, joint: Joint, left: Expr, right: Expr) -> Result<Expr, Fault> {
-        let right = Deep { value: right };
-        let left = box_operand(alloc, Deep { value: left })?;
-        let right = box_operand(alloc, right)?.into_inner();
-        Ok(Shaped::join(joint, left.into_inner(), right))
+    fn join(joint: Joint, left: Box<Expr>, right: Box<Expr>) -> Expr
+        ensures { expression_of result
+            ≡ joined joint (expression_of left.value) (expression_of right.value) }
+    {
+        Shaped::join(joint, left, right)
+    }
+
+    fn take(place: &mut Box<Expr>) -> Expr {
+        Shaped::take(place)
     }
 
     fn copy(&self) -> Result<Expr, AllocError> {

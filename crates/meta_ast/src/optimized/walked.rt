@@ -1,6 +1,7 @@
 //! Maps of optimized expressions, and iteration over their nodes in preorder. Walks do not enter a wrapper.
 ghost use Rattle.std.specs.Prelude.{◌≡◌, alloc_error, IfErr, IfOk};
 ghost use Rattle.meta_ast.specs.Optimized.{optimized_expression_of};
+ghost use Rattle.meta_ast.specs.Frames.{around, joined};
 ghost use Rattle.meta_ast.specs.OptimizedWalks.{optimized_expressions_left, optimized_unary_of};
 ghost use Rattle.meta_ast.specs.Maps.{MapsTopDown, RefusesTopDown, MapsBottomUp, RefusesBottomUp, NeverGrows};
 ghost use Rattle.meta_ast.specs.Operands.{preorder};
@@ -9,7 +10,7 @@ use super::OptimizedExpr;
 use super::shaped::{PlainSign, Sign};
 use crate::deep::Deep;
 use crate::shape::{Joint, Shape, Shaped};
-use crate::walks::{Node, Tree, box_operand, map_bottom_up, map_top_down, take_first, two};
+use crate::walks::{Node, Tree, map_bottom_up, map_top_down, take_first};
 use meta_base::runtime::Fault;
 use std::alloc::{AllocError, Global};
 
@@ -110,32 +111,29 @@ impl Tree for OptimizedExpr {
         match Shaped::open(self) {
             Shape::Leaf(leaf) => Node::Leaf(leaf),
             Shape::One(sign, operand) => match sign {
-                Sign::Plain(sign) => Node::One(sign, Box::into_inner(operand)),
+                Sign::Plain(sign) => Node::One(sign, operand),
                 Sign::Wrapper => Node::Leaf(OptimizedExpr::RestoreOnErr(operand)),
             },
-            Shape::Two(joint, left, right) => two(joint, left, right),
+            Shape::Two(joint, left, right) => Node::Two(joint, left, right),
         }
     }
 
-    fn enclose(
-        alloc: Global,
-        sign: PlainSign,
-        operand: OptimizedExpr,
-    ) -> Result<OptimizedExpr, Fault> {
-        let operand = box_operand(alloc, Deep { value: operand })?.into_inner();
-        Ok(Shaped::enclose(Sign::Plain(sign), operand))
+    fn enclose(sign: PlainSign, operand: Box<OptimizedExpr>) -> OptimizedExpr
+        ensures { optimized_expression_of result
+            ≡ around (optimized_unary_of sign) (optimized_expression_of operand.value) }
+    {
+        Shaped::enclose(Sign::Plain(sign), operand)
     }
 
-    fn join(
-        alloc: Global,
-        joint: Joint,
-        left: OptimizedExpr,
-        right: OptimizedExpr,
-    ) -> Result<OptimizedExpr, Fault> {
-        let right = Deep { value: right };
-        let left = box_operand(alloc, Deep { value: left })?;
-        let right = box_operand(alloc, right)?.into_inner();
-        Ok(Shaped::join(joint, left.into_inner(), right))
+    fn join(joint: Joint, left: Box<OptimizedExpr>, right: Box<OptimizedExpr>) -> OptimizedExpr
+        ensures { optimized_expression_of result
+            ≡ joined joint (optimized_expression_of left.value) (optimized_expression_of right.value) }
+    {
+        Shaped::join(joint, left, right)
+    }
+
+    fn take(place: &mut Box<OptimizedExpr>) -> OptimizedExpr {
+        Shaped::take(place)
     }
 
     fn copy(&self) -> Result<OptimizedExpr, AllocError> {

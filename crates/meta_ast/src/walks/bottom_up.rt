@@ -26,7 +26,7 @@ pub(crate) fn map_bottom_up<E: Tree, F: FnMut(E) -> Result<E, Fault> + Drop>(
             Onward::Done(whole) => {
                 let done = f(whole)?;
                 match frames.pop() {
-                    Some(frame) => next = frame.close(alloc, &mut frames, done)?,
+                    Some(frame) => next = frame.close(&mut frames, done)?,
                     None => return Ok(done),
                 }
             }

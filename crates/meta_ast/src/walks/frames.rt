@@ -5,7 +5,6 @@ ghost use Rattle.meta_ast.specs.Frames.{Closes, Opens};
 use super::{Node, Onward, Tree, WalkFrame};
 use crate::deep::{Deep, Release};
 use meta_base::runtime::Fault;
-use std::alloc::Global;
 
 /// Returns the next node of a walk at an expression, and pushes a frame for its context. The only error is
 /// allocation failure.
@@ -19,14 +18,18 @@ pub(crate) fn open_node<E: Tree>(
 {
     match expr.open() {
         Node::Leaf(leaf) => Ok(Onward::Done(leaf)),
-        Node::One(sign, operand) => {
-            let operand = Deep { value: operand };
-            keep(frames, WalkFrame::Around(sign))?;
+        Node::One(sign, mut room) => {
+            let operand = Deep {
+                value: E::take(&mut room),
+            };
+            keep(frames, WalkFrame::Around(sign, room))?;
             Ok(Onward::Next(operand.into_inner()))
         }
-        Node::Two(joint, left, right) => {
-            let left = Deep { value: left };
-            keep(frames, WalkFrame::Before(joint, right))?;
+        Node::Two(joint, mut room, right) => {
+            let left = Deep {
+                value: E::take(&mut room),
+            };
+            keep(frames, WalkFrame::Before(joint, room, right))?;
             Ok(Onward::Next(left.into_inner()))
         }
     }
@@ -37,7 +40,6 @@ impl<E: Tree> WalkFrame<E, E::Sign> {
     /// error is allocation failure.
     pub(crate) fn close(
         self,
-        alloc: Global,
         frames: &mut Vec<WalkFrame<E, E::Sign>>,
         done: E,
     ) -> Result<Onward<E>, Fault>
@@ -46,15 +48,28 @@ impl<E: Tree> WalkFrame<E, E::Sign> {
         ensures memory { IfErr result (λ fault. fault ≡ Fault.Memory alloc_error) }
     {
         match self {
-            WalkFrame::Around(sign) => Ok(Onward::Done(E::enclose(alloc, sign, done)?)),
-            WalkFrame::After(joint, left) => Ok(Onward::Done(E::join(alloc, joint, left, done)?)),
-            WalkFrame::Before(joint, right) => {
-                let right = Deep { value: right };
-                keep(frames, WalkFrame::After(joint, done))?;
-                Ok(Onward::Next(right.into_inner()))
+            WalkFrame::Around(sign, room) => Ok(Onward::Done(E::enclose(sign, fill(room, done)))),
+            WalkFrame::After(joint, left, room) => {
+                Ok(Onward::Done(E::join(joint, left, fill(room, done))))
+            }
+            WalkFrame::Before(joint, room, mut right) => {
+                let next = Deep {
+                    value: E::take(&mut right),
+                };
+                keep(frames, WalkFrame::After(joint, fill(room, done), right))?;
+                Ok(Onward::Next(next.into_inner()))
             }
         }
     }
+}
+
+// Puts an expression into a box from which one was taken.
+fn fill<E: Drop>(room: Box<E>, expr: E) -> Box<E>
+    ensures { result.value ≡ expr }
+{
+    let mut room = room;
+    let _ = Box::replace(&mut room, expr);
+    room
 }
 
 // Pushes a frame.

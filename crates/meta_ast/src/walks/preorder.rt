@@ -25,12 +25,18 @@ pub(crate) fn take_first<E: Tree>(stack: &mut Deep<Vec<E>>) -> Result<Option<E>,
         Node::Leaf(leaf) => leaf.release(),
         Node::One(sign, operand) => {
             drop(sign);
-            stack.push(Deep { value: operand })?;
+            stack.push(Deep {
+                value: Box::into_inner(operand),
+            })?;
         }
         Node::Two(joint, left, right) => {
             drop(joint);
-            let left = Deep { value: left };
-            stack.push(Deep { value: right })?;
+            let left = Deep {
+                value: Box::into_inner(left),
+            };
+            stack.push(Deep {
+                value: Box::into_inner(right),
+            })?;
             stack.push(left)?;
         }
     }

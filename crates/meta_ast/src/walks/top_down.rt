@@ -25,7 +25,7 @@ pub(crate) fn map_top_down<E: Tree, F: FnMut(E) -> Result<E, Fault> + Drop>(
         match next {
             Onward::Next(expr) => next = open_node(&mut frames, f(expr)?)?,
             Onward::Done(done) => match frames.pop() {
-                Some(frame) => next = frame.close(alloc, &mut frames, done)?,
+                Some(frame) => next = frame.close(&mut frames, done)?,
                 None => return Ok(done),
             },
         }

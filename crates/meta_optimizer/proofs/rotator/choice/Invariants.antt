@@ -8,9 +8,9 @@ use Rattle.meta_optimizer.proofs.rotator.choice.Given as goal
 
 abbrev pub invariant-turn : goal.invariant-turn
 invariant-turn l =
-    ((b : Expression) → Exhausted Rotates (Choice (expression_of l.left.value) (expression_of l.right.value.value)) b
+    ((b : Expression) → Exhausted Rotates (Choice (expression_of l.left.value) (expression_of l.right.value)) b
     → Exhausted Rotates (Choice (expression_of l.fn.left.value) (expression_of l.fn.right.value)) b)
-    × (count_of_nodes (expression_of l.left.value) + count_of_nodes (expression_of l.right.value.value) ≡ count_of_nodes (expression_of l.fn.left.value) + count_of_nodes (expression_of l.fn.right.value))
+    × (count_of_nodes (expression_of l.left.value) + count_of_nodes (expression_of l.right.value) ≡ count_of_nodes (expression_of l.fn.left.value) + count_of_nodes (expression_of l.fn.right.value))
 
 abbrev pub decreases-turn : goal.decreases-turn
 decreases-turn l = count_of_nodes (expression_of l.left.value)

@@ -31,6 +31,6 @@ returns-clause-given g c =
     let opened : says c.into_inner.result ≡ says c.in-Some.expr = ap says c.into_inner.ensures in
     elim c.match-open.branch [
       | in-Leaf w ↦ rw w.stack-is (leaf_first says stack rest c.in-Some.expr copy c.in-Some.ensures.items copied (ap operands (sym opened) ∙ w.in-Leaf.ensures.1))
-      | in-One+in_ok-push-in-One w ↦ rw w.stack-is (one_first says stack rest w.push.new.self.value.items (g.E.Tree.stands_for w.in-One.sign) c.in-Some.expr copy w.in-One.operand c.in-Some.ensures.items copied (sym opened ∙ w.in-One.ensures) w.in_ok-push-in-One.ensures.pushed)
-      | in-Two+in_ok-push-in-Two+in_ok-push-in-Two-2 w ↦ rw w.stack-is (two_first says stack rest w.push-in-Two.new.self.value.items w.push-in-Two-2.new.self.value.items w.in-Two.joint c.in-Some.expr copy w.in-Two.left w.in-Two.right c.in-Some.ensures.items copied (sym opened ∙ w.in-Two.ensures) w.in_ok-push-in-Two.ensures.pushed w.in_ok-push-in-Two-2.ensures.pushed)
+      | in-One+in_ok-push-in-One w ↦ rw w.stack-is (one_first says stack rest w.push.new.self.value.items (g.E.Tree.stands_for w.in-One.sign) c.in-Some.expr copy w.in-One.operand.value c.in-Some.ensures.items copied (sym opened ∙ w.in-One.ensures) (rw w.into_inner-in-One.ensures at w.in_ok-push-in-One.ensures.pushed))
+      | in-Two+in_ok-push-in-Two+in_ok-push-in-Two-2 w ↦ rw w.stack-is (two_first says stack rest w.push-in-Two.new.self.value.items w.push-in-Two-2.new.self.value.items w.in-Two.joint c.in-Some.expr copy w.in-Two.left.value w.in-Two.right.value c.in-Some.ensures.items copied (sym opened ∙ w.in-Two.ensures) (rw w.into_inner-in-Two-2.ensures at w.in_ok-push-in-Two.ensures.pushed) (rw w.into_inner-in-Two.ensures at w.in_ok-push-in-Two-2.ensures.pushed))
     ]
