@@ -84,21 +84,27 @@ waiting_count-push ws w = fold_push (λ n w. count_of (named_trees_of w.now) + n
 regrouped : (d w i o r : List Span) → d ++ ((w ++ (i ++ o)) ++ r) ≡ (d ++ w) ++ (i ++ (o ++ r))
 regrouped d w i o r = simp append_assoc
 
--- the first of the trees that were taken, and what it holds and what is behind it, which wait from then on
-pub names_of_first : (text : List ℕ) (done more all : List Span) (ws : List Slice) (w inner others : Slice) (r : Rule) (a b : ℕ) → trees_of w.now ≡ Token r a b (trees_of inner.now) (trees_of others.now) → more ≡ done ++ own_name text (name_of r) a b
-    → all ≡ done ++ waiting_names text (ws ++ w ∷ []) → all ≡ more ++ waiting_names text (ws ++ others ∷ [] ++ inner ∷ [])
-names_of_first text done more all ws w inner others r a b e f h =
-    let i : List Span = names_in text (named (trees_of inner.now)) in
-    let o : List Span = names_in text (named (trees_of others.now)) in
-    let own : List Span = own_name text (name_of r) a b in
-    let rest : List Span = waiting_names text ws in
-    h ∙ ap (λ l. done ++ l) (waiting_names-push text ws w ∙ ap (λ t. names_in text (named t) ++ rest) e)
-    ∙ regrouped done own i o rest
-    ∙ ap (λ l. l ++ (i ++ (o ++ rest))) (sym f)
-    ∙ ap (λ l. more ++ l) (sym (waiting_names-push text (ws ++ others ∷ []) inner ∙ ap (λ l. i ++ l) (waiting_names-push text ws others)))
+-- the first of some trees is left: the trees in it are at hand, and those behind it wait
+module _ (text : List ℕ) (ws vs : List Slice) (w inner others : Slice) (r : Rule) (a b : ℕ) (first : trees_of w.now ≡ Token r a b (trees_of inner.now) (trees_of others.now)) where
+  pub names_inside : (done more all : List Span) → more ≡ done ++ own_name text (name_of r) a b
+      → waiting_names text vs ≡ names_in text (named_trees_of others.now) ++ waiting_names text ws
+      → all ≡ done ++ (names_in text (named_trees_of w.now) ++ waiting_names text ws)
+      → all ≡ more ++ (names_in text (named_trees_of inner.now) ++ waiting_names text vs)
+  names_inside done more all f g h =
+      let i : List Span = names_in text (named (trees_of inner.now)) in
+      let o : List Span = names_in text (named (trees_of others.now)) in
+      let own : List Span = own_name text (name_of r) a b in
+      let rest : List Span = waiting_names text ws in
+      h ∙ ap (λ t. done ++ (names_in text (named t) ++ rest)) first
+      ∙ regrouped done own i o rest
+      ∙ ap (λ l. l ++ (i ++ (o ++ rest))) (sym f)
+      ∙ ap (λ l. more ++ (i ++ l)) (sym g)
 
--- no trees
-pub names_of_none : (text : List ℕ) (done all : List Span) (ws : List Slice) (w : Slice) → trees_of w.now ≡ NoTokens
-    → all ≡ done ++ waiting_names text (ws ++ w ∷ []) → all ≡ done ++ waiting_names text ws
-names_of_none text done all ws w e h =
-    h ∙ ap (λ l. done ++ l) (waiting_names-push text ws w ∙ ap (λ t. names_in text (named t) ++ waiting_names text ws) e)
+-- no trees are at hand, and the last that wait are taken
+module _ (text : List ℕ) (ws : List Slice) (w next : Slice) (none : trees_of w.now ≡ NoTokens) where
+  pub names_next : (done all : List Span)
+      → all ≡ done ++ (names_in text (named_trees_of w.now) ++ waiting_names text (ws ++ next ∷ []))
+      → all ≡ done ++ (names_in text (named_trees_of next.now) ++ waiting_names text ws)
+  names_next done all h =
+      h ∙ ap (λ t. done ++ (names_in text (named t) ++ waiting_names text (ws ++ next ∷ []))) none
+      ∙ ap (λ l. done ++ l) (waiting_names-push text ws next)

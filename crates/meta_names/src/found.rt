@@ -38,38 +38,36 @@ fn add_own_name<'i>(
     Ok(())
 }
 
-/// Pushes the trees after a tree, and then the trees in it, which are read first.
-fn leave<'t>(
-    tree: FirstTree<'t, Rule>,
-    waiting: &mut Vec<&'t [TokenTree<Rule>]>,
-) -> Result<(), AllocError>
-    ensures { OnOk result (waiting.new.items
-        ≡ waiting.old.items ++ tree.entry.others ∷ [] ++ tree.entry.inner ∷ []) }
-{
-    waiting.push(tree.others)?;
-    waiting.push(tree.inner)?;
-    Ok(())
-}
-
-/// Adds the spans of all names in some trees, in the order of the text.
-fn add_names<'i>(
-    alloc: Global,
+/// Adds the spans of all names in some trees, in the order of the text. The list `waiting` is lent for the
+/// trees that are still to be read, and serves many trees.
+fn add_names<'i, 't>(
     text: &'i str,
-    trees: &[TokenTree<Rule>],
+    trees: &'t [TokenTree<Rule>],
+    waiting: &mut Vec<&'t [TokenTree<Rule>]>,
     names: &mut Vec<Span<'i>>,
 ) -> Result<(), AllocError>
-    requires { AreTreesWithin text.now (trees_of trees.now) }
-    ensures { OnOk result (map piece_of names.new.items
-        ≡ map piece_of names.old.items ++ spec.names_in text.entry.now (named_trees_of trees.now)) }
+    requires within { AreTreesWithin text.now (trees_of trees.now) }
+    requires empty { waiting.old.items ≡ [] }
+    ensures names { OnOk result (map piece_of names.new.items
+        ≡ map piece_of names.old.items ++ spec.names_in text.entry.now (named_trees_of trees.entry.now)) }
+    ensures empty { OnOk result (waiting.new.items ≡ []) }
 {
-    let mut waiting = vec![in alloc; trees]?;
-    while let Some(rest) = waiting.pop() {
-        if let Some(tree) = first_tree(rest) {
-            add_own_name(text, tree, names)?;
-            leave(tree, &mut waiting)?;
+    let mut rest = trees;
+    'trees: loop {
+        match first_tree(rest) {
+            Some(tree) => {
+                add_own_name(text, tree, names)?;
+                if !tree.others.is_empty() {
+                    waiting.push(tree.others)?;
+                }
+                rest = tree.inner;
+            }
+            None => match waiting.pop() {
+                Some(next) => rest = next,
+                None => return Ok(()),
+            },
         }
     }
-    Ok(())
 }
 
 /// Adds the span of the name which the trees of a rule define, if they define one.
@@ -89,18 +87,21 @@ fn add_definition<'i>(
 }
 
 /// Adds the spans of the names which the trees of a rule call, in the order of the text.
-fn add_calls<'i>(
-    alloc: Global,
+/// The list `waiting` is lent for trees.
+fn add_calls<'i, 't>(
     text: &'i str,
-    trees: &[TokenTree<Rule>],
+    trees: &'t [TokenTree<Rule>],
+    waiting: &mut Vec<&'t [TokenTree<Rule>]>,
     names: &mut Vec<Span<'i>>,
 ) -> Result<(), AllocError>
-    requires { AreTreesWithin text.now (trees_of trees.now) }
-    ensures { OnOk result (map piece_of names.new.items
-        ≡ map piece_of names.old.items ++ spec.called_by text.entry.now (named_trees_of trees.now)) }
+    requires within { AreTreesWithin text.now (trees_of trees.now) }
+    requires empty { waiting.old.items ≡ [] }
+    ensures names { OnOk result (map piece_of names.new.items
+        ≡ map piece_of names.old.items ++ spec.called_by text.entry.now (named_trees_of trees.entry.now)) }
+    ensures empty { OnOk result (waiting.new.items ≡ []) }
 {
     match first_tree(trees) {
-        Some(first) => add_names(alloc, text, first.others, names),
+        Some(first) => add_names(text, first.others, waiting, names),
         None => Ok(()),
     }
 }
@@ -139,10 +140,11 @@ pub(crate) fn calls<'i>(
         ≡ spec.calls text.entry.now (named_trees_of trees.now)) }
 {
     let mut found = Vec::new(alloc);
+    let mut waiting = Vec::new(alloc);
     let mut rest = trees;
     while let Some(tree) = first_tree(rest) {
         if let Rule::grammar_rule = tree.rule {
-            add_calls(alloc, text, tree.inner, &mut found)?;
+            add_calls(text, tree.inner, &mut waiting, &mut found)?;
         }
         rest = tree.others;
     }

@@ -1,33 +1,44 @@
-use Rattle.meta_names.proofs.Trees.{stand_inner, stand_behind, all_stand-push, all_stand-rest, all_stand-last, names_of_first, names_of_none}
+use Rattle.std.proofs.Common.{◌≡◌, ◌∙◌, Bool, true, List, [], ◌∷◌, ◌++◌, length, nat_eq, eqb-true, sym, ap, map}
+use Rattle.std.proofs.lemmas.List.{nil_from_length}
+use Rattle.meta_base.specs.Pieces.NamedTrees.{named_trees_of}
+use Rattle.meta_base.specs.Pieces.Saying.{piece_of}
+use Rattle.meta_names.specs.GrammarNames.{names_in}
+use Rattle.meta_names.proofs.Trees.{all_stand-last, all_stand-push, all_stand-rest, names_inside, names_next, stand_behind, stand_inner, waiting_names, waiting_names-push}
 use Rattle.meta_names.proofs.found.add_names.Goals as goal
+use Rattle.meta_names.proofs.found.add_names.Goals.{then-not-is_empty+in_ok-push-in-Some, else-not-is_empty}
 
-pub add_own_name-requires : goal.add_own_name-requires
-add_own_name-requires c =
-    let h = rw c.in-Some.ensures.items at c.loop-rest.invariant.stand in
-    rw c.in-Some-first_tree.ensures at (all_stand-last c.args.text.now c.pop.new.self.items c.in-Some.rest h)
+none_there : {X : Type 0} (xs : List X) (b : Bool) → b ≡ nat_eq (length xs) 0 → b ≡ true → xs ≡ []
+none_there xs b p q = nil_from_length xs (eqb-true (length xs) 0 (sym p ∙ q))
 
-pub loop-rest-preserved-in-Continue-branch-3 : goal.loop-rest-preserved-in-Continue-branch-3
-loop-rest-preserved-in-Continue-branch-3 c =
+pub trees-preserved-in-Some : goal.trees-preserved-in-Some
+trees-preserved-in-Some c =
+    let text = c.args.text.now in
+    let ws = c.trees.waiting.items in
+    let first = c.in-Some.tree in
+    let s = rw c.in-Some.ensures at c.trees.invariant.here in
+    elim c.if-not-is_empty.branch [
+      | then-not-is_empty+in_ok-push-in-Some w ↦ rw (w.waiting-is, w.in_ok-push-in-Some.ensures.items) (record {
+        here = stand_inner s;
+        stand = all_stand-push text ws first.others c.trees.invariant.stand (stand_behind s);
+        split = names_inside text ws (ws ++ first.others ∷ []) c.trees.rest first.inner first.others first.rule first.start first.end c.in-Some.ensures (map piece_of c.trees.names.items) (map piece_of c.add_own_name.new.names.items) _ c.in_ok-add_own_name-in-Some.ensures (waiting_names-push text ws first.others) c.trees.invariant.split;
+      })
+      | else-not-is_empty w ↦
+          let none = none_there first.others.now c.is_empty.result c.is_empty.ensures w.if-not-is_empty.false in
+          rw w.waiting-is (record {
+            here = stand_inner s;
+            stand = c.trees.invariant.stand;
+            split = names_inside text ws ws c.trees.rest first.inner first.others first.rule first.start first.end c.in-Some.ensures (map piece_of c.trees.names.items) (map piece_of c.add_own_name.new.names.items) _ c.in_ok-add_own_name-in-Some.ensures (sym (ap (λ z. names_in text (named_trees_of z) ++ waiting_names text ws) none)) c.trees.invariant.split;
+          })
+    ]
+
+pub trees-preserved : goal.trees-preserved
+trees-preserved c =
     let text = c.args.text.now in
     let ws = c.pop.new.self.items in
-    let first = c.in-Some-first_tree.tree in
-    let h = rw c.in-Some.ensures.items at c.loop-rest.invariant.stand in
-    let split = rw c.in-Some.ensures.items at c.loop-rest.invariant.split in
-    let s = rw c.in-Some-first_tree.ensures at (all_stand-last text ws c.in-Some.rest h) in
+    let next = c.in-Some-pop.next in
+    let stand = rw c.in-Some-pop.ensures.items at c.trees.invariant.stand in
     record {
-      stand = rw c.in_ok-leave.ensures
-          (all_stand-push text _ first.inner (all_stand-push text ws first.others (all_stand-rest text ws c.in-Some.rest h) (stand_behind s)) (stand_inner s));
-      split = rw c.in_ok-leave.ensures
-          (names_of_first text _ _ _ ws c.in-Some.rest first.inner first.others first.rule first.start first.end c.in-Some-first_tree.ensures c.in_ok-add_own_name.ensures split);
-    }
-
-pub loop-rest-preserved : goal.loop-rest-preserved
-loop-rest-preserved c =
-    let text = c.args.text.now in
-    let ws = c.pop.new.self.items in
-    let h = rw c.in-Some.ensures.items at c.loop-rest.invariant.stand in
-    let split = rw c.in-Some.ensures.items at c.loop-rest.invariant.split in
-    record {
-      stand = all_stand-rest text ws c.in-Some.rest h;
-      split = names_of_none text _ _ ws c.in-Some.rest c.in_default-first_tree.ensures split;
+      here = all_stand-last text ws next stand;
+      stand = all_stand-rest text ws next stand;
+      split = names_next text ws c.trees.rest next c.in-None.ensures _ _ (rw c.in-Some-pop.ensures.items at c.trees.invariant.split);
     }

@@ -1,4 +1,4 @@
-use Rattle.std.proofs.Common.{◌≡◌, ◌++◌, map}
+use Rattle.std.proofs.Common.{◌≡◌, ◌++◌, [], map}
 use Rattle.meta_base.specs.Pieces.NamedTrees.{named_trees_of}
 use Rattle.meta_base.specs.Pieces.TreeViews.{trees_of}
 use Rattle.meta_base.specs.Pieces.Saying.{piece_of}
@@ -10,6 +10,7 @@ use Rattle.meta_names.proofs.found.calls.Given as goal
 abbrev pub invariant-loop-tree : goal.invariant-loop-tree
 invariant-loop-tree l = record {
   stand : AreTreesWithin l.text (trees_of l.rest);
+  empty : l.waiting.items ≡ [];
   split : calls l.text (named_trees_of l.trees) ≡ map piece_of l.found.items ++ calls l.text (named_trees_of l.rest);
 }
 
