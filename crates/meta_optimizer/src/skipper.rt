@@ -14,6 +14,7 @@ use crate::strings::{StringNames, names_with_strings, strings_of};
 use crate::traversal::{Pass, Shrink, top_down};
 use meta_ast::ast::{Expr, Rule, RuleType};
 use meta_ast::deep::Deep;
+use meta_builtins::CharSet;
 use std::alloc::{AllocError, Global};
 use std::collections::HashMap;
 
@@ -136,7 +137,7 @@ fn texts_until(
     let Expr::Ident(name) = &**right else {
         return Ok(None);
     };
-    if name.as_str() != "ANY" {
+    if name.as_str() != CharSet::Any.name() {
         return Ok(None);
     }
     strings_of(alloc, bodies, names, inner)

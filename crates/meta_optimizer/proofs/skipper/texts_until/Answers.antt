@@ -9,12 +9,12 @@ use Rattle.meta_optimizer.proofs.skipper.texts_until.Goals as goal
 pub returns-then-ne : goal.returns-then-ne
 returns-then-ne c =
     let formed = shape c.args.expr.now _ _ _ _ c.in-Seq.is (sym c.deref.ensures ∙ c.in-NegPred.is) (sym c.deref-2.ensures ∙ c.in-Ident.is) in
-    let other = not_any c.in-Ident.name (λ h. texts_differ _ _ c.ne.result c.ne.ensures c.if-ne.true (c.as_str.ensures.value ∙ h)) in
+    let other = not_any c.in-Ident.name (λ h. texts_differ _ _ c.ne.result c.ne.ensures c.if-ne.true (c.as_str.ensures.value ∙ h ∙ sym c.name.ensures)) in
     λ g h q s. other_name g (expression_of c.in-NegPred.inner.value) (text_of c.in-Ident.name) other q (subst (λ x. SkipsUntil g e.Atomic (e.Rep x) q) formed s)
 
 pub returns : goal.returns
 returns c =
     let formed = shape c.args.expr.now _ _ _ _ c.in-Seq.is (sym c.deref.ensures ∙ c.in-NegPred.is) (sym c.deref-2.ensures ∙ c.in-Ident.is) in
-    let any = is_any c.in-Ident.name (sym c.as_str.ensures.value ∙ texts_same _ _ c.ne.result c.ne.ensures c.if-ne.false) in
+    let any = is_any c.in-Ident.name (sym c.as_str.ensures.value ∙ texts_same _ _ c.ne.result c.ne.ensures c.if-ne.false ∙ c.name.ensures) in
     until (Serve c.args.bodies.now c.args.names.now) (expression_of c.in-NegPred.inner.value) (expression_of c.args.expr.now) c.strings_of.result (any_shape _ _ c.in-Ident.name formed any)
     (rw c.deref-3.ensures at c.strings_of.ensures)
