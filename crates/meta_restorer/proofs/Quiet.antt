@@ -1,5 +1,5 @@
 -- Rules in which no `PUSH`, `PUSH_LITERAL`, `POP`, `POP_ALL` or `DROP` is met change nothing, and are restored as they are.
-use Rattle.std.proofs.Common.{◌≡◌, List, [], ◌∷◌, Option, Some, None, Bool, true, false, if◌then◌else◌, bytes_eq, refl, ◌∙◌, ap, ap₂, subst, String, Global}
+use Rattle.std.proofs.Common.{◌≡◌, List, [], ◌∷◌, Option, Some, None, Bool, true, false, if◌then◌else◌, bytes_eq, refl, sym, ◌∙◌, ap, ap₂, subst, String, Global}
 use Rattle.std.specs.Bool.{Decides}
 use Rattle.std.proofs.lemmas.List.Elements.{All-head, All-tail}
 use Rattle.std.proofs.lemmas.Bool.{or_left, or_parts, or_right}
@@ -10,7 +10,7 @@ use Rattle.meta_ast.specs.Ast.{text_of}
 use Rattle.meta_ast.specs.Optimized.{optimized_rule_of, optimized_rules_of}
 use Rattle.meta_ast.specs.declared.optimized.OptimizedRule.{OptimizedRule}
 use Rattle.meta_restorer.specs.Changing.{changes_by, is_changer, wrapped_by, restored_by}
-use Rattle.meta_restorer.specs.Restoring.{AreQuiet, IsQuiet, AreSameErased, HaveNoWrappers, restored_rules_by}
+use Rattle.meta_restorer.specs.Restoring.{AreQuiet, AreRestored, IsQuiet, AreSameErased, HaveNoWrappers, restored_rules_by}
 use Rattle.meta_restorer.proofs.Changers.{changer_changes, pop_named, pop_all_named, drop_named}
 use Rattle.meta_restorer.proofs.Restoring.{each_restored, rules_same}
 
@@ -84,3 +84,6 @@ module _ (rs : List OptimizedRule) (quiet : AreQuiet rs) where
 
   pub quiet_erased : AreSameErased g g
   quiet_erased = subst (AreSameErased g) (rules_stay rs quiet) (rules_same is_changer g)
+
+  pub quiet_whole : AreRestored g g
+  quiet_whole = record { changes = is_changer; decides = decides; are_restored = sym (rules_stay rs quiet) }

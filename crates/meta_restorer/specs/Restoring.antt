@@ -47,3 +47,10 @@ pub record IsRestored {S : Type 0} (rules : HashMap (String Global) OptimizedExp
   pub decides : (g : Grammar) → HoldsOptimizedBodies rules g → (n : String Global)
       → Decides (changes (text_of n)) (ChangesStack g (Ident (text_of n)))
   pub is_restored : b ≡ restored_by changes a
+
+-- the rules of h are those of g with wrappers, put as in `IsRestored`. A name changes the stack just where the
+-- rules of g have it do so
+pub record AreRestored (g h : Grammar) : Type 0 where
+  pub changes : Text → Bool
+  pub decides : (n : String Global) → Decides (changes (text_of n)) (ChangesStack g (Ident (text_of n)))
+  pub are_restored : h ≡ restored_rules_by changes g

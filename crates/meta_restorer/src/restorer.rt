@@ -10,7 +10,7 @@ ghost use Rattle.meta_restorer.specs.Bodies.{HoldsOptimizedBodies, named_body};
 ghost use Rattle.meta_restorer.specs.Changing.{HasNoWrappers, KeepsWrappers, changes_by};
 ghost use Rattle.meta_base.specs.Pieces.Faults.{IsMemory};
 ghost use Rattle.meta_restorer.specs.Summaries.{AreSummariesOf, IsSummaryOf};
-ghost use Rattle.meta_restorer.specs.Restoring.{AreQuiet, AreSameErased, HaveNoWrappers, IsRestored, restored_rule_by, restored_rules_by};
+ghost use Rattle.meta_restorer.specs.Restoring.{AreQuiet, AreRestored, AreSameErased, HaveNoWrappers, IsRestored, restored_rule_by, restored_rules_by};
 ghost use Rattle.meta_restorer.specs.KnownChanges.{KnowsChanges, changes_stack};
 
 use crate::bodies::{bodies_of_map, bodies_of_rules};
@@ -72,6 +72,8 @@ pub fn restore_on_err(
 pub fn restore_rules(alloc: Global, rules: Vec<OptimizedRule>) -> Result<Vec<OptimizedRule>, Fault>
     ensures restores { IfOk result (λ answer. HaveNoWrappers (optimized_rules_of rules.items)
         → EachRestored (optimized_rules_of rules.items) (optimized_rules_of answer.items)) }
+    ensures whole { IfOk result
+        (λ answer. AreRestored (optimized_rules_of rules.items) (optimized_rules_of answer.items)) }
     ensures erased { IfOk result
         (λ answer. AreSameErased (optimized_rules_of rules.items) (optimized_rules_of answer.items)) }
     ensures memory { IfErr result IsMemory }
