@@ -23,7 +23,7 @@ marks_itself : (ms : List Bool) → marks_eq ms ms ≡ true
 marks_itself [] = refl
 marks_itself (m ∷ ms) = and_from (bool_eq m m) (marks_eq ms ms) (bool_itself m) (marks_itself ms)
 
-stack_itself : (a : AbstractStack) → stack_eq a a ≡ true
+pub stack_itself : (a : AbstractStack) → stack_eq a a ≡ true
 stack_itself a = and_from (base_eq a.base a.base) (marks_eq a.marks a.marks && bool_eq a.intact a.intact) (base_itself a.base) (and_from (marks_eq a.marks a.marks) (bool_eq a.intact a.intact) (marks_itself a.marks) (bool_itself a.intact))
 
 pub is_in : (bs : List AbstractStack) (a : AbstractStack) → In a bs → is_among bs a ≡ true

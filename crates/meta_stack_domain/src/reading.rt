@@ -266,7 +266,8 @@ impl Reading {
 }
 
 fn is_same_option(first: Option<Stack>, second: Option<Stack>) -> bool
-    ensures { result ≡ true → possible first ≡ possible second }
+    ensures same { result ≡ true → possible first ≡ possible second }
+    ensures other { possible first ≡ possible second → result ≡ true }
 {
     match (first, second) {
         (None, None) => true,
@@ -278,7 +279,8 @@ fn is_same_option(first: Option<Stack>, second: Option<Stack>) -> bool
 impl Walk {
     /// Whether two walks are equal.
     pub fn is_same(self, other: Walk) -> bool
-        ensures { result ≡ true → walk_of self ≡ walk_of other }
+        ensures same { result ≡ true → walk_of self ≡ walk_of other }
+        ensures other { walk_of self ≡ walk_of other → result ≡ true }
     {
         is_same_option(self.here, other.here)
             && self.failing == other.failing
