@@ -75,7 +75,8 @@ impl Memory {
         }
     }
 
-    /// Returns the reading of a node from a stack, if it is memoized.
+    /// Returns the reading of a node from a stack, if it is memoized. No clause refuses `None`, which costs only
+    /// time.
     pub fn recall(&self, node: usize, stack: Stack) -> Option<Reading>
         ensures { IfSome result (λ reading. (meaning : Meaning) → IsRight meaning self.now
             → reading_of reading ≡ meaning node (stack_of stack)) }
@@ -89,7 +90,7 @@ impl Memory {
         }
     }
 
-    /// Memoizes the reading of a node from a stack.
+    /// Memoizes the reading of a node from a stack. No clause asks for it, since it saves only time.
     pub fn remember(
         &mut self,
         node: usize,

@@ -104,7 +104,7 @@ pub fn look(rule: Rule, first: char) -> Lookahead
 }
 
 /// Whether the next character shows that there is nothing to skip, since neither white space nor a comment
-/// begins with it.
+/// begins with it. No clause refuses `false`, which costs only time.
 pub fn is_left_alone(rest: &str) -> bool
     ensures { result ≡ true → (whole : List ℕ) (classes : Classes) (furthest : ℕ)
         → Ran meta_grammar classes (Skipping NonAtomicMode) (at whole rest.now)

@@ -17,7 +17,8 @@ pub enum Mode {
     CompoundAtomic,
 }
 
-/// Whether nothing is skipped between the parts of an expression.
+/// Whether nothing is skipped between the parts of an expression. No clause refuses `false`, which costs only
+/// time.
 pub fn is_tight(mode: Mode) -> bool
     ensures { result ≡ true → skips_in mode ≡ 0 }
 {

@@ -97,12 +97,14 @@ impl Recognizer {
         entries
     }
 
-    /// Whether a refused run was nested to the limit.
+    /// Whether a refused run was nested to the limit. No clause says so: a text that nests too deep would be
+    /// refused as by an allocation failure.
     pub fn is_too_deep(&self) -> bool {
         self.levels == 0
     }
 
-    /// Answers a call that the next character decides, or `None` where the call has to be run.
+    /// Answers a call that the next character decides, or `None` where the call has to be run. No clause
+    /// refuses `None`, which costs only time.
     ///
     /// Inlined into `call`, which asks first.
     #[inline(always)]
@@ -137,7 +139,8 @@ impl Recognizer {
         }
     }
 
-    /// Whether the recognizer remembers that a call fails here. Such a failure records nothing new.
+    /// Whether the recognizer remembers that a call fails here. Such a failure records nothing new. No clause
+    /// refuses `false`, which costs only time.
     #[inline(always)]
     pub fn has_failed(&self, rule: Rule, mode: Mode, rest: &str) -> bool
         ensures { (text : List ℕ) → RemembersTruly text self.now → IsLeft text rest.now → result ≡ true
@@ -152,7 +155,8 @@ impl Recognizer {
         }
     }
 
-    /// Remembers that a call has failed here, if it may be made again.
+    /// Remembers that a call has failed here, if it may be made again. No clause asks for it, since it saves
+    /// only time.
     #[inline(always)]
     pub fn remember(&mut self, rule: Rule, mode: Mode, rest: &str) -> Result<(), AllocError>
         ensures entries { OnOk result (self.new.entries ≡ self.old.entries) }

@@ -50,7 +50,8 @@ fn is_out(set: Set, c: char) -> bool
     }
 }
 
-/// Skips characters of a set, of which each is a turn of the repetition. Returns the text after them.
+/// Skips characters of a set, of which each is a turn of the repetition. Returns the text after them. No
+/// clause asks for all of them: the others are run, which costs only time.
 #[inline(always)]
 pub fn past<'i>(set: Set, from: &'i str) -> &'i str
     ensures goes_on { (whole : List ℕ) → IsLeft whole from.entry.now
@@ -68,7 +69,7 @@ pub fn past<'i>(set: Set, from: &'i str) -> &'i str
     }
 }
 
-/// Whether the next character ends the repetition.
+/// Whether the next character ends the repetition. No clause refuses `false`, which costs only time.
 #[inline(always)]
 pub fn ends(set: Set, rest: &str) -> bool
     ensures { result ≡ true → (whole : List ℕ) (mode : Mode) (classes : Classes) (furthest : ℕ)

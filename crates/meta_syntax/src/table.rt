@@ -453,7 +453,7 @@ static LINE_DOC: Form = sequence!(Form::Str("///"), optional!(call!(space)), cal
 static INNER_DOC: Form = characters!(Line, sequence!(not!(call!(newline)), Form::Any));
 
 /// Returns the character that a rule matches, if it is a normal rule that matches one character and no
-/// other.
+/// other. No clause refuses `None`, which costs only time.
 #[inline(always)]
 pub fn sign_of(rule: Rule) -> Option<char>
     ensures { IfSome result (IsSign rule) }
