@@ -57,8 +57,8 @@ fn facts_by(
 
 /// Returns the number of the body of the rule of a name.
 fn root_of(analysis: &Analysis<'_, '_>, name: &str) -> Option<usize> {
-    let rule = analysis.names.place_of(name)?;
-    analysis.table.roots.get(rule).copied()
+    let rule = analysis.grammar.names.place_of(name)?;
+    analysis.grammar.table.roots.get(rule).copied()
 }
 
 /// Whether a node may match without taking a character.
@@ -72,7 +72,7 @@ fn first_set(
     analysis: &Analysis<'_, '_>,
     root: usize,
 ) -> Result<String, AllocError> {
-    let count = analysis.table.nodes.len();
+    let count = analysis.grammar.table.nodes.len();
     let mut is_visited = vec![in alloc; false; count]?;
     let mut stack = vec![in alloc; root]?;
     let mut first = FirstSet::new(alloc);
@@ -87,7 +87,7 @@ fn first_set(
             continue;
         }
         *flag = true;
-        if let Some(node) = analysis.table.nodes.get(number) {
+        if let Some(node) = analysis.grammar.table.nodes.get(number) {
             visit(analysis, *node, &mut stack, &mut first)?;
         }
     }

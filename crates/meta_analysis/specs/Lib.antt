@@ -10,4 +10,5 @@ pub mod Kinds
 pub mod KindTable
 pub mod RightAnswers
 pub mod Facts
+pub mod Resolved
 pub mod Analysis

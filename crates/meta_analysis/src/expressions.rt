@@ -38,7 +38,7 @@ pub fn answer_for<'i>(
         &mut nodes.nodes,
     )?;
     let table = KindTable {
-        kinds: kinds_of(alloc, rules, &names, nodes.nodes.as_slice())?,
+        kinds: kinds_of(alloc, &names, nodes.nodes.as_slice())?,
         roots: nodes.roots,
     };
     let listeners = find_listeners(alloc, &table)?;

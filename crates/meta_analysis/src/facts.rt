@@ -1,16 +1,13 @@
-//! Facts of the nodes of all rules: nullability and failure.
+//! Facts of nodes: nullability and failure.
 ghost use Rattle.std.specs.Prelude.{◌≡◌, IfOk};
-ghost use Rattle.meta_analysis.specs.NameMaps.{KnowsRules};
-ghost use Rattle.meta_analysis.specs.Roots.{IsTabled};
+ghost use Rattle.meta_analysis.specs.Resolved.{IsResolved};
 ghost use Rattle.meta_analysis.specs.Facts.{AreFacts, AreTabled};
 
 use crate::answers::answers_to;
+use crate::grammar::ResolvedGrammar;
 use crate::kind_table::{KindTable, Question};
 use crate::kinds::kinds_of;
-use crate::names::Names;
-use crate::table::Table;
 use meta_fixpoint::find_listeners;
-use meta_spanned::ParserRule;
 use std::alloc::{AllocError, Global};
 
 /// The facts of the nodes of all rules.
@@ -35,33 +32,24 @@ impl Facts {
 }
 
 /// Makes the table of the kinds of the nodes of rules.
-fn table_with_kinds<'i>(
+fn table_with_kinds(
     alloc: Global,
-    rules: &[ParserRule<'i>],
-    names: &Names,
-    table: &Table<'_, 'i>,
+    grammar: &ResolvedGrammar<'_, '_>,
 ) -> Result<KindTable, AllocError>
-    requires known { KnowsRules rules.now names.now }
-    requires tabled { IsTabled rules.now table.now }
-    ensures { IfOk result (λ made. AreTabled rules.now made) }
+    requires { IsResolved grammar.now }
+    ensures { IfOk result (λ made. AreTabled grammar.now.rules.now made) }
 {
-    let kinds = kinds_of(alloc, rules, names, table.nodes.as_slice())?;
-    let roots = table.copy_roots(alloc)?;
+    let kinds = kinds_of(alloc, &grammar.names, grammar.table.nodes.as_slice())?;
+    let roots = grammar.table.copy_roots(alloc)?;
     Ok(KindTable { kinds, roots })
 }
 
 /// Computes which nodes may take nothing, and which cannot fail. The only fault is an allocation failure.
-pub fn facts_of<'i>(
-    alloc: Global,
-    rules: &[ParserRule<'i>],
-    names: &Names,
-    table: &Table<'_, 'i>,
-) -> Result<Facts, AllocError>
-    requires known { KnowsRules rules.now names.now }
-    requires tabled { IsTabled rules.now table.now }
-    ensures { IfOk result (λ facts. AreFacts rules.now facts) }
+pub fn facts_of(alloc: Global, grammar: &ResolvedGrammar<'_, '_>) -> Result<Facts, AllocError>
+    requires { IsResolved grammar.now }
+    ensures { IfOk result (λ facts. AreFacts grammar.now.rules.now facts) }
 {
-    let table = table_with_kinds(alloc, rules, names, table)?;
+    let table = table_with_kinds(alloc, grammar)?;
     let listeners = find_listeners(alloc, &table)?;
     let nullable = answers_to(alloc, &table, &listeners, Question::TakesNothing)?;
     let certain = answers_to(alloc, &table, &listeners, Question::CannotFail)?;

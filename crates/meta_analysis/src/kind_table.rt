@@ -1,4 +1,4 @@
-//! The kinds of the nodes of all rules, by number.
+//! The kinds of nodes, by number.
 ghost use Rattle.std.specs.Prelude.{◌≡◌, ◌<◌, slice_get};
 ghost use Rattle.meta_fixpoint.specs.Least.{is_set_at};
 ghost use Rattle.meta_analysis.specs.KindTable.{fires, at_root};

@@ -2,6 +2,7 @@
 ghost use Rattle.std.specs.Prelude.{◌≡◌, IfOk, List};
 ghost use Rattle.meta_ast.specs.Ast.{text_of};
 ghost use Rattle.meta_spanned.specs.Spanned.{Spanned};
+ghost use Rattle.meta_spanned.specs.declared.node.ParserRule.{ParserRule};
 ghost use Rattle.meta_analysis.specs.NameMaps.{KnowsRules};
 ghost use Rattle.meta_analysis.specs.Names.{grammar_of};
 ghost use Rattle.meta_analysis.specs.Shapes as shapes;
@@ -13,7 +14,7 @@ use crate::name_kinds::kind_of_name;
 use crate::names::Names;
 use crate::shapes::{Joint, Shape, UnaryOperator};
 use crate::table::Node;
-use meta_spanned::{ParserExpr, ParserRule};
+use meta_spanned::ParserExpr;
 use std::alloc::{AllocError, Global};
 
 /// The effect of an operator round one operand.
@@ -28,14 +29,14 @@ pub enum Wrap {
 }
 
 /// Returns the kind of an expression without operands.
-fn kind_of_leaf<'i>(rules: &[ParserRule<'i>], names: &Names, expr: &ParserExpr<'i>) -> NodeKind
-    requires { KnowsRules rules.now names.now }
-    ensures { result ≡ kind_of_code (kind_in (grammar_of rules.now)) expr.now }
+fn kind_of_leaf(names: &Names, expr: &ParserExpr<'_>) -> NodeKind
+    ensures { (rules : List ParserRule) → KnowsRules rules names.now
+        → result ≡ kind_of_code (kind_in (grammar_of rules)) expr.now }
 {
     match expr {
         ParserExpr::Str(text) => kind_of_text(text),
         ParserExpr::Insens(text) => kind_of_text(text),
-        ParserExpr::Ident(name) => kind_of_name(rules, names, name),
+        ParserExpr::Ident(name) => kind_of_name(names, name),
         ParserExpr::PushLiteral(_) => NodeKind::Still,
         ParserExpr::Range(_, _) => NodeKind::Taking,
         ParserExpr::PeekSlice(_, _) => NodeKind::Taking,
@@ -122,37 +123,31 @@ fn kind_of_both(joint: Joint, first: usize, second: usize) -> NodeKind
 }
 
 /// Returns the kind of an expression of this shape.
-fn kind_of_shape<'i>(
-    rules: &[ParserRule<'i>],
-    names: &Names,
-    expr: &ParserExpr<'i>,
-    shape: Shape,
-) -> NodeKind
-    requires { KnowsRules rules.now names.now }
-    ensures { result ≡ node_kind (kind_in (grammar_of rules.now)) expr.now shape }
+fn kind_of_shape(names: &Names, expr: &ParserExpr<'_>, shape: Shape) -> NodeKind
+    ensures { (rules : List ParserRule) → KnowsRules rules names.now
+        → result ≡ node_kind (kind_in (grammar_of rules)) expr.now shape }
 {
     match shape {
-        Shape::Leaf => kind_of_leaf(rules, names, expr),
+        Shape::Leaf => kind_of_leaf(names, expr),
         Shape::One(sign, body) => kind_of_wrap(wrap_of(sign), body),
         Shape::Two(joint, first, second) => kind_of_both(joint, first, second),
     }
 }
 
 /// Computes the kinds of the nodes of a table.
-pub(crate) fn kinds_of<'i>(
+pub(crate) fn kinds_of(
     alloc: Global,
-    rules: &[ParserRule<'i>],
     names: &Names,
-    nodes: &[Node<'_, 'i>],
+    nodes: &[Node<'_, '_>],
 ) -> Result<Vec<NodeKind>, AllocError>
-    requires { KnowsRules rules.now names.now }
-    ensures { IfOk result (λ kinds. (all : List Spanned) → shapes.AreNodes all nodes.now
-        → AreNodes (kind_in (grammar_of rules.now)) all kinds.items) }
+    ensures { IfOk result (λ kinds. (rules : List ParserRule) → KnowsRules rules names.now
+        → (all : List Spanned) → shapes.AreNodes all nodes.now
+        → AreNodes (kind_in (grammar_of rules)) all kinds.items) }
 {
     let mut kinds = Vec::with_capacity(alloc, nodes.len())?;
     for place in 0..nodes.len() {
         let node = nodes[place];
-        kinds.push(kind_of_shape(rules, names, node.expr, node.shape))?;
+        kinds.push(kind_of_shape(names, node.expr, node.shape))?;
     }
     Ok(kinds)
 }

@@ -1,8 +1,9 @@
 //! Names, resolved to the numbers of rules.
-ghost use Rattle.std.specs.Prelude.{◌≡◌, IfOk, bytes_eq};
+ghost use Rattle.std.specs.Prelude.{◌≡◌, IfOk, List, bytes_eq};
 ghost use Rattle.std.specs.Str.{IsAscii};
 ghost use Rattle.meta_base.specs.Language.Expression.{last_place};
 ghost use Rattle.meta_ast.specs.Ast.{text_of};
+ghost use Rattle.meta_spanned.specs.declared.node.ParserRule.{ParserRule};
 ghost use Rattle.meta_analysis.specs.Names.{grammar_of, is_end};
 ghost use Rattle.meta_analysis.specs.NameMaps.{KnowsRules};
 
@@ -42,9 +43,9 @@ impl Names {
 }
 
 /// Returns the index of the last rule of that name, if there is one.
-pub fn rule_of_name<'i>(rules: &[ParserRule<'i>], names: &Names, name: &String) -> Option<usize>
-    requires { KnowsRules rules.now names.now }
-    ensures { result ≡ last_place (grammar_of rules.now) (text_of name.now) }
+pub fn rule_of_name(names: &Names, name: &String) -> Option<usize>
+    ensures { (rules : List ParserRule) → KnowsRules rules names.now
+        → result ≡ last_place (grammar_of rules) (text_of name.now) }
 {
     names.place_of(name.as_str())
 }

@@ -1,5 +1,5 @@
 -- Which rules may match the empty text.
-use Rattle.std.specs.Prelude.{◌≡◌, ℕ, List, Bool, Some, slice_get}
+use Rattle.std.specs.Prelude.{◌≡◌, ℕ, Bool, Some, slice_get}
 use Rattle.std.specs.Bool.{Decides}
 use Rattle.meta_analysis.specs.Analysis.{IsAnalysis}
 use Rattle.meta_analysis.specs.Names.{grammar_of}
@@ -11,6 +11,7 @@ use Rattle.meta_spanned.specs.declared.node.ParserRule.{ParserRule}
 
 -- the answer is whether the rule of a number may match the empty text, if there is such a rule
 abbrev pub DecidesNullable : Analysis → ℕ → Bool → Type 0
-DecidesNullable analysis number answer = (rules : List ParserRule) (rule : ParserRule)
-    → IsAnalysis rules analysis → slice_get rules number ≡ Some rule
-    → Decides answer (IsNullable (grammar_of rules) (without_spans (view rule.node)))
+DecidesNullable analysis number answer = (rule : ParserRule)
+    → IsAnalysis analysis → slice_get analysis.grammar.rules.now number ≡ Some rule
+    → Decides answer
+    (IsNullable (grammar_of analysis.grammar.rules.now) (without_spans (view rule.node)))

@@ -34,11 +34,11 @@ pub fn find_facts<'i>(
     ensures { IfOk result (λ facts. AreFactsBelow (length rules.now) facts.items) }
 {
     let analysis = analyze(alloc, rules)?;
-    let mut callers = find_callers(alloc, rules.len(), sources, &analysis.names.places)?;
+    let mut callers = find_callers(alloc, rules.len(), sources, &analysis.grammar.names.places)?;
     let mut warnings = find_warnings(alloc, sources, rules)?;
     let mut facts = Vec::new(alloc);
     for (number, rule) in rules.iter().enumerate().rev() {
-        let first_set = find_first_set(alloc, &analysis, rules, number)?;
+        let first_set = find_first_set(alloc, &analysis, number)?;
         let called_by = callers.pop().unwrap_or(Vec::new(alloc));
         facts.push(RuleFacts {
             callers: called_by,

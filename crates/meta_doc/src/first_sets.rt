@@ -5,7 +5,7 @@ ghost use Rattle.meta_doc.specs.Nullability.{DecidesNullable};
 use meta_analysis::{Analysis, Joint, Shape, UnaryOperator};
 use meta_ast::ast::{Expr, RuleType};
 use meta_diagram::leaf_label;
-use meta_spanned::{ParserExpr, ParserRule};
+use meta_spanned::ParserExpr;
 use meta_warnings::is_blank_name;
 use std::alloc::{AllocError, Global};
 
@@ -35,7 +35,6 @@ struct Visit {
 struct FirstSearch<'s, 'n, 'i> {
     alloc: Global,
     analysis: &'s Analysis<'n, 'i>,
-    rules: &'n [ParserRule<'i>],
     /// The rules whose bodies were added to `waiting`.
     called: Vec<Visit>,
     /// The nodes that are still to be visited, the next one last.
@@ -46,10 +45,9 @@ struct FirstSearch<'s, 'n, 'i> {
 /// Finds the terminals and builtins that may begin a rule in non-atomic mode, at most twelve, within 400
 /// nodes. Implicit whitespace may follow an item that matches nothing, and comes last. The only error is an
 /// allocation failure.
-pub fn find_first_set<'n, 'i>(
+pub fn find_first_set(
     alloc: Global,
-    analysis: &Analysis<'n, 'i>,
-    rules: &'n [ParserRule<'i>],
+    analysis: &Analysis<'_, '_>,
     rule: usize,
 ) -> Result<FirstSet, AllocError>
     ensures { IfOk result (λ first_set. length first_set.labels.items ≤ SHOWN) }
@@ -57,7 +55,6 @@ pub fn find_first_set<'n, 'i>(
     let mut search = FirstSearch {
         alloc,
         analysis,
-        rules,
         called: Vec::new(alloc),
         waiting: Vec::new(alloc),
         labels: Vec::new(alloc),
@@ -75,7 +72,7 @@ pub fn find_first_set<'n, 'i>(
 pub fn is_nullable(analysis: &Analysis<'_, '_>, rule: usize) -> bool
     ensures { DecidesNullable analysis.now rule result }
 {
-    match analysis.table.roots.get(rule) {
+    match analysis.grammar.table.roots.get(rule) {
         Some(root) => is_node_nullable(analysis, *root),
         None => false,
     }
@@ -134,7 +131,7 @@ impl FirstSearch<'_, '_, '_> {
             return Ok(());
         }
         self.called.push(call)?;
-        match self.analysis.table.roots.get(call.number) {
+        match self.analysis.grammar.table.roots.get(call.number) {
             Some(root) => self.add_node(*root, call),
             None => Ok(()),
         }
@@ -142,7 +139,7 @@ impl FirstSearch<'_, '_, '_> {
 
     /// Whether the body of a rule that is called is in atomic mode.
     fn is_body_atomic(&self, call: Visit) -> bool {
-        let Some(rule) = self.rules.get(call.number) else {
+        let Some(rule) = self.analysis.grammar.rules.get(call.number) else {
             return call.is_atomic;
         };
         match rule.ty {
@@ -157,7 +154,7 @@ impl FirstSearch<'_, '_, '_> {
     fn enter_name(&mut self, name: &str, is_atomic: bool) -> Result<(), AllocError>
         ensures { OnOk result (self.new.labels ≡ self.old.labels) }
     {
-        match self.analysis.names.place_of(name) {
+        match self.analysis.grammar.names.place_of(name) {
             Some(number) => self.enter_rule(Visit { number, is_atomic }),
             None => Ok(()),
         }
@@ -167,7 +164,7 @@ impl FirstSearch<'_, '_, '_> {
     fn visit(&mut self, visit: Visit) -> Result<(), AllocError>
         ensures { OnOk result (length self.new.labels.items ≤ length self.old.labels.items + 1) }
     {
-        let Some(node) = self.analysis.table.nodes.get(visit.number) else {
+        let Some(node) = self.analysis.grammar.table.nodes.get(visit.number) else {
             return Ok(());
         };
         match node.shape {
@@ -240,7 +237,8 @@ impl FirstSearch<'_, '_, '_> {
         ensures { OnOk result (length self.new.labels.items ≤ length self.old.labels.items + 1) }
     {
         if let ParserExpr::Ident(name) = expr {
-            if self.analysis.names.place_of(name.as_str()).is_some() {
+            let names = &self.analysis.grammar.names;
+            if names.place_of(name.as_str()).is_some() {
                 return self.enter_name(name.as_str(), is_atomic);
             }
         }

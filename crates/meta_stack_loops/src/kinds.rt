@@ -1,27 +1,28 @@
 //! Kinds of the nodes of all rules.
-ghost use Rattle.std.specs.Prelude.{◌≡◌, IfOk};
+ghost use Rattle.std.specs.Prelude.{◌≡◌, IfOk, List};
 ghost use Rattle.meta_ast.specs.Ast.{text_of};
+ghost use Rattle.meta_spanned.specs.declared.node.ParserRule.{ParserRule};
 ghost use Rattle.meta_analysis.specs.NameMaps.{KnowsRules};
 ghost use Rattle.meta_analysis.specs.Names.{grammar_of};
-ghost use Rattle.meta_analysis.specs.Roots.{IsTabled};
+ghost use Rattle.meta_analysis.specs.Resolved.{IsResolved};
 ghost use Rattle.meta_stack_loops.specs.Kinds.{AreTabled, both_kind, is_empty_text, kind_of_code, node_kind, slice_kind, text_kind, wrap_kind};
 ghost use Rattle.meta_stack_loops.specs.Names.{kind_in};
 
 use crate::names::kind_of_name;
 use crate::table::{NodeKind, PassNode};
-use meta_analysis::{Joint, Names, Shape, Table, UnaryOperator};
-use meta_spanned::{ParserExpr, ParserRule};
+use meta_analysis::{Joint, Names, ResolvedGrammar, Shape, UnaryOperator};
+use meta_spanned::ParserExpr;
 use std::alloc::{AllocError, Global};
 
 /// Returns the kind of an expression without operands.
-fn kind_of_leaf<'i>(rules: &[ParserRule<'i>], names: &Names, expr: &ParserExpr<'i>) -> NodeKind
-    requires { KnowsRules rules.now names.now }
-    ensures { result ≡ kind_of_code (kind_in (grammar_of rules.now)) expr.now }
+fn kind_of_leaf(names: &Names, expr: &ParserExpr<'_>) -> NodeKind
+    ensures { (rules : List ParserRule) → KnowsRules rules names.now
+        → result ≡ kind_of_code (kind_in (grammar_of rules)) expr.now }
 {
     match expr {
         ParserExpr::Str(text) => kind_of_text(text),
         ParserExpr::Insens(text) => kind_of_text(text),
-        ParserExpr::Ident(name) => kind_of_name(rules, names, name),
+        ParserExpr::Ident(name) => kind_of_name(names, name),
         ParserExpr::PeekSlice(start, end) => kind_of_slice(*start, *end),
         ParserExpr::PushLiteral(text) => NodeKind::PushLiteral(is_empty_text(text)),
         ParserExpr::Range(_, _) => NodeKind::Leaf,
@@ -103,17 +104,12 @@ fn kind_of_both(joint: Joint, first: usize, second: usize) -> NodeKind
 }
 
 /// Returns the kind of an expression of this shape.
-fn kind_of_node<'i>(
-    rules: &[ParserRule<'i>],
-    names: &Names,
-    expr: &ParserExpr<'i>,
-    shape: Shape,
-) -> NodeKind
-    requires { KnowsRules rules.now names.now }
-    ensures { result ≡ node_kind (kind_in (grammar_of rules.now)) expr.now shape }
+fn kind_of_node(names: &Names, expr: &ParserExpr<'_>, shape: Shape) -> NodeKind
+    ensures { (rules : List ParserRule) → KnowsRules rules names.now
+        → result ≡ node_kind (kind_in (grammar_of rules)) expr.now shape }
 {
     match shape {
-        Shape::Leaf => kind_of_leaf(rules, names, expr),
+        Shape::Leaf => kind_of_leaf(names, expr),
         Shape::One(sign, body) => kind_of_wrap(sign, body),
         Shape::Two(joint, first, second) => kind_of_both(joint, first, second),
     }
@@ -122,20 +118,18 @@ fn kind_of_node<'i>(
 /// Returns the nodes of the table of rules, with their kinds.
 pub(crate) fn nodes_with_kinds<'n, 'i>(
     alloc: Global,
-    rules: &[ParserRule<'i>],
-    names: &Names,
-    table: &Table<'n, 'i>,
+    grammar: &ResolvedGrammar<'n, 'i>,
 ) -> Result<Vec<PassNode<'n, 'i>>, AllocError>
-    requires known { KnowsRules rules.now names.now }
-    requires tabled { IsTabled rules.now table.now }
-    ensures { IfOk result (λ nodes. AreTabled rules.now (kind_in (grammar_of rules.now))
-        nodes.items table.now.roots.items) }
+    requires { IsResolved grammar.now }
+    ensures { IfOk result (λ nodes. AreTabled grammar.now.rules.now
+        (kind_in (grammar_of grammar.now.rules.now)) nodes.items grammar.now.table.roots.items) }
 {
+    let table = &grammar.table;
     let mut nodes = Vec::with_capacity(alloc, table.nodes.len())?;
     for place in 0..table.nodes.len() {
         let node = table.nodes[place];
         nodes.push(PassNode {
-            kind: kind_of_node(rules, names, node.expr, node.shape),
+            kind: kind_of_node(&grammar.names, node.expr, node.shape),
             rule: node.rule,
             span: node.span,
         })?;

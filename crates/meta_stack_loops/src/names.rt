@@ -1,8 +1,9 @@
 //! Kinds of names.
-ghost use Rattle.std.specs.Prelude.{◌≡◌, Some};
+ghost use Rattle.std.specs.Prelude.{◌≡◌, List, Some};
 ghost use Rattle.meta_ast.specs.Ast.{text_of};
 ghost use Rattle.meta_base.specs.Language.Builtins.{builtin_of};
 ghost use Rattle.meta_builtins.specs.Builtins.{meaning_of};
+ghost use Rattle.meta_spanned.specs.declared.node.ParserRule.{ParserRule};
 ghost use Rattle.meta_analysis.specs.NameMaps.{KnowsRules};
 ghost use Rattle.meta_analysis.specs.Names.{grammar_of};
 ghost use Rattle.meta_stack_loops.specs.Names.{builtin_kind, kind_in};
@@ -10,7 +11,6 @@ ghost use Rattle.meta_stack_loops.specs.Names.{builtin_kind, kind_in};
 use crate::table::NodeKind;
 use meta_analysis::{Names, rule_of_name};
 use meta_builtins::Builtin;
-use meta_spanned::ParserRule;
 
 /// Returns the kind of a builtin.
 fn kind_of_builtin(builtin: Builtin) -> NodeKind
@@ -37,11 +37,11 @@ fn kind_of_other(name: &String) -> NodeKind
 }
 
 /// Returns the kind of a name.
-pub(crate) fn kind_of_name<'i>(rules: &[ParserRule<'i>], names: &Names, name: &String) -> NodeKind
-    requires { KnowsRules rules.now names.now }
-    ensures { result ≡ kind_in (grammar_of rules.now) (text_of name.now) }
+pub(crate) fn kind_of_name(names: &Names, name: &String) -> NodeKind
+    ensures { (rules : List ParserRule) → KnowsRules rules names.now
+        → result ≡ kind_in (grammar_of rules) (text_of name.now) }
 {
-    match rule_of_name(rules, names, name) {
+    match rule_of_name(names, name) {
         Some(rule) => NodeKind::Call(rule),
         None => kind_of_other(name),
     }

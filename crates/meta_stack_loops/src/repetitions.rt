@@ -9,12 +9,12 @@ ghost use Rattle.meta_spanned.specs.Nodes.{rule_views, piece_of};
 ghost use Rattle.meta_spanned.specs.declared.node.ParserRule.{ParserRule};
 ghost use Rattle.meta_analysis.specs.Facts.{AreFacts, AreNullable};
 ghost use Rattle.meta_analysis.specs.Analysis.{IsAnalysis};
+ghost use Rattle.meta_analysis.specs.Resolved.{IsResolved};
 ghost use Rattle.meta_stack_domain.specs.Reports.{skips_in};
 ghost use Rattle.meta_stack_loops.specs.Certain.{AreFound, AreReports, IsSorted, AreErrorsOfReports, complaint_at};
 ghost use Rattle.meta_stack_loops.specs.Expressions.{body_flag, name_flag};
 ghost use Rattle.meta_analysis.specs.NameMaps.{KnowsRules};
 ghost use Rattle.meta_analysis.specs.Names.{grammar_of};
-ghost use Rattle.meta_analysis.specs.Roots.{IsTabled};
 ghost use Rattle.meta_stack_loops.specs.Table.{AreInside, IsOrdered};
 ghost use Rattle.meta_stack_loops.specs.Reportable.{FindsMore, IsToVisit};
 ghost use Rattle.meta_stack_loops.specs.Visiting.{FindsAll, Keeps};
@@ -28,7 +28,7 @@ use crate::recursion::{Calls, calls_of};
 use crate::reportable::{is_some_root_set, reportable_nodes};
 use crate::table::Table;
 use crate::visits::{Pending, visit};
-use meta_analysis::{Analysis, Facts, Names, facts_of, names_of, tabulate};
+use meta_analysis::{Analysis, Facts, Names, ResolvedGrammar, facts_of, resolve};
 use meta_base::grammar::Rule;
 use meta_base::runtime::{Error, ErrorVariant, Fault, Span, Survey};
 use meta_fixpoint::is_set;
@@ -89,22 +89,19 @@ fn leaves_stack(names: &Names, roots: &[usize], flags: &[bool]) -> bool
 }
 
 /// Returns which nodes may take nothing, copied from the facts that are lent, or computed if none are.
-fn nullable_flags<'i>(
+fn nullable_flags(
     alloc: Global,
-    rules: &[ParserRule<'i>],
-    names: &Names,
-    table: &meta_analysis::Table<'_, 'i>,
+    grammar: &ResolvedGrammar<'_, '_>,
     lent: Option<&Facts>,
 ) -> Result<Vec<bool>, AllocError>
-    requires known { KnowsRules rules.now names.now }
-    requires tabled { IsTabled rules.now table.now }
-    requires facts { IfSome lent (λ facts. AreFacts rules.now facts.now) }
-    ensures { IfOk result (λ flags. AreNullable rules.now flags.items) }
+    requires resolved { IsResolved grammar.now }
+    requires facts { IfSome lent (λ facts. AreFacts grammar.now.rules.now facts.now) }
+    ensures { IfOk result (λ flags. AreNullable grammar.now.rules.now flags.items) }
 {
     match lent {
         Some(facts) => facts.copy_nullable(alloc),
         None => {
-            let Facts { nullable, .. } = facts_of(alloc, rules, names, table)?;
+            let Facts { nullable, .. } = facts_of(alloc, grammar)?;
             Ok(nullable)
         }
     }
@@ -123,19 +120,16 @@ pub struct ToVisit<'n, 'i> {
 /// is searched.
 fn to_visit_in<'n, 'i>(
     alloc: Global,
-    rules: &[ParserRule<'i>],
-    names: &Names,
-    table: &meta_analysis::Table<'n, 'i>,
+    grammar: &ResolvedGrammar<'n, 'i>,
     lent: Option<&Facts>,
 ) -> Result<Option<ToVisit<'n, 'i>>, AllocError>
-    requires known { KnowsRules rules.now names.now }
-    requires tabled { IsTabled rules.now table.now }
-    requires facts { IfSome lent (λ facts. AreFacts rules.now facts.now) }
-    ensures { IfOk result (λ found. MatchOption found (AreFound (rule_views rules.now) [])
-        (λ visited. IsToVisit rules.now visited)) }
+    requires resolved { IsResolved grammar.now }
+    requires facts { IfSome lent (λ facts. AreFacts grammar.now.rules.now facts.now) }
+    ensures { IfOk result (λ found. MatchOption found (AreFound (rule_views grammar.now.rules.now) [])
+        (λ visited. IsToVisit grammar.now.rules.now visited)) }
 {
-    let nodes = nodes_with_kinds(alloc, rules, names, table)?;
-    let roots = table.copy_roots(alloc)?;
+    let nodes = nodes_with_kinds(alloc, grammar)?;
+    let roots = grammar.table.copy_roots(alloc)?;
     let reportable = reportable_nodes(alloc, roots.as_slice(), nodes.as_slice())?;
     if !is_some_root_set(roots.as_slice(), reportable.as_slice()) {
         return Ok(None);
@@ -146,10 +140,10 @@ fn to_visit_in<'n, 'i>(
         roots.as_slice(),
         nodes.as_slice(),
     )?;
-    if !leaves_stack(names, roots.as_slice(), changing.as_slice()) {
+    if !leaves_stack(&grammar.names, roots.as_slice(), changing.as_slice()) {
         return Ok(None);
     }
-    let nullable = nullable_flags(alloc, rules, names, table, lent)?;
+    let nullable = nullable_flags(alloc, grammar, lent)?;
     let Calls { recursive, ranks } = calls_of(alloc, roots.as_slice(), nodes.as_slice())?;
     let table = Table {
         nodes,
@@ -157,7 +151,7 @@ fn to_visit_in<'n, 'i>(
         recursive,
         ranks,
         nullable,
-        skips: is_skipping(names),
+        skips: is_skipping(&grammar.names),
         limit: MOST_TURNS,
         turns: SEARCHED_TURNS,
     };
@@ -334,17 +328,15 @@ fn visit_all<'n, 'i>(
 /// Returns the spans of all reports, one body after another.
 fn all_reports<'i>(
     alloc: Global,
-    rules: &[ParserRule<'i>],
-    names: &Names,
-    table: &meta_analysis::Table<'_, 'i>,
+    grammar: &ResolvedGrammar<'_, 'i>,
     lent: Option<&Facts>,
 ) -> Result<Vec<Span<'i>>, AllocError>
-    requires known { KnowsRules rules.now names.now }
-    requires tabled { IsTabled rules.now table.now }
-    requires facts { IfSome lent (λ facts. AreFacts rules.now facts.now) }
-    ensures { IfOk result (λ found. AreFound (rule_views rules.now) (map piece_of found.items)) }
+    requires resolved { IsResolved grammar.now }
+    requires facts { IfSome lent (λ facts. AreFacts grammar.now.rules.now facts.now) }
+    ensures { IfOk result (λ found.
+        AreFound (rule_views grammar.now.rules.now) (map piece_of found.items)) }
 {
-    match to_visit_in(alloc, rules, names, table, lent)? {
+    match to_visit_in(alloc, grammar, lent)? {
         None => Ok(Vec::new(alloc)),
         Some(visited) => visit_all(alloc, &visited.table, visited.reportable.as_slice()),
     }
@@ -366,9 +358,8 @@ pub fn sorted_reports<'i>(
 ) -> Result<Vec<Span<'i>>, AllocError>
     ensures exact { IfOk result (λ found. AreReports (rule_views rules.now) (map piece_of found.items)) }
 {
-    let names = names_of(alloc, rules)?;
-    let table = tabulate(alloc, rules)?;
-    let mut found = all_reports(alloc, rules, &names, &table, None)?;
+    let grammar = resolve(alloc, rules)?;
+    let mut found = all_reports(alloc, &grammar, None)?;
     sort_spans(&mut found)?;
     Ok(found)
 }
@@ -377,18 +368,14 @@ pub fn sorted_reports<'i>(
 /// allocation failure.
 pub fn sorted_reports_in<'i>(
     alloc: Global,
-    rules: &[ParserRule<'i>],
     groundwork: &Analysis<'_, 'i>,
 ) -> Result<Vec<Span<'i>>, AllocError>
-    requires { IsAnalysis rules.now groundwork.now }
-    ensures exact { IfOk result (λ found. AreReports (rule_views rules.now) (map piece_of found.items)) }
+    requires { IsAnalysis groundwork.now }
+    ensures exact { IfOk result (λ found.
+        AreReports (rule_views groundwork.now.grammar.rules.now) (map piece_of found.items)) }
 {
-    let Analysis {
-        names,
-        table,
-        facts,
-    } = groundwork;
-    let mut found = all_reports(alloc, rules, names, table, Some(facts))?;
+    let Analysis { grammar, facts } = groundwork;
+    let mut found = all_reports(alloc, grammar, Some(facts))?;
     sort_spans(&mut found)?;
     Ok(found)
 }

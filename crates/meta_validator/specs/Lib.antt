@@ -11,6 +11,7 @@ pub mod Placed
 pub mod Reported
 pub mod LeftRecursion
 pub mod Regions
+pub mod Guides
 pub mod Searching
 pub mod Alike
 pub mod Tags

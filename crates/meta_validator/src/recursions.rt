@@ -15,7 +15,7 @@ ghost use Rattle.meta_validator.specs.LeftRecursion.{Means, arrows, name_at, tra
 ghost use Rattle.meta_analysis.specs.NameMaps.{KnowsRules};
 ghost use Rattle.meta_analysis.specs.Names.{grammar_of};
 ghost use Rattle.meta_analysis.specs.Nodes.{all_nodes};
-ghost use Rattle.meta_validator.specs.Regions.{ArePassing};
+ghost use Rattle.meta_validator.specs.Guides.{IsGuide};
 ghost use Rattle.meta_validator.specs.Reporting.{AreSpans, finding_of, findings_of};
 ghost use Rattle.meta_validator.specs.Searching.{ordered, called_in, inside_of, cost, unentered, IsSearch, IsGoing, IsIdle, IsSearchResult, IsClosing, NeverComesBack};
 
@@ -59,6 +59,14 @@ pub struct ClosedTrail {
     pub trail: Vec<usize>,
     /// The node of the call of the start.
     pub call: usize,
+}
+
+/// The input of a search for a trail: the rules, the facts of their nodes, and which nodes it may pass.
+#[derive(Clone, Copy)]
+pub struct Guide<'f, 'i> {
+    pub rules: &'f [ParserRule<'i>],
+    pub facts: &'f Facts,
+    pub passing: &'f [bool],
 }
 
 /// Enters a rule, whose body is the node `root`.
@@ -152,40 +160,38 @@ fn walk_call(facts: &Facts, walk: &mut Walk, rule: usize) -> Result<(), AllocErr
 }
 
 /// Walks over a node. Answers whether the node is a call of the start, which closes the trail.
-fn walk_node<'i>(
-    rules: &[ParserRule<'i>],
-    facts: &Facts,
-    passing: &[bool],
+fn walk_node(
+    guide: Guide<'_, '_>,
     start: usize,
     walk: &mut Walk,
     node: usize,
 ) -> Result<bool, AllocError>
-    requires facts { AreFacts rules.now facts.now }
-    requires passing { ArePassing rules.now facts.now.table.roots.items passing.now }
+    requires guide { IsGuide guide }
     requires going { (todo : List Task) × (path : List ℕ)
-        × IsSearch rules.now facts.now.table.roots.items start walk.old.entered.all.items
+        × IsSearch guide.rules.now guide.facts.now.table.roots.items start walk.old.entered.all.items
         (Task.Visit node ∷ todo) path
         × (walk.old.tasks.items ≡ ordered todo) × (walk.old.trail.items ≡ ordered path) }
-    ensures closes { IfOk result (λ closes. closes ≡ true
-        → IsClosing rules.now facts.now.table.roots.items start node walk.new.trail.items) }
+    ensures closes { IfOk result (λ closes. closes ≡ true → IsClosing guide.entry.rules.now
+        guide.entry.facts.now.table.roots.items start node walk.new.trail.items) }
     ensures ends { IfOk result (λ closes. closes ≡ true → walk.new ≡ walk.old) }
-    ensures goes_on { IfOk result (λ closes. closes ≡ false → IsGoing rules.now facts.now.table.roots.items
+    ensures goes_on { IfOk result (λ closes. closes ≡ false → IsGoing guide.entry.rules.now
+        guide.entry.facts.now.table.roots.items
         start walk.new.entered.all.items walk.new.tasks.items walk.new.trail.items) }
     ensures less { IfOk result (λ closes. closes ≡ false
-        → cost (all_nodes rules.now) walk.new.tasks.items
-        + unentered walk.new.entered.all.items (rule_views rules.now)
-        < cost (all_nodes rules.now) (walk.old.tasks.items ++ Task.Visit node ∷ [])
-        + unentered walk.old.entered.all.items (rule_views rules.now)) }
+        → cost (all_nodes guide.entry.rules.now) walk.new.tasks.items
+        + unentered walk.new.entered.all.items (rule_views guide.entry.rules.now)
+        < cost (all_nodes guide.entry.rules.now) (walk.old.tasks.items ++ Task.Visit node ∷ [])
+        + unentered walk.old.entered.all.items (rule_views guide.entry.rules.now)) }
 {
-    let kind = kind_of_node(facts, node);
+    let kind = kind_of_node(guide.facts, node);
     match called_by(kind) {
         Some(called) => {
             if called == start {
                 return Ok(true);
             }
-            walk_call(facts, walk, called)?;
+            walk_call(guide.facts, walk, called)?;
         }
-        None => push_inside(&mut walk.tasks, passing, kind)?,
+        None => push_inside(&mut walk.tasks, guide.passing, kind)?,
     }
     Ok(false)
 }
@@ -202,21 +208,16 @@ fn idle<'i>(alloc: Global, rules: &[ParserRule<'i>]) -> Result<Walk, AllocError>
 }
 
 /// Begins the walk from a rule by entering the rule.
-fn begin<'i>(
-    rules: &[ParserRule<'i>],
-    facts: &Facts,
-    start: usize,
-    walk: &mut Walk,
-) -> Result<(), AllocError>
-    requires facts { AreFacts rules.now facts.now }
-    requires inside { start < length rules.now }
-    requires last { (r : SpannedRule) → slice_get (rule_views rules.now) start ≡ Some r
-        → Means (rule_views rules.now) r.name start }
-    requires idle { IsIdle rules.now walk.old }
-    ensures { OnOk result (IsGoing rules.now facts.now.table.roots.items
+fn begin(guide: Guide<'_, '_>, start: usize, walk: &mut Walk) -> Result<(), AllocError>
+    requires guide { IsGuide guide }
+    requires inside { start < length guide.rules.now }
+    requires last { (r : SpannedRule) → slice_get (rule_views guide.rules.now) start ≡ Some r
+        → Means (rule_views guide.rules.now) r.name start }
+    requires idle { IsIdle guide.rules.now walk.old }
+    ensures { OnOk result (IsGoing guide.entry.rules.now guide.entry.facts.now.table.roots.items
         start walk.new.entered.all.items walk.new.tasks.items walk.new.trail.items) }
 {
-    let root = facts.table.root_at(start);
+    let root = guide.facts.table.root_at(start);
     enter_rule(walk, start, root)?;
     Ok(())
 }
@@ -234,24 +235,22 @@ fn end(walk: &mut Walk)
 }
 
 /// Runs a walk to the first call of its start, and returns that call with the rules by which it came.
-fn run_walk<'i>(
+fn run_walk(
     alloc: Global,
-    rules: &[ParserRule<'i>],
-    facts: &Facts,
-    passing: &[bool],
+    guide: Guide<'_, '_>,
     start: usize,
     walk: &mut Walk,
 ) -> Result<Option<ClosedTrail>, AllocError>
-    requires facts { AreFacts rules.now facts.now }
-    requires passing { ArePassing rules.now facts.now.table.roots.items passing.now }
-    requires going { IsGoing rules.now facts.now.table.roots.items
+    requires guide { IsGuide guide }
+    requires going { IsGoing guide.rules.now guide.facts.now.table.roots.items
         start walk.old.entered.all.items walk.old.tasks.items walk.old.trail.items }
     ensures none { IfOk result (λ found. IfNone found
-        (IsSearchResult rules.now facts.now.table.roots.items start None
-        × NeverComesBack rules.now facts.now.table.roots.items start)) }
-    ensures some { IfOk result (λ found. IfSome found (λ closed.
-        IsClosing rules.now facts.now.table.roots.items start closed.call closed.trail.items)) }
-    ensures long { OnOk result (length walk.new.entered.all.items ≡ length (rule_views rules.now)) }
+        (IsSearchResult guide.entry.rules.now guide.entry.facts.now.table.roots.items start None
+        × NeverComesBack guide.entry.rules.now guide.entry.facts.now.table.roots.items start)) }
+    ensures some { IfOk result (λ found. IfSome found (λ closed. IsClosing guide.entry.rules.now
+        guide.entry.facts.now.table.roots.items start closed.call closed.trail.items)) }
+    ensures long { OnOk result (length walk.new.entered.all.items
+        ≡ length (rule_views guide.entry.rules.now)) }
 {
     while let Some(task) = walk.tasks.pop() {
         match task {
@@ -259,7 +258,7 @@ fn run_walk<'i>(
                 let _left = walk.trail.pop();
             }
             Task::Visit(node) => {
-                let closes = walk_node(rules, facts, passing, start, walk, node)?;
+                let closes = walk_node(guide, start, walk, node)?;
                 if closes {
                     let trail = mem::replace(&mut walk.trail, Vec::new(alloc));
                     return Ok(Some(ClosedTrail { trail, call: node }));
@@ -271,29 +270,26 @@ fn run_walk<'i>(
 }
 
 /// Returns the first call of a rule to which the walk from there comes, with the rules by which it came.
-fn find_trail<'i>(
+fn find_trail(
     alloc: Global,
-    rules: &[ParserRule<'i>],
-    facts: &Facts,
-    passing: &[bool],
+    guide: Guide<'_, '_>,
     start: usize,
     walk: &mut Walk,
 ) -> Result<Option<ClosedTrail>, AllocError>
-    requires facts { AreFacts rules.now facts.now }
-    requires passing { ArePassing rules.now facts.now.table.roots.items passing.now }
-    requires inside { start < length rules.now }
-    requires last { (r : SpannedRule) → slice_get (rule_views rules.now) start ≡ Some r
-        → Means (rule_views rules.now) r.name start }
-    requires idle { IsIdle rules.now walk.old }
+    requires guide { IsGuide guide }
+    requires inside { start < length guide.rules.now }
+    requires last { (r : SpannedRule) → slice_get (rule_views guide.rules.now) start ≡ Some r
+        → Means (rule_views guide.rules.now) r.name start }
+    requires idle { IsIdle guide.rules.now walk.old }
     ensures none { IfOk result (λ found. IfNone found
-        (IsSearchResult rules.now facts.now.table.roots.items start None
-        × NeverComesBack rules.now facts.now.table.roots.items start)) }
-    ensures some { IfOk result (λ found. IfSome found (λ closed.
-        IsClosing rules.now facts.now.table.roots.items start closed.call closed.trail.items)) }
-    ensures idle { OnOk result (IsIdle rules.now walk.new) }
+        (IsSearchResult guide.entry.rules.now guide.entry.facts.now.table.roots.items start None
+        × NeverComesBack guide.entry.rules.now guide.entry.facts.now.table.roots.items start)) }
+    ensures some { IfOk result (λ found. IfSome found (λ closed. IsClosing guide.entry.rules.now
+        guide.entry.facts.now.table.roots.items start closed.call closed.trail.items)) }
+    ensures idle { OnOk result (IsIdle guide.entry.rules.now walk.new) }
 {
-    begin(rules, facts, start, walk)?;
-    let found = run_walk(alloc, rules, facts, passing, start, walk)?;
+    begin(guide, start, walk)?;
+    let found = run_walk(alloc, guide, start, walk)?;
     end(walk);
     Ok(found)
 }
@@ -356,7 +352,7 @@ fn is_last<'i>(rules: &[ParserRule<'i>], names: &Names, place: usize) -> bool
     ensures no { result ≡ false → (r : SpannedRule) → slice_get (rule_views rules.now) place ≡ Some r
         → Means (rule_views rules.now) r.name place → ⊥ }
 {
-    match rule_of_name(rules, names, &rules[place].name) {
+    match rule_of_name(names, &rules[place].name) {
         Some(last) => last == place,
         None => false,
     }
@@ -385,37 +381,30 @@ fn may_come_back<'i>(
     !falls_from(facts, levels, place)
 }
 
-/// The input of a search for a trail: the facts of the rules, and which nodes it may pass.
-#[derive(Clone, Copy)]
-struct Guide<'f> {
-    facts: &'f Facts,
-    passing: &'f [bool],
-}
-
 /// Searches the finding of the rule at an index, the last of its name, as left-recursive.
 fn recursion_at<'i>(
     alloc: Global,
-    rules: &[ParserRule<'i>],
-    guide: Guide<'_>,
+    guide: Guide<'_, 'i>,
     spans: &[Span<'i>],
     place: usize,
     walk: &mut Walk,
 ) -> Result<Option<Finding<'i>>, AllocError>
-    requires facts { AreFacts rules.now guide.facts.now }
-    requires spans { AreSpans rules.now spans.now }
-    requires passing { ArePassing rules.now guide.facts.now.table.roots.items guide.passing.now }
-    requires inside { place < length rules.now }
-    requires last { (r : SpannedRule) → slice_get (rule_views rules.now) place ≡ Some r
-        → Means (rule_views rules.now) r.name place }
-    requires idle { IsIdle rules.now walk.old }
-    ensures idle { OnOk result (IsIdle rules.now walk.new) }
-    ensures nothing { IfOk result (λ found. IfNone found (OfRecursion (rule_views rules.now) place [])) }
+    requires guide { IsGuide guide }
+    requires spans { AreSpans guide.rules.now spans.now }
+    requires inside { place < length guide.rules.now }
+    requires last { (r : SpannedRule) → slice_get (rule_views guide.rules.now) place ≡ Some r
+        → Means (rule_views guide.rules.now) r.name place }
+    requires idle { IsIdle guide.rules.now walk.old }
+    ensures idle { OnOk result (IsIdle guide.entry.rules.now walk.new) }
+    ensures nothing { IfOk result (λ found. IfNone found
+        (OfRecursion (rule_views guide.entry.rules.now) place [])) }
     ensures never { IfOk result (λ found. IfNone found
-        (NeverComesBack rules.now guide.entry.facts.now.table.roots.items place)) }
+        (NeverComesBack guide.entry.rules.now guide.entry.facts.now.table.roots.items place)) }
     ensures some { IfOk result (λ found. IfSome found
-        (λ finding. OfRecursion (rule_views rules.now) place (finding_of finding ∷ []))) }
+        (λ finding. OfRecursion (rule_views guide.entry.rules.now) place (finding_of finding ∷ []))) }
 {
-    match find_trail(alloc, rules, guide.facts, guide.passing, place, walk)? {
+    let rules = guide.rules;
+    match find_trail(alloc, guide, place, walk)? {
         None => Ok(None),
         Some(closed) => {
             let span = spans[closed.call];
@@ -450,6 +439,7 @@ fn closed_trails<'i>(
     let levels = left_levels(alloc, facts)?;
     let passing = passing(alloc, facts)?;
     let guide = Guide {
+        rules,
         facts,
         passing: passing.as_slice(),
     };
@@ -459,7 +449,7 @@ fn closed_trails<'i>(
         if !may_come_back(rules, names, facts, levels.as_slice(), place) {
             continue;
         }
-        match recursion_at(alloc, rules, guide, spans, place, &mut walk)? {
+        match recursion_at(alloc, guide, spans, place, &mut walk)? {
             None => continue,
             Some(finding) => found.push(finding)?,
         }

@@ -17,7 +17,6 @@ use meta_analysis::Analysis;
 use meta_base::grammar::Rule;
 use meta_base::runtime::{Error, ErrorVariant, Fault, Span, Survey};
 use meta_messages::{Message, repeated_expression};
-use meta_spanned::ParserRule;
 use std::alloc::{AllocError, Global};
 
 /// Makes the findings of repetitions that are known to be endless.
@@ -40,18 +39,19 @@ fn endless_findings<'i>(alloc: Global, endless: &[Span<'i>]) -> Result<Vec<Findi
 /// then skipped rules, then left recursion, then tags.
 fn all_findings<'i>(
     alloc: Global,
-    rules: &[ParserRule<'i>],
     groundwork: &Analysis<'_, 'i>,
     endless: &[Span<'i>],
 ) -> Result<Vec<Finding<'i>>, AllocError>
-    requires groundwork { IsAnalysis rules.now groundwork.now }
+    requires groundwork { IsAnalysis groundwork.now }
     ensures found { IfOk result (λ found.
-        AreFound (rule_views rules.now) (map piece_of endless.now) (findings_of found.items)) }
+        AreFound (rule_views groundwork.now.grammar.rules.now)
+        (map piece_of endless.now) (findings_of found.items)) }
     ensures accepted { IfOk result (λ found. findings_of found.items ≡ []
-        → IsWellFormed (grammar_of rules.now)) }
+        → IsWellFormed (grammar_of groundwork.now.grammar.rules.now)) }
 {
-    let facts = &groundwork.facts;
-    let spans = spans_of(alloc, &groundwork.table)?;
+    let Analysis { grammar, facts } = groundwork;
+    let rules = grammar.rules;
+    let spans = spans_of(alloc, &grammar.table)?;
     let found = repetitions(alloc, facts, spans.as_slice())?;
     let known = endless_findings(alloc, endless)?;
     let found = append_findings(found, known)?;
@@ -59,9 +59,9 @@ fn all_findings<'i>(
     let found = append_findings(found, choices)?;
     let skips = skips(alloc, rules, facts)?;
     let found = append_findings(found, skips)?;
-    let recursions = recursions(alloc, rules, &groundwork.names, facts, spans.as_slice())?;
+    let recursions = recursions(alloc, rules, &grammar.names, facts, spans.as_slice())?;
     let found = append_findings(found, recursions)?;
-    let tags = tags(alloc, rules, &groundwork.names)?;
+    let tags = tags(alloc, rules, &grammar.names)?;
     let found = append_findings(found, tags)?;
     Ok(found)
 }
@@ -91,17 +91,17 @@ fn sort_by_span<'i>(found: &mut Vec<Finding<'i>>) -> Result<(), AllocError>
 /// Collects all findings in rules, sorted by span.
 pub(crate) fn sorted_findings<'i>(
     alloc: Global,
-    rules: &[ParserRule<'i>],
     groundwork: &Analysis<'_, 'i>,
     endless: &[Span<'i>],
 ) -> Result<Vec<Finding<'i>>, AllocError>
-    requires groundwork { IsAnalysis rules.now groundwork.now }
+    requires groundwork { IsAnalysis groundwork.now }
     ensures found { IfOk result (λ sorted.
-        AreAllFound (rule_views rules.now) (map piece_of endless.now) (findings_of sorted.items)) }
+        AreAllFound (rule_views groundwork.now.grammar.rules.now)
+        (map piece_of endless.now) (findings_of sorted.items)) }
     ensures accepted { IfOk result (λ sorted. findings_of sorted.items ≡ []
-        → IsWellFormed (grammar_of rules.now)) }
+        → IsWellFormed (grammar_of groundwork.now.grammar.rules.now)) }
 {
-    let mut found = all_findings(alloc, rules, groundwork, endless)?;
+    let mut found = all_findings(alloc, groundwork, endless)?;
     sort_by_span(&mut found)?;
     Ok(found)
 }

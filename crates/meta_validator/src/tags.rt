@@ -128,7 +128,7 @@ fn rule_named<'r, 'i>(
     ensures { option_map (λ rule. rule_said rule.now) result
         ≡ rule_of (grammar_of rules.entry.now) (text_of name.now) }
 {
-    match rule_of_name(rules, names, name) {
+    match rule_of_name(names, name) {
         Some(number) => rules.get(number),
         None => None,
     }

@@ -53,18 +53,18 @@ pub fn is_non_failing<'i>(
 /// Collects all findings in rules, sorted by span. The only fault is an allocation failure.
 fn findings_in<'i>(
     alloc: Global,
-    rules: &[ParserRule<'i>],
     groundwork: &Analysis<'_, 'i>,
     endless: &[Span<'i>],
 ) -> Result<Vec<Finding<'i>>, Fault>
-    requires groundwork { IsAnalysis rules.now groundwork.now }
+    requires groundwork { IsAnalysis groundwork.now }
     ensures found { IfOk result (λ found.
-        AreAllFound (rule_views rules.now) (map piece_of endless.now) (findings_of found.items)) }
+        AreAllFound (rule_views groundwork.now.grammar.rules.now)
+        (map piece_of endless.now) (findings_of found.items)) }
     ensures accepted { IfOk result (λ found. findings_of found.items ≡ []
-        → IsWellFormed (grammar_of rules.now)) }
+        → IsWellFormed (grammar_of groundwork.now.grammar.rules.now)) }
     ensures memory { IfErr result (λ fault. fault ≡ Fault.Memory alloc_error) }
 {
-    Ok(sorted_findings(alloc, rules, groundwork, endless)?)
+    Ok(sorted_findings(alloc, groundwork, endless)?)
 }
 
 /// Returns the errors in rules, sorted by span (at one span repetitions, then those of `endless`, then
@@ -86,26 +86,25 @@ pub fn validate_rules<'i>(
         → IsWellFormed (rules_without_spans (rule_views rules.now.items))) }
     ensures memory { IfErr result (λ fault. fault ≡ Fault.Memory alloc_error) }
 {
-    let rules = rules.as_slice();
-    let groundwork = analyze(alloc, rules)?;
-    validate_by(alloc, rules, &groundwork, endless)
+    let groundwork = analyze(alloc, rules.as_slice())?;
+    validate_by(alloc, &groundwork, endless)
 }
 
 /// Returns the errors of `validate_rules`, given the shared analysis of the rules. The only fault is an
 /// allocation failure.
 pub fn validate_by<'i>(
     alloc: Global,
-    rules: &[ParserRule<'i>],
     groundwork: &Analysis<'_, 'i>,
     endless: &[Span<'i>],
 ) -> Result<Vec<Error<Rule>>, Fault>
-    requires groundwork { IsAnalysis rules.now groundwork.now }
+    requires groundwork { IsAnalysis groundwork.now }
     ensures exact { IfOk result (λ errors.
-        AreReported (rule_views rules.now) (map piece_of endless.now) errors.items) }
-    ensures accepted { IfOk result (λ errors. errors.items ≡ [] → IsWellFormed (grammar_of rules.now)) }
+        AreReported (rule_views groundwork.now.grammar.rules.now) (map piece_of endless.now) errors.items) }
+    ensures accepted { IfOk result (λ errors. errors.items ≡ []
+        → IsWellFormed (grammar_of groundwork.now.grammar.rules.now)) }
     ensures memory { IfErr result (λ fault. fault ≡ Fault.Memory alloc_error) }
 {
-    let found = findings_in(alloc, rules, groundwork, endless)?;
+    let found = findings_in(alloc, groundwork, endless)?;
     errors_of(alloc, found.as_slice())
 }
 
@@ -125,9 +124,8 @@ pub fn validate_rules_in<'i>(
         → IsWellFormed (rules_without_spans (rule_views rules.now.items))) }
     ensures memory { IfErr result (λ fault. fault ≡ Fault.Memory alloc_error) }
 {
-    let rules = rules.as_slice();
-    let groundwork = analyze(alloc, rules)?;
-    validate_by_in(alloc, text, rules, &groundwork, endless)
+    let groundwork = analyze(alloc, rules.as_slice())?;
+    validate_by_in(alloc, text, &groundwork, endless)
 }
 
 /// Returns the errors of `validate_rules_in`, given the shared analysis of the rules. The only fault is
@@ -135,18 +133,18 @@ pub fn validate_rules_in<'i>(
 pub fn validate_by_in<'i>(
     alloc: Global,
     text: &str,
-    rules: &[ParserRule<'i>],
     groundwork: &Analysis<'_, 'i>,
     endless: &[Span<'i>],
 ) -> Result<Vec<Error<Rule>>, Fault>
-    requires groundwork { IsAnalysis rules.now groundwork.now }
-    requires rules_in_text { AreIn text.now (rule_views rules.now) }
+    requires groundwork { IsAnalysis groundwork.now }
+    requires rules_in_text { AreIn text.now (rule_views groundwork.now.grammar.rules.now) }
     requires endless_in_text { ArePiecesOf text.now (map piece_of endless.now) }
     ensures exact { IfOk result (λ errors.
-        AreReported (rule_views rules.now) (map piece_of endless.now) errors.items) }
-    ensures accepted { IfOk result (λ errors. errors.items ≡ [] → IsWellFormed (grammar_of rules.now)) }
+        AreReported (rule_views groundwork.now.grammar.rules.now) (map piece_of endless.now) errors.items) }
+    ensures accepted { IfOk result (λ errors. errors.items ≡ []
+        → IsWellFormed (grammar_of groundwork.now.grammar.rules.now)) }
     ensures memory { IfErr result (λ fault. fault ≡ Fault.Memory alloc_error) }
 {
-    let found = findings_in(alloc, rules, groundwork, endless)?;
+    let found = findings_in(alloc, groundwork, endless)?;
     errors_in(alloc, text, found.as_slice())
 }

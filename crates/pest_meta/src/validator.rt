@@ -50,10 +50,9 @@ pub fn validate_ast<'i>(
     ensures silent { IfOk result (λ errors. errors.items ≡ [] → AreReports (rule_views rules.now.items) []) }
     ensures memory { IfErr result (λ fault. fault ≡ Fault.Memory alloc_error) }
 {
-    let rules = rules.as_slice();
-    let groundwork = analyze(alloc, rules)?;
-    let endless = sorted_reports_in(alloc, rules, &groundwork)?;
-    validate_by(alloc, rules, &groundwork, endless.as_slice())
+    let groundwork = analyze(alloc, rules.as_slice())?;
+    let endless = sorted_reports_in(alloc, &groundwork)?;
+    validate_by(alloc, &groundwork, endless.as_slice())
 }
 
 /// Returns the errors of `validate_ast` for rules whose spans are all of one text, which is walked over
@@ -70,8 +69,7 @@ pub fn validate_ast_in<'i>(
     ensures silent { IfOk result (λ errors. errors.items ≡ [] → AreReports (rule_views rules.now.items) []) }
     ensures memory { IfErr result (λ fault. fault ≡ Fault.Memory alloc_error) }
 {
-    let rules = rules.as_slice();
-    let groundwork = analyze(alloc, rules)?;
-    let endless = sorted_reports_in(alloc, rules, &groundwork)?;
-    validate_by_in(alloc, text, rules, &groundwork, endless.as_slice())
+    let groundwork = analyze(alloc, rules.as_slice())?;
+    let endless = sorted_reports_in(alloc, &groundwork)?;
+    validate_by_in(alloc, text, &groundwork, endless.as_slice())
 }

@@ -33,7 +33,7 @@ returns c =
     let kinds = c.in_ok-kinds_of.field-0 in
     let t : KindTable = record { kinds = kinds; roots = c.in_ok-nodes.nodes.roots } in
     let nodes = c.in_ok-own.ensures.nodes (all_nodes rs) c.in_ok-nodes.ensures.numbered in
-    let fit = c.in_ok-kinds_of.ensures all (subst (shapes.AreNodes all) (sym c.as_slice.ensures.value) nodes.nodes) in
+    let fit = c.in_ok-kinds_of.ensures rs c.in_ok-names.ensures all (subst (shapes.AreNodes all) (sym c.as_slice.ensures.value) nodes.nodes) in
     let at = found_last (all_nodes rs) x c.in_ok-own.own (sym nodes.nodes.alike ∙ c.in_ok-own.ensures.last) in
     let table = table_of rs t (postorder x) fit c.in_ok-nodes.ensures.roots in
     let right = answers rs t table c.args.question c.in_ok-answers.answers.items c.in_ok-answers.ensures.sound c.in_ok-answers.ensures.closed in

@@ -5,7 +5,7 @@ use Rattle.meta_analysis.proofs.facts.facts_of.Goals as goal
 
 pub returns : goal.returns
 returns c =
-    let rs = c.args.rules.now in
+    let rs = c.args.grammar.now.rules.now in
     let t = c.in_ok-table.table in
     let table = tabled_table rs t c.in_ok-table.ensures in
     record {

@@ -14,20 +14,22 @@ use Rattle.meta_doc.specs.Nullability.{DecidesNullable}
 use Rattle.meta_doc.proofs.first_sets.is_nullable.Goals as goal
 
 -- the flag of a body's node is the answer
-at_root : (a : Analysis) (number : ℕ) (root : Bor ℕ) (answer : Bool) → IsItemAt a.table.roots.items number (Some root)
+at_root : (a : Analysis) (number : ℕ) (root : Bor ℕ) (answer : Bool) → IsItemAt a.grammar.table.roots.items number (Some root)
     → answer ≡ get_or a.facts.nullable.items root.now false → DecidesNullable a number answer
-at_root a number root answer lent_root e = λ rules rule h at.
-    let place = lent a.table.roots.items number (Some root) lent_root in
-    let node = h.tabled.roots.lie number root.now rule at place in
+at_root a number root answer lent_root e = λ rule h at.
+    let rules = a.grammar.rules.now in
+    let place = lent a.grammar.table.roots.items number (Some root) lent_root in
+    let node = h.resolved.tabled.roots.lie number root.now rule at place in
     let flags = a.facts.nullable.items in
     subst (λ b. Decides b (IsNullable (grammar_of rules) (without_spans (view rule.node))))
     (unwrap_or-slice_get flags root.now false ∙ sym e)
     (nullable_nodes rules a.facts.table flags h.facts.tabled h.facts.nullable root.now (view rule.node) node)
 
 -- a rule has a body
-no_root : (a : Analysis) (number : ℕ) (answer : Bool) → length a.table.roots.items ≤ number → DecidesNullable a number answer
-no_root a number answer past = λ rules rule h at.
-    absurd (omega (arith, past, h.tabled.roots.alike, slice_get_within rules number rule at))
+no_root : (a : Analysis) (number : ℕ) (answer : Bool) → length a.grammar.table.roots.items ≤ number → DecidesNullable a number answer
+no_root a number answer past = λ rule h at.
+    let rules = a.grammar.rules.now in
+    absurd (omega (arith, past, h.resolved.tabled.roots.alike, slice_get_within rules number rule at))
 
 pub returns-in-Some : goal.returns-in-Some
 returns-in-Some c =

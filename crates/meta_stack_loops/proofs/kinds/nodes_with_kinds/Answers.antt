@@ -9,19 +9,21 @@ use Rattle.meta_stack_loops.proofs.kinds.nodes_with_kinds.Goals as goal
 
 pub loop-place-preserved : goal.loop-place-preserved
 loop-place-preserved c =
-    let names = kind_in (grammar_of c.args.rules.now) in
-    let ns = c.args.table.now.nodes.items in
+    let rs = c.args.grammar.now.rules.now in
+    let names = kind_in (grammar_of rs) in
+    let ns = c.args.grammar.now.table.nodes.items in
     let n = c.index-node.result.now in
     let made : PassNode = record { kind = c.kind_of_node.result; rule = n.rule; span = n.span } in
-    let same : made ≡ node_of names n = ap (λ k. record made { kind = k }) c.kind_of_node.ensures in
+    let same : made ≡ node_of names n = ap (λ k. record made { kind = k }) (c.kind_of_node.ensures rs c.requires.known) in
     let inside : c.loop-place.place < length ns = search rules in
     mapped_more (node_of names) ns c.loop-place.place n c.loop-place.nodes.items c.push.new.self.items made inside c.in_ok-push.ensures.items
     (same ∙ ap (node_of names) c.index-node.ensures) c.loop-place.invariant
 
 pub returns : goal.returns
 returns c =
-    let names = kind_in (grammar_of c.args.rules.now) in
-    let ns = c.args.table.now.nodes.items in
+    let rs = c.args.grammar.now.rules.now in
+    let names = kind_in (grammar_of rs) in
+    let ns = c.args.grammar.now.table.nodes.items in
     let all : length ns ≤ c.loop-place.place = search rules in
-    with_kinds c.args.rules.now names c.args.table.now c.loop-place.nodes.items c.requires.tabled
+    with_kinds rs names c.args.grammar.now.table c.loop-place.nodes.items c.requires.tabled
     (c.loop-place.invariant ∙ ap (map (node_of names)) (take_all c.loop-place.place ns all))

@@ -11,10 +11,10 @@ right_flags rules facts h = nullable_nodes rules facts.table facts.nullable.item
 
 pub returns-in-Some : goal.returns-in-Some
 returns-in-Some c =
-    let rs = c.args.rules.now in
+    let rs = c.args.grammar.now.rules.now in
     let facts = c.in-Some.facts.now in
     let h : AreFacts rs facts = subst (λ o. IfSome o (λ f. AreFacts rs f.now)) c.in-Some.is c.requires.facts in
     where_ok c.copy_nullable.result (λ flags e. subst (AreNullable rs) (sym e) (right_flags rs facts h)) c.copy_nullable.ensures
 
 pub returns-in_ok-nullable-in-None : goal.returns-in_ok-nullable-in-None
-returns-in_ok-nullable-in-None c = right_flags c.args.rules.now _ c.in_ok-nullable-in-None.ensures
+returns-in_ok-nullable-in-None c = right_flags c.args.grammar.now.rules.now _ c.in_ok-nullable-in-None.ensures

@@ -32,7 +32,7 @@ calls_at : (ns ms : List PassNode) (rs ts : List ℕ) (recursive : List Bool) (r
 calls_at ns ms rs ts recursive ranks e f h = subst (λ z. AreCalls z ts recursive ranks) e (subst (λ z. AreCalls ns z recursive ranks) f h)
 
 pub reportable_nodes-requires : goal.reportable_nodes-requires
-reportable_nodes-requires c = subst AreInPostorder (sym c.as_slice-2.ensures.value) (behind c.args.rules.now c.in_ok-nodes.nodes.items c.in_ok-roots.roots.items (tabled_at _ _ _ _ _ c.in_ok-roots.ensures c.in_ok-nodes.ensures))
+reportable_nodes-requires c = subst AreInPostorder (sym c.as_slice-2.ensures.value) (behind c.args.grammar.now.rules.now c.in_ok-nodes.nodes.items c.in_ok-roots.roots.items (tabled_at _ _ _ _ _ c.in_ok-roots.ensures c.in_ok-nodes.ensures))
 
 may_at : (ns ms : List PassNode) (rs ts : List ℕ) (flags : List Bool) → ns ≡ ms → rs ≡ ts → AreReportable ns rs flags → AreReportable ms ts flags
 may_at ns ms rs ts flags e f h = subst (λ z. AreReportable z ts flags) e (subst (λ z. AreReportable ns z flags) f h)
@@ -43,36 +43,36 @@ off_at rs ts flags others e f h r i at = ap (λ l. is_set_at l i) (sym f) ∙ h 
 pub returns-then-not-is_some_root_set : goal.returns-then-not-is_some_root_set
 returns-then-not-is_some_root_set c =
     let flags = c.in_ok-reportable.reportable.items in
-    plain_none c.args.rules.now c.in_ok-nodes.nodes.items c.in_ok-roots.roots.items (tabled_at _ _ _ _ _ c.in_ok-roots.ensures c.in_ok-nodes.ensures) flags
+    plain_none c.args.grammar.now.rules.now c.in_ok-nodes.nodes.items c.in_ok-roots.roots.items (tabled_at _ _ _ _ _ c.in_ok-roots.ensures c.in_ok-nodes.ensures) flags
     (may_at _ _ _ _ flags c.as_slice-2.ensures.value c.as_slice.ensures.value c.in_ok-reportable.ensures)
     (off_at _ _ _ _ c.as_slice-3.ensures.value c.as_slice-4.ensures.value (c.is_some_root_set.ensures c.if-not-is_some_root_set.true))
 
 pub returns-then-not-leaves_stack : goal.returns-then-not-leaves_stack
 returns-then-not-leaves_stack c =
-    let g = grammar_of c.args.rules.now in
+    let g = grammar_of c.args.grammar.now.rules.now in
     let flags = c.in_ok-changing.changing.items in
     let leaves = λ (r : List ℕ) (f : List Bool). not (name_flag g r f whitespace) && not (name_flag g r f comment) in
-    let alters : SkippingAltersStack g = is_changed c.args.rules.now c.in_ok-nodes.nodes.items c.in_ok-roots.roots.items (tabled_at _ _ _ _ _ c.in_ok-roots.ensures c.in_ok-nodes.ensures) flags
+    let alters : SkippingAltersStack g = is_changed c.args.grammar.now.rules.now c.in_ok-nodes.nodes.items c.in_ok-roots.roots.items (tabled_at _ _ _ _ _ c.in_ok-roots.ensures c.in_ok-nodes.ensures) flags
     (sound_at asks.AltersStack _ _ _ _ flags c.as_slice-6.ensures.value c.as_slice-5.ensures.value c.in_ok-changing.ensures.sound)
     (closed_at asks.AltersStack _ _ _ _ flags c.as_slice-6.ensures.value c.as_slice-5.ensures.value c.in_ok-changing.ensures.closed)
-    (ap₂ leaves (sym c.as_slice-7.ensures.value) (sym c.as_slice-8.ensures.value) ∙ (sym (c.leaves_stack.ensures c.args.rules.now c.requires.known) ∙ c.if-not-leaves_stack.true)) in
+    (ap₂ leaves (sym c.as_slice-7.ensures.value) (sym c.as_slice-8.ensures.value) ∙ (sym (c.leaves_stack.ensures c.args.grammar.now.rules.now c.requires.resolved.known) ∙ c.if-not-leaves_stack.true)) in
     record { silent = λ s. refl; plain = λ n. absurd (n alters) }
 
 pub returns : goal.returns
 returns c =
-    let g = grammar_of c.args.rules.now in
+    let g = grammar_of c.args.grammar.now.rules.now in
     let flags = c.in_ok-changing.changing.items in
     let leaves = λ (r : List ℕ) (f : List Bool). not (name_flag g r f whitespace) && not (name_flag g r f comment) in
-    let calm : SkippingAltersStack g → ⊥ = is_calm c.args.rules.now c.in_ok-nodes.nodes.items c.in_ok-roots.roots.items (tabled_at _ _ _ _ _ c.in_ok-roots.ensures c.in_ok-nodes.ensures) flags
+    let calm : SkippingAltersStack g → ⊥ = is_calm c.args.grammar.now.rules.now c.in_ok-nodes.nodes.items c.in_ok-roots.roots.items (tabled_at _ _ _ _ _ c.in_ok-roots.ensures c.in_ok-nodes.ensures) flags
     (sound_at asks.AltersStack _ _ _ _ flags c.as_slice-6.ensures.value c.as_slice-5.ensures.value c.in_ok-changing.ensures.sound)
     (closed_at asks.AltersStack _ _ _ _ flags c.as_slice-6.ensures.value c.as_slice-5.ensures.value c.in_ok-changing.ensures.closed)
-    (ap₂ leaves (sym c.as_slice-7.ensures.value) (sym c.as_slice-8.ensures.value) ∙ (sym (c.leaves_stack.ensures c.args.rules.now c.requires.known) ∙ c.if-not-leaves_stack.false)) in
+    (ap₂ leaves (sym c.as_slice-7.ensures.value) (sym c.as_slice-8.ensures.value) ∙ (sym (c.leaves_stack.ensures c.args.grammar.now.rules.now c.requires.resolved.known) ∙ c.if-not-leaves_stack.false)) in
     let reportable = c.in_ok-reportable.reportable.items in
     let may = may_at _ _ _ _ reportable c.as_slice-2.ensures.value c.as_slice.ensures.value c.in_ok-reportable.ensures in record {
-      silent = silent c.args.rules.now c.in_ok-nodes.nodes.items c.in_ok-roots.roots.items (tabled_at _ _ _ _ _ c.in_ok-roots.ensures c.in_ok-nodes.ensures) reportable may;
-      table = as_it_should c.args.rules.now _ (record {
+      silent = silent c.args.grammar.now.rules.now c.in_ok-nodes.nodes.items c.in_ok-roots.roots.items (tabled_at _ _ _ _ _ c.in_ok-roots.ensures c.in_ok-nodes.ensures) reportable may;
+      table = as_it_should c.args.grammar.now.rules.now _ (record {
         tabled = tabled_at _ _ _ _ _ c.in_ok-roots.ensures c.in_ok-nodes.ensures;
-        skips = c.is_skipping.ensures c.args.rules.now c.requires.known;
+        skips = c.is_skipping.ensures c.args.grammar.now.rules.now c.requires.resolved.known;
         nullable = c.in_ok-nullable.ensures;
         calls = calls_at _ _ _ _ _ _ c.as_slice-10.ensures.value c.as_slice-9.ensures.value c.in_ok-recursive.ensures;
         calm = calm;

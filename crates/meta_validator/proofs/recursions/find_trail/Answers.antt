@@ -4,7 +4,7 @@ use Rattle.meta_validator.proofs.recursions.find_trail.Goals as goal
 
 pub returns-clause-idle : goal.returns-clause-idle
 returns-clause-idle c = record {
-  alike = c.end.ensures.long ∙ (c.in_ok-found.ensures.long ∙ as_many c.args.rules.now);
+  alike = c.end.ensures.long ∙ (c.in_ok-found.ensures.long ∙ as_many c.args.guide.rules.now);
   entered = c.end.ensures.entered;
   trail = c.end.ensures.trail;
   tasks = c.end.ensures.tasks;

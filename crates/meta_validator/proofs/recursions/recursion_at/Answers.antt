@@ -14,7 +14,7 @@ use Rattle.meta_validator.proofs.recursions.recursion_at.Goals as goal
 
 pub returns-in-None-clause-nothing : goal.returns-in-None-clause-nothing
 returns-in-None-clause-nothing c =
-    let rs = c.args.rules.now in
+    let rs = c.args.guide.rules.now in
     let place = c.args.place in
     let roots = c.args.guide.facts.now.table.roots.items in
     let (r, at) = view_at rs place c.requires.inside in
@@ -23,14 +23,14 @@ returns-in-None-clause-nothing c =
 
 pub returns-in-None-clause-never : goal.returns-in-None-clause-never
 returns-in-None-clause-never c =
-    let rs = c.args.rules.now in
+    let rs = c.args.guide.rules.now in
     let roots = c.args.guide.facts.now.table.roots.items in
     let none = subst (λ o. IfNone o (IsSearchResult rs roots c.args.place None × NeverComesBack rs roots c.args.place)) c.in-None.is c.in_ok-find_trail.ensures.none in
     none.1
 
 pub returns-in_ok-message-in-Some-clause-some : goal.returns-in_ok-message-in-Some-clause-some
 returns-in_ok-message-in-Some-clause-some c =
-    let rs = c.args.rules.now in
+    let rs = c.args.guide.rules.now in
     let place = c.args.place in
     let roots = c.args.guide.facts.now.table.roots.items in
     let spans = c.args.spans.now in
@@ -38,7 +38,7 @@ returns-in_ok-message-in-Some-clause-some c =
     let closed = c.in-Some.closed in
     let closing = subst (λ o. IfSome o (λ (k : ClosedTrail). IsClosing rs roots place k.call k.trail.items)) c.in-Some.is c.in_ok-find_trail.ensures.some in
     let span = c.index-spans-closed.result in
-    let (s, got, same) = span_got rs c.args.guide.facts.now c.requires.facts spans c.requires.spans closed.call closing.call closing.here in
+    let (s, got, same) = span_got rs c.args.guide.facts.now c.requires.guide.facts spans c.requires.spans closed.call closing.call closing.here in
     let one : s ≡ span = one_item got (slice_get-get_or spans closed.call span (slice_get_within spans closed.call s got) ∙ ap Some (sym c.index-spans-closed.is)) in
     let here : piece_of span ≡ span_of closing.call = ap piece_of (sym one) ∙ same in
     let rule = c.index-rules-place.result in

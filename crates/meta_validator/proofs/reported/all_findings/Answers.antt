@@ -25,9 +25,9 @@ without_second (u ∷ us) es bs h = cc
 
 pub returns-clause-found : goal.returns-clause-found
 returns-clause-found c =
-    let rs = c.args.rules.now in
+    let rs = c.args.groundwork.now.grammar.rules.now in
     let right = c.requires.groundwork.facts in
-    let spans : AreSpans rs c.in_ok-spans.spans.items = c.in_ok-spans.ensures rs c.requires.groundwork.tabled in
+    let spans : AreSpans rs c.in_ok-spans.spans.items = c.in_ok-spans.ensures rs c.requires.groundwork.resolved.tabled in
     let fs = findings_of c.in_ok-found.found.items in
     let js = findings_of c.in_ok-known.known.items in
     let gs = findings_of c.in_ok-choices.choices.items in
@@ -50,9 +50,9 @@ returns-clause-found c =
 
 pub returns-clause-accepted : goal.returns-clause-accepted
 returns-clause-accepted c = λ e.
-    let rs = c.args.rules.now in
+    let rs = c.args.groundwork.now.grammar.rules.now in
     let right = c.requires.groundwork.facts in
-    let spans : AreSpans rs c.in_ok-spans.spans.items = c.in_ok-spans.ensures rs c.requires.groundwork.tabled in
+    let spans : AreSpans rs c.in_ok-spans.spans.items = c.in_ok-spans.ensures rs c.requires.groundwork.resolved.tabled in
     let fs = findings_of c.in_ok-found.found.items in
     let js = findings_of c.in_ok-known.known.items in
     let gs = findings_of c.in_ok-choices.choices.items in

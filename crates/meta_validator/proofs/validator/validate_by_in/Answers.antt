@@ -26,7 +26,7 @@ returns-clause-accepted c =
 pub errors_in-requires : goal.errors_in-requires
 errors_in-requires c =
     let found = c.in_ok-found.found.items in
-    let views = rule_views c.args.rules.now in
+    let views = rule_views c.args.groundwork.now.grammar.rules.now in
     let all = c.in_ok-found.ensures.found in
     let here = all_found_in c.args.text.now views c.requires.rules_in_text (map piece_of c.args.endless.now) (findings_of found) c.requires.endless_in_text all in
     record { in_text = subst (λ z. All (InText c.args.text.now) (findings_of z)) (sym c.as_slice.ensures.value) here }

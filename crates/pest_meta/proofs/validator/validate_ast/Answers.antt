@@ -1,4 +1,4 @@
-use Rattle.std.proofs.Common.{◌≡◌, [], IfOk, map, subst}
+use Rattle.std.proofs.Common.{◌≡◌, ◌∙◌, [], IfOk, map, subst}
 use Rattle.std.proofs.lemmas.Result.{IfOk-weaker}
 use Rattle.meta_base.specs.Language.WellFormed.{IsWellFormed}
 use Rattle.meta_spanned.specs.Nodes.{piece_of, rule_views}
@@ -14,14 +14,14 @@ returns-clause-exact c =
     let endless = map piece_of c.in_ok-endless.endless.items in
     IfOk-weaker c.validate_by.result _ _ (λ errors told. record {
       endless = endless;
-      reports = subst (λ z. AreReports (rule_views z) endless) c.as_slice-rules.ensures.value c.in_ok-endless.ensures.exact;
-      tell = subst (λ z. AreReported (rule_views z) endless errors.items) c.as_slice-rules.ensures.value
-          (subst (λ z. AreReported (rule_views c.as_slice-rules.result.now) (map piece_of z) errors.items) c.as_slice.ensures.value told);
+      reports = subst (λ z. AreReports (rule_views z) endless) (c.in_ok-groundwork.ensures.rules ∙ c.as_slice.ensures.value) c.in_ok-endless.ensures.exact;
+      tell = subst (λ z. AreReported (rule_views z) endless errors.items) (c.in_ok-groundwork.ensures.rules ∙ c.as_slice.ensures.value)
+          (subst (λ z. AreReported (rule_views c.in_ok-groundwork.groundwork.grammar.rules.now) (map piece_of z) errors.items) c.as_slice-2.ensures.value told);
     }) c.validate_by.ensures.exact
 
 pub returns-clause-accepted : goal.returns-clause-accepted
 returns-clause-accepted c =
-    subst (λ z. IfOk c.validate_by.result (λ errors. errors.items ≡ [] → IsWellFormed (grammar_of z))) c.as_slice-rules.ensures.value c.validate_by.ensures.accepted
+    subst (λ z. IfOk c.validate_by.result (λ errors. errors.items ≡ [] → IsWellFormed (grammar_of z))) (c.in_ok-groundwork.ensures.rules ∙ c.as_slice.ensures.value) c.validate_by.ensures.accepted
 
 pub returns-clause-silent : goal.returns-clause-silent
 returns-clause-silent c =
