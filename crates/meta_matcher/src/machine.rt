@@ -22,6 +22,7 @@ use matcher_program::leaves::{
     ahead_to, character, insens, literal, literals, newline, one, one_in_ranges, slice,
 };
 use matcher_program::sets::{is_barred, one_of};
+use meta_builtins::Builtin;
 use std::alloc::{AllocError, Global};
 
 /// The reason why a run has no answer.
@@ -184,14 +185,15 @@ impl<'a> Machine<'a> {
     {
         let seen = is_seen_from(mode);
         let place = scene.text.len() - rest.len();
+        let name = Builtin::Eoi.name();
         if !rest.is_empty() {
             let mark = count(&self.expected);
-            self.note(scene, seen, "EOI", place, mark)?;
+            self.note(scene, seen, name, place, mark)?;
             return Ok(None);
         }
         let first = entry_count(&self.entries);
-        open(&mut self.entries, seen, "EOI", place)?;
-        close(&mut self.entries, seen, "EOI", first, place, place)?;
+        open(&mut self.entries, seen, name, place)?;
+        close(&mut self.entries, seen, name, first, place, place)?;
         Ok(Some(rest))
     }
 
