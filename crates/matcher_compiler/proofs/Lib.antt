@@ -4,3 +4,4 @@ pub mod Growing
 pub mod Naming
 pub mod Skipping
 pub mod Listing
+pub mod Shortening

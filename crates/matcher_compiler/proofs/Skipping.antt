@@ -13,7 +13,7 @@ use Rattle.meta_base.specs.Language.Text.{Text}
 use Rattle.meta_base.proofs.Basics.{same_some}
 use Rattle.matcher_code.specs.declared.code.Code.{Code}
 use Rattle.matcher_layout.specs.Laid as lay
-use Rattle.matcher_layout.specs.Laid.{HasOutcome, IsPoint, IsTight, skip_set, span_of}
+use Rattle.matcher_layout.specs.Laid.{FailsOutside, HasOutcome, IsPoint, IsTight, skip_set, span_of}
 use Rattle.matcher_layout.proofs.Characters.{silent_call_of_set, span_of_set}
 use Rattle.matcher_program.specs.declared.form.Program.{Program}
 use Rattle.matcher_program.specs.declared.form.Row.{Row}
@@ -21,10 +21,13 @@ use Rattle.matcher_program.specs.Programs.{IsRuleOf, IsSkippedRule, name_at, nam
 use Rattle.matcher_sets.specs.declared.modes.Atomicity as code
 use Rattle.matcher_compiler.specs.declared.plan.Skips.TheVariants as skips
 use Rattle.matcher_sets.specs.declared.modes.Atomicity.TheVariants as mode
+use Rattle.matcher_sets.specs.declared.heads.Head.{Head}
+use Rattle.matcher_sets.specs.Heads.{HasHead}
 use Rattle.matcher_sets.specs.Modes.{mode_of}
 use Rattle.matcher_sets.specs.Differences.{MatchesOne}
 use Rattle.matcher_sets.specs.Forms.{IsSoundProgram, grammar_in, said}
-use Rattle.matcher_compiler.specs.Plans.{IsBlankSet, SkipsAs, blanks, no_rule}
+use Rattle.matcher_compiler.specs.Plans.{FailsWithout, IsBlankSet, SkipsAs, blanks, no_rule, one_comment}
+use Rattle.matcher_sets.proofs.Heading.{fails_outside}
 use Rattle.matcher_sets.proofs.Rules.{made, same}
 
 white_is_no_end : is_eoi whitespace ≡ false
@@ -191,13 +194,22 @@ module _ (p : Program) (i : ℕ) (sound : IsSoundProgram p) (is : p.comment ≡ 
   pub comment_is_rule : IsRuleOf (grammar_in p) (name_at (names_of p.rows.items) i) i
   comment_is_rule = subst (λ n. IsRuleOf (grammar_in p) n i) (sym comment_named) comment_meant
 
+  comment_is_blank_rule : (bytes_eq (get_or (grammar_in p) i no_rule).name whitespace || bytes_eq (get_or (grammar_in p) i no_rule).name comment) ≡ true
+  comment_is_blank_rule = subst (λ y. (bytes_eq y whitespace || bytes_eq y comment) ≡ true) (sym (comment_meant.named no_rule)) comment_is_blank
+
   pub comment_laid : (classes : Classes) (code : Code) (number : Text → ℕ) (points : List lay.Point) {l n w : ℕ}
       → lay.Lays (grammar_in p) classes code number points (Run NonAtomicMode (Ident (name_at (names_of p.rows.items) i))) l n w
       → lay.Lays (grammar_in p) classes code number points (Run Between (Ident comment)) l n w
   comment_laid classes code number points {l = l} {n = n} {w = w} x =
-      laid_between (grammar_in p) classes comment (get_or (grammar_in p) i no_rule) (comment_meant.meant no_rule) (is_blank (comment_meant.named no_rule)) code number points
+      laid_between (grammar_in p) classes comment (get_or (grammar_in p) i no_rule) (comment_meant.meant no_rule) comment_is_blank_rule code number points
       (subst (λ y. lay.Lays (grammar_in p) classes code number points (Run NonAtomicMode (Ident y)) l n w) comment_named x)
-    where
-      is_blank : (get_or (grammar_in p) i no_rule).name ≡ comment
-          → (bytes_eq (get_or (grammar_in p) i no_rule).name whitespace || bytes_eq (get_or (grammar_in p) i no_rule).name comment) ≡ true
-      is_blank e = subst (λ y. (bytes_eq y whitespace || bytes_eq y comment) ≡ true) (sym e) comment_is_blank
+
+  -- where no character of the head of a comment is next, there is none
+  pub comment_fails : (h : Head) → HasHead p NonAtomicMode (Ident (name_at (names_of p.rows.items) i)) h → h.empty ≡ false
+      → FailsWithout p (Run Between one_comment) h
+  comment_fails h has q classes fits s miss =
+      let f : FailsOutside (grammar_in p) classes (Run NonAtomicMode (Ident comment)) h.ranges.items h.noted =
+      subst (λ y. FailsOutside (grammar_in p) classes (Run NonAtomicMode (Ident y)) h.ranges.items h.noted) comment_named (fails_outside p NonAtomicMode (Ident (name_at (names_of p.rows.items) i)) h has q classes fits) in
+      let x = f s miss in
+      let y = does_between (grammar_in p) classes comment (get_or (grammar_in p) i no_rule) (comment_meant.meant no_rule) comment_is_blank_rule s Failure x.0 in
+      (by.seq_first y.0, y.1 ∙ x.1)

@@ -12,10 +12,11 @@ use Rattle.matcher_code.specs.Sets.{IsSetOf}
 use Rattle.matcher_program.specs.declared.form.Program.{Program}
 use Rattle.matcher_program.specs.Programs.{Fits, name_at, names_of}
 use Rattle.matcher_layout.specs.Laid as lay
-use Rattle.matcher_layout.specs.Laid.{Enters, HasOutcome, IsEnd, IsPoint, IsTight, Lays, at_label, skip_set}
+use Rattle.matcher_layout.specs.Laid.{Enters, FailsOutside, HasOutcome, IsEnd, IsPoint, IsTight, Lays, TakesOne, at_label, skip_set}
 use Rattle.matcher_compiler.specs.declared.plan.Plan.{Plan}
 use Rattle.matcher_compiler.specs.declared.plan.Skips.{Skips}
 use Rattle.matcher_compiler.specs.declared.plan.Skips.TheVariants as skips
+use Rattle.matcher_sets.specs.declared.heads.Head.{Head}
 use Rattle.matcher_sets.specs.declared.modes.Atomicity.{Atomicity}
 use Rattle.matcher_compiler.specs.declared.points.Demand.{Demand}
 use Rattle.matcher_compiler.specs.declared.points.Demand.TheVariants as demand
@@ -160,6 +161,16 @@ EntersAt p plan k at first = (classes : Classes) → Fits p.properties.items cla
     → (code : Code) (laid : List lay.Point) → Meets p plan code laid
     → Enters (grammar_in p) classes code k at.label first at.way
 
+-- where no character of a head is next, the task fails, and records a failure there or none
+abbrev pub FailsWithout : Program → Task → Head → Type 0
+FailsWithout p k h = (classes : Classes) → Fits p.properties.items classes
+    → FailsOutside (grammar_in p) classes k h.ranges.items h.noted
+
+-- where a character of the ranges is next, the task takes it alone, and records no failure
+abbrev pub TakesOneIn : Program → Task → List (ℕ × ℕ) → Type 0
+TakesOneIn p k ranges = (classes : Classes) → Fits p.properties.items classes
+    → TakesOne (grammar_in p) classes k ranges
+
 -- so it goes on from the place to a point that does the task
 pub record IsEntered (g : Grammar) (classes : Classes) (code : Code) (laid : List lay.Point) (k : Task)
     (at : Place) : Type 0 where
@@ -188,3 +199,11 @@ pub record AreParts (p : Program) (laid : List lay.Point) (first second : Part) 
 abbrev pub HasParts : Program → Plan → Part → Part → Place → Type 0
 HasParts p plan first second at = (code : Code) (laid : List lay.Point) → Meets p plan code laid
     → AreParts p laid first second at
+
+-- so it has code for the turns of a repetition, of which the first begins at a label
+abbrev pub HasTurns : Program → Plan → Expression → Place → ℕ → Type 0
+HasTurns p plan e at start = (classes : Classes) (code : Code) (laid : List lay.Point)
+    → Meets p plan code laid
+    → Enters (grammar_in p) classes code (Run (mode_of at.mode) e) at.label start at.next
+    → Lays (grammar_in p) classes code (number_in (grammar_in p)) laid (Run (mode_of at.mode) (Rep e))
+    at.label at.next at.way

@@ -1,12 +1,12 @@
 //! Plans of expressions with operands.
-ghost use Rattle.std.specs.Prelude.{◌≡◌, None, OnOk, Some};
+ghost use Rattle.std.specs.Prelude.{◌≡◌, ◌<◌, None, OnOk, Some};
 ghost use Rattle.meta_base.specs.Language.Expression.{Choice, Expression, NegPred, Opt, PosPred, Rep, Seq};
 ghost use Rattle.meta_base.specs.Language.Meaning.{Run, Skipping};
 ghost use Rattle.meta_base.specs.Language.State.{NonAtomicMode};
 ghost use Rattle.matcher_sets.specs.Modes.{mode_of};
 ghost use Rattle.matcher_sets.specs.Forms.{IsBoundIn, IsSoundProgram, said};
 ghost use Rattle.matcher_sets.specs.Heads.{AreHeads};
-ghost use Rattle.matcher_compiler.specs.Plans.{BeginsAt, HasParts, IsBoundPart, IsLater, IsReady, IsTightIn, LaysAt, task_in};
+ghost use Rattle.matcher_compiler.specs.Plans.{BeginsAt, HasParts, HasTurns, IsBoundPart, IsLater, IsReady, IsTightIn, LaysAt, task_in};
 
 use crate::forms::FAIL;
 use crate::plan::Plan;
@@ -320,14 +320,18 @@ impl<'p> Plan<'p> {
         Ok(())
     }
 
-    /// Plans a repetition with skipping between its turns.
+    /// Plans a repetition with skipping between its turns. The labels from `own` on are free.
     pub(crate) fn repetition(
         &mut self,
+        alloc: Global,
         program: &Program,
+        heads: &Heads,
         body: &'p Form,
         at: Place,
         own: u32,
     ) -> Result<(), NotCompiled>
+        requires sound { IsSoundProgram program.now }
+        requires heads { AreHeads program.now heads.now }
         requires bound { IsBoundIn program.now body.now }
         ensures later { OnOk result (IsLater program.now self.old self.new) }
         ensures lays { OnOk result (LaysAt program.now self.new (Run (mode_of at.mode)
@@ -336,11 +340,37 @@ impl<'p> Plan<'p> {
         if at.next == FAIL {
             return Err(NotCompiled::Unsupported);
         }
+        let tried = Place {
+            mode: at.mode,
+            label: at.label,
+            next: at.next,
+            way: at.next,
+        };
+        let start = self.enter(alloc, program, heads, body, tried, own.saturating_add(4))?;
+        self.turns_from(program, body, at, start, own)?;
+        Ok(())
+    }
+
+    /// Plans the turns of a repetition with skipping between them, of which the first begins at a label.
+    fn turns_from(
+        &mut self,
+        program: &Program,
+        body: &'p Form,
+        at: Place,
+        start: u32,
+        own: u32,
+    ) -> Result<(), NotCompiled>
+        requires bound { IsBoundIn program.now body.now }
+        requires next { 0 < at.next }
+        ensures later { OnOk result (IsLater program.now self.old self.new) }
+        ensures lays { OnOk result (HasTurns program.now self.new
+            (said program.now body.entry.now) at start) }
+    {
         let gap = own.saturating_add(1);
         let first = own.saturating_add(2);
         let last = own.saturating_add(3);
         self.operation(
-            at.label,
+            start,
             Op::Try {
                 back: 0,
                 next: first,

@@ -1,6 +1,6 @@
 //! Tests before expressions.
-ghost use Rattle.std.specs.Prelude.{◌≡◌, IfOk, List, OnOk, false};
-ghost use Rattle.meta_base.specs.Language.Meaning.{Run};
+ghost use Rattle.std.specs.Prelude.{IfOk, List, OnOk};
+ghost use Rattle.meta_base.specs.Language.Meaning.{Run, Task};
 ghost use Rattle.matcher_code.specs.declared.code.Code.{Code};
 ghost use Rattle.matcher_layout.specs.Laid as lay;
 ghost use Rattle.matcher_layout.specs.Laid.{GoesTo};
@@ -8,7 +8,7 @@ ghost use Rattle.matcher_program.specs.declared.form.Program.{Program};
 ghost use Rattle.matcher_sets.specs.Forms.{IsBoundIn, IsSoundProgram, said};
 ghost use Rattle.matcher_sets.specs.Heads.{AreHeads, HasHead};
 ghost use Rattle.matcher_sets.specs.Modes.{mode_of};
-ghost use Rattle.matcher_compiler.specs.Plans.{EntersAt, IsLater, Meets};
+ghost use Rattle.matcher_compiler.specs.Plans.{EntersAt, FailsWithout, IsLater, Meets};
 
 use crate::forms::FAIL;
 use crate::plan::Plan;
@@ -49,21 +49,12 @@ impl<'p> Plan<'p> {
         }
     }
 
-    /// Plans a test of the next character before a form. Returns the label at which the form begins then. The
-    /// labels from `own` on are free.
-    fn test(
-        &mut self,
-        program: &Program,
-        form: &Form,
-        head: Head,
-        at: Place,
-        own: u32,
-    ) -> Result<u32, NotCompiled>
-        requires head { HasHead program.now (mode_of at.mode) (said program.now form.now) head }
-        requires fails { head.empty ≡ false }
-        ensures later { OnOk result (IsLater program.now self.old self.new) }
-        ensures enters { IfOk result (EntersAt program.now self.new
-            (Run (mode_of at.mode) (said program.now form.now)) at) }
+    /// Plans a test of the next character before a task that fails where none of a head is next. Returns the
+    /// label at which the task begins then. The labels from `own` on are free.
+    pub(crate) fn test(&mut self, head: Head, at: Place, own: u32) -> Result<u32, NotCompiled>
+        ensures later { OnOk result ((p : Program) → IsLater p self.old self.new) }
+        ensures enters { IfOk result (λ first. (p : Program) (k : Task)
+            → FailsWithout p k head → EntersAt p self.new k at first) }
     {
         let Head {
             ranges,
@@ -104,7 +95,8 @@ impl<'p> Plan<'p> {
         if is_wide(&head.ranges) {
             return Ok(at.label);
         }
-        self.test(program, form, head, at, own)
+        let first = self.test(head, at, own)?;
+        Ok(first)
     }
 
     /// Plans a test of the next character before a form, if it spares something. Returns the label at which

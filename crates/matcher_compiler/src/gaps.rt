@@ -1,19 +1,44 @@
 //! The implicit skipping.
-ghost use Rattle.std.specs.Prelude.{◌≡◌, ◌≤◌, None, OnOk, length};
+ghost use Rattle.std.specs.Prelude.{◌≡◌, ◌≤◌, IfOk, IfSome, None, OnOk, length};
 ghost use Rattle.meta_base.specs.Language.Expression.{Ident, Rep, comment, rule_of};
 ghost use Rattle.meta_base.specs.Language.Meaning.{Run, Skipping, skipped};
 ghost use Rattle.meta_base.specs.Language.State.{Between, NonAtomicMode};
 ghost use Rattle.matcher_sets.specs.Modes.{mode_of};
 ghost use Rattle.matcher_compiler.specs.Names.{HasOwnNames};
 ghost use Rattle.matcher_sets.specs.Forms.{IsSoundProgram, grammar_in};
-ghost use Rattle.matcher_compiler.specs.Plans.{IsBlankSet, IsLater, IsReady, IsTightIn, LaysAt, blanks, one_comment};
+ghost use Rattle.matcher_sets.specs.Heads.{AreHeads};
+ghost use Rattle.matcher_compiler.specs.Plans.{EntersAt, FailsWithout, IsBlankSet, IsLater, IsReady, IsTightIn, LaysAt, blanks, one_comment};
 
 use crate::forms::FAIL;
 use crate::plan::{Plan, Skips};
 use crate::points::{Demand, NotCompiled, Part, Place};
 use matcher_code::code::Op;
 use matcher_program::form::Program;
+use matcher_sets::heads::{Head, Heads, call_head};
 use matcher_sets::modes::Atomicity;
+use std::alloc::Global;
+
+/// Returns the head of a comment, if it is known, and a comment takes something.
+fn comment_head(
+    alloc: Global,
+    program: &Program,
+    heads: &Heads,
+) -> Result<Option<Head>, NotCompiled>
+    requires sound { IsSoundProgram program.now }
+    requires heads { AreHeads program.now heads.now }
+    ensures { IfOk result (λ made. IfSome made
+        (FailsWithout program.now (Run Between one_comment))) }
+{
+    let rule = match program.comment {
+        Some(rule) => rule,
+        None => return Ok(None),
+    };
+    let made = call_head(alloc, program, heads, rule, Atomicity::NonAtomic)?;
+    match made {
+        Some(head) => { if head.empty { Ok(None) } else { Ok(Some(head)) } }
+        None => Ok(None),
+    }
+}
 
 impl<'p> Plan<'p> {
     /// Plans nothing, where nothing is skipped.
@@ -145,8 +170,17 @@ impl<'p> Plan<'p> {
         }
     }
 
-    /// Plans as many comments as there are.
-    pub(crate) fn comments(&mut self, program: &Program, at: Place) -> Result<(), NotCompiled>
+    /// Plans as many comments as there are. The labels from `own` on are free.
+    pub(crate) fn comments(
+        &mut self,
+        alloc: Global,
+        program: &Program,
+        heads: &Heads,
+        at: Place,
+        own: u32,
+    ) -> Result<(), NotCompiled>
+        requires sound { IsSoundProgram program.now }
+        requires heads { AreHeads program.now heads.now }
         ensures later { OnOk result (IsLater program.now self.old self.new) }
         ensures lays { OnOk result (LaysAt program.now self.new
             (Run Between (Rep one_comment)) at) }
@@ -155,15 +189,39 @@ impl<'p> Plan<'p> {
             return Err(NotCompiled::Unsupported);
         }
         self.demand(Demand::GoesOn { label: at.label })?;
-        self.point(
-            Part::Comment,
-            Place {
-                next: at.label,
-                way: at.next,
-                ..at
-            },
-        )?;
+        let tried = Place {
+            next: at.label,
+            way: at.next,
+            ..at
+        };
+        let label = self.enter_comment(alloc, program, heads, tried, own)?;
+        self.point(Part::Comment, Place { label, ..tried })?;
         Ok(())
+    }
+
+    /// Plans a test of the next character before a comment, if its first characters are known. Returns the
+    /// label at which the comment begins. The labels from `own` on are free.
+    fn enter_comment(
+        &mut self,
+        alloc: Global,
+        program: &Program,
+        heads: &Heads,
+        at: Place,
+        own: u32,
+    ) -> Result<u32, NotCompiled>
+        requires sound { IsSoundProgram program.now }
+        requires heads { AreHeads program.now heads.now }
+        ensures later { OnOk result (IsLater program.now self.old self.new) }
+        ensures enters { IfOk result (EntersAt program.now self.new (Run Between one_comment) at) }
+    {
+        let made = comment_head(alloc, program, heads)?;
+        match made {
+            Some(head) => {
+                let first = self.test(head, at, own)?;
+                Ok(first)
+            }
+            None => Ok(at.label),
+        }
     }
 
     /// Plans a comment with blanks behind it. The labels from `own` on are free.

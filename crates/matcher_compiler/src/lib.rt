@@ -12,4 +12,5 @@ pub mod names;
 pub mod plan;
 mod planning;
 pub mod points;
+mod shortcuts;
 mod skips;

@@ -21,7 +21,7 @@ use std::alloc::Global;
 /// Returns the first of the labels of a point's own.
 fn own_labels(rules: usize, number: usize) -> u32 {
     let label = number
-        .saturating_mul(5)
+        .saturating_mul(6)
         .saturating_add(rules.saturating_mul(13))
         .saturating_add(3);
     if label < 0xffff_fff0 { label as u32 } else { 0 }
@@ -47,11 +47,15 @@ impl<'p> Plan<'p> {
         &mut self,
         alloc: Global,
         program: &Program,
+        heads: &Heads,
         body: &'p Form,
         first: &Form,
         second: &Form,
         at: Place,
+        own: u32,
     ) -> Result<(), NotCompiled>
+        requires sound { IsSoundProgram program.now }
+        requires heads { AreHeads program.now heads.now }
         requires bound { IsBoundIn program.now body.now }
         requires first_bound { IsBoundIn program.now first.now }
         requires second_bound { IsBoundIn program.now second.now }
@@ -65,12 +69,12 @@ impl<'p> Plan<'p> {
         let refused = refused_ranges(alloc, program, first)?;
         let others = match refused {
             Some(others) => others,
-            None => return self.tight_repetition(program, body, at),
+            None => return self.tight_loop(alloc, program, heads, body, at, own),
         };
         let made = choice_ranges(alloc, program, second)?;
         match made {
             Some(ranges) => { self.other_span(alloc, program, first, second, &others, ranges, at) }
-            None => self.tight_repetition(program, body, at),
+            None => self.tight_loop(alloc, program, heads, body, at, own),
         }
     }
 
@@ -79,9 +83,13 @@ impl<'p> Plan<'p> {
         &mut self,
         alloc: Global,
         program: &Program,
+        heads: &Heads,
         body: &'p Form,
         at: Place,
+        own: u32,
     ) -> Result<(), NotCompiled>
+        requires sound { IsSoundProgram program.now }
+        requires heads { AreHeads program.now heads.now }
         requires bound { IsBoundIn program.now body.now }
         requires tight { IsTightIn program.now at.mode }
         ensures later { OnOk result (IsLater program.now self.old self.new) }
@@ -91,7 +99,7 @@ impl<'p> Plan<'p> {
         let made = choice_ranges(alloc, program, body)?;
         match made {
             Some(ranges) => self.span(program, body, ranges, at),
-            None => self.tight_repetition(program, body, at),
+            None => self.tight_loop(alloc, program, heads, body, at, own),
         }
     }
 
@@ -100,10 +108,13 @@ impl<'p> Plan<'p> {
         &mut self,
         alloc: Global,
         program: &Program,
+        heads: &Heads,
         body: &'p Form,
         at: Place,
         own: u32,
     ) -> Result<(), NotCompiled>
+        requires sound { IsSoundProgram program.now }
+        requires heads { AreHeads program.now heads.now }
         requires bound { IsBoundIn program.now body.now }
         requires ready { IsReady program.now self.old }
         ensures later { OnOk result (IsLater program.now self.old self.new) }
@@ -113,12 +124,12 @@ impl<'p> Plan<'p> {
         if self.is_tight(at.mode) {
             match body {
                 Form::Seq(first, second) => {
-                    self.tight_turns(alloc, program, body, first, second, at)
+                    self.tight_turns(alloc, program, heads, body, first, second, at, own)
                 }
-                _ => self.tight_span(alloc, program, body, at),
+                _ => self.tight_span(alloc, program, heads, body, at, own),
             }
         } else {
-            self.repetition(program, body, at, own)
+            self.repetition(alloc, program, heads, body, at, own)
         }
     }
 
@@ -358,7 +369,7 @@ impl<'p> Plan<'p> {
                 self.alternatives(alloc, program, heads, form, left, right, at, own)
             }
             Form::Opt(body) => self.option(alloc, program, heads, body, at, own),
-            Form::Rep(body) => self.turns(alloc, program, body, at, own),
+            Form::Rep(body) => self.turns(alloc, program, heads, body, at, own),
             Form::RepOnce(body) => self.once_or_more(program, body, at),
             Form::Tag(body, tag) => self.tag(program, body, tag.as_str(), at),
             Form::Restore(body) => self.restore(program, body, at),
@@ -390,7 +401,7 @@ impl<'p> Plan<'p> {
         match point.part {
             Part::Form(form) => self.form(alloc, program, heads, form, at, own),
             Part::OnceOrMore(body) => { self.once_and_turns(program, body, at, own) }
-            Part::Repetition(body) => self.turns(alloc, program, body, at, own),
+            Part::Repetition(body) => self.turns(alloc, program, heads, body, at, own),
             Part::Body(rule) => match program.rows.get(rule) {
                 Some(row) => self.form(alloc, program, heads, &row.body, at, own),
                 None => Err(NotCompiled::Unsupported),
@@ -399,7 +410,7 @@ impl<'p> Plan<'p> {
             Part::Gap => self.gap(program, at),
             Part::Skipped => self.skipped(program, at, own),
             Part::Blanks => self.blanks(program, at),
-            Part::Comments => self.comments(program, at),
+            Part::Comments => self.comments(alloc, program, heads, at, own),
             Part::Comment => self.comment(program, at, own),
             Part::CommentCall => self.comment_call(program, at),
             Part::Stay => self.stay_between(program, at),

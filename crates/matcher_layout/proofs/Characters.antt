@@ -59,7 +59,7 @@ module _ (g : Grammar) (classes : Classes) where
       subst (λ p. Quiet (Run m (Choice a b)) s (either (moved 1 s) p)) (sym (either_starts f h s.rest))
       (left_or_right m a b s (moved 1 s) (starts_in f s.rest) (starts_in h s.rest) (x s) (y s))
 
-  not_and_then : (m : Mode) (a b : Expression) (s t : State) (p q : Bool) → IsTight g classes m → Quiet (Run m a) s (either t p)
+  pub not_and_then : (m : Mode) (a b : Expression) (s t : State) (p q : Bool) → IsTight g classes m → Quiet (Run m a) s (either t p)
       → Quiet (Run m b) s (either t q) → Quiet (Run m (Seq (NegPred a) b)) s (either t (not p && q))
   not_and_then m a b s t true q tight x y = (by.seq_first (by.neg_pred x.0), x.1)
   not_and_then m a b s t false true tight x y = (by.seq (by.neg_pred x.0) (tight s).0 y.0, omega (arith, x.1, (tight s).1, y.1))

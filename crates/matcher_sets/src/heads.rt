@@ -229,8 +229,8 @@ fn row_head(
     }
 }
 
-/// Returns the head of a call of the rule of a number.
-fn call_head(
+/// Returns the head of a call of the rule of a number, if it is known.
+pub fn call_head(
     alloc: Global,
     program: &Program,
     heads: &Heads,

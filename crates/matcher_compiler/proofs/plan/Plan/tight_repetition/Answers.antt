@@ -1,4 +1,4 @@
-use Rattle.std.proofs.Common.{◌<◌, arith}
+use Rattle.std.proofs.Common.{◌<◌, arith, inl, refl}
 use Rattle.matcher_compiler.proofs.Growing.{later_twice}
 use Rattle.matcher_layout.specs.Laid as lay
 use Rattle.matcher_compiler.proofs.plan.Plan.tight_repetition.Goals as goal
@@ -10,4 +10,4 @@ pub returns-clause-lays : goal.returns-clause-lays
 returns-clause-lays c = λ classes fits code laid m.
     let m1 = (c.in_ok-point.ensures.later c.args.program.now c.requires.bound).met code laid m in
     let up : 0 < c.args.at.next = omega arith in
-    lay.tight_rep (c.requires.tight classes) (c.in_ok-demand.ensures.met c.args.program.now code laid m1) up (c.in_ok-point.ensures.has c.args.program.now code laid m)
+    lay.tight_rep c.args.at.label (c.requires.tight classes) (c.in_ok-demand.ensures.met c.args.program.now code laid m1) up (inl (inl refl)) (c.in_ok-point.ensures.has c.args.program.now code laid m)

@@ -1,0 +1,187 @@
+//! Shortcuts in repetitions.
+ghost use Rattle.std.specs.Prelude.{IfOk, IfSome, OnOk};
+ghost use Rattle.meta_base.specs.Language.Expression.{NegPred, Rep, Seq};
+ghost use Rattle.meta_base.specs.Language.Meaning.{Run};
+ghost use Rattle.matcher_sets.specs.Forms.{IsBoundIn, IsSoundProgram, said};
+ghost use Rattle.matcher_sets.specs.Heads.{AreHeads};
+ghost use Rattle.matcher_sets.specs.Modes.{mode_of};
+ghost use Rattle.matcher_compiler.specs.Plans.{IsLater, IsTightIn, LaysAt, TakesOneIn};
+
+use crate::forms::FAIL;
+use crate::plan::Plan;
+use crate::points::{Demand, NotCompiled, Part, Place};
+use matcher_code::code::{Op, Ranges};
+use matcher_program::form::{Form, Program};
+use matcher_sets::difference::{MOST_RANGES, choice_ranges, outside_ranges};
+use matcher_sets::heads::{Heads, head_of};
+use matcher_sets::modes::Atomicity;
+use std::alloc::Global;
+
+/// Returns the characters that a form takes before which another is not found at once, if these are known.
+fn unstopped_ranges(
+    alloc: Global,
+    program: &Program,
+    heads: &Heads,
+    stop: &Form,
+    form: &Form,
+    mode: Atomicity,
+) -> Result<Option<Ranges>, NotCompiled>
+    requires sound { IsSoundProgram program.now }
+    requires heads { AreHeads program.now heads.now }
+    requires stop_bound { IsBoundIn program.now stop.now }
+    requires bound { IsBoundIn program.now form.now }
+    requires tight { IsTightIn program.now mode }
+    ensures { IfOk result (λ made. IfSome made (λ ranges. TakesOneIn program.now (Run (mode_of mode)
+        (Seq (NegPred (said program.now stop.now)) (said program.now form.now))) ranges.items)) }
+{
+    let known = head_of(alloc, program, heads, stop, mode)?;
+    let head = match known {
+        Some(head) => head,
+        None => return Ok(None),
+    };
+    if head.empty || head.noted || head.ranges.len() > MOST_RANGES {
+        return Ok(None);
+    }
+    let made = choice_ranges(alloc, program, form)?;
+    let ranges = match made {
+        Some(ranges) => ranges,
+        None => return Ok(None),
+    };
+    let rest = outside_ranges(alloc, ranges, &head.ranges)?;
+    Ok(Some(rest))
+}
+
+/// Returns the characters that a sequence takes alone, if these are known.
+fn sequence_ranges(
+    alloc: Global,
+    program: &Program,
+    heads: &Heads,
+    first: &Form,
+    second: &Form,
+    mode: Atomicity,
+) -> Result<Option<Ranges>, NotCompiled>
+    requires sound { IsSoundProgram program.now }
+    requires heads { AreHeads program.now heads.now }
+    requires first_bound { IsBoundIn program.now first.now }
+    requires second_bound { IsBoundIn program.now second.now }
+    requires tight { IsTightIn program.now mode }
+    ensures { IfOk result (λ made. IfSome made (λ ranges. TakesOneIn program.now (Run (mode_of mode)
+        (Seq (said program.now first.now) (said program.now second.now))) ranges.items)) }
+{
+    match first {
+        Form::NegPred(stop) => unstopped_ranges(alloc, program, heads, stop, second, mode),
+        _ => Ok(None),
+    }
+}
+
+/// Returns the characters that a first alternative takes alone, if these are known.
+fn alternative_ranges(
+    alloc: Global,
+    program: &Program,
+    heads: &Heads,
+    form: &Form,
+    mode: Atomicity,
+) -> Result<Option<Ranges>, NotCompiled>
+    requires sound { IsSoundProgram program.now }
+    requires heads { AreHeads program.now heads.now }
+    requires bound { IsBoundIn program.now form.now }
+    requires tight { IsTightIn program.now mode }
+    ensures { IfOk result (λ made. IfSome made (λ ranges. TakesOneIn program.now
+        (Run (mode_of mode) (said program.now form.now)) ranges.items)) }
+{
+    match form {
+        Form::Seq(first, second) => { sequence_ranges(alloc, program, heads, first, second, mode) }
+        _ => Ok(None),
+    }
+}
+
+/// Returns the characters that a form takes alone, if these are known.
+fn single_ranges(
+    alloc: Global,
+    program: &Program,
+    heads: &Heads,
+    form: &Form,
+    mode: Atomicity,
+) -> Result<Option<Ranges>, NotCompiled>
+    requires sound { IsSoundProgram program.now }
+    requires heads { AreHeads program.now heads.now }
+    requires bound { IsBoundIn program.now form.now }
+    requires tight { IsTightIn program.now mode }
+    ensures { IfOk result (λ made. IfSome made (λ ranges. TakesOneIn program.now
+        (Run (mode_of mode) (said program.now form.now)) ranges.items)) }
+{
+    match form {
+        Form::Choice(left, _) => alternative_ranges(alloc, program, heads, left, mode),
+        _ => alternative_ranges(alloc, program, heads, form, mode),
+    }
+}
+
+impl<'p> Plan<'p> {
+    /// Plans a repetition where nothing is skipped, and whose body takes some characters alone. The label
+    /// `own` is free.
+    fn shortened_repetition(
+        &mut self,
+        program: &Program,
+        body: &'p Form,
+        ranges: Ranges,
+        at: Place,
+        own: u32,
+    ) -> Result<(), NotCompiled>
+        requires bound { IsBoundIn program.now body.now }
+        requires tight { IsTightIn program.now at.mode }
+        requires takes { TakesOneIn program.now (Run (mode_of at.mode) (said program.now body.now))
+            ranges.items }
+        ensures later { OnOk result (IsLater program.now self.old self.new) }
+        ensures lays { OnOk result (LaysAt program.now self.new (Run (mode_of at.mode)
+            (Rep (said program.now body.entry.now))) at) }
+    {
+        if at.next == FAIL || own == FAIL {
+            return Err(NotCompiled::Unsupported);
+        }
+        self.demand(Demand::GoesOn { label: at.label })?;
+        let set = self.set(ranges)?;
+        self.operation(
+            at.label,
+            Op::One {
+                set,
+                next: at.label,
+                fail: own,
+            },
+        )?;
+        self.point(
+            Part::Form(body),
+            Place {
+                mode: at.mode,
+                label: own,
+                next: at.label,
+                way: at.next,
+            },
+        )?;
+        Ok(())
+    }
+
+    /// Plans a repetition where nothing is skipped, by its turns. The label `own` is free.
+    pub(crate) fn tight_loop(
+        &mut self,
+        alloc: Global,
+        program: &Program,
+        heads: &Heads,
+        body: &'p Form,
+        at: Place,
+        own: u32,
+    ) -> Result<(), NotCompiled>
+        requires sound { IsSoundProgram program.now }
+        requires heads { AreHeads program.now heads.now }
+        requires bound { IsBoundIn program.now body.now }
+        requires tight { IsTightIn program.now at.mode }
+        ensures later { OnOk result (IsLater program.now self.old self.new) }
+        ensures lays { OnOk result (LaysAt program.now self.new (Run (mode_of at.mode)
+            (Rep (said program.now body.entry.now))) at) }
+    {
+        let made = single_ranges(alloc, program, heads, body, at.mode)?;
+        match made {
+            Some(ranges) => self.shortened_repetition(program, body, ranges, at, own),
+            None => self.tight_repetition(program, body, at),
+        }
+    }
+}
