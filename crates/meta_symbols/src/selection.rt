@@ -34,7 +34,7 @@ pub fn selections_at(
         start: 0,
         end: text.len(),
     })?;
-    nested(alloc, &parts)
+    nest(alloc, &parts)
 }
 
 /// Whether an offset is in an extent, or at its end.
@@ -206,7 +206,7 @@ fn set_open(token: Token, starts: &mut Vec<usize>) -> Result<(), AllocError>
 }
 
 /// Returns those of some parts that are larger than all before.
-fn nested(alloc: Global, parts: &[Extent]) -> Result<Vec<Extent>, AllocError>
+fn nest(alloc: Global, parts: &[Extent]) -> Result<Vec<Extent>, AllocError>
     ensures { IfOk result (λ extents. extents.items ≡ spec.grown_by [] parts.now) }
 {
     let mut extents = Vec::new(alloc);
