@@ -1,2 +1,1 @@
-mod Incoming
 mod Zips

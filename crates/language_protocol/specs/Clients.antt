@@ -1,10 +1,20 @@
 -- Capabilities of clients.
-use Rattle.std.specs.Prelude.{codes, if◌then◌else◌}
+use Rattle.std.specs.Prelude.{codes, false, if◌then◌else◌}
 use Rattle.serde_json.specs.Data.{Data}
 use Rattle.language_protocol.specs.Asked.{is_true_in, lists_in}
 use Rattle.language_protocol.specs.declared.client.Client.{Client}
 use Rattle.meta_positions.specs.declared.positions.Encoding.{Encoding}
 use Rattle.meta_positions.specs.declared.positions.Encoding.TheVariants.{Utf8, Utf16}
+
+-- a client that said nothing
+abbrev pub silent_client : Client
+silent_client = record {
+  encoding = Utf16;
+  has_snippets = false;
+  has_markdown = false;
+  has_nested_symbols = false;
+  has_related = false;
+}
 
 -- UTF-8 where the client offers it
 abbrev pub encoding_of : Data → Encoding

@@ -1,5 +1,5 @@
 -- Messages of JSON-RPC.
-use Rattle.std.specs.Prelude.{◌≡◌, ◌≤◌, ◌||◌, ℕ, ℤ, negsuc, List, Option, Some, None, is_some, Bool, true, false, codes, option_and_then, option_map, unwrap_or, if◌then◌else◌}
+use Rattle.std.specs.Prelude.{◌≡◌, ◌≤◌, ◌&&◌, ◌||◌, ℕ, ℤ, negsuc, List, Option, Some, None, is_none, is_some, Bool, true, false, codes, option_and_then, option_map, unwrap_or, if◌then◌else◌}
 use Rattle.serde_json.specs.Data.{Data, null, number, string, object, no_members, member, depth}
 use Rattle.serde_json.specs.Find.{as_null, as_number, as_str, get, of_integer}
 use Rattle.serde_json.specs.Read.{max_depth, read}
@@ -72,13 +72,20 @@ without_id (Some id) method = None
 abbrev pub notification_of : Data → Option (List ℕ)
 notification_of d = option_and_then (without_id (get (codes "id") d)) (method_of d)
 
--- what comes in is a request, a notification, or neither
+-- whether a message without a method has a result or an error
+abbrev pub is_response : Data → Bool
+is_response d = is_none (get (codes "method") d)
+    && (is_some (get (codes "result") d) || is_some (get (codes "error") d))
+
+-- what comes in is a request, a notification, a response, or none of these
 abbrev pub MatchIncoming : Data → Incoming → Type 0
 MatchIncoming d (incoming.Request id method) = request_of d ≡ Some (view id.now, method.now)
 MatchIncoming d (incoming.Notification method) =
     (request_of d ≡ None) × (notification_of d ≡ Some method.now)
-MatchIncoming d incoming.Response = (request_of d ≡ None) × (notification_of d ≡ None)
-MatchIncoming d incoming.Invalid = (request_of d ≡ None) × (notification_of d ≡ None)
+MatchIncoming d incoming.Response =
+    (request_of d ≡ None) × (notification_of d ≡ None) × (is_response d ≡ true)
+MatchIncoming d incoming.Invalid =
+    (request_of d ≡ None) × (notification_of d ≡ None) × (is_response d ≡ false)
 
 -- what comes in is the request of this id and method, or the id cannot be that of a request
 abbrev pub IsRequestOf : Data → List ℕ → Incoming → Type 0

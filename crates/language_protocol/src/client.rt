@@ -21,7 +21,9 @@ pub struct Client {
 
 impl Default for Client {
     /// A client that said nothing.
-    fn default() -> Client {
+    fn default() -> Client
+        ensures { result ≡ spec.silent_client }
+    {
         Client {
             encoding: Encoding::Utf16,
             has_snippets: false,

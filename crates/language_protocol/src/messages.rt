@@ -78,13 +78,19 @@ fn response_or_invalid(message: &Value) -> Incoming<'_>
     requires { spec.method_of (view message.now) ≡ None }
     ensures { MatchIncoming (view message.now) result }
 {
-    if message.get("method").is_none()
-        && (message.get("result").is_some() || message.get("error").is_some())
-    {
+    if is_response(message) {
         Incoming::Response
     } else {
         Incoming::Invalid
     }
+}
+
+/// Whether a message without a method has a result or an error.
+fn is_response(message: &Value) -> bool
+    ensures { result ≡ spec.is_response (view message.now) }
+{
+    message.get("method").is_none()
+        && (message.get("result").is_some() || message.get("error").is_some())
 }
 
 /// Returns a request, if the id can be that of one.

@@ -1,6 +1,6 @@
 //! The parameters of messages.
 ghost use Rattle.std.specs.List.{AllZip};
-ghost use Rattle.std.specs.Prelude.{◌≡◌, IfOk, IfSome, map, option_map};
+ghost use Rattle.std.specs.Prelude.{◌≡◌, IfOk, MatchOption, map, option_map};
 ghost use Rattle.language_protocol.specs.Asked as spec;
 ghost use Rattle.language_protocol.specs.Changes as changes;
 ghost use Rattle.serde_json.specs.View.{items_view, view};
@@ -132,7 +132,7 @@ pub fn changes_in<'v>(
     alloc: Global,
     params: &'v Value,
 ) -> Result<Option<Vec<Change<'v>>>, AllocError>
-    ensures { IfOk result (λ found. IfSome found
+    ensures { IfOk result (λ found. MatchOption found (changes.LacksChanges (view params.now))
         (λ list. changes.AreChangesIn (view params.now) list.items)) }
 {
     match params.get("contentChanges").and_then(Value::as_array) {
@@ -143,7 +143,7 @@ pub fn changes_in<'v>(
 
 /// Returns the changes in a list, or none where one of them is no change.
 fn changes_of<'v>(alloc: Global, values: &'v [Value]) -> Result<Option<Vec<Change<'v>>>, AllocError>
-    ensures { IfOk result (λ found. IfSome found
+    ensures { IfOk result (λ found. MatchOption found (changes.HasNoChange (map view values.now))
         (λ list. AllZip changes.IsChangeIn (map view values.now) list.items)) }
 {
     let mut changes = Vec::new(alloc);
@@ -160,12 +160,20 @@ fn changes_of<'v>(alloc: Global, values: &'v [Value]) -> Result<Option<Vec<Chang
 
 /// Returns a change. One without a range replaces all of the text.
 fn change_of(value: &Value) -> Option<Change<'_>>
-    ensures { IfSome result (changes.IsChangeIn (view value.now)) }
+    ensures { MatchOption result (changes.IsNoChange (view value.now))
+        (changes.IsChangeIn (view value.now)) }
 {
     let text = text_at(value, "/text")?;
-    let range = match value.get("range") {
-        None => None,
-        Some(range) => Some(range_of(range)?),
-    };
+    let range = changed_range(value)?;
     Some(Change { range, text })
+}
+
+/// Returns the range of a change, if it has one. Fails where that is no range.
+fn changed_range(value: &Value) -> Option<Option<Range>>
+    ensures { result ≡ changes.changed_range (view value.now) }
+{
+    match value.get("range") {
+        None => Some(None),
+        Some(range) => Some(Some(range_of(range)?)),
+    }
 }
