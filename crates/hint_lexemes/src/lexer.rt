@@ -1,6 +1,6 @@
 //! A lexer of texts that need not be grammars.
 ghost use Rattle.std.specs.Prelude.{◌≡◌, ◌≢◌, ◌<◌, ◌≤◌, IfOk, length, slice_index_or};
-ghost use Rattle.hint_lexemes.specs.Lexemes.{AreInOrder};
+ghost use Rattle.hint_lexemes.specs.Lexemes.{AreInOrder, is_edge, is_name};
 
 use std::alloc::{AllocError, Global};
 
@@ -29,6 +29,22 @@ pub enum LexemeClass {
     Foreign,
     /// Nothing: before the first lexeme, or after the last.
     Edge,
+}
+
+impl LexemeClass {
+    /// Whether it is that of names.
+    pub(crate) fn is_name(self) -> bool
+        ensures { result ≡ is_name self }
+    {
+        matches!(self, LexemeClass::Name)
+    }
+
+    /// Whether it is that of an edge.
+    pub(crate) fn is_edge(self) -> bool
+        ensures { result ≡ is_edge self }
+    {
+        matches!(self, LexemeClass::Edge)
+    }
 }
 
 /// A lexeme: its class, and its bytes in the text.

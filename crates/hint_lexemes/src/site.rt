@@ -1,9 +1,8 @@
 //! The lexemes around an error.
-ghost use Rattle.std.specs.Prelude.{◌≡◌, ◌↔◌, ◌≤◌, ◌<◌, ◌+◌, ◌-◌, ◌^◌, ◌==◌, IfOk, IsTrue, length};
-ghost use Rattle.std.specs.Prelude.{slice_get, slice_index_or};
+ghost use Rattle.std.specs.Prelude.{◌≡◌, ◌≤◌, ◌==◌, ◌&&◌, [], IfOk, OnOk, length, nat_lt};
+ghost use Rattle.std.specs.Prelude.{slice_index_or, take};
 ghost use Rattle.hint_lexemes.specs.Lexemes as spec;
-ghost use Rattle.hint_lexemes.specs.Lexemes.{AreInOrder, lexeme_at};
-ghost use Rattle.hint_lexemes.specs.declared.lexer.LexemeClass.TheVariants as class;
+ghost use Rattle.hint_lexemes.specs.Lexemes.{AreInOrder, IsPart, lexeme_at};
 
 use crate::lexer::{Lexeme, LexemeClass, byte_at, lexemes};
 use std::alloc::{AllocError, Global};
@@ -27,10 +26,13 @@ impl<'t> Site<'t> {
         ensures text { IfOk result (λ site. site.text.now ≡ text.entry.now) }
         ensures position { IfOk result (λ site. site.position ≡ position) }
         ensures ordered { IfOk result (λ site. AreInOrder 0 site.lexemes.items (length text.entry.now)) }
+        ensures index { IfOk result (λ site. site.index ≡ spec.index_at position site.lexemes.items) }
+        ensures open { IfOk result (λ site.
+            site.open.items ≡ spec.open_in [] (take site.index site.lexemes.items)) }
     {
         let lexemes = lexemes(alloc, text)?;
         let index = index_at(&lexemes, position);
-        let open = open_brackets(alloc, &lexemes, index)?;
+        let open = open_in(alloc, &lexemes[..index])?;
         Ok(Site {
             text,
             position,
@@ -49,17 +51,14 @@ impl<'t> Site<'t> {
 
     /// The `count`th lexeme after that of the error.
     pub fn next_lexeme(&self, count: usize) -> Lexeme
-        ensures { self.now.index + count < 2 ^ 64 → result
-            ≡ lexeme_at self.now.lexemes.items (self.now.index + count) (length self.now.text.now) }
+        ensures { result ≡ spec.lexeme_after self.now count }
     {
         self.lexeme(self.index.saturating_add(count))
     }
 
     /// The `count`th lexeme before that of the error.
     pub fn previous_lexeme(&self, count: usize) -> Lexeme
-        ensures before { count ≤ self.now.index → result
-            ≡ lexeme_at self.now.lexemes.items (self.now.index - count) (length self.now.text.now) }
-        ensures none { self.now.index < count → result ≡ spec.edge 0 }
+        ensures { result ≡ spec.lexeme_before self.now count }
     {
         if count > self.index {
             return edge(0);
@@ -78,12 +77,16 @@ impl<'t> Site<'t> {
     }
 
     /// The text of a lexeme.
-    pub fn text_of(&self, lexeme: Lexeme) -> &'t str {
+    pub fn text_of(&self, lexeme: Lexeme) -> &'t str
+        ensures { IsPart self.entry.now.text.now lexeme.start lexeme.end result.now }
+    {
         self.part(lexeme.start, lexeme.end)
     }
 
     /// The bytes `start..end` of the text; nothing where these are not characters.
-    pub fn part(&self, start: usize, end: usize) -> &'t str {
+    pub fn part(&self, start: usize, end: usize) -> &'t str
+        ensures { IsPart self.entry.now.text.now start end result.now }
+    {
         self.text.get(start..end).unwrap_or("")
     }
 
@@ -96,42 +99,60 @@ impl<'t> Site<'t> {
 
     /// The innermost bracket that is open before the error.
     pub fn innermost(&self) -> Option<Lexeme>
-        ensures { result ≡ slice_get self.now.open.items (length self.now.open.items - 1) }
+        ensures { result ≡ spec.innermost self.now }
     {
         self.open.last().copied()
     }
 
     /// Whether the innermost open bracket is this one.
-    pub fn is_within(&self, bracket: u8) -> bool {
+    pub fn is_within(&self, bracket: u8) -> bool
+        ensures { result ≡ spec.is_bracket bracket (spec.innermost self.now) }
+    {
         match self.innermost() {
-            Some(lexeme) => lexeme.class == LexemeClass::Sign(bracket),
+            Some(lexeme) => is_sign(lexeme, bracket),
             None => false,
         }
     }
 
     /// Whether the error is in the braces of a count: the innermost ones, in those of a body.
-    pub fn is_in_count(&self) -> bool {
+    pub fn is_in_count(&self) -> bool
+        ensures { result ≡ (nat_lt 1 (length self.now.open.items)
+            && spec.is_bracket 123 (spec.innermost self.now)) }
+    {
         self.open.len() > 1 && self.is_within(b'{')
     }
 
     /// Whether a rule begins at the error: a name and a single `=`, which is no tag.
-    pub fn starts_rule(&self) -> bool {
-        let here = self.here();
-        here.class == LexemeClass::Name
+    pub fn starts_rule(&self) -> bool
+        ensures { result ≡ spec.starts_rule self.now }
+    {
+        self.here().class.is_name()
             && is_sign(self.next_lexeme(1), b'=')
             && !is_sign(self.previous_lexeme(1), b'#')
     }
 
     /// The innermost bracket that the error shows to be unclosed: a rule begins, the text ends, or another
     /// bracket is closed.
-    pub fn unclosed_bracket(&self) -> Option<Lexeme> {
-        let open = self.innermost()?;
-        match self.here().class {
-            LexemeClass::Edge | LexemeClass::Sign(b'=') => Some(open),
-            LexemeClass::Sign(b'}') if !is_sign(open, b'{') => Some(open),
-            _ if self.starts_rule() => Some(open),
-            _ => None,
+    pub fn unclosed_bracket(&self) -> Option<Lexeme>
+        ensures { result ≡ spec.unclosed_bracket self.now }
+    {
+        let bracket = self.innermost()?;
+        if self.is_unclosed(bracket) {
+            Some(bracket)
+        } else {
+            None
         }
+    }
+
+    /// Whether the error shows that a bracket before it is not closed.
+    fn is_unclosed(&self, bracket: Lexeme) -> bool
+        ensures { result ≡ spec.is_unclosed self.now bracket }
+    {
+        let here = self.here();
+        here.class.is_edge()
+            || is_sign(here, b'=')
+            || is_sign(here, b'}') && !is_sign(bracket, b'{')
+            || self.starts_rule()
     }
 
     /// Whether the error is outside of all brackets.
@@ -154,46 +175,65 @@ fn edge(at: usize) -> Lexeme
 }
 
 /// The index of the first lexeme that ends after a byte, or how many there are.
-fn index_at(lexemes: &[Lexeme], position: usize) -> usize {
-    for (index, lexeme) in lexemes.iter().enumerate() {
-        if lexeme.end > position {
+fn index_at(lexemes: &[Lexeme], position: usize) -> usize
+    ensures index { result ≡ spec.index_at position lexemes.now }
+    ensures within { result ≤ length lexemes.now }
+{
+    let mut index = 0usize;
+    let mut rest = lexemes;
+    while let Some((lexeme, after)) = rest.split_first() {
+        if position < lexeme.end {
             return index;
         }
+        index += 1;
+        rest = after;
     }
-    lexemes.len()
+    index
 }
 
-/// The brackets that are open before the lexeme of an index, outermost first.
-fn open_brackets(
-    alloc: Global,
-    lexemes: &[Lexeme],
-    index: usize,
-) -> Result<Vec<Lexeme>, AllocError> {
-    let mut open = Vec::new(alloc);
-    for lexeme in lexemes.iter().take(index) {
-        match lexeme.class {
-            LexemeClass::Sign(byte) if is_opening(byte) => open.push(*lexeme)?,
-            LexemeClass::Sign(byte) if is_closing(byte) => {
-                let _ = open.pop();
-            }
-            _ => {}
-        }
+/// The brackets that are open after some lexemes, outermost first.
+fn open_in(alloc: Global, lexemes: &[Lexeme]) -> Result<Vec<Lexeme>, AllocError>
+    ensures { IfOk result (λ brackets. brackets.items ≡ spec.open_in [] lexemes.now) }
+{
+    let mut brackets = Vec::new(alloc);
+    let mut rest = lexemes;
+    while let Some((lexeme, after)) = rest.split_first() {
+        change_open(*lexeme, &mut brackets)?;
+        rest = after;
     }
-    Ok(open)
+    Ok(brackets)
 }
 
-/// Whether a byte opens a bracket.
-fn is_opening(byte: u8) -> bool {
-    matches!(byte, b'(' | b'[' | b'{')
+/// Adds a bracket that opens, or takes the innermost away where one closes.
+fn change_open(lexeme: Lexeme, brackets: &mut Vec<Lexeme>) -> Result<(), AllocError>
+    ensures { OnOk result (brackets.new.items ≡ spec.open_after brackets.old.items lexeme) }
+{
+    if is_opening(lexeme) {
+        brackets.push(lexeme)?;
+    } else if is_closing(lexeme) {
+        let _ = brackets.pop();
+    }
+    Ok(())
 }
 
-/// Whether a byte closes a bracket.
-fn is_closing(byte: u8) -> bool {
-    matches!(byte, b')' | b']' | b'}')
+/// Whether a lexeme opens a bracket.
+fn is_opening(lexeme: Lexeme) -> bool
+    ensures { result ≡ spec.is_opening lexeme.class }
+{
+    is_sign(lexeme, b'(') || is_sign(lexeme, b'[') || is_sign(lexeme, b'{')
+}
+
+/// Whether a lexeme closes a bracket.
+fn is_closing(lexeme: Lexeme) -> bool
+    ensures { result ≡ spec.is_closing lexeme.class }
+{
+    is_sign(lexeme, b')') || is_sign(lexeme, b']') || is_sign(lexeme, b'}')
 }
 
 /// Whether an expression may end with a lexeme.
-pub fn ends_term(lexeme: Lexeme) -> bool {
+pub fn ends_term(lexeme: Lexeme) -> bool
+    ensures { result ≡ spec.ends_term lexeme.class }
+{
     match lexeme.class {
         LexemeClass::Name | LexemeClass::Text | LexemeClass::Character => true,
         LexemeClass::Sign(byte) => matches!(byte, b')' | b']' | b'}' | b'*' | b'+' | b'?'),
@@ -202,7 +242,9 @@ pub fn ends_term(lexeme: Lexeme) -> bool {
 }
 
 /// Whether an expression may begin with a lexeme.
-pub fn starts_term(lexeme: Lexeme) -> bool {
+pub fn starts_term(lexeme: Lexeme) -> bool
+    ensures { result ≡ spec.starts_term lexeme.class }
+{
     match lexeme.class {
         LexemeClass::Name | LexemeClass::Text | LexemeClass::OpenText => true,
         LexemeClass::Character => true,
@@ -213,7 +255,10 @@ pub fn starts_term(lexeme: Lexeme) -> bool {
 
 /// Whether a lexeme is this ASCII character.
 pub fn is_sign(lexeme: Lexeme, byte: u8) -> bool
-    ensures { IsTrue result ↔ (lexeme.class ≡ class.Sign byte) }
+    ensures { result ≡ spec.is_sign byte lexeme.class }
 {
-    lexeme.class == LexemeClass::Sign(byte)
+    match lexeme.class {
+        LexemeClass::Sign(sign) => sign == byte,
+        _ => false,
+    }
 }
