@@ -1,7 +1,7 @@
 //! The comments of a gap, the text between two tokens.
-ghost use Rattle.std.specs.Prelude.{◌≡◌, ◌≢◌, ◌-◌, ◌<◌, ◌≤◌, ℕ, IfOk, OnOk, false, slice_index, true};
+ghost use Rattle.std.specs.Prelude.{◌≡◌, ◌≢◌, ◌+◌, ◌-◌, ◌^◌, ◌<◌, ◌≤◌, ◌==◌, ◌&&◌, ℕ, List, IfOk, OnOk, false, slice_index, true};
 ghost use Rattle.meta_format.specs.Comments.{is_blank};
-ghost use Rattle.meta_format.specs.Gaps.{AreInOrder};
+ghost use Rattle.meta_format.specs.Gaps.{AreComments, starts_comment};
 
 use crate::contents::{closings_at, is_blank};
 use std::alloc::{AllocError, Global};
@@ -52,7 +52,10 @@ pub fn trim_end(bytes: &[u8], start: usize, end: usize) -> usize
 }
 
 /// Returns whether two bytes are at a position.
-fn has_pair(bytes: &[u8], at: usize, first: u8, second: u8) -> bool {
+fn has_pair(bytes: &[u8], at: usize, first: u8, second: u8) -> bool
+    ensures { at + 1 < 2 ^ 64
+        → result ≡ (slice_index bytes.now at == first && slice_index bytes.now (at + 1) == second) }
+{
     byte_at(bytes, at) == first && byte_at(bytes, at.saturating_add(1)) == second
 }
 
@@ -112,6 +115,7 @@ struct GapText<'t> {
 fn find_block_end(text: GapText<'_>, counts: &[usize], start: usize) -> usize
     ensures within { start ≤ text.entry.end → start ≤ result }
     ensures bound { result ≤ text.entry.end }
+    ensures later { start < text.entry.end → start < result }
 {
     let mut depth = 0usize;
     let mut next = start;
@@ -139,7 +143,7 @@ fn find_block_end(text: GapText<'_>, counts: &[usize], start: usize) -> usize
 
 /// Finds the comments of the gap `from..end`.
 pub fn scan_gap(alloc: Global, bytes: &[u8], from: usize, end: usize) -> Result<Gap, AllocError>
-    ensures { IfOk result (λ gap. from ≤ end → AreInOrder from gap.comments.items end) }
+    ensures { IfOk result (λ gap. from ≤ end → AreComments bytes.now from gap.comments.items end) }
 {
     let text = GapText { bytes, from, end };
     let mut gap = Gap {
@@ -168,8 +172,11 @@ fn scan_at(
 ) -> Result<usize, AllocError>
     ensures within { IfOk result (λ next. start ≤ text.entry.end → start ≤ next) }
     ensures bound { IfOk result (λ next. start ≤ text.entry.end → next ≤ text.entry.end) }
-    ensures in_order { IfOk result (λ next. (from : ℕ) → start ≤ text.entry.end
-        → AreInOrder from gap.old.comments.items start → AreInOrder from gap.new.comments.items next) }
+    ensures none { IfOk result (λ next. start < text.entry.end → next ≤ start
+        → starts_comment text.entry.bytes.now start ≡ false) }
+    ensures comments { IfOk result (λ next. (from : ℕ) → start < text.entry.end
+        → AreComments text.entry.bytes.now from gap.old.comments.items start
+        → AreComments text.entry.bytes.now from gap.new.comments.items next) }
 {
     if has_pair(text.bytes, start, b'/', b'/') {
         let end = find_line_feed(text.bytes, start, text.end);
@@ -197,8 +204,9 @@ fn count_once(alloc: Global, text: GapText<'_>, counts: &mut Vec<usize>) -> Resu
 impl Gap {
     /// Adds a comment.
     fn add(&mut self, start: usize, end: usize, is_line: bool) -> Result<(), AllocError>
-        ensures { OnOk result ((from : ℕ) → start ≤ end → AreInOrder from self.old.comments.items start
-            → AreInOrder from self.new.comments.items end) }
+        ensures { OnOk result ((bytes : List ℕ) (from : ℕ) → starts_comment bytes start ≡ true → start ≤ end
+            → AreComments bytes from self.old.comments.items start
+            → AreComments bytes from self.new.comments.items end) }
     {
         self.comments.push(Comment {
             start,
