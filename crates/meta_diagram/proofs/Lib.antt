@@ -1,3 +1,4 @@
 pub mod Bytes
 pub mod Lending
+pub mod Strokes
 pub mod Walking

@@ -1,4 +1,5 @@
 pub mod Labels
 pub mod Marks
+pub mod Rails
 pub mod Spaces
 pub mod Steps

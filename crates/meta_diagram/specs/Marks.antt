@@ -10,9 +10,12 @@ use Rattle.meta_diagram.specs.Labels.{leaf_label, shortened}
 use Rattle.meta_diagram.specs.declared.boxes.BoxContent.{BoxContent}
 use Rattle.meta_diagram.specs.declared.boxes.BoxContent.TheVariants as content
 use Rattle.meta_diagram.specs.declared.boxes.LayoutBox.{LayoutBox}
+use Rattle.meta_diagram.specs.declared.drawing.DiagramStyle.{DiagramStyle}
+use Rattle.meta_diagram.specs.declared.drawing.DiagramStyle.TheVariants as style
 
--- a text, the name of the rule of a number, or the start of a link to it
+-- a text, the name of the rule of a number, the start of a link to it, or the style of diagrams
 pub data Mark : Type 0 where
+  Styles : Mark
   Shows : List ℕ → Mark
   Names : ℕ → Mark
   LinksTo : ℕ → Mark
@@ -23,11 +26,17 @@ token_marks (token.Label t) = Shows (string_bytes t) ∷ []
 token_marks (token.Text t) = Shows t.now ∷ []
 token_marks (token.RuleName r) = Names r ∷ []
 token_marks (token.Link r) = LinksTo r ∷ []
+token_marks token.Style = Styles ∷ []
 token_marks _ = []
 
 -- what tokens show, one after another
 abbrev pub marks_of : List Markup → List Mark
 marks_of = flat_map token_marks
+
+-- a diagram's own style
+abbrev pub style_marks : DiagramStyle → List Mark
+style_marks style.OfPage = []
+style_marks style.Own = Styles ∷ []
 
 -- a text, unless it is empty
 abbrev pub text_marks : List ℕ → List Mark

@@ -1,5 +1,6 @@
 -- The space that boxes take, and where their rails enter.
-use Rattle.std.specs.Prelude.{ℕ, ◌+◌, ◌-◌, ◌*◌, ◌^◌, List, [], ◌∷◌, Bool, false, true, Option, Some, None, min, slice_get}
+use Rattle.std.specs.Prelude.{ℕ, ◌+◌, ◌-◌, ◌*◌, ◌^◌, ◌≤◌, List, [], ◌∷◌, All, Bool, false, true, Option, Some, None, min, slice_get, take}
+use Rattle.std.specs.Option.{option_map_or}
 use Rattle.std.specs.Str.{chars}
 use Rattle.unicode_width.specs.Width.{str_width}
 use Rattle.meta_diagram.specs.declared.boxes.BoxContent.{BoxContent}
@@ -40,3 +41,20 @@ with_entry None entry = []
 
 abbrev pub placed_box : List LayoutBox → List Point → ℕ → List (LayoutBox × Point)
 placed_box boxes entries i = with_entry (slice_get boxes i) (slice_get entries i)
+
+-- the width of the box of a number, if there is one
+abbrev pub box_width : List LayoutBox → ℕ → ℕ
+box_width boxes i = option_map_or (λ b. b.extent.width) (slice_get boxes i) 0
+
+-- of the boxes of these numbers none is wider
+abbrev pub HasRoomFor : List LayoutBox → List ℕ → ℕ → Type 0
+HasRoomFor boxes indices width = All (λ i. box_width boxes i ≤ width) indices
+
+-- the children that are drawn in a box: of a loop and a group the first one
+abbrev pub drawn_children : BoxContent → List ℕ → List ℕ
+drawn_children content.Sequence children = children
+drawn_children content.Choice children = children
+drawn_children content.Columns children = children
+drawn_children content.Loop children = take 1 children
+drawn_children content.Group children = take 1 children
+drawn_children _ children = []

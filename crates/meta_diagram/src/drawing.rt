@@ -2,7 +2,7 @@
 ghost use Rattle.std.specs.Prelude.{◌≡◌, ◌++◌, ◌∷◌, [], IfOk, OnOk, string_bytes};
 ghost use Rattle.std.specs.HashMap.{get_by_text};
 ghost use Rattle.std.specs.List.{flat_map};
-ghost use Rattle.meta_diagram.specs.Marks.{LinksTo, Shows, box_marks, diagram_marks, marks_of, text_marks};
+ghost use Rattle.meta_diagram.specs.Marks.{LinksTo, Shows, box_marks, diagram_marks, marks_of, style_marks, text_marks};
 
 use crate::boxes::{BoxContent, Extent, Layout, LayoutBox, Point, children_at};
 use crate::build::build_boxes;
@@ -34,7 +34,7 @@ pub fn draw_diagram<'t>(
     style: DiagramStyle,
 ) -> Result<MarkupBuilder<'t>, AllocError>
     ensures { IfOk result (λ markup. marks_of markup.tokens.items
-        ≡ diagram_marks (get_by_text rules.now) expr.now) }
+        ≡ style_marks style ++ diagram_marks (get_by_text rules.now) expr.now) }
 {
     let layout = build_boxes(alloc, expr, rules)?;
     let mut markup = MarkupBuilder::new(alloc);
@@ -50,7 +50,8 @@ fn draw(
     markup: &mut MarkupBuilder<'_>,
 ) -> Result<(), AllocError>
     ensures { OnOk result (marks_of markup.new.tokens.items
-        ≡ marks_of markup.old.tokens.items ++ flat_map box_marks layout.now.boxes.items) }
+        ≡ (marks_of markup.old.tokens.items ++ style_marks style)
+        ++ flat_map box_marks layout.now.boxes.items) }
 {
     let whole = match layout.boxes.last() {
         Some(whole) => whole.extent,
@@ -111,7 +112,8 @@ fn open_drawing(
     whole: Extent,
     style: DiagramStyle,
 ) -> Result<(), AllocError>
-    ensures { OnOk result (marks_of markup.new.tokens.items ≡ marks_of markup.old.tokens.items) }
+    ensures { OnOk result (marks_of markup.new.tokens.items
+        ≡ marks_of markup.old.tokens.items ++ style_marks style) }
 {
     let height = whole.ascent.saturating_add(whole.descent.max(whole.exit_y));
     open_sized(

@@ -1,6 +1,6 @@
 //! The space that each box takes, and where its children are, from their own spaces.
-ghost use Rattle.std.specs.Prelude.{◌≡◌, ◌+◌, ◌*◌, max, true};
-ghost use Rattle.meta_diagram.specs.Spaces.{capped, is_text_box, level, text_width};
+ghost use Rattle.std.specs.Prelude.{◌≡◌, ◌+◌, ◌*◌, ◌<◌, ◌≤◌, length, max, take, true};
+ghost use Rattle.meta_diagram.specs.Spaces.{HasRoomFor, box_width, capped, drawn_children, is_text_box, level, text_width};
 
 use crate::boxes::{BoxContent, Extent, LayoutBox, Point};
 use unicode_width::UnicodeWidthStr;
@@ -36,6 +36,7 @@ pub fn lay_out(
     ensures no_children { is_text_box content ≡ true → offsets.new ≡ offsets.old }
     ensures choice { content ≡ BoxContent.Choice → result.exit_y ≡ 0 }
     ensures columns { content ≡ BoxContent.Columns → result.exit_y ≡ 0 }
+    ensures room { HasRoomFor boxes.now (drawn_children content children.now) result.width }
 {
     let text = text_width(label);
     match content {
@@ -59,7 +60,9 @@ pub fn text_width(text: &str) -> u64
 }
 
 /// The extent of a box, or none where there is no such box.
-fn extent_of(boxes: &[LayoutBox], index: usize) -> Extent {
+fn extent_of(boxes: &[LayoutBox], index: usize) -> Extent
+    ensures { result.width ≡ box_width boxes.now index }
+{
     match boxes.get(index) {
         Some(found) => found.extent,
         None => Extent::EMPTY,
@@ -74,12 +77,14 @@ fn set_offset(offsets: &mut Vec<Point>, index: usize, x: u64, y: u64) {
 }
 
 /// Lays out the items of a sequence side by side, in as many rows as they need.
-fn lay_out_sequence(boxes: &[LayoutBox], offsets: &mut Vec<Point>, children: &[usize]) -> Extent {
+fn lay_out_sequence(boxes: &[LayoutBox], offsets: &mut Vec<Point>, children: &[usize]) -> Extent
+    ensures { HasRoomFor boxes.now children.now result.width }
+{
     let mut whole = Extent::EMPTY;
     let mut rest = children;
     for row in 0..children.len() {
         if rest.is_empty() {
-            break;
+            return whole;
         }
         let (items, others) = rest.split_at(row_length(boxes, rest).min(rest.len()));
         whole = if row == 0 {
@@ -98,7 +103,9 @@ fn lay_out_first_row(
     offsets: &mut Vec<Point>,
     items: &[usize],
     has_next: bool,
-) -> Extent {
+) -> Extent
+    ensures { HasRoomFor boxes.now items.now result.width }
+{
     place_row(boxes, offsets, items, Point { x: 0, y: 0 });
     let row = row_extent(boxes, items);
     let room = if has_next { 2 * TURN } else { 0 };
@@ -109,7 +116,9 @@ fn lay_out_first_row(
 }
 
 /// The number of these boxes that fit into a row, at least one where there is one.
-fn row_length(boxes: &[LayoutBox], children: &[usize]) -> usize {
+fn row_length(boxes: &[LayoutBox], children: &[usize]) -> usize
+    ensures { 0 < length children.now → 0 < result }
+{
     let mut width: u64 = 0;
     for (place, index) in children.iter().enumerate() {
         let own = extent_of(boxes, *index).width;
@@ -127,7 +136,10 @@ fn lay_out_row(
     offsets: &mut Vec<Point>,
     items: &[usize],
     above: Extent,
-) -> Extent {
+) -> Extent
+    ensures room { HasRoomFor boxes.now items.now result.width }
+    ensures above { above.width ≤ result.width }
+{
     let row = row_extent(boxes, items);
     let x = 2 * TURN;
     let ascent = row.ascent.max(TURN);
@@ -154,7 +166,9 @@ fn place_row(boxes: &[LayoutBox], offsets: &mut Vec<Point>, items: &[usize], sta
 }
 
 /// The space of boxes side by side.
-fn row_extent(boxes: &[LayoutBox], items: &[usize]) -> Extent {
+fn row_extent(boxes: &[LayoutBox], items: &[usize]) -> Extent
+    ensures { HasRoomFor boxes.now items.now result.width }
+{
     let mut whole = Extent::EMPTY;
     for (place, index) in items.iter().enumerate() {
         let own = extent_of(boxes, *index);
@@ -171,7 +185,8 @@ fn row_extent(boxes: &[LayoutBox], items: &[usize]) -> Extent {
 
 /// Lays out alternatives below one another, the first at the height of the rail.
 fn lay_out_choice(boxes: &[LayoutBox], offsets: &mut Vec<Point>, children: &[usize]) -> Extent
-    ensures { result.exit_y ≡ 0 }
+    ensures level { result.exit_y ≡ 0 }
+    ensures room { HasRoomFor boxes.now children.now result.width }
 {
     let mut whole = Extent::EMPTY;
     for (place, index) in children.iter().enumerate() {
@@ -191,7 +206,8 @@ fn lay_out_choice(boxes: &[LayoutBox], offsets: &mut Vec<Point>, children: &[usi
 
 /// Lays out choices side by side, below a rail that leads to each and above one that leads away.
 fn lay_out_columns(boxes: &[LayoutBox], offsets: &mut Vec<Point>, children: &[usize]) -> Extent
-    ensures { result.exit_y ≡ 0 }
+    ensures level { result.exit_y ≡ 0 }
+    ensures room { HasRoomFor boxes.now children.now result.width }
 {
     let row = row_extent(boxes, children);
     let y = row.ascent.saturating_add(GAP).saturating_add(2 * TURN);
@@ -216,7 +232,9 @@ fn lay_out_loop(
     offsets: &mut Vec<Point>,
     children: &[usize],
     text: u64,
-) -> Extent {
+) -> Extent
+    ensures { HasRoomFor boxes.now (take 1 children.now) result.width }
+{
     let Some(index) = children.first() else {
         return Extent::EMPTY;
     };
@@ -245,7 +263,9 @@ fn lay_out_group(
     offsets: &mut Vec<Point>,
     children: &[usize],
     text: u64,
-) -> Extent {
+) -> Extent
+    ensures { HasRoomFor boxes.now (take 1 children.now) result.width }
+{
     let Some(index) = children.first() else {
         return Extent::EMPTY;
     };

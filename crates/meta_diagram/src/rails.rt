@@ -1,6 +1,8 @@
 //! The rails of a diagram, as paths.
-ghost use Rattle.std.specs.Prelude.{◌≡◌, OnOk};
+ghost use Rattle.std.specs.Prelude.{◌≡◌, ◌+◌, ◌-◌, ◌<◌, ◌≤◌, ◌++◌, OnOk};
 ghost use Rattle.meta_diagram.specs.Marks.{marks_of};
+ghost use Rattle.meta_diagram.specs.Rails.{Curve, GainsRail, point, rail_end, rail_start, stroke_tokens};
+ghost use Rattle.meta_diagram.specs.Spaces.{capped};
 
 use crate::boxes::Point;
 use crate::layout::TURN;
@@ -9,7 +11,8 @@ use std::alloc::AllocError;
 
 /// Adds the start of a path.
 fn begin(markup: &mut MarkupBuilder<'_>, from: Point) -> Result<(), AllocError>
-    ensures { OnOk result (marks_of markup.new.tokens.items ≡ marks_of markup.old.tokens.items) }
+    ensures marks { OnOk result (marks_of markup.new.tokens.items ≡ marks_of markup.old.tokens.items) }
+    ensures tokens { OnOk result (markup.new.tokens.items ≡ markup.old.tokens.items ++ rail_start from) }
 {
     markup.put(Markup::Open(Tag::Path))?;
     markup.put(Markup::Attribute(Attribute::Commands))?;
@@ -18,7 +21,8 @@ fn begin(markup: &mut MarkupBuilder<'_>, from: Point) -> Result<(), AllocError>
 
 /// Adds the end of a path.
 fn end(markup: &mut MarkupBuilder<'_>) -> Result<(), AllocError>
-    ensures { OnOk result (marks_of markup.new.tokens.items ≡ marks_of markup.old.tokens.items) }
+    ensures marks { OnOk result (marks_of markup.new.tokens.items ≡ marks_of markup.old.tokens.items) }
+    ensures tokens { OnOk result (markup.new.tokens.items ≡ markup.old.tokens.items ++ rail_end) }
 {
     markup.put(Markup::Quote)?;
     markup.put(Markup::EmptyTagEnd)
@@ -26,7 +30,9 @@ fn end(markup: &mut MarkupBuilder<'_>) -> Result<(), AllocError>
 
 /// Adds a curve around a corner to a point.
 fn turn(markup: &mut MarkupBuilder<'_>, corner: Point, to: Point) -> Result<(), AllocError>
-    ensures { OnOk result (marks_of markup.new.tokens.items ≡ marks_of markup.old.tokens.items) }
+    ensures marks { OnOk result (marks_of markup.new.tokens.items ≡ marks_of markup.old.tokens.items) }
+    ensures tokens { OnOk result (markup.new.tokens.items ≡ markup.old.tokens.items ++
+        stroke_tokens (Curve corner to)) }
 {
     markup.command_to(PathCommand::CurveTo, corner.x, corner.y)?;
     markup.command_to(PathCommand::Separator, to.x, to.y)
@@ -34,7 +40,9 @@ fn turn(markup: &mut MarkupBuilder<'_>, corner: Point, to: Point) -> Result<(), 
 
 /// Adds a turn at a corner from a horizontal line downwards.
 fn turn_down(markup: &mut MarkupBuilder<'_>, x: u64, y: u64) -> Result<(), AllocError>
-    ensures { OnOk result (marks_of markup.new.tokens.items ≡ marks_of markup.old.tokens.items) }
+    ensures marks { OnOk result (marks_of markup.new.tokens.items ≡ marks_of markup.old.tokens.items) }
+    ensures tokens { OnOk result (markup.new.tokens.items ≡ markup.old.tokens.items ++
+        stroke_tokens (Curve (point x y) (point x (capped (y + TURN))))) }
 {
     let below = y.saturating_add(TURN);
     turn(markup, Point { x, y }, Point { x, y: below })
@@ -42,7 +50,9 @@ fn turn_down(markup: &mut MarkupBuilder<'_>, x: u64, y: u64) -> Result<(), Alloc
 
 /// Adds a turn at a corner from a horizontal line upwards.
 fn turn_up(markup: &mut MarkupBuilder<'_>, x: u64, y: u64) -> Result<(), AllocError>
-    ensures { OnOk result (marks_of markup.new.tokens.items ≡ marks_of markup.old.tokens.items) }
+    ensures marks { OnOk result (marks_of markup.new.tokens.items ≡ marks_of markup.old.tokens.items) }
+    ensures tokens { OnOk result (markup.new.tokens.items ≡ markup.old.tokens.items ++
+        stroke_tokens (Curve (point x y) (point x (y - TURN)))) }
 {
     let above = y.saturating_sub(TURN);
     turn(markup, Point { x, y }, Point { x, y: above })
@@ -50,7 +60,9 @@ fn turn_up(markup: &mut MarkupBuilder<'_>, x: u64, y: u64) -> Result<(), AllocEr
 
 /// Adds a turn at a corner from a vertical line to the right.
 fn turn_right(markup: &mut MarkupBuilder<'_>, x: u64, y: u64) -> Result<(), AllocError>
-    ensures { OnOk result (marks_of markup.new.tokens.items ≡ marks_of markup.old.tokens.items) }
+    ensures marks { OnOk result (marks_of markup.new.tokens.items ≡ marks_of markup.old.tokens.items) }
+    ensures tokens { OnOk result (markup.new.tokens.items ≡ markup.old.tokens.items ++
+        stroke_tokens (Curve (point x y) (point (capped (x + TURN)) y))) }
 {
     let right = x.saturating_add(TURN);
     turn(markup, Point { x, y }, Point { x: right, y })
@@ -58,7 +70,9 @@ fn turn_right(markup: &mut MarkupBuilder<'_>, x: u64, y: u64) -> Result<(), Allo
 
 /// Adds a turn at a corner from a vertical line to the left.
 fn turn_left(markup: &mut MarkupBuilder<'_>, x: u64, y: u64) -> Result<(), AllocError>
-    ensures { OnOk result (marks_of markup.new.tokens.items ≡ marks_of markup.old.tokens.items) }
+    ensures marks { OnOk result (marks_of markup.new.tokens.items ≡ marks_of markup.old.tokens.items) }
+    ensures tokens { OnOk result (markup.new.tokens.items ≡ markup.old.tokens.items ++
+        stroke_tokens (Curve (point x y) (point (x - TURN) y))) }
 {
     let left = x.saturating_sub(TURN);
     turn(markup, Point { x, y }, Point { x: left, y })
@@ -71,7 +85,10 @@ pub fn draw_level(
     right: u64,
     y: u64,
 ) -> Result<(), AllocError>
-    ensures { OnOk result (marks_of markup.new.tokens.items ≡ marks_of markup.old.tokens.items) }
+    ensures marks { OnOk result (marks_of markup.new.tokens.items ≡ marks_of markup.old.tokens.items) }
+    ensures rail { OnOk result (left < right
+        → GainsRail (point left y) (point right y) markup.old.tokens.items markup.new.tokens.items) }
+    ensures none { OnOk result (right ≤ left → markup.new ≡ markup.old) }
 {
     if left >= right {
         return Ok(());
@@ -83,7 +100,11 @@ pub fn draw_level(
 
 /// Draws a rail to a box: to the right, down at once, and to the right again.
 pub fn draw_down(markup: &mut MarkupBuilder<'_>, from: Point, to: Point) -> Result<(), AllocError>
-    ensures { OnOk result (marks_of markup.new.tokens.items ≡ marks_of markup.old.tokens.items) }
+    ensures marks { OnOk result (marks_of markup.new.tokens.items ≡ marks_of markup.old.tokens.items) }
+    ensures down { OnOk result (from.y < to.y
+        → GainsRail from to markup.old.tokens.items markup.new.tokens.items) }
+    ensures level { OnOk result (to.y ≤ from.y → from.x < to.x
+        → GainsRail from (point to.x from.y) markup.old.tokens.items markup.new.tokens.items) }
 {
     if from.y >= to.y {
         return draw_level(markup, from.x, to.x, from.y);
@@ -99,7 +120,11 @@ pub fn draw_down(markup: &mut MarkupBuilder<'_>, from: Point, to: Point) -> Resu
 
 /// Draws a rail from a box: to the right, up at the end, and to the right again.
 pub fn draw_up(markup: &mut MarkupBuilder<'_>, from: Point, to: Point) -> Result<(), AllocError>
-    ensures { OnOk result (marks_of markup.new.tokens.items ≡ marks_of markup.old.tokens.items) }
+    ensures marks { OnOk result (marks_of markup.new.tokens.items ≡ marks_of markup.old.tokens.items) }
+    ensures up { OnOk result (to.y < from.y → TURN ≤ to.x
+        → GainsRail from to markup.old.tokens.items markup.new.tokens.items) }
+    ensures level { OnOk result (from.y ≤ to.y → from.x < to.x
+        → GainsRail from (point to.x from.y) markup.old.tokens.items markup.new.tokens.items) }
 {
     if from.y <= to.y {
         return draw_level(markup, from.x, to.x, from.y);
@@ -120,7 +145,9 @@ pub fn draw_return(
     to: Point,
     middle: u64,
 ) -> Result<(), AllocError>
-    ensures { OnOk result (marks_of markup.new.tokens.items ≡ marks_of markup.old.tokens.items) }
+    ensures marks { OnOk result (marks_of markup.new.tokens.items ≡ marks_of markup.old.tokens.items) }
+    ensures rail { OnOk result (TURN ≤ to.x
+        → GainsRail from to markup.old.tokens.items markup.new.tokens.items) }
 {
     let right = from.x.saturating_add(TURN);
     let left = to.x.saturating_sub(TURN);
@@ -142,7 +169,9 @@ pub fn draw_back(
     to: Point,
     back: u64,
 ) -> Result<(), AllocError>
-    ensures { OnOk result (marks_of markup.new.tokens.items ≡ marks_of markup.old.tokens.items) }
+    ensures marks { OnOk result (marks_of markup.new.tokens.items ≡ marks_of markup.old.tokens.items) }
+    ensures rail { OnOk result (TURN ≤ to.x
+        → GainsRail from to markup.old.tokens.items markup.new.tokens.items) }
 {
     let right = from.x.saturating_add(TURN);
     let left = to.x.saturating_sub(TURN);
