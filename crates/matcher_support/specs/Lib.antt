@@ -4,3 +4,4 @@ pub mod Values
 pub mod Sets
 pub mod Json
 pub mod Lines
+pub mod Expectations

@@ -1,6 +1,5 @@
 pub mod Ended
 pub mod Came
-pub mod Names
 pub mod RuleNames
 pub mod Listed
 pub mod MatchedForms

@@ -1,32 +1,17 @@
 -- Messages about a rule, a text and files.
-use Rattle.std.specs.Prelude.{ℕ, ◌==◌, ◌||◌, not, Bool, List, [], ◌∷◌, ◌++◌, bytes_eq, codes, encode_utf8_all, if◌then◌else◌, length, take}
+use Rattle.std.specs.Prelude.{ℕ, ◌==◌, ◌||◌, not, Bool, List, [], ◌++◌, bytes_eq, codes, length, take}
 use Rattle.std.specs.Fmt.{decimal}
 use Rattle.meta_base.specs.Language.Expression.{Grammar}
 use Rattle.meta_base.specs.Language.Text.{Text}
 use Rattle.meta_base.specs.Pieces.LineColumn.{line_column}
+use Rattle.matcher_support.specs.Expectations.{list_text}
 use Rattle.tool_support.specs.Escapes.{escaped_bytes}
 use Rattle.pest_run.specs.RuleNames.{near_names}
-
--- the separator before a name that is not the first: of two in all, or of more, and the last of them or not
-abbrev pub name_separator : Bool → Bool → List ℕ
-name_separator of_two last = if last then (if of_two then codes " or " else codes ", or ") else codes ", "
-
--- the names after the first one
-abbrev pub other_names : Bool → List Text → List ℕ
-other_names of_two [] = []
-other_names of_two (n ∷ ns) =
-    name_separator of_two (length ns == 0) ++ encode_utf8_all n ++ other_names of_two ns
-
--- `expected a`, `expected a or b`, `expected a, b, or c`; and another text where nothing is expected
-abbrev pub failure_message : List Text → List ℕ
-failure_message [] = codes "unknown parsing error"
-failure_message (n ∷ ns) = codes "expected " ++ encode_utf8_all n ++ other_names (length ns == 1) ns
 
 -- whether one of some names is meant: `; did you mean a, b, or c?`
 abbrev pub suggestion : List Text → List ℕ
 suggestion [] = []
-suggestion (n ∷ ns) =
-    codes "; did you mean " ++ encode_utf8_all n ++ other_names (length ns == 1) ns ++ codes "?"
+suggestion names = codes "; did you mean " ++ list_text names ++ codes "?"
 
 -- that no rule has a name, and the first five names of rules that are near it
 abbrev pub no_rule_text : Grammar → List ℕ → List ℕ

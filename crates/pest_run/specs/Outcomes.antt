@@ -18,13 +18,14 @@ use Rattle.meta_matcher.specs.Sizes.{most_steps}
 use Rattle.meta_matcher.specs.ExpectedNames.{each_once}
 use Rattle.meta_matcher.specs.declared.machine.Stop.{Stop}
 use Rattle.meta_matcher.specs.declared.machine.Stop.TheVariants as stop
+use Rattle.matcher_support.specs.Expectations.{failure_message}
 use Rattle.matcher_support.specs.Lines.{lines_of}
 use Rattle.matcher_support.specs.Sets.{has_set, is_in_property}
 use Rattle.matcher_support.specs.Shown.{shown}
 use Rattle.matcher_support.specs.Values.{answer_data}
 use Rattle.tool_support.specs.Escapes.{escaped_lines}
 use Rattle.pest_run.specs.Json.{escaped_json}
-use Rattle.pest_run.specs.Messages.{end_text, failure_message, is_more, no_rule_text, steps_text}
+use Rattle.pest_run.specs.Messages.{end_text, is_more, no_rule_text, steps_text}
 use Rattle.pest_run.specs.declared.arguments.Format.{Format}
 use Rattle.pest_run.specs.declared.arguments.Format.TheVariants as format_is
 use Rattle.pest_run.specs.declared.outcomes.Outcome.{Outcome}

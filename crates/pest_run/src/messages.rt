@@ -1,11 +1,12 @@
 //! Messages without hidden characters.
-ghost use Rattle.std.specs.Prelude.{◌≡◌, ◌==◌, ◌++◌, IfOk, OnOk, encode_utf8_all, length, string_bytes};
-ghost use Rattle.std.specs.Str.{IsCharBoundary, chars};
+ghost use Rattle.std.specs.Prelude.{◌≡◌, IfOk, string_bytes};
+ghost use Rattle.std.specs.Str.{IsCharBoundary};
 ghost use Rattle.meta_matcher.specs.ExpectedNames.{name_texts};
 ghost use Rattle.meta_ast.specs.Optimized.{optimized_rules_of};
-ghost use Rattle.pest_run.specs.Messages.{end_text, failure_message, is_more, name_separator, no_rule_text, note_between, other_names, place_text, steps_text, suggestion, unread_text};
+ghost use Rattle.pest_run.specs.Messages.{end_text, is_more, no_rule_text, note_between, place_text, steps_text, suggestion, unread_text};
 
 use crate::rule_names::near_names;
+use matcher_support::expectations::add_names;
 use meta_ast::optimized::OptimizedRule;
 use meta_base::runtime::Position;
 use std::alloc::{AllocError, Global};
@@ -40,10 +41,9 @@ fn suggest(alloc: Global, names: &[&str]) -> Result<String, AllocError>
     ensures { IfOk result (λ question. string_bytes question ≡ suggestion (name_texts names.now)) }
 {
     let mut question = String::new(alloc);
-    if let Some((first, others)) = names.split_first() {
+    if !names.is_empty() {
         question.push_str("; did you mean ")?;
-        add_name(&mut question, "", first)?;
-        add_others(&mut question, others)?;
+        add_names(&mut question, names)?;
         question.push_str("?")?;
     }
     Ok(question)
@@ -115,55 +115,4 @@ fn show_place(alloc: Global, place: (usize, usize)) -> Result<String, AllocError
 {
     let (line, column) = place;
     format!(in alloc; "{line}:{column}")
-}
-
-/// Returns the message for a text where these names are expected, in pest's words. The only error is an
-/// allocation failure.
-pub fn failure_message(alloc: Global, names: &[&str]) -> Result<String, AllocError>
-    ensures { IfOk result (λ message. string_bytes message ≡ failure_message (name_texts names.now)) }
-{
-    let mut message = String::new(alloc);
-    match names.split_first() {
-        None => message.push_str("unknown parsing error")?,
-        Some((first, others)) => {
-            message.push_str("expected ")?;
-            add_name(&mut message, "", first)?;
-            add_others(&mut message, others)?;
-        }
-    }
-    Ok(message)
-}
-
-/// Adds a separator and a name.
-fn add_name(message: &mut String, before: &str, name: &str) -> Result<(), AllocError>
-    ensures { OnOk result (string_bytes message.new
-        ≡ string_bytes message.old ++ before.now ++ encode_utf8_all (chars name.now)) }
-{
-    message.push_str(before)?;
-    message.push_str(name)
-}
-
-/// Returns the separator before a name that is not the first.
-fn name_separator(of_two: bool, last: bool) -> &'static str
-    ensures { result.now ≡ name_separator of_two last }
-{
-    match (of_two, last) {
-        (_, false) => ", ",
-        (true, true) => " or ",
-        (false, true) => ", or ",
-    }
-}
-
-/// Adds the names after the first one.
-fn add_others(message: &mut String, names: &[&str]) -> Result<(), AllocError>
-    ensures { OnOk result (string_bytes message.new
-        ≡ string_bytes message.old ++ other_names (length names.now == 1) (name_texts names.now)) }
-{
-    let of_two = names.len() == 1;
-    let mut following = names.len();
-    for name in names {
-        following -= 1;
-        add_name(message, name_separator(of_two, following == 0), name)?;
-    }
-    Ok(())
 }

@@ -13,9 +13,10 @@ ghost use Rattle.pest_run.specs.Outcomes.{IsFailureReport, IsMatchReport, IsNoRu
 
 use crate::arguments::Format;
 use crate::json::escape_json;
-use crate::messages::{end_message, failure_message, is_more, no_rule_message, steps_message};
+use crate::messages::{end_message, is_more, no_rule_message, steps_message};
 use matcher_engine::matcher::Matcher;
 use matcher_program::compile::Unfit;
+use matcher_support::expectations::failure_message;
 use matcher_support::json::tree_json;
 use matcher_support::lines::tree_lines;
 use matcher_support::shown::tree_text;

@@ -2,9 +2,9 @@ use Rattle.std.proofs.Common.{◌≡◌, ◌-◌, ◌∙◌, ap, sym, [], ◌++�
 use Rattle.std.specs.Prelude.{string_bytes}
 use Rattle.std.proofs.Math.ListN.{drop_of_length-le}
 use Rattle.meta_matcher.specs.ExpectedNames.{name_texts}
-use Rattle.pest_run.specs.Messages.{other_names}
-use Rattle.pest_run.proofs.Names.{one_more}
-use Rattle.pest_run.proofs.messages.add_others.Goals as goal
+use Rattle.matcher_support.specs.Expectations.{other_names}
+use Rattle.matcher_support.proofs.NameLists.{one_more}
+use Rattle.matcher_support.proofs.expectations.add_others.Goals as goal
 
 pub loop-name-preserved : goal.loop-name-preserved
 loop-name-preserved c =

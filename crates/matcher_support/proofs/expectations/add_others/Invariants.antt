@@ -1,8 +1,8 @@
 use Rattle.std.proofs.Common.{◌≡◌, ◌+◌, ◌++◌, drop, length}
 use Rattle.std.specs.Prelude.{string_bytes}
 use Rattle.meta_matcher.specs.ExpectedNames.{name_texts}
-use Rattle.pest_run.specs.Messages.{other_names}
-use Rattle.pest_run.proofs.messages.add_others.Given as goal
+use Rattle.matcher_support.specs.Expectations.{other_names}
+use Rattle.matcher_support.proofs.expectations.add_others.Given as goal
 
 abbrev pub invariant-loop-name : goal.invariant-loop-name
 invariant-loop-name l = record {
