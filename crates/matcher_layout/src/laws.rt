@@ -59,8 +59,8 @@ pub fn runs_have_results()
         → (text : List ℕ) → IsUtf8 text → ((i : ℕ) → get_or text i 0 < 256)
         → (m : ℕ) → op_at code [] (steps code text m (start_config l)).pc ≡ op.Lose
         → HasFailed g classes k text (steps code text m (start_config l)) }
-    ensures goes_on { (g : Grammar) (classes : Classes) (code : Code) (number : Text → ℕ) (points : List Point)
-        → op_at code [] 0 ≡ op.Fail → AreLaid g classes code number points
+    ensures goes_on { (g : Grammar) (classes : Classes) (code : Code) (number : Text → ℕ)
+        (points : List Point) → op_at code [] 0 ≡ op.Fail → AreLaid g classes code number points
         → (k : Task) (l n w : ℕ) → IsPoint points k l n w → 0 < w
         → op_at code [] n ≡ op.Halt → op_at code [] w ≡ op.Lose
         → (text : List ℕ) → IsUtf8 text → ((i : ℕ) → get_or text i 0 < 256)
