@@ -4,11 +4,15 @@ ghost use Rattle.calling.specs.NamedPlaces.{AreNamedPlaces, named_place, named_p
 ghost use Rattle.meta_spanned.specs.Nodes.{rule_views};
 ghost use Rattle.pest_meta.specs.Spelling.{IsAnswer};
 
+use matcher_engine::matcher::Matcher;
+use matcher_pairs::parse::{ParseError, parse as parse_text};
+use matcher_support::unicode_properties::UnicodeProperties;
 use pest_meta::optimizer::OptimizedRule;
 use pest_meta::parser::{ParserRule, Rule, consume_rules_with_spans, parse};
 use pest_meta::runtime::Fault;
 use pest_meta::{Report, parse_and_optimize, unwrap_or_report};
 use std::alloc::{AllocError, Global};
+use std::io;
 
 /// Returns the builtins that a grammar uses and its optimized rules, or the report of its faults.
 pub fn optimized_rules<'i>(
@@ -43,4 +47,27 @@ fn places(
         places.push((rule.name, place))?;
     }
     Ok(places)
+}
+
+/// Prints the pairs that a text spells for a rule, or why it spells none.
+pub fn print_pairs(
+    rt: &HostRuntime,
+    rules: &[OptimizedRule],
+    rule: &str,
+    text: &str,
+) -> io::Result<()> {
+    let Ok(matcher) = Matcher::new(rt.alloc(), rules, &UnicodeProperties) else {
+        return eprintln!(rt; "these rules cannot be run");
+    };
+    match parse_text(rt.alloc(), &matcher, rule, text, 1_000_000) {
+        Ok(found) => {
+            for pair in found.pairs {
+                println!(rt; "{}: {}", pair.as_rule(), pair.as_str())?;
+            }
+            Ok(())
+        }
+        Err(ParseError::NoMatch(error)) => eprintln!(rt; "{error}"),
+        Err(ParseError::UnknownRule(name)) => eprintln!(rt; "no rule {name}"),
+        Err(ParseError::Stopped(_)) => eprintln!(rt; "stopped"),
+    }
 }

@@ -1,0 +1,3 @@
+pub mod Making
+pub mod Nesting
+pub mod Failing

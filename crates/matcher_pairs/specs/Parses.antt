@@ -1,0 +1,46 @@
+-- Answers of a parse.
+use Rattle.std.specs.Prelude.{◌≡◌, ℕ, List, None, chars}
+use Rattle.meta_base.specs.Language.Expected.{expected}
+use Rattle.meta_base.specs.Language.Expression.{rule_of}
+use Rattle.meta_base.specs.Language.FurthestFailure.{furthest}
+use Rattle.meta_base.specs.Language.State.{Classes, Failure, State, Success}
+use Rattle.meta_base.specs.Language.Text.{Text}
+use Rattle.meta_base.specs.Pieces.LineColumn.{line_column}
+use Rattle.meta_base.specs.Pieces.Pairs.{pairs_text, pairs_trees}
+use Rattle.meta_base.specs.Pieces.PrintedError.{error_line, message_of, printed_line}
+use Rattle.meta_base.specs.declared.runtime.errors.Error.{Error}
+use Rattle.meta_base.specs.declared.runtime.errors.InputLocation.TheVariants as location
+use Rattle.meta_base.specs.declared.runtime.errors.LineColLocation.TheVariants as line_col
+use Rattle.matcher_program.specs.Programs.{Fits}
+use Rattle.meta_matcher.specs.Answers.{Has, IsStopped}
+use Rattle.meta_matcher.specs.ExpectedNames.{each_once}
+use Rattle.matcher_support.specs.Expectations.{failure_message}
+use Rattle.matcher_engine.specs.Matchers.{grammar_in, properties_in}
+use Rattle.matcher_engine.specs.declared.matcher.Matcher.{Matcher}
+use Rattle.matcher_pairs.specs.Trees.{Name, by_name}
+use Rattle.matcher_pairs.specs.declared.parse.Match.{Match}
+use Rattle.matcher_pairs.specs.declared.parse.ParseError.{ParseError}
+use Rattle.matcher_pairs.specs.declared.parse.ParseError.TheVariants as is
+
+-- the pairs are of the text, and are the trees that the rule gives, and it ends there, whatever the classes
+-- are
+pub record IsMatch (matcher : Matcher) (n : Text) (text : List ℕ) (it : Match) : Type 0 where
+  pub text_is : pairs_text it.pairs ≡ text
+  pub found : (classes : Classes) → Fits (properties_in matcher) classes → (t : State) × (t.position ≡ it.end)
+      × Has (grammar_in matcher) n text classes (Success t (by_name (pairs_trees it.pairs)))
+
+-- the error is at a position, and says that these names are expected there
+pub record IsErrorAt (text : List ℕ) (place : ℕ) (names : List Text) (error : Error Name) : Type 0 where
+  pub message : message_of error.variant ≡ failure_message names
+  pub location_is : error.location ≡ location.Pos place
+  pub line_col_is : error.line_col ≡ line_col.Pos (line_column text place)
+  pub line_is : error_line error ≡ printed_line text place
+
+-- no rule has the name; or the rule fails, and the error is at the furthest position of a failure, and says
+-- what is expected there; or the run was stopped
+abbrev pub IsRefused : Matcher → Text → List ℕ → ℕ → ParseError → Type 0
+IsRefused m n text steps (is.UnknownRule name) = (rule_of (grammar_in m) n ≡ None) × (chars name.now ≡ n)
+IsRefused m n text steps (is.NoMatch error) = (classes : Classes) → Fits (properties_in m) classes
+    → (d : Has (grammar_in m) n text classes Failure)
+    × IsErrorAt text (furthest d) (each_once (expected d)) error
+IsRefused m n text steps (is.Stopped why) = IsStopped (grammar_in m) (properties_in m) n text steps why
