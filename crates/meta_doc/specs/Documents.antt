@@ -1,5 +1,5 @@
 -- The rules of documents, and parts of documents.
-use Rattle.std.specs.Prelude.{◌≡◌, ◌≢◌, ℕ, List, [], ◌++◌, Option, Some, None, All, codes, slice_get, string_bytes}
+use Rattle.std.specs.Prelude.{◌≡◌, ◌≢◌, ℕ, List, [], ◌∷◌, ◌++◌, Option, Some, None, All, codes, slice_get, string_bytes}
 use Rattle.std.specs.Borrow.{Bor}
 use Rattle.std.specs.List.{Contains}
 use Rattle.std.specs.Str.{chars}
@@ -10,7 +10,7 @@ use Rattle.meta_ast.specs.declared.ast.Expr.{Expr}
 use Rattle.meta_base.specs.Language.Expression.{Grammar, Rule as AnyRule}
 use Rattle.meta_base.specs.declared.grammar.Rule.{Rule}
 use Rattle.meta_base.specs.declared.runtime.tokens.Pairs.{Pairs}
-use Rattle.meta_diagram.specs.Marks.{diagram_marks, marks_of}
+use Rattle.meta_diagram.specs.Marks.{Styles, diagram_marks, marks_of}
 use Rattle.meta_markup.specs.Pages.{AreMarkdownSections, AreSections}
 use Rattle.meta_markup.specs.Tokens.{markup_bytes}
 use Rattle.meta_markup.specs.declared.tokens.Markup.{Markup}
@@ -39,11 +39,11 @@ abbrev pub HasNoRule : Option (Bor (List ℕ)) → Grammar → Type 0
 HasNoRule None rules = rules ≡ []
 HasNoRule (Some name) rules = HasNoneNamed name.now rules
 
--- a diagram of an expression, without links, where rules have numbers by their names
+-- a diagram of an expression with its style, without links, where rules have numbers by their names
 pub record IsDiagramOf (number_of : List ℕ → Option ℕ) (e : Expr) (drawing : String Global) : Type 0 where
   pub tokens : List Markup
   pub written : string_bytes drawing ≡ markup_bytes [] tokens ++ codes "\n"
-  pub shown : marks_of tokens ≡ diagram_marks number_of e
+  pub shown : marks_of tokens ≡ Styles ∷ diagram_marks number_of e
 
 -- a diagram of the rule that is asked for
 pub record IsDiagramOfRule (name : Option (Bor (List ℕ))) (rules : Grammar) (d : String Global) : Type 0 where

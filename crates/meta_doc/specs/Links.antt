@@ -3,7 +3,7 @@ use Rattle.std.specs.Prelude.{◌≡◌, ◌<◌, ◌==◌, ℕ, List, [], ◌�
 use Rattle.std.specs.List.{All, flat_map}
 use Rattle.std.specs.Global.{Vec}
 use Rattle.meta_ast.specs.declared.ast.Expr.{Expr}
-use Rattle.meta_diagram.specs.Marks.{LinksTo, Mark, Names, Shows, diagram_marks}
+use Rattle.meta_diagram.specs.Marks.{LinksTo, Mark, Names, Shows, Styles, diagram_marks}
 use Rattle.meta_doc.specs.declared.facts.RuleFacts.{RuleFacts}
 use Rattle.meta_doc.specs.declared.source.SourcePart.{SourcePart}
 use Rattle.meta_doc.specs.declared.source.SourcePart.TheVariants as part
@@ -21,6 +21,7 @@ AreFactsBelow n facts = All (λ f. All (λ r. r < n) f.callers.items) facts
 
 -- a diagram links to each rule that it calls
 abbrev pub mark_links : Mark → List ℕ
+mark_links Styles = []
 mark_links (Shows text) = []
 mark_links (Names r) = []
 mark_links (LinksTo r) = r ∷ []

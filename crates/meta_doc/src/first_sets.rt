@@ -139,7 +139,8 @@ impl FirstSearch<'_, '_, '_> {
 
     /// Whether the body of a rule that is called is in atomic mode.
     fn is_body_atomic(&self, call: Visit) -> bool {
-        let Some(rule) = self.analysis.grammar.rules.get(call.number) else {
+        let analysis = self.analysis;
+        let Some(rule) = analysis.grammar.rules.get(call.number) else {
             return call.is_atomic;
         };
         match rule.ty {
