@@ -1,5 +1,5 @@
 //! Trees built from other trees iteratively: neither width nor depth takes stack space.
-ghost use Rattle.std.specs.Prelude.{◌≡◌, ◌≤◌, ◌<◌, ℕ, IfOk};
+ghost use Rattle.std.specs.Prelude.{◌≡◌, ◌≤◌, ◌<◌, ℕ, [], IfOk, OnOk};
 ghost use Rattle.meta_ast.specs.Rebuilding.{meaning_of, work_of, GoesOn};
 
 use crate::deep::{Deep, Release};
@@ -59,12 +59,18 @@ pub trait Rebuild: Drop {
         ensures ready { IfOk result (GoesOn is_right is_ready) };
 }
 
-/// Builds a tree from another one, in the contexts that `R` defines. The only error is allocation failure.
-pub fn rebuild_tree<R: Rebuild>(alloc: Global, source: R::Source) -> Result<R::Target, AllocError>
-    requires { R.is_right source }
-    ensures { IfOk result (λ tree. R.made tree ≡ R.says source) }
+/// Builds a tree from another one, in the contexts that `R` defines. `outside` is lent for these contexts, so
+/// that one list serves many trees. The only error is allocation failure.
+pub fn rebuild_tree<R: Rebuild>(
+    alloc: Global,
+    source: R::Source,
+    outside: &mut Vec<R>,
+) -> Result<R::Target, AllocError>
+    requires right { R.is_right source }
+    requires empty { outside.old.items ≡ [] }
+    ensures built { IfOk result (λ tree. R.made tree ≡ R.says source) }
+    ensures empty { OnOk result (outside.new.items ≡ []) }
 {
-    let mut outside = Vec::new(alloc);
     let mut step = R::open(source)?;
     'steps: loop {
         match step {

@@ -1,6 +1,6 @@
 -- Places, one after another, and the names that were met.
 use Rattle.std.proofs.Common.{arith, Result, Ok, Err, OnOk, ◌≡◌, ◌<◌, ◌≤◌, ◌+◌, List, [], ◌∷◌, ◌++◌, ℕ, Bool, true, false, not, cond, map, length, drop, get_or, refl, sym, ap, Bor, ◌∙◌, add-one, drop-cons, append_assoc}
-use Rattle.std.specs.Prelude.{◌==◌, bytes_eq, ◌||◌, filter}
+use Rattle.std.specs.Prelude.{◌==◌, bytes_eq, ◌||◌, ◌&&◌, filter}
 use Rattle.std.specs.HashSet as bag
 use Rattle.std.proofs.lemmas.Bool.Decides.{nat_tests}
 use Rattle.std.proofs.lemmas.List.{map-append, drop_all}
@@ -13,8 +13,8 @@ use Rattle.meta_base.specs.declared.runtime.errors.Error.{Error}
 use Rattle.meta_base.specs.declared.runtime.places.Span as code
 use Rattle.meta_messages.specs.Messages.{about}
 use Rattle.meta_messages.specs.declared.Message.{Message}
-use Rattle.meta_names.specs.Names.{later_places, first_places, complaints}
-use Rattle.meta_names.specs.NameSets.{NameSet, HasNames}
+use Rattle.meta_names.specs.Names.{later_places, first_places, complaints, is_builtin, undefined_calls}
+use Rattle.meta_names.specs.NameSets.{NameSet, HasNames, is_outside}
 
 -- the same text
 abbrev pub same_text : Bor (List ℕ) → Bor (List ℕ) → Bool
@@ -106,6 +106,13 @@ filter_pieces p (x ∷ xs) =
 pub filter_same : (p q : Span → Bool) (xs : List Span) → ((x : Span) → p x ≡ q x) → filter p xs ≡ filter q xs
 filter_same p q [] h = refl
 filter_same p q (x ∷ xs) h = ap (λ b. cond b (x ∷ filter p xs) (filter p xs)) (h x) ∙ ap (λ ys. cond (q x) (x ∷ ys) ys) (filter_same p q xs h)
+
+-- the calls outside a set of the defined names are undefined
+pub outside_undefined : (definitions : List Span) (set : NameSet) → HasNames (map written definitions) set
+    → (calls : List Span) → filter (is_outside set) calls ≡ undefined_calls definitions calls
+outside_undefined definitions set has calls =
+    filter_same (is_outside set) _ calls
+    (λ place. ap (λ b. not b && not (is_builtin (written place))) (has (record { ref_ptr = (0, 0); now = written place })))
 
 -- a first place, and one that isn't
 pub first_more : (all before : List Text) (found : List (Bor (List ℕ))) (name : Bor (List ℕ)) (x : Span) (rest others : List Span) → rest ≡ x ∷ others → name.now ≡ written x → is_one_of before (written x) ≡ false

@@ -1,6 +1,7 @@
 //! Names that no rule may have, and names that are defined twice.
-ghost use Rattle.std.specs.Prelude.{[], ◌≡◌, IfErr, IfOk, alloc_error, map};
-ghost use Rattle.meta_base.specs.Pieces.Saying.{AreErrorsFor, piece_of};
+ghost use Rattle.std.specs.Prelude.{[], ◌≡◌, IfErr, IfOk, OnOk, alloc_error, map};
+ghost use Rattle.meta_base.specs.Pieces.Saying.{AreErrorsFor, piece_of, written};
+ghost use Rattle.meta_names.specs.NameSets.{HasNames};
 ghost use Rattle.meta_names.specs.Names.{AreIn, duplicate_complaints, later_places, pest_keyword_complaints, places_of, rust_keyword_complaints};
 
 use crate::said::{errors, errors_in};
@@ -49,7 +50,7 @@ pub fn validate_already_defined(
         IfOk result (λ errors. AreErrorsFor (duplicate_complaints places) errors.items) }
     ensures memory { IfErr result (λ fault. fault ≡ Fault.Memory alloc_error) }
 {
-    let again = later(alloc, definitions)?;
+    let again = later(definitions, &mut HashSet::new(alloc))?;
     errors(alloc, Message::AlreadyDefined, &again)
 }
 
@@ -68,27 +69,33 @@ pub(crate) fn pest_keywords_in(
     errors_in(alloc, text, Message::PestKeyword, &found)
 }
 
-/// Collects the errors of `validate_already_defined`, for definitions that are all in one text.
-pub(crate) fn already_defined_in(
+/// Collects the errors of `validate_already_defined`, for definitions that are all in one text, and adds
+/// their names to `known`.
+pub(crate) fn already_defined_in<'i>(
     alloc: Global,
     text: &str,
-    definitions: &Vec<Span<'_>>,
+    definitions: &Vec<Span<'i>>,
+    known: &mut HashSet<&'i str>,
 ) -> Result<Vec<Error<Rule>>, Fault>
     requires in_text { AreIn text.now (map piece_of definitions.now.items) }
+    requires empty { HasNames [] known.old }
     ensures told { let places = map piece_of definitions.now.items in
         IfOk result (λ errors. AreErrorsFor (duplicate_complaints places) errors.items) }
+    ensures known { OnOk result (HasNames (map written (map piece_of definitions.now.items)) known.new) }
     ensures memory { IfErr result (λ fault. fault ≡ Fault.Memory alloc_error) }
 {
-    let found = later(alloc, definitions)?;
+    let found = later(definitions, known)?;
     errors_in(alloc, text, Message::AlreadyDefined, &found)
 }
 
-/// Collects the spans whose name occurs at an earlier span, in their order.
-fn later<'i>(alloc: Global, places: &[Span<'i>]) -> Result<Vec<Span<'i>>, AllocError>
-    ensures { IfOk result (λ later. map piece_of later.items ≡ later_places [] (map piece_of places.now)) }
+/// Collects the spans whose name occurs at an earlier span, in their order, and adds all names to `known`.
+fn later<'i>(places: &[Span<'i>], known: &mut HashSet<&'i str>) -> Result<Vec<Span<'i>>, AllocError>
+    requires empty { HasNames [] known.old }
+    ensures later { IfOk result (λ later.
+        map piece_of later.items ≡ later_places [] (map piece_of places.now)) }
+    ensures known { OnOk result (HasNames (map written (map piece_of places.now)) known.new) }
 {
-    let mut known = HashSet::new(alloc);
-    let mut later = Vec::new(alloc);
+    let mut later = Vec::new(*known.allocator());
     for place in places {
         if !known.insert(place.as_str())? {
             later.push(*place)?;

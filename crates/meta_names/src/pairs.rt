@@ -1,15 +1,18 @@
 //! The names of a whole grammar.
-ghost use Rattle.std.specs.Prelude.{[], ◌≡◌, IfErr, IfOk, OnOk, alloc_error, map};
-ghost use Rattle.meta_base.specs.Pieces.Saying.{AreErrorsFor, piece_of};
-ghost use Rattle.meta_names.specs.Names.{AreIn};
-ghost use Rattle.meta_names.specs.GrammarNames.{AreWrittenAt, IsNameRefusal, complaints_of, first_calls, first_calls_of, name_complaints};
+ghost use Rattle.std.specs.Prelude.{[], ◌≡◌, List, IfErr, IfOk, OnOk, alloc_error, map};
+ghost use Rattle.meta_base.specs.Language.Text.{Text};
+ghost use Rattle.meta_base.specs.Pieces.Saying.{AreErrorsFor, piece_of, written};
+ghost use Rattle.meta_names.specs.NameSets.{HasNames};
+ghost use Rattle.meta_names.specs.Names.{AreIn, first_places};
+ghost use Rattle.meta_names.specs.GrammarNames.{AreWrittenAt, IsNameRefusal, complaints_of, first_calls_of, name_complaints};
 
 use crate::found;
 use crate::keywords::{already_defined_in, pest_keywords_in};
-use crate::undefined::{names, undefined_in};
+use crate::undefined::undefined_in;
 use meta_base::grammar::Rule;
 use meta_base::runtime::{Error, Fault, Pairs, Span};
 use std::alloc::{AllocError, Global};
+use std::collections::HashSet;
 
 /// Returns the names that a grammar calls and does not define, each once, in the order of their first calls,
 /// as written at that call. All of them are builtins. `pairs` are those of a parse of a text by
@@ -40,46 +43,50 @@ pub fn collect_builtins<'i>(alloc: Global, pairs: &Pairs<'i, Rule>) -> Result<Ve
     let trees = pairs.trees();
     let definitions = found::definitions(alloc, text, trees)?;
     let calls = found::calls(alloc, text, trees)?;
-    let errors = name_errors(alloc, text, &definitions, &calls)?;
+    let mut known = HashSet::with_capacity(alloc, definitions.len())?;
+    let errors = name_errors(alloc, text, &definitions, &calls, &mut known)?;
     if !errors.is_empty() {
         return Err(Fault::Grammar(errors));
     }
-    Ok(first_calls(alloc, &definitions, &calls)?)
+    Ok(first_calls(alloc, known, &calls)?)
 }
 
 /// Collects the errors about the names of these definitions and calls, all in one text: of keywords, then
-/// of duplicates, then of undefined names. The only error is allocation failure.
+/// of duplicates, then of undefined names. Adds the names of the definitions to `known`. The only error is
+/// allocation failure.
 fn name_errors<'i>(
     alloc: Global,
     text: &'i str,
     definitions: &Vec<Span<'i>>,
     calls: &Vec<Span<'i>>,
+    known: &mut HashSet<&'i str>,
 ) -> Result<Vec<Error<Rule>>, Fault>
     requires definitions_in_text { AreIn text.now (map piece_of definitions.now.items) }
     requires calls_in_text { AreIn text.now (map piece_of calls.now.items) }
+    requires empty { HasNames [] known.old }
     ensures told { IfOk result (λ errors.
         AreErrorsFor (name_complaints (map piece_of definitions.now.items) (map piece_of calls.now.items))
         errors.items) }
+    ensures known { OnOk result (HasNames (map written (map piece_of definitions.now.items)) known.new) }
     ensures memory { IfErr result (λ fault. fault ≡ Fault.Memory alloc_error) }
 {
     let mut errors = pest_keywords_in(alloc, text, definitions)?;
-    let mut duplicates = already_defined_in(alloc, text, definitions)?;
-    let mut undefined = undefined_in(alloc, text, definitions, calls)?;
+    let mut duplicates = already_defined_in(alloc, text, definitions, known)?;
+    let mut undefined = undefined_in(alloc, text, known, calls)?;
     errors.append(&mut duplicates)?;
     errors.append(&mut undefined)?;
     Ok(errors)
 }
 
-/// Collects the names of the calls that are no definition's, each once, in the order of their first calls.
+/// Collects the names of the calls that are not `known`, each once, in the order of their first calls.
 fn first_calls<'i>(
     alloc: Global,
-    definitions: &[Span<'i>],
+    mut known: HashSet<&'i str>,
     calls: &[Span<'i>],
 ) -> Result<Vec<&'i str>, AllocError>
-    ensures { IfOk result (λ names.
-        AreWrittenAt (first_calls (map piece_of definitions.now) (map piece_of calls.now)) names.items) }
+    ensures { (before : List Text) → HasNames before known.entry
+        → IfOk result (λ names. AreWrittenAt (first_places before (map piece_of calls.now)) names.items) }
 {
-    let mut known = names(alloc, definitions)?;
     let mut first = Vec::new(alloc);
     for call in calls {
         let name = call.as_str();

@@ -1,8 +1,9 @@
 //! Calls of undefined names.
-ghost use Rattle.std.specs.Prelude.{◌≡◌, IfErr, IfOk, alloc_error, filter, map};
+ghost use Rattle.std.specs.Prelude.{◌≡◌, List, IfErr, IfOk, alloc_error, filter, map};
 ghost use Rattle.meta_base.specs.Pieces.Saying.{AreErrorsFor, piece_of, written};
+ghost use Rattle.meta_base.specs.Pieces.Saying.Span as Place;
 ghost use Rattle.meta_names.specs.NameSets.{HasNames, is_outside, is_unknown};
-ghost use Rattle.meta_names.specs.Names.{AreIn, undefined_calls, undefined_complaints};
+ghost use Rattle.meta_names.specs.Names.{AreIn, undefined_complaints};
 
 use crate::said::{errors, errors_in};
 use crate::tables::is_builtin;
@@ -25,44 +26,31 @@ pub fn validate_undefined<'i>(
         errors.items) }
     ensures memory { IfErr result (λ fault. fault ≡ Fault.Memory alloc_error) }
 {
-    let undefined = collect_undefined(alloc, definitions, called)?;
+    let defined = names(alloc, definitions)?;
+    let undefined = collect_undefined(alloc, &defined, called)?;
     errors(alloc, Message::Undefined, &undefined)
 }
 
-/// Collects the errors of `validate_undefined`, for calls that are all in one text.
+/// Collects the errors of `validate_undefined`, for the names that are defined, and calls that are all in
+/// one text.
 pub(crate) fn undefined_in<'i>(
     alloc: Global,
     text: &str,
-    definitions: &Vec<Span<'i>>,
+    defined: &HashSet<&str>,
     called: &Vec<Span<'i>>,
 ) -> Result<Vec<Error<Rule>>, Fault>
     requires in_text { AreIn text.now (map piece_of called.now.items) }
-    ensures told { IfOk result (λ errors.
-        AreErrorsFor
-        (undefined_complaints (map piece_of definitions.now.items) (map piece_of called.now.items))
-        errors.items) }
+    ensures told { (definitions : List Place) → HasNames (map written definitions) defined.now
+        → IfOk result (λ errors.
+        AreErrorsFor (undefined_complaints definitions (map piece_of called.now.items)) errors.items) }
     ensures memory { IfErr result (λ fault. fault ≡ Fault.Memory alloc_error) }
 {
-    let found = collect_undefined(alloc, definitions, called)?;
+    let found = collect_undefined(alloc, defined, called)?;
     errors_in(alloc, text, Message::Undefined, &found)
 }
 
-/// Collects the calls whose name is neither defined nor a builtin's, in their order.
-fn collect_undefined<'i>(
-    alloc: Global,
-    definitions: &[Span<'i>],
-    called: &[Span<'i>],
-) -> Result<Vec<Span<'i>>, AllocError>
-    ensures { IfOk result (λ calls. map piece_of calls.items
-        ≡ undefined_calls (map piece_of definitions.now) (map piece_of called.now)) }
-{
-    let defined = names(alloc, definitions)?;
-    let calls = calls_outside(alloc, &defined, called)?;
-    Ok(calls)
-}
-
 /// Collects the calls whose name is neither in a set of names nor a builtin's, in their order.
-fn calls_outside<'i>(
+fn collect_undefined<'i>(
     alloc: Global,
     defined: &HashSet<&str>,
     called: &[Span<'i>],
@@ -85,7 +73,7 @@ fn is_undefined(defined: &HashSet<&str>, name: &str) -> bool
 }
 
 /// Collects the names at these spans.
-pub(crate) fn names<'i>(alloc: Global, places: &[Span<'i>]) -> Result<HashSet<&'i str>, AllocError>
+fn names<'i>(alloc: Global, places: &[Span<'i>]) -> Result<HashSet<&'i str>, AllocError>
     ensures { IfOk result (HasNames (map written (map piece_of places.now))) }
 {
     let mut names = HashSet::with_capacity(alloc, places.len())?;

@@ -25,7 +25,7 @@ pub(crate) fn rule_to_optimized_rule(alloc: Global, rule: Rule) -> Result<Optimi
     ensures { IfOk result (λ r. optimized_rule_of r ≡ rule_of_code rule) }
 {
     let Rule { name, ty, expr } = rule;
-    let expr = rebuild_tree::<ConversionFrame>(alloc, expr)?;
+    let expr = rebuild_tree::<ConversionFrame>(alloc, expr, &mut Vec::new(alloc))?;
     Ok(OptimizedRule { name, ty, expr })
 }
 

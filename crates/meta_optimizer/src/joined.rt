@@ -17,7 +17,7 @@ use std::collections::VecDeque;
 pub(crate) fn with_literals_joined(alloc: Global, expr: Expr) -> Result<Expr, AllocError>
     ensures { IfOk result (λ e. expression_of e ≡ concatenated (expression_of expr)) }
 {
-    let joined = rebuild_tree::<JoinFrame>(alloc, expr)?;
+    let joined = rebuild_tree::<JoinFrame>(alloc, expr, &mut Vec::new(alloc))?;
     into_expr(alloc, joined)
 }
 

@@ -1,5 +1,5 @@
 //! The reader turns the token trees of a grammar's text into its rules.
-ghost use Rattle.std.specs.Prelude.{◌≡◌, IfErr, IfOk, MatchResult, OnOk};
+ghost use Rattle.std.specs.Prelude.{◌≡◌, [], IfErr, IfOk, MatchResult, OnOk};
 ghost use Rattle.meta_base.specs.Pieces.Pairs.{pairs_text};
 ghost use Rattle.meta_base.specs.Pieces.NamedTrees.{named_trees_of};
 ghost use Rattle.meta_syntax.specs.Parses.{AreOfAGrammar, AreSpelled, ParseRefuses};
@@ -22,6 +22,7 @@ mod terminals;
 
 pub use crate::rules::common::common_name;
 use crate::rules::flaws::{ReadError, refusal};
+use crate::rules::levels::Level;
 use crate::rules::pieces::{span_of, text_of};
 use crate::rules::reading::expression;
 pub use crate::rules::shown::rename_meta_rule;
@@ -53,15 +54,18 @@ fn modifier(trees: &[TokenTree<Rule>]) -> (RuleType, &[TokenTree<Rule>])
 }
 
 /// Reads a rule from the trees in it, and reports its first flaw. Answers none for a comment that
-/// documents a rule.
-fn rule<'i>(
+/// documents a rule. `levels` is lent for the expressions that are open.
+fn rule<'i, 't>(
     alloc: Global,
     text: &'i str,
-    trees: &[TokenTree<Rule>],
+    trees: &'t [TokenTree<Rule>],
+    levels: &mut Vec<Level<'i, 't>>,
 ) -> Result<Option<ParserRule<'i>>, ReadError<'i>>
     requires shape { IsRule text.now (named_trees_of trees.now) }
     requires nested { AreInText text.now (named_trees_of trees.now) }
-    ensures { AnswersRule text.entry.now (named_trees_of trees.now) result }
+    requires empty { levels.old.items ≡ [] }
+    ensures answers { AnswersRule text.entry.now (named_trees_of trees.entry.now) result }
+    ensures empty { OnOk result (levels.new.items ≡ []) }
 {
     let first = leading_tree(trees);
     let Rule::identifier = first.rule else {
@@ -72,7 +76,7 @@ fn rule<'i>(
     let brace = leading_tree(rest);
     let body = leading_tree(brace.others);
     let name = String::from_str(alloc, text_of(text, first))?;
-    let node = expression(alloc, text, body.inner)?;
+    let node = expression(alloc, text, body.inner, levels)?;
     let span = span_of(text, first);
     Ok(Some(ParserRule {
         name,
@@ -96,11 +100,12 @@ fn rules<'i>(
     let mut read = Deep {
         value: Vec::new(alloc),
     };
+    let mut levels = Vec::new(alloc);
     let mut rest = trees;
     while let Some(tree) = first_tree(rest) {
         rest = tree.others;
         if let Rule::grammar_rule = tree.rule {
-            if let Some(one) = rule(alloc, text, tree.inner)? {
+            if let Some(one) = rule(alloc, text, tree.inner, &mut levels)? {
                 read.push(Deep { value: one })?;
             }
         }

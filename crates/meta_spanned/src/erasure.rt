@@ -1,5 +1,5 @@
 //! Rules without the spans of their nodes.
-ghost use Rattle.std.specs.Prelude.{◌≡◌, ◌*◌, IfOk, ⊤};
+ghost use Rattle.std.specs.Prelude.{◌≡◌, ◌*◌, [], IfOk, OnOk, ⊤};
 ghost use Rattle.meta_base.specs.Language.Expression.{Expression};
 ghost use Rattle.meta_ast.specs.Ast.{expression_of, rule_of_code, rules_of};
 ghost use Rattle.meta_ast.specs.Weight.{weight};
@@ -31,19 +31,26 @@ pub fn erase_spans(alloc: Global, rules: Vec<ParserRule<'_>>) -> Result<Vec<Rule
     let mut erased = Deep {
         value: Vec::new(alloc),
     };
+    let mut outside = Vec::new(alloc);
     while let Some(rule) = rest.value.pop() {
-        let rule = erased_rule(alloc, rule)?;
+        let rule = erased_rule(alloc, rule, &mut outside)?;
         erased.push(Deep { value: rule })?;
     }
     Ok(erased.into_inner())
 }
 
-/// Returns a rule without its spans.
-fn erased_rule(alloc: Global, rule: ParserRule<'_>) -> Result<Rule, AllocError>
-    ensures { IfOk result (λ erased. rule_of_code erased ≡ rule_without_spans (rule_view rule.entry)) }
+/// Returns a rule without its spans. `outside` is lent for contexts.
+fn erased_rule<'i>(
+    alloc: Global,
+    rule: ParserRule<'i>,
+    outside: &mut Vec<ErasureContext<'i>>,
+) -> Result<Rule, AllocError>
+    requires { outside.old.items ≡ [] }
+    ensures empty { OnOk result (outside.new.items ≡ []) }
+    ensures erased { IfOk result (λ erased. rule_of_code erased ≡ rule_without_spans (rule_view rule.entry)) }
 {
     let ParserRule { name, ty, node, .. } = rule;
-    let expr = rebuild_tree::<ErasureContext<'_>>(alloc, node)?;
+    let expr = rebuild_tree(alloc, node, outside)?;
     Ok(Rule { name, ty, expr })
 }
 

@@ -29,7 +29,8 @@ pub fn copy_box<T: Shaped + Release>(tree: &Box<T>) -> Result<Box<T>, AllocError
     ensures { IfOk result (λ copy. T.says copy.value ≡ T.says tree.now.value) }
 {
     let alloc = *Box::allocator(tree);
-    let value = rebuild_tree::<Around<'_, T, T::Sign, T::Joint>>(alloc, tree)?;
+    let mut outside: Vec<Around<'_, T, T::Sign, T::Joint>> = Vec::new(alloc);
+    let value = rebuild_tree(alloc, tree, &mut outside)?;
     Ok(Deep { value }.into_box(alloc)?.into_inner())
 }
 

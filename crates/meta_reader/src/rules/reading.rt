@@ -1,6 +1,6 @@
 //! Iterative recursive descent: reads spanned expressions from token trees, with a list of levels as its
 //! stack.
-ghost use Rattle.std.specs.Prelude.{◌≡◌, ◌≢◌, ◌<◌, ◌+◌, ℕ, List, IfOk, IfSome, MatchOption, MatchResult};
+ghost use Rattle.std.specs.Prelude.{◌≡◌, ◌≢◌, ◌<◌, ◌+◌, ℕ, List, [], IfOk, OnOk, IfSome, MatchOption, MatchResult};
 ghost use Rattle.meta_base.specs.Language.State.{Trees, None'};
 ghost use Rattle.meta_base.specs.Pieces.NamedTrees.{named_trees_of};
 ghost use Rattle.meta_base.specs.Pieces.Span.{span_start, span_end};
@@ -384,18 +384,20 @@ fn finish_level<'i, 't>(
     Ok(finish_operand(alloc, text, beside, signs, node)?)
 }
 
-/// Reads an expression from the trees in it, and reports its first flaw. Nesting takes memory in a list,
-/// and no stack space.
-pub fn expression<'i>(
+/// Reads an expression from the trees in it, and reports its first flaw. Nesting takes memory in the list
+/// `levels`, which is lent and serves many expressions, and no stack space.
+pub fn expression<'i, 't>(
     alloc: Global,
     text: &'i str,
-    trees: &[TokenTree<Rule>],
+    trees: &'t [TokenTree<Rule>],
+    levels: &mut Vec<Level<'i, 't>>,
 ) -> Result<ParserNode<'i>, ReadError<'i>>
     requires shape { IsExpression text.now (named_trees_of trees.now) }
     requires nested { AreInText text.now (named_trees_of trees.now) }
-    ensures { ReadsAs text.entry.now AnExpression (named_trees_of trees.now) result }
+    requires empty { levels.old.items ≡ [] }
+    ensures reads { ReadsAs text.entry.now AnExpression (named_trees_of trees.entry.now) result }
+    ensures empty { OnOk result (levels.new.items ≡ []) }
 {
-    let mut levels = Vec::new(alloc);
     let mut next = first_term(None, skip_bar(trees));
     'terms: loop {
         match next {

@@ -3,7 +3,7 @@ use Rattle.meta_ast.proofs.Rebuilding.{same_inside, same_outside, less_inside, l
 use Rattle.meta_ast.proofs.rebuilt.rebuild_tree.Goals as goal
 
 pub steps-init : goal.steps-init
-steps-init g c = (rw c.new-outside.ensures.items c.in_ok-step.ensures.meaning, record { at_hand = c.in_ok-step.ensures.ready; outside = rw c.new-outside.ensures.items tt })
+steps-init g c = (rw c.requires.empty c.in_ok-step.ensures.meaning, record { at_hand = c.in_ok-step.ensures.ready; outside = rw c.requires.empty tt })
 
 pub open-requires-in-Inside : goal.open-requires-in-Inside
 open-requires-in-Inside g c =

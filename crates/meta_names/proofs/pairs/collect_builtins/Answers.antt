@@ -1,6 +1,6 @@
 use Rattle.std.proofs.Common.{◌≡◌, [], map, rules, arith}
 use Rattle.std.proofs.lemmas.Grind.{common_steps}
-use Rattle.meta_base.specs.Pieces.Saying.{piece_of}
+use Rattle.meta_base.specs.Pieces.Saying.{piece_of, written}
 use Rattle.meta_names.specs.GrammarNames.{definitions_of, calls_of}
 use Rattle.meta_names.proofs.InText.{definitions_in, calls_in}
 use Rattle.meta_names.specs.Names.{AreIn}
@@ -28,3 +28,9 @@ name_errors-requires-clause-calls_in_text c =
     let e : map piece_of c.in_ok-calls.calls.items ≡ calls_of c.args.pairs.now = search rules in
     let h : AreIn c.get_input-text.result.now (calls_of c.args.pairs.now) = rw c.get_input-text.ensures (calls_in (pairs_text c.args.pairs.now) (named (pairs_trees c.args.pairs.now))) in
     rw e h
+
+pub returns-clause-builtins : goal.returns-clause-builtins
+returns-clause-builtins c =
+    let d : map piece_of c.in_ok-definitions.definitions.items ≡ definitions_of c.args.pairs.now = search rules in
+    let e : map piece_of c.in_ok-calls.calls.items ≡ calls_of c.args.pairs.now = search rules in
+    rw (d, e) at c.in_ok-first_calls.ensures (map written (map piece_of c.in_ok-definitions.definitions.items)) c.in_ok-errors.ensures.known

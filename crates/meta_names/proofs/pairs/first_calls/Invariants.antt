@@ -6,6 +6,7 @@ use Rattle.meta_names.specs.NameSets.{HasNames}
 use Rattle.meta_names.proofs.pairs.first_calls.Given as goal
 
 abbrev pub invariant-loop-call : goal.invariant-loop-call
-invariant-loop-call l = (known : List Text) × HasNames known l.known
-    × (map written (first_places (map written (map piece_of l.definitions)) (map piece_of l.calls))
+invariant-loop-call l = (before : List Text) → HasNames before l.fn.known
+    → (known : List Text) × HasNames known l.known
+    × (map written (first_places before (map piece_of l.calls))
     ≡ map (λ t. t.now) l.first.items ++ map written (first_places known (map piece_of (drop l.call-index l.calls))))

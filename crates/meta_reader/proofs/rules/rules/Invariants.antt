@@ -1,4 +1,4 @@
-use Rattle.std.proofs.Common.{◌≡◌, ◌++◌, List}
+use Rattle.std.proofs.Common.{◌≡◌, ◌++◌, [], List}
 use Rattle.meta_base.specs.Pieces.NamedTrees.{named_trees_of}
 use Rattle.meta_reader.specs.Flaws.{first_flaw}
 use Rattle.meta_reader.specs.Pieces.{AreInText}
@@ -13,6 +13,7 @@ abbrev pub invariant-loop-tree : goal.invariant-loop-tree
 invariant-loop-tree l = record {
   shape : IsLeft l.text (named_trees_of l.rest);
   nested : AreInText l.text (named_trees_of l.rest);
+  empty : l.levels.items ≡ [];
   flaws : first_flaw l.text (named_trees_of l.trees) ≡ first_flaw l.text (named_trees_of l.rest);
   reads : (rs : List SpannedRule) → ReadsLeft l.text (named_trees_of l.rest) rs
       → ReadsRules l.text (named_trees_of l.trees) (rule_views l.read.value.items ++ rs);

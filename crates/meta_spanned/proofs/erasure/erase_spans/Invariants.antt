@@ -1,4 +1,4 @@
-use Rattle.std.proofs.Common.{◌≡◌, ◌++◌, reverse, vec_len}
+use Rattle.std.proofs.Common.{◌≡◌, ◌++◌, [], reverse, vec_len}
 use Rattle.meta_ast.specs.Ast.{rules_of}
 use Rattle.meta_spanned.specs.Erasure.{rules_without_spans}
 use Rattle.meta_spanned.specs.Nodes.{rule_views}
@@ -6,8 +6,9 @@ use Rattle.meta_spanned.proofs.erasure.erase_spans.Given as goal
 
 abbrev pub invariant-loop-rule : goal.invariant-loop-rule
 invariant-loop-rule l =
-    rules_without_spans (rule_views l.fn.rules.items)
-    ≡ rules_of l.erased.value.items ++ rules_without_spans (rule_views (reverse l.rest.value.items))
+    (rules_without_spans (rule_views l.fn.rules.items)
+    ≡ rules_of l.erased.value.items ++ rules_without_spans (rule_views (reverse l.rest.value.items)))
+    × (l.outside.items ≡ [])
 
 abbrev pub decreases-loop-rule : goal.decreases-loop-rule
 decreases-loop-rule l = vec_len l.rest.value

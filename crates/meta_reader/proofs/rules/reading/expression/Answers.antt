@@ -20,14 +20,14 @@ terms-init c =
     let b = c.skip_bar.ensures c.args.text.now c.requires.shape in
     record {
       us = us;
-      opens = rw c.new-levels.ensures.items refl;
+      opens = rw c.requires.empty refl;
       goes_on = c.first_term-next.ensures.goes_on c.args.text.now us (at_first_alternative b c.requires.nested);
     }
 
 -- a term
 
-pub returns-in_err-next-in-Term : goal.returns-in_err-next-in-Term
-returns-in_err-next-in-Term c =
+pub returns-in_err-next-in-Term-clause-reads : goal.returns-in_err-next-in-Term-clause-reads
+returns-in_err-next-in-Term-clause-reads c =
     let i = c.terms.invariant in
     let P : Next → Type 0 = λ n. GoesOn c.args.text.now i.us n in
     let p = err_from_is_err_and c.from_residual.result c.from_residual.ensures.1 in
@@ -77,8 +77,8 @@ finish_level-requires c =
     let w = open_last c.args.text.now c.pop.new.self.items c.in-Some.level i.us (named_trees_of c.args.trees.now) (rw c.in-Some.ensures.items at i.opens) in
     (w.us, record { inner = i.us; inside = w.stands; reads = subst P c.in-Done.is i.goes_on })
 
-pub returns-in_err-next-in-Some : goal.returns-in_err-next-in-Some
-returns-in_err-next-in-Some c =
+pub returns-in_err-next-in-Some-clause-reads : goal.returns-in_err-next-in-Some-clause-reads
+returns-in_err-next-in-Some-clause-reads c =
     let i = c.terms.invariant in
     let P : Next → Type 0 = λ n. GoesOn c.args.text.now i.us n in
     let w = open_last c.args.text.now c.pop.new.self.items c.in-Some.level i.us (named_trees_of c.args.trees.now) (rw c.in-Some.ensures.items at i.opens) in
