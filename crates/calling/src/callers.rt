@@ -6,6 +6,7 @@ ghost use Rattle.pest_meta.specs.Spelling.{IsAnswer};
 
 use matcher_engine::matcher::Matcher;
 use matcher_pairs::parse::{ParseError, parse as parse_text};
+use matcher_program::compile::Unfit;
 use matcher_support::unicode_properties::UnicodeProperties;
 use pest_meta::optimizer::OptimizedRule;
 use pest_meta::parser::{ParserRule, Rule, consume_rules_with_spans, parse};
@@ -56,13 +57,15 @@ pub fn print_pairs(
     rule: &str,
     text: &str,
 ) -> io::Result<()> {
-    let Ok(matcher) = Matcher::new(rt.alloc(), rules, &UnicodeProperties) else {
-        return eprintln!(rt; "these rules cannot be run");
+    let matcher = match Matcher::new(rt.alloc(), rules, &UnicodeProperties) {
+        Ok(matcher) => matcher,
+        Err(Unfit::Memory) => return eprintln!(rt; "out of memory"),
+        Err(_) => return eprintln!(rt; "these rules cannot be run"),
     };
     match parse_text(rt.alloc(), &matcher, rule, text, 1_000_000) {
         Ok(found) => {
             for pair in found.pairs {
-                println!(rt; "{}: {}", pair.as_rule(), pair.as_str())?;
+                println!(rt; "{}: {:?}", pair.as_rule(), pair.as_str())?;
             }
             Ok(())
         }

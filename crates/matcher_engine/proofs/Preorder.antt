@@ -1,5 +1,5 @@
 -- The entries of trees, by the trees in preorder.
-use Rattle.std.proofs.Common.{◌≡◌, refl, sym, ◌∙◌, ap, ap₂, ℕ, suc, ◌+◌, ◌-◌, ◌*◌, ◌<◌, ◌≤◌, List, [], ◌∷◌, ◌++◌, true, false, drop, get_or, length, nat_le, arith, if◌then◌else◌, append_assoc, append-nil}
+use Rattle.std.proofs.Common.{◌≡◌, refl, sym, ◌∙◌, ap, ap₂, ℕ, suc, ◌+◌, ◌-◌, ◌*◌, ◌<◌, ◌≤◌, List, [], ◌∷◌, ◌++◌, Bool, true, false, drop, get_or, length, nat_le, arith, if◌then◌else◌, append_assoc, append-nil}
 use Rattle.std.specs.Prelude.{⊤}
 use Rattle.std.proofs.Math.Seq.{drop-cons}
 use Rattle.std.proofs.lemmas.List.{length-append}
@@ -65,13 +65,13 @@ module _ (names : List Text) where
   by_parts t ts i k os es rest e1 e2 = ap₂ (with_ends t ts i k) e1 e2
 
   -- an open tree without further descendants ends
-  close_one : (ts : List TreeNode) (i k : ℕ) (o : OpenTree) (os : List OpenTree) → o.after ≡ i
+  close_one : (ts : List TreeNode) (i k : ℕ) (o : OpenTree) (os : List OpenTree) → nat_le o.after i ≡ true
       → written names ts i k (o ∷ os) ≡ Ends o.end o.start ∷ written names ts i (suc k) os
   unfolding with_ends
-  close_one [] i k o os e = ap (λ b. if b then Ends o.end o.start ∷ closed i os else []) (reached o.after i e)
+  close_one [] i k o os e = ap (λ b. if b then Ends o.end o.start ∷ closed i os else []) e
   close_one (t ∷ ts) i k o os e =
-      let c : closed i (o ∷ os) ≡ Ends o.end o.start ∷ closed i os = ap (λ b. if b then Ends o.end o.start ∷ closed i os else []) (reached o.after i e) in
-      let l : left_open i (o ∷ os) ≡ left_open i os = ap (λ b. if b then left_open i os else o ∷ os) (reached o.after i e) in
+      let c : closed i (o ∷ os) ≡ Ends o.end o.start ∷ closed i os = ap (λ b. if b then Ends o.end o.start ∷ closed i os else []) e in
+      let l : left_open i (o ∷ os) ≡ left_open i os = ap (λ b. if b then left_open i os else o ∷ os) e in
       let n : k + suc (length (closed i os)) ≡ suc k + length (closed i os) = omega arith in
       by_parts t ts i k (o ∷ os) (Ends o.end o.start ∷ closed i os) (left_open i os) c l
       ∙ ap (λ m. Ends o.end o.start ∷ (closed i os ++ start_entry names t i m ∷ written names ts (suc i) (suc m) (opened t m ∷ left_open i os))) n
@@ -105,7 +105,7 @@ module _ (names : List Text) where
         let s1 = open_one t ((A ++ B) ++ ts) i k os g1 in
         let x1 : written names ((A ++ B) ++ ts) (suc i) (suc k) (opened t k ∷ os) ≡ written names (A ++ (B ++ ts)) (suc i) (suc k) (opened t k ∷ os) = ap (λ z. written names z (suc i) (suc k) (opened t k ∷ os)) (append_assoc A B ts) in
         let x2 = write_trees inner (suc i) (suc k) (opened t k ∷ os) (B ++ ts) kk.0 (omega arith) in
-        let x3 = close_one (B ++ ts) (suc i + ci) (suc k + 2 * ci) (opened t k) os refl in
+        let x3 = close_one (B ++ ts) (suc i + ci) (suc k + 2 * ci) (opened t k) os (reached (suc i + ci) (suc i + ci) refl) in
         let g2 : Goes ((suc i + ci) + co) os = goes_less ((suc i + ci) + co) (i + suc (ci + co)) os (omega arith) g in
         let x4 = write_trees others (suc i + ci) (suc (suc k + 2 * ci)) os ts kk.1 g2 in
         let e1 : name_in names (number r) ≡ r = known r h.0 in
@@ -134,7 +134,7 @@ module _ (names : List Text) where
         ap (λ ts. written names ts 0 0 []) e ∙ (write_trees us 0 0 [] [] h tt ∙ simp append-nil)
 
   -- one more tree was written
-  pub after_one : (nodes : List TreeNode) (i : ℕ) (t : TreeNode) (es es1 es2 : List Entry) (os : List OpenTree) (done : List Entry)
+  after_one : (nodes : List TreeNode) (i : ℕ) (t : TreeNode) (es es1 es2 : List Entry) (os : List OpenTree) (done : List Entry)
       → i < length nodes → get_or nodes i t ≡ t → es1 ≡ es ++ closed i os → es2 ≡ es1 ++ start_entry names t i (length es1) ∷ []
       → es ++ written names (drop i nodes) i (length es) os ≡ done
       → es2 ++ written names (drop (suc i) nodes) (suc i) (length es2) (opened t (length es1) ∷ left_open i os) ≡ done
@@ -153,6 +153,32 @@ module _ (names : List Text) where
       ∙ (append_assoc (es ++ ends) (s ∷ []) more
       ∙ (append_assoc es ends (s ∷ more)
       ∙ (ap (λ ts. es ++ written names ts i (length es) os) (sym d) ∙ e))))
+
+  -- one more tree was written, with its end if it has no descendants
+  after_ended : (b : Bool) (nodes : List TreeNode) (i : ℕ) (t : TreeNode) (es es1 es2 : List Entry) (os : List OpenTree) (done : List Entry)
+      → nat_le t.after (suc i) ≡ b → i < length nodes → get_or nodes i t ≡ t → es1 ≡ es ++ closed i os
+      → es2 ≡ es1 ++ start_entry names t i (length es1) ∷ (if b then Ends t.end (length es1) ∷ [] else [])
+      → es ++ written names (drop i nodes) i (length es) os ≡ done
+      → es2 ++ written names (drop (suc i) nodes) (suc i) (length es2) ((if b then [] else opened t (length es1) ∷ []) ++ left_open i os) ≡ done
+  after_ended false nodes i t es es1 es2 os done b l here e1 e2 e = after_one nodes i t es es1 es2 os done l here e1 e2 e
+  after_ended true nodes i t es es1 es2 os done b l here e1 e2 e =
+      let rest = drop (suc i) nodes in
+      let end = Ends t.end (length es1) in
+      let es3 = es1 ++ start_entry names t i (length es1) ∷ [] in
+      let open : List OpenTree = left_open i os in
+      let s2 : es2 ≡ es3 ++ end ∷ [] = e2 ∙ sym (append_assoc es1 (start_entry names t i (length es1) ∷ []) (end ∷ [])) in
+      let l2 : length es2 ≡ suc (length es3) = omega (arith, ap length s2, length-append es3 (end ∷ [])) in
+      ap₂ (λ x n. x ++ written names rest (suc i) n open) s2 l2
+      ∙ (append_assoc es3 (end ∷ []) (written names rest (suc i) (suc (length es3)) open)
+      ∙ (ap (λ x. es3 ++ x) (sym (close_one rest (suc i) (length es3) (opened t (length es1)) open b))
+      ∙ after_one nodes i t es es1 es3 os done l here e1 refl e))
+
+  pub after_tree : (nodes : List TreeNode) (i : ℕ) (t : TreeNode) (es es1 es2 : List Entry) (os : List OpenTree) (done : List Entry)
+      → i < length nodes → get_or nodes i t ≡ t → es1 ≡ es ++ closed i os
+      → es2 ≡ es1 ++ start_entry names t i (length es1) ∷ closed (suc i) (opened t (length es1) ∷ [])
+      → es ++ written names (drop i nodes) i (length es) os ≡ done
+      → es2 ++ written names (drop (suc i) nodes) (suc i) (length es2) (left_open (suc i) (opened t (length es1) ∷ []) ++ left_open i os) ≡ done
+  after_tree nodes i t es es1 es2 os done = after_ended (nat_le t.after (suc i)) nodes i t es es1 es2 os done refl
 
   drop_all : (ts : List TreeNode) → drop (length ts) ts ≡ []
   drop_all [] = refl

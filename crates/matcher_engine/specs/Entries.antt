@@ -1,5 +1,5 @@
 -- Entries of trees that are given in preorder.
-use Rattle.std.specs.Prelude.{◌≡◌, ◌≤◌, ℕ, ◌+◌, ◌-◌, ◌*◌, List, [], ◌∷◌, ◌++◌, codes, get_or, length, nat_le, if◌then◌else◌}
+use Rattle.std.specs.Prelude.{◌≡◌, ◌≤◌, ℕ, suc, ◌+◌, ◌-◌, ◌*◌, List, [], ◌∷◌, ◌++◌, codes, get_or, length, nat_le, if◌then◌else◌}
 use Rattle.meta_base.specs.Language.Text.{Text}
 use Rattle.matcher_code.specs.declared.state.TreeNode.{TreeNode}
 use Rattle.matcher_program.specs.declared.form.Row.{Row}
@@ -29,9 +29,10 @@ opened t k = record { end = t.end; after = t.after; start = k }
 abbrev pub start_entry : List Text → TreeNode → ℕ → ℕ → Entry
 start_entry names t number k = Starts (name_in names t.row) t.start (k + 2 * (t.after - number) - 1)
 
--- the tree of a number was started
+-- the tree of a number was started, and ended if the next number is no descendant's
 pub record HasStarted (rows : List Row) (t : TreeNode) (number : ℕ) (old new : List Entry)
     (old_open new_open : List OpenTree) : Type 0 where
   pub known : t.row ≤ length rows
-  pub entries : new ≡ old ++ start_entry (names_of rows) t number (length old) ∷ []
-  pub pending : new_open ≡ old_open ++ opened t (length old) ∷ []
+  pub entries : new ≡ old ++ start_entry (names_of rows) t number (length old)
+      ∷ closed (suc number) (opened t (length old) ∷ [])
+  pub pending : new_open ≡ old_open ++ left_open (suc number) (opened t (length old) ∷ [])

@@ -10,6 +10,7 @@ ghost use Rattle.matcher_engine.specs.Entries.{HasStarted, closed, left_open};
 
 use matcher_code::state::TreeNode;
 use matcher_program::form::Row;
+use meta_builtins::Builtin;
 use meta_matcher::entries::Entry;
 use std::alloc::{AllocError, Global};
 
@@ -33,7 +34,7 @@ fn name_of<'a>(rows: &'a [Row], row: u32) -> Option<&'a str>
         Some(row) => Some(row.name.as_str()),
         None => {
             if number == rows.len() {
-                Some("EOI")
+                Some(Builtin::Eoi.name())
             } else {
                 None
             }
@@ -61,20 +62,20 @@ fn close<'a>(
         ≡ seen entries.old.items ++ closed number (reverse pending.old.items)) }
     ensures pending { OnOk result (reverse pending.new.items ≡ left_open number (reverse pending.old.items)) }
 {
-    'trees: while let Some(tree) = pending.pop() {
+    'trees: while let Some(tree) = pending.last() {
         if tree.after > number {
-            pending.push(tree)?;
             return Ok(());
         }
         entries.push(Entry::End {
             pos: tree.end,
             partner: tree.start,
         })?;
+        pending.pop();
     }
     Ok(())
 }
 
-/// Starts a tree. Returns whether the name of its rule is known.
+/// Starts a tree, and ends it if it has no descendants. Returns whether the name of its rule is known.
 fn start<'a>(
     rows: &'a [Row],
     entries: &mut Vec<Entry<'a>>,
@@ -97,11 +98,18 @@ fn start<'a>(
         pos: node.start,
         partner,
     })?;
-    pending.push(OpenTree {
-        end: node.end,
-        after: node.after,
-        start,
-    })?;
+    if node.after.saturating_sub(number) > 1 {
+        pending.push(OpenTree {
+            end: node.end,
+            after: node.after,
+            start,
+        })?;
+    } else {
+        entries.push(Entry::End {
+            pos: node.end,
+            partner: start,
+        })?;
+    }
     Ok(true)
 }
 

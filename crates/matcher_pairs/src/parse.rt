@@ -114,7 +114,7 @@ fn failure_at<'a>(
 
 /// Returns the error that says that these names are expected at a byte position. The only fault is an
 /// allocation failure.
-pub fn error_at<'a>(
+fn error_at<'a>(
     alloc: Global,
     text: &str,
     place: usize,

@@ -181,18 +181,18 @@ more_rows g ps rs more row e h f i d l = rw e (go rs i (λ k d. f k d) (let n = 
     go (x ∷ xs) (suc i) f l = go xs i (λ k d l. f (suc k) d (omega (arith, l))) (omega (arith, l))
 
 -- the names that are skipped
-pub white_chars : chars (87 ∷ 72 ∷ 73 ∷ 84 ∷ 69 ∷ 83 ∷ 80 ∷ 65 ∷ 67 ∷ 69 ∷ []) ≡ whitespace
+pub white_chars : chars whitespace ≡ whitespace
 unfolding whitespace
 white_chars = sym (decoded_chars (87 ∷ 72 ∷ 73 ∷ 84 ∷ 69 ∷ 83 ∷ 80 ∷ 65 ∷ 67 ∷ 69 ∷ []))
 
-pub comment_chars : chars (67 ∷ 79 ∷ 77 ∷ 77 ∷ 69 ∷ 78 ∷ 84 ∷ []) ≡ comment
+pub comment_chars : chars comment ≡ comment
 unfolding comment
 comment_chars = sym (decoded_chars (67 ∷ 79 ∷ 77 ∷ 77 ∷ 69 ∷ 78 ∷ 84 ∷ []))
 
-pub blank_then : (n : Text) → bytes_eq n (chars (87 ∷ 72 ∷ 73 ∷ 84 ∷ 69 ∷ 83 ∷ 80 ∷ 65 ∷ 67 ∷ 69 ∷ [])) ≡ true → true ≡ (bytes_eq n whitespace || bytes_eq n comment)
+pub blank_then : (n : Text) → bytes_eq n (chars whitespace) ≡ true → true ≡ (bytes_eq n whitespace || bytes_eq n comment)
 blank_then n h = let k = rw white_chars at h in rw k refl
 
-pub blank_else : (n : Text) (b : Bool) → bytes_eq n (chars (87 ∷ 72 ∷ 73 ∷ 84 ∷ 69 ∷ 83 ∷ 80 ∷ 65 ∷ 67 ∷ 69 ∷ [])) ≡ false → b ≡ bytes_eq n (chars (67 ∷ 79 ∷ 77 ∷ 77 ∷ 69 ∷ 78 ∷ 84 ∷ [])) → b ≡ (bytes_eq n whitespace || bytes_eq n comment)
+pub blank_else : (n : Text) (b : Bool) → bytes_eq n (chars whitespace) ≡ false → b ≡ bytes_eq n (chars comment) → b ≡ (bytes_eq n whitespace || bytes_eq n comment)
 blank_else n b h e =
     let k = rw white_chars at h in
     let m = rw comment_chars at e in

@@ -22,7 +22,7 @@ use crate::sets::{firsts_of, to_set};
 use crate::texts::same;
 use meta_ast::optimized::OptimizedRule;
 use meta_builtins::{Builtin, CharSet};
-use meta_names::unicode_property_names;
+use meta_names::{comment_name, unicode_property_names, whitespace_name};
 use std::alloc::{AllocError, Global};
 
 /// The reason to refuse rules.
@@ -164,10 +164,10 @@ pub(crate) fn resolve_name(
 fn is_blank(name: &str) -> bool
     ensures { result ≡ (bytes_eq (chars name.now) whitespace || bytes_eq (chars name.now) comment) }
 {
-    if same(name, "WHITESPACE") {
+    if same(name, whitespace_name()) {
         true
     } else {
-        same(name, "COMMENT")
+        same(name, comment_name())
     }
 }
 
@@ -237,8 +237,8 @@ pub fn program_of<P: Properties>(
     let properties = properties_in(alloc, rules, properties)?;
     let rules = index_rules(alloc, rules)?;
     let rows = rows_of(alloc, &rules, &properties)?;
-    let whitespace = rules.number_of("WHITESPACE");
-    let comment = rules.number_of("COMMENT");
+    let whitespace = rules.number_of(whitespace_name());
+    let comment = rules.number_of(comment_name());
     Ok(Program {
         rows,
         properties,

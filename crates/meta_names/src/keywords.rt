@@ -50,7 +50,7 @@ pub fn validate_already_defined(
         IfOk result (λ errors. AreErrorsFor (duplicate_complaints places) errors.items) }
     ensures memory { IfErr result (λ fault. fault ≡ Fault.Memory alloc_error) }
 {
-    let again = later(definitions, &mut HashSet::new(alloc))?;
+    let again = later(alloc, definitions, &mut HashSet::new(alloc))?;
     errors(alloc, Message::AlreadyDefined, &again)
 }
 
@@ -84,18 +84,22 @@ pub(crate) fn already_defined_in<'i>(
     ensures known { OnOk result (HasNames (map written (map piece_of definitions.now.items)) known.new) }
     ensures memory { IfErr result (λ fault. fault ≡ Fault.Memory alloc_error) }
 {
-    let found = later(definitions, known)?;
+    let found = later(alloc, definitions, known)?;
     errors_in(alloc, text, Message::AlreadyDefined, &found)
 }
 
 /// Collects the spans whose name occurs at an earlier span, in their order, and adds all names to `known`.
-fn later<'i>(places: &[Span<'i>], known: &mut HashSet<&'i str>) -> Result<Vec<Span<'i>>, AllocError>
+fn later<'i>(
+    alloc: Global,
+    places: &[Span<'i>],
+    known: &mut HashSet<&'i str>,
+) -> Result<Vec<Span<'i>>, AllocError>
     requires empty { HasNames [] known.old }
     ensures later { IfOk result (λ later.
         map piece_of later.items ≡ later_places [] (map piece_of places.now)) }
     ensures known { OnOk result (HasNames (map written (map piece_of places.now)) known.new) }
 {
-    let mut later = Vec::new(*known.allocator());
+    let mut later = Vec::new(alloc);
     for place in places {
         if !known.insert(place.as_str())? {
             later.push(*place)?;

@@ -1,7 +1,7 @@
 //! Calls of undefined names.
 ghost use Rattle.std.specs.Prelude.{◌≡◌, List, IfErr, IfOk, alloc_error, filter, map};
 ghost use Rattle.meta_base.specs.Pieces.Saying.{AreErrorsFor, piece_of, written};
-ghost use Rattle.meta_base.specs.Pieces.Saying.Span as Place;
+ghost use Rattle.meta_base.specs.Pieces.Saying as saying;
 ghost use Rattle.meta_names.specs.NameSets.{HasNames, is_outside, is_unknown};
 ghost use Rattle.meta_names.specs.Names.{AreIn, undefined_complaints};
 
@@ -40,7 +40,7 @@ pub(crate) fn undefined_in<'i>(
     called: &Vec<Span<'i>>,
 ) -> Result<Vec<Error<Rule>>, Fault>
     requires in_text { AreIn text.now (map piece_of called.now.items) }
-    ensures told { (definitions : List Place) → HasNames (map written definitions) defined.now
+    ensures told { (definitions : List saying.Span) → HasNames (map written definitions) defined.now
         → IfOk result (λ errors.
         AreErrorsFor (undefined_complaints definitions (map piece_of called.now.items)) errors.items) }
     ensures memory { IfErr result (λ fault. fault ≡ Fault.Memory alloc_error) }

@@ -1,8 +1,8 @@
 -- Rules that no other rule calls.
-use Rattle.std.specs.Prelude.{ℕ, List, [], ◌∷◌, Bool, false, not, ◌&&◌, ◌||◌, if◌then◌else◌, bytes_eq, codes, flat_map}
+use Rattle.std.specs.Prelude.{ℕ, List, [], ◌∷◌, Bool, false, not, ◌&&◌, ◌||◌, if◌then◌else◌, bytes_eq, flat_map}
 use Rattle.std.specs.Str.{str_eq_ignore_ascii_case}
 use Rattle.meta_base.specs.Language.Text.{Text}
-use Rattle.meta_base.specs.Language.Expression.{Expression, Ident}
+use Rattle.meta_base.specs.Language.Expression.{Expression, Ident, comment, whitespace}
 use Rattle.meta_base.specs.Language.Builtins.{is_one_of}
 use Rattle.meta_builtins.specs.Builtins.{name_of}
 use Rattle.meta_builtins.specs.declared.builtin.Builtin.TheVariants.{Soi, Eoi}
@@ -30,12 +30,12 @@ is_called (r ∷ rs) n = calls_another r n || is_called rs n
 
 -- the rules that are skipped between others, without a call
 abbrev pub needs_no_call : Text → Bool
-needs_no_call n = bytes_eq n (codes "WHITESPACE") || bytes_eq n (codes "COMMENT")
+needs_no_call n = bytes_eq n whitespace || bytes_eq n comment
 
 -- bytes that are one of these names but for the case of letters
 abbrev pub is_blank_name_in_any_case : List ℕ → Bool
 is_blank_name_in_any_case n =
-    str_eq_ignore_ascii_case n (codes "WHITESPACE") || str_eq_ignore_ascii_case n (codes "COMMENT")
+    str_eq_ignore_ascii_case n whitespace || str_eq_ignore_ascii_case n comment
 
 -- the builtins at the ends of a text: a rule that calls one is a start
 abbrev pub names_end : List Text → Bool

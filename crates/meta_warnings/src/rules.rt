@@ -12,14 +12,10 @@ ghost use Rattle.meta_warnings.specs.Rules as spec;
 use meta_ast::texts::same_text;
 use meta_base::runtime::Span;
 use meta_builtins::Builtin;
+use meta_names::{comment_name, whitespace_name};
 use meta_spanned::{ParserExpr, ParserNode, ParserRule, push_operands};
 use std::alloc::{AllocError, Global};
 use std::collections::HashSet;
-
-/// The names of the rules that are skipped between others, without a call.
-const WHITESPACE: &str = "WHITESPACE";
-
-const COMMENT: &str = "COMMENT";
 
 /// The spans of the names of rules that are not needed, in order. A rule is needed if a rule of another name
 /// calls it, if it is among `starts`, if it calls `SOI` or `EOI`, or if it is `WHITESPACE` or `COMMENT`.
@@ -248,14 +244,14 @@ pub(crate) fn needs_no_call(name: &String) -> bool
 pub fn is_blank_name(name: &str) -> bool
     ensures { result ≡ spec.needs_no_call (chars name.now) }
 {
-    is_literal(name, WHITESPACE) || is_literal(name, COMMENT)
+    is_literal(name, whitespace_name()) || is_literal(name, comment_name())
 }
 
 /// Whether a name is one of these two but for the case of its letters.
 pub fn is_blank_name_in_any_case(name: &str) -> bool
     ensures { result ≡ spec.is_blank_name_in_any_case name.now }
 {
-    is_literal_in_any_case(name, WHITESPACE) || is_literal_in_any_case(name, COMMENT)
+    is_literal_in_any_case(name, whitespace_name()) || is_literal_in_any_case(name, comment_name())
 }
 
 /// Whether a name is a literal's text.

@@ -6,8 +6,8 @@ use Rattle.matcher_program.proofs.compile.program_of.Goals as goal
 
 pub returns-clause-sound : goal.returns-clause-sound
 returns-clause-sound g c =
-    let w = rw white_chars at c.number_of-whitespace.ensures in
-    let m = rw comment_chars at c.number_of-comment.ensures in
+    let w = rw (c.whitespace_name.ensures.named, white_chars) at c.number_of-whitespace.ensures in
+    let m = rw (c.comment_name.ensures.named, comment_chars) at c.number_of-comment.ensures in
     rw (← c.deref.ensures.value) (c.in_ok-rows.ensures.sound _ _ w m)
 
 pub returns-in_err-rows-clause-refused : goal.returns-in_err-rows-clause-refused

@@ -26,16 +26,22 @@ loop-place-preserved c =
     let named = subst (λ (n : Text). contains_by (λ k. bytes_eq c.as_str.result.now k.now) c.loop-place.known ≡ is_one_of i.0 n) c.as_str.ensures (i.1 c.as_str.result) in
     let taken : (name : Bor (List ℕ)) → _ = λ name. name_taken _ c.loop-place.known c.insert.new.self c.as_str.result name (piece_of x) _ _ left c.as_str.ensures c.in_ok-insert.ensures.updates (c.loop-place.invariant.taken name) in
     elim c.if-not-branch.branch [
-      | then-not-branch+in_ok-push w ↦ record { taken = taken; later = (
-        written (piece_of x) ∷ i.0,
-        has,
-        rw (w.later-is, w.in_ok-push.ensures.items) (later_more _ i.0 c.loop-place.later.items x _ _ left (was_there _ _ _ c.in_ok-insert.ensures.added w.if-not-branch.true named) i.2),
-      ) }
-      | else-not-branch w ↦ record { taken = taken; later = (
-        written (piece_of x) ∷ i.0,
-        has,
-        rw w.later-is (later_less _ i.0 c.loop-place.later.items x _ _ left (was_not_there _ _ _ c.in_ok-insert.ensures.added w.if-not-branch.false named) i.2),
-      ) }
+      | then-not-branch+in_ok-push w ↦ record {
+        taken = taken;
+        later = (
+          written (piece_of x) ∷ i.0,
+          has,
+          rw (w.later-is, w.in_ok-push.ensures.items) (later_more _ i.0 c.loop-place.later.items x _ _ left (was_there _ _ _ c.in_ok-insert.ensures.added w.if-not-branch.true named) i.2),
+        );
+      }
+      | else-not-branch w ↦ record {
+        taken = taken;
+        later = (
+          written (piece_of x) ∷ i.0,
+          has,
+          rw w.later-is (later_less _ i.0 c.loop-place.later.items x _ _ left (was_not_there _ _ _ c.in_ok-insert.ensures.added w.if-not-branch.false named) i.2),
+        );
+      }
     ]
 
 pub returns-clause-known : goal.returns-clause-known

@@ -33,4 +33,5 @@ pub returns-clause-builtins : goal.returns-clause-builtins
 returns-clause-builtins c =
     let d : map piece_of c.in_ok-definitions.definitions.items ≡ definitions_of c.args.pairs.now = search rules in
     let e : map piece_of c.in_ok-calls.calls.items ≡ calls_of c.args.pairs.now = search rules in
-    rw (d, e) at c.in_ok-first_calls.ensures (map written (map piece_of c.in_ok-definitions.definitions.items)) c.in_ok-errors.ensures.known
+    let calls : c.deref.result.now ≡ c.in_ok-calls.calls.items = search rules in
+    rw (calls, d, e) at (c.in_ok-first_calls.ensures (map written (map piece_of c.in_ok-definitions.definitions.items)) c.in_ok-errors.ensures.known)

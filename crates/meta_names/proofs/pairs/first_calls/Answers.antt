@@ -1,4 +1,4 @@
-use Rattle.std.proofs.Common.{◌≡◌, ◌∙◌, ◌∷◌, ◌++◌, ap, get_or, rules, subst, sym, map, refl, append_nil}
+use Rattle.std.proofs.Common.{◌≡◌, ◌∙◌, ◌∷◌, ◌++◌, ap, get_or, rules, subst, sym, map, refl, append-nil}
 use Rattle.std.specs.Prelude.{bytes_eq}
 use Rattle.std.specs.HashSet.{contains_by}
 use Rattle.meta_base.specs.Pieces.Saying.{piece_of, written}
@@ -39,4 +39,4 @@ loop-call-preserved c = λ before has.
 pub returns : goal.returns
 returns c = λ before has.
     let i = c.loop-call.invariant before has in
-    sym (i.2 ∙ ap (λ rest. map (λ t. t.now) c.loop-call.first.items ++ map written (first_places i.0 rest)) (none_left c.args.calls.now c.loop-call.call-index c.loop-call-test.false) ∙ append_nil)
+    sym (i.2 ∙ ap (λ rest. map (λ t. t.now) c.loop-call.first.items ++ map written (first_places i.0 rest)) (none_left c.args.calls.now c.loop-call.call-index c.loop-call-test.false) ∙ append-nil _)
