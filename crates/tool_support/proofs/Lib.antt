@@ -1,2 +1,3 @@
-pub mod LineParts
 pub mod Escaping
+pub mod LineParts
+pub mod Parts

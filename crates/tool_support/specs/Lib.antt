@@ -1,3 +1,4 @@
 pub mod Escapes
 pub mod Lines
+pub mod Messages
 pub mod Statuses

@@ -3,6 +3,7 @@
 
 pub mod escape;
 pub mod input;
+pub mod messages;
 pub mod output;
 pub mod replacement;
 pub mod status;
