@@ -3,6 +3,7 @@ pub mod Reaching
 pub mod Forward
 pub mod Leaves
 pub mod Sets
+pub mod Branching
 pub mod Ends
 pub mod Existence
 pub mod Characters
