@@ -8,7 +8,7 @@ use Rattle.meta_base.specs.Language.Expression.{Grammar, Rule}
 use Rattle.meta_ast.specs.Printing.{printed}
 use Rattle.meta_markup.specs.Ebnf.{ebnf_bytes, plain_text}
 use Rattle.meta_markup.specs.Escape.{escaped_bytes, escaped_text}
-use Rattle.meta_markup.specs.Links.{AreLinksWithin, links_of}
+use Rattle.meta_markup.specs.Links.{AreLinksWithin, AreMarkdownLinksWithin, links_of, markdown_links}
 use Rattle.meta_markup.specs.Markdown.{code_bytes, inline_bytes, inline_text, markdown_bytes}
 use Rattle.meta_markup.specs.Template.{body, diagram_style, foot, head, style}
 use Rattle.meta_markup.specs.Tokens.{markup_bytes}
@@ -84,6 +84,7 @@ pub data AreSections (names : List (Bor (List ℕ))) : Grammar → List ℕ → 
 pub data AreMarkdownSections (names : List (Bor (List ℕ))) : Grammar → List ℕ → Type 0 where
   no_markdown : AreMarkdownSections names [] []
   more_markdown : {rules : Grammar} {bytes : List ℕ} (r : Rule) (before after : List MarkdownToken)
+      → AreMarkdownLinksWithin (length names) before → AreMarkdownLinksWithin (length names) after
       → AreMarkdownSections names rules bytes
       → AreMarkdownSections names (rules ++ r ∷ []) (bytes ++ markdown_section names r before after)
 
@@ -107,6 +108,7 @@ pub record IsMarkdownPage (title : List ℕ) (rules : Grammar) (page : List ℕ)
   pub names : List (Bor (List ℕ))
   pub are_names : AreNames rules names
   pub introduction : List MarkdownToken
+  pub listed : markdown_links introduction ≡ range_with_len 0 (length rules)
   pub sections : List ℕ
   pub are_sections : AreMarkdownSections names rules sections
   pub whole : page ≡ markdown_start title names introduction ++ sections
