@@ -1,8 +1,8 @@
 -- Calls of rules by their numbers.
-use Rattle.std.proofs.Common.{◌≡◌, refl, sym, ◌∙◌, ap, ap₂, subst, ℕ, ◌<◌, ◌||◌, Bool, true, false, List, [], ◌∷◌, Some, None, Option, codes, if◌then◌else◌, bytes_eq, get_or, length}
-use Rattle.std.proofs.lemmas.List.{get_or-map, length-map}
-use Rattle.meta_ast.specs.Ast.{rule_type_of, text_of}
-use Rattle.meta_base.specs.Language.Expression.{Grammar, Rule, comment, last_place, or_else, rule_of, whitespace}
+use Rattle.std.proofs.Common.{◌≡◌, refl, sym, ◌∙◌, ap, ap₂, subst, ℕ, ◌<◌, Bool, true, false, List, [], ◌∷◌, Some, None, Option, codes, if◌then◌else◌, bytes_eq, get_or, length}
+use Rattle.std.proofs.lemmas.List.{length-map}
+use Rattle.meta_ast.specs.Ast.{rule_type_of}
+use Rattle.meta_base.specs.Language.Expression.{Grammar, Rule, last_place, or_else, rule_of}
 use Rattle.meta_base.specs.Language.FurthestFailure.{is_eoi}
 use Rattle.meta_base.specs.Language.Meaning.{Run, body_mode, mode_in}
 use Rattle.meta_base.specs.Language.State.{Mode}
@@ -13,7 +13,7 @@ use Rattle.matcher_layout.specs.Laid as lay
 use Rattle.matcher_layout.specs.Laid.{IsPoint, at_label}
 use Rattle.matcher_program.specs.declared.form.Program.{Program}
 use Rattle.matcher_program.specs.declared.form.Row.{Row}
-use Rattle.matcher_program.specs.Programs.{IsRuleOf, name_at, names_of, rule_of_row}
+use Rattle.matcher_program.specs.Programs.{name_at, names_of, rule_of_row}
 use Rattle.matcher_compiler.specs.Names.{HasOwnNames, number_in, or_end}
 use Rattle.matcher_sets.specs.Forms.{IsSoundProgram, grammar_in, said}
 use Rattle.matcher_sets.proofs.Rules.{in_mode, made, named, same}

@@ -1,12 +1,13 @@
 -- The program of a plan.
-use Rattle.std.proofs.Common.{◌≡◌, refl, sym, ◌∙◌, ap, subst, ℕ, zero, suc, ◌+◌, ◌<◌, inl, inr, List, [], ◌∷◌, get_or, length, map, arith}
+use Rattle.std.proofs.Common.{◌≡◌, refl, sym, ◌∙◌, ap, ap₂, subst, ℕ, zero, suc, ◌+◌, ◌*◌, ◌<◌, inl, inr, List, [], ◌∷◌, get_or, length, map, arith}
+use Rattle.std.specs.Prelude.{if◌then◌else◌, nat_lt}
 use Rattle.std.proofs.lemmas.Bool.{cases_lt}
 use Rattle.std.proofs.lemmas.List.{get_or-map, length-map}
 use Rattle.meta_base.specs.Language.Expression.{Ident}
 use Rattle.meta_base.specs.Language.Meaning.{Run, Task}
 use Rattle.meta_base.specs.Language.State.{Classes, NonAtomicMode}
 use Rattle.matcher_code.specs.declared.code.Code.{Code}
-use Rattle.matcher_code.specs.Reading.{char_len}
+use Rattle.matcher_code.specs.Reading.{char_len, wide_len}
 use Rattle.matcher_layout.specs.Laid as lay
 use Rattle.matcher_layout.specs.Laid.{IsPoint, Lays, no_point}
 use Rattle.matcher_program.specs.declared.form.Program.{Program}
@@ -21,7 +22,7 @@ use Rattle.matcher_compiler.specs.Compiled.{AreMet, HasEnds, HasEntries, IsCodeO
 use Rattle.matcher_sets.specs.Modes.{mode_of}
 use Rattle.matcher_compiler.specs.Names.{number_in}
 use Rattle.matcher_sets.specs.Forms.{grammar_in}
-use Rattle.matcher_compiler.specs.Plans.{AreBound, IsLater, IsMet, IsPointOf, LaysPoint, Meets, body_in, laid_point, task_in}
+use Rattle.matcher_compiler.specs.Plans.{AreBound, IsLater, IsMet, IsPointOf, KeepsData, LaysPoint, Meets, body_in, laid_point, task_in}
 
 pub point_made : (p : Program) (points : List Point) (i : ℕ) (d : Point) → i < length points
     → IsPointOf p (map (laid_point p) points) (get_or points i d)
@@ -141,3 +142,10 @@ one_demand code points demands n x within before here p i d h = elim (cases_lt i
       subst (λ j. IsMet p code (map (laid_point p) points) (get_or demands j d)) e
       (subst (IsMet p code (map (laid_point p) points)) (same_demand demands n x d within) (here p))
 ]
+
+-- a set of a program with the same sets
+pub len_kept : {a b : Code} → KeepsData a b → (set : ℕ) (bs : List ℕ) → char_len b set bs ≡ char_len a set bs
+len_kept k set [] = refl
+len_kept k set (x ∷ xs) = ap₂ (λ rows ranges.
+    let f = get_or rows.items (set * 256 + x) 0 in
+    if nat_lt 4 f then wide_len (get_or (map (λ v. v.items) ranges.items) set []) (x ∷ xs) else f) k.rows k.ranges

@@ -8,10 +8,10 @@ use Rattle.meta_base.specs.Language.FurthestFailure.{furthest, place_of}
 use Rattle.meta_base.specs.Language.Matching.{starts_in}
 use Rattle.meta_base.specs.Language.Meaning as by
 use Rattle.meta_base.specs.Language.Meaning.{Does, Run}
-use Rattle.meta_base.specs.Language.State.{Classes, Failure, Mode, None', State, Success, moved}
+use Rattle.meta_base.specs.Language.State.{Failure, Mode, None', Success, moved}
 use Rattle.meta_base.specs.Language.Text.{Text}
 use Rattle.matcher_code.specs.Reading.{is_covered}
-use Rattle.matcher_layout.specs.Laid.{Hits, IsTight, Misses}
+use Rattle.matcher_layout.specs.Laid.{Hits, Misses}
 use Rattle.matcher_layout.proofs.Characters.{not_and_then}
 use Rattle.matcher_program.specs.declared.form.Form.{Form}
 use Rattle.matcher_program.specs.declared.form.Program.{Program}

@@ -1,5 +1,5 @@
 -- Plans of programs: points and demands, and what a program does that meets them.
-use Rattle.std.specs.Prelude.{◌≡◌, ◌<◌, ℕ, Bool, List, [], ◌∷◌, None, get_or, length, map, All, IsUtf8, chars, ⊤}
+use Rattle.std.specs.Prelude.{◌≡◌, ◌<◌, ℕ, Bool, List, [], ◌∷◌, None, Option, get_or, length, map, All, IsUtf8, chars, ⊤}
 use Rattle.meta_base.specs.Language.Expression.{Expression, Grammar, Ident, Normal, Rep, Rule, Seq, Str, comment, rule_of, whitespace}
 use Rattle.meta_base.specs.Language.Meaning.{Run, Skipping, Task, once_or_more, skipped}
 use Rattle.meta_base.specs.Language.State as language
@@ -12,12 +12,13 @@ use Rattle.matcher_code.specs.Sets.{IsSetOf}
 use Rattle.matcher_program.specs.declared.form.Program.{Program}
 use Rattle.matcher_program.specs.Programs.{Fits, name_at, names_of}
 use Rattle.matcher_layout.specs.Laid as lay
-use Rattle.matcher_layout.specs.Laid.{Enters, FailsOutside, HasOutcome, IsEnd, IsPoint, IsTight, Lays, TakesOne, at_label, skip_set}
+use Rattle.matcher_layout.specs.Laid.{Branches, Continues, Enters, FailsOutside, HasOutcome, HasTable, IsEnd, IsPoint, IsTight, Lays, TakesOne, at_label, skip_set}
 use Rattle.matcher_compiler.specs.declared.plan.Plan.{Plan}
 use Rattle.matcher_compiler.specs.declared.plan.Skips.{Skips}
 use Rattle.matcher_compiler.specs.declared.plan.Skips.TheVariants as skips
 use Rattle.matcher_sets.specs.declared.heads.Head.{Head}
 use Rattle.matcher_sets.specs.declared.modes.Atomicity.{Atomicity}
+use Rattle.matcher_compiler.specs.declared.points.Branch.{Branch}
 use Rattle.matcher_compiler.specs.declared.points.Demand.{Demand}
 use Rattle.matcher_compiler.specs.declared.points.Demand.TheVariants as demand
 use Rattle.matcher_compiler.specs.declared.points.Part.{Part}
@@ -85,12 +86,27 @@ IsPointOf p laid x =
 abbrev pub IsTightIn : Program → Atomicity → Type 0
 IsTightIn p m = (classes : Classes) → IsTight (grammar_in p) classes (mode_of m)
 
+-- a choice goes on at a label for a first byte; its table has such labels
+abbrev pub ContinuesAs : Code → Branch → Option ℕ → ℕ → Type 0
+ContinuesAs code b head t = Continues code head b.set b.noted b.first b.second b.next b.way t
+
+abbrev pub HasBranch : Code → Branch → Type 0
+HasBranch code b = Branches code b.table b.set b.noted b.first b.second b.next b.way
+
+-- a program has the sets and the texts of another one
+pub record KeepsData (old new : Code) : Type 0 where
+  pub rows : new.rows ≡ old.rows
+  pub ranges : new.ranges ≡ old.ranges
+  pub texts : new.texts ≡ old.texts
+  pub lists : new.lists ≡ old.lists
+
 -- the program has what is demanded
 abbrev pub IsMet : Program → Code → List lay.Point → Demand → Type 0
 IsMet p code laid (demand.Operation l o) = at_label code l ≡ o
 IsMet p code laid (demand.Body i m first last point) =
     IsPoint laid (Run (mode_of m) (body_in p i)) first last 0
 IsMet p code laid (demand.GoesOn l) = IsEnd code l → ⊥
+IsMet p code laid (demand.Branch b) = HasBranch code b
 
 -- the program has the points, what is demanded, the sets, the texts and the lists of a plan
 pub record Meets (p : Program) (plan : Plan) (code : Code) (laid : List lay.Point) : Type 0 where
@@ -165,6 +181,12 @@ EntersAt p plan k at first = (classes : Classes) → Fits p.properties.items cla
 abbrev pub FailsWithout : Program → Task → Head → Type 0
 FailsWithout p k h = (classes : Classes) → Fits p.properties.items classes
     → FailsOutside (grammar_in p) classes k h.ranges.items h.noted
+
+-- so a table at the place leads on to the task at a label, or, where that fails, to another label
+abbrev pub BranchesAt : Program → Plan → Task → Place → (first second : ℕ) → Type 0
+BranchesAt p plan k at first second = (classes : Classes) → Fits p.properties.items classes
+    → (code : Code) (laid : List lay.Point) → Meets p plan code laid
+    → HasTable (grammar_in p) classes code k at.label first second at.next at.way
 
 -- where a character of the ranges is next, the task takes it alone, and records no failure
 abbrev pub TakesOneIn : Program → Task → List (ℕ × ℕ) → Type 0

@@ -8,6 +8,7 @@ ghost use Rattle.matcher_sets.specs.Modes.{mode_of};
 ghost use Rattle.matcher_compiler.specs.Plans.{IsMet, body_in, laid_point};
 
 use crate::points::{Demand, Part, Point};
+use crate::tables::has_branch;
 use matcher_code::code::{Code, Op};
 use matcher_sets::modes::Atomicity;
 
@@ -164,6 +165,10 @@ fn is_same(one: Op, other: Op) -> bool
             Op::Note { next: next2 } => next == next2,
             _ => false,
         },
+        Op::Switch { table } => match other {
+            Op::Switch { table: table2 } => table == table2,
+            _ => false,
+        },
         Op::Open { row, next } => match other {
             Op::Open {
                 row: row2,
@@ -251,6 +256,7 @@ fn meets(code: &Code, points: &[Point<'_>], demand: Demand) -> bool
             point,
         } => has_body(points, point, rule, mode, first, last),
         Demand::GoesOn { label } => goes_on(code, label),
+        Demand::Branch(branch) => has_branch(code, branch),
     }
 }
 

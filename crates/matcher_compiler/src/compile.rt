@@ -13,6 +13,7 @@ use crate::check::{has_ends, meets_all};
 use crate::names::has_own_names;
 use crate::plan::{Plan, Skips};
 use crate::points::{Demand, NotCompiled, Part, Place, Point};
+use crate::tables::{write_tables, zeros};
 use matcher_code::code::{Code, Op, Ranges};
 use matcher_code::sets::add_set;
 use matcher_program::form::{Form, Program, Row};
@@ -65,6 +66,7 @@ fn fresh_plan<'p>(
         texts: Vec::new(alloc),
         lists: Vec::new(alloc),
         skips,
+        tables: 0,
         bodies,
     })
 }
@@ -256,6 +258,7 @@ fn finish(alloc: Global, plan: Plan<'_>) -> Result<Code, NotCompiled>
         texts,
         lists,
         skips: _,
+        tables: size,
         bodies: _,
     } = plan;
     let ops = write(alloc, &demands)?;
@@ -263,11 +266,13 @@ fn finish(alloc: Global, plan: Plan<'_>) -> Result<Code, NotCompiled>
         ops: _,
         rows,
         ranges,
-        tables,
+        tables: _,
         texts: _,
         lists: _,
     } = sets;
-    let code = Code {
+    let tables = zeros(alloc, size as usize)?;
+    let mut notes = zeros(alloc, ops.len())?;
+    let mut code = Code {
         ops,
         rows,
         ranges,
@@ -275,6 +280,7 @@ fn finish(alloc: Global, plan: Plan<'_>) -> Result<Code, NotCompiled>
         texts,
         lists,
     };
+    write_tables(&mut code, &mut notes, &demands)?;
     let made = points.as_slice();
     let wanted = demands.as_slice();
     let code = compare(code, made, wanted)?;

@@ -222,7 +222,7 @@ impl<'p> Plan<'p> {
         Ok(())
     }
 
-    /// Plans the alternatives of a choice.
+    /// Plans a choice, by a table or by its alternatives in turn. The labels from `own` on are free.
     pub(crate) fn choice(
         &mut self,
         alloc: Global,
@@ -244,6 +244,35 @@ impl<'p> Plan<'p> {
         if own == FAIL {
             return Err(NotCompiled::Unsupported);
         }
+        let made = self.table_head(alloc, program, heads, left, at.mode)?;
+        match made {
+            Some(head) => {
+                self.switched_choice(alloc, program, heads, head, left, right, at, own)
+            }
+            None => self.tried_choice(alloc, program, heads, left, right, at, own),
+        }
+    }
+
+    /// Plans the alternatives of a choice, which are tried in turn.
+    fn tried_choice(
+        &mut self,
+        alloc: Global,
+        program: &Program,
+        heads: &Heads,
+        left: &'p Form,
+        right: &'p Form,
+        at: Place,
+        own: u32,
+    ) -> Result<(), NotCompiled>
+        requires sound { IsSoundProgram program.now }
+        requires heads { AreHeads program.now heads.now }
+        requires left_bound { IsBoundIn program.now left.now }
+        requires right_bound { IsBoundIn program.now right.now }
+        requires up { 0 < own }
+        ensures later { OnOk result (IsLater program.now self.old self.new) }
+        ensures lays { OnOk result (LaysAt program.now self.new (Run (mode_of at.mode)
+            (Choice (said program.now left.entry.now) (said program.now right.entry.now))) at) }
+    {
         let first = Place {
             mode: at.mode,
             label: at.label,

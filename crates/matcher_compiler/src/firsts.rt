@@ -1,12 +1,12 @@
 //! Tests before expressions.
-ghost use Rattle.std.specs.Prelude.{IfOk, List, OnOk};
+ghost use Rattle.std.specs.Prelude.{IfOk, IfSome, List, OnOk};
 ghost use Rattle.meta_base.specs.Language.Meaning.{Run, Task};
 ghost use Rattle.matcher_code.specs.declared.code.Code.{Code};
 ghost use Rattle.matcher_layout.specs.Laid as lay;
 ghost use Rattle.matcher_layout.specs.Laid.{GoesTo};
 ghost use Rattle.matcher_program.specs.declared.form.Program.{Program};
 ghost use Rattle.matcher_sets.specs.Forms.{IsBoundIn, IsSoundProgram, said};
-ghost use Rattle.matcher_sets.specs.Heads.{AreHeads, HasHead};
+ghost use Rattle.matcher_sets.specs.Heads.{AreHeads};
 ghost use Rattle.matcher_sets.specs.Modes.{mode_of};
 ghost use Rattle.matcher_compiler.specs.Plans.{EntersAt, FailsWithout, IsLater, Meets};
 
@@ -16,10 +16,11 @@ use crate::points::{NotCompiled, Place};
 use matcher_code::code::{Op, Ranges};
 use matcher_program::form::{Form, Program};
 use matcher_sets::heads::{Head, Heads, head_of};
+use matcher_sets::modes::Atomicity;
 use std::alloc::Global;
 
 /// Returns whether a test may spare more than it takes: the form is a call, or has several parts.
-fn is_long(form: &Form) -> bool {
+pub(crate) fn is_long(form: &Form) -> bool {
     matches!(form, Form::Call(_) | Form::Seq(_, _) | Form::RepOnce(_))
 }
 
@@ -31,6 +32,33 @@ fn is_wide(ranges: &Ranges) -> bool {
         }
     }
     false
+}
+
+/// Returns the head of a form in a mode, if it is known and tells that the form fails elsewhere.
+pub(crate) fn narrow_head(
+    alloc: Global,
+    program: &Program,
+    heads: &Heads,
+    form: &Form,
+    mode: Atomicity,
+) -> Result<Option<Head>, NotCompiled>
+    requires sound { IsSoundProgram program.now }
+    requires heads { AreHeads program.now heads.now }
+    requires bound { IsBoundIn program.now form.now }
+    ensures { IfOk result (λ made. IfSome made
+        (FailsWithout program.now (Run (mode_of mode) (said program.now form.now)))) }
+{
+    let made = head_of(alloc, program, heads, form, mode)?;
+    match made {
+        Some(head) => {
+            if head.empty || is_wide(&head.ranges) {
+                Ok(None)
+            } else {
+                Ok(Some(head))
+            }
+        }
+        None => Ok(None),
+    }
 }
 
 impl<'p> Plan<'p> {
@@ -75,30 +103,6 @@ impl<'p> Plan<'p> {
         Ok(own)
     }
 
-    /// Plans a test of the next character before a form with a head, if it tells more than that there is one.
-    fn test_if_narrow(
-        &mut self,
-        program: &Program,
-        form: &Form,
-        head: Head,
-        at: Place,
-        own: u32,
-    ) -> Result<u32, NotCompiled>
-        requires head { HasHead program.now (mode_of at.mode) (said program.now form.now) head }
-        ensures later { OnOk result (IsLater program.now self.old self.new) }
-        ensures enters { IfOk result (EntersAt program.now self.new
-            (Run (mode_of at.mode) (said program.now form.now)) at) }
-    {
-        if head.empty {
-            return Ok(at.label);
-        }
-        if is_wide(&head.ranges) {
-            return Ok(at.label);
-        }
-        let first = self.test(head, at, own)?;
-        Ok(first)
-    }
-
     /// Plans a test of the next character before a form, if it spares something. Returns the label at which
     /// the form begins. The labels from `own` on are free.
     pub(crate) fn enter(
@@ -117,12 +121,39 @@ impl<'p> Plan<'p> {
         ensures enters { IfOk result (EntersAt program.now self.new
             (Run (mode_of at.mode) (said program.now form.now)) at) }
     {
-        if at.way == FAIL || !is_long(form) {
+        if at.way == FAIL {
             return Ok(at.label);
         }
-        let made = head_of(alloc, program, heads, form, at.mode)?;
+        self.enter_any(alloc, program, heads, form, at, own)
+    }
+
+    /// Plans a test of the next character before a form, also if a failure goes on as the last slot says.
+    /// Returns the label at which the form begins. The labels from `own` on are free.
+    pub(crate) fn enter_any(
+        &mut self,
+        alloc: Global,
+        program: &Program,
+        heads: &Heads,
+        form: &Form,
+        at: Place,
+        own: u32,
+    ) -> Result<u32, NotCompiled>
+        requires sound { IsSoundProgram program.now }
+        requires heads { AreHeads program.now heads.now }
+        requires bound { IsBoundIn program.now form.now }
+        ensures later { OnOk result (IsLater program.now self.old self.new) }
+        ensures enters { IfOk result (EntersAt program.now self.new
+            (Run (mode_of at.mode) (said program.now form.now)) at) }
+    {
+        if !is_long(form) {
+            return Ok(at.label);
+        }
+        let made = narrow_head(alloc, program, heads, form, at.mode)?;
         match made {
-            Some(head) => self.test_if_narrow(program, form, head, at, own),
+            Some(head) => {
+                let first = self.test(head, at, own)?;
+                Ok(first)
+            }
             None => Ok(at.label),
         }
     }

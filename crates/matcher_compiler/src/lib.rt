@@ -14,3 +14,5 @@ mod planning;
 pub mod points;
 mod shortcuts;
 mod skips;
+mod switches;
+mod tables;

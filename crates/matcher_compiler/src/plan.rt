@@ -28,6 +28,8 @@ pub struct Plan<'p> {
     /// Lists of numbers of texts.
     pub(crate) lists: Vec<Vec<u32>>,
     pub(crate) skips: Skips,
+    /// How many numbers the tables have.
+    pub(crate) tables: u32,
     /// The number of the point of each rule's body by its mode, and by whether it gives a token.
     pub(crate) bodies: Vec<Option<usize>>,
     ghost aligned: { IsAligned sets },

@@ -48,6 +48,20 @@ pub struct Point<'p> {
     pub at: Place,
 }
 
+/// A choice by a table: the table's first index, the set of characters with which the first alternative
+/// begins, whether its failure elsewhere is recorded, the labels at which the alternatives begin, and those
+/// at which a success and a failure go on.
+#[derive(Clone, Copy)]
+pub struct Branch {
+    pub table: u32,
+    pub set: u32,
+    pub noted: bool,
+    pub first: u32,
+    pub second: u32,
+    pub next: u32,
+    pub way: u32,
+}
+
 /// A fact about a program.
 #[derive(Clone, Copy)]
 pub enum Demand {
@@ -68,6 +82,8 @@ pub enum Demand {
     GoesOn {
         label: u32,
     },
+    /// A table has the labels of a choice.
+    Branch(Branch),
 }
 
 /// Why rules are not compiled.
