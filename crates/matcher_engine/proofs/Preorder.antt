@@ -1,8 +1,8 @@
 -- The entries of trees, by the trees in preorder.
-use Rattle.std.proofs.Common.{◌≡◌, refl, sym, ◌∙◌, ap, ap₂, ℕ, suc, ◌+◌, ◌-◌, ◌*◌, ◌<◌, ◌≤◌, List, [], ◌∷◌, ◌++◌, Bool, true, false, drop, get_or, length, nat_le, arith, if◌then◌else◌, append_assoc, append-nil}
+use Rattle.std.proofs.Common.{◌≡◌, refl, sym, ◌∙◌, ap, ap₂, subst, ◌⊎◌, inl, inr, ℕ, zero, suc, ◌+◌, ◌-◌, ◌*◌, ◌<◌, ◌≤◌, List, [], ◌∷◌, ◌++◌, Bool, true, false, drop, get_or, length, reverse, nat_le, arith, if◌then◌else◌, append_assoc, append-nil}
 use Rattle.std.specs.Prelude.{⊤}
 use Rattle.std.proofs.Math.Seq.{drop-cons}
-use Rattle.std.proofs.lemmas.List.{length-append}
+use Rattle.std.proofs.lemmas.List.{get_or_default, length-append, reverse-append}
 use Rattle.meta_base.specs.Language.Text.{Text}
 use Rattle.meta_base.specs.Language.State.{Trees, None', Tree}
 use Rattle.matcher_code.specs.declared.state.TreeNode.{TreeNode}
@@ -19,6 +19,20 @@ AreKnown n (t ∷ ts) = (t.row ≤ n) × AreKnown n ts
 pub all_known : (n : ℕ) (ts : List TreeNode) → ((k : ℕ) (d : TreeNode) → k < length ts → (get_or ts k d).row ≤ n) → AreKnown n ts
 all_known n [] h = tt
 all_known n (t ∷ ts) h = (h 0 t (omega arith), all_known n ts (λ k d l. h (suc k) d (omega (arith, l))))
+
+before_or_at : (k i : ℕ) → k < suc i → (k < i) ⊎ (k ≡ i)
+before_or_at zero zero h = inr refl
+before_or_at zero (suc i) h = inl (omega arith)
+before_or_at (suc k) zero h = absurd (omega (arith, h))
+before_or_at (suc k) (suc i) h = elim (before_or_at k i (omega (arith, h))) [ inl a ↦ inl (omega (arith, a)) | inr e ↦ inr (ap suc e) ]
+
+-- the rule of one more tree is known
+pub known_more : (nodes : List TreeNode) (n i : ℕ) (t : TreeNode) → i < length nodes → get_or nodes i t ≡ t → t.row ≤ n
+    → ((k : ℕ) (d : TreeNode) → k < i → (get_or nodes k d).row ≤ n) → (k : ℕ) (d : TreeNode) → k < suc i → (get_or nodes k d).row ≤ n
+known_more nodes n i t l here row h k d m = elim (before_or_at k i m) [
+  | inl a ↦ h k d a
+  | inr e ↦ subst (λ j. (get_or nodes j d).row ≤ n) (sym e) (subst (λ x. x.row ≤ n) (sym (get_or_default nodes i d t l ∙ here)) row)
+]
 
 -- the entries of the remaining trees, of which the first has the number `i`, and the ends of the open ones; the
 -- first entry has the index `k`
@@ -165,12 +179,12 @@ module _ (names : List Text) where
       let rest = drop (suc i) nodes in
       let end = Ends t.end (length es1) in
       let es3 = es1 ++ start_entry names t i (length es1) ∷ [] in
-      let open : List OpenTree = left_open i os in
+      let pending : List OpenTree = left_open i os in
       let s2 : es2 ≡ es3 ++ end ∷ [] = e2 ∙ sym (append_assoc es1 (start_entry names t i (length es1) ∷ []) (end ∷ [])) in
       let l2 : length es2 ≡ suc (length es3) = omega (arith, ap length s2, length-append es3 (end ∷ [])) in
-      ap₂ (λ x n. x ++ written names rest (suc i) n open) s2 l2
-      ∙ (append_assoc es3 (end ∷ []) (written names rest (suc i) (suc (length es3)) open)
-      ∙ (ap (λ x. es3 ++ x) (sym (close_one rest (suc i) (length es3) (opened t (length es1)) open b))
+      ap₂ (λ x n. x ++ written names rest (suc i) n pending) s2 l2
+      ∙ (append_assoc es3 (end ∷ []) (written names rest (suc i) (suc (length es3)) pending)
+      ∙ (ap (λ x. es3 ++ x) (sym (close_one rest (suc i) (length es3) (opened t (length es1)) pending b))
       ∙ after_one nodes i t es es1 es3 os done l here e1 refl e))
 
   pub after_tree : (nodes : List TreeNode) (i : ℕ) (t : TreeNode) (es es1 es2 : List Entry) (os : List OpenTree) (done : List Entry)
@@ -179,6 +193,16 @@ module _ (names : List Text) where
       → es ++ written names (drop i nodes) i (length es) os ≡ done
       → es2 ++ written names (drop (suc i) nodes) (suc i) (length es2) (left_open (suc i) (opened t (length es1) ∷ []) ++ left_open i os) ≡ done
   after_tree nodes i t es es1 es2 os done = after_ended (nat_le t.after (suc i)) nodes i t es es1 es2 os done refl
+
+  reversed_if : (b : Bool) (o : OpenTree) → reverse (if b then [] else o ∷ []) ≡ (if b then [] else o ∷ [])
+  reversed_if true o = refl
+  reversed_if false o = refl
+
+  -- the open trees after that, the last opened first
+  pub opened_more : (n i : ℕ) (o : OpenTree) (between new os : List OpenTree) → new ≡ between ++ left_open n (o ∷ []) → reverse between ≡ left_open i os
+      → reverse new ≡ left_open n (o ∷ []) ++ left_open i os
+  opened_more n i o between new os e f =
+      ap reverse e ∙ (reverse-append between (left_open n (o ∷ [])) ∙ ap₂ (λ x y. x ++ y) (reversed_if (nat_le o.after n) o) f)
 
   drop_all : (ts : List TreeNode) → drop (length ts) ts ≡ []
   drop_all [] = refl
