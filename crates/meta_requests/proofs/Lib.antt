@@ -1,3 +1,4 @@
 mod Matching
 mod Starts
 pub mod Pushing
+pub mod Selecting

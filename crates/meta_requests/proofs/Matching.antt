@@ -21,7 +21,7 @@ context_in client documents params uri document context t o h = record {
   document = document;
   named = t ∙ ap Some (sym h.same_uri);
   is_open = ap (document_in documents) h.same_uri ∙ o;
-  of_document = record { same_uri = refl; same_text = h.same_text; same_client = h.same_client; defined = h.defined };
+  of_document = record { same_uri = refl; same_text = h.same_text; same_client = h.same_client; lexed = h.lexed; defined = h.defined };
 }
 
 -- the rules of one document are added

@@ -1,13 +1,13 @@
 -- Folding ranges.
-use Rattle.std.specs.Prelude.{◌≡◌, ◌-◌, ℕ, List, [], ◌∷◌, ◌++◌, Bool, false, Option, Some, None, codes, flat_map, length, min, nat_le, if◌then◌else◌}
+use Rattle.std.specs.Prelude.{◌≡◌, ◌-◌, ℕ, List, [], ◌∷◌, Bool, codes, flat_map, length, min, nat_le, if◌then◌else◌}
 use Rattle.serde_json.specs.Data.{Data, array, member, no_members, number, object, string, unsigned}
 use Rattle.serde_json.specs.View.{items_of, view}
 use Rattle.language_protocol.specs.declared.messages.Answer.{Answer}
 use Rattle.language_protocol.specs.declared.messages.Answer.TheVariants as answer
 use Rattle.meta_positions.specs.Positions.{position_at}
 use Rattle.meta_requests.specs.declared.context.Context.{Context}
+use Rattle.meta_symbols.specs.Folds.{folds}
 use Rattle.meta_symbols.specs.declared.folding.Fold.{Fold}
-use Rattle.meta_symbols.specs.declared.outline.Definition.{Definition}
 use Rattle.meta_symbols.specs.declared.tokens.Extent.{Extent}
 
 -- the line of a byte of a document
@@ -29,23 +29,13 @@ fold_at context is_comment extent = if is_comment
     then fold_of (line_of context extent.start) (line_of context extent.end) (codes "comment")
     else fold_of (line_of context extent.start) (line_of context extent.end - 1) (codes "region")
 
-abbrev pub body_fold : Context → Option Extent → List Data
-body_fold context None = []
-body_fold context (Some extent) = fold_at context false extent
-
--- the bodies of rules, those of several lines
-abbrev pub body_folds : Context → List Definition → List Data
-body_folds context definitions = flat_map (λ definition. body_fold context definition.body) definitions
-
 abbrev pub folds_at : Context → List Fold → List Data
 folds_at context folds = flat_map (λ fold. fold_at context fold.is_comment fold.extent) folds
 
--- the bodies of the rules of a document, and other folds
-abbrev pub AreFoldsOf : Context → List Data → Type 0
-AreFoldsOf context values = (others : List Fold)
-    × (values ≡ body_folds context context.definitions.items ++ folds_at context others)
+-- the bodies of the rules of a document, and its comments, those of several lines
+abbrev pub folds_in : Context → List Data
+folds_in context = folds_at context (folds context.tokens.items context.definitions.items)
 
 abbrev pub AreFolds : Context → Answer → Type 0
-AreFolds context (answer.Result v) =
-    (values : List Data) × AreFoldsOf context values × (view v ≡ array (items_of values))
+AreFolds context (answer.Result v) = view v ≡ array (items_of (folds_in context))
 AreFolds context (answer.Error code reason) = ⊥

@@ -8,6 +8,7 @@ pub mod Highlights
 pub mod Locations
 pub mod Names
 pub mod Refusals
+pub mod Selections
 pub mod Semantic
 pub mod Shown
 pub mod Symbols

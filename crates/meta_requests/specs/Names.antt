@@ -14,6 +14,7 @@ use Rattle.meta_requests.specs.declared.context.Name.{Name}
 use Rattle.meta_positions.specs.Positions.{IsOffset}
 use Rattle.meta_positions.specs.declared.positions.Position.{Position}
 use Rattle.meta_positions.specs.declared.positions.Range.{Range}
+use Rattle.meta_symbols.specs.Lexemes.{AreTokens}
 use Rattle.meta_symbols.specs.Parts.{part}
 use Rattle.meta_symbols.specs.Tokens.{defined_names, name_of}
 use Rattle.meta_symbols.specs.declared.tokens.Extent.{Extent}
@@ -23,6 +24,7 @@ pub record IsContextOf (client : Client) (uri text : List ℕ) (context : Contex
   pub same_uri : context.uri.now ≡ uri
   pub same_text : context.text.now ≡ text
   pub same_client : context.client ≡ client
+  pub lexed : AreTokens context.text.now context.tokens.items
   pub defined : map name_of context.definitions.items ≡ defined_names context.tokens.items
 
 -- the context of the open document that parameters name

@@ -1,15 +1,18 @@
 //! Folds and selections.
-ghost use Rattle.std.specs.Prelude.{◌≡◌, ◌++◌, IfOk, OnOk, map};
-ghost use Rattle.meta_requests.specs.Folding as spec;
-ghost use Rattle.meta_requests.specs.Folding.{AreFolds, AreFoldsOf};
+ghost use Rattle.std.specs.List.{AllZip};
+ghost use Rattle.std.specs.Prelude.{◌≡◌, ◌++◌, IfOk, MatchOption, OnOk, map};
+ghost use Rattle.meta_requests.specs.Folding as folding;
+ghost use Rattle.meta_requests.specs.Folding.{AreFolds};
+ghost use Rattle.meta_requests.specs.Selections as spec;
+ghost use Rattle.meta_requests.specs.Selections.{AddsSelection, AreSelections, HasNoPosition, IsSelectionAt};
 ghost use Rattle.serde_json.specs.View.{view};
 
 use crate::context::Context;
 use crate::locations::range_at;
 use language_protocol::messages::{Answer, ErrorCode};
 use language_protocol::params::position_of;
-use meta_positions::offset_of;
-use meta_symbols::{Definition, Extent, Fold, folds_of, selections_at};
+use meta_positions::{Position, offset_of};
+use meta_symbols::{Extent, Fold, folds_of, selections_at};
 use serde_json::{Value, json};
 use std::alloc::{AllocError, Global};
 
@@ -23,47 +26,12 @@ pub fn folding_ranges(alloc: Global, context: &Context<'_>) -> Result<Answer, Al
 
 /// Returns what can be folded in a document, each as a value.
 fn folds_in(alloc: Global, context: &Context<'_>) -> Result<Vec<Value>, AllocError>
-    ensures { IfOk result (λ values. AreFoldsOf context.now (map view values.items)) }
+    ensures { IfOk result (λ values. map view values.items ≡ folding.folds_in context.now) }
 {
-    let comments = folds_of(alloc, &context.tokens, &[])?;
+    let folds = folds_of(alloc, &context.tokens, &context.definitions)?;
     let mut values = Vec::new(alloc);
-    push_bodies(alloc, context, &context.definitions, &mut values)?;
-    push_folds(alloc, context, &comments, &mut values)?;
+    push_folds(alloc, context, &folds, &mut values)?;
     Ok(values)
-}
-
-/// Adds the bodies of rules.
-fn push_bodies(
-    alloc: Global,
-    context: &Context<'_>,
-    definitions: &[Definition],
-    values: &mut Vec<Value>,
-) -> Result<(), AllocError>
-    ensures { OnOk result (map view values.new.items
-        ≡ map view values.old.items ++ spec.body_folds context.now definitions.now) }
-{
-    let mut rest = definitions;
-    while let Some((definition, after)) = rest.split_first() {
-        push_body(alloc, context, definition.body, values)?;
-        rest = after;
-    }
-    Ok(())
-}
-
-/// Adds the body of a rule, where it has one.
-fn push_body(
-    alloc: Global,
-    context: &Context<'_>,
-    body: Option<Extent>,
-    values: &mut Vec<Value>,
-) -> Result<(), AllocError>
-    ensures { OnOk result (map view values.new.items
-        ≡ map view values.old.items ++ spec.body_fold context.now body) }
-{
-    match body {
-        Some(extent) => push_fold(alloc, context, false, extent, values),
-        None => Ok(()),
-    }
 }
 
 /// Adds folds.
@@ -74,7 +42,7 @@ fn push_folds(
     values: &mut Vec<Value>,
 ) -> Result<(), AllocError>
     ensures { OnOk result (map view values.new.items
-        ≡ map view values.old.items ++ spec.folds_at context.now folds.now) }
+        ≡ map view values.old.items ++ folding.folds_at context.now folds.now) }
 {
     let mut rest = folds;
     while let Some((fold, after)) = rest.split_first() {
@@ -93,7 +61,7 @@ fn push_fold(
     values: &mut Vec<Value>,
 ) -> Result<(), AllocError>
     ensures { OnOk result (map view values.new.items
-        ≡ map view values.old.items ++ spec.fold_at context.now is_comment extent) }
+        ≡ map view values.old.items ++ folding.fold_at context.now is_comment extent) }
 {
     let start = context.index.position_of(extent.start).line;
     let last = context.index.position_of(extent.end).line;
@@ -113,7 +81,7 @@ fn push_lines(
     values: &mut Vec<Value>,
 ) -> Result<(), AllocError>
     ensures { OnOk result (map view values.new.items
-        ≡ map view values.old.items ++ spec.fold_of start end kind.now) }
+        ≡ map view values.old.items ++ folding.fold_of start end kind.now) }
 {
     if end <= start {
         return Ok(());
@@ -125,7 +93,7 @@ fn push_lines(
 
 /// Returns the fold of some lines as a value.
 fn fold_value(alloc: Global, start: usize, end: usize, kind: &str) -> Result<Value, AllocError>
-    ensures { IfOk result (λ v. view v ≡ spec.fold_data start end kind.now) }
+    ensures { IfOk result (λ v. view v ≡ folding.fold_data start end kind.now) }
 {
     json!(in alloc; { "startLine": start as u64, "endLine": end as u64, "kind": kind })
 }
@@ -135,43 +103,108 @@ pub fn selection_ranges(
     alloc: Global,
     context: &Context<'_>,
     params: &Value,
-) -> Result<Answer, AllocError> {
+) -> Result<Answer, AllocError>
+    ensures { IfOk result (AreSelections context.now (view params.now)) }
+{
     let Some(positions) = params.get("positions").and_then(Value::as_array) else {
         return Ok(Answer::Error(ErrorCode::InvalidParams, "no positions"));
     };
-    let mut values = Vec::new(alloc);
-    for position in positions {
-        let Some(position) = position_of(position) else {
-            return Ok(Answer::Error(ErrorCode::InvalidParams, "no position"));
-        };
-        let offset = offset_of(context.text, context.client.encoding, position);
-        values.push(selection_value(alloc, context, offset)?)?;
+    match selections_in(alloc, context, positions)? {
+        Some(values) => Ok(Answer::Result(Value::Array(values))),
+        None => Ok(Answer::Error(ErrorCode::InvalidParams, "no position")),
     }
-    Ok(Answer::Result(Value::Array(values)))
+}
+
+/// Returns the parts around each of some positions, or none where one of them is no position.
+fn selections_in(
+    alloc: Global,
+    context: &Context<'_>,
+    positions: &[Value],
+) -> Result<Option<Vec<Value>>, AllocError>
+    ensures { IfOk result (λ found. MatchOption found
+        (HasNoPosition (map view positions.now))
+        (λ values. AllZip (IsSelectionAt context.now) (map view positions.now) (map view values.items))) }
+{
+    let mut values = Vec::new(alloc);
+    let mut rest = positions;
+    while let Some((value, after)) = rest.split_first() {
+        let Some(position) = position_of(value) else {
+            return Ok(None);
+        };
+        push_selection(alloc, context, position, &mut values)?;
+        rest = after;
+    }
+    Ok(Some(values))
+}
+
+/// Adds the parts of a document around a position.
+fn push_selection(
+    alloc: Global,
+    context: &Context<'_>,
+    position: Position,
+    values: &mut Vec<Value>,
+) -> Result<(), AllocError>
+    ensures { OnOk result (AddsSelection context.now position
+        (map view values.old.items) (map view values.new.items)) }
+{
+    let offset = offset_of(context.text, context.client.encoding, position);
+    let value = selection_value(alloc, context, offset)?;
+    values.push(value)?;
+    Ok(())
 }
 
 /// Returns the parts of a document around an offset, each with the next larger one.
-fn selection_value(
-    alloc: Global,
-    context: &Context<'_>,
-    offset: usize,
-) -> Result<Value, AllocError> {
-    let mut extents = selections_at(
+fn selection_value(alloc: Global, context: &Context<'_>, offset: usize) -> Result<Value, AllocError>
+    ensures { IfOk result (λ v. view v ≡ spec.selection_at context.now offset) }
+{
+    let mut parts = selections_at(
         alloc,
         context.text,
         &context.tokens,
         &context.definitions,
         offset,
     )?;
-    let all = Extent {
+    let outermost = parts.pop().unwrap_or(Extent {
         start: 0,
         end: context.text.len(),
-    };
-    let range = range_at(alloc, context, extents.pop().unwrap_or(all))?;
-    let mut value = json!(in alloc; { "range": range })?;
-    for extent in extents.iter().rev() {
-        let range = range_at(alloc, context, *extent)?;
-        value = json!(in alloc; { "range": range, "parent": value })?;
+    });
+    let value = range_only(alloc, context, outermost)?;
+    parts_value(alloc, context, parts, value)
+}
+
+/// Returns a part without a larger one.
+fn range_only(alloc: Global, context: &Context<'_>, extent: Extent) -> Result<Value, AllocError>
+    ensures { IfOk result (λ v. view v ≡ spec.range_only context.now extent) }
+{
+    let range = range_at(alloc, context, extent)?;
+    json!(in alloc; { "range": range })
+}
+
+/// Returns parts, each with the next larger one, of which the largest has an outer one.
+fn parts_value(
+    alloc: Global,
+    context: &Context<'_>,
+    mut parts: Vec<Extent>,
+    mut outer: Value,
+) -> Result<Value, AllocError>
+    ensures { IfOk result (λ v.
+        view v ≡ spec.parts_in context.now (view outer) parts.items) }
+{
+    while let Some(extent) = parts.pop() {
+        outer = part_value(alloc, context, extent, outer)?;
     }
-    Ok(value)
+    Ok(outer)
+}
+
+/// Returns a part with a larger one.
+fn part_value(
+    alloc: Global,
+    context: &Context<'_>,
+    extent: Extent,
+    outer: Value,
+) -> Result<Value, AllocError>
+    ensures { IfOk result (λ v. view v ≡ spec.part_data context.now extent (view outer)) }
+{
+    let range = range_at(alloc, context, extent)?;
+    json!(in alloc; { "range": range, "parent": outer })
 }
