@@ -1,8 +1,9 @@
 -- Code actions.
-use Rattle.std.specs.Prelude.{◌≡◌, ◌-◌, ◌==◌, ◌++◌, ◌&&◌, ◌||◌, ℕ, List, [], ◌∷◌, Bool, true, MatchBool, None, Option, Some, codes, is_none, length, nat_le, string_bytes}
+use Rattle.std.specs.Prelude.{◌≡◌, ◌-◌, ◌==◌, ◌++◌, ◌||◌, ℕ, List, [], ◌∷◌, Bool, true, MatchBool, None, Option, Some, codes, is_none, length, string_bytes}
 use Rattle.diagnostic_data.specs.declared.diagnostic.Diagnostic.{Diagnostic}
-use Rattle.language_features.specs.Diagnostics.{diagnostic_data}
-use Rattle.language_features.specs.Remedies.{IsRemedyBy, fix_of}
+use Rattle.language_features.specs.Diagnostics.{diagnostic_data, extent_of}
+use Rattle.language_features.specs.Formatting.{do_touch}
+use Rattle.language_features.specs.Remedies.{IsRemedyBy}
 use Rattle.language_features.specs.declared.remedies.Remedy.{Remedy}
 use Rattle.language_protocol.specs.Asked.{lists_in}
 use Rattle.language_protocol.specs.Changes.{asked_range}
@@ -23,11 +24,6 @@ use Rattle.serde_json.specs.View.{items_of, view}
 abbrev pub is_asked_for : Data → Bool
 is_asked_for params = is_none (pointer (codes "/context/only") params)
     || lists_in (codes "/context/only") (codes "quickfix") params
-
--- whether a diagnostic touches an extent
-abbrev pub is_touched : Extent → Diagnostic → Bool
-is_touched extent diagnostic =
-    nat_le diagnostic.start extent.end && nat_le extent.start diagnostic.end
 
 abbrev pub remedy_data : Context → Remedy → Data
 remedy_data context remedy = workspace_edit_data context.uri.now
@@ -50,15 +46,16 @@ abbrev pub actions_by : Context → Diagnostic → Option Remedy → List Data
 actions_by context diagnostic None = []
 actions_by context diagnostic (Some remedy) = action_data context diagnostic remedy ∷ []
 
--- the action of a remedy for a diagnostic: of its fix, where it has one
+-- the action of the remedy of a diagnostic, where it has one
 abbrev pub IsActionFor : Context → Diagnostic → List Data → Type 0
 IsActionFor context diagnostic values = (remedy : Option Remedy)
-    × IsRemedyBy (fix_of diagnostic.help) remedy × (values ≡ actions_by context diagnostic remedy)
+    × IsRemedyBy context diagnostic diagnostic.help remedy × (values ≡ actions_by context diagnostic remedy)
 
 -- a diagnostic that touches an extent adds its action, and another one nothing
 abbrev pub AddsAction : Context → Extent → Diagnostic → List Data → List Data → Type 0
 AddsAction context extent diagnostic old new = (values : List Data)
-    × MatchBool (is_touched extent diagnostic) (IsActionFor context diagnostic values) (values ≡ [])
+    × MatchBool (do_touch extent (extent_of diagnostic.start diagnostic.end))
+    (IsActionFor context diagnostic values) (values ≡ [])
     × (new ≡ old ++ values)
 
 -- the first actions of diagnostics that touch an extent, at most so many

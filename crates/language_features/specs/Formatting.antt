@@ -73,12 +73,12 @@ abbrev pub do_touch : Extent → Extent → Bool
 do_touch extent other = nat_le other.start extent.end && nat_le extent.start other.end
 
 -- the bytes from the first start to the last end of two extents
-abbrev pub joined : Extent → Extent → Extent
-joined extent other = record { start = min extent.start other.start; end = max extent.end other.end }
+abbrev pub join : Extent → Extent → Extent
+join extent other = record { start = min extent.start other.start; end = max extent.end other.end }
 
 -- an extent with a definition, if that touches another extent
 abbrev pub with_touched : Extent → Extent → Extent → Extent
-with_touched extent around whole = if do_touch extent whole then joined around whole else around
+with_touched extent around whole = if do_touch extent whole then join around whole else around
 
 -- with all the definitions that do
 abbrev pub rules_around : Extent → Extent → List Definition → Extent

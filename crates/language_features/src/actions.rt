@@ -5,7 +5,8 @@ ghost use Rattle.language_features.specs.Actions.{AddsAction, AreActions, AreAct
 ghost use Rattle.serde_json.specs.Data.{Data};
 ghost use Rattle.serde_json.specs.View.{view};
 
-use crate::diagnostics::diagnostic_value;
+use crate::diagnostics::{diagnostic_value, extent_of};
+use crate::formatting::do_touch;
 use crate::remedies::{Remedy, remedy_of};
 use language_protocol::messages::{Answer, ErrorCode};
 use language_protocol::params::lists_at;
@@ -86,17 +87,10 @@ fn push_touched(
     ensures { OnOk result (AddsAction context.now extent diagnostic.now
         (map view actions.old.items) (map view actions.new.items)) }
 {
-    if !is_touched(extent, diagnostic) {
+    if !do_touch(extent, extent_of(diagnostic.start, diagnostic.end)) {
         return Ok(());
     }
     push_action(alloc, context, diagnostic, actions)
-}
-
-/// Whether a diagnostic touches an extent.
-fn is_touched(extent: Extent, diagnostic: &Diagnostic) -> bool
-    ensures { result ≡ spec.is_touched extent diagnostic.now }
-{
-    diagnostic.start <= extent.end && extent.start <= diagnostic.end
 }
 
 /// Adds the remedy of a diagnostic, where it has one.

@@ -174,7 +174,7 @@ fn related_diagnostic(
 }
 
 /// Returns the bytes from `start` up to `end`.
-fn extent_of(start: usize, end: usize) -> Extent
+pub(crate) fn extent_of(start: usize, end: usize) -> Extent
     ensures { result ≡ spec.extent_of start end }
 {
     Extent { start, end }

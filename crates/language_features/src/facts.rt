@@ -1,4 +1,8 @@
 //! Facts about rules: whether one may match nothing, and its first set.
+ghost use Rattle.std.specs.Prelude.{◌≡◌, IfErr, IfOk, false, slice_index_or};
+ghost use Rattle.language_features.specs.Facts as spec;
+ghost use Rattle.language_features.specs.Facts.{AreFacts, AreFactsBy, SpellsNoneUnlessMemory};
+
 use meta_analysis::{Analysis, Joint, Node, Shape, UnaryOperator, analyze};
 use meta_ast::deep::Deep;
 use meta_base::grammar::Rule;
@@ -22,7 +26,9 @@ pub struct RuleFacts {
 
 /// Returns what is known of the rule of a name; nothing where the text is no grammar, or there is no such
 /// rule.
-pub fn rule_facts(alloc: Global, text: &str, name: &str) -> Result<Option<RuleFacts>, AllocError> {
+pub fn rule_facts(alloc: Global, text: &str, name: &str) -> Result<Option<RuleFacts>, AllocError>
+    ensures { IfOk result (AreFacts text.now name.now) }
+{
     match facts_in(alloc, text, name) {
         Ok(facts) => Ok(facts),
         Err(Fault::Grammar(_)) => Ok(None),
@@ -31,7 +37,10 @@ pub fn rule_facts(alloc: Global, text: &str, name: &str) -> Result<Option<RuleFa
 }
 
 /// Returns what is known of the rule of a name in a grammar.
-fn facts_in(alloc: Global, text: &str, name: &str) -> Result<Option<RuleFacts>, Fault> {
+fn facts_in(alloc: Global, text: &str, name: &str) -> Result<Option<RuleFacts>, Fault>
+    ensures known { IfOk result (AreFacts text.now name.now) }
+    ensures refused { IfErr result (SpellsNoneUnlessMemory text.now) }
+{
     let pairs = parse(alloc, Rule::grammar_rules, text)?;
     let rules = consume_rules_with_spans(alloc, pairs)?;
     let rules = Deep { value: rules };
@@ -44,7 +53,9 @@ fn facts_by(
     alloc: Global,
     analysis: &Analysis<'_, '_>,
     name: &str,
-) -> Result<Option<RuleFacts>, AllocError> {
+) -> Result<Option<RuleFacts>, AllocError>
+    ensures { IfOk result (AreFactsBy analysis.now name.now) }
+{
     let Some(root) = root_of(analysis, name) else {
         return Ok(None);
     };
@@ -56,14 +67,18 @@ fn facts_by(
 }
 
 /// Returns the number of the body of the rule of a name.
-fn root_of(analysis: &Analysis<'_, '_>, name: &str) -> Option<usize> {
+fn root_of(analysis: &Analysis<'_, '_>, name: &str) -> Option<usize>
+    ensures { result ≡ spec.root_of analysis.now name.now }
+{
     let rule = analysis.grammar.names.place_of(name)?;
     analysis.grammar.table.roots.get(rule).copied()
 }
 
 /// Whether a node may match without taking a character.
-fn is_nullable(analysis: &Analysis<'_, '_>, node: usize) -> bool {
-    analysis.facts.nullable.get(node) == Some(&true)
+fn is_nullable(analysis: &Analysis<'_, '_>, node: usize) -> bool
+    ensures { result ≡ slice_index_or analysis.now.facts.nullable.items node false }
+{
+    analysis.facts.nullable.get(node).copied().unwrap_or(false)
 }
 
 /// Returns the expressions that can begin a node, by a depth-first search of the nodes at its start.

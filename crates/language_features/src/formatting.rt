@@ -57,22 +57,22 @@ fn with_touched(extent: Extent, around: Extent, whole: Extent) -> Extent
     ensures { result ≡ spec.with_touched extent around whole }
 {
     if do_touch(extent, whole) {
-        joined(around, whole)
+        join(around, whole)
     } else {
         around
     }
 }
 
 /// Whether two extents touch.
-fn do_touch(extent: Extent, other: Extent) -> bool
+pub(crate) fn do_touch(extent: Extent, other: Extent) -> bool
     ensures { result ≡ spec.do_touch extent other }
 {
     other.start <= extent.end && extent.start <= other.end
 }
 
 /// Returns the bytes from the first start to the last end of two extents.
-fn joined(extent: Extent, other: Extent) -> Extent
-    ensures { result ≡ spec.joined extent other }
+fn join(extent: Extent, other: Extent) -> Extent
+    ensures { result ≡ spec.join extent other }
 {
     Extent {
         start: extent.start.min(other.start),

@@ -1,8 +1,10 @@
 //! Remedies of diagnostics.
-ghost use Rattle.std.specs.Prelude.{IfOk};
-ghost use Rattle.language_features.specs.Remedies.{AppliesFix, IsRemedyBy};
+ghost use Rattle.std.specs.Prelude.{◌≡◌, IfOk, None};
+ghost use Rattle.language_features.specs.Remedies.{AppliesFix, Defines, IsRemedyBy, IsRemedyByCode};
+ghost use Rattle.language_features.specs.Remedies.{Removes};
 ghost use Rattle.language_features.specs.Remedies as spec;
 
+use crate::diagnostics::extent_of;
 use meta_diagnostics::{Code, Diagnostic, Fix, Help};
 use meta_requests::context::Context;
 use meta_symbols::{Extent, Token};
@@ -22,7 +24,7 @@ pub fn remedy_of(
     context: &Context<'_>,
     diagnostic: &Diagnostic,
 ) -> Result<Option<Remedy>, AllocError>
-    ensures { IfOk result (IsRemedyBy (spec.fix_of diagnostic.now.help)) }
+    ensures { IfOk result (IsRemedyBy context.now diagnostic.now diagnostic.now.help) }
 {
     match &diagnostic.help {
         Some(
@@ -37,13 +39,10 @@ pub fn remedy_of(
 
 /// Returns the remedy that applies a fix.
 fn fix_remedy(alloc: Global, fix: &Fix, title: &str) -> Result<Remedy, AllocError>
-    ensures { IfOk result (AppliesFix fix.now) }
+    ensures { IfOk result (AppliesFix fix.now title.now) }
 {
     Ok(Remedy {
-        extent: Extent {
-            start: fix.start,
-            end: fix.end,
-        },
+        extent: extent_of(fix.start, fix.end),
         replacement: String::from_str(alloc, fix.replacement.as_str())?,
         title: String::from_str(alloc, title)?,
     })
@@ -54,61 +53,81 @@ fn remedy_by_code(
     alloc: Global,
     context: &Context<'_>,
     diagnostic: &Diagnostic,
-) -> Result<Option<Remedy>, AllocError> {
+) -> Result<Option<Remedy>, AllocError>
+    ensures { IfOk result (IsRemedyByCode context.now diagnostic.now diagnostic.now.code) }
+{
     match diagnostic.code {
-        Code::UndefinedRule => definition_remedy(alloc, context, diagnostic),
-        Code::Unreachable => removal_of(alloc, context, diagnostic),
+        Code::UndefinedRule => {
+            let name = context.part(extent_of(diagnostic.start, diagnostic.end));
+            Ok(Some(definition_remedy(alloc, context, name)?))
+        }
+        Code::Unreachable => {
+            removal_of(
+                alloc,
+                bar_before(&context.tokens, diagnostic.start),
+                diagnostic,
+            )
+        }
         _ => Ok(None),
     }
 }
 
 /// Returns the remedy of a call of a rule that is not defined: a definition at the end.
-fn definition_remedy(
-    alloc: Global,
-    context: &Context<'_>,
-    diagnostic: &Diagnostic,
-) -> Result<Option<Remedy>, AllocError> {
-    let name = context.part(Extent {
-        start: diagnostic.start,
-        end: diagnostic.end,
-    });
+fn definition_remedy(alloc: Global, context: &Context<'_>, name: &str) -> Result<Remedy, AllocError>
+    ensures { IfOk result (Defines context.now name.now) }
+{
     let end = context.text.len();
-    Ok(Some(Remedy {
-        extent: Extent { start: end, end },
+    Ok(Remedy {
+        extent: extent_of(end, end),
         replacement: format!(in alloc; "\n{name} = {{ \"{name}\" }}\n")?,
         title: format!(in alloc; "define the rule `{name}`")?,
-    }))
+    })
 }
 
 /// Returns the remedy of an alternative that is never taken, its removal with the `|` before it.
 fn removal_of(
     alloc: Global,
-    context: &Context<'_>,
+    bar: Option<Token>,
     diagnostic: &Diagnostic,
-) -> Result<Option<Remedy>, AllocError> {
-    let Some(bar) = bar_before(&context.tokens, diagnostic.start) else {
+) -> Result<Option<Remedy>, AllocError>
+    ensures { IfOk result (Removes diagnostic.now bar) }
+{
+    let Some(bar) = bar else {
         return Ok(None);
     };
     Ok(Some(Remedy {
-        extent: Extent {
-            start: bar.start,
-            end: diagnostic.end,
-        },
+        extent: extent_of(bar.start, diagnostic.end),
         replacement: String::new(alloc),
         title: String::from_str(alloc, "remove this alternative")?,
     }))
 }
 
 /// Returns the last token that ends before an offset, if it is a `|`.
-fn bar_before(tokens: &[Token], offset: usize) -> Option<Token> {
+fn bar_before(tokens: &[Token], offset: usize) -> Option<Token>
+    ensures { result ≡ spec.bar_before offset tokens.now }
+{
+    let last = last_before(tokens, offset)?;
+    if last.is_sign(b'|') { Some(last) } else { None }
+}
+
+/// Returns the last token before an offset that is no comment.
+fn last_before(tokens: &[Token], offset: usize) -> Option<Token>
+    ensures { result ≡ spec.last_before offset None tokens.now }
+{
     let mut last = None;
-    for token in tokens {
-        if token.end > offset {
-            break;
-        }
-        if !token.is_comment() {
+    let mut rest = tokens;
+    while let Some((token, after)) = rest.split_first() {
+        if is_before(*token, offset) {
             last = Some(*token);
         }
+        rest = after;
     }
-    last.filter(|token| token.is_sign(b'|'))
+    last
+}
+
+/// Whether a token is no comment, and ends before an offset.
+fn is_before(token: Token, offset: usize) -> bool
+    ensures { result ≡ spec.is_before offset token }
+{
+    token.end <= offset && !token.is_comment()
 }
