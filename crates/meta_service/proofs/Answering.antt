@@ -1,5 +1,5 @@
 -- Replies of one message.
-use Rattle.std.proofs.Common.{◌≡◌, ◌∙◌, List, ℕ, Option, Some, None, Result, Ok, Err, IfOk, String, IsSomeAnd, inl, inr, refl, string_bytes, subst, sym}
+use Rattle.std.proofs.Common.{◌≡◌, List, ℕ, Option, Some, None, Result, Ok, IfOk, String, IsSomeAnd, inl, inr, refl, string_bytes, subst}
 use Rattle.std.specs.declared.alloc.AllocError.{AllocError}
 use Rattle.std.specs.declared.alloc.Global.{Global}
 use Rattle.language_protocol.specs.declared.messages.Answer.{Answer}

@@ -1,5 +1,5 @@
 -- Answers to requests about open documents.
-use Rattle.std.proofs.Common.{◌≡◌, List, ℕ, Bor, Bool, true, false, Option, Some, None, Result, Ok, Err, IfOk, bytes_eq, codes, subst, refl}
+use Rattle.std.proofs.Common.{◌≡◌, List, ℕ, Bor, true, false, Some, None, Result, Ok, Err, IfOk, bytes_eq, codes, subst, refl}
 use Rattle.std.specs.declared.alloc.AllocError.{AllocError}
 use Rattle.language_protocol.specs.declared.client.Client.{Client}
 use Rattle.language_protocol.specs.declared.documents.Documents.{Documents}
@@ -10,11 +10,6 @@ use Rattle.meta_requests.specs.Symbols.{AreWorkspaceSymbols}
 use Rattle.meta_service.specs.Requests.{AnswersForDocument, AnswersOpen, query_in, request_of}
 use Rattle.meta_service.specs.declared.requests.RequestMethod.{RequestMethod}
 use Rattle.serde_json.specs.Data.{Data}
-
--- nothing is said of an answer
-pub any_answer : (r : Result Answer AllocError) → IfOk r (λ a. Unit {0})
-any_answer (Ok a) = tt
-any_answer (Err e) = tt
 
 -- the symbols of the workspace
 pub opens_workspace : (client : Client) (documents : Documents) (m query : List ℕ) (params : Data) (r : Result Answer AllocError) → bytes_eq m (codes "workspace/symbol") ≡ true → query ≡ query_in params → IfOk r (AreWorkspaceSymbols client documents query) → IfOk r (AnswersOpen client documents m params)

@@ -1,10 +1,12 @@
 -- Answers in the phases of a session.
-use Rattle.std.proofs.Common.{◌≡◌, List, ℕ, Bool, true, false, Result, Ok, Err, IfOk, bytes_eq, codes, subst}
+use Rattle.std.proofs.Common.{◌≡◌, List, ℕ, true, false, Result, Ok, Err, IfOk, bytes_eq, codes, subst}
 use Rattle.std.specs.declared.alloc.AllocError.{AllocError}
+use Rattle.language_protocol.specs.Clients.{client_of}
 use Rattle.language_protocol.specs.declared.client.Client.{Client}
 use Rattle.language_protocol.specs.declared.documents.Documents.{Documents}
 use Rattle.language_protocol.specs.declared.messages.Answer.{Answer}
 use Rattle.language_protocol.specs.declared.messages.Answer.TheVariants as answer
+use Rattle.meta_service.specs.Capabilities.{DescribesServer}
 use Rattle.meta_service.specs.Requests.{AnswersOpen}
 use Rattle.meta_service.specs.Sessions.{AnswersAsked, AnswersIn}
 use Rattle.meta_service.specs.declared.server.Phase.TheVariants.{New, Running}
@@ -13,10 +15,10 @@ use Rattle.serde_json.specs.Data.{Data, null}
 use Rattle.serde_json.specs.View.{view}
 use Rattle.serde_json.specs.declared.value.Value.{Value}
 
--- any answer to `initialize`
-pub answers_first : (client : Client) (documents : Documents) (m : List ℕ) (params : Data) (r : Result Answer AllocError) → bytes_eq m (codes "initialize") ≡ true → IfOk r (AnswersIn New client documents m params)
-answers_first client documents m params (Ok a) e = rw e tt
-answers_first client documents m params (Err x) e = tt
+-- an answer to `initialize` says what the server can do
+pub answers_first : (client : Client) (documents : Documents) (m : List ℕ) (params : Data) (r : Result Answer AllocError) → bytes_eq m (codes "initialize") ≡ true → IfOk r (DescribesServer (client_of params)) → IfOk r (AnswersIn New client documents m params)
+answers_first client documents m params (Ok a) e h = rw e h
+answers_first client documents m params (Err x) e h = tt
 
 -- null answers `shutdown`
 pub answers_shutdown : (client : Client) (documents : Documents) (m : List ℕ) (params : Data) (v : Value) → bytes_eq m (codes "shutdown") ≡ true → view v ≡ null → AnswersIn Running client documents m params (answer.Result v)

@@ -1,3 +1,4 @@
+pub mod Capabilities
 pub mod Notices
 pub mod Replies
 pub mod Requests

@@ -1,5 +1,5 @@
 -- Requests about documents.
-use Rattle.std.specs.Prelude.{◌≡◌, ◌⊎◌, ℕ, List, [], ◌∷◌, MatchBool, MatchOption, Option, bytes_eq, codes, find, option_map, unwrap_or}
+use Rattle.std.specs.Prelude.{◌⊎◌, ℕ, List, [], ◌∷◌, MatchBool, MatchOption, Option, bytes_eq, codes, find, option_map, unwrap_or}
 use Rattle.language_features.specs.Actions.{AreActions}
 use Rattle.language_features.specs.Formatting.{AreFormatting, AreRangeFormatting}
 use Rattle.language_features.specs.Hovers.{IsHover}
@@ -14,6 +14,7 @@ use Rattle.meta_requests.specs.Folding.{AreFolds}
 use Rattle.meta_requests.specs.Highlights.{AreHighlights}
 use Rattle.meta_requests.specs.Names.{IsContextIn, LacksDocument}
 use Rattle.meta_requests.specs.Refusals.{IsPrepared}
+use Rattle.meta_requests.specs.Selections.{AreSelections}
 use Rattle.meta_requests.specs.Semantic.{AreSemanticTokens}
 use Rattle.meta_requests.specs.Symbols.{AreSymbols, AreWorkspaceSymbols}
 use Rattle.meta_requests.specs.declared.context.Context.{Context}
@@ -55,6 +56,7 @@ request_of method = request_among method_names method
 abbrev pub IsAnswerOf : RequestMethod → Context → Data → Answer → Type 0
 IsAnswerOf request.DocumentSymbol context params a = AreSymbols context a
 IsAnswerOf request.FoldingRange context params a = AreFolds context a
+IsAnswerOf request.SelectionRange context params a = AreSelections context params a
 IsAnswerOf request.Definition context params a = AreDefinitions context params a
 IsAnswerOf request.References context params a = AreReferences context params a
 IsAnswerOf request.DocumentHighlight context params a = AreHighlights context params a
@@ -66,7 +68,6 @@ IsAnswerOf request.Formatting context params a = AreFormatting context a
 IsAnswerOf request.RangeFormatting context params a = AreRangeFormatting context params a
 IsAnswerOf request.CodeAction context params a = AreActions context params a
 IsAnswerOf request.SemanticTokens context params a = AreSemanticTokens context a
-IsAnswerOf _ context params a = Unit {0}
 
 -- an answer to a request about the open document that parameters name, or an error where they name none
 abbrev pub AnswersForDocument : Client → Documents → RequestMethod → Data → Answer → Type 0

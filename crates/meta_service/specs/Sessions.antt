@@ -1,12 +1,14 @@
 -- Sessions: the phases, and the replies to messages.
-use Rattle.std.specs.Prelude.{◌≡◌, ◌⊎◌, ℕ, List, Option, Some, None, IfSome, MatchBool, MatchOption, bytes_eq, codes, string_bytes, if◌then◌else◌}
-use Rattle.language_protocol.specs.Documents.{KeepsDocuments}
+use Rattle.std.specs.Prelude.{◌≡◌, ◌⊎◌, ℕ, List, [], Option, Some, None, IfSome, MatchBool, MatchOption, bytes_eq, codes, string_bytes, if◌then◌else◌}
+use Rattle.language_protocol.specs.Clients.{client_of, silent_client}
+use Rattle.language_protocol.specs.Documents.{KeepsDocuments, open_documents}
 use Rattle.language_protocol.specs.Messages.{notification_of, params_of, request_of}
 use Rattle.language_protocol.specs.declared.client.Client.{Client}
 use Rattle.language_protocol.specs.declared.documents.Documents.{Documents}
 use Rattle.language_protocol.specs.declared.messages.Answer.{Answer}
 use Rattle.language_protocol.specs.declared.messages.ErrorCode.{ErrorCode}
 use Rattle.language_protocol.specs.declared.messages.ErrorCode.TheVariants.{InvalidRequest, ServerNotInitialized}
+use Rattle.meta_service.specs.Capabilities.{DescribesServer}
 use Rattle.meta_service.specs.Notices.{Announces, changed_by, notice_in}
 use Rattle.meta_requests.specs.Refusals.{IsNull}
 use Rattle.meta_service.specs.Replies.{IsError, IsOneMessage, IsRefusal, IsResponse}
@@ -39,9 +41,15 @@ refused_in Running method = if bytes_eq method (codes "shutdown") then None
     else (if bytes_eq method (codes "initialize") then Some InvalidRequest else None)
 refused_in ShutDown method = Some InvalidRequest
 
+-- a server at the start of a session
+pub record IsNew (server : Server) : Type 0 where
+  pub phase : phase_of server ≡ New
+  pub client : server.client ≡ silent_client
+  pub documents : open_documents server.documents ≡ []
+
 -- an answer to a request of a method that is not refused in a phase
 abbrev pub AnswersAllowed : Phase → Client → Documents → List ℕ → Data → Answer → Type 0
-AnswersAllowed New client documents method params a = Unit {0}
+AnswersAllowed New client documents method params a = DescribesServer (client_of params) a
 AnswersAllowed Running client documents method params a = MatchBool (bytes_eq method (codes "shutdown"))
     (IsNull a) (AnswersOpen client documents method params a)
 AnswersAllowed ShutDown client documents method params a = ⊥

@@ -3,12 +3,13 @@ ghost use Rattle.std.specs.Prelude.{◌≡◌, IfOk, IfSome, OnOk, Some, bytes_e
 ghost use Rattle.language_protocol.specs.Documents.{KeepsDocuments, document_in};
 ghost use Rattle.language_protocol.specs.Messages as messages;
 ghost use Rattle.language_features.specs.Diagnostics.{Publishes};
+ghost use Rattle.meta_service.specs.Capabilities.{DescribesServer};
 ghost use Rattle.meta_service.specs.Notices as spec;
 ghost use Rattle.meta_service.specs.Notices.{Announces, AnnouncesAt, AnnouncesChange, AnnouncesClosing, AnnouncesOpening, PublishesAt, changed_at, changed_by, notice_in};
 ghost use Rattle.meta_service.specs.Replies.{IsRefusal};
 ghost use Rattle.meta_service.specs.Requests as requests;
 ghost use Rattle.meta_service.specs.Requests.{AnswersForDocument, AnswersOpen};
-ghost use Rattle.meta_service.specs.Sessions.{AnswersAsked, AnswersIn, AnswersRequest, HandlesMessage, RepliesTo, SameSession, TakesNotification, after_request, exit_at, phase_of, status_in};
+ghost use Rattle.meta_service.specs.Sessions.{AnswersAsked, AnswersIn, AnswersRequest, HandlesMessage, IsNew, RepliesTo, SameSession, TakesNotification, after_request, exit_at, phase_of, status_in};
 ghost use Rattle.serde_json.specs.Data as json_data;
 ghost use Rattle.serde_json.specs.View.{view};
 
@@ -57,7 +58,7 @@ pub struct Server {
 impl Server {
     /// Returns a server at the start of a session.
     pub fn new(alloc: Global) -> Server
-        ensures { phase_of result ≡ Phase.New }
+        ensures { IsNew result }
     {
         Server {
             phase: Phase::New,
@@ -129,7 +130,8 @@ impl Server {
         respond(alloc, id, outcome)
     }
 
-    /// Takes a notification. A failure has no answer.
+    /// Takes a notification. A failure has no answer, so no clause tells a notification that is passed over
+    /// from one for which memory was refused.
     fn handle_notification(&mut self, alloc: Global, method: &str, message: &Value) -> Reply
         ensures { TakesNotification self.old self.new method.now
             (messages.params_of (view message.now)) result }
@@ -463,6 +465,8 @@ fn query_in(params: &Value) -> &str
 }
 
 /// Returns the answer to `initialize`.
-fn initialize_answer(alloc: Global, client: Client) -> Result<Answer, AllocError> {
+fn initialize_answer(alloc: Global, client: Client) -> Result<Answer, AllocError>
+    ensures { IfOk result (DescribesServer client) }
+{
     Ok(Answer::Result(initialize_result(alloc, client)?))
 }

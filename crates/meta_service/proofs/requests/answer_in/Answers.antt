@@ -1,4 +1,3 @@
-use Rattle.meta_service.proofs.Opening.{any_answer}
 use Rattle.meta_service.proofs.requests.answer_in.Goals as goal
 
 pub returns-in-DocumentSymbol : goal.returns-in-DocumentSymbol
@@ -8,7 +7,7 @@ pub returns-in-FoldingRange : goal.returns-in-FoldingRange
 returns-in-FoldingRange c = rw c.in-FoldingRange.is c.folding_ranges.ensures
 
 pub returns-in-SelectionRange : goal.returns-in-SelectionRange
-returns-in-SelectionRange c = rw c.in-SelectionRange.is (any_answer c.selection_ranges.result)
+returns-in-SelectionRange c = rw c.in-SelectionRange.is c.selection_ranges.ensures
 
 pub returns-in-Definition : goal.returns-in-Definition
 returns-in-Definition c = rw c.in-Definition.is c.definition.ensures
