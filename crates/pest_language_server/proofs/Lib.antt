@@ -1,0 +1,4 @@
+pub mod Heads
+pub mod Lengths
+pub mod Reading
+pub mod Serving
