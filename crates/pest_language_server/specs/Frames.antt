@@ -130,7 +130,8 @@ IsBodyRead old new said frame.End = IsRestRead old new said false
 
 -- an input loses a head and a body of the length that the head says
 abbrev pub LosesFrame : Option (List ℕ) → Option (List ℕ) → List ℕ → Type 0
-LosesFrame old new body = (bytes : List ℕ) × IsHead bytes (Some (length body)) × Consumes old new (bytes ++ body)
+LosesFrame old new body =
+    (bytes : List ℕ) × IsHead bytes (Some (length body)) × Consumes old new (bytes ++ body)
 
 -- bytes of a frame that has not ended
 abbrev pub IsCutFrame : List ℕ → Type 0
