@@ -1,3 +1,3 @@
-pub mod Arguments
+pub mod Messages
 pub mod Outcomes
 pub mod Processing

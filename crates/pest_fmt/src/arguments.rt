@@ -1,12 +1,13 @@
 //! The command line.
 ghost use Rattle.std.specs.Prelude.{◌≡◌, ◌≢◌, ◌∷◌, [], IfOk, Some, codes};
 ghost use Rattle.clap.specs.Matches.{found_of, one_text};
-ghost use Rattle.pest_fmt.specs.Arguments.{argument_ids};
+ghost use Rattle.clap.specs.Simple.{app_of};
+ghost use Rattle.command_line.specs.Arguments.{HasForm, arguments_of, flag, positionals};
 
 use clap::{Arg, ArgAction, ArgMatches, Command};
+use command_line::{add_argument, flag, new_command, positional};
 use meta_format::{LineEnds, Options};
 use std::alloc::{AllocError, Global};
-use tool_support::version::VERSION;
 
 /// The destination of a formatted text.
 #[derive(Clone, Copy)]
@@ -45,64 +46,56 @@ impl Delivery {
     }
 }
 
+/// The exit statuses, as `--help` shows them.
+const STATUSES: &str =
+    "status: 0 done, 1 something would change or is no grammar, 2 out of memory, \
+     3 a file or the command line can't be read, 4 a file or standard output can't be written";
+
 /// Returns the command line that the program accepts.
 pub fn command<'a>(alloc: Global) -> Result<Command<'a>, AllocError>
-    ensures { IfOk result (λ command. argument_ids command
-        ≡ codes "check" ∷ codes "stdout" ∷ codes "keep-line-ends" ∷ codes "FILE" ∷ []) }
+    ensures name { IfOk result (λ command. (app_of command).top.name ≡ codes "pest-fmt") }
+    ensures arguments { IfOk result (λ command. arguments_of command ≡ flag (codes "check")
+        ∷ flag (codes "stdout") ∷ flag (codes "keep-line-ends") ∷ positionals (codes "FILE") ∷ []) }
 {
-    Command::new(alloc, "pest-fmt")
-        .bin_name("pest-fmt")?
-        .version(VERSION)
-        .about("Formats pest grammars")
-        .after_help(
-            "status: 0 done, 1 something would change or is no grammar, 2 out of memory, \
-             3 a file or the command line can't be read, 4 a file or standard output can't be written",
-        )
-        .arg(check_argument(alloc))?
-        .arg(stdout_argument(alloc)?)?
-        .arg(line_ends_argument(alloc))?
-        .arg(files_argument(alloc))
+    let command = new_command(alloc, "pest-fmt", "Formats pest grammars", STATUSES)?;
+    let command = add_argument(command, check_argument(alloc))?;
+    let command = add_argument(command, stdout_argument(alloc)?)?;
+    let command = add_argument(command, line_ends_argument(alloc))?;
+    add_argument(command, files_argument(alloc))
 }
 
 /// Returns `--check`.
 fn check_argument<'a>(alloc: Global) -> Arg<'a>
-    ensures { result.id.now ≡ codes "check" }
+    ensures { HasForm (flag (codes "check")) result }
 {
-    Arg::new(alloc, "check")
-        .long("check")
-        .action(ArgAction::SetTrue)
-        .help("Change nothing, show what would change, and end with status 1 if anything would")
+    let help = "Change nothing, show what would change, and end with status 1 if anything would";
+    flag(alloc, "check", help)
 }
 
 /// Returns `--stdout`.
 fn stdout_argument<'a>(alloc: Global) -> Result<Arg<'a>, AllocError>
-    ensures { IfOk result (λ argument. argument.id.now ≡ codes "stdout") }
+    ensures { IfOk result (HasForm (flag (codes "stdout"))) }
 {
-    let stdout = Arg::new(alloc, "stdout")
-        .long("stdout")
-        .action(ArgAction::SetTrue)
-        .conflicts_with("check")?;
-    Ok(stdout.help("Write to standard output, and leave the files alone"))
+    let help = "Write to standard output, and leave the files alone";
+    flag(alloc, "stdout", help).conflicts_with("check")
 }
 
 /// Returns `--keep-line-ends`.
 fn line_ends_argument<'a>(alloc: Global) -> Arg<'a>
-    ensures { result.id.now ≡ codes "keep-line-ends" }
+    ensures { HasForm (flag (codes "keep-line-ends")) result }
 {
-    Arg::new(alloc, "keep-line-ends")
-        .long("keep-line-ends")
-        .action(ArgAction::SetTrue)
-        .help("End lines as the first line of each file ends, and not by a line feed alone")
+    let help = "End lines as the first line of each file ends, and not by a line feed alone";
+    flag(alloc, "keep-line-ends", help)
 }
 
 /// Returns the argument for the files.
 fn files_argument<'a>(alloc: Global) -> Arg<'a>
-    ensures { result.id.now ≡ codes "FILE" }
+    ensures { HasForm (positionals (codes "FILE")) result }
 {
-    Arg::new(alloc, "FILE")
+    let help = "A grammar; - or none is standard input, which goes to standard output";
+    positional(alloc, "FILE", help)
         .action(ArgAction::Append)
         .num_args(1..)
-        .help("A grammar; - or none is standard input, which goes to standard output")
 }
 
 /// Returns the delivery that a command line asks for.

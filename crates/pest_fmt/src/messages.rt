@@ -1,5 +1,6 @@
 //! Messages on standard error.
 ghost use Rattle.std.specs.Prelude.{◌≡◌, ◌++◌, IfOk, codes, string_bytes};
+ghost use Rattle.pest_fmt.specs.Messages.{IsRefusal, TellsError};
 ghost use Rattle.tool_support.specs.Escapes.{escaped_bytes};
 
 use meta_base::grammar::Rule;
@@ -8,36 +9,10 @@ use meta_reader::rules::common_name;
 use meta_syntax::grammar::PestParser;
 use std::alloc::{AllocError, Global};
 use tool_support::escape::{escape, escape_lines};
+use tool_support::messages::place_error;
 
 /// The greatest number of expected rules that a message names.
 const NAMED: usize = 5;
-
-/// Returns the message that a file can't be read, and why.
-pub fn cannot_read(alloc: Global, name: &str, why: &str) -> Result<String, AllocError>
-    ensures { IfOk result (λ message. string_bytes message ≡ codes "cannot read "
-        ++ (escaped_bytes name.now ++ (codes ": " ++ (why.now ++ codes "\n")))) }
-{
-    let name = escape(alloc, name)?;
-    format!(in alloc; "cannot read {name}: {why}\n")
-}
-
-/// Returns the message that a file can't be read, since it is not UTF-8.
-pub fn is_not_utf8(alloc: Global, name: &str) -> Result<String, AllocError>
-    ensures { IfOk result (λ message. string_bytes message
-        ≡ codes "cannot read " ++ escaped_bytes name.now ++ codes ": it is not UTF-8\n") }
-{
-    let name = escape(alloc, name)?;
-    format!(in alloc; "cannot read {name}: it is not UTF-8\n")
-}
-
-/// Returns the message that a file can't be written, and why.
-pub fn cannot_write(alloc: Global, name: &str, why: &str) -> Result<String, AllocError>
-    ensures { IfOk result (λ message. string_bytes message ≡ codes "cannot write "
-        ++ (escaped_bytes name.now ++ (codes ": " ++ (why.now ++ codes "\n")))) }
-{
-    let name = escape(alloc, name)?;
-    format!(in alloc; "cannot write {name}: {why}\n")
-}
 
 /// Returns the message that a file is left alone, since its formatted text would be another grammar.
 pub fn cannot_format(alloc: Global, name: &str) -> Result<String, AllocError>
@@ -57,21 +32,32 @@ pub fn refusal_message(
     name: &str,
     text: &str,
     errors: &[Error<Rule>],
-) -> Result<String, AllocError> {
+) -> Result<String, AllocError>
+    ensures { IfOk result (λ message. IsRefusal name.now errors.now (string_bytes message)) }
+{
     let name = escape(alloc, name)?;
     let expected = expected_names(alloc, text)?;
     let mut message = String::new(alloc);
     for error in errors {
-        let found = found_at(alloc, text, start_of(error))?;
-        let printed = format!(in alloc; "{error}")?;
-        let (margin, place) = printed.as_str().split_once("--> ").unwrap_or(("", ""));
-        let place = without_last_line(without_last_line(place));
-        let shown = format!(in alloc;
-            "cannot format {name}: {expected}found {found}\n{margin}--> {name}:{place}\n"
-        )?;
-        message.push_str(shown.as_str())?;
+        let part = error_message(alloc, name.as_str(), text, expected.as_str(), error)?;
+        message.push_str(part.as_str())?;
     }
     escape_lines(alloc, message.as_str())
+}
+
+/// Returns what was expected and found at an error, the place, and the line.
+fn error_message(
+    alloc: Global,
+    name: &str,
+    text: &str,
+    expected: &str,
+    error: &Error<Rule>,
+) -> Result<String, AllocError>
+    ensures { IfOk result (λ part. TellsError name.now error.now (string_bytes part)) }
+{
+    let found = found_at(alloc, text, start_of(error))?;
+    let placed = place_error(alloc, name, error)?;
+    format!(in alloc; "cannot format {name}: {expected}found {found}\n{placed}")
 }
 
 /// Returns the names of the rules that are expected where a text is refused, as `expected A or B, `.
@@ -113,13 +99,5 @@ fn found_at(alloc: Global, text: &str, place: usize) -> Result<String, AllocErro
         Some('`') => String::from_str(alloc, "a grave accent"),
         Some('\u{feff}') => String::from_str(alloc, "a byte order mark"),
         Some(c) => format!(in alloc; "`{c}`"),
-    }
-}
-
-/// Returns a text up to its last line end.
-fn without_last_line(text: &str) -> &str {
-    match text.rsplit_once('\n') {
-        Some((before, _)) => before,
-        None => text,
     }
 }

@@ -3,12 +3,12 @@ ghost use Rattle.std.specs.Prelude.{◌≡◌, [], IfOk};
 ghost use Rattle.pest_fmt.specs.Processing.{IsKnown};
 
 use crate::arguments::{Delivery, Target};
-use crate::messages::{cannot_read, cannot_write, is_not_utf8};
 use crate::processing::{Processed, TextFile, process};
 use meta_format::Options;
 use std::alloc::AllocError;
 use std::io::Write;
 use tool_support::input::read_input;
+use tool_support::messages::{cannot_read, cannot_write, is_not_utf8};
 use tool_support::output::Output;
 use tool_support::replacement::replace;
 use tool_support::status::Status;

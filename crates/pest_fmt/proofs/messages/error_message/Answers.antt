@@ -1,0 +1,14 @@
+use Rattle.std.proofs.lemmas.Result.{IfOk-weaker}
+use Rattle.pest_fmt.proofs.messages.error_message.Goals as goal
+
+pub returns : goal.returns
+returns c =
+    IfOk-weaker c.format.result _ _
+    (λ part written. record {
+      expected = c.args.expected.now;
+      found = _;
+      placed = _;
+      at_place = c.in_ok-placed.ensures;
+      whole = written;
+    })
+    c.format.ensures.ok
