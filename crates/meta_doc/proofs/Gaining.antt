@@ -7,7 +7,7 @@ use Rattle.meta_ast.specs.Ast.{rule_of_code, rules_of}
 use Rattle.meta_ast.specs.declared.ast.Rule as code
 use Rattle.meta_base.specs.Language.Expression.{Grammar, Rule}
 use Rattle.meta_doc.specs.Documents.{EndsWithMarkdownSections, EndsWithSections}
-use Rattle.meta_markup.specs.Links.{AreLinksWithin}
+use Rattle.meta_markup.specs.Links.{AreLinksWithin, AreMarkdownLinksWithin}
 use Rattle.meta_markup.specs.Pages.{AreDefinitions, AreMarkdownSections, AreNames, AreSections, definition_bytes, markdown_section, more_definitions, more_markdown, more_sections, no_markdown, no_sections, section_bytes}
 use Rattle.meta_markup.specs.declared.ebnf.EbnfToken.{EbnfToken}
 use Rattle.meta_markup.specs.declared.markdown.MarkdownToken.{MarkdownToken}
@@ -45,17 +45,24 @@ pub links_named : (names : List (Bor (List ℕ))) (rules : List code.Rule) (toke
     → AreNames (rules_of rules) names → AreLinksWithin (length rules) tokens → AreLinksWithin (length names) tokens
 links_named names rules tokens are h = subst (λ n. AreLinksWithin n tokens) (sym (same_length names rules are)) h
 
+pub markdown_links_named : (names : List (Bor (List ℕ))) (rules : List code.Rule) (tokens : List MarkdownToken)
+    → AreNames (rules_of rules) names → AreMarkdownLinksWithin (length rules) tokens
+    → AreMarkdownLinksWithin (length names) tokens
+markdown_links_named names rules tokens are h =
+    subst (λ n. AreMarkdownLinksWithin n tokens) (sym (same_length names rules are)) h
+
 pub no_markdown_yet : (names : List (Bor (List ℕ))) (page : List ℕ) → EndsWithMarkdownSections names [] page page
 no_markdown_yet names page = ([], no_markdown, sym (append-nil page))
 
 pub one_markdown_more : (names : List (Bor (List ℕ))) (rules others : Grammar) (r : Rule)
-    (before after : List MarkdownToken) (old page new : List ℕ) → EndsWithMarkdownSections names rules old page
+    (before after : List MarkdownToken) (old page new : List ℕ) → AreMarkdownLinksWithin (length names) before
+    → AreMarkdownLinksWithin (length names) after → EndsWithMarkdownSections names rules old page
     → new ≡ page ++ markdown_section names r before after → others ≡ rules ++ r ∷ []
     → EndsWithMarkdownSections names others old new
-one_markdown_more names rules others r before after old page new gained step same =
+one_markdown_more names rules others r before after old page new first last gained step same =
     let section = markdown_section names r before after in (
       gained.0 ++ section,
-      subst (λ rs. AreMarkdownSections names rs (gained.0 ++ section)) (sym same) (more_markdown r before after gained.1),
+      subst (λ rs. AreMarkdownSections names rs (gained.0 ++ section)) (sym same) (more_markdown r before after first last gained.1),
       step ∙ ap (λ t. t ++ section) gained.2 ∙ append_assoc old gained.0 section,
     )
 

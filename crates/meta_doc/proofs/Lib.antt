@@ -1,5 +1,5 @@
 pub mod Asking
 pub mod Gaining
-pub mod Lending
 pub mod Linking
 pub mod Waiting
+pub mod Warned

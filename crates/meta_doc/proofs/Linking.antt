@@ -44,6 +44,13 @@ pub range_more : (a n j : ℕ) → a + n ≡ j → range_with_len a (suc n) ≡ 
 range_more a zero j e = let same : a ≡ j = omega arith in ap (λ k. k ∷ []) same
 range_more a (suc n) j e = ap (λ t. a ∷ t) (range_more (a + 1) n j (omega arith))
 
+pub one_link_more : (old links more : List ℕ) (n : ℕ) → links ≡ old ++ range_with_len 0 n → more ≡ links ++ n ∷ []
+    → more ≡ old ++ range_with_len 0 (n + 1)
+one_link_more old links more n h e =
+    let next : suc n ≡ n + 1 = omega arith in
+    e ∙ ap (λ t. t ++ n ∷ []) h ∙ append_assoc old (range_with_len 0 n) (n ∷ [])
+    ∙ ap (λ t. old ++ t) (sym (range_more 0 n n (omega arith)) ∙ ap (range_with_len 0) next)
+
 -- links are those that are shown
 pub links_shown : (ts : List Markup) → links_of ts ≡ flat_map mark_links (marks_of ts)
 links_shown [] = refl
@@ -96,10 +103,7 @@ pub item_more : (a b c d xs ys zs : List Markup) (old : List ℕ) (n : ℕ) → 
     → links_of xs ≡ [] → links_of ys ≡ n ∷ [] → links_of zs ≡ [] → links_of a ≡ old ++ range_with_len 0 n
     → links_of d ≡ old ++ range_with_len 0 (n + 1)
 item_more a b c d xs ys zs old n e f g x y z h =
-    let next : suc n ≡ n + 1 = omega arith in
-    links_between a b c d xs ys zs (n ∷ []) e f g x y z ∙ ap (λ t. t ++ n ∷ []) h
-    ∙ append_assoc old (range_with_len 0 n) (n ∷ [])
-    ∙ ap (λ t. old ++ t) (sym (range_more 0 n n (omega arith)) ∙ ap (range_with_len 0) next)
+    one_link_more old (links_of a) (links_of d) n h (links_between a b c d xs ys zs (n ∷ []) e f g x y z)
 
 -- links within a bound
 pub within_more : (n : ℕ) (old new : List Markup) (links : List ℕ) → links_of new ≡ links_of old ++ links

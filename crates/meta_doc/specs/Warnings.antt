@@ -1,5 +1,5 @@
 -- The warnings of documents.
-use Rattle.std.specs.Prelude.{◌≡◌, ◌⊎◌, ℕ, List, All, codes}
+use Rattle.std.specs.Prelude.{◌≡◌, ◌⊎◌, ℕ, List, All, Any, codes}
 use Rattle.std.specs.Global.{Vec}
 use Rattle.std.specs.List.{Contains}
 use Rattle.meta_base.specs.Pieces.Saying.{Span, written}
@@ -34,3 +34,20 @@ AreWarnings rules lists = All (λ warnings. All (IsWarning rules) warnings.items
 abbrev pub AllSaid : List ℕ → List Span → List SpannedRule → Type 0
 AllSaid message pieces rules =
     (warning : RuleWarning) → SaysOfOne message pieces warning → IsWarning rules warning
+
+-- a warning says this of a piece
+abbrev pub Says : List ℕ → Span → RuleWarning → Type 0
+Says message piece warning = (warning.text.now ≡ written piece) × (warning.message.now ≡ message)
+
+-- a warning of one of some lists says this of a piece
+abbrev pub Warns : List (Vec RuleWarning) → List ℕ → Span → Type 0
+Warns lists message piece = Any (λ warnings. Any (Says message piece) warnings.items) lists
+
+-- all that some lists warn of, others warn of, too
+abbrev pub KeepsWarnings : List (Vec RuleWarning) → List (Vec RuleWarning) → Type 0
+KeepsWarnings old new = (message : List ℕ) (piece : Span) → Warns old message piece → Warns new message piece
+
+-- some lists warn of each alternative of rules that is never taken, and of each range that matches nothing
+pub record HasAllWarnings (rules : List SpannedRule) (lists : List (Vec RuleWarning)) : Type 0 where
+  pub alternatives : All (Warns lists unreachable) (unreachable_alternatives rules)
+  pub ranges : All (Warns lists reversed) (reversed_ranges rules)

@@ -5,6 +5,7 @@ ghost use Rattle.meta_doc.specs.Nullability.{DecidesNullable};
 use meta_analysis::{Analysis, Joint, Shape, UnaryOperator};
 use meta_ast::ast::{Expr, RuleType};
 use meta_diagram::leaf_label;
+use meta_names::{comment_name, whitespace_name};
 use meta_spanned::ParserExpr;
 use meta_warnings::is_blank_name;
 use std::alloc::{AllocError, Global};
@@ -229,8 +230,8 @@ impl FirstSearch<'_, '_, '_> {
         if is_atomic {
             return Ok(());
         }
-        self.enter_name("COMMENT", false)?;
-        self.enter_name("WHITESPACE", false)
+        self.enter_name(comment_name(), false)?;
+        self.enter_name(whitespace_name(), false)
     }
 
     /// Visits a node without operands.

@@ -1,5 +1,6 @@
 //! Expressions in EBNF, iteratively, with a stack of steps.
 use meta_ast::ast::Expr;
+use meta_builtins::{Builtin, CharSet};
 use meta_markup::{EbnfToken, EbnfWord, is_plain};
 use std::alloc::{AllocError, Global};
 use std::collections::HashMap;
@@ -199,14 +200,18 @@ impl<'e> TermWriter<'e> {
         if numbers.contains_key(name) {
             return self.token(EbnfToken::Name(name));
         }
-        if name == "NEWLINE" {
-            return self.word(EbnfWord::LineEnd);
+        match Builtin::from_name(name) {
+            Some(Builtin::Newline) => self.word(EbnfWord::LineEnd),
+            Some(Builtin::Set(set)) => self.class(ranges_of(set)),
+            _ => {
+                self.open(context.is_operand())?;
+                self.comment(EbnfToken::Comment(name))
+            }
         }
-        let ranges = ranges_of(name);
-        if ranges.is_empty() {
-            self.open(context.is_operand())?;
-            return self.comment(EbnfToken::Comment(name));
-        }
+    }
+
+    /// Writes a class of characters.
+    fn class(&mut self, ranges: &[(char, char)]) -> Result<(), AllocError> {
         self.word(EbnfWord::RangeStart)?;
         for (first, last) in ranges {
             self.bounds(*first, *last)?;
@@ -352,21 +357,19 @@ fn is_string(text: &str) -> bool {
     text.chars().all(|c| is_plain(c))
 }
 
-/// The ranges of the characters that a builtin matches; none for a builtin that is no class of ASCII
-/// characters.
-fn ranges_of(name: &str) -> &'static [(char, char)] {
-    match name {
-        "ANY" => &[('\0', '\u{10ffff}')],
-        "ASCII" => &[('\0', '\u{7f}')],
-        "ASCII_DIGIT" => &[('0', '9')],
-        "ASCII_NONZERO_DIGIT" => &[('1', '9')],
-        "ASCII_BIN_DIGIT" => &[('0', '1')],
-        "ASCII_OCT_DIGIT" => &[('0', '7')],
-        "ASCII_HEX_DIGIT" => &[('0', '9'), ('a', 'f'), ('A', 'F')],
-        "ASCII_ALPHA_LOWER" => &[('a', 'z')],
-        "ASCII_ALPHA_UPPER" => &[('A', 'Z')],
-        "ASCII_ALPHA" => &[('a', 'z'), ('A', 'Z')],
-        "ASCII_ALPHANUMERIC" => &[('a', 'z'), ('A', 'Z'), ('0', '9')],
-        _ => &[],
+/// The ranges of the characters of a set.
+fn ranges_of(set: CharSet) -> &'static [(char, char)] {
+    match set {
+        CharSet::Any => &[('\0', '\u{10ffff}')],
+        CharSet::Ascii => &[('\0', '\u{7f}')],
+        CharSet::AsciiDigit => &[('0', '9')],
+        CharSet::AsciiNonzeroDigit => &[('1', '9')],
+        CharSet::AsciiBinDigit => &[('0', '1')],
+        CharSet::AsciiOctDigit => &[('0', '7')],
+        CharSet::AsciiHexDigit => &[('0', '9'), ('a', 'f'), ('A', 'F')],
+        CharSet::AsciiAlphaLower => &[('a', 'z')],
+        CharSet::AsciiAlphaUpper => &[('A', 'Z')],
+        CharSet::AsciiAlpha => &[('a', 'z'), ('A', 'Z')],
+        CharSet::AsciiAlphanumeric => &[('a', 'z'), ('A', 'Z'), ('0', '9')],
     }
 }

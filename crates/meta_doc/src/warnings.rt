@@ -1,7 +1,9 @@
 //! Warnings that are definite, by the rules in which they are.
-ghost use Rattle.std.specs.Prelude.{◌≡◌, List, IfOk, OnOk, length, map};
-ghost use Rattle.meta_base.specs.Pieces.Saying.{piece_of};
-ghost use Rattle.meta_doc.specs.Warnings.{AllSaid, AreWarnings, IsWarning};
+ghost use Rattle.std.specs.Prelude.{◌≡◌, ◌<◌, ℕ, List, All, IfOk, OnOk, length, map};
+ghost use Rattle.meta_base.specs.Pieces.Saying.{Span as Piece, piece_of};
+ghost use Rattle.meta_doc.specs.Warnings.{AllSaid, AreWarnings, HasAllWarnings, IsWarning, KeepsWarnings, Says, Warns, reversed, unreachable};
+ghost use Rattle.meta_warnings.specs.Choices as choices;
+ghost use Rattle.meta_warnings.specs.Ranges as ranges;
 ghost use Rattle.meta_spanned.specs.Nodes.{rule_views};
 ghost use Rattle.meta_spanned.specs.Spanned.{SpannedRule};
 
@@ -28,6 +30,8 @@ pub fn find_warnings<'i>(
 ) -> Result<Vec<Vec<RuleWarning<'i>>>, AllocError>
     ensures of_each_rule { IfOk result (λ lists. length lists.items ≡ length sources.now) }
     ensures definite { IfOk result (λ lists. AreWarnings (rule_views rules.now) lists.items) }
+    ensures none_missing { IfOk result (λ lists. 0 < length sources.now
+        → HasAllWarnings (rule_views rules.now) lists.items) }
 {
     let mut warnings = no_warnings(alloc, sources.len())?;
     add_alternatives(alloc, sources, rules, &mut warnings)?;
@@ -57,6 +61,10 @@ fn add_alternatives<'i>(
     ensures alike { OnOk result (length warnings.new.items ≡ length warnings.old.items) }
     ensures definite { OnOk result (AreWarnings (rule_views rules.now) warnings.old.items
         → AreWarnings (rule_views rules.now) warnings.new.items) }
+    ensures kept { OnOk result (KeepsWarnings warnings.old.items warnings.new.items) }
+    ensures added { OnOk result (0 < length sources.now → length warnings.old.items ≡ length sources.now
+        → All (Warns warnings.new.items unreachable)
+        (choices.unreachable_alternatives (rule_views rules.now))) }
 {
     let unreachable = unreachable_alternatives(alloc, rules)?;
     let message = "this alternative is never taken: one before it begins all that it matches";
@@ -73,6 +81,9 @@ fn add_ranges<'i>(
     ensures alike { OnOk result (length warnings.new.items ≡ length warnings.old.items) }
     ensures definite { OnOk result (AreWarnings (rule_views rules.now) warnings.old.items
         → AreWarnings (rule_views rules.now) warnings.new.items) }
+    ensures kept { OnOk result (KeepsWarnings warnings.old.items warnings.new.items) }
+    ensures added { OnOk result (0 < length sources.now → length warnings.old.items ≡ length sources.now
+        → All (Warns warnings.new.items reversed) (ranges.reversed_ranges (rule_views rules.now))) }
 {
     let reversed = reversed_ranges(alloc, rules)?;
     let message = "this range matches nothing: its first character is above its last";
@@ -90,6 +101,9 @@ fn add_warnings<'i>(
     ensures definite { OnOk result ((rules : List SpannedRule)
         → AllSaid message.now (map piece_of parts.now) rules
         → AreWarnings rules warnings.old.items → AreWarnings rules warnings.new.items) }
+    ensures kept { OnOk result (KeepsWarnings warnings.old.items warnings.new.items) }
+    ensures added { OnOk result (0 < length sources.now → length warnings.old.items ≡ length sources.now
+        → All (Warns warnings.new.items message.now) (map piece_of parts.now)) }
 {
     for part in parts {
         let start = part.start();
@@ -112,6 +126,9 @@ fn add_warning<'i>(
     ensures alike { OnOk result (length warnings.new.items ≡ length warnings.old.items) }
     ensures definite { OnOk result ((rules : List SpannedRule) → IsWarning rules warning.entry
         → AreWarnings rules warnings.old.items → AreWarnings rules warnings.new.items) }
+    ensures kept { OnOk result (KeepsWarnings warnings.old.items warnings.new.items) }
+    ensures added { OnOk result (rule < length warnings.old.items → (message : List ℕ) (piece : Piece)
+        → Says message piece warning.entry → Warns warnings.new.items message piece) }
 {
     if let Some(others) = warnings.get_mut(rule) {
         others.push(warning)?;

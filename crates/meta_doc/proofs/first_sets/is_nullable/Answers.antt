@@ -6,7 +6,7 @@ use Rattle.meta_analysis.proofs.Roots.{nullable_nodes}
 use Rattle.meta_analysis.specs.Names.{grammar_of}
 use Rattle.meta_analysis.specs.declared.analysis.Analysis.{Analysis}
 use Rattle.meta_base.specs.Language.WellFormed.{IsNullable}
-use Rattle.meta_doc.proofs.Lending.{lent}
+use Rattle.meta_diagram.proofs.Lending.{lent}
 use Rattle.meta_spanned.specs.Erasure.{without_spans}
 use Rattle.meta_spanned.specs.Nodes.{view}
 use Rattle.meta_spanned.specs.declared.node.ParserRule.{ParserRule}

@@ -1,8 +1,11 @@
-use Rattle.std.proofs.Common.{[], ◌++◌, ◌∷◌, subst, sym}
+use Rattle.std.proofs.Common.{[], ◌++◌, ◌∷◌, ◌∙◌, List, subst, sym}
+use Rattle.std.proofs.lemmas.List.{get_or_default}
 use Rattle.std.proofs.lemmas.List.Elements.{All-push, All-same, All-set}
+use Rattle.std.proofs.lemmas.List.Quantifiers.{Any-push, any-set}
 use Rattle.std.specs.Global.{Vec}
-use Rattle.std.specs.List.{All}
-use Rattle.meta_doc.specs.Warnings.{IsWarning}
+use Rattle.std.specs.List.{All, Any}
+use Rattle.meta_doc.proofs.Warned.{any_after_set, any_of_more}
+use Rattle.meta_doc.specs.Warnings.{IsWarning, Says}
 use Rattle.meta_doc.specs.declared.warnings.RuleWarning.{RuleWarning}
 use Rattle.meta_doc.proofs.warnings.add_warning.Goals as goal
 
@@ -15,3 +18,23 @@ returns-in_ok-push-clause-definite c = λ rules warned before.
     (All-same (IsWarning rules) c.push.new.self.items (others.items ++ c.args.warning ∷ []) c.in_ok-push.ensures.items
     (All-push (IsWarning rules) others.items c.args.warning here warned))
     before
+
+pub returns-in_ok-push-clause-kept : goal.returns-in_ok-push-clause-kept
+returns-in_ok-push-clause-kept c = λ message piece before.
+    let P : Vec RuleWarning → Type 0 = λ warnings. Any (Says message piece) warnings.items in
+    let lists = c.args.warnings.now.items in
+    let others = c.in-Some.others.now in
+    let item = c.in-Some.ensures.item in
+    any_after_set P lists c.args.rule c.push.new.self item.3.0
+    (λ held.
+    subst (λ (items : List RuleWarning). Any (Says message piece) items) (sym c.in_ok-push.ensures.items)
+    (any_of_more (Says message piece) others.items c.args.warning
+    (subst P (get_or_default lists c.args.rule c.push.new.self others item.3.0 ∙ sym item.1) held)))
+    before
+
+pub returns-in_ok-push-clause-added : goal.returns-in_ok-push-clause-added
+returns-in_ok-push-clause-added c = λ l message piece said.
+    any-set (λ (warnings : Vec RuleWarning). Any (Says message piece) warnings.items) c.args.warnings.now.items c.args.rule
+    c.push.new.self l
+    (subst (λ (items : List RuleWarning). Any (Says message piece) items) (sym c.in_ok-push.ensures.items)
+    (Any-push (Says message piece) c.in-Some.others.now.items c.args.warning said))

@@ -1,7 +1,10 @@
 use Rattle.std.proofs.Common.{◌≡◌, ◌∙◌, ℕ, ◌<◌, List, ap, arith, get_or, length, map, refl, subst, sym}
-use Rattle.std.proofs.lemmas.List.{get_or-map, length-map}
-use Rattle.std.specs.List.{Contains}
+use Rattle.std.proofs.lemmas.List.{get_or-map, length-map, take_all}
+use Rattle.std.specs.List.{All, Contains}
+use Rattle.meta_base.specs.declared.runtime.places.Span as code_span
 use Rattle.meta_base.specs.Pieces.Saying.{piece_of}
+use Rattle.meta_doc.proofs.Warned.{one_warned_more}
+use Rattle.meta_doc.specs.Warnings.{Warns}
 use Rattle.meta_doc.proofs.warnings.add_warnings.Goals as goal
 
 mapped : {A B : Type 0} (f : A → B) (xs : List A) (k : ℕ) (x : A) → k < length xs → x ≡ get_or xs k x → Contains (map f xs) (f x)
@@ -22,4 +25,16 @@ loop-part-preserved c =
             says = refl;
           }))
           (c.loop-part.invariant.definite rules said before);
+      kept = λ message piece held.
+          c.in_ok-add_warning.ensures.kept message piece (c.loop-part.invariant.kept message piece held);
+      added = λ some alike.
+          one_warned_more c.loop-part.warnings.items _ c.args.message.now c.args.parts.now c.loop-part.part-index part
+          c.loop-part-test.true c.part-item.is c.in_ok-add_warning.ensures.kept (c.loop-part.invariant.added some alike)
+          (c.in_ok-add_warning.ensures.added (omega (arith, some, alike, c.loop-part.invariant.alike)) c.args.message.now
+          (piece_of part) (c.as_str.ensures, refl));
     }
+
+pub returns-clause-added : goal.returns-clause-added
+returns-clause-added c = λ some alike.
+    subst (λ (parts : List code_span.Span). All (Warns c.loop-part.warnings.items c.args.message.now) (map piece_of parts))
+    (take_all c.loop-part.part-index c.args.parts.now c.loop-part-test.false) (c.loop-part.invariant.added some alike)

@@ -1,6 +1,7 @@
-use Rattle.std.proofs.Common.{◌≡◌, List, length, map}
+use Rattle.std.proofs.Common.{◌≡◌, ◌<◌, List, length, map, take}
+use Rattle.std.specs.List.{All}
 use Rattle.meta_base.specs.Pieces.Saying.{piece_of}
-use Rattle.meta_doc.specs.Warnings.{AllSaid, AreWarnings}
+use Rattle.meta_doc.specs.Warnings.{AllSaid, AreWarnings, KeepsWarnings, Warns}
 use Rattle.meta_spanned.specs.Spanned.{SpannedRule}
 use Rattle.meta_doc.proofs.warnings.add_warnings.Given as goal
 
@@ -9,4 +10,7 @@ invariant-loop-part l = record {
   alike : length l.warnings.items ≡ length l.fn.warnings.items;
   definite : (rules : List SpannedRule) → AllSaid l.message (map piece_of l.parts) rules
       → AreWarnings rules l.fn.warnings.items → AreWarnings rules l.warnings.items;
+  kept : KeepsWarnings l.fn.warnings.items l.warnings.items;
+  added : 0 < length l.sources → length l.fn.warnings.items ≡ length l.sources
+      → All (Warns l.warnings.items l.message) (map piece_of (take l.part-index l.parts));
 }
