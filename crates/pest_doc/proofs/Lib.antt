@@ -1,1 +1,2 @@
 pub mod SamePairs
+pub mod Showing

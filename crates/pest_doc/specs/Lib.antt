@@ -1,2 +1,4 @@
 pub mod Arguments
+pub mod Messages
 pub mod Outcomes
+pub mod Refusals

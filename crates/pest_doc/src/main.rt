@@ -6,13 +6,14 @@ mod messages;
 mod run;
 
 use arguments::{command, format_of};
-use messages::{NO_DIAGRAM, cannot_read, cannot_write, is_not_utf8};
+use messages::NO_DIAGRAM;
 use run::{DocumentOutcome, Request, outcome_of};
 use std::alloc::AllocError;
 use std::io::{self, Write};
 use std::process::ExitCode;
 use std::{env, fs};
 use tool_support::input::read_input;
+use tool_support::messages::{cannot_read, cannot_write, is_not_utf8};
 use tool_support::status::Status;
 
 /// Writes a text to the file of a name, or to standard output where none is given.
@@ -39,7 +40,8 @@ fn print(rt: &HostRuntime, request: Request<'_>, out: Option<&str>) -> Result<St
     let bytes = match read_input(rt, request.name) {
         Ok(bytes) => bytes,
         Err(error) => {
-            let message = cannot_read(alloc, request.name, &error)?;
+            let why = format!(in alloc; "{error}")?;
+            let message = cannot_read(alloc, request.name, why.as_str())?;
             return Ok(report(rt, message.as_str(), Status::Unreadable));
         }
     };
@@ -58,8 +60,10 @@ fn deliver(rt: &HostRuntime, document: &str, out: Option<&str>) -> Result<Status
     match write(rt, document, out) {
         Ok(()) => Ok(Status::Done),
         Err(error) => {
+            let alloc = rt.alloc();
             let name = out.unwrap_or("standard output");
-            let message = cannot_write(rt.alloc(), name, &error)?;
+            let why = format!(in alloc; "{error}")?;
+            let message = cannot_write(alloc, name, why.as_str())?;
             Ok(report(rt, message.as_str(), Status::Unwritable))
         }
     }

@@ -1,34 +1,24 @@
 //! Messages on standard error. A character that a terminal obeys is shown as an escape.
-use diagnostic_data::diagnose_errors;
+ghost use Rattle.std.specs.Prelude.{◌≡◌, ◌++◌, IfOk, codes, string_bytes};
+ghost use Rattle.tool_support.specs.Escapes.{escaped_bytes};
+ghost use Rattle.std.specs.List.{AllZip};
+ghost use Rattle.diagnostic_data.specs.Reports.{IsMessageOf, ReportsError};
+ghost use Rattle.pest_doc.specs.Messages.{IsAbsence, IsNamedAbsence};
+ghost use Rattle.pest_doc.specs.Refusals.{IsRefusal, ShowsError};
+ghost use Rattle.tool_support.specs.Messages.{ArePartsOf};
+
+use diagnostic_data::{Diagnostic, diagnose_errors};
 use meta_base::grammar::Rule;
 use meta_base::runtime::Error;
 use meta_hints::nearest_name;
 use meta_reader::rules::common_name;
 use meta_syntax::grammar::PestParser;
 use std::alloc::{AllocError, Global};
-use std::io;
 use tool_support::escape::{escape, escape_lines};
+use tool_support::messages::place_error;
 
 /// The message for a rule that is named where no diagram is asked for.
 pub const NO_DIAGRAM: &str = "--rule is for --format svg alone; pest-doc --help shows the usage\n";
-
-/// Returns the message that a file can't be read, and why.
-pub fn cannot_read(alloc: Global, name: &str, why: &io::Error) -> Result<String, AllocError> {
-    let name = escape(alloc, name)?;
-    format!(in alloc; "cannot read {name}: {why}\n")
-}
-
-/// Returns the message that a file can't be written, and why.
-pub fn cannot_write(alloc: Global, name: &str, why: &io::Error) -> Result<String, AllocError> {
-    let name = escape(alloc, name)?;
-    format!(in alloc; "cannot write {name}: {why}\n")
-}
-
-/// Returns the message that a file can't be read, since it is not UTF-8.
-pub fn is_not_utf8(alloc: Global, name: &str) -> Result<String, AllocError> {
-    let name = escape(alloc, name)?;
-    format!(in alloc; "cannot read {name}: it is not UTF-8\n")
-}
 
 /// Returns the message that a grammar has no rule of a name, with the nearest of its names, if one is near;
 /// where no name is given, that it has no rule at all.
@@ -37,16 +27,41 @@ pub fn has_no_rule(
     file: &str,
     rule: Option<&str>,
     names: &[&str],
-) -> Result<String, AllocError> {
+) -> Result<String, AllocError>
+    ensures { IfOk result (λ message. IsAbsence file.now rule.entry names.now
+        (string_bytes message)) }
+{
+    match rule {
+        Some(rule) => has_none_named(alloc, file, rule, names),
+        None => has_no_rules(alloc, file),
+    }
+}
+
+/// Returns the message that a grammar has no rule of a name, with the nearest of its names, if one is near.
+fn has_none_named(
+    alloc: Global,
+    file: &str,
+    rule: &str,
+    names: &[&str],
+) -> Result<String, AllocError>
+    ensures { IfOk result (λ message. IsNamedAbsence file.now rule.now names.now
+        (string_bytes message)) }
+{
     let file = escape(alloc, file)?;
-    let Some(rule) = rule else {
-        return format!(in alloc; "{file} has no rules\n");
-    };
     let shown = escape(alloc, rule)?;
     match nearest_name(alloc, rule, names)? {
         Some(near) => format!(in alloc; "{file} has no rule {shown}; there is {near}\n"),
         None => format!(in alloc; "{file} has no rule {shown}\n"),
     }
+}
+
+/// Returns the message that a grammar has no rules.
+fn has_no_rules(alloc: Global, file: &str) -> Result<String, AllocError>
+    ensures { IfOk result (λ message. string_bytes message
+        ≡ escaped_bytes file.now ++ codes " has no rules\n") }
+{
+    let file = escape(alloc, file)?;
+    format!(in alloc; "{file} has no rules\n")
 }
 
 /// Returns the message that a grammar is refused: for each error what is wrong, the place, and the line.
@@ -55,38 +70,46 @@ pub fn refusal_message(
     name: &str,
     text: &str,
     errors: &[Error<Rule>],
-) -> Result<String, AllocError> {
+) -> Result<String, AllocError>
+    ensures { IfOk result (λ message. IsRefusal name.now errors.now (string_bytes message)) }
+{
     let expected = expected_names(alloc, text)?;
     let diagnostics = diagnose_errors(alloc, text, errors, &expected)?;
-    let mut message = String::new(alloc);
-    for (i, error) in errors.iter().enumerate() {
-        if let Some(diagnostic) = diagnostics.get(i) {
-            let part = error_message(alloc, name, error, diagnostic.message.as_str())?;
-            message.push_str(part.as_str())?;
-        }
-    }
-    escape_lines(alloc, message.as_str())
+    let shown = show_errors(alloc, name, errors, &diagnostics)?;
+    escape_lines(alloc, shown.as_str())
 }
 
-/// Returns what is wrong, and the place and the line of an error.
-fn error_message(
+/// Shows errors with the messages of their diagnostics.
+fn show_errors(
+    alloc: Global,
+    name: &str,
+    errors: &[Error<Rule>],
+    diagnostics: &[Diagnostic],
+) -> Result<String, AllocError>
+    requires { AllZip ReportsError errors.now diagnostics.now }
+    ensures { IfOk result (λ text. ArePartsOf (ShowsError name.now) errors.now (string_bytes text)) }
+{
+    let mut text = String::new(alloc);
+    for (i, error) in errors.iter().enumerate() {
+        let message = diagnostics[i].message.as_str();
+        let part = show_error(alloc, name, error, message)?;
+        text.push_str(part.as_str())?;
+    }
+    Ok(text)
+}
+
+/// Shows what is wrong, and the place and the line of an error.
+fn show_error(
     alloc: Global,
     name: &str,
     error: &Error<Rule>,
     what: &str,
-) -> Result<String, AllocError> {
-    let printed = format!(in alloc; "{error}")?;
-    let (margin, place) = printed.as_str().split_once("--> ").unwrap_or(("", ""));
-    let place = without_last_line(without_last_line(place));
-    format!(in alloc; "error: {what}\n{margin}--> {name}:{place}\n")
-}
-
-/// Returns a text up to its last line end.
-fn without_last_line(text: &str) -> &str {
-    match text.rsplit_once('\n') {
-        Some((before, _)) => before,
-        None => text,
-    }
+) -> Result<String, AllocError>
+    ensures { IfOk result (λ part. IsMessageOf error.now.variant what.now
+        → ShowsError name.now error.now (string_bytes part)) }
+{
+    let placed = place_error(alloc, name, error)?;
+    format!(in alloc; "error: {what}\n{placed}")
 }
 
 /// Returns the names of the rules that are expected where a text is refused.

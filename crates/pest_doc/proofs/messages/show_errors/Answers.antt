@@ -1,0 +1,29 @@
+use Rattle.std.proofs.Common.{◌<◌, arith, get_or, length, subst, sym}
+use Rattle.std.proofs.lemmas.Slice.Zip.{AllZip-long}
+use Rattle.diagnostic_data.specs.Reports.{IsMessageOf, ReportsError}
+use Rattle.pest_doc.proofs.Showing.{zip_at}
+use Rattle.pest_doc.specs.Refusals.{ShowsError}
+use Rattle.tool_support.proofs.Parts.{one_part_more}
+use Rattle.pest_doc.proofs.messages.show_errors.Goals as goal
+
+pub bounds-diagnostics-i : goal.bounds-diagnostics-i
+bounds-diagnostics-i c =
+    omega (arith, AllZip-long ReportsError c.args.errors.now c.args.diagnostics.now c.requires)
+
+pub loop-i-preserved : goal.loop-i-preserved
+loop-i-preserved c =
+    let name = c.args.name.now in
+    let errors = c.args.errors.now in
+    let i = c.loop-i.i in
+    let error = c.index-errors-i.result in
+    let default = c.index-diagnostics-i.result in
+    let diagnostic = get_or c.args.diagnostics.now i default in
+    let l : i < length errors = omega arith in
+    let reported : ReportsError error diagnostic =
+    subst (λ e. ReportsError e diagnostic) (sym c.index-errors-i.is)
+    (zip_at ReportsError errors c.args.diagnostics.now i error default c.requires l) in
+    let said : IsMessageOf error.variant c.as_str-message.result.now =
+    subst (IsMessageOf error.variant) (sym c.as_str-message.ensures.value) reported.message in
+    let shown : ShowsError name error c.as_str.result.now =
+    subst (ShowsError name error) (sym c.as_str.ensures.value) (c.in_ok-part.ensures said) in
+    one_part_more (ShowsError name) errors i error _ _ _ l c.index-errors-i.is c.loop-i.invariant shown c.in_ok-push_str.ensures.bytes
