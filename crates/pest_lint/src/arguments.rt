@@ -1,11 +1,13 @@
 //! The command line.
-ghost use Rattle.std.specs.Prelude.{◌≡◌, None, Some, codes, false, true};
+ghost use Rattle.std.specs.Prelude.{◌≡◌, ◌∷◌, [], IfOk, None, Some, codes, false, true};
 ghost use Rattle.clap.specs.Matches.{first_value, found_of, one_text};
+ghost use Rattle.clap.specs.Simple.{app_of};
+ghost use Rattle.command_line.specs.Arguments.{HasForm, arguments_of, flag, option, options, positionals};
 
 use clap::{Arg, ArgAction, ArgMatches, Command};
+use command_line::{add_argument, flag, new_command, option, positional};
 use lint_output::Style;
 use std::alloc::{AllocError, Global};
-use tool_support::version::VERSION;
 
 /// The form in which diagnostics are printed.
 #[derive(Clone, Copy, Debug, PartialEq, Eq)]
@@ -34,98 +36,93 @@ const STATUSES: &str =
      3 a file or the command line can't be read, 4 a file or standard output can't be written";
 
 /// The arguments that the program takes.
-pub fn command<'a>(alloc: Global) -> Result<Command<'a>, AllocError> {
-    Command::new(alloc, "pest-lint")
-        .bin_name("pest-lint")?
-        .version(VERSION)
-        .about("Reports what is wrong with pest grammars, and how to mend it")
-        .after_help(STATUSES)
-        .arg(format_argument(alloc))?
-        .arg(colour_argument(alloc))?
-        .arg(flag(alloc, "deny-warnings", "Let warnings end with status 1"))?
-        .arg(warn_argument(alloc))?
-        .arg(flag(
-            alloc,
-            "fix",
-            "Fix syntax errors whose help shows how, replace the files, and report the rest",
-        ))?
-        .arg(start_argument(alloc))?
-        .arg(explain_argument(alloc))?
-        .arg(file_argument(alloc))
+pub fn command<'a>(alloc: Global) -> Result<Command<'a>, AllocError>
+    ensures name { IfOk result (λ command. (app_of command).top.name ≡ codes "pest-lint") }
+    ensures arguments { IfOk result (λ command. arguments_of command ≡ option (codes "format")
+        ∷ option (codes "color") ∷ flag (codes "deny-warnings") ∷ option (codes "warn") ∷ flag (codes "fix")
+        ∷ options (codes "start") ∷ option (codes "explain") ∷ positionals (codes "FILE") ∷ []) }
+{
+    let about = "Reports what is wrong with pest grammars, and how to mend it";
+    let command = new_command(alloc, "pest-lint", about, STATUSES)?;
+    let command = add_argument(command, format_argument(alloc))?;
+    let command = add_argument(command, colour_argument(alloc))?;
+    let command = add_argument(command, deny_argument(alloc))?;
+    let command = add_argument(command, warn_argument(alloc))?;
+    let command = add_argument(command, fix_argument(alloc))?;
+    let command = add_argument(command, start_argument(alloc))?;
+    let command = add_argument(command, explain_argument(alloc))?;
+    add_argument(command, file_argument(alloc))
 }
 
 /// `--format`.
 fn format_argument<'a>(alloc: Global) -> Arg<'a>
-    ensures { result.id.now ≡ codes "format" }
+    ensures { HasForm (option (codes "format")) result }
 {
-    Arg::new(alloc, "format")
-        .long("format")
+    option(alloc, "format", "How diagnostics are printed")
         .value_parser(["text", "json", "sarif", "github"].as_slice())
         .default_value("text")
-        .help("How diagnostics are printed")
 }
 
 /// `--color`.
 fn colour_argument<'a>(alloc: Global) -> Arg<'a>
-    ensures { result.id.now ≡ codes "color" }
+    ensures { HasForm (option (codes "color")) result }
 {
-    Arg::new(alloc, "color")
-        .long("color")
+    option(alloc, "color", "Colours: on a terminal, always or never")
         .value_parser(["auto", "always", "never"].as_slice())
         .default_value("auto")
-        .help("Colours: on a terminal, always or never")
 }
 
-/// `--start`.
-fn start_argument<'a>(alloc: Global) -> Arg<'a>
-    ensures { result.id.now ≡ codes "start" }
+/// `--deny-warnings`.
+fn deny_argument<'a>(alloc: Global) -> Arg<'a>
+    ensures { HasForm (flag (codes "deny-warnings")) result }
 {
-    Arg::new(alloc, "start")
-        .long("start")
-        .value_name("NAME")
-        .action(ArgAction::Append)
-        .help("A rule with which matching starts, so that it needs no call")
+    flag(alloc, "deny-warnings", "Let warnings end with status 1")
 }
 
 /// `--warn`.
 fn warn_argument<'a>(alloc: Global) -> Arg<'a>
-    ensures { result.id.now ≡ codes "warn" }
+    ensures { HasForm (option (codes "warn")) result }
 {
-    Arg::new(alloc, "warn")
-        .long("warn")
+    let help = "Report names of keywords and builtins, and each rule without a call, too";
+    option(alloc, "warn", help)
         .value_name("all")
         .value_parser(["all"].as_slice())
-        .help("Report names of keywords and builtins, and each rule without a call, too")
+}
+
+/// `--fix`.
+fn fix_argument<'a>(alloc: Global) -> Arg<'a>
+    ensures { HasForm (flag (codes "fix")) result }
+{
+    let help = "Fix syntax errors whose help shows how, replace the files, and report the rest";
+    flag(alloc, "fix", help)
+}
+
+/// `--start`.
+fn start_argument<'a>(alloc: Global) -> Arg<'a>
+    ensures { HasForm (options (codes "start")) result }
+{
+    let help = "A rule with which matching starts, so that it needs no call";
+    option(alloc, "start", help)
+        .value_name("NAME")
+        .action(ArgAction::Append)
 }
 
 /// `--explain`.
 fn explain_argument<'a>(alloc: Global) -> Arg<'a>
-    ensures { result.id.now ≡ codes "explain" }
+    ensures { HasForm (option (codes "explain")) result }
 {
-    Arg::new(alloc, "explain")
-        .long("explain")
-        .value_name("CODE")
-        .help("Explain a diagnostic, as pest::left_recursion, and end")
+    let help = "Explain a diagnostic, as pest::left_recursion, and end";
+    option(alloc, "explain", help).value_name("CODE")
 }
 
 /// The files.
 fn file_argument<'a>(alloc: Global) -> Arg<'a>
-    ensures { result.id.now ≡ codes "FILE" }
+    ensures { HasForm (positionals (codes "FILE")) result }
 {
-    Arg::new(alloc, "FILE")
+    let help = "A grammar, a folder with grammars (*.pest), or - for standard input";
+    positional(alloc, "FILE", help)
         .action(ArgAction::Append)
         .num_args(1..)
-        .help("A grammar, a folder with grammars (*.pest), or - for standard input")
-}
-
-/// A flag of this name.
-fn flag<'a>(alloc: Global, name: &'static str, help: &'static str) -> Arg<'a>
-    ensures { result.id.now ≡ name.now }
-{
-    Arg::new(alloc, name)
-        .long(name)
-        .action(ArgAction::SetTrue)
-        .help(help)
 }
 
 /// The settings of a command line, where colours are asked for or not, and rules of these names are starts.

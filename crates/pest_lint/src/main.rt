@@ -18,6 +18,7 @@ use explain::page_text;
 use fixes::fix_files;
 use lint::{CLEAN, MEMORY, Source, UNREADABLE, UNWRITABLE, print_files};
 use log::log_files;
+use meta_builtins::Builtin;
 use meta_diagnostics::Code;
 use sources::read_sources;
 use std::alloc::{AllocError, Global};
@@ -88,7 +89,7 @@ fn starts_of<'a>(alloc: Global, matches: &'a ArgMatches<'_>) -> Result<Vec<&'a s
         starts.push(*name)?;
     }
     if is_all(matches) {
-        starts.push("SOI")?;
+        starts.push(Builtin::Soi.name())?;
     }
     Ok(starts)
 }

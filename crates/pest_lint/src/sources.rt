@@ -7,7 +7,8 @@ use std::fs;
 use std::io::{self, ErrorKind};
 use tool_support::input::read_input;
 
-/// The files of these names: of a folder all below it whose names end with `.pest`, in order.
+/// The files of these names: of a folder all below it whose names end with `.pest`, in order. No clause can
+/// say which names are folders, nor what they have.
 pub fn read_sources(rt: &HostRuntime, names: &[&str]) -> Result<Vec<Source>, AllocError> {
     let mut sources = Vec::new(rt.alloc());
     for name in names {
