@@ -1,12 +1,14 @@
 //! The command line.
-ghost use Rattle.std.specs.Prelude.{◌≡◌, ℕ, List, None, Some, codes, false, true};
+ghost use Rattle.std.specs.Prelude.{◌≡◌, ◌∷◌, ℕ, List, [], IfOk, None, Some, codes, false, true};
 ghost use Rattle.clap.specs.Matches.{first_value, found_of, one_text};
+ghost use Rattle.clap.specs.Simple.{app_of};
+ghost use Rattle.command_line.specs.Arguments.{HasForm, arguments_of, flag, option, positional};
 ghost use Rattle.pest_run.specs.Steps.{CountsSteps, step_limit};
 
 use clap::builder::ValueParser;
-use clap::{Arg, ArgAction, ArgMatches, Command};
+use clap::{Arg, ArgMatches, Command};
+use command_line::{add_argument, flag, new_command, option, positional};
 use std::alloc::{AllocError, Global};
-use tool_support::version::VERSION;
 
 /// The format of printed trees.
 #[derive(Clone, Copy)]
@@ -38,85 +40,89 @@ pub struct Request<'a> {
     pub steps: Option<u64>,
 }
 
+/// The exit statuses, as `--help` shows them.
+const STATUSES: &str =
+    "status: 0 the trees or the names were printed, 1 the grammar is refused, has no such rule, \
+     or does not match the text, 2 out of memory, 3 a file or the command line can't be read, \
+     4 output refused, 5 the run was stopped";
+
 /// Returns the command line that the program accepts.
-pub fn command<'a>(alloc: Global) -> Result<Command<'a>, AllocError> {
-    Command::new(alloc, "pest-run")
-        .bin_name("pest-run")?
-        .version(VERSION)
-        .about("Matches a text by a rule of a pest grammar, and prints the trees")
-        .after_help(
-            "status: 0 the trees or the names were printed, 1 the grammar is refused, has no such rule, \
-             or does not match the text, 2 out of memory, 3 a file or the command line can't be read, \
-             4 output refused, 5 the run was stopped",
-        )
-        .arg(format_argument(alloc))?
-        .arg(optimized_argument(alloc))?
-        .arg(steps_argument(alloc))?
-        .arg(list_argument(alloc)?)?
-        .arg(grammar_argument(alloc))?
-        .arg(rule_argument(alloc)?)?
-        .arg(text_argument(alloc))
+pub fn command<'a>(alloc: Global) -> Result<Command<'a>, AllocError>
+    ensures name { IfOk result (λ command. (app_of command).top.name ≡ codes "pest-run") }
+    ensures arguments { IfOk result (λ command. arguments_of command ≡ option (codes "format")
+        ∷ flag (codes "optimized") ∷ option (codes "steps") ∷ flag (codes "list-rules")
+        ∷ positional (codes "GRAMMAR") ∷ positional (codes "RULE") ∷ positional (codes "TEXT") ∷ []) }
+{
+    let about = "Matches a text by a rule of a pest grammar, and prints the trees";
+    let command = new_command(alloc, "pest-run", about, STATUSES)?;
+    let command = add_argument(command, format_argument(alloc))?;
+    let command = add_argument(command, optimized_argument(alloc))?;
+    let command = add_argument(command, steps_argument(alloc))?;
+    let command = add_argument(command, list_argument(alloc)?)?;
+    let command = add_argument(command, grammar_argument(alloc))?;
+    let command = add_argument(command, rule_argument(alloc)?)?;
+    add_argument(command, text_argument(alloc))
 }
 
 /// Returns `--format`.
-fn format_argument<'a>(alloc: Global) -> Arg<'a> {
-    Arg::new(alloc, "format")
-        .long("format")
+fn format_argument<'a>(alloc: Global) -> Arg<'a>
+    ensures { HasForm (option (codes "format")) result }
+{
+    option(alloc, "format", "How the trees are written")
         .value_parser(["text", "json", "lines"].as_slice())
         .default_value("text")
-        .help("How the trees are written")
 }
 
 /// Returns `--optimized`.
-fn optimized_argument<'a>(alloc: Global) -> Arg<'a> {
-    Arg::new(alloc, "optimized")
-        .long("optimized")
-        .action(ArgAction::SetTrue)
-        .help(
-            "Match by the optimized rules, as pest's own parsers do; \
-             a rule like (x ~ y)* ~ x then matches more",
-        )
+fn optimized_argument<'a>(alloc: Global) -> Arg<'a>
+    ensures { HasForm (flag (codes "optimized")) result }
+{
+    let help = "Match by the optimized rules, as pest's own parsers do; \
+                a rule like (x ~ y)* ~ x then matches more";
+    flag(alloc, "optimized", help)
 }
 
 /// Returns `--steps`.
-fn steps_argument<'a>(alloc: Global) -> Arg<'a> {
-    Arg::new(alloc, "steps")
-        .long("steps")
+fn steps_argument<'a>(alloc: Global) -> Arg<'a>
+    ensures { HasForm (option (codes "steps")) result }
+{
+    let help =
+        "Stop a match after N steps; where it is not given, after 100000 for each byte of the text \
+                and 100000000 more";
+    option(alloc, "steps", help)
         .value_name("N")
         .value_parser(ValueParser::unsigned(1, u64::MAX))
-        .help(
-            "Stop a match after N steps; where it is not given, after 100000 for each byte of the text \
-             and 100000000 more",
-        )
 }
 
 /// Returns `--list-rules`.
-fn list_argument<'a>(alloc: Global) -> Result<Arg<'a>, AllocError> {
-    let list = Arg::new(alloc, "list-rules")
-        .long("list-rules")
-        .action(ArgAction::SetTrue)
-        .conflicts_with("RULE")?;
-    Ok(list.help("Print the names of the grammar's rules, a line each, and match no text"))
+fn list_argument<'a>(alloc: Global) -> Result<Arg<'a>, AllocError>
+    ensures { IfOk result (HasForm (flag (codes "list-rules"))) }
+{
+    let help = "Print the names of the grammar's rules, a line each, and match no text";
+    flag(alloc, "list-rules", help).conflicts_with("RULE")
 }
 
 /// Returns the argument for the grammar.
-fn grammar_argument<'a>(alloc: Global) -> Arg<'a> {
-    Arg::new(alloc, "GRAMMAR")
-        .required(true)
-        .help("The file of a grammar")
+fn grammar_argument<'a>(alloc: Global) -> Arg<'a>
+    ensures { HasForm (positional (codes "GRAMMAR")) result }
+{
+    positional(alloc, "GRAMMAR", "The file of a grammar").required(true)
 }
 
 /// Returns the argument for the rule.
-fn rule_argument<'a>(alloc: Global) -> Result<Arg<'a>, AllocError> {
-    let rule = Arg::new(alloc, "RULE").required_unless_present("list-rules")?;
-    Ok(rule.help("The rule that the text is matched by"))
+fn rule_argument<'a>(alloc: Global) -> Result<Arg<'a>, AllocError>
+    ensures { IfOk result (HasForm (positional (codes "RULE"))) }
+{
+    positional(alloc, "RULE", "The rule that the text is matched by").required_unless_present(
+        "list-rules",
+    )
 }
 
 /// Returns the argument for the text.
-fn text_argument<'a>(alloc: Global) -> Arg<'a> {
-    Arg::new(alloc, "TEXT")
-        .default_value("-")
-        .help("The file of the text; - is standard input")
+fn text_argument<'a>(alloc: Global) -> Arg<'a>
+    ensures { HasForm (positional (codes "TEXT")) result }
+{
+    positional(alloc, "TEXT", "The file of the text; - is standard input").default_value("-")
 }
 
 /// Returns the format that a command line asks for.
