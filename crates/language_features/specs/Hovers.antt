@@ -18,7 +18,7 @@ use Rattle.meta_symbols.specs.declared.tokens.Extent.{Extent}
 use Rattle.serde_json.specs.Data.{Data, member, no_members, null, object, string}
 use Rattle.serde_json.specs.View.{view}
 
--- what the builtin of a name matches, in a sentence
+-- the meaning of a builtin, in a sentence
 abbrev pub meaning_of : List ℕ → List ℕ → List ℕ
 meaning_of name doc = codes "`" ++ name ++ codes "` matches " ++ doc ++ codes "."
 

@@ -85,7 +85,7 @@ fn describe<'i>(
     })
 }
 
-/// What a modifier means, the comment and the text of a rule.
+/// Adds the meaning of the modifier, the comment and the text of a rule.
 fn show_rule<'i>(
     alloc: Global,
     doc: &GrammarDoc<'i>,

@@ -1,4 +1,4 @@
--- What the server says that it can do.
+-- The answer to `initialize`.
 use Rattle.std.specs.Prelude.{◌≡◌, ℕ, List, true, false, codes, map}
 use Rattle.serde_json.specs.Data.{Data, Members, array, boolean, item, member, no_items, no_members, number, object, put, string, unsigned}
 use Rattle.serde_json.specs.View.{items_of, view}
@@ -59,11 +59,11 @@ with_providers members = with_provider (codes "documentRangeFormattingProvider")
     (with_provider (codes "foldingRangeProvider") (with_provider (codes "workspaceSymbolProvider")
     (with_provider (codes "documentSymbolProvider") members)))))))))
 
--- what the server can do, where characters are counted so
+-- the abilities of the server, where characters are counted so
 abbrev pub capabilities : Encoding → Data
 capabilities encoding = object (with_providers (with_options encoding no_members))
 
--- what the server says of itself: its name, and a version
+-- the name of the server, and a version
 abbrev pub server_info : List ℕ → Data
 server_info version = object (member (codes "name") (string (codes "pest-language-server"))
     (member (codes "version") (string version) no_members))

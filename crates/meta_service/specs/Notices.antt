@@ -14,14 +14,14 @@ use Rattle.meta_service.specs.declared.server.Phase.TheVariants.{New, Running, S
 use Rattle.meta_service.specs.declared.server.Server.{Server}
 use Rattle.serde_json.specs.Data.{Data, array, no_items}
 
--- what a notification of a method is about
+-- the subject of a notification of a method
 abbrev pub notice_of : List ℕ → Option Notice
 notice_of method = if bytes_eq method (codes "textDocument/didOpen") then Some Open
     else (if bytes_eq method (codes "textDocument/didChange") then Some Changing
     else (if bytes_eq method (codes "textDocument/didSave") then Some Save
     else (if bytes_eq method (codes "textDocument/didClose") then Some Close else None)))
 
--- what it is about in a session, if that runs
+-- the subject in a session, if that runs
 abbrev pub notice_in : Phase → List ℕ → Option Notice
 notice_in New method = None
 notice_in Running method = notice_of method

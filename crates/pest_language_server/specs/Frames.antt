@@ -41,7 +41,7 @@ pub record SaysLength (line : List ℕ) (said : ℕ) : Type 0 where
 abbrev pub SaysNone : List ℕ → Type 0
 SaysNone line = (said : ℕ) → ¬ SaysLength line said
 
--- what the last of some lines says that says a length
+-- the length that the last of some lines says, of those that say one
 abbrev pub SaysLast : List (List ℕ) → Option ℕ → Type 0
 SaysLast lines None = All SaysNone lines
 SaysLast lines (Some said) = (before : List (List ℕ)) × (line : List ℕ) × (after : List (List ℕ))
@@ -89,12 +89,12 @@ pub record IsCutHead (bytes : List ℕ) : Type 0 where
 abbrev pub LosesAll : Option (List ℕ) → Option (List ℕ) → List ℕ → Type 0
 LosesAll old new bytes = Consumes old new bytes × IsAtEnd new
 
--- what is read of an input is a byte; none at its end
+-- an input gives a byte; none at its end
 abbrev pub IsByteRead : Option (List ℕ) → Option (List ℕ) → Option ℕ → Type 0
 IsByteRead old new None = LosesAll old new []
 IsByteRead old new (Some byte) = Consumes old new (byte ∷ [])
 
--- what is read of an input is a line; none where the input ends first
+-- an input gives a line; none where the input ends first
 abbrev pub IsLineRead : Option (List ℕ) → Option (List ℕ) → Option (Vec ℕ Global) → Type 0
 IsLineRead old new None = (part : List ℕ) × IsPart part × LosesAll old new part
 IsLineRead old new (Some line) = IsLine line.items × Consumes old new line.items
@@ -103,7 +103,7 @@ abbrev pub head_of : Option ℕ → Head
 head_of (Some said) = head.Length said
 head_of None = head.Invalid
 
--- what is read of an input is a head, unless the input ends first
+-- an input gives a head, unless the input ends first
 abbrev pub IsHeadRead : Option (List ℕ) → Option (List ℕ) → Head → Type 0
 IsHeadRead old new (head.Length said) = (bytes : List ℕ) × IsHead bytes (Some said) × Consumes old new bytes
 IsHeadRead old new head.Invalid = (bytes : List ℕ) × IsInvalid bytes × Consumes old new bytes
@@ -114,14 +114,14 @@ abbrev pub IsRestRead : Option (List ℕ) → Option (List ℕ) → ℕ → Bool
 IsRestRead old new count true = (bytes : List ℕ) × (length bytes ≡ count) × Consumes old new bytes
 IsRestRead old new count false = (bytes : List ℕ) × (length bytes < count) × LosesAll old new bytes
 
--- what is read of an input is the rest of a body, unless the input ends first
+-- an input gives the rest of a body, unless the input ends first
 abbrev pub IsSkipped : Option (List ℕ) → Option (List ℕ) → ℕ → InputFrame → Type 0
 IsSkipped old new rest (frame.Body body) = ⊥
 IsSkipped old new rest frame.Invalid = ⊥
 IsSkipped old new rest frame.TooLarge = IsRestRead old new rest true
 IsSkipped old new rest frame.End = IsRestRead old new rest false
 
--- what is read of an input is a body of this length, unless the input ends first
+-- an input gives a body of this length, unless the input ends first
 abbrev pub IsBodyRead : Option (List ℕ) → Option (List ℕ) → ℕ → InputFrame → Type 0
 IsBodyRead old new said (frame.Body body) = (length body.items ≡ said) × Consumes old new body.items
 IsBodyRead old new said frame.Invalid = ⊥
@@ -138,7 +138,7 @@ abbrev pub IsCutFrame : List ℕ → Type 0
 IsCutFrame bytes = IsCutHead bytes ⊎ ((front : List ℕ) × (part : List ℕ) × (said : ℕ)
     × IsHead front (Some said) × (length part < said) × (bytes ≡ front ++ part))
 
--- what is read of an input is a frame, unless the input ends first
+-- an input gives a frame, unless the input ends first
 abbrev pub IsFrameRead : Option (List ℕ) → Option (List ℕ) → InputFrame → Type 0
 IsFrameRead old new (frame.Body body) = LosesFrame old new body.items
 IsFrameRead old new frame.Invalid = (bytes : List ℕ) × IsInvalid bytes × Consumes old new bytes

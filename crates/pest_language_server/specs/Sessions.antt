@@ -43,7 +43,7 @@ pub data Serves : Server → Option (List ℕ) → Option (List ℕ) → ℕ →
   forgets : (old new : Server) (input rest output : Option (List ℕ)) (frame : InputFrame) (status : ℕ)
       → IsFrameRead input rest frame → Serves new rest output status → Serves old input output status
 
--- what is done with one frame: the session ends with a status, or goes on
+-- the work on one frame: the session ends with a status, or goes on
 abbrev pub IsStep : Server → Server → Option (List ℕ) → Option (List ℕ) → Option (List ℕ)
     → Option (List ℕ) → Option ℕ → Type 0
 IsStep old new input rest output grown None =

@@ -35,9 +35,9 @@ pub enum InputFrame {
 /// The head of a frame.
 #[derive(Clone, Copy)]
 enum Head {
-    /// The length that it says.
+    /// The length that a head says.
     Length(u64),
-    /// It says none, or has more than 64 lines.
+    /// A head that says none, or has more than 64 lines.
     Invalid,
     /// The input's end, also within a head.
     End,

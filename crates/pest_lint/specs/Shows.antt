@@ -13,7 +13,7 @@ use Rattle.pest_lint.specs.declared.arguments.Settings.{Settings}
 use Rattle.pest_lint.specs.declared.lint.Source.{Source}
 use Rattle.pest_meta.specs.Spelling.{HasAnswer}
 
--- what is asked for: rules that are starts, all warnings or not, and whether warnings count
+-- the request: rules that are starts, all warnings or not, and whether warnings count
 pub record Asked : Type 0 where
   pub starts : List Text
   pub all : Bool

@@ -21,9 +21,9 @@ pub enum Format {
 /// The rules by which a text is matched.
 #[derive(Clone, Copy)]
 pub enum RuleForm {
-    /// Those of the grammar as it is written.
+    /// The rules of the grammar as it is written.
     Written,
-    /// Those that the optimizer returns. pest's own parsers run these.
+    /// The rules that the optimizer returns. pest's own parsers run these.
     Optimized,
 }
 

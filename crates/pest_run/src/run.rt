@@ -126,7 +126,7 @@ pub fn run<W: Write, E: Write>(
     }
 }
 
-/// Returns the rules of a grammar in the form in which they are run. Errors: those of `parse_and_optimize`.
+/// Returns the rules of a grammar in the form in which they are run. Fails where `parse_and_optimize` does.
 pub fn read_rules(alloc: Global, grammar: &str, form: RuleForm) -> Result<Vec<OptimizedRule>, Fault>
     ensures rules { IfOk result (λ rules. AreRun form grammar.now (optimized_rules_of rules.items)) }
     ensures refused { IfErr result (IsRefusal grammar.now) }
