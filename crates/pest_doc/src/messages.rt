@@ -71,11 +71,13 @@ pub fn refusal_message(
     text: &str,
     errors: &[Error<Rule>],
 ) -> Result<String, AllocError>
-    ensures { IfOk result (λ message. IsRefusal name.now errors.now (string_bytes message)) }
+    ensures { IfOk result (λ message.
+        IsRefusal (escaped_bytes name.now) errors.now (string_bytes message)) }
 {
     let expected = expected_names(alloc, text)?;
     let diagnostics = diagnose_errors(alloc, text, errors, &expected)?;
-    let shown = show_errors(alloc, name, errors, &diagnostics)?;
+    let name = escape(alloc, name)?;
+    let shown = show_errors(alloc, name.as_str(), errors, &diagnostics)?;
     escape_lines(alloc, shown.as_str())
 }
 

@@ -1,4 +1,3 @@
-use Rattle.std.proofs.Common.{◌∙◌, ap, ◌++◌, codes}
 use Rattle.std.proofs.lemmas.Result.{IfOk-weaker}
 use Rattle.pest_doc.proofs.messages.show_error.Goals as goal
 
