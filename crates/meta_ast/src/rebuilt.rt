@@ -59,8 +59,9 @@ pub trait Rebuild: Drop {
         ensures ready { IfOk result (GoesOn is_right is_ready) };
 }
 
-/// Builds a tree from another one, in the contexts that `R` defines. `outside` is lent for these contexts, so
-/// that one list serves many trees. The only error is allocation failure.
+/// Builds a tree from another one, in the contexts that `R` defines. `outside`, an empty list, is lent for
+/// these contexts, so that one list serves many trees. The only error is allocation failure, and then
+/// `outside` may keep some.
 pub fn rebuild_tree<R: Rebuild>(
     alloc: Global,
     source: R::Source,

@@ -54,7 +54,8 @@ fn modifier(trees: &[TokenTree<Rule>]) -> (RuleType, &[TokenTree<Rule>])
 }
 
 /// Reads a rule from the trees in it, and reports its first flaw. Answers none for a comment that
-/// documents a rule. `levels` is lent for the expressions that are open.
+/// documents a rule. `levels`, an empty list, is lent for the expressions that are open; after an error it
+/// may keep some.
 fn rule<'i, 't>(
     alloc: Global,
     text: &'i str,

@@ -63,7 +63,7 @@ impl<E: Tree> WalkFrame<E, E::Sign> {
     }
 }
 
-// Puts an expression into a box from which one was taken.
+/// Puts an expression into a box from which one was taken.
 fn fill<E: Drop>(room: Box<E>, expr: E) -> Box<E>
     ensures { result.value ≡ expr }
 {
