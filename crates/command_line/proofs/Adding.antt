@@ -1,9 +1,8 @@
 -- Arguments that commands gain.
-use Rattle.std.proofs.Common.{◌≡◌, ◌∙◌, List, [], ◌∷◌, ◌++◌, ap, ap₂}
+use Rattle.std.proofs.Common.{◌≡◌, ◌∙◌, List, [], ◌∷◌, ◌++◌, ap}
 use Rattle.command_line.specs.Arguments.{Form}
 
 -- one argument more
-pub one_argument_more : (old new forms : List Form) (given form : Form) → old ≡ forms → given ≡ form
-    → new ≡ old ++ given ∷ [] → new ≡ forms ++ form ∷ []
-one_argument_more old new forms given form before same adds =
-    adds ∙ ap₂ ◌++◌ before (ap (λ f. f ∷ []) same)
+pub one_argument_more : (old new forms : List Form) (form : Form) → old ≡ forms → new ≡ old ++ form ∷ []
+    → new ≡ forms ++ form ∷ []
+one_argument_more old new forms form before adds = adds ∙ ap (λ fs. fs ++ form ∷ []) before

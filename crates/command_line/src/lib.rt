@@ -1,9 +1,9 @@
 //! Commands of the programs, and the arguments that they take.
 #![tactic(auto)]
 
-ghost use Rattle.std.specs.Prelude.{◌≡◌, ◌∷◌, ◌++◌, [], IfOk, false};
+ghost use Rattle.std.specs.Prelude.{◌≡◌, ◌∷◌, ◌++◌, [], IfOk};
 ghost use Rattle.clap.specs.Simple.{app_of};
-ghost use Rattle.command_line.specs.Arguments.{HasForm, arguments_of, flag, form_of, option, positional};
+ghost use Rattle.command_line.specs.Arguments.{Form, HasForm, arguments_of, flag, option, positional};
 
 use clap::{Arg, ArgAction, Command};
 use std::alloc::{AllocError, Global};
@@ -23,12 +23,11 @@ pub fn new_command<'a>(
     Ok(command.version(VERSION).about(about).after_help(statuses))
 }
 
-/// Returns a command with one argument more, which subcommands do not share.
+/// Returns a command with one argument more.
 pub fn add_argument<'a>(command: Command<'a>, argument: Arg<'a>) -> Result<Command<'a>, AllocError>
-    requires { argument.global ≡ false }
     ensures name { IfOk result (λ new. (app_of new).top.name ≡ (app_of command.entry).top.name) }
-    ensures arguments { IfOk result
-        (λ new. arguments_of new ≡ arguments_of command.entry ++ form_of argument.entry ∷ []) }
+    ensures arguments { (form : Form) → HasForm form argument.entry
+        → IfOk result (λ new. arguments_of new ≡ arguments_of command.entry ++ form ∷ []) }
 {
     command.arg(argument)
 }

@@ -11,13 +11,13 @@ returns-clause-name c =
 
 pub returns-clause-arguments : goal.returns-clause-arguments
 returns-clause-arguments c =
-    let one = one_argument_more _ _ _ _ _ c.in_ok-command.ensures.arguments c.format_argument.ensures.0 c.in_ok-command-2.ensures.arguments in
-    let two = one_argument_more _ _ _ _ _ one c.colour_argument.ensures.0 c.in_ok-command-3.ensures.arguments in
-    let three = one_argument_more _ _ _ _ _ two c.deny_argument.ensures.0 c.in_ok-command-4.ensures.arguments in
-    let four = one_argument_more _ _ _ _ _ three c.warn_argument.ensures.0 c.in_ok-command-5.ensures.arguments in
-    let five = one_argument_more _ _ _ _ _ four c.fix_argument.ensures.0 c.in_ok-command-6.ensures.arguments in
-    let six = one_argument_more _ _ _ _ _ five c.start_argument.ensures.0 c.in_ok-command-7.ensures.arguments in
-    let seven = one_argument_more _ _ _ _ _ six c.explain_argument.ensures.0 c.in_ok-command-8.ensures.arguments in
+    let one = one_argument_more _ _ _ _ c.in_ok-command.ensures.arguments (c.in_ok-command-2.ensures.arguments _ c.format_argument.ensures) in
+    let two = one_argument_more _ _ _ _ one (c.in_ok-command-3.ensures.arguments _ c.colour_argument.ensures) in
+    let three = one_argument_more _ _ _ _ two (c.in_ok-command-4.ensures.arguments _ c.deny_argument.ensures) in
+    let four = one_argument_more _ _ _ _ three (c.in_ok-command-5.ensures.arguments _ c.warn_argument.ensures) in
+    let five = one_argument_more _ _ _ _ four (c.in_ok-command-6.ensures.arguments _ c.fix_argument.ensures) in
+    let six = one_argument_more _ _ _ _ five (c.in_ok-command-7.ensures.arguments _ c.start_argument.ensures) in
+    let seven = one_argument_more _ _ _ _ six (c.in_ok-command-8.ensures.arguments _ c.explain_argument.ensures) in
     IfOk-weaker c.add_argument-8.result _ _
-    (λ command adds. one_argument_more _ _ _ _ _ seven c.file_argument.ensures.0 adds)
-    c.add_argument-8.ensures.arguments
+    (λ command adds. one_argument_more _ _ _ _ seven adds)
+    (c.add_argument-8.ensures.arguments _ c.file_argument.ensures)
