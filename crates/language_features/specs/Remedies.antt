@@ -1,5 +1,5 @@
 -- Remedies.
-use Rattle.std.specs.Prelude.{◌≡◌, ◌&&◌, ◌++◌, ◌∷◌, [], ℕ, List, Bool, Option, Some, None, codes, length, nat_le, not, option_and_then, string_bytes, if◌then◌else◌}
+use Rattle.std.specs.Prelude.{◌≡◌, ◌&&◌, ◌++◌, ◌∷◌, [], ℕ, List, Bool, Option, Some, None, codes, find, length, nat_le, not, option_and_then, reverse, string_bytes, if◌then◌else◌}
 use Rattle.diagnostic_data.specs.declared.codes.Code.{Code}
 use Rattle.diagnostic_data.specs.declared.codes.Code.TheVariants as code
 use Rattle.diagnostic_data.specs.declared.diagnostic.Diagnostic.{Diagnostic}
@@ -37,18 +37,16 @@ Defines context name remedy = Replaces (length context.text.now) (length context
 abbrev pub is_before : ℕ → Token → Bool
 is_before offset token = nat_le token.end offset && not (is_comment token.class)
 
--- the last token before an offset that is no comment, or else one that was found
-abbrev pub last_before : ℕ → Option Token → List Token → Option Token
-last_before offset found [] = found
-last_before offset found (token ∷ tokens) =
-    last_before offset (if is_before offset token then Some token else found) tokens
+-- the last token before an offset that is no comment
+abbrev pub last_before : ℕ → List Token → Option Token
+last_before offset tokens = find (is_before offset) (reverse tokens)
 
 abbrev pub if_bar : Token → Option Token
 if_bar token = if is_sign 124 token.class then Some token else None
 
 -- the last token before an offset that is no comment, if it is a `|`
 abbrev pub bar_before : ℕ → List Token → Option Token
-bar_before offset tokens = option_and_then if_bar (last_before offset None tokens)
+bar_before offset tokens = option_and_then if_bar (last_before offset tokens)
 
 -- a remedy removes an alternative with the `|` before it; there is none for the first alternative
 abbrev pub Removes : Diagnostic → Option Token → Option Remedy → Type 0

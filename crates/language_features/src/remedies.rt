@@ -111,8 +111,9 @@ fn bar_before(tokens: &[Token], offset: usize) -> Option<Token>
 }
 
 /// Returns the last token before an offset that is no comment.
+#[tactic(auto, using(crate::proofs::Finding::last_found, crate::proofs::Finding::last_kept))]
 fn last_before(tokens: &[Token], offset: usize) -> Option<Token>
-    ensures { result ≡ spec.last_before offset None tokens.now }
+    ensures { result ≡ spec.last_before offset tokens.now }
 {
     let mut last = None;
     let mut rest = tokens;
