@@ -131,6 +131,47 @@ pub enum Op {
     Undo {
         next: u32,
     },
+    /// Pops the last slot, and pushes the text from its position to here on the stack.
+    Push {
+        next: u32,
+    },
+    /// Pushes a text on the stack.
+    PushText {
+        text: u32,
+        next: u32,
+    },
+    /// Takes the text on top of the stack.
+    Peek {
+        next: u32,
+        fail: u32,
+    },
+    /// Takes the text on top of the stack, and pops it.
+    Pop {
+        next: u32,
+        fail: u32,
+    },
+    /// Pops the text on top of the stack.
+    Discard {
+        next: u32,
+        fail: u32,
+    },
+    /// Takes all texts of the stack, from the top.
+    PeekAll {
+        next: u32,
+        fail: u32,
+    },
+    /// Takes all texts of the stack, from the top, and pops them.
+    PopAll {
+        next: u32,
+        fail: u32,
+    },
+    /// Takes some texts of the stack, from the bottom. Negative numbers count from the top.
+    Slice {
+        from: i32,
+        to: Option<i32>,
+        next: u32,
+        fail: u32,
+    },
     /// Ends the run with a match.
     Halt,
     /// Ends the run with a failure.

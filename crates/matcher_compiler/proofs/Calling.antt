@@ -10,7 +10,7 @@ use Rattle.meta_base.specs.Language.Text.{Text}
 use Rattle.matcher_code.specs.declared.code.Code.{Code}
 use Rattle.matcher_code.specs.declared.code.Op.TheVariants as op
 use Rattle.matcher_layout.specs.Laid as lay
-use Rattle.matcher_layout.specs.Laid.{IsPoint, at_label}
+use Rattle.matcher_layout.specs.Laid.{IsPart, IsPoint, at_label}
 use Rattle.matcher_program.specs.declared.form.Program.{Program}
 use Rattle.matcher_program.specs.declared.form.Row.{Row}
 use Rattle.matcher_program.specs.Programs.{name_at, names_of, rule_of_row}
@@ -58,3 +58,12 @@ module _ (p : Program) (rule : ℕ) (row : Row) (within : rule < length p.rows.i
       let r = made p rule row within is in
       subst (λ k. IsPoint laid (Run k r.body) first last 0) (in_mode p rule row within is sound m inner e)
       (subst (λ b. IsPoint laid (Run inner b) first last 0) body_said x)
+
+  -- the same of a part
+  pub body_part : IsSoundProgram p → (laid : List lay.Point) (m inner : Mode) (rank first last way : ℕ)
+      → inner ≡ mode_in (rule_type_of row.kind) row.blank m → IsPart laid rank (Run inner (body_in p rule)) first last way
+      → IsPart laid rank (Run (body_mode (made p rule row within is) m) (made p rule row within is).body) first last way
+  body_part sound laid m inner rank first last way e x =
+      let r = made p rule row within is in
+      subst (λ k. IsPart laid rank (Run k r.body) first last way) (in_mode p rule row within is sound m inner e)
+      (subst (λ b. IsPart laid rank (Run inner b) first last way) body_said x)

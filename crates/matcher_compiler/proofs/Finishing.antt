@@ -27,9 +27,13 @@ use Rattle.matcher_compiler.specs.Plans.{AreBound, IsLater, IsMet, IsPointOf, Ke
 pub point_made : (p : Program) (points : List Point) (i : ℕ) (d : Point) → i < length points
     → IsPointOf p (map (laid_point p) points) (get_or points i d)
 point_made p points i d h = record {
-  place = i;
-  within = omega (arith, length-map points (laid_point p), h);
-  is = get_or-map (laid_point p) points i d no_point h;
+  point = record {
+    place = i;
+    rank = (get_or points i d).at.rank;
+    within = omega (arith, length-map points (laid_point p), h);
+    is = get_or-map (laid_point p) points i d no_point h;
+  };
+  lower = omega arith;
 }
 
 pub meets_plan : (p : Program) (plan : Plan) (code : Code) → HasEnds code → AreMet code plan.points.items plan.demands.items
@@ -47,15 +51,15 @@ meets_plan p plan code ends met sets texts lists = record {
 }
 
 abbrev some_point : Point
-some_point = record { part = part.Gap; at = record { mode = mode.Atomic; label = 0; next = 0; way = 0 } }
+some_point = record { part = part.Gap; at = record { mode = mode.Atomic; label = 0; next = 0; way = 0; rank = 0; around = 0 } }
 
 -- the same point
-laid_as : (p : Program) (classes : Classes) (code : Code) (laid : List lay.Point) (x : Point) (k : Task) (l n w : ℕ)
-    → laid_point p x ≡ record { task = k; label = l; next = n; way = w }
-    → Lays (grammar_in p) classes code (number_in (grammar_in p)) laid (task_in p x.part (mode_of x.at.mode)) x.at.label x.at.next x.at.way
-    → Lays (grammar_in p) classes code (number_in (grammar_in p)) laid k l n w
-laid_as p classes code laid x k l n w e y =
-    let P : lay.Point → Type 0 = λ q. Lays (grammar_in p) classes code (number_in (grammar_in p)) laid q.task q.label q.next q.way in
+laid_as : (p : Program) (classes : Classes) (code : Code) (laid : List lay.Point) (x : Point) (k : Task) (l n w rank : ℕ)
+    → laid_point p x ≡ record { task = k; label = l; next = n; way = w; rank = rank }
+    → Lays (grammar_in p) classes code (number_in (grammar_in p)) laid x.at.rank (task_in p x.part (mode_of x.at.mode)) x.at.label x.at.next x.at.way
+    → Lays (grammar_in p) classes code (number_in (grammar_in p)) laid rank k l n w
+laid_as p classes code laid x k l n w rank e y =
+    let P : lay.Point → Type 0 = λ q. Lays (grammar_in p) classes code (number_in (grammar_in p)) laid q.rank q.task q.label q.next q.way in
     subst P e y
 
 pub code_of : (p : Program) (plan : Plan) (code : Code) → HasEnds code → Meets p plan code (map (laid_point p) plan.points.items)
@@ -68,7 +72,7 @@ code_of p plan code ends m lays entries = record {
       let h : x.place < length plan.points.items = omega (arith, length-map plan.points.items (laid_point p), x.within) in
       let y = get_or plan.points.items x.place some_point in
       let e = get_or-map (laid_point p) plan.points.items x.place some_point no_point h in
-      laid_as p classes code (map (laid_point p) plan.points.items) y k l n w (sym e ∙ x.is)
+      laid_as p classes code (map (laid_point p) plan.points.items) y k l n w x.rank (sym e ∙ x.is)
       (lays x.place some_point h classes fits code (map (laid_point p) plan.points.items) m);
   entries = λ i h. entries code (map (laid_point p) plan.points.items) m i h;
 }
@@ -118,7 +122,7 @@ body_made p points i x {k} {rule} {m} {first} {last} h is part_is rule_is mode_i
     let laid = map (laid_point p) points in
     let y = point_made p points i x h in
     let P : Point → Type 0 = λ z. IsPointOf p laid z in
-    let a : IsPoint laid (task_in p x.part (mode_of x.at.mode)) x.at.label x.at.next x.at.way = subst P (sym is) y in
+    let a : IsPoint laid (task_in p x.part (mode_of x.at.mode)) x.at.label x.at.next x.at.way = (subst P (sym is) y).point in
     let b = subst (λ q. IsPoint laid (task_in p q (mode_of x.at.mode)) x.at.label x.at.next x.at.way) part_is a in
     let d = subst (λ r. IsPoint laid (Run (mode_of x.at.mode) (body_in p r)) x.at.label x.at.next x.at.way) rule_is b in
     let e = subst (λ r. IsPoint laid (Run (mode_of r) (body_in p rule)) x.at.label x.at.next x.at.way) mode_is d in

@@ -7,14 +7,15 @@ use Rattle.std.proofs.lemmas.List.{length-append, length-map, map-append}
 use Rattle.matcher_code.specs.Sets.{KeepsSets}
 use Rattle.meta_base.specs.Language.Meaning.{Task}
 use Rattle.matcher_layout.specs.Laid as lay
-use Rattle.matcher_layout.specs.Laid.{IsPoint}
+use Rattle.matcher_layout.specs.Laid.{IsPart}
 use Rattle.matcher_program.specs.declared.form.Program.{Program}
 use Rattle.matcher_compiler.specs.declared.plan.Plan.{Plan}
 use Rattle.matcher_compiler.specs.declared.plan.Skips.{Skips}
 use Rattle.matcher_compiler.specs.declared.plan.Skips.TheVariants as skips
 use Rattle.matcher_compiler.specs.declared.points.Demand.{Demand}
 use Rattle.matcher_compiler.specs.declared.points.Point.{Point}
-use Rattle.matcher_compiler.specs.Plans.{IsBlankSet, IsBoundPart, IsLater, IsMet, IsPointOf, SkipsAs}
+use Rattle.matcher_compiler.specs.Plans.{IsBlankSet, IsBoundPart, IsLater, IsMet, IsPointOf, SkipsAs, task_in}
+use Rattle.matcher_sets.specs.Modes.{mode_of}
 
 pub later_twice : (p : Program) (a b c : Plan) → IsLater p a b → IsLater p b c → IsLater p a c
 later_twice p a b c x y = record {
@@ -27,8 +28,13 @@ later_twice p a b c x y = record {
 pub later_same : (p : Program) (a : Plan) → IsLater p a a
 later_same p a = record { kept = λ i d h. (h, refl); met = λ code laid m. m; bound = λ h. h; ready = λ h. h }
 
-pub point_as : (laid : List lay.Point) {k q : Task} {l n w : ℕ} → k ≡ q → IsPoint laid k l n w → IsPoint laid q l n w
-point_as laid {l = l} {n = n} {w = w} e x = subst (λ t. IsPoint laid t l n w) e x
+pub part_as : (laid : List lay.Point) {k q : Task} {rank l n w : ℕ} → k ≡ q → IsPart laid rank k l n w → IsPart laid rank q l n w
+part_as laid {rank = rank} {l = l} {n = n} {w = w} e x = subst (λ t. IsPart laid rank t l n w) e x
+
+-- a point of the rank before
+pub part_below : (p : Program) (laid : List lay.Point) (x : Point) (rank : ℕ) → IsPointOf p laid x → suc x.at.rank ≡ rank
+    → IsPart laid rank (task_in p x.part (mode_of x.at.mode)) x.at.label x.at.next x.at.way
+part_below p laid x rank h e = record { point = h.point; lower = omega (arith, h.lower, e) }
 
 front : {A : Type 0} (xs ys zs : List A) (i : ℕ) (d : A) → zs ≡ xs ++ ys → i < length xs → (i < length zs) × (get_or zs i d ≡ get_or xs i d)
 front xs ys zs i d e h =
@@ -80,6 +86,7 @@ module _ (p : Program) (old new : Plan) where
   skips_on l keeps skips.Nothing r = r
   skips_on l keeps (skips.Blanks set) r = (r.0, blanks_on l keeps set r.1)
   skips_on l keeps (skips.Comments set) r = blanks_on l keeps set r
+  skips_on l keeps skips.Calls r = r
 
   -- more points, demands, sets, texts and lists
   pub grown : (ps : List Point) (ds : List Demand) → new.points.items ≡ old.points.items ++ ps

@@ -5,3 +5,4 @@ pub mod Naming
 pub mod Skipping
 pub mod Listing
 pub mod Shortening
+pub mod Reading

@@ -1,9 +1,9 @@
 -- What the implicit skipping takes.
 use Rattle.std.proofs.Common.{◌≡◌, refl, sym, ◌∙◌, ap, ap₂, subst, ℕ, zero, suc, ◌<◌, ◌||◌, ◌&&◌, List, [], ◌∷◌, Bool, true, false, None, Some, add-zero, bytes_eq, get_or, length, map, arith, if◌then◌else◌}
-use Rattle.std.specs.Prelude.{max}
+use Rattle.std.specs.Prelude.{Err, IfOk, IfSome, Ok, Option, Result, max}
 use Rattle.std.proofs.lemmas.List.{length-map}
 use Rattle.meta_ast.specs.Ast.{rule_type_of, text_of}
-use Rattle.meta_base.specs.Language.Expression.{Atomic, CompoundAtomic, Grammar, Ident, NonAtomic, Normal, Rule, RuleType, Silent, comment, rule_of, whitespace}
+use Rattle.meta_base.specs.Language.Expression.{Atomic, CompoundAtomic, Grammar, Ident, NonAtomic, Normal, Rep, Rule, RuleType, Silent, comment, rule_of, whitespace}
 use Rattle.meta_base.specs.Language.FurthestFailure.{furthest, is_eoi, place_of}
 use Rattle.meta_base.specs.Language.Matching.{character_outcome}
 use Rattle.meta_base.specs.Language.Meaning as by
@@ -13,7 +13,7 @@ use Rattle.meta_base.specs.Language.Text.{Text}
 use Rattle.meta_base.proofs.Basics.{same_some}
 use Rattle.matcher_code.specs.declared.code.Code.{Code}
 use Rattle.matcher_layout.specs.Laid as lay
-use Rattle.matcher_layout.specs.Laid.{FailsOutside, HasOutcome, IsPoint, IsTight, skip_set, span_of}
+use Rattle.matcher_layout.specs.Laid.{FailsOutside, HasOutcome, IsPart, IsPoint, IsTight, skip_set, span_of}
 use Rattle.matcher_layout.proofs.Characters.{silent_call_of_set, span_of_set}
 use Rattle.matcher_program.specs.declared.form.Program.{Program}
 use Rattle.matcher_program.specs.declared.form.Row.{Row}
@@ -38,9 +38,17 @@ comment_is_no_end : is_eoi comment ≡ false
 unfolding comment
 comment_is_no_end = refl
 
-comment_is_blank : (bytes_eq comment whitespace || bytes_eq comment comment) ≡ true
+-- a name of the implicit skipping
+abbrev pub IsSkipName : Text → Type 0
+IsSkipName x = (bytes_eq x whitespace || bytes_eq x comment) ≡ true
+
+pub comment_is_skipped : IsSkipName comment
 unfolding whitespace comment
-comment_is_blank = refl
+comment_is_skipped = refl
+
+pub white_is_skipped : IsSkipName whitespace
+unfolding whitespace comment
+white_is_skipped = refl
 
 -- the name of a row, and that of its rule
 row_name : (names : List Text) (rows : List Row) (i : ℕ) (d : Rule) → i < length rows
@@ -166,50 +174,81 @@ module _ (g : Grammar) (classes : Classes) (x : Text) (r : Rule) (h : rule_of g 
       no_rule_is e = cc
 
   module _ (code : Code) (number : Text → ℕ) (points : List lay.Point) where
-    pub laid_between : {l n w : ℕ} → lay.Lays g classes code number points (Run NonAtomicMode (Ident x)) l n w → lay.Lays g classes code number points (Run Between (Ident x)) l n w
+    pub laid_between : {rank l n w : ℕ} → lay.Lays g classes code number points rank (Run NonAtomicMode (Ident x)) l n w → lay.Lays g classes code number points rank (Run Between (Ident x)) l n w
     laid_between (lay.leaf f place has performs) =
         lay.leaf f place (λ s. let y = has s in let z = does_between s (f s) y.0 in (z.0, z.1 ∙ y.1)) performs
+    laid_between (lay.read f free has performs) = absurd (taken (sym h ∙ free))
+      where
+        taken : Some r ≡ None → ⊥
+        taken e = cc
     laid_between (lay.call q first last counts e t i a p z) =
         let k : q ≡ r = same_some (sym e ∙ h) in
         lay.call q first last counts e (sym (same_tokens q.type_of) ∙ t) i a
         (subst (λ m. IsPoint points (Run m q.body) first last 0) (subst (λ y. body_mode y NonAtomicMode ≡ body_mode y Between) (sym k) same_mode) p) z
+    laid_between {rank} {l} {n} {w} (lay.in_place q e t p) =
+        let k : q ≡ r = same_some (sym e ∙ h) in
+        lay.in_place q e (sym (same_tokens q.type_of) ∙ t)
+        (subst (λ m. IsPart points rank (Run m q.body) l n w) (subst (λ y. body_mode y NonAtomicMode ≡ body_mode y Between) (sym k) same_mode) p)
     laid_between (lay.sub q first last e t a p z) =
         let k : q ≡ r = same_some (sym e ∙ h) in
         lay.sub q first last e (sym (same_tokens q.type_of) ∙ t) a
         (subst (λ m. IsPoint points (Run m q.body) first last 0) (subst (λ y. body_mode y NonAtomicMode ≡ body_mode y Between) (sym k) same_mode) p) z
 
--- the rule `COMMENT`, called in the implicit skipping
-module _ (p : Program) (i : ℕ) (sound : IsSoundProgram p) (is : p.comment ≡ Some i) where
-  pub comment_meant : IsRuleOf (grammar_in p) comment i
-  comment_meant = subst (IsSkippedRule (grammar_in p) comment) is sound.comment_is
+-- without a rule of that name there are no comments
+pub no_comments : (g : Grammar) (classes : Classes) → rule_of g comment ≡ None
+    → HasOutcome g classes (Run Between (Rep one_comment)) (skip_set (λ c. false)) (λ s. 0)
+no_comments g classes m s =
+    let e : moved (span_of (λ c. false) s.rest) s ≡ s = ap (λ n. moved n s) (span_none s.rest) ∙ moved_none s in
+    subst (λ t. (d : Does g classes (Run Between (Rep one_comment)) s (Success t None')) × (furthest d ≡ 0)) (sym e)
+    (by.rep_none (by.seq_first (by.other m refl)), ap (λ a. if a then s.position else 0) comment_is_no_end)
 
-  pub comment_within : i < length p.rows.items
-  comment_within =
-      let l = comment_meant.within in
+-- a rule that is called in the implicit skipping
+module _ (p : Program) (x : Text) (i : ℕ) (meant : IsRuleOf (grammar_in p) x i) (blank : IsSkipName x) where
+  skipped_within : i < length p.rows.items
+  skipped_within =
+      let l = meant.within in
       omega (arith, l, length-map p.rows.items (rule_of_row (names_of p.rows.items)))
 
-  comment_named : name_at (names_of p.rows.items) i ≡ comment
-  comment_named = row_name (names_of p.rows.items) p.rows.items i no_rule comment_within ∙ comment_meant.named no_rule
+  skipped_named : name_at (names_of p.rows.items) i ≡ x
+  skipped_named = row_name (names_of p.rows.items) p.rows.items i no_rule skipped_within ∙ meant.named no_rule
 
-  pub comment_is_rule : IsRuleOf (grammar_in p) (name_at (names_of p.rows.items) i) i
-  comment_is_rule = subst (λ n. IsRuleOf (grammar_in p) n i) (sym comment_named) comment_meant
+  pub skipped_is_rule : IsRuleOf (grammar_in p) (name_at (names_of p.rows.items) i) i
+  skipped_is_rule = subst (λ n. IsRuleOf (grammar_in p) n i) (sym skipped_named) meant
 
-  comment_is_blank_rule : (bytes_eq (get_or (grammar_in p) i no_rule).name whitespace || bytes_eq (get_or (grammar_in p) i no_rule).name comment) ≡ true
-  comment_is_blank_rule = subst (λ y. (bytes_eq y whitespace || bytes_eq y comment) ≡ true) (sym (comment_meant.named no_rule)) comment_is_blank
+  rule_is_skipped : IsSkipName (get_or (grammar_in p) i no_rule).name
+  rule_is_skipped = subst IsSkipName (sym (meant.named no_rule)) blank
 
-  pub comment_laid : (classes : Classes) (code : Code) (number : Text → ℕ) (points : List lay.Point) {l n w : ℕ}
-      → lay.Lays (grammar_in p) classes code number points (Run NonAtomicMode (Ident (name_at (names_of p.rows.items) i))) l n w
-      → lay.Lays (grammar_in p) classes code number points (Run Between (Ident comment)) l n w
-  comment_laid classes code number points {l = l} {n = n} {w = w} x =
-      laid_between (grammar_in p) classes comment (get_or (grammar_in p) i no_rule) (comment_meant.meant no_rule) comment_is_blank_rule code number points
-      (subst (λ y. lay.Lays (grammar_in p) classes code number points (Run NonAtomicMode (Ident y)) l n w) comment_named x)
+  pub skipped_laid : (classes : Classes) (code : Code) (number : Text → ℕ) (points : List lay.Point) {rank l n w : ℕ}
+      → lay.Lays (grammar_in p) classes code number points rank (Run NonAtomicMode (Ident (name_at (names_of p.rows.items) i))) l n w
+      → lay.Lays (grammar_in p) classes code number points rank (Run Between (Ident x)) l n w
+  skipped_laid classes code number points {rank = rank} {l = l} {n = n} {w = w} y =
+      laid_between (grammar_in p) classes x (get_or (grammar_in p) i no_rule) (meant.meant no_rule) rule_is_skipped code number points
+      (subst (λ z. lay.Lays (grammar_in p) classes code number points rank (Run NonAtomicMode (Ident z)) l n w) skipped_named y)
 
-  -- where no character of the head of a comment is next, there is none
-  pub comment_fails : (h : Head) → HasHead p NonAtomicMode (Ident (name_at (names_of p.rows.items) i)) h → h.empty ≡ false
-      → FailsWithout p (Run Between one_comment) h
-  comment_fails h has q classes fits s miss =
-      let f : FailsOutside (grammar_in p) classes (Run NonAtomicMode (Ident comment)) h.ranges.items h.noted =
-      subst (λ y. FailsOutside (grammar_in p) classes (Run NonAtomicMode (Ident y)) h.ranges.items h.noted) comment_named (fails_outside p NonAtomicMode (Ident (name_at (names_of p.rows.items) i)) h has q classes fits) in
-      let x = f s miss in
-      let y = does_between (grammar_in p) classes comment (get_or (grammar_in p) i no_rule) (comment_meant.meant no_rule) comment_is_blank_rule s Failure x.0 in
-      (by.seq_first y.0, y.1 ∙ x.1)
+  -- where no character of its head is next, the call fails
+  pub skipped_fails : (h : Head) → HasHead p NonAtomicMode (Ident (name_at (names_of p.rows.items) i)) h → h.empty ≡ false
+      → FailsWithout p (Run Between (Ident x)) h
+  skipped_fails h has q classes fits s miss =
+      let f : FailsOutside (grammar_in p) classes (Run NonAtomicMode (Ident x)) h.ranges.items h.noted =
+      subst (λ y. FailsOutside (grammar_in p) classes (Run NonAtomicMode (Ident y)) h.ranges.items h.noted) skipped_named (fails_outside p NonAtomicMode (Ident (name_at (names_of p.rows.items) i)) h has q classes fits) in
+      let z = f s miss in
+      let y = does_between (grammar_in p) classes x (get_or (grammar_in p) i no_rule) (meant.meant no_rule) rule_is_skipped s Failure z.0 in
+      (y.0, y.1 ∙ z.1)
+
+-- two facts of a value give a third
+pub both_on_some : {X E : Type 0} {P Q R : X → Type 0} (r : Result (Option X) E) → ((x : X) → P x → Q x → R x)
+    → IfOk r (λ made. IfSome made P) → IfOk r (λ made. IfSome made Q) → IfOk r (λ made. IfSome made R)
+both_on_some (Ok (Some x)) f p q = f x p q
+both_on_some (Ok None) f p q = tt
+both_on_some (Err e) f p q = tt
+
+-- where a comment cannot begin, there is none with blanks behind it
+pub comment_fails : (p : Program) (h : Head) → FailsWithout p (Run Between (Ident comment)) h → FailsWithout p (Run Between one_comment) h
+comment_fails p h fails classes fits s miss = let y = fails classes fits s miss in (by.seq_first y.0, y.1)
+
+-- the rules `COMMENT` and `WHITESPACE` of a program
+pub comment_meant : (p : Program) (i : ℕ) → IsSoundProgram p → p.comment ≡ Some i → IsRuleOf (grammar_in p) comment i
+comment_meant p i sound is = subst (IsSkippedRule (grammar_in p) comment) is sound.comment_is
+
+pub white_meant : (p : Program) (i : ℕ) → IsSoundProgram p → p.whitespace ≡ Some i → IsRuleOf (grammar_in p) whitespace i
+white_meant p i sound is = subst (IsSkippedRule (grammar_in p) whitespace) is sound.whitespace_is

@@ -1,5 +1,5 @@
 -- Plans of programs: points and demands, and what a program does that meets them.
-use Rattle.std.specs.Prelude.{◌≡◌, ◌<◌, ℕ, Bool, List, [], ◌∷◌, None, Option, get_or, length, map, All, IsUtf8, chars, ⊤}
+use Rattle.std.specs.Prelude.{◌≡◌, ◌<◌, ℕ, suc, Bool, List, [], ◌∷◌, None, Option, get_or, length, map, All, IsUtf8, chars, ⊤}
 use Rattle.meta_base.specs.Language.Expression.{Expression, Grammar, Ident, Normal, Rep, Rule, Seq, Str, comment, rule_of, whitespace}
 use Rattle.meta_base.specs.Language.Meaning.{Run, Skipping, Task, once_or_more, skipped}
 use Rattle.meta_base.specs.Language.State as language
@@ -12,7 +12,7 @@ use Rattle.matcher_code.specs.Sets.{IsSetOf}
 use Rattle.matcher_program.specs.declared.form.Program.{Program}
 use Rattle.matcher_program.specs.Programs.{Fits, name_at, names_of}
 use Rattle.matcher_layout.specs.Laid as lay
-use Rattle.matcher_layout.specs.Laid.{Branches, Continues, Enters, FailsOutside, HasOutcome, HasTable, IsEnd, IsPoint, IsTight, Lays, TakesOne, at_label, skip_set}
+use Rattle.matcher_layout.specs.Laid.{Branches, Continues, Enters, FailsOutside, HasOutcome, HasTable, IsEnd, IsPart, IsPoint, IsTight, Lays, TakesOne, at_label, skip_set}
 use Rattle.matcher_compiler.specs.declared.plan.Plan.{Plan}
 use Rattle.matcher_compiler.specs.declared.plan.Skips.{Skips}
 use Rattle.matcher_compiler.specs.declared.plan.Skips.TheVariants as skips
@@ -55,6 +55,7 @@ task_in p (part.Rule i) m = Run m (Ident (name_at (names_of p.rows.items) i))
 task_in p part.Gap m = Skipping m
 task_in p part.Skipped m = Run Between skipped
 task_in p part.Blanks m = Run Between blanks
+task_in p part.BlankCall m = Run Between (Ident whitespace)
 task_in p part.Comments m = Run Between (Rep one_comment)
 task_in p part.Comment m = Run Between one_comment
 task_in p part.CommentCall m = Run Between (Ident comment)
@@ -76,11 +77,13 @@ laid_point p x = record {
   label = x.at.label;
   next = x.at.next;
   way = x.at.way;
+  rank = x.at.rank;
 }
 
+-- a point, of the same rank or a lower one
 abbrev pub IsPointOf : Program → List lay.Point → Point → Type 0
 IsPointOf p laid x =
-    IsPoint laid (task_in p x.part (mode_of x.at.mode)) x.at.label x.at.next x.at.way
+    IsPart laid (suc x.at.rank) (task_in p x.part (mode_of x.at.mode)) x.at.label x.at.next x.at.way
 
 -- nothing is skipped in the mode
 abbrev pub IsTightIn : Program → Atomicity → Type 0
@@ -143,11 +146,13 @@ pub record IsBlankSet (p : Program) (sets : Code) (set : ℕ) : Type 0 where
   pub is : IsSetOf sets set ranges
   pub blank : AreBlanks p ranges
 
--- the characters that the implicit skipping takes: none, those of a set, or these and comments
+-- what the implicit skipping takes: nothing, the characters of a set, or these and comments; of calls of the
+-- rules nothing is said
 abbrev pub SkipsAs : Program → Code → Skips → Type 0
 SkipsAs p sets skips.Nothing = (classes : Classes) → IsTight (grammar_in p) classes NonAtomicMode
 SkipsAs p sets (skips.Blanks set) = (rule_of (grammar_in p) comment ≡ None) × IsBlankSet p sets set
 SkipsAs p sets (skips.Comments set) = IsBlankSet p sets set
+SkipsAs p sets skips.Calls = ⊤
 
 abbrev pub IsReady : Program → Plan → Type 0
 IsReady p plan = SkipsAs p plan.sets plan.skips
@@ -169,7 +174,7 @@ pub record IsLater (p : Program) (old new : Plan) : Type 0 where
 abbrev pub LaysAt : Program → Plan → Task → Place → Type 0
 LaysAt p plan k at = (classes : Classes) → Fits p.properties.items classes
     → (code : Code) (laid : List lay.Point) → Meets p plan code laid
-    → Lays (grammar_in p) classes code (number_in (grammar_in p)) laid k at.label at.next at.way
+    → Lays (grammar_in p) classes code (number_in (grammar_in p)) laid at.rank k at.label at.next at.way
 
 -- so it goes on from the place to the task at a label
 abbrev pub EntersAt : Program → Plan → Task → Place → ℕ → Type 0
@@ -198,7 +203,7 @@ pub record IsEntered (g : Grammar) (classes : Classes) (code : Code) (laid : Lis
     (at : Place) : Type 0 where
   pub first : ℕ
   pub entered : Enters g classes code k at.label first at.way
-  pub point : IsPoint laid k first at.next at.way
+  pub point : IsPart laid at.rank k first at.next at.way
 
 abbrev pub BeginsAt : Program → Plan → Task → Place → Type 0
 BeginsAt p plan k at = (classes : Classes) → Fits p.properties.items classes
@@ -213,9 +218,9 @@ LaysPoint p plan x = LaysAt p plan (task_in p x.part (mode_of x.at.mode)) x.at
 pub record AreParts (p : Program) (laid : List lay.Point) (first second : Part) (at : Place) : Type 0 where
   pub behind : ℕ
   pub begin : ℕ
-  pub left : IsPoint laid (task_in p first (mode_of at.mode)) at.label behind 0
-  pub skipping : IsPoint laid (Skipping (mode_of at.mode)) behind begin 0
-  pub right : IsPoint laid (task_in p second (mode_of at.mode)) begin at.next 0
+  pub left : IsPart laid at.rank (task_in p first (mode_of at.mode)) at.label behind 0
+  pub skipping : IsPart laid at.rank (Skipping (mode_of at.mode)) behind begin 0
+  pub right : IsPart laid at.rank (task_in p second (mode_of at.mode)) begin at.next 0
 
 -- a program that meets the plan has them
 abbrev pub HasParts : Program → Plan → Part → Part → Place → Type 0
@@ -227,5 +232,5 @@ abbrev pub HasTurns : Program → Plan → Expression → Place → ℕ → Type
 HasTurns p plan e at start = (classes : Classes) (code : Code) (laid : List lay.Point)
     → Meets p plan code laid
     → Enters (grammar_in p) classes code (Run (mode_of at.mode) e) at.label start at.next
-    → Lays (grammar_in p) classes code (number_in (grammar_in p)) laid (Run (mode_of at.mode) (Rep e))
+    → Lays (grammar_in p) classes code (number_in (grammar_in p)) laid at.rank (Run (mode_of at.mode) (Rep e))
     at.label at.next at.way

@@ -15,10 +15,19 @@ ghost use Rattle.matcher_compiler.specs.Plans.{IsLater, LaysAt, Meets, body_in};
 
 use crate::forms::FAIL;
 use crate::plan::Plan;
-use crate::points::{Demand, NotCompiled, Part, Place};
+use crate::points::{Demand, NO_CALL, NotCompiled, Part, Place, Point, TOP_RANK};
 use matcher_code::code::Op;
-use matcher_program::form::{Program, Row};
+use matcher_program::form::{Form, Program, Row};
 use matcher_sets::modes::{Atomicity, body_mode, gives_token, is_seen_from};
+use matcher_sets::sizes::MOST_INSIDE;
+
+/// Returns whether a point is the body of a rule.
+fn is_body(point: Point<'_>, rule: usize) -> bool {
+    match point.part {
+        Part::Body(number) => number == rule,
+        _ => false,
+    }
+}
 
 /// Returns the number of the body of a rule in a mode, with or without a token.
 fn body_number(rule: usize, mode: Atomicity, gives: bool) -> usize {
@@ -109,6 +118,8 @@ impl<'p> Plan<'p> {
             label: first,
             next: last,
             way: FAIL,
+            rank: TOP_RANK,
+            around: NO_CALL,
         };
         let point = self.body_point(rule, place, number)?;
         self.demand(Demand::Body {
@@ -190,6 +201,98 @@ impl<'p> Plan<'p> {
         Ok(())
     }
 
+    /// Returns whether a rule is none of those whose bodies are around a call, and these are few enough.
+    fn is_outside(&self, rule: usize, at: Place) -> bool {
+        let mut around = at.around;
+        for _ in 0..MOST_INSIDE + 1 {
+            match self.points.get(around as usize) {
+                Some(point) => {
+                    if is_body(*point, rule) {
+                        return false;
+                    }
+                    around = point.at.around;
+                }
+                None => return true,
+            }
+        }
+        false
+    }
+
+    /// Returns whether the body of a rule that gives no token is laid in the place of a call: if it is
+    /// small, not inside itself, and only so many inside one another. So a program grows by a constant for
+    /// each form.
+    fn is_placed(&self, row: &Row, rule: usize, at: Place) -> bool {
+        let mode = body_mode(row.kind, row.blank, at.mode);
+        self.sizes.is_small(row, rule, mode) && self.is_outside(rule, at)
+    }
+
+    /// Returns the body of a rule, if a call of it would be laid in place.
+    pub(crate) fn placed_body<'q>(
+        &self,
+        program: &'q Program,
+        rule: usize,
+        at: Place,
+    ) -> Option<&'q Form> {
+        match program.rows.get(rule) {
+            Some(row) => {
+                if gives_token(row.kind, at.mode) || !self.is_placed(row, rule, at) {
+                    None
+                } else {
+                    Some(&row.body)
+                }
+            }
+            None => None,
+        }
+    }
+
+    /// Plans the body of a rule in the place of a call that gives no token.
+    fn placed_call(
+        &mut self,
+        program: &Program,
+        rule: usize,
+        row: &Row,
+        at: Place,
+    ) -> Result<(), NotCompiled>
+        requires sound { IsSoundProgram program.now }
+        requires within { rule < length program.now.rows.items }
+        requires meant { IsRuleOf (grammar_in program.now)
+            (name_at (names_of program.now.rows.items) rule) rule }
+        requires is { row.now ≡ get_or program.now.rows.items rule row.now }
+        requires gives { gives_token (rule_type_of row.now.kind) (mode_of at.mode) ≡ false }
+        ensures later { OnOk result (IsLater program.now self.old self.new) }
+        ensures lays { OnOk result (LaysAt program.now self.new
+            (Run (mode_of at.mode) (Ident (name_at (names_of program.now.rows.items) rule))) at) }
+    {
+        let mode = body_mode(row.kind, row.blank, at.mode);
+        self.point(Part::Body(rule), Place { mode, ..at })?;
+        Ok(())
+    }
+
+    /// Plans a call that gives no token, in place if that may be.
+    fn quiet_call(
+        &mut self,
+        program: &Program,
+        rule: usize,
+        row: &Row,
+        at: Place,
+    ) -> Result<(), NotCompiled>
+        requires sound { IsSoundProgram program.now }
+        requires within { rule < length program.now.rows.items }
+        requires meant { IsRuleOf (grammar_in program.now)
+            (name_at (names_of program.now.rows.items) rule) rule }
+        requires is { row.now ≡ get_or program.now.rows.items rule row.now }
+        requires gives { gives_token (rule_type_of row.now.kind) (mode_of at.mode) ≡ false }
+        ensures later { OnOk result (IsLater program.now self.old self.new) }
+        ensures lays { OnOk result (LaysAt program.now self.new
+            (Run (mode_of at.mode) (Ident (name_at (names_of program.now.rows.items) rule))) at) }
+    {
+        if self.is_placed(row, rule, at) {
+            self.placed_call(program, rule, row, at)
+        } else {
+            self.silent_call(program, rule, row, at)
+        }
+    }
+
     /// Plans a call of a rule.
     pub(crate) fn call(
         &mut self,
@@ -211,7 +314,7 @@ impl<'p> Plan<'p> {
                 if gives_token(row.kind, at.mode) {
                     self.token_call(program, rule, row, at)
                 } else {
-                    self.silent_call(program, rule, row, at)
+                    self.quiet_call(program, rule, row, at)
                 }
             }
             None => Err(NotCompiled::Unsupported),

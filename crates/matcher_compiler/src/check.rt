@@ -135,6 +135,92 @@ fn is_same_leaf(one: Op, other: Op) -> bool
     }
 }
 
+/// Returns whether two slices of the stack are the same.
+fn is_same_slice(from: i32, to: Option<i32>, other_from: i32, other_to: Option<i32>) -> bool
+    ensures from { result ≡ true → from ≡ other_from }
+    ensures to { result ≡ true → to ≡ other_to }
+{
+    from == other_from && to == other_to
+}
+
+/// Returns whether two operations are the same one of those that read the stack.
+fn is_same_read(one: Op, other: Op) -> bool
+    ensures { result ≡ true → one ≡ other }
+{
+    match one {
+        Op::Peek { next, fail } => match other {
+            Op::Peek {
+                next: next2,
+                fail: fail2,
+            } => next == next2 && fail == fail2,
+            _ => false,
+        },
+        Op::PeekAll { next, fail } => match other {
+            Op::PeekAll {
+                next: next2,
+                fail: fail2,
+            } => next == next2 && fail == fail2,
+            _ => false,
+        },
+        Op::Slice {
+            from,
+            to,
+            next,
+            fail,
+        } => match other {
+            Op::Slice {
+                from: from2,
+                to: to2,
+                next: next2,
+                fail: fail2,
+            } => is_same_slice(from, to, from2, to2) && next == next2 && fail == fail2,
+            _ => false,
+        },
+        _ => is_same_leaf(one, other),
+    }
+}
+
+/// Returns whether two operations are the same one of those that change or read the stack.
+fn is_same_change(one: Op, other: Op) -> bool
+    ensures { result ≡ true → one ≡ other }
+{
+    match one {
+        Op::Push { next } => match other {
+            Op::Push { next: next2 } => next == next2,
+            _ => false,
+        },
+        Op::PushText { text, next } => match other {
+            Op::PushText {
+                text: text2,
+                next: next2,
+            } => text == text2 && next == next2,
+            _ => false,
+        },
+        Op::Pop { next, fail } => match other {
+            Op::Pop {
+                next: next2,
+                fail: fail2,
+            } => next == next2 && fail == fail2,
+            _ => false,
+        },
+        Op::PopAll { next, fail } => match other {
+            Op::PopAll {
+                next: next2,
+                fail: fail2,
+            } => next == next2 && fail == fail2,
+            _ => false,
+        },
+        Op::Discard { next, fail } => match other {
+            Op::Discard {
+                next: next2,
+                fail: fail2,
+            } => next == next2 && fail == fail2,
+            _ => false,
+        },
+        _ => is_same_read(one, other),
+    }
+}
+
 /// Returns whether two operations are the same. The answer is no for those that no plan demands.
 fn is_same(one: Op, other: Op) -> bool
     ensures { result ≡ true → one ≡ other }
@@ -180,7 +266,7 @@ fn is_same(one: Op, other: Op) -> bool
             Op::Close { next: next2 } => next == next2,
             _ => false,
         },
-        _ => is_same_leaf(one, other),
+        _ => is_same_change(one, other),
     }
 }
 

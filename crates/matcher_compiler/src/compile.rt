@@ -1,5 +1,5 @@
 //! The compiler.
-ghost use Rattle.std.specs.Prelude.{◌≡◌, ◌<◌, ◌≤◌, IfOk, None, OnOk, Some, [], false, get_or, if◌then◌else◌, length, map, true};
+ghost use Rattle.std.specs.Prelude.{◌≡◌, ◌<◌, ◌≤◌, IfOk, IfSome, None, OnOk, Some, [], false, get_or, if◌then◌else◌, length, map, true};
 ghost use Rattle.meta_ast.specs.Ast.{rule_type_of};
 ghost use Rattle.meta_base.specs.Language.Expression.{Silent};
 ghost use Rattle.matcher_code.specs.Sets.{IsAligned};
@@ -12,7 +12,7 @@ ghost use Rattle.matcher_sets.specs.Forms.{IsSoundProgram};
 use crate::check::{has_ends, meets_all};
 use crate::names::has_own_names;
 use crate::plan::{Plan, Skips};
-use crate::points::{Demand, NotCompiled, Part, Place, Point};
+use crate::points::{Demand, NO_CALL, NotCompiled, Part, Place, Point, TOP_RANK};
 use crate::tables::{write_tables, zeros};
 use matcher_code::code::{Code, Op, Ranges};
 use matcher_code::sets::add_set;
@@ -20,6 +20,7 @@ use matcher_program::form::{Form, Program, Row};
 use matcher_sets::difference::choice_ranges;
 use matcher_sets::heads::rule_heads;
 use matcher_sets::modes::Atomicity;
+use matcher_sets::sizes::body_sizes;
 use meta_ast::ast::RuleType;
 use std::alloc::Global;
 
@@ -41,10 +42,10 @@ fn empty_code(alloc: Global) -> Code
     }
 }
 
-/// Returns a plan without points and demands, for so many rules.
+/// Returns a plan without points and demands, for some rules.
 fn fresh_plan<'p>(
     alloc: Global,
-    rules: usize,
+    program: &Program,
     sets: Code,
     skips: Skips,
 ) -> Result<Plan<'p>, NotCompiled>
@@ -53,8 +54,9 @@ fn fresh_plan<'p>(
     ensures sets { IfOk result (λ plan. plan.sets ≡ sets) }
     ensures skips { IfOk result (λ plan. plan.skips ≡ skips) }
 {
+    let sizes = body_sizes(alloc, program)?;
     let mut bodies = Vec::new(alloc);
-    for _ in 0..rules.saturating_mul(6) {
+    for _ in 0..program.rows.len().saturating_mul(6) {
         if bodies.push(None).is_err() {
             return Err(NotCompiled::Memory);
         }
@@ -68,62 +70,66 @@ fn fresh_plan<'p>(
         skips,
         tables: 0,
         bodies,
+        sizes,
     })
 }
 
-/// Returns the ranges of the characters that the body of the silent rule `WHITESPACE` matches.
+/// Returns the ranges of the characters that the body of the silent rule `WHITESPACE` matches, if it matches
+/// single characters.
 fn body_ranges(
     alloc: Global,
     program: &Program,
     number: usize,
     row: &Row,
     body: &Form,
-) -> Result<Ranges, NotCompiled>
+) -> Result<Option<Ranges>, NotCompiled>
     requires sound { IsSoundProgram program.now }
     requires white { program.now.whitespace ≡ Some number }
     requires within { number < length program.now.rows.items }
     requires is { row.now ≡ get_or program.now.rows.items number row.now }
     requires kind { rule_type_of row.now.kind ≡ Silent }
     requires body { body.now ≡ row.now.body }
-    ensures { IfOk result (λ ranges. AreBlanks program.now ranges.items) }
+    ensures { IfOk result (λ made. IfSome made (λ ranges. AreBlanks program.now ranges.items)) }
 {
     let made = choice_ranges(alloc, program, body)?;
     match made {
-        Some(ranges) => Ok(ranges),
-        None => Err(NotCompiled::Unsupported),
+        Some(ranges) => Ok(Some(ranges)),
+        None => Ok(None),
     }
 }
 
-/// Returns the ranges of the characters that the rule `WHITESPACE` matches, if it is silent.
+/// Returns the ranges of the characters that the rule `WHITESPACE` matches, if it is silent, and matches
+/// single characters.
 fn silent_ranges(
     alloc: Global,
     program: &Program,
     number: usize,
     row: &Row,
-) -> Result<Ranges, NotCompiled>
+) -> Result<Option<Ranges>, NotCompiled>
     requires sound { IsSoundProgram program.now }
     requires white { program.now.whitespace ≡ Some number }
     requires within { number < length program.now.rows.items }
     requires is { row.now ≡ get_or program.now.rows.items number row.now }
-    ensures { IfOk result (λ ranges. AreBlanks program.now ranges.items) }
+    ensures { IfOk result (λ made. IfSome made (λ ranges. AreBlanks program.now ranges.items)) }
 {
     match row.kind {
         RuleType::Silent => body_ranges(alloc, program, number, row, &row.body),
-        _ => Err(NotCompiled::Unsupported),
+        _ => Ok(None),
     }
 }
 
-/// Returns the ranges of blanks, which are none without a rule `WHITESPACE`.
-fn blank_ranges(alloc: Global, program: &Program) -> Result<Ranges, NotCompiled>
+/// Returns the ranges of blanks, which are none without a rule `WHITESPACE`, or `None` if that rule is not a
+/// silent one of single characters.
+fn blank_ranges(alloc: Global, program: &Program) -> Result<Option<Ranges>, NotCompiled>
     requires sound { IsSoundProgram program.now }
-    ensures { IfOk result (λ ranges. AreBlanks program.now ranges.items) }
+    ensures { IfOk result (λ made. IfSome made (λ ranges. AreBlanks program.now ranges.items)) }
 {
     match program.whitespace {
         Some(number) => match program.rows.get(number) {
             Some(row) => silent_ranges(alloc, program, number, row),
-            None => Err(NotCompiled::Unsupported),
+            None => Ok(None),
         },
-        None => Ok(Vec::new(alloc)),
+        None => Ok(Some(Vec::new(alloc))),
     }
 }
 
@@ -138,6 +144,15 @@ fn skips_with(comments: bool, set: u32) -> Skips
     }
 }
 
+/// Returns a plan without points where the rules of blanks and comments are called.
+fn call_plan<'p>(alloc: Global, program: &Program) -> Result<Plan<'p>, NotCompiled>
+    ensures empty { IfOk result IsEmpty }
+    ensures ready { IfOk result (IsReady program.now) }
+{
+    let plan = fresh_plan(alloc, program, empty_code(alloc), Skips::Calls)?;
+    Ok(plan)
+}
+
 /// Returns a plan without points where blanks are skipped, and comments, if there are such.
 fn blank_plan<'p>(alloc: Global, program: &Program, comments: bool) -> Result<Plan<'p>, NotCompiled>
     requires sound { IsSoundProgram program.now }
@@ -145,14 +160,33 @@ fn blank_plan<'p>(alloc: Global, program: &Program, comments: bool) -> Result<Pl
     ensures empty { IfOk result IsEmpty }
     ensures ready { IfOk result (IsReady program.now) }
 {
-    let ranges = blank_ranges(alloc, program)?;
+    let made = blank_ranges(alloc, program)?;
+    match made {
+        Some(ranges) => set_plan(alloc, program, comments, ranges),
+        None => call_plan(alloc, program),
+    }
+}
+
+/// Returns a plan without points where blanks are the characters of some ranges.
+fn set_plan<'p>(
+    alloc: Global,
+    program: &Program,
+    comments: bool,
+    ranges: Ranges,
+) -> Result<Plan<'p>, NotCompiled>
+    requires sound { IsSoundProgram program.now }
+    requires note { comments ≡ false → program.now.comment ≡ None }
+    requires blanks { AreBlanks program.now ranges.items }
+    ensures empty { IfOk result IsEmpty }
+    ensures ready { IfOk result (IsReady program.now) }
+{
     let mut sets = empty_code(alloc);
     let set = add_set(&mut sets, ranges)?;
     if set as usize >= sets.ranges.len() {
         return Err(NotCompiled::Unsupported);
     }
     let skips = skips_with(comments, set);
-    let plan = fresh_plan(alloc, program.rows.len(), sets, skips)?;
+    let plan = fresh_plan(alloc, program, sets, skips)?;
     Ok(plan)
 }
 
@@ -164,7 +198,7 @@ fn plain_plan<'p>(alloc: Global, program: &Program) -> Result<Plan<'p>, NotCompi
     ensures empty { IfOk result IsEmpty }
     ensures ready { IfOk result (IsReady program.now) }
 {
-    let plan = fresh_plan(alloc, program.rows.len(), empty_code(alloc), Skips::Nothing)?;
+    let plan = fresh_plan(alloc, program, empty_code(alloc), Skips::Nothing)?;
     Ok(plan)
 }
 
@@ -205,6 +239,8 @@ fn plan_entries(program: &Program, plan: &mut Plan<'_>) -> Result<(), NotCompile
             label: rule as u32 + 3,
             next: 1,
             way: 2,
+            rank: TOP_RANK,
+            around: NO_CALL,
         };
         plan.point(Part::Rule(rule), at)?;
     }
@@ -260,6 +296,7 @@ fn finish(alloc: Global, plan: Plan<'_>) -> Result<Code, NotCompiled>
         skips: _,
         tables: size,
         bodies: _,
+        sizes: _,
     } = plan;
     let ops = write(alloc, &demands)?;
     let Code {
@@ -287,8 +324,8 @@ fn finish(alloc: Global, plan: Plan<'_>) -> Result<Code, NotCompiled>
     Ok(code)
 }
 
-/// Makes a program for rules. Errors: rules that have an expression of a kind that is not compiled, or a
-/// `WHITESPACE` that is no set of characters, or are more than 4096; and an allocation failure.
+/// Makes a program for rules. Errors: rules that have an expression of a kind that is not compiled, or are
+/// more than 4096; and an allocation failure.
 pub fn compile(alloc: Global, program: &Program) -> Result<Code, NotCompiled>
     requires sound { IsSoundProgram program.now }
     ensures { IfOk result (IsCodeOf program.now) }

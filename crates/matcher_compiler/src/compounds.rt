@@ -49,10 +49,10 @@ impl<'p> Plan<'p> {
         self.point(
             Part::Form(body),
             Place {
-                mode: at.mode,
                 label: own,
                 next: last,
                 way: FAIL,
+                ..at
             },
         )?;
         Ok(())
@@ -80,28 +80,26 @@ impl<'p> Plan<'p> {
         self.point(
             first,
             Place {
-                mode: at.mode,
-                label: at.label,
                 next: own,
                 way: FAIL,
+                ..at
             },
         )?;
         self.point(
             Part::Gap,
             Place {
-                mode: at.mode,
                 label: own,
                 next: begin,
                 way: FAIL,
+                ..at
             },
         )?;
         self.point(
             second,
             Place {
-                mode: at.mode,
                 label: begin,
-                next: at.next,
                 way: FAIL,
+                ..at
             },
         )?;
         Ok(())
@@ -158,10 +156,10 @@ impl<'p> Plan<'p> {
         )?;
         self.operation(last, Op::Commit { next: at.next })?;
         let inner = Place {
-            mode: at.mode,
             label: start,
             next: last,
             way: FAIL,
+            ..at
         };
         self.parts(program, first, second, inner, own)?;
         Ok(())
@@ -210,15 +208,7 @@ impl<'p> Plan<'p> {
             (Run (mode_of at.mode) (said program.now form.entry.now)) at) }
     {
         let label = self.enter(alloc, program, heads, form, at, own)?;
-        self.point(
-            Part::Form(form),
-            Place {
-                mode: at.mode,
-                label,
-                next: at.next,
-                way: at.way,
-            },
-        )?;
+        self.point(Part::Form(form), Place { label, ..at })?;
         Ok(())
     }
 
@@ -273,18 +263,8 @@ impl<'p> Plan<'p> {
         ensures lays { OnOk result (LaysAt program.now self.new (Run (mode_of at.mode)
             (Choice (said program.now left.entry.now) (said program.now right.entry.now))) at) }
     {
-        let first = Place {
-            mode: at.mode,
-            label: at.label,
-            next: at.next,
-            way: own,
-        };
-        let second = Place {
-            mode: at.mode,
-            label: own,
-            next: at.next,
-            way: at.way,
-        };
+        let first = Place { way: own, ..at };
+        let second = Place { label: own, ..at };
         self.alternative(alloc, program, heads, left, first, own.saturating_add(1))?;
         self.alternative(alloc, program, heads, right, second, own.saturating_add(3))?;
         Ok(())
@@ -310,12 +290,7 @@ impl<'p> Plan<'p> {
         if at.next == FAIL {
             return Err(NotCompiled::Unsupported);
         }
-        let tried = Place {
-            mode: at.mode,
-            label: at.label,
-            next: at.next,
-            way: at.next,
-        };
+        let tried = Place { way: at.next, ..at };
         self.alternative(alloc, program, heads, body, tried, own)?;
         Ok(())
     }
@@ -340,10 +315,9 @@ impl<'p> Plan<'p> {
         self.point(
             Part::Form(body),
             Place {
-                mode: at.mode,
-                label: at.label,
                 next: at.label,
                 way: at.next,
+                ..at
             },
         )?;
         Ok(())
@@ -369,12 +343,7 @@ impl<'p> Plan<'p> {
         if at.next == FAIL {
             return Err(NotCompiled::Unsupported);
         }
-        let tried = Place {
-            mode: at.mode,
-            label: at.label,
-            next: at.next,
-            way: at.next,
-        };
+        let tried = Place { way: at.next, ..at };
         let start = self.enter(alloc, program, heads, body, tried, own.saturating_add(4))?;
         self.turns_from(program, body, at, start, own)?;
         Ok(())
@@ -418,19 +387,19 @@ impl<'p> Plan<'p> {
         self.point(
             Part::Gap,
             Place {
-                mode: at.mode,
                 label: gap,
                 next: first,
                 way: FAIL,
+                ..at
             },
         )?;
         self.point(
             Part::Form(body),
             Place {
-                mode: at.mode,
                 label: first,
                 next: last,
                 way: FAIL,
+                ..at
             },
         )?;
         Ok(())

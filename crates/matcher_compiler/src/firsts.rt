@@ -19,8 +19,9 @@ use matcher_sets::heads::{Head, Heads, head_of};
 use matcher_sets::modes::Atomicity;
 use std::alloc::Global;
 
-/// Returns whether a test may spare more than it takes: the form is a call, or has several parts.
-pub(crate) fn is_long(form: &Form) -> bool {
+/// Returns whether a test may spare more than it takes, if calls are as they are: the form is a call, or has
+/// several parts.
+fn is_long(form: &Form) -> bool {
     matches!(form, Form::Call(_) | Form::Seq(_, _) | Form::RepOnce(_))
 }
 
@@ -62,6 +63,17 @@ pub(crate) fn narrow_head(
 }
 
 impl<'p> Plan<'p> {
+    /// Returns whether a test may spare more than it takes. A call in place is as long as the body.
+    fn is_long_at(&self, program: &Program, form: &Form, at: Place) -> bool {
+        match form {
+            Form::Call(rule) => match self.placed_body(program, *rule, at) {
+                Some(body) => is_long(body),
+                None => true,
+            },
+            _ => is_long(form),
+        }
+    }
+
     /// Returns the label at which a failure goes on at `way`, after an operation at the label `note` if it is
     /// recorded.
     fn miss(&mut self, noted: bool, way: u32, note: u32) -> Result<u32, NotCompiled>
@@ -145,7 +157,7 @@ impl<'p> Plan<'p> {
         ensures enters { IfOk result (EntersAt program.now self.new
             (Run (mode_of at.mode) (said program.now form.now)) at) }
     {
-        if !is_long(form) {
+        if !self.is_long_at(program, form, at) {
             return Ok(at.label);
         }
         let made = narrow_head(alloc, program, heads, form, at.mode)?;

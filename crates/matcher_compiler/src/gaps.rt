@@ -1,12 +1,14 @@
 //! The implicit skipping.
-ghost use Rattle.std.specs.Prelude.{◌≡◌, ◌≤◌, IfOk, IfSome, None, OnOk, length};
-ghost use Rattle.meta_base.specs.Language.Expression.{Ident, Rep, comment, rule_of};
-ghost use Rattle.meta_base.specs.Language.Meaning.{Run, Skipping, skipped};
+ghost use Rattle.std.specs.Prelude.{◌≡◌, ◌≤◌, IfOk, IfSome, None, OnOk, false, length};
+ghost use Rattle.meta_base.specs.Language.Expression.{Ident, Rep, comment, rule_of, whitespace};
+ghost use Rattle.meta_base.specs.Language.Meaning.{Run, Skipping, Task, skipped};
 ghost use Rattle.meta_base.specs.Language.State.{Between, NonAtomicMode};
+ghost use Rattle.matcher_program.specs.declared.form.Program.{Program};
+ghost use Rattle.matcher_program.specs.Programs.{IsRuleOf, name_at, names_of};
 ghost use Rattle.matcher_sets.specs.Modes.{mode_of};
 ghost use Rattle.matcher_compiler.specs.Names.{HasOwnNames};
 ghost use Rattle.matcher_sets.specs.Forms.{IsSoundProgram, grammar_in};
-ghost use Rattle.matcher_sets.specs.Heads.{AreHeads};
+ghost use Rattle.matcher_sets.specs.Heads.{AreHeads, HasHead};
 ghost use Rattle.matcher_compiler.specs.Plans.{EntersAt, FailsWithout, IsBlankSet, IsLater, IsReady, IsTightIn, LaysAt, blanks, one_comment};
 
 use crate::forms::FAIL;
@@ -17,6 +19,28 @@ use matcher_program::form::Program;
 use matcher_sets::heads::{Head, Heads, call_head};
 use matcher_sets::modes::Atomicity;
 use std::alloc::Global;
+
+/// Returns the head of a call of a rule, if it is known, and the rule takes something.
+fn sure_head(
+    alloc: Global,
+    program: &Program,
+    heads: &Heads,
+    rule: usize,
+) -> Result<Option<Head>, NotCompiled>
+    requires sound { IsSoundProgram program.now }
+    requires heads { AreHeads program.now heads.now }
+    requires meant { IsRuleOf (grammar_in program.now)
+        (name_at (names_of program.now.rows.items) rule) rule }
+    ensures head { IfOk result (λ made. IfSome made (HasHead program.now NonAtomicMode
+        (Ident (name_at (names_of program.now.rows.items) rule)))) }
+    ensures takes { IfOk result (λ made. IfSome made (λ head. head.empty ≡ false)) }
+{
+    let made = call_head(alloc, program, heads, rule, Atomicity::NonAtomic)?;
+    match made {
+        Some(head) => { if head.empty { Ok(None) } else { Ok(Some(head)) } }
+        None => Ok(None),
+    }
+}
 
 /// Returns the head of a comment, if it is known, and a comment takes something.
 fn comment_head(
@@ -29,13 +53,21 @@ fn comment_head(
     ensures { IfOk result (λ made. IfSome made
         (FailsWithout program.now (Run Between one_comment))) }
 {
-    let rule = match program.comment {
-        Some(rule) => rule,
-        None => return Ok(None),
-    };
-    let made = call_head(alloc, program, heads, rule, Atomicity::NonAtomic)?;
-    match made {
-        Some(head) => { if head.empty { Ok(None) } else { Ok(Some(head)) } }
+    match program.comment {
+        Some(rule) => sure_head(alloc, program, heads, rule),
+        None => Ok(None),
+    }
+}
+
+/// Returns the head of a blank, if it is known, and a blank takes something.
+fn blank_head(alloc: Global, program: &Program, heads: &Heads) -> Result<Option<Head>, NotCompiled>
+    requires sound { IsSoundProgram program.now }
+    requires heads { AreHeads program.now heads.now }
+    ensures { IfOk result (λ made. IfSome made
+        (FailsWithout program.now (Run Between (Ident whitespace)))) }
+{
+    match program.whitespace {
+        Some(rule) => sure_head(alloc, program, heads, rule),
         None => Ok(None),
     }
 }
@@ -76,8 +108,8 @@ impl<'p> Plan<'p> {
         Ok(())
     }
 
-    /// Plans the skipping of blanks and comments.
-    fn skip_comments(&mut self, program: &Program, at: Place) -> Result<(), NotCompiled>
+    /// Plans the skipping as the expression that it is.
+    fn skip_both(&mut self, program: &Program, at: Place) -> Result<(), NotCompiled>
         requires mode { mode_of at.mode ≡ NonAtomicMode }
         ensures later { OnOk result (IsLater program.now self.old self.new) }
         ensures lays { OnOk result (LaysAt program.now self.new (Skipping (mode_of at.mode)) at) }
@@ -98,7 +130,8 @@ impl<'p> Plan<'p> {
             match self.skips {
                 Skips::Nothing => Err(NotCompiled::Unsupported),
                 Skips::Blanks(set) => self.skip_blanks(program, set, at),
-                Skips::Comments(_) => self.skip_comments(program, at),
+                Skips::Comments(_) => self.skip_both(program, at),
+                Skips::Calls => self.skip_both(program, at),
             }
         }
     }
@@ -116,32 +149,29 @@ impl<'p> Plan<'p> {
         if at.way != FAIL {
             return Err(NotCompiled::Unsupported);
         }
-        let mode = at.mode;
         self.point(
             Part::Blanks,
             Place {
-                mode,
-                label: at.label,
                 next: own,
                 way: FAIL,
+                ..at
             },
         )?;
         self.point(
             Part::Stay,
             Place {
-                mode,
                 label: own,
                 next: own,
                 way: FAIL,
+                ..at
             },
         )?;
         self.point(
             Part::Comments,
             Place {
-                mode,
                 label: own,
-                next: at.next,
                 way: FAIL,
+                ..at
             },
         )?;
         Ok(())
@@ -157,8 +187,46 @@ impl<'p> Plan<'p> {
         Ok(())
     }
 
-    /// Plans as many blanks as there are.
-    pub(crate) fn blanks(&mut self, program: &Program, at: Place) -> Result<(), NotCompiled>
+    /// Plans as many blanks as there are, by calls of `WHITESPACE`. The labels from `own` on are free.
+    fn blank_calls(
+        &mut self,
+        alloc: Global,
+        program: &Program,
+        heads: &Heads,
+        at: Place,
+        own: u32,
+    ) -> Result<(), NotCompiled>
+        requires sound { IsSoundProgram program.now }
+        requires heads { AreHeads program.now heads.now }
+        ensures later { OnOk result (IsLater program.now self.old self.new) }
+        ensures lays { OnOk result (LaysAt program.now self.new (Run Between blanks) at) }
+    {
+        if at.next == FAIL {
+            return Err(NotCompiled::Unsupported);
+        }
+        self.demand(Demand::GoesOn { label: at.label })?;
+        let tried = Place {
+            next: at.label,
+            way: at.next,
+            ..at
+        };
+        let head = blank_head(alloc, program, heads)?;
+        let label = self.enter_head(head, tried, own)?;
+        self.point(Part::BlankCall, Place { label, ..tried })?;
+        Ok(())
+    }
+
+    /// Plans as many blanks as there are. The labels from `own` on are free.
+    pub(crate) fn blanks(
+        &mut self,
+        alloc: Global,
+        program: &Program,
+        heads: &Heads,
+        at: Place,
+        own: u32,
+    ) -> Result<(), NotCompiled>
+        requires sound { IsSoundProgram program.now }
+        requires heads { AreHeads program.now heads.now }
         requires ready { IsReady program.now self.old }
         ensures later { OnOk result (IsLater program.now self.old self.new) }
         ensures lays { OnOk result (LaysAt program.now self.new (Run Between blanks) at) }
@@ -167,11 +235,70 @@ impl<'p> Plan<'p> {
             Skips::Nothing => Err(NotCompiled::Unsupported),
             Skips::Blanks(set) => self.blanks_of(program, set, at),
             Skips::Comments(set) => self.blanks_of(program, set, at),
+            Skips::Calls => self.blank_calls(alloc, program, heads, at, own),
         }
+    }
+
+    /// Plans a call of `WHITESPACE`, which is as one in NonAtomic.
+    pub(crate) fn blank_call(&mut self, program: &Program, at: Place) -> Result<(), NotCompiled>
+        requires sound { IsSoundProgram program.now }
+        requires names { HasOwnNames program.now }
+        requires few { length program.now.rows.items ≤ 4096 }
+        ensures later { OnOk result (IsLater program.now self.old self.new) }
+        ensures lays { OnOk result (LaysAt program.now self.new (Run Between (Ident whitespace)) at) }
+    {
+        let rule = match program.whitespace {
+            Some(rule) => rule,
+            None => return Err(NotCompiled::Unsupported),
+        };
+        let place = Place {
+            mode: Atomicity::NonAtomic,
+            ..at
+        };
+        self.call(program, rule, place)?;
+        Ok(())
+    }
+
+    /// Plans no comments, where there is no rule `COMMENT`: characters of an empty set.
+    fn no_comments(
+        &mut self,
+        alloc: Global,
+        program: &Program,
+        at: Place,
+    ) -> Result<(), NotCompiled>
+        requires none { rule_of (grammar_in program.now) comment ≡ None }
+        ensures later { OnOk result (IsLater program.now self.old self.new) }
+        ensures lays { OnOk result (LaysAt program.now self.new
+            (Run Between (Rep one_comment)) at) }
+    {
+        let set = self.set(Vec::new(alloc))?;
+        self.operation(at.label, Op::All { set, next: at.next })?;
+        Ok(())
     }
 
     /// Plans as many comments as there are. The labels from `own` on are free.
     pub(crate) fn comments(
+        &mut self,
+        alloc: Global,
+        program: &Program,
+        heads: &Heads,
+        at: Place,
+        own: u32,
+    ) -> Result<(), NotCompiled>
+        requires sound { IsSoundProgram program.now }
+        requires heads { AreHeads program.now heads.now }
+        ensures later { OnOk result (IsLater program.now self.old self.new) }
+        ensures lays { OnOk result (LaysAt program.now self.new
+            (Run Between (Rep one_comment)) at) }
+    {
+        match program.comment {
+            Some(_) => self.comment_turns(alloc, program, heads, at, own),
+            None => self.no_comments(alloc, program, at),
+        }
+    }
+
+    /// Plans as many comments as there are, by calls. The labels from `own` on are free.
+    fn comment_turns(
         &mut self,
         alloc: Global,
         program: &Program,
@@ -194,28 +321,20 @@ impl<'p> Plan<'p> {
             way: at.next,
             ..at
         };
-        let label = self.enter_comment(alloc, program, heads, tried, own)?;
+        let head = comment_head(alloc, program, heads)?;
+        let label = self.enter_head(head, tried, own)?;
         self.point(Part::Comment, Place { label, ..tried })?;
         Ok(())
     }
 
-    /// Plans a test of the next character before a comment, if its first characters are known. Returns the
-    /// label at which the comment begins. The labels from `own` on are free.
-    fn enter_comment(
-        &mut self,
-        alloc: Global,
-        program: &Program,
-        heads: &Heads,
-        at: Place,
-        own: u32,
-    ) -> Result<u32, NotCompiled>
-        requires sound { IsSoundProgram program.now }
-        requires heads { AreHeads program.now heads.now }
-        ensures later { OnOk result (IsLater program.now self.old self.new) }
-        ensures enters { IfOk result (EntersAt program.now self.new (Run Between one_comment) at) }
+    /// Plans a test of the next character before a task, if its head is known. Returns the label at which the
+    /// task begins. The labels from `own` on are free.
+    fn enter_head(&mut self, head: Option<Head>, at: Place, own: u32) -> Result<u32, NotCompiled>
+        ensures later { OnOk result ((p : Program) → IsLater p self.old self.new) }
+        ensures enters { IfOk result (λ first. (p : Program) (k : Task) → IfSome head (FailsWithout p k)
+            → EntersAt p self.new k at first) }
     {
-        let made = comment_head(alloc, program, heads)?;
-        match made {
+        match head {
             Some(head) => {
                 let first = self.test(head, at, own)?;
                 Ok(first)
@@ -246,32 +365,31 @@ impl<'p> Plan<'p> {
             },
         )?;
         self.operation(last, Op::Commit { next: at.next })?;
-        let mode = at.mode;
         self.point(
             Part::CommentCall,
             Place {
-                mode,
                 label: start,
                 next: own,
                 way: FAIL,
+                ..at
             },
         )?;
         self.point(
             Part::Stay,
             Place {
-                mode,
                 label: own,
                 next: own,
                 way: FAIL,
+                ..at
             },
         )?;
         self.point(
             Part::Blanks,
             Place {
-                mode,
                 label: own,
                 next: last,
                 way: FAIL,
+                ..at
             },
         )?;
         Ok(())

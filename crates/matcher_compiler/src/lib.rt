@@ -14,5 +14,6 @@ mod planning;
 pub mod points;
 mod shortcuts;
 mod skips;
+mod stacks;
 mod switches;
 mod tables;

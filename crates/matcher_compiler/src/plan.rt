@@ -5,9 +5,10 @@ use crate::points::{Demand, NotCompiled, Part, Place, Point};
 use matcher_code::code::{Code, Op, Ranges};
 use matcher_code::sets::add_set;
 use matcher_sets::modes::Atomicity;
+use matcher_sets::sizes::Sizes;
 use std::alloc::Global;
 
-/// The characters that the implicit skipping takes.
+/// What the implicit skipping takes.
 #[derive(Clone, Copy)]
 pub enum Skips {
     Nothing,
@@ -15,6 +16,8 @@ pub enum Skips {
     Blanks(u32),
     /// Comments, and the characters of a set.
     Comments(u32),
+    /// What calls of `WHITESPACE` take, and comments, if there are such.
+    Calls,
 }
 
 /// The points and the demands of a program, its sets and its texts.
@@ -32,6 +35,7 @@ pub struct Plan<'p> {
     pub(crate) tables: u32,
     /// The number of the point of each rule's body by its mode, and by whether it gives a token.
     pub(crate) bodies: Vec<Option<usize>>,
+    pub(crate) sizes: Sizes,
     ghost aligned: { IsAligned sets },
 }
 
@@ -43,7 +47,7 @@ impl<'p> Plan<'p> {
     ghost use Rattle.matcher_code.specs.Reading.{list_of, text_of};
     ghost use Rattle.matcher_code.specs.Sets.{IsSetOf};
     ghost use Rattle.matcher_layout.specs.Laid as lay;
-    ghost use Rattle.matcher_layout.specs.Laid.{IsPoint, at_label};
+    ghost use Rattle.matcher_layout.specs.Laid.{IsPart, at_label};
     ghost use Rattle.matcher_program.specs.declared.form.Program.{Program};
     ghost use Rattle.matcher_sets.specs.Modes.{mode_of};
     ghost use Rattle.matcher_compiler.specs.Plans.{AreTexts, IsBoundPart, IsLater, IsMet, IsReady, IsTightIn, Meets, task_in};
@@ -58,6 +62,7 @@ impl<'p> Plan<'p> {
                 Skips::Nothing => true,
                 Skips::Blanks(_) => false,
                 Skips::Comments(_) => false,
+                Skips::Calls => false,
             },
             Atomicity::Atomic => true,
             Atomicity::CompoundAtomic => true,
@@ -85,15 +90,22 @@ impl<'p> Plan<'p> {
         self.demand(Demand::Operation { label, op })
     }
 
-    /// Adds a point.
+    /// Adds a point of a rank below that of a place.
     pub(crate) fn point(&mut self, part: Part<'p>, at: Place) -> Result<(), NotCompiled>
         ensures later { OnOk result ((p : Program) → IsBoundPart p part.entry
             → IsLater p self.old self.new) }
         ensures has { OnOk result ((p : Program) (code : Code) (laid : List lay.Point)
             → Meets p self.new code laid
-            → IsPoint laid (task_in p part.entry (mode_of at.mode)) at.label at.next at.way) }
+            → IsPart laid at.rank (task_in p part.entry (mode_of at.mode)) at.label at.next at.way) }
     {
-        let point = Point { part, at };
+        if at.rank == 0 {
+            return Err(NotCompiled::Unsupported);
+        }
+        let rank = at.rank - 1;
+        let point = Point {
+            part,
+            at: Place { rank, ..at },
+        };
         if self.points.push(point).is_err() {
             return Err(NotCompiled::Memory);
         }

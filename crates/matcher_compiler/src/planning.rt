@@ -374,17 +374,25 @@ impl<'p> Plan<'p> {
             Form::Tag(body, tag) => self.tag(program, body, tag.as_str(), at),
             Form::Restore(body) => self.restore(program, body, at),
             Form::Skip(texts, _) => self.search(alloc, program, texts, at),
-            _ => Err(NotCompiled::Unsupported),
+            Form::Push(body) => self.push(program, body, at, own),
+            Form::PushLiteral(text) => self.push_literal(alloc, program, text.as_str(), at),
+            Form::Peek => self.peek(program, at),
+            Form::Pop => self.pop(program, at),
+            Form::Discard => self.discard(program, at),
+            Form::PeekAll => self.peek_all(program, at),
+            Form::PopAll => self.pop_all(program, at),
+            Form::PeekSlice(from, to) => self.slice(program, *from, *to, at),
         }
     }
 
-    /// Plans the parts of a point.
+    /// Plans the parts of the point of a number.
     fn part(
         &mut self,
         alloc: Global,
         program: &'p Program,
         heads: &Heads,
         point: Point<'p>,
+        number: usize,
         own: u32,
     ) -> Result<(), NotCompiled>
         requires sound { IsSoundProgram program.now }
@@ -403,13 +411,20 @@ impl<'p> Plan<'p> {
             Part::OnceOrMore(body) => { self.once_and_turns(program, body, at, own) }
             Part::Repetition(body) => self.turns(alloc, program, heads, body, at, own),
             Part::Body(rule) => match program.rows.get(rule) {
-                Some(row) => self.form(alloc, program, heads, &row.body, at, own),
+                Some(row) => {
+                    let inside = Place {
+                        around: (number & 0xffff_ffff) as u32,
+                        ..at
+                    };
+                    self.form(alloc, program, heads, &row.body, inside, own)
+                }
                 None => Err(NotCompiled::Unsupported),
             },
             Part::Rule(rule) => self.call(program, rule, at),
             Part::Gap => self.gap(program, at),
             Part::Skipped => self.skipped(program, at, own),
-            Part::Blanks => self.blanks(program, at),
+            Part::Blanks => self.blanks(alloc, program, heads, at, own),
+            Part::BlankCall => self.blank_call(program, at),
             Part::Comments => self.comments(alloc, program, heads, at, own),
             Part::Comment => self.comment(program, at, own),
             Part::CommentCall => self.comment_call(program, at),
@@ -440,7 +455,14 @@ impl<'p> Plan<'p> {
                 Some(point) => *point,
                 None => return Ok(()),
             };
-            self.part(alloc, program, heads, point, own_labels(rules, number))?;
+            self.part(
+                alloc,
+                program,
+                heads,
+                point,
+                number,
+                own_labels(rules, number),
+            )?;
         }
         Err(NotCompiled::Unsupported)
     }

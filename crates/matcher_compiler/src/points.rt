@@ -22,6 +22,8 @@ pub enum Part<'p> {
     Skipped,
     /// As many calls of `WHITESPACE` as succeed, in the implicit skipping.
     Blanks,
+    /// A call of `WHITESPACE`, in the implicit skipping.
+    BlankCall,
     /// As many comments as there are, in the implicit skipping, with blanks behind each.
     Comments,
     /// A comment with blanks behind it, in the implicit skipping.
@@ -32,13 +34,23 @@ pub enum Part<'p> {
     Stay,
 }
 
-/// A mode and three labels: a task begins at `label`, a success goes on at `next`, a failure at `way`.
+/// The `around` of a place that no call in place is around.
+pub(crate) const NO_CALL: u32 = 0xffff_ffff;
+
+/// The rank of what is no part.
+pub(crate) const TOP_RANK: u32 = 0xffff_ffff;
+
+/// A mode and three labels: a task begins at `label`, a success goes on at `next`, a failure at `way`. Its
+/// parts have lower ranks. `around` is the number of the point of the innermost body around, of a rule that
+/// is called in place or not.
 #[derive(Clone, Copy)]
 pub struct Place {
     pub mode: Atomicity,
     pub label: u32,
     pub next: u32,
     pub way: u32,
+    pub rank: u32,
+    pub around: u32,
 }
 
 /// A task at a place.

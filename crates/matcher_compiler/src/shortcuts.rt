@@ -151,10 +151,10 @@ impl<'p> Plan<'p> {
         self.point(
             Part::Form(body),
             Place {
-                mode: at.mode,
                 label: own,
                 next: at.label,
                 way: at.next,
+                ..at
             },
         )?;
         Ok(())

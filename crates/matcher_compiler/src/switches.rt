@@ -103,25 +103,14 @@ impl<'p> Plan<'p> {
         let label = own.saturating_add(1);
         self.table(head, at, label, own)?;
         let first = Place {
-            mode: at.mode,
             label,
-            next: at.next,
             way: own,
+            ..at
         };
         self.point(Part::Form(left), first)?;
-        let second = Place {
-            mode: at.mode,
-            label: own,
-            next: at.next,
-            way: at.way,
-        };
+        let second = Place { label: own, ..at };
         let label = self.enter_any(alloc, program, heads, right, second, own.saturating_add(2))?;
-        let last = Place {
-            mode: at.mode,
-            label,
-            next: at.next,
-            way: at.way,
-        };
+        let last = Place { label, ..at };
         self.point(Part::Form(right), last)?;
         Ok(())
     }

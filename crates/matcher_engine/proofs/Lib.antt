@@ -1,6 +1,11 @@
 pub mod Bytes
 pub mod Known
+pub mod OneAnswer
+pub mod OneDerivation
+pub mod OneSoundness
 pub mod Preorder
 pub mod Results
+pub mod RuleSets
+pub mod Sound
 pub mod Totals
 pub mod Uniqueness

@@ -33,8 +33,9 @@ use Rattle.matcher_engine.proofs.Totals.{same_size}
 use Rattle.matcher_engine.proofs.Uniqueness.{one_trees}
 
 -- a machine before its first step
-pub fresh : (m : Machine) (l : ℕ) → m.slots.items ≡ [] → m.trees.items ≡ [] → m.furthest ≡ 0 → config m l 0 ≡ start_config l
-fresh m l a b c = rw (a, b, c) refl
+pub fresh : (code : Code) (text : List ℕ) (m : Machine) (l : ℕ) → m.slots.items ≡ [] → m.trees.items ≡ [] → m.stack.pushed.items ≡ [] → m.furthest ≡ 0
+    → config code text m l 0 ≡ start_config l
+fresh code text m l a b d c = rw (a, b, d, c) refl
 
 module _ (p : Program) (code : Code) (is : IsCodeOf p code) (n : Text) (i : ℕ) (meant : last_place (grammar_in p) n ≡ Some i)
     (text : List ℕ) (u : IsUtf8 text) where
@@ -84,28 +85,28 @@ module _ (p : Program) (code : Code) (is : IsCodeOf p code) (n : Text) (i : ℕ)
         → (o : Outcome) (d : Does (grammar_in p) classes task (start_of text) o) → m < 8 * size d
     unfinished h classes fits o d = goes_on (grammar_in p) classes code (number_in (grammar_in p)) is.points is.ends.fail (is.laid classes fits) task (i + 3) 1 2 entry up is.ends.halt is.ends.lose text u (bytes_of_text text u) m h o d
 
-  module _ (old new : Machine) (most : ℕ) (start : config old (i + 3) 0 ≡ start_config (i + 3)) where
+  module _ (old new : Machine) (most : ℕ) (start : config code text old (i + 3) 0 ≡ start_config (i + 3)) where
     -- the result of a run that found the end of a match
-    pub found_as : (classes : Classes) → Fits p.properties.items classes → (end_ : ℕ) → Ends code text most (config old (i + 3) 0) new (ended.Found end_)
+    pub found_as : (classes : Classes) → Fits p.properties.items classes → (end_ : ℕ) → Ends code text most (config code text old (i + 3) 0) new (ended.Found end_)
         → (es : List Entry) → ((trees : Trees) → new.trees.items ≡ nodes_of (number_in (grammar_in p)) 0 trees → seen es ≡ entries_of 0 trees)
         → IsMatched (grammar_in p) p.properties.items n text end_ es
     found_as classes fits end_ x es w =
-        let q : after x.taken ≡ config new x.ends.0 end_ = ap (λ c. steps code text x.taken c) (sym start) ∙ x.ends.1 in
+        let q : after x.taken ≡ config code text new x.ends.0 end_ = ap (λ c. steps code text x.taken c) (sym start) ∙ x.ends.1 in
         let h : op_at code [] (after x.taken).pc ≡ op.Halt = subst (λ c. op_at code [] c.pc ≡ op.Halt) (sym q) x.ends.2 in
         matched x.taken classes fits h end_ (ap (λ c. c.at) (sym q)) es (λ trees e. w trees (ap (λ c. c.trees) (sym q) ∙ e))
 
     -- of a run that failed
-    pub failed_as : Ends code text most (config old (i + 3) 0) new ended.Failed → FailsAt (grammar_in p) p.properties.items n text new.furthest
+    pub failed_as : Ends code text most (config code text old (i + 3) 0) new ended.Failed → FailsAt (grammar_in p) p.properties.items n text new.furthest
     failed_as x =
-        let q : after x.taken ≡ config new x.ends.0 x.ends.1 = ap (λ c. steps code text x.taken c) (sym start) ∙ x.ends.2 in
+        let q : after x.taken ≡ config code text new x.ends.0 x.ends.1 = ap (λ c. steps code text x.taken c) (sym start) ∙ x.ends.2 in
         let h : op_at code [] (after x.taken).pc ≡ op.Lose = subst (λ c. op_at code [] c.pc ≡ op.Lose) (sym q) x.ends.3 in
         failed x.taken h new.furthest (ap (λ c. c.furthest) (sym q))
 
     -- of a run that was stopped
-    pub stopped_as : (limit : ℕ) → 4 * limit ≤ most → Ends code text most (config old (i + 3) 0) new ended.OutOfSteps
+    pub stopped_as : (limit : ℕ) → 4 * limit ≤ most → Ends code text most (config code text old (i + 3) 0) new ended.OutOfSteps
         → IsStopped (grammar_in p) p.properties.items n text limit stop.OutOfSteps
     stopped_as limit l x classes fits o d =
-        let q : after x.taken ≡ config new x.ends.0 x.ends.1 = ap (λ c. steps code text x.taken c) (sym start) ∙ x.ends.2 in
+        let q : after x.taken ≡ config code text new x.ends.0 x.ends.1 = ap (λ c. steps code text x.taken c) (sym start) ∙ x.ends.2 in
         let no : IsEnd code (after x.taken).pc → ⊥ = λ e. elim e [ inl h ↦ x.ends.4 (subst (λ c. op_at code [] c.pc ≡ op.Halt) q h) | inr h ↦ x.ends.5 (subst (λ c. op_at code [] c.pc ≡ op.Lose) q h) ] in
         let less = unfinished x.taken no classes fits o d in
         omega (arith, less, x.ends.3, l, same_size d)

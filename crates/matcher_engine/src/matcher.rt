@@ -3,6 +3,7 @@ ghost use Rattle.std.specs.Prelude.{◌≡◌, IfErr, IfOk, IfSome, chars};
 ghost use Rattle.meta_ast.specs.Optimized.{optimized_rules_of};
 ghost use Rattle.matcher_program.specs.Programs.{Fits};
 ghost use Rattle.matcher_program.specs.Refusals.{IsReason};
+ghost use Rattle.matcher_engine.specs.Soundness.{IsSound};
 
 use crate::entries::entries_of;
 use matcher_code::code::Code;
@@ -26,17 +27,17 @@ const OPERATIONS: u64 = 4;
 /// Rules whose names are resolved, with their program if they are compiled.
 #[derive(Drop)]
 pub struct Matcher {
-    pub interpreter: Interpreter,
-    pub code: Option<Code>,
+    interpreter: Interpreter,
+    code: Option<Code>,
+    ghost sound: { ∥ IsSound interpreter code ∥₁ },
 }
 
 /// The result of a compiled rule; `None` if the interpreter has to answer.
 type Answer<'a> = Option<Result<Found<'a>, Refusal<'a>>>;
 
 impl Matcher {
-    ghost use Rattle.matcher_compiler.specs.Compiled.{IsCodeOf};
-    ghost use Rattle.meta_matcher.specs.Answers.{IsMatched, IsRefused};
-    ghost use Rattle.matcher_engine.specs.Matchers.{IsAnswer, IsSoundMatcher, grammar_in, properties_in};
+    ghost use Rattle.meta_matcher.specs.Answers.{AreExpectedAt, IsMatched, IsRefused, IsUnanswered};
+    ghost use Rattle.matcher_engine.specs.Matchers.{IsAnswer, grammar_in, properties_in};
 
     /// Compiles rules, and resolves every name once, to the last rule of that name, or to a builtin if no
     /// rule has it. Errors: a name in a body that is neither, or a property's that `properties` does not
@@ -46,7 +47,6 @@ impl Matcher {
         rules: &[OptimizedRule],
         properties: &P,
     ) -> Result<Matcher, Unfit>
-        ensures sound { IfOk result IsSoundMatcher }
         ensures means { IfOk result (λ matcher. grammar_in matcher ≡ optimized_rules_of rules.now) }
         ensures fits { IfOk result (λ matcher. Fits (properties_in matcher) P.classes) }
         ensures refused { IfErr result (IsReason P.knows (optimized_rules_of rules.now)) }
@@ -65,19 +65,13 @@ impl Matcher {
         }
     }
 
-    /// Runs a compiled rule.
-    fn run<'a>(
-        &'a self,
-        alloc: Global,
-        code: &Code,
-        rule: &'a str,
-        text: &'a str,
-        steps: u64,
-    ) -> Answer<'a>
-        requires sound { IsSoundMatcher self.now }
-        requires code { IsCodeOf self.now.interpreter.program code.now }
+    /// Runs the program of a rule, if the rules are compiled.
+    fn run<'a>(&'a self, alloc: Global, rule: &'a str, text: &'a str, steps: u64) -> Answer<'a>
         ensures { IfSome result (IsAnswer self.entry.now (chars rule.entry.now) text.entry.now steps) }
     {
+        let Some(code) = &self.code else {
+            return None;
+        };
         let rows = self.interpreter.program.rows.as_slice();
         let Some(number) = last_index(rows, rule) else {
             return Some(Err(Refusal::UnknownRule(rule)));
@@ -119,18 +113,38 @@ impl Matcher {
         text: &'a str,
         steps: u64,
     ) -> Result<Found<'a>, Refusal<'a>>
-        requires sound { IsSoundMatcher self.now }
         ensures matched { IfOk result (λ found. IsMatched (grammar_in self.entry.now)
             (properties_in self.entry.now) (chars rule.entry.now) text.entry.now
             found.end found.entries.items) }
         ensures refused { IfErr result (IsRefused (grammar_in self.entry.now)
             (properties_in self.entry.now) (chars rule.entry.now) text.entry.now steps) }
     {
-        if let Some(code) = &self.code {
-            if let Some(answer) = self.run(alloc, code, rule, text, steps) {
-                return answer;
-            }
+        match self.run(alloc, rule, text, steps) {
+            Some(answer) => answer,
+            None => self.interpreter.parse(alloc, rule, text, steps),
         }
-        self.interpreter.parse(alloc, rule, text, steps)
+    }
+
+    /// Returns the names that are expected at `place`, in bytes, without duplicates, in the order in which
+    /// they are first called there. Where `parse` refuses a text by `NoMatch` of that position, they are the
+    /// rules that could have let the run get further.
+    ///
+    /// The rule is run as by `parse`, but interpreted. Errors are those of `parse`, but a text on which the
+    /// rule fails has an answer.
+    pub fn expected_at<'a>(
+        &'a self,
+        alloc: Global,
+        rule: &'a str,
+        text: &'a str,
+        place: usize,
+        steps: u64,
+    ) -> Result<Vec<&'a str>, Refusal<'a>>
+        ensures expected { IfOk result (λ names. AreExpectedAt (grammar_in self.entry.now)
+            (properties_in self.entry.now) (chars rule.entry.now) text.entry.now place names.items) }
+        ensures refused { IfErr result (IsUnanswered (grammar_in self.entry.now)
+            (properties_in self.entry.now) (chars rule.entry.now) text.entry.now steps) }
+    {
+        self.interpreter
+            .expected_at(alloc, rule, text, place, steps)
     }
 }

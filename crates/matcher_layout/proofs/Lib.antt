@@ -11,3 +11,6 @@ pub mod Runs
 pub mod AnyCase
 pub mod Newlines
 pub mod Until
+pub mod Stacks
+pub mod Between
+pub mod StackReads

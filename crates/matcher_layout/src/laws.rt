@@ -1,19 +1,19 @@
 //! Laws over the definitions alone.
-ghost use Rattle.std.specs.Prelude.{◌≡◌, ◌<◌, ◌*◌, ◌==◌, ◌&&◌, ◌||◌, ℕ, Bool, List, [], IsUtf8, Some, chars, codes, false, get_or, if◌then◌else◌, nat_eq, not, true};
+ghost use Rattle.std.specs.Prelude.{◌≡◌, ◌<◌, ◌*◌, ◌==◌, ◌&&◌, ◌||◌, ℕ, ℤ, Bool, List, [], IsUtf8, Option, Some, chars, codes, false, get_or, if◌then◌else◌, nat_eq, not, true};
 ghost use Rattle.std.specs.Char.{eq_ignore_ascii_case};
 ghost use Rattle.meta_base.specs.Language.Expression.{Choice, Expression, Grammar, Ident, NegPred, Rep, Rule, Seq, rule_of};
 ghost use Rattle.meta_base.specs.Language.FurthestFailure.{furthest, place_of};
-ghost use Rattle.meta_base.specs.Language.Meaning.{Does, Run, Task, body_mode, gives_token, seen_from};
+ghost use Rattle.meta_base.specs.Language.Meaning.{Does, Run, Task, body_mode, gives_token, seen_from, with_top};
 ghost use Rattle.meta_base.specs.Language.State.{AtomicMode, Classes, Failure, Mode, None', Outcome, State, Success, moved};
 ghost use Rattle.meta_base.specs.Language.Text.{Text};
-ghost use Rattle.meta_base.specs.Language.Matching.{character_outcome, distance, end_outcome, newline_outcome, text_outcome};
+ghost use Rattle.meta_base.specs.Language.Matching.{character_outcome, concatenated, distance, drop_outcome, end_outcome, newline_outcome, peek_outcome, pop_outcome, slice_outcome, text_outcome, with_stack};
 ghost use Rattle.matcher_code.specs.Reading.{is_covered, text_of};
 ghost use Rattle.matcher_code.specs.Sets.{IsSetOf};
 ghost use Rattle.matcher_code.specs.Steps.{Config, jump, op_at, steps};
 ghost use Rattle.matcher_code.specs.declared.code.Code.{Code};
 ghost use Rattle.matcher_code.specs.declared.code.Op.TheVariants as op;
 ghost use Rattle.matcher_layout.specs.Endings.{IsFound, IsOver};
-ghost use Rattle.matcher_layout.specs.Laid.{AreLaid, HasOutcome, IsEnd, IsPoint, IsTight, MatchesText, Performs, Point, Searches, skip_set};
+ghost use Rattle.matcher_layout.specs.Laid.{AreLaid, HasOutcome, IsEnd, IsPoint, IsTight, MatchesText, MayPerform, Performs, Point, Searches, skip_set};
 ghost use Rattle.matcher_layout.specs.Reached.{Comes, IsAt, IsGuarded};
 ghost use Rattle.matcher_layout.specs.Results.{HasFailed, HasSucceeded, start_config, start_of};
 ghost use Rattle.matcher_layout.specs.Sizes.{least_steps, size};
@@ -26,7 +26,7 @@ pub fn laid_code_does_its_task()
     ensures { (g : Grammar) (classes : Classes) (code : Code) (number : Text → ℕ) (points : List Point)
         → op_at code [] 0 ≡ op.Fail → AreLaid g classes code number points
         → (k : Task) (l n w : ℕ) → IsPoint points k l n w
-        → (text : List ℕ) (s : State) (c : Config) → IsAt text s c.at → IsGuarded w c
+        → (text : List ℕ) (s : State) (c : Config) → IsAt text s c.at c.stack → IsGuarded w c
         → (o : Outcome) (d : Does g classes k s o)
         → Comes code text number l n w o (furthest d) (least_steps k) (8 * size d) c }
 {}
@@ -36,7 +36,7 @@ pub fn runs_that_end_have_outcomes()
     ensures { (g : Grammar) (classes : Classes) (code : Code) (number : Text → ℕ) (points : List Point)
         → op_at code [] 0 ≡ op.Fail → AreLaid g classes code number points
         → (k : Task) (l n w : ℕ) → IsPoint points k l n w
-        → (text : List ℕ) (s : State) (c : Config) → IsAt text s c.at → IsGuarded w c
+        → (text : List ℕ) (s : State) (c : Config) → IsAt text s c.at c.stack → IsGuarded w c
         → (m : ℕ) → IsOver code text m (jump l c) → IsFound g classes k s }
 {}
 
@@ -138,6 +138,33 @@ pub fn end_operations_give_tree()
         → op_at code [] note ≡ op.Note w
         → Performs code number l n w (λ s. end_outcome m s.rest s)
         (λ s. place_of true s (end_outcome m s.rest s)) }
+{}
+
+/// Where the operation 0 is `Fail`, the operations on the stack match what the expressions do. `Peek` and
+/// `Pop` stay where they are on the empty stack, where `PEEK` and `POP` have no outcome.
+pub fn stack_operations_match_stack()
+    ensures push_text { (code : Code) (number : Text → ℕ) → op_at code [] 0 ≡ op.Fail
+        → (l n w i : ℕ) (b : List ℕ) → IsUtf8 b → text_of code i ≡ b → op_at code [] l ≡ op.PushText i n
+        → Performs code number l n w (λ s. Success (with_top (chars b) s) None') (λ s. 0) }
+    ensures peek { (code : Code) (number : Text → ℕ) → op_at code [] 0 ≡ op.Fail
+        → (l n w : ℕ) → op_at code [] l ≡ op.Peek n w
+        → MayPerform code number l n w (λ s. peek_outcome s.stack s) }
+    ensures pop { (code : Code) (number : Text → ℕ) → op_at code [] 0 ≡ op.Fail
+        → (l n w : ℕ) → op_at code [] l ≡ op.Pop n w
+        → MayPerform code number l n w (λ s. pop_outcome s.stack s) }
+    ensures discard { (code : Code) (number : Text → ℕ) → op_at code [] 0 ≡ op.Fail
+        → (l n w : ℕ) → op_at code [] l ≡ op.Discard n w
+        → Performs code number l n w (λ s. drop_outcome s.stack s) (λ s. 0) }
+    ensures peek_all { (code : Code) (number : Text → ℕ) → op_at code [] 0 ≡ op.Fail
+        → (l n w : ℕ) → op_at code [] l ≡ op.PeekAll n w
+        → Performs code number l n w (λ s. text_outcome nat_eq (concatenated s.stack) s) (λ s. 0) }
+    ensures pop_all { (code : Code) (number : Text → ℕ) → op_at code [] 0 ≡ op.Fail
+        → (l n w : ℕ) → op_at code [] l ≡ op.PopAll n w
+        → Performs code number l n w
+        (λ s. with_stack [] (text_outcome nat_eq (concatenated s.stack) s)) (λ s. 0) }
+    ensures slice { (code : Code) (number : Text → ℕ) → op_at code [] 0 ≡ op.Fail
+        → (l n w : ℕ) (i : ℤ) (j : Option ℤ) → op_at code [] l ≡ op.Slice i j n w
+        → Performs code number l n w (slice_outcome i j) (λ s. 0) }
 {}
 
 /// A choice of two expressions that match one character of a set matches one of both sets.

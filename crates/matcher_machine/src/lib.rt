@@ -4,3 +4,7 @@
 pub mod machine;
 mod operations;
 mod running;
+pub mod slot;
+pub mod stack;
+mod stack_operations;
+mod texts;

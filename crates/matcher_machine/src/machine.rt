@@ -1,7 +1,10 @@
 //! The state of a machine.
-ghost use Rattle.std.specs.Prelude.{◌≡◌, []};
+ghost use Rattle.std.specs.Prelude.{length, reverse};
+ghost use Rattle.matcher_machine.specs.Links.{AreHeld, AreHeld-prop};
 
-use matcher_code::state::{Slot, TreeNode};
+use crate::slot::Slot;
+use crate::stack::TextStack;
+use matcher_code::state::TreeNode;
 use std::alloc::Global;
 
 /// The state of a run, without the position and the next operation.
@@ -11,8 +14,10 @@ pub struct Machine {
     pub slots: Vec<Slot>,
     /// The trees so far in preorder.
     pub trees: Vec<TreeNode>,
+    pub stack: TextStack,
     /// The furthest position, in bytes, at which a call that counts has failed.
     pub furthest: usize,
+    ghost held: { AreHeld (length stack.pushed.items) (reverse slots.items) } by { AreHeld-prop _ _ },
 }
 
 /// The result of an operation.
@@ -24,7 +29,7 @@ pub enum Next {
     Found,
     /// The run has failed.
     Lost,
-    /// The operation needs a slot, and there is none.
+    /// The operation needs a slot or a text on the stack, and there is none.
     Stuck,
 }
 
@@ -35,22 +40,27 @@ pub enum RunEnd {
     Found(usize),
     /// No match.
     Failed,
-    /// An operation needed a slot, and there was none.
+    /// An operation needed a slot or a text on the stack, and there was none.
     Stuck,
     /// The run takes more steps than were allowed.
     OutOfSteps,
 }
 
 impl Machine {
+    ghost use Rattle.std.specs.Prelude.{◌≡◌, []};
+
     /// Returns a machine before its first step.
     pub fn new(alloc: Global) -> Machine
         ensures slots { result.slots.items ≡ [] }
         ensures trees { result.trees.items ≡ [] }
+        ensures pushed { result.stack.pushed.items ≡ [] }
+        ensures top { result.stack.top ≡ 0 }
         ensures furthest { result.furthest ≡ 0 }
     {
         Machine {
             slots: Vec::new(alloc),
             trees: Vec::new(alloc),
+            stack: TextStack::new(alloc),
             furthest: 0,
         }
     }

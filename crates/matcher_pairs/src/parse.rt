@@ -6,7 +6,7 @@ ghost use Rattle.meta_base.specs.Pieces.Pairs.{pairs_text, pairs_trees};
 ghost use Rattle.meta_base.specs.Pieces.TokenTrees.{AreNested};
 ghost use Rattle.meta_matcher.specs.Answers.{FailsAt, IsMatched};
 ghost use Rattle.meta_matcher.specs.ExpectedNames.{name_texts};
-ghost use Rattle.matcher_engine.specs.Matchers.{IsSoundMatcher, grammar_in, properties_in};
+ghost use Rattle.matcher_engine.specs.Matchers.{grammar_in, properties_in};
 ghost use Rattle.matcher_pairs.specs.Parses.{IsErrorAt, IsMatch, IsRefused};
 
 use crate::trees::build_trees;
@@ -48,7 +48,6 @@ pub fn parse<'a>(
     text: &'a str,
     steps: u64,
 ) -> Result<Match<'a>, ParseError<'a>>
-    requires sound { IsSoundMatcher matcher.now }
     ensures matched { IfOk result (IsMatch matcher.entry.now (chars rule.entry.now) text.entry.now) }
     ensures refused { IfErr result
         (IsRefused matcher.entry.now (chars rule.entry.now) text.entry.now steps) }
@@ -72,8 +71,7 @@ fn match_of<'a>(
     text: &'a str,
     found: Found<'a>,
 ) -> Result<Match<'a>, AllocError>
-    requires sound { IsSoundMatcher matcher.now }
-    requires matched { IsMatched (grammar_in matcher.now) (properties_in matcher.now) (chars rule.now)
+    requires { IsMatched (grammar_in matcher.now) (properties_in matcher.now) (chars rule.now)
         text.now found.end found.entries.items }
     ensures { IfOk result (IsMatch matcher.entry.now (chars rule.entry.now) text.entry.now) }
 {
@@ -93,15 +91,10 @@ fn failure_at<'a>(
     place: usize,
     steps: u64,
 ) -> ParseError<'a>
-    requires sound { IsSoundMatcher matcher.now }
-    requires fails { FailsAt (grammar_in matcher.now) (properties_in matcher.now) (chars rule.now)
-        text.now place }
+    requires { FailsAt (grammar_in matcher.now) (properties_in matcher.now) (chars rule.now) text.now place }
     ensures { IsRefused matcher.entry.now (chars rule.entry.now) text.entry.now steps result }
 {
-    match matcher
-        .interpreter
-        .expected_at(alloc, rule, text, place, steps)
-    {
+    match matcher.expected_at(alloc, rule, text, place, steps) {
         Ok(names) => match error_at(alloc, text, place, &names) {
             Ok(error) => ParseError::NoMatch(error),
             Err(_) => ParseError::Stopped(Stop::Memory),

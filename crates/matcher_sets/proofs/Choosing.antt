@@ -1,5 +1,5 @@
 -- Ranges of choices.
-use Rattle.std.proofs.Common.{◌≡◌, ◌⊎◌, inl, inr, refl, subst, sym, ◌∙◌, ℕ, ◌<◌, List, [], Bool, true, false, ◌||◌}
+use Rattle.std.proofs.Common.{◌≡◌, inl, inr, refl, subst, sym, ◌∙◌, ℕ, ◌<◌, List, [], Bool, true, false, ◌||◌}
 use Rattle.meta_base.specs.Language.Expression.{Choice}
 use Rattle.matcher_code.specs.Reading.{is_covered}
 use Rattle.matcher_program.specs.declared.form.Form.{Form}

@@ -45,7 +45,7 @@ module _ (ranges : List (ℕ × ℕ)) (set : ℕ → Bool) (covers : Covers rang
       let k = and_parts (scalar c) (scalars cs) u in
       ap₂ (λ b n. if b then suc n else 0) (covers c (below c k.0)) (covered_span cs k.1)
 
-  pub rest_scalars : (text : List ℕ) (s : State) (at : ℕ) → IsAt text s at → scalars s.rest ≡ true
+  pub rest_scalars : {stack : List (List ℕ)} (text : List ℕ) (s : State) (at : ℕ) → IsAt text s at stack → scalars s.rest ≡ true
   rest_scalars text s at h = ap scalars h.rest ∙ scalars-chars (drop at text) h.valid
 
   module _ (code : Code) (number : Text → ℕ) (fail : at_label code 0 ≡ op.Fail) (i : ℕ) (is : IsSetOf code i ranges) where
@@ -62,7 +62,7 @@ module _ (ranges : List (ℕ × ℕ)) (set : ℕ → Bool) (covers : Covers rang
         (all_performs code i ranges is number fail l n w h text s c at safe)
 
 -- builtins
-by_builtin : (classes : Classes) (m : Atomicity) (n : Text) (b : Builtin) (s : State) → builtin_of n ≡ Some b
+pub by_builtin : (classes : Classes) (m : Atomicity) (n : Text) (b : Builtin) (s : State) → builtin_of n ≡ Some b
     → other_outcome classes (mode_of m) n s ≡ builtin_outcome classes (mode_of m) b s
 by_builtin classes mode.NonAtomic n b s h = rw h refl
 by_builtin classes mode.Atomic n b s h = rw h refl
@@ -107,7 +107,7 @@ pub eoi_builtin : builtin_of (codes "EOI") ≡ Some Eoi
 unfolding builtins
 eoi_builtin = refl
 
-unseen : (b : Bool) (s : State) (o : Outcome) → b ≡ false → place_of b s o ≡ 0
+pub unseen : (b : Bool) (s : State) (o : Outcome) → b ≡ false → place_of b s o ≡ 0
 unseen b s (Success t us) e = refl
 unseen b s Failure e = rw e refl
 

@@ -5,4 +5,5 @@ pub mod difference;
 pub mod heads;
 pub mod modes;
 mod ranges;
+pub mod sizes;
 pub mod texts;

@@ -64,10 +64,7 @@ fn run(alloc: Global, rules: &[OptimizedRule], rule: &str, text: &str, steps: u6
         },
         Err(Refusal::UnknownRule(_)) => MatchOutcome::NoRule,
         Err(Refusal::NoMatch(place)) => {
-            match matcher
-                .interpreter
-                .expected_at(alloc, rule, text, place, steps)
-            {
+            match matcher.expected_at(alloc, rule, text, place, steps) {
                 Ok(names) => failed_outcome(alloc, rules, place, &names),
                 Err(Refusal::UnknownRule(_)) => MatchOutcome::NoRule,
                 Err(Refusal::NoMatch(_)) => unreachable!(),

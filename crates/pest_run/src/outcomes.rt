@@ -70,10 +70,7 @@ pub fn outcome_of(
         Ok(found) => shown_outcome(alloc, text, &found, format),
         Err(Refusal::UnknownRule(_)) => no_rule_outcome(alloc, rules, rule),
         Err(Refusal::NoMatch(place)) => {
-            match matcher
-                .interpreter
-                .expected_at(alloc, rule, text, place, steps)
-            {
+            match matcher.expected_at(alloc, rule, text, place, steps) {
                 Ok(names) => failed_outcome(alloc, text, place, &names),
                 Err(Refusal::UnknownRule(_)) => no_rule_outcome(alloc, rules, rule),
                 Err(Refusal::NoMatch(_)) => unreachable!(),

@@ -24,7 +24,8 @@ pub fn run(
     entry: u32,
     steps: u64,
 ) -> Result<RunEnd, AllocError>
-    ensures { IfOk result (Ends code.now text.now steps (config machine.old entry 0) machine.new) }
+    ensures { IfOk result
+        (Ends code.now text.now steps (config code.now text.now machine.old entry 0) machine.new) }
 {
     machine.run(code, text, entry, steps)
 }

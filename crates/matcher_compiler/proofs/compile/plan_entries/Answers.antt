@@ -11,5 +11,5 @@ loop-rule-preserved c =
     let later = c.in_ok-point.ensures.later p within in
     record {
       later = later_twice p _ _ _ c.loop-rule.invariant.later later;
-      has = entries_more p _ _ c.loop-rule.rule later c.loop-rule.invariant.has (c.in_ok-point.ensures.has p);
+      has = entries_more p _ _ c.loop-rule.rule later c.loop-rule.invariant.has (λ code laid m. (c.in_ok-point.ensures.has p code laid m).point);
     }

@@ -1,13 +1,13 @@
-use Rattle.std.proofs.Common.{◌≡◌, arith, false}
-use Rattle.std.proofs.lemmas.Grind.{common_steps}
-use Rattle.matcher_compiler.proofs.Skipping.{comment_fails, comment_is_rule}
+use Rattle.meta_base.specs.Language.Expression.{comment}
+use Rattle.matcher_compiler.proofs.Skipping.{both_on_some, comment_fails, comment_is_skipped, comment_meant, skipped_fails, skipped_is_rule}
 use Rattle.matcher_compiler.proofs.gaps.comment_head.Goals as goal
 
-pub call_head-requires-clause-meant : goal.call_head-requires-clause-meant
-call_head-requires-clause-meant c = comment_is_rule c.args.program.now c.in-Some.rule c.requires.sound c.in-Some.is
-
-pub returns-else-head : goal.returns-else-head
-returns-else-head c =
+pub sure_head-requires-clause-meant : goal.sure_head-requires-clause-meant
+sure_head-requires-clause-meant c =
     let p = c.args.program.now in
-    let q : c.in-Some-made.head.empty ≡ false = grind (arith, common_steps) in
-    comment_fails p c.in-Some.rule c.requires.sound c.in-Some.is c.in-Some-made.head (rw c.in-Some-made.is at c.in_ok-made.ensures) q
+    skipped_is_rule p comment c.in-Some.rule (comment_meant p c.in-Some.rule c.requires.sound c.in-Some.is) comment_is_skipped
+
+pub returns-in-Some : goal.returns-in-Some
+returns-in-Some c =
+    let p = c.args.program.now in
+    both_on_some c.sure_head.result (λ h has takes. comment_fails p h (skipped_fails p comment c.in-Some.rule (comment_meant p c.in-Some.rule c.requires.sound c.in-Some.is) comment_is_skipped h has takes)) c.sure_head.ensures.head c.sure_head.ensures.takes

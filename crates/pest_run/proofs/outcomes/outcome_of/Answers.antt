@@ -1,7 +1,7 @@
 use Rattle.std.proofs.Common.{subst, sym}
 use Rattle.meta_ast.specs.Optimized.{optimized_rules_of}
 use Rattle.meta_base.specs.Language.Expression.{Grammar}
-use Rattle.matcher_program.specs.Programs.{grammar_of}
+use Rattle.matcher_engine.specs.Matchers.{grammar_in, properties_in}
 use Rattle.pest_run.specs.Outcomes.{HasNoRule, IsOutcome}
 use Rattle.pest_run.specs.declared.outcomes.Outcome.{Outcome}
 use Rattle.pest_run.proofs.Came.{at_character, ends_at_character, failed, shows, stopped, unfit, unknown}
@@ -10,52 +10,52 @@ use Rattle.pest_run.proofs.outcomes.outcome_of.Goals as goal
 -- a match
 pub shown_outcome-requires : goal.shown_outcome-requires
 shown_outcome-requires c =
-    let program = c.in-Ok.matcher.interpreter.program in
-    ends_at_character (grammar_of program.rows.items) program.properties.items _ c.args.text.now c.in-Ok-parse.found.end c.in-Ok-parse.found.entries.items c.utf8.text c.in-Ok.ensures.fits c.in-Ok-parse.ensures.matched
+    let m = c.in-Ok.matcher in
+    ends_at_character (grammar_in m) (properties_in m) _ c.args.text.now c.in-Ok-parse.found.end c.in-Ok-parse.found.entries.items c.utf8.text c.in-Ok.ensures.fits c.in-Ok-parse.ensures.matched
 
 pub returns-in-Ok-parse : goal.returns-in-Ok-parse
 returns-in-Ok-parse c =
-    let program = c.in-Ok.matcher.interpreter.program in
+    let m = c.in-Ok.matcher in
     let P : Grammar → Type 0 = λ g. IsOutcome g c.args.rule.now c.args.text.now c.args.format c.args.steps c.shown_outcome.result in
     subst P c.in-Ok.ensures.means
-    (shows (grammar_of program.rows.items) program.properties.items c.args.rule.now c.args.text.now c.args.format c.args.steps c.in-Ok-parse.found.end c.in-Ok-parse.found.entries.items c.shown_outcome.result c.in-Ok.ensures.fits c.in-Ok-parse.ensures.matched c.shown_outcome.ensures)
+    (shows (grammar_in m) (properties_in m) c.args.rule.now c.args.text.now c.args.format c.args.steps c.in-Ok-parse.found.end c.in-Ok-parse.found.entries.items c.shown_outcome.result c.in-Ok.ensures.fits c.in-Ok-parse.ensures.matched c.shown_outcome.ensures)
 
 pub returns-in-Ok-expected_at : goal.returns-in-Ok-expected_at
 returns-in-Ok-expected_at c =
-    let program = c.in-Ok.matcher.interpreter.program in
+    let m = c.in-Ok.matcher in
     let refused = rw c.in-Err-NoMatch.field-0-is at c.in-Err-NoMatch.ensures.refused in
     let names = rw c.in-Err-NoMatch.field-0-is at c.in-Ok-expected_at.ensures.expected in
     let told = rw (c.deref.ensures.value, c.in-Err-NoMatch.field-0-is) at c.failed_outcome.ensures in
     let P : Grammar → Type 0 = λ g. IsOutcome g c.args.rule.now c.args.text.now c.args.format c.args.steps c.failed_outcome.result in
     subst P c.in-Ok.ensures.means
-    (failed (grammar_of program.rows.items) program.properties.items c.args.rule.now c.args.text.now c.args.format c.args.steps c.in-Err-NoMatch.place c.in-Ok-expected_at.names.items c.failed_outcome.result c.in-Ok.ensures.fits refused names told)
+    (failed (grammar_in m) (properties_in m) c.args.rule.now c.args.text.now c.args.format c.args.steps c.in-Err-NoMatch.place c.in-Ok-expected_at.names.items c.failed_outcome.result c.in-Ok.ensures.fits refused names told)
 
 pub failed_outcome-requires : goal.failed_outcome-requires
 failed_outcome-requires c =
-    let program = c.in-Ok.matcher.interpreter.program in
+    let m = c.in-Ok.matcher in
     let refused = rw c.in-Err-NoMatch.field-0-is at c.in-Err-NoMatch.ensures.refused in
-    let here = at_character (grammar_of program.rows.items) program.properties.items _ c.args.text.now c.in-Err-NoMatch.place c.utf8.text c.in-Ok.ensures.fits refused in
+    let here = at_character (grammar_in m) (properties_in m) _ c.args.text.now c.in-Err-NoMatch.place c.utf8.text c.in-Ok.ensures.fits refused in
     rw c.in-Err-NoMatch.field-0-is here
 
 -- a run that was stopped while names were looked for
 pub returns-in-Err-NoMatch : goal.returns-in-Err-NoMatch
 returns-in-Err-NoMatch c =
-    let program = c.in-Ok.matcher.interpreter.program in
+    let m = c.in-Ok.matcher in
     let why = c.in-Err-Stopped-expected_at.stop in
     let says = rw c.in-Err-Stopped-expected_at.field-0-is at c.in-Err-Stopped-expected_at.ensures.refused in
     let told = c.stopped_outcome.ensures in
     let Q : Grammar → Type 0 = λ g. IsOutcome g c.args.rule.now c.args.text.now c.args.format c.args.steps c.stopped_outcome.result in
-    subst Q c.in-Ok.ensures.means (stopped (grammar_of program.rows.items) program.properties.items c.args.rule.now c.args.text.now c.args.format c.args.steps why c.stopped_outcome.result c.in-Ok.ensures.fits says told)
+    subst Q c.in-Ok.ensures.means (stopped (grammar_in m) (properties_in m) c.args.rule.now c.args.text.now c.args.format c.args.steps why c.stopped_outcome.result c.in-Ok.ensures.fits says told)
 
 -- the same of the match
 pub returns : goal.returns
 returns c =
-    let program = c.in-Ok.matcher.interpreter.program in
+    let m = c.in-Ok.matcher in
     let why = c.in-Err-Stopped.stop in
     let says = rw c.in-Err-Stopped.field-0-is at c.in-Err-Stopped.ensures.refused in
     let told = rw c.in-Err-Stopped.field-0-is at c.stopped_outcome-in-Err-Stopped.ensures in
     let Q : Grammar → Type 0 = λ g. IsOutcome g c.args.rule.now c.args.text.now c.args.format c.args.steps c.stopped_outcome-in-Err-Stopped.result in
-    subst Q c.in-Ok.ensures.means (stopped (grammar_of program.rows.items) program.properties.items c.args.rule.now c.args.text.now c.args.format c.args.steps why c.stopped_outcome-in-Err-Stopped.result c.in-Ok.ensures.fits says told)
+    subst Q c.in-Ok.ensures.means (stopped (grammar_in m) (properties_in m) c.args.rule.now c.args.text.now c.args.format c.args.steps why c.stopped_outcome-in-Err-Stopped.result c.in-Ok.ensures.fits says told)
 
 -- no rule of that name
 pub returns-in-Err-UnknownRule : goal.returns-in-Err-UnknownRule

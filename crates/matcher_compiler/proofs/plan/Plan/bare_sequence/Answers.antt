@@ -5,7 +5,7 @@ use Rattle.meta_base.specs.Language.Meaning.{Run}
 use Rattle.matcher_sets.specs.Modes.{mode_of}
 use Rattle.matcher_compiler.specs.Names.{number_in}
 use Rattle.matcher_sets.specs.Forms.{grammar_in}
-use Rattle.matcher_compiler.proofs.Growing.{point_as}
+use Rattle.matcher_compiler.proofs.Growing.{part_as}
 use Rattle.matcher_compiler.proofs.plan.Plan.bare_sequence.Goals as goal
 
 pub returns-clause-later : goal.returns-clause-later
@@ -15,5 +15,5 @@ pub returns-clause-lays : goal.returns-clause-lays
 returns-clause-lays c = λ a b left right classes fits code laid m.
     let x = c.in_ok-parts.ensures.lays code laid m in
     let at = c.args.at in
-    subst (λ w. lay.Lays (grammar_in c.args.program.now) classes code (number_in (grammar_in c.args.program.now)) laid (Run (mode_of at.mode) (Seq a b)) at.label at.next w) (sym c.requires.way)
-    (lay.seq x.behind x.begin (point_as laid left x.left) x.skipping (point_as laid right x.right))
+    subst (λ w. lay.Lays (grammar_in c.args.program.now) classes code (number_in (grammar_in c.args.program.now)) laid at.rank (Run (mode_of at.mode) (Seq a b)) at.label at.next w) (sym c.requires.way)
+    (lay.seq x.behind x.begin (part_as laid left x.left) x.skipping (part_as laid right x.right))

@@ -1,12 +1,16 @@
-use Rattle.matcher_compiler.proofs.Skipping.{comment_is_rule, comment_laid}
+use Rattle.meta_base.specs.Language.Expression.{comment}
+use Rattle.matcher_compiler.proofs.Skipping.{comment_is_skipped, comment_meant, skipped_is_rule, skipped_laid}
 use Rattle.matcher_compiler.specs.Names.{number_in}
 use Rattle.matcher_sets.specs.Forms.{grammar_in}
 use Rattle.matcher_compiler.proofs.plan.Plan.comment_call.Goals as goal
 
 pub call-requires-clause-meant : goal.call-requires-clause-meant
-call-requires-clause-meant c = comment_is_rule c.args.program.now c.in-Some.rule c.requires.sound c.in-Some.is
+call-requires-clause-meant c =
+    let p = c.args.program.now in
+    skipped_is_rule p comment c.in-Some.rule (comment_meant p c.in-Some.rule c.requires.sound c.in-Some.is) comment_is_skipped
 
 pub returns-clause-lays : goal.returns-clause-lays
 returns-clause-lays c = λ classes fits code laid m.
     let p = c.args.program.now in
-    comment_laid p c.in-Some.rule c.requires.sound c.in-Some.is classes code (number_in (grammar_in p)) laid (c.in_ok-call.ensures.lays classes fits code laid m)
+    skipped_laid p comment c.in-Some.rule (comment_meant p c.in-Some.rule c.requires.sound c.in-Some.is) comment_is_skipped classes code
+    (number_in (grammar_in p)) laid (c.in_ok-call.ensures.lays classes fits code laid m)

@@ -1,6 +1,8 @@
-use Rattle.std.proofs.Common.{◌∙◌, ap, ap₂, chars, subst, sym}
+use Rattle.std.proofs.Common.{◌∙◌, FitsSigned, ap, ap₂, chars, rules, subst, sym}
+use Rattle.std.proofs.lemmas.Int.{to_z-of_z}
+use Rattle.std.specs.Int.{w32}
 use Rattle.std.specs.Prelude.{OnOk}
-use Rattle.meta_base.specs.Language.Expression.{Choice, Insens, NegPred, NodeTag, Opt, PosPred, Rep, RepOnce, RestoreOnErr, Seq, Str}
+use Rattle.meta_base.specs.Language.Expression.{Choice, Insens, NegPred, NodeTag, Opt, PosPred, Push, PushLiteral, Rep, RepOnce, RestoreOnErr, Seq, Str}
 use Rattle.meta_base.specs.Language.Meaning.{Run}
 use Rattle.matcher_sets.specs.Modes.{mode_of}
 use Rattle.matcher_sets.specs.Forms.{said}
@@ -81,3 +83,39 @@ returns-in-Restore-clause-lays c =
 pub returns-in-Skip-clause-lays : goal.returns-in-Skip-clause-lays
 returns-in-Skip-clause-lays c =
     subst (λ x. OnOk c.search.result (LaysAt c.args.program.now c.search.new.self (Run (mode_of c.args.at.mode) (said c.args.program.now x)) c.args.at)) (sym c.in-Skip.is) c.search.ensures.lays
+
+pub returns-in-Push-clause-lays : goal.returns-in-Push-clause-lays
+returns-in-Push-clause-lays c =
+    subst (λ x. OnOk c.push.result (LaysAt c.args.program.now c.push.new.self (Run (mode_of c.args.at.mode) (said c.args.program.now x)) c.args.at)) (sym c.in-Push.is)
+    (subst (λ x. OnOk c.push.result (LaysAt c.args.program.now c.push.new.self (Run (mode_of c.args.at.mode) (Push (said c.args.program.now x))) c.args.at)) c.deref-in-Push.ensures c.push.ensures.lays)
+
+pub returns-in-PushLiteral-clause-lays : goal.returns-in-PushLiteral-clause-lays
+returns-in-PushLiteral-clause-lays c =
+    subst (λ x. OnOk c.push_literal.result (LaysAt c.args.program.now c.push_literal.new.self (Run (mode_of c.args.at.mode) (said c.args.program.now x)) c.args.at)) (sym c.in-PushLiteral.is)
+    (subst (λ x. OnOk c.push_literal.result (LaysAt c.args.program.now c.push_literal.new.self (Run (mode_of c.args.at.mode) (PushLiteral (chars x))) c.args.at)) c.as_str-in-PushLiteral.ensures.value c.push_literal.ensures.lays)
+
+pub returns-in-Peek-clause-lays : goal.returns-in-Peek-clause-lays
+returns-in-Peek-clause-lays c =
+    subst (λ x. OnOk c.peek.result (LaysAt c.args.program.now c.peek.new.self (Run (mode_of c.args.at.mode) (said c.args.program.now x)) c.args.at)) (sym c.in-Peek.is) c.peek.ensures.lays
+
+pub returns-in-Pop-clause-lays : goal.returns-in-Pop-clause-lays
+returns-in-Pop-clause-lays c =
+    subst (λ x. OnOk c.pop.result (LaysAt c.args.program.now c.pop.new.self (Run (mode_of c.args.at.mode) (said c.args.program.now x)) c.args.at)) (sym c.in-Pop.is) c.pop.ensures.lays
+
+pub returns-in-Discard-clause-lays : goal.returns-in-Discard-clause-lays
+returns-in-Discard-clause-lays c =
+    subst (λ x. OnOk c.discard.result (LaysAt c.args.program.now c.discard.new.self (Run (mode_of c.args.at.mode) (said c.args.program.now x)) c.args.at)) (sym c.in-Discard.is) c.discard.ensures.lays
+
+pub returns-in-PeekAll-clause-lays : goal.returns-in-PeekAll-clause-lays
+returns-in-PeekAll-clause-lays c =
+    subst (λ x. OnOk c.peek_all.result (LaysAt c.args.program.now c.peek_all.new.self (Run (mode_of c.args.at.mode) (said c.args.program.now x)) c.args.at)) (sym c.in-PeekAll.is) c.peek_all.ensures.lays
+
+pub returns-in-PopAll-clause-lays : goal.returns-in-PopAll-clause-lays
+returns-in-PopAll-clause-lays c =
+    subst (λ x. OnOk c.pop_all.result (LaysAt c.args.program.now c.pop_all.new.self (Run (mode_of c.args.at.mode) (said c.args.program.now x)) c.args.at)) (sym c.in-PopAll.is) c.pop_all.ensures.lays
+
+pub returns-in-PeekSlice-clause-lays : goal.returns-in-PeekSlice-clause-lays
+returns-in-PeekSlice-clause-lays c =
+    let small : FitsSigned w32 c.in-PeekSlice.from = search rules in
+    subst (λ x. OnOk c.slice.result (LaysAt c.args.program.now c.slice.new.self (Run (mode_of c.args.at.mode) (said c.args.program.now x)) c.args.at)) (sym c.in-PeekSlice.is)
+    (rw (to_z-of_z w32 c.in-PeekSlice.from small) at c.slice.ensures.lays)

@@ -31,6 +31,9 @@ returns-in-Skipped-clause-lays c = subst (λ q. OnOk c.skipped.result (LaysAt c.
 pub returns-in-Blanks-clause-lays : goal.returns-in-Blanks-clause-lays
 returns-in-Blanks-clause-lays c = subst (λ q. OnOk c.blanks.result (LaysAt c.args.program.now c.blanks.new.self (task_in c.args.program.now q (mode_of c.args.point.at.mode)) c.args.point.at)) (sym c.in-Blanks.is) c.blanks.ensures.lays
 
+pub returns-in-BlankCall-clause-lays : goal.returns-in-BlankCall-clause-lays
+returns-in-BlankCall-clause-lays c = subst (λ q. OnOk c.blank_call.result (LaysAt c.args.program.now c.blank_call.new.self (task_in c.args.program.now q (mode_of c.args.point.at.mode)) c.args.point.at)) (sym c.in-BlankCall.is) c.blank_call.ensures.lays
+
 pub returns-in-Comments-clause-lays : goal.returns-in-Comments-clause-lays
 returns-in-Comments-clause-lays c = subst (λ q. OnOk c.comments.result (LaysAt c.args.program.now c.comments.new.self (task_in c.args.program.now q (mode_of c.args.point.at.mode)) c.args.point.at)) (sym c.in-Comments.is) c.comments.ensures.lays
 

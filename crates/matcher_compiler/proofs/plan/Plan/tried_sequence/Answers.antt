@@ -1,4 +1,4 @@
-use Rattle.matcher_compiler.proofs.Growing.{later_twice, point_as}
+use Rattle.matcher_compiler.proofs.Growing.{later_twice, part_as}
 use Rattle.matcher_layout.specs.Laid as lay
 use Rattle.matcher_compiler.proofs.plan.Plan.tried_sequence.Goals as goal
 
@@ -11,5 +11,5 @@ returns-clause-lays c = λ a b left right classes fits code laid m.
     let m1 = (c.in_ok-operation-2.ensures.later c.args.program.now).met code laid m2 in
     let x = c.in_ok-parts.ensures.lays code laid m in
     lay.tried_seq _ x.behind x.begin _ (c.in_ok-operation.ensures.met c.args.program.now code laid m1)
-    (point_as laid left x.left) x.skipping (point_as laid right x.right)
+    (part_as laid left x.left) x.skipping (part_as laid right x.right)
     (c.in_ok-operation-2.ensures.met c.args.program.now code laid m2)

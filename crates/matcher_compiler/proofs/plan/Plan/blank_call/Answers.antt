@@ -1,0 +1,16 @@
+use Rattle.meta_base.specs.Language.Expression.{whitespace}
+use Rattle.matcher_compiler.proofs.Skipping.{skipped_is_rule, skipped_laid, white_is_skipped, white_meant}
+use Rattle.matcher_compiler.specs.Names.{number_in}
+use Rattle.matcher_sets.specs.Forms.{grammar_in}
+use Rattle.matcher_compiler.proofs.plan.Plan.blank_call.Goals as goal
+
+pub call-requires-clause-meant : goal.call-requires-clause-meant
+call-requires-clause-meant c =
+    let p = c.args.program.now in
+    skipped_is_rule p whitespace c.in-Some.rule (white_meant p c.in-Some.rule c.requires.sound c.in-Some.is) white_is_skipped
+
+pub returns-clause-lays : goal.returns-clause-lays
+returns-clause-lays c = λ classes fits code laid m.
+    let p = c.args.program.now in
+    skipped_laid p whitespace c.in-Some.rule (white_meant p c.in-Some.rule c.requires.sound c.in-Some.is) white_is_skipped classes code
+    (number_in (grammar_in p)) laid (c.in_ok-call.ensures.lays classes fits code laid m)

@@ -1,0 +1,15 @@
+use Rattle.meta_base.specs.Language.Matching.{peek_outcome}
+use Rattle.matcher_layout.specs.Laid as lay
+use Rattle.matcher_layout.proofs.StackReads.{peek_performs}
+use Rattle.matcher_sets.specs.Forms.{grammar_in}
+use Rattle.matcher_compiler.specs.Names.{number_in}
+use Rattle.matcher_compiler.proofs.Reading.{peek_has}
+use Rattle.matcher_compiler.proofs.plan.Plan.peek.Goals as goal
+
+pub returns-clause-later : goal.returns-clause-later
+returns-clause-later c = c.in_ok-operation.ensures.later c.args.program.now
+
+pub returns-clause-lays : goal.returns-clause-lays
+returns-clause-lays c = λ classes fits code laid m.
+    lay.read (λ s. peek_outcome s.stack s) c.requires.bound (peek_has c.args.program.now classes c.args.at.mode c.requires.bound)
+    (peek_performs code (number_in (grammar_in c.args.program.now)) m.fail c.args.at.label c.args.at.next c.args.at.way (c.in_ok-operation.ensures.met c.args.program.now code laid m))

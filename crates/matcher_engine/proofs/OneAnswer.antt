@@ -1,0 +1,101 @@
+-- There is one answer at most, so that what has some has that.
+use Rattle.std.proofs.Common.{◌≡◌, sym, ◌∙◌, subst, List, ℕ}
+use Rattle.std.proofs.Props.{props}
+use Rattle.std.proofs.Math.Bridge.{le_prop}
+use Rattle.std.proofs.Math.Logic.{∥∥₁_elim}
+use Rattle.std.proofs.Math.Nat.{ℕ_set}
+use Rattle.std.specs.Coded.{×_prop}
+use mathlib.Core.HLevel.{Σ_prop, ⊥_prop}
+use mathlib.Core.Sum.{⊎_set}
+use Rattle.meta_base.specs.Language.Expression.{Grammar, Ident}
+use Rattle.meta_base.specs.Language.FurthestFailure.{furthest}
+use Rattle.meta_base.specs.Language.Meaning.{Run}
+use Rattle.meta_base.specs.Language.State.{Classes, Failure, NonAtomicMode, State, Success, Trees}
+use Rattle.meta_base.specs.Language.Text.{Text}
+use Rattle.meta_syntax.specs.Entries.{entries_of}
+use Rattle.meta_syntax.specs.Entries as listed
+use Rattle.matcher_program.specs.declared.form.Property.{Property}
+use Rattle.matcher_program.specs.Programs.{Fits}
+use Rattle.meta_matcher.specs.Answers.{FailsAt, Has, IsMatched, IsStopped, start_of}
+use Rattle.meta_matcher.specs.Endings.{classes_in}
+use Rattle.meta_matcher.specs.Written.{seen}
+use Rattle.meta_matcher.specs.declared.entries.Entry.{Entry}
+use Rattle.meta_matcher.specs.declared.machine.Stop.TheVariants as stop
+use Rattle.matcher_engine.proofs.OneDerivation.{Answer, one_answer}
+use Rattle.matcher_engine.proofs.Uniqueness.{one_trees}
+
+entries_set : IsSet (List listed.Entry)
+entries_set = hlevel (props, ⊎_set)
+
+module _ (g : Grammar) (ps : List Property) (n : Text) (text : List ℕ) where
+  -- an outcome of the rule on the text, with its derivation
+  abbrev Result : Classes → Type 0
+  Result classes = Answer g classes (Run NonAtomicMode (Ident n)) (start_of text)
+
+  module _ (end_ : ℕ) (es : List Entry) where
+    -- it is a success with this end and these entries
+    abbrev IsSuccess : {classes : Classes} → Result classes → Type 0
+    IsSuccess (Success t us, d) = (t.position ≡ end_) × (seen es ≡ entries_of 0 us)
+    IsSuccess (Failure, d) = ⊥
+
+    success_prop : {classes : Classes} (x : Result classes) → IsProp (IsSuccess x)
+    success_prop (Success t us, d) = ×_prop (ℕ_set _ _) (entries_set _ _)
+    success_prop (Failure, d) = ⊥_prop
+
+    -- the parts of such a success
+    record Parts (classes : Classes) : Type 0 where
+      pub state : State
+      pub trees : Trees
+      pub found : Has g n text classes (Success state trees)
+      pub ends : state.position ≡ end_
+      pub entries : seen es ≡ entries_of 0 trees
+
+    parts : {classes : Classes} (x : Result classes) → IsSuccess x → Parts classes
+    parts (Success t us, d) h = record { state = t; trees = us; found = d; ends = h.0; entries = h.1 }
+    parts (Failure, d) h = absurd h
+
+    module _ (matched : ∥ IsMatched g ps n text end_ es ∥₁) where
+      parts_in : (classes : Classes) → Fits ps classes → Parts classes
+      parts_in classes fits =
+          let x : (r : Result classes) × IsSuccess r =
+          ∥∥₁_elim matched (Σ_prop (λ r s. one_answer g classes r s) (λ r. success_prop r))
+          (λ m. let found = m.found classes fits in ((Success found.0 m.trees, found.2), (found.1, m.entries))) in
+          parts x.0 x.1
+
+      -- a match
+      pub one_match : Fits ps (classes_in ps) → IsMatched g ps n text end_ es
+      one_match fits =
+          let x = parts_in (classes_in ps) fits in
+          record {
+            trees = x.trees;
+            found = λ classes fit.
+                let y = parts_in classes fit in
+                let same : y.trees ≡ x.trees = one_trees y.trees x.trees 0 (sym y.entries ∙ x.entries) in
+                (y.state, y.ends, subst (λ us. Has g n text classes (Success y.state us)) same y.found);
+            entries = x.entries;
+          }
+
+  module _ (place : ℕ) where
+    -- it is a failure at the place
+    abbrev IsFailure : {classes : Classes} → Result classes → Type 0
+    IsFailure (Success t us, d) = ⊥
+    IsFailure (Failure, d) = place ≡ furthest d
+
+    failure_prop : {classes : Classes} (x : Result classes) → IsProp (IsFailure x)
+    failure_prop (Success t us, d) = ⊥_prop
+    failure_prop (Failure, d) = ℕ_set _ _
+
+    failure_in : {classes : Classes} (x : Result classes) → IsFailure x → (d : Has g n text classes Failure) × (place ≡ furthest d)
+    failure_in (Success t us, d) h = absurd h
+    failure_in (Failure, d) h = (d, h)
+
+    -- a failure
+    pub one_failure : ∥ FailsAt g ps n text place ∥₁ → FailsAt g ps n text place
+    one_failure failed classes fits =
+        let x : (r : Result classes) × IsFailure r =
+        ∥∥₁_elim failed (Σ_prop (λ r s. one_answer g classes r s) (λ r. failure_prop r)) (λ f. let found = f classes fits in ((Failure, found.0), found.1)) in
+        failure_in x.0 x.1
+
+  -- a run that takes more steps than were allowed
+  pub one_stop : (steps : ℕ) → ∥ IsStopped g ps n text steps stop.OutOfSteps ∥₁ → IsStopped g ps n text steps stop.OutOfSteps
+  one_stop steps stopped classes fits o d = ∥∥₁_elim stopped le_prop (λ s. s classes fits o d)
