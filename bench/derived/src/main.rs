@@ -1,9 +1,11 @@
 //! How long the parsers take that pest_derive makes of the grammars of bench/matching: derived NAME TEXT [TURNS].
 //!
-//! NAME is a grammar's, TEXT names a file. Without TURNS it prints how many tokens the parser finds, and a checksum of
-//! them, or where it fails. With TURNS the text is parsed so many times, and a line has its bytes, the milliseconds of
-//! processor time that one parse takes, the least of all, and the million bytes a second. bench/matching writes the
-//! grammars.
+//! NAME is a grammar's, or `by_hand` for the parser of JSON in `by_hand.rs`. TEXT names a file. Without TURNS it prints
+//! how many tokens the parser finds, and a checksum of them, or where it fails. With TURNS the text is parsed so many
+//! times, and a line has its bytes, the milliseconds of processor time that one parse takes, the least of all, and the
+//! million bytes a second. bench/matching writes the grammars.
+mod by_hand;
+
 use pest::error::InputLocation;
 use pest::iterators::Pairs;
 use pest::{Parser, RuleType, Token};
@@ -61,13 +63,13 @@ fn describe<P: Parser<R>, R: RuleType>(rule: R, text: &str) {
 }
 
 /// Prints what so many parses of a text take, at the least.
-fn measure<P: Parser<R>, R: RuleType>(rule: R, text: &str, turns: u32) {
+fn measure<T>(text: &str, turns: u32, parse: impl Fn() -> Option<T>) {
     let mut least = i64::MAX;
     for _ in 0..turns {
         let start = now();
-        let pairs = P::parse(rule, text);
+        let found = parse();
         least = least.min(now() - start);
-        drop(pairs.expect("a text that the grammar has"));
+        drop(found.expect("a text that the grammar has"));
     }
     let bytes = text.len();
     let milliseconds = least as f64 / 1e3;
@@ -77,8 +79,19 @@ fn measure<P: Parser<R>, R: RuleType>(rule: R, text: &str, turns: u32) {
 
 fn run<P: Parser<R>, R: RuleType>(rule: R, text: &str, turns: Option<u32>) {
     match turns {
-        Some(turns) => measure::<P, R>(rule, text, turns),
+        Some(turns) => measure(text, turns, || P::parse(rule, text).ok()),
         None => describe::<P, R>(rule, text),
+    }
+}
+
+/// What `run` does, by the parser that is written by hand.
+fn run_by_hand(text: &str, turns: Option<u32>) {
+    match turns {
+        Some(turns) => measure(text, turns, || by_hand::read(text)),
+        None => match by_hand::read(text) {
+            Some(tokens) => println!("{} tokens, {}", tokens.len(), by_hand::checksum(&tokens, mix, END)),
+            None => println!("no match"),
+        },
     }
 }
 
@@ -119,5 +132,8 @@ fn main() {
         _ => panic!("derived NAME TEXT [TURNS]"),
     };
     let text = std::fs::read_to_string(file).expect("a file of text");
-    run_named(name, &text, turns);
+    match name.as_str() {
+        "by_hand" => run_by_hand(&text, turns),
+        _ => run_named(name, &text, turns),
+    }
 }

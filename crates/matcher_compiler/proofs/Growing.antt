@@ -86,7 +86,10 @@ module _ (p : Program) (old new : Plan) where
   skips_on l keeps skips.Nothing r = r
   skips_on l keeps (skips.Blanks set) r = (r.0, blanks_on l keeps set r.1)
   skips_on l keeps (skips.Comments set) r = blanks_on l keeps set r
-  skips_on l keeps skips.Calls r = r
+  skips_on l keeps (skips.Calls set) r = record {
+    within = omega (arith, l, r.within);
+    is = λ b bs h u. keeps set b bs r.within h ∙ r.is b bs h u;
+  }
 
   -- more points, demands, sets, texts and lists
   pub grown : (ps : List Point) (ds : List Demand) → new.points.items ≡ old.points.items ++ ps

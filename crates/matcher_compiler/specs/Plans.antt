@@ -1,10 +1,11 @@
 -- Plans of programs: points and demands, and what a program does that meets them.
 use Rattle.std.specs.Prelude.{◌≡◌, ◌<◌, ℕ, suc, Bool, List, [], ◌∷◌, None, Option, get_or, length, map, All, IsUtf8, chars, ⊤}
 use Rattle.meta_base.specs.Language.Expression.{Expression, Grammar, Ident, Normal, Rep, Rule, Seq, Str, comment, rule_of, whitespace}
-use Rattle.meta_base.specs.Language.Meaning.{Run, Skipping, Task, once_or_more, skipped}
+use Rattle.meta_base.specs.Language.Meaning.{Does, Run, Skipping, Task, once_or_more, skipped}
 use Rattle.meta_base.specs.Language.State as language
 use Rattle.meta_base.specs.Language.Text.{Text}
-use Rattle.meta_base.specs.Language.State.{Between, Classes, NonAtomicMode}
+use Rattle.meta_base.specs.Language.State.{Between, Classes, Failure, NonAtomicMode, State}
+use Rattle.meta_base.specs.Language.FurthestFailure.{furthest}
 use Rattle.matcher_code.specs.declared.code.Code.{Code}
 use Rattle.matcher_code.specs.declared.code.Op.TheVariants as op
 use Rattle.matcher_code.specs.Reading.{char_len, text_of}
@@ -12,7 +13,7 @@ use Rattle.matcher_code.specs.Sets.{IsSetOf}
 use Rattle.matcher_program.specs.declared.form.Program.{Program}
 use Rattle.matcher_program.specs.Programs.{Fits, name_at, names_of}
 use Rattle.matcher_layout.specs.Laid as lay
-use Rattle.matcher_layout.specs.Laid.{Branches, Continues, Enters, FailsOutside, HasOutcome, HasTable, IsEnd, IsPart, IsPoint, IsTight, Lays, TakesOne, at_label, skip_set}
+use Rattle.matcher_layout.specs.Laid.{Branches, Continues, Enters, FailsOutside, HasOutcome, HasTable, Hits, IsEnd, IsPart, IsPoint, IsTight, Lays, TakesOne, at_label, skip_set}
 use Rattle.matcher_compiler.specs.declared.plan.Plan.{Plan}
 use Rattle.matcher_compiler.specs.declared.plan.Skips.{Skips}
 use Rattle.matcher_compiler.specs.declared.plan.Skips.TheVariants as skips
@@ -146,13 +147,18 @@ pub record IsBlankSet (p : Program) (sets : Code) (set : ℕ) : Type 0 where
   pub is : IsSetOf sets set ranges
   pub blank : AreBlanks p ranges
 
+-- a set has no characters
+pub record IsEmptySet (sets : Code) (set : ℕ) : Type 0 where
+  pub within : set < length sets.ranges.items
+  pub is : IsSetOf sets set []
+
 -- what the implicit skipping takes: nothing, the characters of a set, or these and comments; of calls of the
 -- rules nothing is said
 abbrev pub SkipsAs : Program → Code → Skips → Type 0
 SkipsAs p sets skips.Nothing = (classes : Classes) → IsTight (grammar_in p) classes NonAtomicMode
 SkipsAs p sets (skips.Blanks set) = (rule_of (grammar_in p) comment ≡ None) × IsBlankSet p sets set
 SkipsAs p sets (skips.Comments set) = IsBlankSet p sets set
-SkipsAs p sets skips.Calls = ⊤
+SkipsAs p sets (skips.Calls set) = IsEmptySet sets set
 
 abbrev pub IsReady : Program → Plan → Type 0
 IsReady p plan = SkipsAs p plan.sets plan.skips
@@ -197,6 +203,12 @@ BranchesAt p plan k at first second = (classes : Classes) → Fits p.properties.
 abbrev pub TakesOneIn : Program → Task → List (ℕ × ℕ) → Type 0
 TakesOneIn p k ranges = (classes : Classes) → Fits p.properties.items classes
     → TakesOne (grammar_in p) classes k ranges
+
+-- a character of the second ranges is one of the first, and before it a task fails, and records no failure
+abbrev pub FailsBefore : Program → Task → List (ℕ × ℕ) → List (ℕ × ℕ) → Type 0
+FailsBefore p k ranges rest = (classes : Classes) → Fits p.properties.items classes → (s : State)
+    → Hits rest s.rest
+    → Hits ranges s.rest × ((d : Does (grammar_in p) classes k s Failure) × (furthest d ≡ 0))
 
 -- so it goes on from the place to a point that does the task
 pub record IsEntered (g : Grammar) (classes : Classes) (code : Code) (laid : List lay.Point) (k : Task)

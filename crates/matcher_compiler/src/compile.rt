@@ -149,7 +149,12 @@ fn call_plan<'p>(alloc: Global, program: &Program) -> Result<Plan<'p>, NotCompil
     ensures empty { IfOk result IsEmpty }
     ensures ready { IfOk result (IsReady program.now) }
 {
-    let plan = fresh_plan(alloc, program, empty_code(alloc), Skips::Calls)?;
+    let mut sets = empty_code(alloc);
+    let set = add_set(&mut sets, Vec::new(alloc))?;
+    if set as usize >= sets.ranges.len() {
+        return Err(NotCompiled::Unsupported);
+    }
+    let plan = fresh_plan(alloc, program, sets, Skips::Calls(set))?;
     Ok(plan)
 }
 

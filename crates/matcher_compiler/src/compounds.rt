@@ -344,7 +344,7 @@ impl<'p> Plan<'p> {
             return Err(NotCompiled::Unsupported);
         }
         let tried = Place { way: at.next, ..at };
-        let start = self.enter(alloc, program, heads, body, tried, own.saturating_add(4))?;
+        let start = self.enter_by_test(alloc, program, heads, body, tried, own.saturating_add(4))?;
         self.turns_from(program, body, at, start, own)?;
         Ok(())
     }

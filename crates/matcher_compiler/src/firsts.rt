@@ -160,6 +160,27 @@ impl<'p> Plan<'p> {
         if !self.is_long_at(program, form, at) {
             return Ok(at.label);
         }
+        self.enter_by_test(alloc, program, heads, form, at, own)
+    }
+
+    /// Plans a test of the next character before a form, if its head is known. Returns the label at which the
+    /// form begins. The labels from `own` on are free.
+    pub(crate) fn enter_by_test(
+        &mut self,
+        alloc: Global,
+        program: &Program,
+        heads: &Heads,
+        form: &Form,
+        at: Place,
+        own: u32,
+    ) -> Result<u32, NotCompiled>
+        requires sound { IsSoundProgram program.now }
+        requires heads { AreHeads program.now heads.now }
+        requires bound { IsBoundIn program.now form.now }
+        ensures later { OnOk result (IsLater program.now self.old self.new) }
+        ensures enters { IfOk result (EntersAt program.now self.new
+            (Run (mode_of at.mode) (said program.now form.now)) at) }
+    {
         let made = narrow_head(alloc, program, heads, form, at.mode)?;
         match made {
             Some(head) => {

@@ -1,6 +1,6 @@
 //! The implicit skipping.
 ghost use Rattle.std.specs.Prelude.{◌≡◌, ◌≤◌, IfOk, IfSome, None, OnOk, false, length};
-ghost use Rattle.meta_base.specs.Language.Expression.{Ident, Rep, comment, rule_of, whitespace};
+ghost use Rattle.meta_base.specs.Language.Expression.{Expression, Ident, Rep, comment, rule_of, whitespace};
 ghost use Rattle.meta_base.specs.Language.Meaning.{Run, Skipping, Task, skipped};
 ghost use Rattle.meta_base.specs.Language.State.{Between, NonAtomicMode};
 ghost use Rattle.matcher_program.specs.declared.form.Program.{Program};
@@ -9,7 +9,7 @@ ghost use Rattle.matcher_sets.specs.Modes.{mode_of};
 ghost use Rattle.matcher_compiler.specs.Names.{HasOwnNames};
 ghost use Rattle.matcher_sets.specs.Forms.{IsSoundProgram, grammar_in};
 ghost use Rattle.matcher_sets.specs.Heads.{AreHeads, HasHead};
-ghost use Rattle.matcher_compiler.specs.Plans.{EntersAt, FailsWithout, IsBlankSet, IsLater, IsReady, IsTightIn, LaysAt, blanks, one_comment};
+ghost use Rattle.matcher_compiler.specs.Plans.{EntersAt, FailsWithout, IsBlankSet, IsBoundPart, IsLater, IsReady, IsTightIn, LaysAt, blanks, one_comment, task_in};
 
 use crate::forms::FAIL;
 use crate::plan::{Plan, Skips};
@@ -131,7 +131,7 @@ impl<'p> Plan<'p> {
                 Skips::Nothing => Err(NotCompiled::Unsupported),
                 Skips::Blanks(set) => self.skip_blanks(program, set, at),
                 Skips::Comments(_) => self.skip_both(program, at),
-                Skips::Calls => self.skip_both(program, at),
+                Skips::Calls(_) => self.skip_both(program, at),
             }
         }
     }
@@ -187,6 +187,37 @@ impl<'p> Plan<'p> {
         Ok(())
     }
 
+    /// Plans as many of a part of the implicit skipping as there are, with a test of the next character if
+    /// the head of the part is known. The labels from `own` on are free.
+    fn turns_between(
+        &mut self,
+        program: &Program,
+        part: Part<'p>,
+        head: Option<Head>,
+        at: Place,
+        own: u32,
+    ) -> Result<(), NotCompiled>
+        requires bound { IsBoundPart program.now part }
+        ensures later { OnOk result (IsLater program.now self.old self.new) }
+        ensures lays { OnOk result ((e : Expression)
+            → task_in program.now part.entry (mode_of at.mode) ≡ Run Between e
+            → IfSome head (FailsWithout program.now (Run Between e))
+            → LaysAt program.now self.new (Run Between (Rep e)) at) }
+    {
+        if at.next == FAIL {
+            return Err(NotCompiled::Unsupported);
+        }
+        self.demand(Demand::GoesOn { label: at.label })?;
+        let tried = Place {
+            next: at.label,
+            way: at.next,
+            ..at
+        };
+        let label = self.enter_head(head, tried, own)?;
+        self.point(part, Place { label, ..tried })?;
+        Ok(())
+    }
+
     /// Plans as many blanks as there are, by calls of `WHITESPACE`. The labels from `own` on are free.
     fn blank_calls(
         &mut self,
@@ -201,18 +232,8 @@ impl<'p> Plan<'p> {
         ensures later { OnOk result (IsLater program.now self.old self.new) }
         ensures lays { OnOk result (LaysAt program.now self.new (Run Between blanks) at) }
     {
-        if at.next == FAIL {
-            return Err(NotCompiled::Unsupported);
-        }
-        self.demand(Demand::GoesOn { label: at.label })?;
-        let tried = Place {
-            next: at.label,
-            way: at.next,
-            ..at
-        };
         let head = blank_head(alloc, program, heads)?;
-        let label = self.enter_head(head, tried, own)?;
-        self.point(Part::BlankCall, Place { label, ..tried })?;
+        self.turns_between(program, Part::BlankCall, head, at, own)?;
         Ok(())
     }
 
@@ -235,7 +256,7 @@ impl<'p> Plan<'p> {
             Skips::Nothing => Err(NotCompiled::Unsupported),
             Skips::Blanks(set) => self.blanks_of(program, set, at),
             Skips::Comments(set) => self.blanks_of(program, set, at),
-            Skips::Calls => self.blank_calls(alloc, program, heads, at, own),
+            Skips::Calls(_) => self.blank_calls(alloc, program, heads, at, own),
         }
     }
 
@@ -260,18 +281,17 @@ impl<'p> Plan<'p> {
     }
 
     /// Plans no comments, where there is no rule `COMMENT`: characters of an empty set.
-    fn no_comments(
-        &mut self,
-        alloc: Global,
-        program: &Program,
-        at: Place,
-    ) -> Result<(), NotCompiled>
+    fn no_comments(&mut self, program: &Program, at: Place) -> Result<(), NotCompiled>
+        requires ready { IsReady program.now self.old }
         requires none { rule_of (grammar_in program.now) comment ≡ None }
         ensures later { OnOk result (IsLater program.now self.old self.new) }
         ensures lays { OnOk result (LaysAt program.now self.new
             (Run Between (Rep one_comment)) at) }
     {
-        let set = self.set(Vec::new(alloc))?;
+        let set = match self.skips {
+            Skips::Calls(set) => set,
+            _ => return Err(NotCompiled::Unsupported),
+        };
         self.operation(at.label, Op::All { set, next: at.next })?;
         Ok(())
     }
@@ -287,13 +307,14 @@ impl<'p> Plan<'p> {
     ) -> Result<(), NotCompiled>
         requires sound { IsSoundProgram program.now }
         requires heads { AreHeads program.now heads.now }
+        requires ready { IsReady program.now self.old }
         ensures later { OnOk result (IsLater program.now self.old self.new) }
         ensures lays { OnOk result (LaysAt program.now self.new
             (Run Between (Rep one_comment)) at) }
     {
         match program.comment {
             Some(_) => self.comment_turns(alloc, program, heads, at, own),
-            None => self.no_comments(alloc, program, at),
+            None => self.no_comments(program, at),
         }
     }
 
@@ -312,18 +333,8 @@ impl<'p> Plan<'p> {
         ensures lays { OnOk result (LaysAt program.now self.new
             (Run Between (Rep one_comment)) at) }
     {
-        if at.next == FAIL {
-            return Err(NotCompiled::Unsupported);
-        }
-        self.demand(Demand::GoesOn { label: at.label })?;
-        let tried = Place {
-            next: at.label,
-            way: at.next,
-            ..at
-        };
         let head = comment_head(alloc, program, heads)?;
-        let label = self.enter_head(head, tried, own)?;
-        self.point(Part::Comment, Place { label, ..tried })?;
+        self.turns_between(program, Part::Comment, head, at, own)?;
         Ok(())
     }
 

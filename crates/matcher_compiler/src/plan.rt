@@ -16,8 +16,8 @@ pub enum Skips {
     Blanks(u32),
     /// Comments, and the characters of a set.
     Comments(u32),
-    /// What calls of `WHITESPACE` take, and comments, if there are such.
-    Calls,
+    /// What calls of `WHITESPACE` take, and comments, if there are such. The set is empty.
+    Calls(u32),
 }
 
 /// The points and the demands of a program, its sets and its texts.
@@ -62,7 +62,7 @@ impl<'p> Plan<'p> {
                 Skips::Nothing => true,
                 Skips::Blanks(_) => false,
                 Skips::Comments(_) => false,
-                Skips::Calls => false,
+                Skips::Calls(_) => false,
             },
             Atomicity::Atomic => true,
             Atomicity::CompoundAtomic => true,

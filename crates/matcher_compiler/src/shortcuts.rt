@@ -1,11 +1,11 @@
 //! Shortcuts in repetitions.
 ghost use Rattle.std.specs.Prelude.{IfOk, IfSome, OnOk};
-ghost use Rattle.meta_base.specs.Language.Expression.{NegPred, Rep, Seq};
+ghost use Rattle.meta_base.specs.Language.Expression.{Choice, NegPred, Opt, Rep, Seq};
 ghost use Rattle.meta_base.specs.Language.Meaning.{Run};
 ghost use Rattle.matcher_sets.specs.Forms.{IsBoundIn, IsSoundProgram, said};
 ghost use Rattle.matcher_sets.specs.Heads.{AreHeads};
 ghost use Rattle.matcher_sets.specs.Modes.{mode_of};
-ghost use Rattle.matcher_compiler.specs.Plans.{IsLater, IsTightIn, LaysAt, TakesOneIn};
+ghost use Rattle.matcher_compiler.specs.Plans.{FailsBefore, IsLater, IsTightIn, LaysAt, TakesOneIn};
 
 use crate::forms::FAIL;
 use crate::plan::Plan;
@@ -17,7 +17,34 @@ use matcher_sets::heads::{Heads, head_of};
 use matcher_sets::modes::Atomicity;
 use std::alloc::Global;
 
-/// Returns the characters that a form takes before which another is not found at once, if these are known.
+/// Returns the characters of some ranges before which a form fails at once, if these are known.
+fn outside_head(
+    alloc: Global,
+    program: &Program,
+    heads: &Heads,
+    form: &Form,
+    ranges: Ranges,
+    mode: Atomicity,
+) -> Result<Option<Ranges>, NotCompiled>
+    requires sound { IsSoundProgram program.now }
+    requires heads { AreHeads program.now heads.now }
+    requires bound { IsBoundIn program.now form.now }
+    ensures { IfOk result (λ made. IfSome made (λ rest. FailsBefore program.now
+        (Run (mode_of mode) (said program.now form.now)) ranges.items rest.items)) }
+{
+    let known = head_of(alloc, program, heads, form, mode)?;
+    let head = match known {
+        Some(head) => head,
+        None => return Ok(None),
+    };
+    if head.empty || head.noted || head.ranges.len() > MOST_RANGES {
+        return Ok(None);
+    }
+    let rest = outside_ranges(alloc, ranges, &head.ranges)?;
+    Ok(Some(rest))
+}
+
+/// Returns the characters that a form takes before which another fails at once, if these are known.
 fn unstopped_ranges(
     alloc: Global,
     program: &Program,
@@ -31,24 +58,16 @@ fn unstopped_ranges(
     requires stop_bound { IsBoundIn program.now stop.now }
     requires bound { IsBoundIn program.now form.now }
     requires tight { IsTightIn program.now mode }
-    ensures { IfOk result (λ made. IfSome made (λ ranges. TakesOneIn program.now (Run (mode_of mode)
+    ensures refused { IfOk result (λ made. IfSome made (λ ranges. TakesOneIn program.now (Run (mode_of mode)
         (Seq (NegPred (said program.now stop.now)) (said program.now form.now))) ranges.items)) }
+    ensures missing { IfOk result (λ made. IfSome made (λ ranges. TakesOneIn program.now (Run (mode_of mode)
+        (Seq (Opt (said program.now stop.now)) (said program.now form.now))) ranges.items)) }
 {
-    let known = head_of(alloc, program, heads, stop, mode)?;
-    let head = match known {
-        Some(head) => head,
-        None => return Ok(None),
-    };
-    if head.empty || head.noted || head.ranges.len() > MOST_RANGES {
-        return Ok(None);
-    }
     let made = choice_ranges(alloc, program, form)?;
-    let ranges = match made {
-        Some(ranges) => ranges,
-        None => return Ok(None),
-    };
-    let rest = outside_ranges(alloc, ranges, &head.ranges)?;
-    Ok(Some(rest))
+    match made {
+        Some(ranges) => outside_head(alloc, program, heads, stop, ranges, mode),
+        None => Ok(None),
+    }
 }
 
 /// Returns the characters that a sequence takes alone, if these are known.
@@ -70,11 +89,12 @@ fn sequence_ranges(
 {
     match first {
         Form::NegPred(stop) => unstopped_ranges(alloc, program, heads, stop, second, mode),
+        Form::Opt(body) => unstopped_ranges(alloc, program, heads, body, second, mode),
         _ => Ok(None),
     }
 }
 
-/// Returns the characters that a first alternative takes alone, if these are known.
+/// Returns the characters that an alternative takes alone, if these are known.
 fn alternative_ranges(
     alloc: Global,
     program: &Program,
@@ -95,6 +115,55 @@ fn alternative_ranges(
     }
 }
 
+/// Returns the characters that a second alternative takes alone, where the first one fails at once, if these
+/// are known.
+fn second_ranges(
+    alloc: Global,
+    program: &Program,
+    heads: &Heads,
+    left: &Form,
+    right: &Form,
+    mode: Atomicity,
+) -> Result<Option<Ranges>, NotCompiled>
+    requires sound { IsSoundProgram program.now }
+    requires heads { AreHeads program.now heads.now }
+    requires left_bound { IsBoundIn program.now left.now }
+    requires right_bound { IsBoundIn program.now right.now }
+    requires tight { IsTightIn program.now mode }
+    ensures { IfOk result (λ made. IfSome made (λ ranges. TakesOneIn program.now (Run (mode_of mode)
+        (Choice (said program.now left.now) (said program.now right.now))) ranges.items)) }
+{
+    let made = alternative_ranges(alloc, program, heads, right, mode)?;
+    match made {
+        Some(ranges) => outside_head(alloc, program, heads, left, ranges, mode),
+        None => Ok(None),
+    }
+}
+
+/// Returns the characters that a choice takes alone, by one of its alternatives, if these are known.
+fn either_ranges(
+    alloc: Global,
+    program: &Program,
+    heads: &Heads,
+    left: &Form,
+    right: &Form,
+    mode: Atomicity,
+) -> Result<Option<Ranges>, NotCompiled>
+    requires sound { IsSoundProgram program.now }
+    requires heads { AreHeads program.now heads.now }
+    requires left_bound { IsBoundIn program.now left.now }
+    requires right_bound { IsBoundIn program.now right.now }
+    requires tight { IsTightIn program.now mode }
+    ensures { IfOk result (λ made. IfSome made (λ ranges. TakesOneIn program.now (Run (mode_of mode)
+        (Choice (said program.now left.now) (said program.now right.now))) ranges.items)) }
+{
+    let made = alternative_ranges(alloc, program, heads, left, mode)?;
+    match made {
+        Some(ranges) => Ok(Some(ranges)),
+        None => second_ranges(alloc, program, heads, left, right, mode),
+    }
+}
+
 /// Returns the characters that a form takes alone, if these are known.
 fn single_ranges(
     alloc: Global,
@@ -111,7 +180,7 @@ fn single_ranges(
         (Run (mode_of mode) (said program.now form.now)) ranges.items)) }
 {
     match form {
-        Form::Choice(left, _) => alternative_ranges(alloc, program, heads, left, mode),
+        Form::Choice(left, right) => either_ranges(alloc, program, heads, left, right, mode),
         _ => alternative_ranges(alloc, program, heads, form, mode),
     }
 }
@@ -135,19 +204,12 @@ impl<'p> Plan<'p> {
         ensures lays { OnOk result (LaysAt program.now self.new (Run (mode_of at.mode)
             (Rep (said program.now body.entry.now))) at) }
     {
-        if at.next == FAIL || own == FAIL {
+        if at.next == FAIL {
             return Err(NotCompiled::Unsupported);
         }
         self.demand(Demand::GoesOn { label: at.label })?;
         let set = self.set(ranges)?;
-        self.operation(
-            at.label,
-            Op::One {
-                set,
-                next: at.label,
-                fail: own,
-            },
-        )?;
+        self.operation(at.label, Op::All { set, next: own })?;
         self.point(
             Part::Form(body),
             Place {

@@ -16,10 +16,10 @@ use Rattle.meta_syntax.specs.Entries.{entries_of}
 use Rattle.meta_syntax.specs.Entries as listed
 use Rattle.matcher_program.specs.declared.form.Property.{Property}
 use Rattle.matcher_program.specs.Programs.{Fits}
-use Rattle.meta_matcher.specs.Answers.{FailsAt, Has, IsMatched, IsStopped, start_of}
+use Rattle.meta_matcher.specs.Answers.{FailsWith, HasAt, IsMatchedFrom, IsStoppedFrom}
 use Rattle.meta_matcher.specs.Endings.{classes_in}
 use Rattle.meta_matcher.specs.Written.{seen}
-use Rattle.meta_matcher.specs.declared.entries.Entry.{Entry}
+use Rattle.meta_matcher.specs.declared.matcher.Found.{Found}
 use Rattle.meta_matcher.specs.declared.machine.Stop.TheVariants as stop
 use Rattle.matcher_engine.proofs.OneDerivation.{Answer, one_answer}
 use Rattle.matcher_engine.proofs.Uniqueness.{one_trees}
@@ -27,43 +27,44 @@ use Rattle.matcher_engine.proofs.Uniqueness.{one_trees}
 entries_set : IsSet (List listed.Entry)
 entries_set = hlevel (props, ⊎_set)
 
-module _ (g : Grammar) (ps : List Property) (n : Text) (text : List ℕ) where
-  -- an outcome of the rule on the text, with its derivation
+module _ (g : Grammar) (ps : List Property) (n : Text) (s : State) where
+  -- an outcome of the rule from the state, with its derivation
   abbrev Result : Classes → Type 0
-  Result classes = Answer g classes (Run NonAtomicMode (Ident n)) (start_of text)
+  Result classes = Answer g classes (Run NonAtomicMode (Ident n)) s
 
-  module _ (end_ : ℕ) (es : List Entry) where
-    -- it is a success with this end and these entries
+  module _ (it : Found) where
+    -- it is a success with this end, this furthest failure and these entries
     abbrev IsSuccess : {classes : Classes} → Result classes → Type 0
-    IsSuccess (Success t us, d) = (t.position ≡ end_) × (seen es ≡ entries_of 0 us)
+    IsSuccess (Success t us, d) = (t.position ≡ it.end) × ((it.furthest ≡ furthest d) × (seen it.entries.items ≡ entries_of 0 us))
     IsSuccess (Failure, d) = ⊥
 
     success_prop : {classes : Classes} (x : Result classes) → IsProp (IsSuccess x)
-    success_prop (Success t us, d) = ×_prop (ℕ_set _ _) (entries_set _ _)
+    success_prop (Success t us, d) = ×_prop (ℕ_set _ _) (×_prop (ℕ_set _ _) (entries_set _ _))
     success_prop (Failure, d) = ⊥_prop
 
     -- the parts of such a success
     record Parts (classes : Classes) : Type 0 where
       pub state : State
       pub trees : Trees
-      pub found : Has g n text classes (Success state trees)
-      pub ends : state.position ≡ end_
-      pub entries : seen es ≡ entries_of 0 trees
+      pub found : HasAt g n s classes (Success state trees)
+      pub ends : state.position ≡ it.end
+      pub place : it.furthest ≡ furthest found
+      pub entries : seen it.entries.items ≡ entries_of 0 trees
 
     parts : {classes : Classes} (x : Result classes) → IsSuccess x → Parts classes
-    parts (Success t us, d) h = record { state = t; trees = us; found = d; ends = h.0; entries = h.1 }
+    parts (Success t us, d) h = record { state = t; trees = us; found = d; ends = h.0; place = h.1.0; entries = h.1.1 }
     parts (Failure, d) h = absurd h
 
-    module _ (matched : ∥ IsMatched g ps n text end_ es ∥₁) where
+    module _ (matched : ∥ IsMatchedFrom g ps n s it ∥₁) where
       parts_in : (classes : Classes) → Fits ps classes → Parts classes
       parts_in classes fits =
           let x : (r : Result classes) × IsSuccess r =
-          ∥∥₁_elim matched (Σ_prop (λ r s. one_answer g classes r s) (λ r. success_prop r))
-          (λ m. let found = m.found classes fits in ((Success found.0 m.trees, found.2), (found.1, m.entries))) in
+          ∥∥₁_elim matched (Σ_prop (λ r q. one_answer g classes r q) (λ r. success_prop r))
+          (λ m. let found = m.found classes fits in ((Success found.0 m.trees, found.2), (found.1, (found.3, m.entries)))) in
           parts x.0 x.1
 
       -- a match
-      pub one_match : Fits ps (classes_in ps) → IsMatched g ps n text end_ es
+      pub one_match : Fits ps (classes_in ps) → IsMatchedFrom g ps n s it
       one_match fits =
           let x = parts_in (classes_in ps) fits in
           record {
@@ -71,7 +72,8 @@ module _ (g : Grammar) (ps : List Property) (n : Text) (text : List ℕ) where
             found = λ classes fit.
                 let y = parts_in classes fit in
                 let same : y.trees ≡ x.trees = one_trees y.trees x.trees 0 (sym y.entries ∙ x.entries) in
-                (y.state, y.ends, subst (λ us. Has g n text classes (Success y.state us)) same y.found);
+                let d = subst (λ us. (d : HasAt g n s classes (Success y.state us)) × (it.furthest ≡ furthest d)) same (y.found, y.place) in
+                (y.state, y.ends, d.0, d.1);
             entries = x.entries;
           }
 
@@ -85,17 +87,17 @@ module _ (g : Grammar) (ps : List Property) (n : Text) (text : List ℕ) where
     failure_prop (Success t us, d) = ⊥_prop
     failure_prop (Failure, d) = ℕ_set _ _
 
-    failure_in : {classes : Classes} (x : Result classes) → IsFailure x → (d : Has g n text classes Failure) × (place ≡ furthest d)
+    failure_in : {classes : Classes} (x : Result classes) → IsFailure x → (d : HasAt g n s classes Failure) × (place ≡ furthest d)
     failure_in (Success t us, d) h = absurd h
     failure_in (Failure, d) h = (d, h)
 
     -- a failure
-    pub one_failure : ∥ FailsAt g ps n text place ∥₁ → FailsAt g ps n text place
+    pub one_failure : ∥ FailsWith g ps n s place ∥₁ → FailsWith g ps n s place
     one_failure failed classes fits =
         let x : (r : Result classes) × IsFailure r =
-        ∥∥₁_elim failed (Σ_prop (λ r s. one_answer g classes r s) (λ r. failure_prop r)) (λ f. let found = f classes fits in ((Failure, found.0), found.1)) in
+        ∥∥₁_elim failed (Σ_prop (λ r q. one_answer g classes r q) (λ r. failure_prop r)) (λ f. let found = f classes fits in ((Failure, found.0), found.1)) in
         failure_in x.0 x.1
 
   -- a run that takes more steps than were allowed
-  pub one_stop : (steps : ℕ) → ∥ IsStopped g ps n text steps stop.OutOfSteps ∥₁ → IsStopped g ps n text steps stop.OutOfSteps
-  one_stop steps stopped classes fits o d = ∥∥₁_elim stopped le_prop (λ s. s classes fits o d)
+  pub one_stop : (steps : ℕ) → ∥ IsStoppedFrom g ps n s steps stop.OutOfSteps ∥₁ → IsStoppedFrom g ps n s steps stop.OutOfSteps
+  one_stop steps stopped classes fits o d = ∥∥₁_elim stopped le_prop (λ x. x classes fits o d)

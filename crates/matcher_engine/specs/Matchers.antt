@@ -1,10 +1,11 @@
 -- What a matcher is and answers.
 use Rattle.std.specs.Prelude.{List, ℕ, Result, Err, Ok}
 use Rattle.meta_base.specs.Language.Expression.{Grammar}
+use Rattle.meta_base.specs.Language.State.{State}
 use Rattle.meta_base.specs.Language.Text.{Text}
 use Rattle.matcher_program.specs.declared.form.Property.{Property}
 use Rattle.matcher_program.specs.Programs.{grammar_of}
-use Rattle.meta_matcher.specs.Answers.{IsMatched, IsRefused}
+use Rattle.meta_matcher.specs.Answers.{IsMatchedFrom, IsRefusedFrom}
 use Rattle.meta_matcher.specs.declared.matcher.Found.{Found}
 use Rattle.meta_matcher.specs.declared.matcher.Refusal.{Refusal}
 use Rattle.matcher_engine.specs.declared.matcher.Matcher.{Matcher}
@@ -16,8 +17,7 @@ grammar_in m = grammar_of m.interpreter.program.rows.items
 abbrev pub properties_in : Matcher → List Property
 properties_in m = m.interpreter.program.properties.items
 
--- the match of a rule, or the reason why there is none in a run of so many steps at most
-abbrev pub IsAnswer : Matcher → Text → List ℕ → ℕ → Result Found Refusal → Type 0
-IsAnswer m n text steps (Ok found) =
-    IsMatched (grammar_in m) (properties_in m) n text found.end found.entries.items
-IsAnswer m n text steps (Err why) = IsRefused (grammar_in m) (properties_in m) n text steps why
+-- the match of a rule from a state, or the reason why there is none in a run of so many steps at most
+abbrev pub IsAnswer : Matcher → Text → State → ℕ → Result Found Refusal → Type 0
+IsAnswer m n s steps (Ok found) = IsMatchedFrom (grammar_in m) (properties_in m) n s found
+IsAnswer m n s steps (Err why) = IsRefusedFrom (grammar_in m) (properties_in m) n s steps why

@@ -1,5 +1,5 @@
 //! Entries of token trees, from trees in preorder.
-ghost use Rattle.std.specs.Prelude.{◌≡◌, ◌≤◌, ℕ, ◌+◌, ◌-◌, ◌*◌, ◌++◌, ◌∷◌, IfOk, IfSome, OnOk, chars, codes, get_or, length, reverse, true};
+ghost use Rattle.std.specs.Prelude.{◌≡◌, ◌≤◌, ℕ, ◌+◌, ◌-◌, ◌*◌, ◌++◌, ◌∷◌, IfOk, IfSome, OnOk, [], chars, codes, get_or, length, reverse, true};
 ghost use Rattle.meta_base.specs.Language.State.{Trees};
 ghost use Rattle.matcher_layout.specs.Reached.{nodes_of};
 ghost use Rattle.matcher_program.specs.Programs.{grammar_of, names_of};
@@ -24,6 +24,7 @@ pub(crate) struct OpenTree {
 }
 
 /// Returns the name of the rule of a number, or `EOI` for the number after all rules.
+#[inline(always)]
 fn name_of<'a>(rows: &'a [Row], row: u32) -> Option<&'a str>
     ensures known { IfSome result (λ name. row ≤ length rows.entry.now) }
     ensures name { IfSome result (λ name. chars name.now
@@ -44,6 +45,7 @@ fn name_of<'a>(rows: &'a [Row], row: u32) -> Option<&'a str>
 
 /// Returns the index of the end entry of the tree of a number, by the index of its start entry and the number
 /// of trees up to its last descendant; `None` if no `usize` holds it.
+#[inline(always)]
 fn partner_of(start: usize, number: usize, after: usize) -> Option<usize>
     ensures { IfSome result (λ partner. partner ≡ start + 2 * (after - number) - 1) }
 {
@@ -52,7 +54,34 @@ fn partner_of(start: usize, number: usize, after: usize) -> Option<usize>
     Some(end.saturating_sub(1))
 }
 
+/// Adds an entry. It makes a call only where the list has to grow.
+#[inline(always)]
+fn add<'a>(entries: &mut Vec<Entry<'a>>, entry: Entry<'a>) -> Result<(), AllocError>
+    ensures { OnOk result (entries.new.items ≡ entries.old.items ++ entry.entry ∷ []) }
+{
+    if entries.len() < entries.capacity() {
+        entries.push_reserved(entry);
+    } else {
+        entries.push(entry)?;
+    }
+    Ok(())
+}
+
+/// Adds an open tree. It makes a call only where the list has to grow.
+#[inline(always)]
+fn add_open(pending: &mut Vec<OpenTree>, tree: OpenTree) -> Result<(), AllocError>
+    ensures { OnOk result (pending.new.items ≡ pending.old.items ++ tree ∷ []) }
+{
+    if pending.len() < pending.capacity() {
+        pending.push_reserved(tree);
+    } else {
+        pending.push(tree)?;
+    }
+    Ok(())
+}
+
 /// Ends the trees that have no more descendants before the tree of a number.
+#[inline(always)]
 fn close<'a>(
     entries: &mut Vec<Entry<'a>>,
     pending: &mut Vec<OpenTree>,
@@ -66,16 +95,18 @@ fn close<'a>(
         if tree.after > number {
             return Ok(());
         }
-        entries.push(Entry::End {
+        let end = Entry::End {
             pos: tree.end,
             partner: tree.start,
-        })?;
+        };
+        add(entries, end)?;
         pending.pop();
     }
     Ok(())
 }
 
 /// Starts a tree, and ends it if it has no descendants. Returns whether the name of its rule is known.
+#[inline(always)]
 fn start<'a>(
     rows: &'a [Row],
     entries: &mut Vec<Entry<'a>>,
@@ -93,27 +124,31 @@ fn start<'a>(
     let Some(partner) = partner_of(start, number, node.after) else {
         return Ok(false);
     };
-    entries.push(Entry::Start {
+    let first = Entry::Start {
         rule,
         pos: node.start,
         partner,
-    })?;
+    };
+    add(entries, first)?;
     if node.after.saturating_sub(number) > 1 {
-        pending.push(OpenTree {
+        let tree = OpenTree {
             end: node.end,
             after: node.after,
             start,
-        })?;
+        };
+        add_open(pending, tree)?;
     } else {
-        entries.push(Entry::End {
+        let end = Entry::End {
             pos: node.end,
             partner: start,
-        })?;
+        };
+        add(entries, end)?;
     }
     Ok(true)
 }
 
-/// Returns the entries of trees in preorder, or `None` if the rule of one is not known.
+/// Returns the entries of trees in preorder, or `None` if the rule of one is not known. The only error is an
+/// allocation failure.
 pub(crate) fn entries_of<'a>(
     alloc: Global,
     rows: &'a [Row],
@@ -123,7 +158,7 @@ pub(crate) fn entries_of<'a>(
         → nodes.now ≡ nodes_of (number_in (grammar_of rows.entry.now)) 0 trees
         → seen entries.items ≡ entries_of 0 trees)) }
 {
-    let mut entries = Vec::new(alloc);
+    let mut entries = Vec::with_capacity(alloc, nodes.len().saturating_mul(2))?;
     let mut pending = Vec::new(alloc);
     for (number, node) in nodes.iter().enumerate() {
         close(&mut entries, &mut pending, number)?;

@@ -14,8 +14,9 @@ use matcher_machine::machine::{Machine, RunEnd};
 use matcher_program::compile::Unfit;
 use matcher_program::properties::Properties;
 use meta_ast::optimized::OptimizedRule;
+use meta_base::runtime::{Position, Span};
 use meta_matcher::machine::Stop;
-use meta_matcher::matcher::{Found, Matcher as Interpreter, Refusal};
+use meta_matcher::matcher::{Found, Matcher as Interpreter, Refusal, whole_text};
 use std::alloc::Global;
 
 /// The largest number of rules that are compiled.
@@ -36,7 +37,7 @@ pub struct Matcher {
 type Answer<'a> = Option<Result<Found<'a>, Refusal<'a>>>;
 
 impl Matcher {
-    ghost use Rattle.meta_matcher.specs.Answers.{AreExpectedAt, IsMatched, IsRefused, IsUnanswered};
+    ghost use Rattle.meta_matcher.specs.Answers.{AreExpectedAt, AreExpectedFrom, IsMatched, IsMatchedFrom, IsRefused, IsRefusedFrom, IsUnanswered, IsUnansweredFrom, state_at};
     ghost use Rattle.matcher_engine.specs.Matchers.{IsAnswer, grammar_in, properties_in};
 
     /// Compiles rules, and resolves every name once, to the last rule of that name, or to a builtin if no
@@ -65,9 +66,16 @@ impl Matcher {
         }
     }
 
-    /// Runs the program of a rule, if the rules are compiled.
-    fn run<'a>(&'a self, alloc: Global, rule: &'a str, text: &'a str, steps: u64) -> Answer<'a>
-        ensures { IfSome result (IsAnswer self.entry.now (chars rule.entry.now) text.entry.now steps) }
+    /// Runs the program of a rule from a position of a text, if the rules are compiled.
+    fn run<'a>(
+        &'a self,
+        alloc: Global,
+        rule: &'a str,
+        start: Position<'a>,
+        steps: u64,
+    ) -> Answer<'a>
+        ensures { IfSome result
+            (IsAnswer self.entry.now (chars rule.entry.now) (state_at start.entry) steps) }
     {
         let Some(code) = &self.code else {
             return None;
@@ -81,9 +89,14 @@ impl Matcher {
         }
         let mut machine = Machine::new(alloc);
         let most = steps.saturating_mul(OPERATIONS);
-        match machine.run(code, text, number as u32 + 3, most) {
+        let text = whole_text(start);
+        match machine.run_with_memory(alloc, code, text, number as u32 + 3, start.pos(), most) {
             Ok(RunEnd::Found(end)) => match entries_of(alloc, rows, &machine.trees) {
-                Ok(Some(entries)) => Some(Ok(Found { entries, end })),
+                Ok(Some(entries)) => Some(Ok(Found {
+                    entries,
+                    end,
+                    furthest: machine.furthest,
+                })),
                 Ok(None) => None,
                 Err(_) => Some(Err(Refusal::Stopped(Stop::Memory))),
             },
@@ -114,14 +127,30 @@ impl Matcher {
         steps: u64,
     ) -> Result<Found<'a>, Refusal<'a>>
         ensures matched { IfOk result (λ found. IsMatched (grammar_in self.entry.now)
-            (properties_in self.entry.now) (chars rule.entry.now) text.entry.now
-            found.end found.entries.items) }
+            (properties_in self.entry.now) (chars rule.entry.now) text.entry.now found) }
         ensures refused { IfErr result (IsRefused (grammar_in self.entry.now)
             (properties_in self.entry.now) (chars rule.entry.now) text.entry.now steps) }
     {
-        match self.run(alloc, rule, text, steps) {
+        self.parse_from(alloc, rule, Span::of(text, 0, 0).start_pos(), steps)
+    }
+
+    /// Matches as `parse`, but from a position of a text on. Positions of trees, end and furthest failure
+    /// are counted from the start of the text, where alone `SOI` holds.
+    pub fn parse_from<'a>(
+        &'a self,
+        alloc: Global,
+        rule: &'a str,
+        start: Position<'a>,
+        steps: u64,
+    ) -> Result<Found<'a>, Refusal<'a>>
+        ensures matched { IfOk result (λ found. IsMatchedFrom (grammar_in self.entry.now)
+            (properties_in self.entry.now) (chars rule.entry.now) (state_at start.entry) found) }
+        ensures refused { IfErr result (IsRefusedFrom (grammar_in self.entry.now)
+            (properties_in self.entry.now) (chars rule.entry.now) (state_at start.entry) steps) }
+    {
+        match self.run(alloc, rule, start, steps) {
             Some(answer) => answer,
-            None => self.interpreter.parse(alloc, rule, text, steps),
+            None => self.interpreter.parse_from(alloc, rule, start, steps),
         }
     }
 
@@ -146,5 +175,24 @@ impl Matcher {
     {
         self.interpreter
             .expected_at(alloc, rule, text, place, steps)
+    }
+
+    /// Returns the names as `expected_at`, in a run as by `parse_from`; `place` is counted from the start
+    /// of the text.
+    pub fn expected_from<'a>(
+        &'a self,
+        alloc: Global,
+        rule: &'a str,
+        start: Position<'a>,
+        place: usize,
+        steps: u64,
+    ) -> Result<Vec<&'a str>, Refusal<'a>>
+        ensures expected { IfOk result (λ names. AreExpectedFrom (grammar_in self.entry.now)
+            (properties_in self.entry.now) (chars rule.entry.now) (state_at start.entry) place names.items) }
+        ensures refused { IfErr result (IsUnansweredFrom (grammar_in self.entry.now)
+            (properties_in self.entry.now) (chars rule.entry.now) (state_at start.entry) steps) }
+    {
+        self.interpreter
+            .expected_from(alloc, rule, start, place, steps)
     }
 }

@@ -41,8 +41,8 @@ size atomic = 1
 size compound_atomic = 1
 size between = 1
 
--- an expression takes at least one step
+-- an expression takes at least one step, and so do turns of a repetition
 abbrev pub least_steps : Task → ℕ
 least_steps (Run m e) = 1
-least_steps (Turns m e) = 0
+least_steps (Turns m e) = 1
 least_steps (Skipping m) = 0

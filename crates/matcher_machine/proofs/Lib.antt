@@ -1,2 +1,5 @@
 pub mod Stepping
+pub mod Stopping
 pub mod Stacking
+pub mod Framing
+pub mod Recalling

@@ -1,3 +1,5 @@
+pub mod Frames
 pub mod Links
 pub mod Machines
+pub mod Memories
 pub mod Stacks

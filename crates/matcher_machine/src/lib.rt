@@ -1,8 +1,11 @@
 //! Programs of operations, run on texts.
 #![tactic(auto)]
 
+pub mod laws;
 pub mod machine;
+mod memory;
 mod operations;
+mod remembering;
 mod running;
 pub mod slot;
 pub mod stack;

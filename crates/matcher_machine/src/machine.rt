@@ -46,6 +46,25 @@ pub enum RunEnd {
     OutOfSteps,
 }
 
+/// A call: its operations, and those after success and failure.
+#[derive(Clone, Copy, Debug)]
+pub(crate) struct CallTarget {
+    pub to: u32,
+    pub row: u32,
+    pub next: u32,
+    pub fail: u32,
+    pub counts: bool,
+}
+
+/// The skipping of a set, and the operations after it.
+#[derive(Clone, Copy, Debug)]
+pub(crate) struct Blanks {
+    pub set: u32,
+    pub stops: u32,
+    pub next: u32,
+    pub slow: u32,
+}
+
 impl Machine {
     ghost use Rattle.std.specs.Prelude.{◌≡◌, []};
 

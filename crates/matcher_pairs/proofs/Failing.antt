@@ -6,7 +6,8 @@ use Rattle.std.specs.Str.{chars, IsCharBoundary}
 use Rattle.meta_base.specs.Language.Expected.{expected, expected_at}
 use Rattle.meta_base.specs.Language.Expression.{Grammar}
 use Rattle.meta_base.specs.Language.FurthestFailure.{furthest}
-use Rattle.meta_base.specs.Language.State.{Classes, Failure}
+use Rattle.meta_base.specs.Language.Places.{IsStateIn}
+use Rattle.meta_base.specs.Language.State.{Classes, Failure, State}
 use Rattle.meta_base.specs.Language.Text.{Text}
 use Rattle.meta_base.specs.declared.runtime.errors.Error.{Error}
 use Rattle.meta_base.proofs.ExpectedOnce.{one_list}
@@ -14,24 +15,23 @@ use Rattle.meta_base.proofs.FailuresStand.{stands_at}
 use Rattle.meta_base.proofs.InBytes.{on_bytes}
 use Rattle.matcher_program.specs.Programs.{Fits}
 use Rattle.matcher_program.specs.declared.form.Property.{Property}
-use Rattle.meta_matcher.specs.Answers.{AreExpectedAt, FailsAt, Has}
+use Rattle.meta_matcher.specs.Answers.{AreExpectedFrom, FailsWith, HasAt}
 use Rattle.meta_matcher.specs.ExpectedNames.{each_once, name_texts}
 use Rattle.matcher_pairs.specs.Parses.{IsErrorAt}
 use Rattle.matcher_pairs.specs.Trees.{Name}
-use Rattle.matcher_pairs.proofs.Nesting.{stands_first}
 
-module _ (g : Grammar) (ps : List Property) (n : Text) (text : List ℕ) (place : ℕ) (fails : FailsAt g ps n text place) where
+module _ (g : Grammar) (ps : List Property) (n : Text) (text : List ℕ) (s : State) (place : ℕ) (fails : FailsWith g ps n s place) where
   -- a failure is on a character
-  pub fails_on_character : (classes : Classes) → Fits ps classes → IsUtf8 text → IsCharBoundary text place
-  fails_on_character classes fit utf8 =
+  pub fails_on_character : (classes : Classes) → Fits ps classes → IsUtf8 text → IsStateIn (chars text) s → IsCharBoundary text place
+  fails_on_character classes fit utf8 stands =
       let x = fails classes fit in
-      let p = on_bytes text utf8 (furthest x.0) (stands_at (chars text) x.0 (stands_first text)) in
+      let p = on_bytes text utf8 (furthest x.0) (stands_at (chars text) x.0 stands) in
       rw (← x.1) at p
 
   -- an error that tells of the place tells of the failure
-  pub tells_of_failure : (names : List (Bor (List ℕ))) (error : Error Name) → AreExpectedAt g ps n text place names
+  pub tells_of_failure : (names : List (Bor (List ℕ))) (error : Error Name) → AreExpectedFrom g ps n s place names
       → IsErrorAt text place (name_texts names) error → (classes : Classes) → Fits ps classes
-      → (d : Has g n text classes Failure) × IsErrorAt text (furthest d) (each_once (expected d)) error
+      → (d : HasAt g n s classes Failure) × IsErrorAt text (furthest d) (each_once (expected d)) error
   tells_of_failure names error expects told classes fit =
       let x = fails classes fit in
       let a = expects classes fit in

@@ -1,20 +1,34 @@
 -- The trees of a match stand in order within the text.
-use Rattle.std.proofs.Common.{ℕ, List, [], refl, length, arith}
+use Rattle.std.proofs.Common.{◌≡◌, ◌∙◌, ap, sym, ℕ, List, ◌++◌, drop, length, take, arith}
 use Rattle.std.specs.Prelude.{IsUtf8}
-use Rattle.std.specs.Str.{chars}
+use Rattle.std.specs.Str.{chars, IsCharBoundary}
+use Rattle.std.proofs.lemmas.List.{length-take-le, take-append-drop}
+use Rattle.std.proofs.lemmas.Str.{IsUtf8-take, chars-append, encodes-chars}
 use Rattle.meta_base.specs.Language.Expression.{Grammar}
 use Rattle.meta_base.specs.Language.Places.{IsStateIn, Nested}
 use Rattle.meta_base.specs.Language.State.{Classes, State, Success}
 use Rattle.meta_base.specs.Language.Text.{Text}
 use Rattle.meta_base.specs.Pieces.TokenTrees.{TokenTrees, NoTokens, Token, AreNested}
-use Rattle.meta_base.proofs.InBytes.{ends_within, on_bytes}
+use Rattle.meta_base.specs.Pieces.Span.{position_offset, position_text}
+use Rattle.meta_base.specs.declared.runtime.places.Position.{Position}
+use Rattle.meta_base.proofs.InBytes.{ends_within, on_bytes, sizes}
 use Rattle.meta_base.proofs.PairLemmas.{AreNested-wider}
 use Rattle.meta_base.proofs.TreesAreNested.{fits}
-use Rattle.meta_matcher.specs.Answers.{Has, start_of}
+use Rattle.meta_matcher.specs.Answers.{HasAt, state_at}
 use Rattle.matcher_pairs.specs.Trees.{Name, by_name}
 
-pub stands_first : (text : List ℕ) → IsStateIn (chars text) (start_of text)
-stands_first text = record { front = []; split = refl; size = refl }
+-- a position of a text is a state in it
+pub stands_in : (p : Position) → IsUtf8 (position_text p) → IsCharBoundary (position_text p) (position_offset p) → IsStateIn (chars (position_text p)) (state_at p)
+stands_in p u b =
+    let text = position_text p in
+    let i = position_offset p in
+    let v : IsUtf8 (take i text) = IsUtf8-take text i u b in
+    let e : chars (take i text ++ drop i text) ≡ chars text = ap chars (take-append-drop i text) in
+    record {
+      front = chars (take i text);
+      split = sym e ∙ chars-append (take i text) (drop i text) v;
+      size = sym (sizes (chars (take i text)) ∙ (ap length (encodes-chars (take i text) v) ∙ length-take-le i text b.0));
+    }
 
 module _ (text : List ℕ) (utf8 : IsUtf8 text) where
   nested_names : (trees : TokenTrees Name) (from to : ℕ) → Nested (chars text) (by_name trees) from to
@@ -24,7 +38,7 @@ module _ (text : List ℕ) (utf8 : IsUtf8 text) where
       ((n.0, (on_bytes text utf8 start n.1, on_bytes text utf8 end_ n.2)), (nested_names inner start end_ n.3, nested_names others end_ to n.4))
 
   pub nested_in_text : (g : Grammar) (classes : Classes) (n : Text) (trees : TokenTrees Name) (t : State)
-      → Has g n text classes (Success t (by_name trees)) → AreNested text trees 0 (length text)
-  nested_in_text g classes n trees t d =
-      let f = fits (chars text) d (stands_first text) in
-      AreNested-wider text trees 0 t.position 0 (length text) (nested_names trees 0 t.position f.1) (omega arith) (ends_within text utf8 t f.0)
+      → (s : State) → IsStateIn (chars text) s → HasAt g n s classes (Success t (by_name trees)) → AreNested text trees 0 (length text)
+  nested_in_text g classes n trees t s h d =
+      let f = fits (chars text) d h in
+      AreNested-wider text trees s.position t.position 0 (length text) (nested_names trees s.position t.position f.1) (omega arith) (ends_within text utf8 t f.0)

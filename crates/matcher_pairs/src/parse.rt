@@ -3,26 +3,31 @@ ghost use Rattle.std.specs.Prelude.{◌≡◌, ◌⊎◌, IfErr, IfOk, MatchResu
 ghost use Rattle.std.specs.Str.{IsCharBoundary};
 ghost use Rattle.meta_base.specs.Language.State.{Trees};
 ghost use Rattle.meta_base.specs.Pieces.Pairs.{pairs_text, pairs_trees};
+ghost use Rattle.meta_base.specs.Pieces.Span.{position_text};
 ghost use Rattle.meta_base.specs.Pieces.TokenTrees.{AreNested};
-ghost use Rattle.meta_matcher.specs.Answers.{FailsAt, IsMatched};
+ghost use Rattle.meta_matcher.specs.Answers.{FailsWith, IsMatchedFrom, state_at};
 ghost use Rattle.meta_matcher.specs.ExpectedNames.{name_texts};
 ghost use Rattle.matcher_engine.specs.Matchers.{grammar_in, properties_in};
-ghost use Rattle.matcher_pairs.specs.Parses.{IsErrorAt, IsMatch, IsRefused};
+ghost use Rattle.matcher_pairs.specs.Parses.{IsErrorAt, IsMatch, IsMatchFrom, IsRefused, IsRefusedFrom};
 
 use crate::trees::build_trees;
 use matcher_engine::matcher::Matcher;
 use matcher_support::expectations::failure_message;
-use meta_base::runtime::{Error, ErrorVariant, Fault, Pairs, Position};
+use meta_base::runtime::{Error, ErrorVariant, Fault, Pairs, Position, Span};
 use meta_matcher::machine::Stop;
-use meta_matcher::matcher::{Found, Refusal};
+use meta_matcher::matcher::{Found, Refusal, whole_text};
 use std::alloc::{AllocError, Global};
 
-/// The pairs that a text spells for a rule, each with the name of its rule, and where the match ends, in
-/// bytes.
+/// The match of a rule.
 #[derive(Drop)]
 pub struct Match<'a> {
+    /// The pairs that the text spells, each with the name of its rule.
     pub pairs: Pairs<'a, &'a str>,
+    /// The position after the match, in bytes.
     pub end: usize,
+    /// The furthest position, in bytes, at which a call that counts failed; 0 if none did. Where a match ends
+    /// before its text, `Matcher::expected_at` of this position tells which rules could have gone on.
+    pub furthest: usize,
 }
 
 /// Why a text has no pairs.
@@ -52,13 +57,36 @@ pub fn parse<'a>(
     ensures refused { IfErr result
         (IsRefused matcher.entry.now (chars rule.entry.now) text.entry.now steps) }
 {
-    match matcher.parse(alloc, rule, text, steps) {
-        Ok(found) => match match_of(alloc, matcher, rule, text, found) {
+    parse_from(
+        alloc,
+        matcher,
+        rule,
+        Span::of(text, 0, 0).start_pos(),
+        steps,
+    )
+}
+
+/// Parses as `parse`, but from a position of a text on. Positions are counted from the start of the text,
+/// where alone `SOI` holds.
+pub fn parse_from<'a>(
+    alloc: Global,
+    matcher: &'a Matcher,
+    rule: &'a str,
+    start: Position<'a>,
+    steps: u64,
+) -> Result<Match<'a>, ParseError<'a>>
+    ensures matched { IfOk result (IsMatchFrom matcher.entry.now (chars rule.entry.now)
+        (position_text start.entry) (state_at start.entry)) }
+    ensures refused { IfErr result (IsRefusedFrom matcher.entry.now (chars rule.entry.now)
+        (position_text start.entry) (state_at start.entry) steps) }
+{
+    match matcher.parse_from(alloc, rule, start, steps) {
+        Ok(found) => match match_of(alloc, matcher, rule, start, found) {
             Ok(it) => Ok(it),
             Err(_) => Err(ParseError::Stopped(Stop::Memory)),
         },
         Err(Refusal::UnknownRule(name)) => Err(ParseError::UnknownRule(name)),
-        Err(Refusal::NoMatch(place)) => Err(failure_at(alloc, matcher, rule, text, place, steps)),
+        Err(Refusal::NoMatch(place)) => Err(failure_at(alloc, matcher, rule, start, place, steps)),
         Err(Refusal::Stopped(stop)) => Err(ParseError::Stopped(stop)),
     }
 }
@@ -68,17 +96,19 @@ fn match_of<'a>(
     alloc: Global,
     matcher: &'a Matcher,
     rule: &'a str,
-    text: &'a str,
+    start: Position<'a>,
     found: Found<'a>,
 ) -> Result<Match<'a>, AllocError>
-    requires { IsMatched (grammar_in matcher.now) (properties_in matcher.now) (chars rule.now)
-        text.now found.end found.entries.items }
-    ensures { IfOk result (IsMatch matcher.entry.now (chars rule.entry.now) text.entry.now) }
+    requires { IsMatchedFrom (grammar_in matcher.now) (properties_in matcher.now) (chars rule.now)
+        (state_at start) found }
+    ensures { IfOk result (IsMatchFrom matcher.entry.now (chars rule.entry.now)
+        (position_text start.entry) (state_at start.entry)) }
 {
     let trees = build_trees(alloc, &found.entries)?;
     Ok(Match {
-        pairs: Pairs::new(text, trees),
+        pairs: Pairs::new(whole_text(start), trees),
         end: found.end,
+        furthest: found.furthest,
     })
 }
 
@@ -87,14 +117,17 @@ fn failure_at<'a>(
     alloc: Global,
     matcher: &'a Matcher,
     rule: &'a str,
-    text: &'a str,
+    start: Position<'a>,
     place: usize,
     steps: u64,
 ) -> ParseError<'a>
-    requires { FailsAt (grammar_in matcher.now) (properties_in matcher.now) (chars rule.now) text.now place }
-    ensures { IsRefused matcher.entry.now (chars rule.entry.now) text.entry.now steps result }
+    requires { FailsWith (grammar_in matcher.now) (properties_in matcher.now) (chars rule.now)
+        (state_at start) place }
+    ensures { IsRefusedFrom matcher.entry.now (chars rule.entry.now) (position_text start.entry)
+        (state_at start.entry) steps result }
 {
-    match matcher.expected_at(alloc, rule, text, place, steps) {
+    let text = whole_text(start);
+    match matcher.expected_from(alloc, rule, start, place, steps) {
         Ok(names) => match error_at(alloc, text, place, &names) {
             Ok(error) => ParseError::NoMatch(error),
             Err(_) => ParseError::Stopped(Stop::Memory),

@@ -108,30 +108,21 @@ impl Sizes {
         }
     }
 
+    /// Counts the body of a rule in each mode again.
+    fn count_rule(&mut self, program: &Program, rule: usize) {
+        for mode in [
+            Atomicity::NonAtomic,
+            Atomicity::Atomic,
+            Atomicity::CompoundAtomic,
+        ] {
+            self.count(program, Body { rule, mode });
+        }
+    }
+
     /// Counts all bodies again.
     fn count_all(&mut self, program: &Program) {
         for rule in 0..program.rows.len() {
-            self.count(
-                program,
-                Body {
-                    rule,
-                    mode: Atomicity::NonAtomic,
-                },
-            );
-            self.count(
-                program,
-                Body {
-                    rule,
-                    mode: Atomicity::Atomic,
-                },
-            );
-            self.count(
-                program,
-                Body {
-                    rule,
-                    mode: Atomicity::CompoundAtomic,
-                },
-            );
+            self.count_rule(program, rule);
         }
     }
 }

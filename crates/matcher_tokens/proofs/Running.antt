@@ -16,7 +16,7 @@ use Rattle.matcher_program.specs.declared.form.Property.{Property}
 use Rattle.matcher_support.specs.Sets.{has_set, is_in_property}
 use Rattle.meta_matcher.specs.Answers.{AreExpectedAt, FailsAt, IsMatched, IsStopped}
 use Rattle.meta_matcher.specs.Written.{seen}
-use Rattle.meta_matcher.specs.declared.entries.Entry.{Entry}
+use Rattle.meta_matcher.specs.declared.matcher.Found.{Found}
 use Rattle.meta_syntax.specs.Entries.{entries_of}
 use Rattle.meta_matcher.specs.ExpectedNames.{each_once, name_texts}
 use Rattle.meta_matcher.specs.declared.machine.Stop.{Stop}
@@ -27,9 +27,9 @@ use Rattle.matcher_tokens.specs.declared.outcome.MatchOutcome.{MatchOutcome}
 use Rattle.matcher_tokens.specs.declared.outcome.MatchOutcome.TheVariants as is
 
 -- the end of the match, and its tokens
-pub matched : (g : Grammar) (ps : List Property) (rule : Text) (text : List ℕ) (end_ : ℕ) (es : List Entry) (numbers : List ℕ)
-    → Fits ps is_in_property → IsMatched g ps rule text end_ es → ((trees : Trees) → seen es ≡ entries_of 0 trees → numbers ≡ match_numbers g end_ trees) → HasMatched g rule text numbers
-matched g ps rule text end_ es numbers fits m w =
+pub matched : (g : Grammar) (ps : List Property) (rule : Text) (text : List ℕ) (it : Found) (numbers : List ℕ)
+    → Fits ps is_in_property → IsMatched g ps rule text it → ((trees : Trees) → seen it.entries.items ≡ entries_of 0 trees → numbers ≡ match_numbers g it.end trees) → HasMatched g rule text numbers
+matched g ps rule text it numbers fits m w =
     let found = m.found is_in_property fits in
     record { end_ = found.0; trees = m.trees; matches = found.2; numbered = w m.trees m.entries ∙ ap (λ n. match_numbers g n m.trees) (sym found.1) }
 

@@ -1,6 +1,7 @@
 //! Bytes in binary form, read from the front.
 ghost use Rattle.std.specs.Prelude.{◌≡◌, ◌∷◌, ◌++◌, FitsSigned, IfOk, length, string_bytes};
 ghost use Rattle.std.specs.Int.{w32};
+ghost use Rattle.meta_binary.specs.declared.input.BinaryRefusal.TheVariants.{Memory};
 ghost use Rattle.meta_binary.specs.Format.{end_bytes, index_bytes, list_bytes, size_bytes, text_bytes};
 ghost use Rattle.meta_binary.specs.Indices.{FitsEnd};
 
@@ -16,12 +17,16 @@ pub enum BinaryRefusal {
 }
 
 impl From<AllocError> for BinaryRefusal {
+    ghost from_gives = { λ _ refusal. refusal ≡ Memory };
+
     fn from(_refused: AllocError) -> BinaryRefusal {
         BinaryRefusal::Memory
     }
 }
 
 impl<T: Drop> From<AllocFailed<T>> for BinaryRefusal {
+    ghost from_gives = { λ _ refusal. refusal ≡ Memory };
+
     fn from(_refused: AllocFailed<T>) -> BinaryRefusal {
         BinaryRefusal::Memory
     }

@@ -6,13 +6,13 @@ use Rattle.matcher_support.specs.Sets.{is_in_property}
 use Rattle.meta_base.specs.Language.Expression.{Grammar}
 use Rattle.meta_base.specs.Language.Text.{Text}
 use Rattle.meta_matcher.specs.Answers.{FailsAt, IsMatched}
-use Rattle.meta_matcher.specs.declared.entries.Entry.{Entry}
+use Rattle.meta_matcher.specs.declared.matcher.Found.{Found}
 use Rattle.meta_differences.specs.Differences.{EndsAs}
 use Rattle.meta_differences.specs.declared.difference.RuleEnd.TheVariants as rule_end
 
 -- a match for all fitting sets is one for the sets of Unicode
-pub of_match : (g : Grammar) (ps : List Property) (n : Text) (text : List ℕ) (end_ : ℕ) (es : List Entry) → Fits ps is_in_property → IsMatched g ps n text end_ es → EndsAs g n text (rule_end.At end_)
-of_match g ps n text end_ es fits m =
+pub of_match : (g : Grammar) (ps : List Property) (n : Text) (text : List ℕ) (it : Found) → Fits ps is_in_property → IsMatched g ps n text it → EndsAs g n text (rule_end.At it.end)
+of_match g ps n text it fits m =
     let found = m.found is_in_property fits in
     (found.0, m.trees, found.1, found.2)
 

@@ -1,111 +1,128 @@
 -- A whole run, as an answer.
-use Rattle.std.proofs.Common.{◌≡◌, ◌<◌, refl, sym, ◌∙◌, ap, subst, ℕ, ◌-◌, List, [], Option, Some, None, length, arith, ◌++◌}
+use Rattle.std.proofs.Common.{◌≡◌, ◌<◌, ◌≤◌, refl, sym, ◌∙◌, subst, ℕ, ◌-◌, List, [], Option, Some, None, drop, length, arith}
 use Rattle.std.specs.Borrow.{Bor}
+use Rattle.std.proofs.lemmas.List.{length-drop}
 use Rattle.std.specs.Prelude.{Err, IfErr, Ok, Result}
 use Rattle.std.specs.Result.{IsErrAnd}
 use Rattle.meta_base.specs.Language.Text.{Text}
-use Rattle.meta_base.specs.Language.Expression.{Grammar, Ident}
+use Rattle.meta_base.specs.declared.runtime.places.Position.{Position}
+use Rattle.meta_base.specs.Pieces.Span.{position_offset, position_text}
+use Rattle.meta_base.specs.Language.Expression.{Ident}
 use Rattle.meta_base.specs.Language.State.{NonAtomicMode, State, Outcome, Success, Failure, Classes}
-use Rattle.meta_base.specs.Language.Meaning.{Does, Run, Task}
+use Rattle.meta_base.specs.Language.Meaning.{Run}
 use Rattle.meta_base.specs.Language.Expected.{expected_at}
 use Rattle.meta_base.specs.Language.FurthestFailure.{furthest}
-use Rattle.meta_syntax.specs.Entries.{entries_of}
-use Rattle.meta_matcher.specs.declared.entries.Entry as code
+use Rattle.meta_matcher.specs.declared.matcher.Found.{Found}
 use Rattle.matcher_program.specs.Programs.{Fits}
 use Rattle.meta_ast.specs.Ast.{text_of}
-use Rattle.matcher_program.specs.declared.form.Property.{Property}
 use Rattle.meta_matcher.specs.declared.frames.Control.{Control}
 use Rattle.meta_matcher.specs.declared.machine.Machine.{Machine}
 use Rattle.meta_matcher.specs.declared.machine.Scene.{Scene}
 use Rattle.meta_matcher.specs.declared.machine.Stop.{Stop}
 use Rattle.meta_matcher.specs.declared.machine.Stop.TheVariants as stop
-use Rattle.meta_matcher.specs.Sizes.{size}
-use Rattle.meta_matcher.specs.Frames.{HasResultFrom, HasFrom, IsOnTheWay, IsStuck, top_of}
-use Rattle.meta_matcher.specs.Machines.{grammar_in, setting_of}
+use Rattle.meta_matcher.specs.Frames.{FailsFrom, FindsFrom, HasResultFrom, IsOnTheWay, IsStuck, top_of}
+use Rattle.meta_matcher.specs.Machines.{grammar_in, start_in}
 use Rattle.meta_matcher.specs.Written.{seen}
-use Rattle.matcher_program.specs.Rests.{standing}
-use Rattle.meta_matcher.specs.Runs.{Fails, Finds, HasResult, Notes, Now, Ran, Setting}
+use Rattle.matcher_program.specs.Rests.{IsLeft, standing}
+use Rattle.meta_matcher.specs.Runs.{Notes, Now, Ran}
 use Rattle.meta_matcher.specs.ExpectedNames.{each_once, name_texts}
 use Rattle.meta_matcher.proofs.Waiting.{out_of_steps}
 use Rattle.std.proofs.Math.Logic.{∥∥₁_elim}
 use Rattle.meta_matcher.specs.Endings.{HasAnOutcome, classes_in}
 use Rattle.meta_matcher.proofs.Totals.{below_total, total}
-use Rattle.meta_matcher.specs.Answers.{AreExpectedAt, Has, IsMatched, IsStopped, start_of}
+use Rattle.meta_matcher.specs.Answers.{AreExpectedFrom, FailsWith, Has, HasAt, IsMatchedFrom, IsStoppedFrom, start_of, state_at}
 
-at_start : (text : List ℕ) (ts : List Text) → ts ≡ [] → standing text text ts ≡ start_of text
-at_start text ts e =
+pub at_start : (text : List ℕ) → standing text text [] ≡ start_of text
+at_start text =
     let z : length text - length text ≡ 0 = omega arith in
-    rw (z, e) refl
+    rw z refl
 
-pub matched : (g : Setting) (n k : Text) (text after : List ℕ) (end_ : ℕ) (a b : Now) (es : List code.Entry) → k ≡ n → Finds g (Run NonAtomicMode (Ident k)) text text a b after → a.entries ≡ [] → a.stack ≡ [] → b.entries ≡ seen es → length text - length after ≡ end_ → IsMatched g.grammar g.properties n text end_ es
-matched g n k text after end_ a b es i x e s f l = record {
-  trees = x.trees;
-  found = λ classes fits. (standing text after b.stack, l, subst (λ j. Does g.grammar classes (Run NonAtomicMode (Ident j)) (start_of text) (Success (standing text after b.stack) x.trees)) i (subst (λ st. Does g.grammar classes (Run NonAtomicMode (Ident k)) st (Success (standing text after b.stack) x.trees)) (at_start text a.stack s) ((x.ran classes fits).found)));
-  entries = sym f ∙ (x.added ∙ ap (λ xs. xs ++ entries_of (length xs) x.trees) e);
-}
+pub starts_in : (scene : Scene) (text rest : List ℕ) → scene.text.now ≡ text → scene.start.now ≡ rest → start_in scene ≡ standing text rest []
+starts_in scene text rest e h = rw (e, h) refl
 
-pub failed : (g : Setting) (n k : Text) (text : List ℕ) (a b : Now) → k ≡ n → Fails g (Run NonAtomicMode (Ident k)) text text a b → a.stack ≡ [] → a.notes.furthest ≡ 0 → (classes : Classes) → Fits g.properties classes → (d : Has g.grammar n text classes Failure) × (b.notes.furthest ≡ furthest d)
-failed g n k text a b i x s f classes fits =
-    let r = x.ran classes fits in
-    let w = subst (λ st. Ran g.grammar classes g.asked (Run NonAtomicMode (Ident k)) st Failure a.notes b.notes) (at_start text a.stack s) r in
-    let q = subst (λ j. Ran g.grammar classes g.asked (Run NonAtomicMode (Ident j)) (start_of text) Failure a.notes b.notes) i w in
-    (q.found, let z = q.noted in omega (arith, z, f))
+pub starts_first : (scene : Scene) (text : List ℕ) → scene.text.now ≡ text → scene.start.now ≡ text → start_in scene ≡ start_of text
+starts_first scene text e h = starts_in scene text text e h ∙ at_start text
 
--- what was told, from the start of the text on
-told_from_start : (g : Setting) (n k : Text) (text : List ℕ) (classes : Classes) (o : Outcome) (a : Now) (q : Notes) (ts : List Text) → k ≡ n → a.stack ≡ [] → a.notes.told ≡ [] → q.told ≡ ts → Ran g.grammar classes g.asked (Run NonAtomicMode (Ident k)) (standing text text a.stack) o a.notes q → (d : Has g.grammar n text classes o) × (ts ≡ each_once (expected_at g.asked d))
-told_from_start g n k text classes o a q ts i s f h r =
-    let w = subst (λ st. Ran g.grammar classes g.asked (Run NonAtomicMode (Ident k)) st o a.notes q) (at_start text a.stack s) r in
-    let x = subst (λ j. Ran g.grammar classes g.asked (Run NonAtomicMode (Ident j)) (start_of text) o a.notes q) i w in
-    (x.found, sym h ∙ rw f at x.told)
+-- a run from a position of a text
+module _ (p : Position) (ends : position_offset p ≤ length (position_text p)) where
+  left_of : length (position_text p) - length (drop (position_offset p) (position_text p)) ≡ position_offset p
+  left_of = let l = length-drop (position_offset p) (position_text p) in omega (arith, l, ends)
 
-expected : (g : Setting) (n k : Text) (text : List ℕ) (a b : Now) (o : Option (Bor (List ℕ))) (names : List (Bor (List ℕ))) → k ≡ n → HasResult g (Run NonAtomicMode (Ident k)) text text a b o → a.stack ≡ [] → a.notes.told ≡ [] → b.notes.told ≡ name_texts names → AreExpectedAt g.grammar g.properties n text g.asked names
-expected g n k text a b None names i x s f h classes fits =
-    let w = told_from_start g n k text classes Failure a b.notes (name_texts names) i s f h (x.ran classes fits) in
-    (Failure, w.0, w.1)
-expected g n k text a b (Some after) names i x s f h classes fits =
-    let o = Success (standing text after.now b.stack) x.trees in
-    let w = told_from_start g n k text classes o a b.notes (name_texts names) i s f h (x.ran classes fits) in
-    (o, w.0, w.1)
+  pub left_at : IsLeft (position_text p) (drop (position_offset p) (position_text p))
+  left_at = rw left_of refl
 
--- a derivation from the start, as one of the rule that is called
-as_called : {g : Grammar} {classes : Classes} {k l : Task} {s t : State} {o : Outcome} → k ≡ l → s ≡ t → (d : Does g classes l t o) → (e : Does g classes k s o) × (size e ≡ size d)
-as_called h i d = rw (h, i) (d, refl)
+  pub stands_at : standing (position_text p) (drop (position_offset p) (position_text p)) [] ≡ state_at p
+  stands_at = rw left_of refl
 
-from_top : (scene : Scene) {classes : Classes} {o : Outcome} (d : Has (grammar_in scene) (text_of scene.row.now.name) scene.text.now classes o) → (e : HasFrom scene classes (top_of scene) o) × (size e ≡ size d)
-from_top scene d = as_called refl (at_start scene.text.now [] refl) d
+pub stands_as : (p : Position) → position_offset p ≤ length (position_text p) → (text rest : List ℕ) → text ≡ position_text p → rest ≡ drop (position_offset p) (position_text p)
+    → standing text rest [] ≡ state_at p
+stands_as p ends text rest e h = rw (e, h) (stands_at p ends)
 
--- what stopped the run of the rule that is called
-stuck_at_top : (scene : Scene) (steps : ℕ) (why : Stop) → IsStuck scene why → IsStopped (grammar_in scene) scene.program.now.properties.items (text_of scene.row.now.name) scene.text.now steps why
-stuck_at_top scene steps stop.Memory x = tt
-stuck_at_top scene steps stop.OutOfSteps x = absurd x
-stuck_at_top scene steps stop.EmptyStack x = λ classes fits o d. x classes fits o (from_top scene d).0
+module _ (scene : Scene) (n : Text) (s : State) (start : start_in scene ≡ s) (named : text_of scene.row.now.name ≡ n) where
+  -- what ran is the rule's, from its start
+  ran_from : {classes : Classes} {o : Outcome} {q : Notes} → Ran (grammar_in scene) classes scene.asked (top_of scene).task (start_in scene) o (top_of scene).now.notes q → Ran (grammar_in scene) classes scene.asked (Run NonAtomicMode (Ident n)) s o (top_of scene).now.notes q
+  ran_from {classes} {o} {q} r =
+      let w = subst (λ st. Ran (grammar_in scene) classes scene.asked (top_of scene).task st o (top_of scene).now.notes q) start r in
+      subst (λ k. Ran (grammar_in scene) classes scene.asked (Run NonAtomicMode (Ident k)) s o (top_of scene).now.notes q) named w
 
-pub stops_at_top : {T : Type 0} (scene : Scene) (steps : ℕ) (r : Result T Stop) (why : Stop) → IsErrAnd r (λ e. e ≡ why) → IsStuck scene why → IfErr r (IsStopped (grammar_in scene) scene.program.now.properties.items (text_of scene.row.now.name) scene.text.now steps)
-stops_at_top scene steps (Ok x) why h s = tt
-stops_at_top scene steps (Err e) why h s = rw h (stuck_at_top scene steps why s)
+  -- so its furthest failure was recorded
+  ran_first : {classes : Classes} {o : Outcome} {q : Notes} → Ran (grammar_in scene) classes scene.asked (top_of scene).task (start_in scene) o (top_of scene).now.notes q → (d : HasAt (grammar_in scene) n s classes o) × (q.furthest ≡ furthest d)
+  ran_first r = let x = ran_from r in (x.found, let z = x.noted in omega (arith, z))
 
-pub out_at_top : (scene : Scene) (m : Machine) (steps : ℕ) (c : Control) → IsOnTheWay scene m steps c → IsStopped (grammar_in scene) scene.program.now.properties.items (text_of scene.row.now.name) scene.text.now steps stop.OutOfSteps
-out_at_top scene m steps c w = λ classes fits o d.
-    let e = from_top scene d in
-    omega (arith, e.1, out_of_steps scene m steps c w classes fits o e.0)
+  -- and what was told of it
+  told_first : {classes : Classes} {o : Outcome} {q : Notes} (ts : List Text) → q.told ≡ ts → Ran (grammar_in scene) classes scene.asked (top_of scene).task (start_in scene) o (top_of scene).now.notes q → (d : HasAt (grammar_in scene) n s classes o) × (ts ≡ each_once (expected_at scene.asked d))
+  told_first ts h r = let x = ran_from r in (x.found, sym h ∙ x.told)
 
--- what is on the way takes no more steps than there are for an outcome
-pub below_at_top : (scene : Scene) (ends : ∥ HasAnOutcome scene ∥₁) (m : Machine) (n : ℕ) (c : Control) → Fits scene.program.now.properties.items (classes_in scene.program.now.properties.items) → IsOnTheWay scene m n c → n < total scene ends
-below_at_top scene ends m n c fits w = below_total scene ends n (λ x.
-    let e = from_top scene x.1 in
-    omega (arith, e.1, out_of_steps scene m n c w (classes_in scene.program.now.properties.items) fits x.0 e.0))
+  pub matched : (b : Now) (after : List ℕ) (it : Found) → FindsFrom scene (top_of scene) b after → b.entries ≡ seen it.entries.items → length scene.text.now - length after ≡ it.end → b.notes.furthest ≡ it.furthest → IsMatchedFrom (grammar_in scene) scene.program.now.properties.items n s it
+  matched b after it x h l p = record {
+    trees = x.found.trees;
+    found = λ classes fits.
+        let d = ran_first (x.found.ran classes fits) in
+        (standing scene.text.now after b.stack, l, d.0, sym p ∙ d.1);
+    entries = sym h ∙ x.found.added;
+  }
 
--- where there is an outcome, memory is wanting
-pub only_memory : (scene : Scene) (ends : ∥ HasAnOutcome scene ∥₁) (why : Stop) → Fits scene.program.now.properties.items (classes_in scene.program.now.properties.items) → IsStuck scene why → why ≡ stop.Memory
-only_memory scene ends stop.Memory fits x = refl
-only_memory scene ends stop.OutOfSteps fits x = absurd x
-only_memory scene ends stop.EmptyStack fits x = absurd (∥∥₁_elim ends (λ u v. absurd u) (λ y. x (classes_in scene.program.now.properties.items) fits y.0 (from_top scene y.1).0))
+  pub failed : (b : Now) → FailsFrom scene (top_of scene) b → FailsWith (grammar_in scene) scene.program.now.properties.items n s b.notes.furthest
+  failed b x classes fits = ran_first (x.ran classes fits)
 
--- the same, of a name that is the rule's
-pub stopped_as : (g : Grammar) (ps : List Property) (text : List ℕ) (steps : ℕ) (why : Stop) (k n : Text) → k ≡ n → IsStopped g ps k text steps why → IsStopped g ps n text steps why
-stopped_as g ps text steps why k n e x = subst (λ j. IsStopped g ps j text steps why) e x
+  pub expected : (b : Now) (o : Option (Bor (List ℕ))) (names : List (Bor (List ℕ))) → HasResultFrom scene (top_of scene) b o → b.notes.told ≡ name_texts names → AreExpectedFrom (grammar_in scene) scene.program.now.properties.items n s scene.asked names
+  expected b None names x h classes fits =
+      let w = told_first (name_texts names) h (x.ran classes fits) in
+      (Failure, w.0, w.1)
+  expected b (Some after) names x h classes fits =
+      let w = told_first (name_texts names) h (x.found.ran classes fits) in
+      (Success (standing scene.text.now after.now b.stack) x.found.trees, w.0, w.1)
 
--- what comes of the rule that is called
-pub expected_of_top : (scene : Scene) (n : Text) (b : Now) (o : Option (Bor (List ℕ))) (names : List (Bor (List ℕ))) → text_of scene.row.now.name ≡ n → HasResultFrom scene (top_of scene) b o → b.notes.told ≡ name_texts names → AreExpectedAt (grammar_in scene) scene.program.now.properties.items n scene.text.now scene.asked names
-expected_of_top scene n b None names i x h = expected (setting_of scene) n (text_of scene.row.now.name) scene.text.now (top_of scene).now b None names i x refl refl h
-expected_of_top scene n b (Some after) names i x h = expected (setting_of scene) n (text_of scene.row.now.name) scene.text.now (top_of scene).now b (Some after) names i x.found refl refl h
+  pub stopped : (steps : ℕ) (why : Stop) → IsStoppedFrom (grammar_in scene) scene.program.now.properties.items (text_of scene.row.now.name) (start_in scene) steps why → IsStoppedFrom (grammar_in scene) scene.program.now.properties.items n s steps why
+  stopped steps why x =
+      let w = subst (λ st. IsStoppedFrom (grammar_in scene) scene.program.now.properties.items (text_of scene.row.now.name) st steps why) start x in
+      subst (λ k. IsStoppedFrom (grammar_in scene) scene.program.now.properties.items k s steps why) named w
+
+module _ (scene : Scene) where
+  -- what stopped the run of the rule that is called
+  stuck_at_top : (steps : ℕ) (why : Stop) → IsStuck scene why → IsStoppedFrom (grammar_in scene) scene.program.now.properties.items (text_of scene.row.now.name) (start_in scene) steps why
+  stuck_at_top steps stop.Memory x = tt
+  stuck_at_top steps stop.OutOfSteps x = absurd x
+  stuck_at_top steps stop.EmptyStack x = x
+
+  pub stops_at_top : {T : Type 0} (steps : ℕ) (r : Result T Stop) (why : Stop) → IsErrAnd r (λ e. e ≡ why) → IsStuck scene why → IfErr r (IsStoppedFrom (grammar_in scene) scene.program.now.properties.items (text_of scene.row.now.name) (start_in scene) steps)
+  stops_at_top steps (Ok x) why h s = tt
+  stops_at_top steps (Err e) why h s = rw h (stuck_at_top steps why s)
+
+  pub out_at_top : (m : Machine) (steps : ℕ) (c : Control) → IsOnTheWay scene m steps c → IsStoppedFrom (grammar_in scene) scene.program.now.properties.items (text_of scene.row.now.name) (start_in scene) steps stop.OutOfSteps
+  out_at_top m steps c w = out_of_steps scene m steps c w
+
+  module _ (ends : ∥ HasAnOutcome scene ∥₁) where
+    -- what is on the way takes no more steps than there are for an outcome
+    pub below_at_top : (m : Machine) (n : ℕ) (c : Control) → Fits scene.program.now.properties.items (classes_in scene.program.now.properties.items) → IsOnTheWay scene m n c → n < total scene ends
+    below_at_top m n c fits w = below_total scene ends n (λ x. out_of_steps scene m n c w (classes_in scene.program.now.properties.items) fits x.0 x.1)
+
+    -- where there is an outcome, memory is wanting
+    pub only_memory : (why : Stop) → Fits scene.program.now.properties.items (classes_in scene.program.now.properties.items) → IsStuck scene why → why ≡ stop.Memory
+    only_memory stop.Memory fits x = refl
+    only_memory stop.OutOfSteps fits x = absurd x
+    only_memory stop.EmptyStack fits x = absurd (∥∥₁_elim ends (λ u v. absurd u) (λ y. x (classes_in scene.program.now.properties.items) fits y.0 y.1))
+
+-- an outcome on the text is one from the start of a run
+pub outcome_from : (scene : Scene) → start_in scene ≡ start_of scene.text.now → ∥ ((o : Outcome) × Has (grammar_in scene) (text_of scene.row.now.name) scene.text.now (classes_in scene.program.now.properties.items) o) ∥₁ → ∥ HasAnOutcome scene ∥₁
+outcome_from scene e x = subst (λ s. ∥ ((o : Outcome) × HasAt (grammar_in scene) (text_of scene.row.now.name) s (classes_in scene.program.now.properties.items) o) ∥₁) (sym e) x

@@ -6,8 +6,8 @@ use Rattle.meta_base.specs.Language.Expression.{Grammar, Rule, rule_of}
 use Rattle.meta_base.specs.Language.State.{Classes, Outcome}
 use Rattle.matcher_program.specs.declared.form.Property.{Property}
 use Rattle.meta_matcher.specs.declared.machine.Scene.{Scene}
-use Rattle.meta_matcher.specs.Answers.{Has}
-use Rattle.meta_matcher.specs.Machines.{grammar_in}
+use Rattle.meta_matcher.specs.Answers.{Has, HasAt}
+use Rattle.meta_matcher.specs.Machines.{grammar_in, start_in}
 use Rattle.matcher_program.specs.Programs.{Fits, is_in_ranges}
 
 -- sets that fit properties, if any do: of each name that of the first property
@@ -16,9 +16,9 @@ classes_in [] n c = false
 classes_in (p ∷ ps) n c =
     if bytes_eq (text_of p.name) n then is_in_ranges p.ranges.items c else classes_in ps n c
 
--- the text has an outcome for the rule that is called
+-- the start has an outcome for the rule that is called
 abbrev pub HasAnOutcome : Scene → Type 0
-HasAnOutcome scene = (o : Outcome) × Has (grammar_in scene) (text_of scene.row.now.name) scene.text.now
+HasAnOutcome scene = (o : Outcome) × HasAt (grammar_in scene) (text_of scene.row.now.name) (start_in scene)
     (classes_in scene.program.now.properties.items) o
 
 -- the rule of the name, if there is one, has an outcome on the text, whatever the classes are

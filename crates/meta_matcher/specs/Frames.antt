@@ -61,9 +61,9 @@ blanks = Run Between (Rep (Ident whitespace))
 abbrev pub comments : Task
 comments = Run Between (Rep (Seq (Ident comment) (Rep (Ident whitespace))))
 
--- the rule that is called, at the start of the text, with nothing yet
+-- the rule that is called, at the start of the run, with nothing yet
 abbrev pub top_of : Scene → Start
-top_of scene = starting (Run NonAtomicMode (Ident (text_of scene.row.now.name))) scene.text.now
+top_of scene = starting (Run NonAtomicMode (Ident (text_of scene.row.now.name))) scene.start.now
     (record { entries = []; stack = []; notes = record { furthest = 0; told = [] } }) 0
 
 -- the form has parts

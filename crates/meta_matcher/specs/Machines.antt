@@ -1,10 +1,11 @@
 -- The state of a machine, and the statements of its functions.
-use Rattle.std.specs.Prelude.{◌≡◌, ◌+◌, ◌*◌, ℕ, List, Option, Some, length}
+use Rattle.std.specs.Prelude.{◌≡◌, ◌+◌, ◌*◌, ℕ, List, [], Option, Some, length}
 use Rattle.std.specs.Borrow.{Bor}
 use Rattle.meta_ast.specs.Ast.{text_of}
 use Rattle.meta_base.specs.Language.Text.{Text}
 use Rattle.meta_base.specs.Language.Expression.{Expression, Grammar, whitespace, comment, rule_of}
 use Rattle.meta_base.specs.Language.Meaning.{Task}
+use Rattle.meta_base.specs.Language.State.{State}
 use Rattle.matcher_program.specs.declared.form.Form.{Form}
 use Rattle.matcher_program.specs.declared.form.Program.{Program}
 use Rattle.matcher_program.specs.declared.form.Row.{Row}
@@ -15,6 +16,7 @@ use Rattle.meta_matcher.specs.Written.{seen}
 use Rattle.meta_matcher.specs.Stacked.{stack_of}
 use Rattle.meta_matcher.specs.ExpectedNames.{name_texts}
 use Rattle.matcher_program.specs.Programs.{IsBound, IsRow, IsSound, expression_of, grammar_of, names_of, rule_of_row}
+use Rattle.matcher_program.specs.Rests.{standing}
 use Rattle.meta_matcher.specs.Runs.{HasResult, Now, Setting}
 
 -- the state of a machine without its frames and steps
@@ -38,6 +40,10 @@ names_within scene = names_of scene.program.now.rows.items
 
 abbrev pub grammar_in : Scene → Grammar
 grammar_in scene = grammar_of scene.program.now.rows.items
+
+-- the state in which a run begins
+abbrev pub start_in : Scene → State
+start_in scene = standing scene.text.now scene.start.now []
 
 -- the grammar, the sets of the property names that it names, and the position that is asked for
 abbrev pub setting_of : Scene → Setting
@@ -66,10 +72,13 @@ abbrev pub IsRowIn : Scene → Row → Type 0
 IsRowIn scene row =
     IsRow (grammar_in scene) (names_within scene) scene.program.now.properties.items row
 
--- the scene has a program, a text, a position that is asked for, and the row that a name means
-pub record IsSceneOf (program : Program) (n : Text) (text : List ℕ) (asked : ℕ) (scene : Scene) : Type 0 where
+-- the scene has a program, a text, what is left of it at the start, a position that is asked for, and the row
+-- that a name means
+pub record IsSceneOf (program : Program) (n : Text) (text start : List ℕ) (asked : ℕ) (scene : Scene)
+    : Type 0 where
   pub same_program : scene.program.now ≡ program
   pub same_text : scene.text.now ≡ text
+  pub same_start : scene.start.now ≡ start
   pub same_place : scene.asked ≡ asked
   pub named : text_of scene.row.now.name ≡ n
   pub row : IsRowIn scene scene.row.now

@@ -1,9 +1,9 @@
-//! A rule and a text that has an outcome for it.
+//! A rule and a start that has an outcome for it.
 ghost use Rattle.meta_matcher.specs.Endings.{HasAnOutcome};
 
 use crate::machine::Scene;
 
-/// A scene whose rule has an outcome on its text.
+/// A scene whose rule has an outcome from its start.
 #[derive(Clone, Copy)]
 pub struct Ending<'a> {
     pub scene: Scene<'a>,

@@ -50,6 +50,8 @@ pub struct Scene<'a> {
     pub program: &'a Program,
     pub row: &'a Row,
     pub text: &'a str,
+    /// The part of the text from the start of the run on.
+    pub start: &'a str,
     /// The position, in bytes, whose expected set is collected.
     pub asked: usize,
 }

@@ -1,10 +1,12 @@
 //! The matcher's entry points: a rule is run on a text.
-ghost use Rattle.std.specs.Prelude.{◌≡◌, IfErr, IfNone, IfOk, IfSome, chars};
+ghost use Rattle.std.specs.Prelude.{◌≡◌, IfErr, IfNone, IfOk, IfSome, [], chars, drop};
 ghost use Rattle.meta_ast.specs.Optimized.{optimized_rules_of};
 ghost use Rattle.meta_base.specs.Language.Expression.{rule_of};
 ghost use Rattle.meta_base.specs.Language.State.{Classes};
 ghost use Rattle.matcher_program.specs.Programs.{Fits, IsSkippedRule, grammar_of};
 ghost use Rattle.matcher_program.specs.Refusals.{IsReason};
+ghost use Rattle.matcher_program.specs.Rests.{IsLeft, standing};
+ghost use Rattle.meta_base.specs.Pieces.Span.{position_offset, position_text};
 
 use crate::ending::Ending;
 use crate::entries::Entry;
@@ -14,6 +16,7 @@ use matcher_program::form::{Program, Row};
 use matcher_program::properties::Properties;
 use matcher_program::texts::same;
 use meta_ast::optimized::OptimizedRule;
+use meta_base::runtime::Position;
 use std::alloc::Global;
 
 /// The match of a rule.
@@ -23,6 +26,8 @@ pub struct Found<'a> {
     pub entries: Vec<Entry<'a>>,
     /// The position after the match, in bytes.
     pub end: usize,
+    /// The furthest position, in bytes, at which a call that counts failed; 0 if none did.
+    pub furthest: usize,
 }
 
 /// The reason why a text has no entries.
@@ -59,8 +64,22 @@ fn find_row(rows: &[Row], name: &str) -> Option<usize>
     None
 }
 
+/// Returns the text of a position.
+pub fn whole_text<'a>(start: Position<'a>) -> &'a str
+    ensures { result.now ≡ position_text start.entry }
+{
+    start.span(&start).get_input()
+}
+
+/// Returns the part of its text from a position on.
+pub fn rest_from<'a>(start: Position<'a>) -> &'a str
+    ensures { result.now ≡ drop (position_offset start.entry) (position_text start.entry) }
+{
+    &whole_text(start)[start.pos()..]
+}
+
 impl Matcher {
-    ghost use Rattle.meta_matcher.specs.Answers.{AreExpectedAt, IsMatched, IsRefused, IsRefusedAtTheEnd, IsSoundMatcher, IsUnanswered};
+    ghost use Rattle.meta_matcher.specs.Answers.{AreExpectedAt, AreExpectedFrom, IsMatched, IsMatchedFrom, IsRefused, IsRefusedAtTheEnd, IsRefusedFrom, IsSoundMatcher, IsUnanswered, IsUnansweredFrom, state_at};
     ghost use Rattle.meta_matcher.specs.Endings.{EndsOn};
     ghost use Rattle.meta_matcher.specs.Machines.{IsSceneOf};
 
@@ -82,12 +101,18 @@ impl Matcher {
         Ok(Matcher { program })
     }
 
-    /// Returns the scene of a rule on a text, with the position whose expected names are collected, or
-    /// `None` if no rule has the name.
-    fn scene_of<'a>(&'a self, rule: &'a str, text: &'a str, asked: usize) -> Option<Scene<'a>>
+    /// Returns the scene of a rule on a text, with the part of the text from the start of the run on, and
+    /// the position whose expected names are collected, or `None` if no rule has the name.
+    fn scene_of<'a>(
+        &'a self,
+        rule: &'a str,
+        text: &'a str,
+        start: &'a str,
+        asked: usize,
+    ) -> Option<Scene<'a>>
         requires sound { IsSoundMatcher self.now }
         ensures known { IfSome result (IsSceneOf self.entry.now.program (chars rule.entry.now)
-            text.entry.now asked) }
+            text.entry.now start.entry.now asked) }
         ensures unknown { IfNone result (rule_of (grammar_of self.entry.now.program.rows.items)
             (chars rule.entry.now) ≡ None) }
     {
@@ -97,8 +122,45 @@ impl Matcher {
             program: &self.program,
             row,
             text,
+            start,
             asked,
         })
+    }
+
+    /// Matches as `parse`, with `rest`, the part of the text from the start of the run on.
+    fn match_rest<'a>(
+        &'a self,
+        alloc: Global,
+        rule: &'a str,
+        text: &'a str,
+        rest: &'a str,
+        steps: u64,
+    ) -> Result<Found<'a>, Refusal<'a>>
+        requires sound { IsSoundMatcher self.now }
+        requires left { IsLeft text.now rest.now }
+        ensures matched { IfOk result (λ found. IsMatchedFrom
+            (grammar_of self.entry.now.program.rows.items) self.entry.now.program.properties.items
+            (chars rule.entry.now) (standing text.entry.now rest.entry.now []) found) }
+        ensures refused { IfErr result (IsRefusedFrom (grammar_of self.entry.now.program.rows.items)
+            self.entry.now.program.properties.items (chars rule.entry.now)
+            (standing text.entry.now rest.entry.now []) steps) }
+    {
+        let Some(scene) = self.scene_of(rule, text, rest, NOWHERE) else {
+            return Err(Refusal::UnknownRule(rule));
+        };
+        let mut machine = Machine::new(alloc);
+        match machine.run(&scene, steps) {
+            Ok(Some(after)) => {
+                let furthest = machine.furthest;
+                Ok(Found {
+                    entries: machine.into_entries(),
+                    end: text.len() - after.len(),
+                    furthest,
+                })
+            }
+            Ok(None) => Err(Refusal::NoMatch(machine.furthest)),
+            Err(stop) => Err(Refusal::Stopped(stop)),
+        }
     }
 
     /// Matches the rule of a name in NonAtomic from the start of a text, with the empty stack, in at most
@@ -117,23 +179,30 @@ impl Matcher {
     ) -> Result<Found<'a>, Refusal<'a>>
         requires sound { IsSoundMatcher self.now }
         ensures matched { IfOk result (λ found. IsMatched (grammar_of self.entry.now.program.rows.items)
-            self.entry.now.program.properties.items (chars rule.entry.now) text.entry.now
-            found.end found.entries.items) }
+            self.entry.now.program.properties.items (chars rule.entry.now) text.entry.now found) }
         ensures refused { IfErr result (IsRefused (grammar_of self.entry.now.program.rows.items)
             self.entry.now.program.properties.items (chars rule.entry.now) text.entry.now steps) }
     {
-        let Some(scene) = self.scene_of(rule, text, NOWHERE) else {
-            return Err(Refusal::UnknownRule(rule));
-        };
-        let mut machine = Machine::new(alloc);
-        match machine.run(&scene, steps) {
-            Ok(Some(after)) => Ok(Found {
-                entries: machine.into_entries(),
-                end: text.len() - after.len(),
-            }),
-            Ok(None) => Err(Refusal::NoMatch(machine.furthest)),
-            Err(stop) => Err(Refusal::Stopped(stop)),
-        }
+        self.match_rest(alloc, rule, text, text, steps)
+    }
+
+    /// Matches as `parse`, but from a position of a text on. Positions of trees, end and furthest failure
+    /// are counted from the start of the text, where alone `SOI` holds.
+    pub fn parse_from<'a>(
+        &'a self,
+        alloc: Global,
+        rule: &'a str,
+        start: Position<'a>,
+        steps: u64,
+    ) -> Result<Found<'a>, Refusal<'a>>
+        requires sound { IsSoundMatcher self.now }
+        ensures matched { IfOk result (λ found. IsMatchedFrom
+            (grammar_of self.entry.now.program.rows.items) self.entry.now.program.properties.items
+            (chars rule.entry.now) (state_at start.entry) found) }
+        ensures refused { IfErr result (IsRefusedFrom (grammar_of self.entry.now.program.rows.items)
+            self.entry.now.program.properties.items (chars rule.entry.now) (state_at start.entry) steps) }
+    {
+        self.match_rest(alloc, rule, whole_text(start), rest_from(start), steps)
     }
 
     /// Matches as `parse` without a limit on the steps, for a rule that has an outcome on the text, as
@@ -149,12 +218,11 @@ impl Matcher {
         requires ends { EndsOn (grammar_of self.now.program.rows.items)
             self.now.program.properties.items (chars rule.now) text.now }
         ensures matched { IfOk result (λ found. IsMatched (grammar_of self.entry.now.program.rows.items)
-            self.entry.now.program.properties.items (chars rule.entry.now) text.entry.now
-            found.end found.entries.items) }
+            self.entry.now.program.properties.items (chars rule.entry.now) text.entry.now found) }
         ensures refused { IfErr result (IsRefusedAtTheEnd (grammar_of self.entry.now.program.rows.items)
             self.entry.now.program.properties.items (chars rule.entry.now) text.entry.now) }
     {
-        let Some(scene) = self.scene_of(rule, text, NOWHERE) else {
+        let Some(scene) = self.scene_of(rule, text, text, NOWHERE) else {
             return Err(Refusal::UnknownRule(rule));
         };
         let ending = Ending { scene };
@@ -162,8 +230,13 @@ impl Matcher {
         match machine.run_to_the_end(&ending) {
             Ok(Some(after)) => {
                 let end = text.len() - after.len();
+                let place = machine.furthest;
                 let entries = machine.into_entries();
-                Ok(Found { entries, end })
+                Ok(Found {
+                    entries,
+                    end,
+                    furthest: place,
+                })
             }
             Ok(None) => {
                 let place = machine.furthest;
@@ -197,7 +270,56 @@ impl Matcher {
         ensures refused { IfErr result (IsUnanswered (grammar_of self.entry.now.program.rows.items)
             self.entry.now.program.properties.items (chars rule.entry.now) text.entry.now steps) }
     {
-        let Some(scene) = self.scene_of(rule, text, place) else {
+        self.names_from_rest(alloc, rule, text, text, place, steps)
+    }
+
+    /// Returns the names that are expected at `place`, in bytes from the start of the text, in a run as by
+    /// `parse_from`. Errors are as those of `expected_at`.
+    pub fn expected_from<'a>(
+        &'a self,
+        alloc: Global,
+        rule: &'a str,
+        start: Position<'a>,
+        place: usize,
+        steps: u64,
+    ) -> Result<Vec<&'a str>, Refusal<'a>>
+        requires sound { IsSoundMatcher self.now }
+        ensures expected { IfOk result (λ names. AreExpectedFrom
+            (grammar_of self.entry.now.program.rows.items) self.entry.now.program.properties.items
+            (chars rule.entry.now) (state_at start.entry) place names.items) }
+        ensures refused { IfErr result (IsUnansweredFrom (grammar_of self.entry.now.program.rows.items)
+            self.entry.now.program.properties.items (chars rule.entry.now) (state_at start.entry) steps) }
+    {
+        self.names_from_rest(
+            alloc,
+            rule,
+            whole_text(start),
+            rest_from(start),
+            place,
+            steps,
+        )
+    }
+
+    /// Returns the names as `expected_at`, with `rest`, the part of the text from the start of the run on.
+    fn names_from_rest<'a>(
+        &'a self,
+        alloc: Global,
+        rule: &'a str,
+        text: &'a str,
+        rest: &'a str,
+        place: usize,
+        steps: u64,
+    ) -> Result<Vec<&'a str>, Refusal<'a>>
+        requires sound { IsSoundMatcher self.now }
+        requires left { IsLeft text.now rest.now }
+        ensures expected { IfOk result (λ names. AreExpectedFrom
+            (grammar_of self.entry.now.program.rows.items) self.entry.now.program.properties.items
+            (chars rule.entry.now) (standing text.entry.now rest.entry.now []) place names.items) }
+        ensures refused { IfErr result (IsUnansweredFrom (grammar_of self.entry.now.program.rows.items)
+            self.entry.now.program.properties.items (chars rule.entry.now)
+            (standing text.entry.now rest.entry.now []) steps) }
+    {
+        let Some(scene) = self.scene_of(rule, text, rest, place) else {
             return Err(Refusal::UnknownRule(rule));
         };
         let mut machine = Machine::new(alloc);

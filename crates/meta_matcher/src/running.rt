@@ -3,10 +3,10 @@ ghost use Rattle.std.specs.Prelude.{◌≡◌, ◌+◌, ◌-◌, ◌*◌, ◌≤
 ghost use Rattle.meta_ast.specs.Ast.{text_of};
 ghost use Rattle.meta_base.specs.Language.Expression.{Choice, Ident, NegPred, Opt, PosPred, Push, Rep, Seq, rule_of};
 ghost use Rattle.meta_base.specs.Language.Meaning.{Run};
-ghost use Rattle.meta_matcher.specs.Answers.{IsStopped};
+ghost use Rattle.meta_matcher.specs.Answers.{IsStoppedFrom};
 ghost use Rattle.meta_matcher.specs.Frames.{Awaits, StepsLead, Finishes, Follows, HasResultFrom, IsAhead, IsBlank, IsBoundSecond, IsCall, IsComment, IsFirst, IsGap, IsLeftSide, IsNegated, IsNested, IsOnTheWay, IsOptional, IsPushed, IsResumed, IsRunning, IsSecond, IsStarting, Leads, Skips, comments, said_second, starting, top_of};
 ghost use Rattle.meta_matcher.specs.Endings.{classes_in};
-ghost use Rattle.meta_matcher.specs.Machines.{IsBoundIn, IsRowIn, IsSoundIn, grammar_in, names_within, now_of, round, said, steps_of};
+ghost use Rattle.meta_matcher.specs.Machines.{IsBoundIn, IsRowIn, IsSoundIn, grammar_in, names_within, now_of, round, said, start_in, steps_of};
 ghost use Rattle.matcher_program.specs.Programs.{Fits, rule_of_row};
 ghost use Rattle.matcher_program.specs.Rests.{IsLeft};
 ghost use Rattle.meta_matcher.specs.Runs.{mode_of};
@@ -721,11 +721,12 @@ impl<'a> Machine<'a> {
         Ok(Came::Going(control))
     }
 
-    /// Runs the scene's rule on its text, in NonAtomic, for at most `steps` steps, of which the call is the
-    /// first. Returns the remaining input, or `None` if the rule fails. Errors: an allocation failure, too
-    /// many steps, and `PEEK` or `POP` on the empty stack, after which there is no outcome.
+    /// Runs the scene's rule from its start, in NonAtomic, for at most `steps` steps, of which the call is
+    /// the first. Returns the remaining input, or `None` if the rule fails. Errors: an allocation failure,
+    /// too many steps, and `PEEK` or `POP` on the empty stack, after which there is no outcome.
     pub fn run(&mut self, scene: &Scene<'a>, steps: u64) -> Result<Option<&'a str>, Stop>
         requires sound { IsSoundIn scene.now }
+        requires left { IsLeft scene.now.text.now scene.now.start.now }
         requires row { IsRowIn scene.now scene.now.row.now }
         requires meant { rule_of (grammar_in scene.now) (text_of scene.now.row.now.name)
             ≡ Some (rule_of_row (names_within scene.now) scene.now.row.now) }
@@ -734,21 +735,22 @@ impl<'a> Machine<'a> {
         requires no_steps { steps_of self.old ≡ 0 }
         ensures gives { IfOk result
             (HasResultFrom scene.entry.now (top_of scene.entry.now) (now_of self.new)) }
-        ensures stopped { IfErr result (IsStopped (grammar_in scene.entry.now)
+        ensures stopped { IfErr result (IsStoppedFrom (grammar_in scene.entry.now)
             scene.entry.now.program.now.properties.items (text_of scene.entry.now.row.now.name)
-            scene.entry.now.text.now steps) }
+            (start_in scene.entry.now) steps) }
     {
-        let first = self.call(scene, scene.row, Mode::NonAtomic, scene.text)?;
+        let first = self.call(scene, scene.row, Mode::NonAtomic, scene.start)?;
         match self.go_on(scene, first, 0, steps)? {
             Came::Ended(answer) => Ok(answer),
             Came::Going(_) => Err(Stop::OutOfSteps),
         }
     }
 
-    /// Runs as `run` on a text that has an outcome, without a limit; only an allocation failure stops the
+    /// Runs as `run` where there is an outcome, without a limit; only an allocation failure stops the
     /// run. Rounds of steps are counted, which takes a byte each.
     pub fn run_to_the_end(&mut self, ending: &Ending<'a>) -> Result<Option<&'a str>, AllocError>
         requires sound { IsSoundIn ending.now.scene }
+        requires left { IsLeft ending.now.scene.text.now ending.now.scene.start.now }
         requires row { IsRowIn ending.now.scene ending.now.scene.row.now }
         requires meant { rule_of (grammar_in ending.now.scene) (text_of ending.now.scene.row.now.name)
             ≡ Some (rule_of_row (names_within ending.now.scene) ending.now.scene.row.now) }
@@ -764,7 +766,7 @@ impl<'a> Machine<'a> {
             &ending.scene,
             ending.scene.row,
             Mode::NonAtomic,
-            ending.scene.text,
+            ending.scene.start,
         )?;
         let mut rounds = Vec::new(*self.entries.allocator());
         'rounds: loop {

@@ -1,5 +1,5 @@
 -- Files with fixes, one more.
-use Rattle.std.proofs.Common.{◌≡◌, ◌∙◌, ℕ, ◌+◌, ◌<◌, ◌≤◌, List, [], ◌∷◌, ◌++◌, add-one, ap, arith, drop, drop-cons, get_or, inl, inr, length, length-drop, refl, set, subst, suc, sym, take}
+use Rattle.std.proofs.Common.{◌≡◌, ◌∙◌, ℕ, ◌+◌, ◌<◌, ◌≤◌, List, ◌∷◌, add-one, ap, arith, drop, drop-cons, get_or, inl, inr, length, length-drop, refl, set, subst, suc, sym, take}
 use Rattle.std.proofs.lemmas.List.{drop-set-lt, take_all, take_more, take_more_set}
 use Rattle.std.proofs.lemmas.List.Elements.{AllZip-push}
 use Rattle.std.specs.List.{AllZip}

@@ -1,3 +1,4 @@
+pub mod Gaining
 pub mod Keeping
 pub mod Logging
 pub mod Printing

@@ -1,5 +1,5 @@
 -- What is printed of diagnostics and of files, one after another.
-use Rattle.std.proofs.Common.{◌≡◌, ◌≢◌, ◌⊎◌, inl, inr, ℕ, zero, suc, ◌+◌, ◌<◌, ◌≤◌, List, [], ◌∷◌, ◌++◌, All, Bool, true, false, ◌||◌, Option, Some, None, if◌then◌else◌, length, drop, take, get_or, max, sym, ap, ◌∙◌, add-one, append_assoc, append-nil, drop-cons, string_bytes, subst, arith, refl}
+use Rattle.std.proofs.Common.{◌≡◌, ℕ, zero, suc, ◌+◌, ◌<◌, ◌≤◌, List, [], ◌∷◌, ◌++◌, All, Bool, true, false, ◌||◌, Option, Some, None, if◌then◌else◌, length, drop, take, get_or, sym, ap, ◌∙◌, add-one, append_assoc, append-nil, drop-cons, string_bytes, subst, arith, refl}
 use Rattle.std.proofs.lemmas.List.{drop_all, take_all, take_more}
 use Rattle.std.proofs.lemmas.List.Elements.{All-append}
 use Rattle.std.specs.List.{AllZip, list_any}

@@ -3,3 +3,5 @@ pub mod Logs
 pub mod Pages
 pub mod Reports
 pub mod Shows
+pub mod Sources
+pub mod Starts

@@ -1,9 +1,11 @@
 //! Reports what is wrong with pest grammars.
 #![tactic(auto)]
 
-ghost use Rattle.std.specs.Prelude.{◌≡◌, ◌≢◌, ◌≤◌, All, None};
+ghost use Rattle.std.specs.Prelude.{◌≡◌, ◌≢◌, ◌≤◌, ◌∷◌, ◌++◌, [], All, IfOk, None, Some, codes};
+ghost use Rattle.clap.specs.Matches.{first_value, found_of};
 ghost use Rattle.pest_lint.specs.Logs.{GainsIn};
 ghost use Rattle.pest_lint.specs.Shows.{IsClean, asked_of};
+ghost use Rattle.pest_lint.specs.Starts.{names_of, values_of};
 
 mod arguments;
 mod explain;
@@ -83,13 +85,29 @@ fn print_page(rt: &HostRuntime, name: &str) -> u8 {
 
 /// The names of the rules that are starts. Where all warnings are asked for, one that no rule has is among
 /// them, so that the first rule is not taken for a start.
-fn starts_of<'a>(alloc: Global, matches: &'a ArgMatches<'_>) -> Result<Vec<&'a str>, AllocError> {
-    let mut starts = Vec::new(alloc);
-    for name in matches.get_strs("start").unwrap_or(&[]) {
-        starts.push(*name)?;
-    }
+fn starts_of<'a>(alloc: Global, matches: &'a ArgMatches<'_>) -> Result<Vec<&'a str>, AllocError>
+    ensures some { first_value (found_of matches.entry.now) (codes "warn") ≡ None
+        → IfOk result (λ starts. names_of starts.items ≡ values_of matches.entry.now (codes "start")) }
+    ensures all { first_value (found_of matches.entry.now) (codes "warn") ≡ Some (codes "all")
+        → IfOk result (λ starts. names_of starts.items
+        ≡ values_of matches.entry.now (codes "start") ++ codes "SOI" ∷ []) }
+{
+    let mut starts = named_starts(alloc, matches)?;
     if is_all(matches) {
         starts.push(Builtin::Soi.name())?;
+    }
+    Ok(starts)
+}
+
+/// The names that `--start` gives.
+fn named_starts<'a>(alloc: Global, matches: &'a ArgMatches<'_>) -> Result<Vec<&'a str>, AllocError>
+    ensures { IfOk result (λ starts.
+        names_of starts.items ≡ values_of matches.entry.now (codes "start")) }
+{
+    let names = matches.get_strs("start").unwrap_or(&[]);
+    let mut starts = Vec::new(alloc);
+    for name in names {
+        starts.push(*name)?;
     }
     Ok(starts)
 }

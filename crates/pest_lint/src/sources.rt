@@ -1,5 +1,6 @@
 //! Reading files and folders.
-ghost use Rattle.std.specs.Prelude.{◌≡◌, [], IfOk, IsSome, string_bytes};
+ghost use Rattle.std.specs.Prelude.{◌≡◌, [], All, IfOk, IsSome, OnOk, string_bytes};
+ghost use Rattle.pest_lint.specs.Sources.{AreFilesOf, AreOfNames, Gain, IsGrammarName, IsOfFolder};
 
 use crate::lint::Source;
 use std::alloc::AllocError;
@@ -9,16 +10,25 @@ use tool_support::input::read_input;
 
 /// The files of these names: of a folder all below it whose names end with `.pest`, in order. No clause can
 /// say which names are folders, nor what they have.
-pub fn read_sources(rt: &HostRuntime, names: &[&str]) -> Result<Vec<Source>, AllocError> {
+pub fn read_sources(rt: &HostRuntime, names: &[&str]) -> Result<Vec<Source>, AllocError>
+    ensures { IfOk result (λ sources. AreOfNames names.now sources.items) }
+{
     let mut sources = Vec::new(rt.alloc());
     for name in names {
-        if is_folder(rt, name) {
-            read_folder(rt, name, &mut sources)?;
-        } else {
-            sources.push(read_source(rt, name)?)?;
-        }
+        read_named(rt, name, &mut sources)?;
     }
     Ok(sources)
+}
+
+/// Adds the file of a name, or those of the folder of that name.
+fn read_named(rt: &HostRuntime, name: &str, sources: &mut Vec<Source>) -> Result<(), AllocError>
+    ensures { OnOk result (Gain (AreFilesOf name.now) sources.old.items sources.new.items) }
+{
+    if is_folder(rt, name) {
+        return read_folder(rt, name, sources);
+    }
+    sources.push(read_source(rt, name)?)?;
+    Ok(())
 }
 
 /// Whether a name is that of a folder.
@@ -62,7 +72,23 @@ fn unread(rt: &HostRuntime, name: &str, error: &io::Error) -> Result<Source, All
 }
 
 /// Adds the grammars of a folder and of those below it, and the folders that can't be read.
-fn read_folder(rt: &HostRuntime, name: &str, sources: &mut Vec<Source>) -> Result<(), AllocError> {
+fn read_folder(rt: &HostRuntime, name: &str, sources: &mut Vec<Source>) -> Result<(), AllocError>
+    ensures { OnOk result (Gain (All IsOfFolder) sources.old.items sources.new.items) }
+{
+    let files = find_files(rt, name, sources)?;
+    read_files(rt, &files, sources)
+}
+
+/// The names of the grammars of a folder and of those below it, in order. Adds the folders that can't be
+/// read.
+fn find_files(
+    rt: &HostRuntime,
+    name: &str,
+    sources: &mut Vec<Source>,
+) -> Result<Vec<String>, AllocError>
+    ensures named { IfOk result (λ files. All IsGrammarName files.items) }
+    ensures unread { OnOk result (Gain (All IsOfFolder) sources.old.items sources.new.items) }
+{
     let alloc = rt.alloc();
     let mut folders = Vec::new(alloc);
     let mut files = Vec::new(alloc);
@@ -71,13 +97,40 @@ fn read_folder(rt: &HostRuntime, name: &str, sources: &mut Vec<Source>) -> Resul
         let Some(folder) = folders.pop() else {
             break;
         };
-        if let Err(error) = list_folder(rt, folder.as_str(), &mut folders, &mut files) {
-            sources.push(unread(rt, folder.as_str(), &error)?)?;
-        }
+        look_into(rt, folder.as_str(), &mut folders, &mut files, sources)?;
     }
     files.sort()?;
-    for file in &files {
-        sources.push(read_source(rt, file.as_str())?)?;
+    Ok(files)
+}
+
+/// Adds the files of these names.
+fn read_files(
+    rt: &HostRuntime,
+    names: &[String],
+    sources: &mut Vec<Source>,
+) -> Result<(), AllocError>
+    requires { All IsGrammarName names.now }
+    ensures { OnOk result (Gain (All IsOfFolder) sources.old.items sources.new.items) }
+{
+    for name in names {
+        sources.push(read_source(rt, name.as_str())?)?;
+    }
+    Ok(())
+}
+
+/// Adds the folders in a folder, and its grammars; or the folder itself, where it can't be read.
+fn look_into(
+    rt: &HostRuntime,
+    folder: &str,
+    folders: &mut Vec<String>,
+    files: &mut Vec<String>,
+    sources: &mut Vec<Source>,
+) -> Result<(), AllocError>
+    ensures named { All IsGrammarName files.old.items → All IsGrammarName files.new.items }
+    ensures unread { OnOk result (Gain (All IsOfFolder) sources.old.items sources.new.items) }
+{
+    if let Err(error) = list_folder(rt, folder, folders, files) {
+        sources.push(unread(rt, folder, &error)?)?;
     }
     Ok(())
 }
@@ -89,7 +142,9 @@ fn list_folder(
     folder: &str,
     folders: &mut Vec<String>,
     files: &mut Vec<String>,
-) -> io::Result<()> {
+) -> io::Result<()>
+    ensures { All IsGrammarName files.old.items → All IsGrammarName files.new.items }
+{
     let mut outcome = Ok(());
     for entry in fs::read_dir(rt, folder)? {
         let entry = match entry {
@@ -102,9 +157,19 @@ fn list_folder(
         let path = String::from_str(rt.alloc(), entry.path().as_str())?;
         match entry.file_type() {
             Ok(kind) if kind.is_dir() => folders.push(path)?,
-            Ok(kind) if kind.is_file() && path.as_str().ends_with(".pest") => files.push(path)?,
+            Ok(kind) if kind.is_file() => add_grammar(path, files)?,
             _ => {}
         }
     }
     outcome
+}
+
+/// Adds a path of a grammar. Others are left out.
+fn add_grammar(path: String, files: &mut Vec<String>) -> Result<(), AllocError>
+    ensures { All IsGrammarName files.old.items → All IsGrammarName files.new.items }
+{
+    if path.as_str().ends_with(".pest") {
+        files.push(path)?;
+    }
+    Ok(())
 }

@@ -1,5 +1,5 @@
 -- What comes of a rule that fails on a text, by what the matcher answers.
-use Rattle.std.proofs.Common.{◌≡◌, ◌∙◌, ap, ap₂, refl, sym, subst, ℕ, List, []}
+use Rattle.std.proofs.Common.{◌≡◌, ◌⊎◌, ◌∙◌, ◌<◌, ◌++◌, ◌&&◌, ap, ap₂, inl, inr, refl, sym, subst, ℕ, Bool, true, false, List, [], None, Option, Some, drop, if◌then◌else◌, length, nat_le}
 use Rattle.std.specs.Prelude.{IsUtf8}
 use Rattle.std.specs.Borrow.{Bor}
 use Rattle.std.specs.Str.{chars, IsCharBoundary}
@@ -7,9 +7,10 @@ use Rattle.meta_ast.specs.Ast.{text_of}
 use Rattle.meta_base.specs.Language.Expression.{Grammar}
 use Rattle.meta_base.specs.Language.Expected.{expected, expected_at}
 use Rattle.meta_base.specs.Language.FurthestFailure.{furthest}
-use Rattle.meta_base.specs.Language.State.{Classes, Failure, Trees}
+use Rattle.meta_base.specs.Language.State.{Classes, Failure, Outcome as Result, Trees}
 use Rattle.meta_base.specs.Language.Places.{IsStateIn}
 use Rattle.meta_base.specs.Language.Text.{Text}
+use Rattle.meta_base.specs.Pieces.LineColumn.{line_column}
 use Rattle.meta_base.proofs.ExpectedOnce.{one_list}
 use Rattle.meta_base.proofs.FailuresStand.{stands_at}
 use Rattle.meta_base.proofs.InBytes.{on_bytes}
@@ -18,19 +19,30 @@ use Rattle.matcher_program.specs.Refusals.{IsReason}
 use Rattle.matcher_program.specs.declared.compile.Unfit.{Unfit}
 use Rattle.matcher_program.specs.declared.compile.Unfit.TheVariants as no
 use Rattle.meta_matcher.specs.Answers.{AreExpectedAt, FailsAt, Has, IsMatched, IsStopped, start_of}
-use Rattle.meta_matcher.specs.declared.entries.Entry.{Entry}
+use Rattle.meta_matcher.specs.declared.matcher.Found.{Found}
 use Rattle.meta_matcher.specs.declared.machine.Stop.{Stop}
 use Rattle.meta_matcher.specs.declared.machine.Stop.TheVariants as stop
+use Rattle.meta_matcher.specs.Sizes.{most_steps}
 use Rattle.meta_matcher.specs.ExpectedNames.{each_once, name_texts}
 use Rattle.matcher_program.specs.Programs.{Fits}
 use Rattle.meta_matcher.specs.Written.{seen}
 use Rattle.meta_syntax.specs.Entries.{entries_of}
 use Rattle.matcher_program.specs.declared.form.Property.{Property}
 use Rattle.matcher_support.specs.Sets.{has_set, is_in_property}
-use Rattle.pest_run.specs.Outcomes.{HasNoRule, IsFailureReport, IsMatchReport, IsNoRuleReport, IsOutcome, IsStopReport, end_note, failure_text, trees_text, unfit_outcome}
+use Rattle.pest_run.specs.Outcomes.{HasNoRule, IsFailureReport, IsMatchReport, IsNoRuleReport, IsOutcome, IsStopReport, end_note, failure_text, tells_expected, trees_text, unfit_outcome}
+use Rattle.pest_run.specs.Messages.{expected_text, is_more, note_between}
+use Rattle.pest_run.specs.Steps.{note_limit}
 use Rattle.pest_run.specs.declared.arguments.Format.{Format}
+use Rattle.pest_run.specs.declared.arguments.Format.TheVariants as format_is
 use Rattle.pest_run.specs.declared.outcomes.Outcome.{Outcome}
 use Rattle.pest_run.specs.declared.outcomes.Outcome.TheVariants as is
+
+-- the names that are expected at the furthest failure of a derivation
+expects : (g : Grammar) (ps : List Property) (n : Text) (text : List ℕ) (place : ℕ) (names : List (Bor (List ℕ))) {o : Result} (d : Has g n text is_in_property o)
+    → Fits ps is_in_property → AreExpectedAt g ps n text place names → place ≡ furthest d → name_texts names ≡ each_once (expected d)
+expects g ps n text place names d fits a e =
+    let told = a is_in_property fits in
+    told.2 ∙ ap each_once (one_list g is_in_property place told.1 d ∙ ap (λ p. expected_at p d) e)
 
 -- what is told of the place of the failure, and of what is expected there, is told of the failure
 pub failed : (g : Grammar) (ps : List Property) (rule text : List ℕ) (format : Format) (limit : ℕ) (place : ℕ) (names : List (Bor (List ℕ))) (o : Outcome)
@@ -39,8 +51,7 @@ pub failed : (g : Grammar) (ps : List Property) (rule text : List ℕ) (format :
 failed g ps rule text format limit place names (is.Shown lines _) fits f a t = absurd t
 failed g ps rule text format limit place names (is.Failed report) fits f a t =
     let fails = f is_in_property fits in
-    let told = a is_in_property fits in
-    let same : name_texts names ≡ each_once (expected fails.0) = told.2 ∙ ap each_once (one_list g is_in_property place told.1 fails.0 ∙ ap (λ n. expected_at n fails.0) fails.1) in
+    let same = expects g ps (chars rule) text place names fails.0 fits a fails.1 in
     record { fails = fails.0; report_shows = t ∙ ap₂ (λ n ns. failure_text text n ns) fails.1 same }
 failed g ps rule text format limit place names (is.NoRule message) fits f a t = absurd t
 failed g ps rule text format limit place names (is.OutOfSteps said) fits f a t = absurd t
@@ -61,46 +72,89 @@ unknown g rule text format limit is.UnknownName h t = absurd t
 unknown g rule text format limit is.Bound h t = absurd t
 unknown g rule text format limit is.Memory h t = tt
 
--- what is told of a match is told of what the rule gives
-pub shows : (g : Grammar) (ps : List Property) (rule text : List ℕ) (format : Format) (limit : ℕ) (end_ : ℕ) (es : List Entry) (o : Outcome)
-    → Fits ps is_in_property → IsMatched g ps (chars rule) text end_ es → ((trees : Trees) → seen es ≡ entries_of 0 trees → IsMatchReport text format end_ trees o)
-    → IsOutcome g rule text format limit o
-shows g ps rule text format limit end_ es (is.Shown lines _) fits m t =
-    let found = m.found is_in_property fits in
-    let told = t m.trees m.entries in
-    record {
-      end_ = found.0;
-      trees = m.trees;
-      matches = found.2;
-      lines_show = told.0 ∙ ap (λ n. trees_text format text n m.trees) (sym found.1);
-      note_tells = told.1 ∙ ap (λ n. end_note format text n) (sym found.1);
-    }
-shows g ps rule text format limit end_ es (is.Failed report) fits m t = absurd (t m.trees m.entries)
-shows g ps rule text format limit end_ es (is.NoRule message) fits m t = absurd (t m.trees m.entries)
-shows g ps rule text format limit end_ es (is.OutOfSteps said) fits m t = absurd (t m.trees m.entries)
-shows g ps rule text format limit end_ es is.EmptyStack fits m t = absurd (t m.trees m.entries)
-shows g ps rule text format limit end_ es is.UnknownName fits m t = absurd (t m.trees m.entries)
-shows g ps rule text format limit end_ es is.Bound fits m t = absurd (t m.trees m.entries)
-shows g ps rule text format limit end_ es is.Memory fits m t = tt
+-- notes are the same where names are the same that they tell
+same_text : (more after : Bool) (start : List ℕ) (place : ℕ × ℕ) (ns ms : List Text) → (after && more ≡ true → ns ≡ ms)
+    → (if more then Some (start ++ (if after then expected_text place ns else [])) else None) ≡ (if more then Some (start ++ (if after then expected_text place ms else [])) else None)
+same_text false after start place ns ms h = refl
+same_text true false start place ns ms h = refl
+same_text true true start place ns ms h = ap (λ k. Some (start ++ expected_text place k)) (h refl)
 
--- a match ends between two characters
-pub ends_at_character : (g : Grammar) (ps : List Property) (n : Text) (text : List ℕ) (end_ : ℕ) (es : List Entry) → IsUtf8 text → Fits ps is_in_property → IsMatched g ps n text end_ es
-    → IsCharBoundary text end_
-ends_at_character g ps n text end_ es utf8 fits m =
+same_note : (format : Format) (text : List ℕ) (end_ place : ℕ) (ns ms : List Text) → (tells_expected format text end_ place ≡ true → ns ≡ ms)
+    → end_note format text end_ place ns ≡ end_note format text end_ place ms
+same_note format_is.Text text end_ place ns ms h = same_text (is_more (drop end_ text)) (nat_le end_ place) (note_between (line_column text end_) (line_column text (length text))) (line_column text place) ns ms h
+same_note format_is.Json text end_ place ns ms h = refl
+same_note format_is.Lines text end_ place ns ms h = refl
+
+-- what is told of a match is told of what the rule gives
+module _ (g : Grammar) (ps : List Property) (rule text : List ℕ) (format : Format) (limit : ℕ) (it : Found) (fits : Fits ps is_in_property) (m : IsMatched g ps (chars rule) text it) where
+  shows : (names : List Text) (o : Outcome) → ((trees : Trees) → seen it.entries.items ≡ entries_of 0 trees → IsMatchReport text format it.end it.furthest names trees o)
+      → let d = (m.found is_in_property fits).2 in (tells_expected format text it.end it.furthest ≡ true → names ≡ each_once (expected d)) ⊎ ((note_limit limit (length text) < most_steps d) × (names ≡ []))
+      → IsOutcome g rule text format limit o
+  shows names (is.Shown lines note) t n =
+      let found = m.found is_in_property fits in
+      let told = t m.trees m.entries in
+      let same : (ns : List Text) → end_note format text it.end it.furthest ns ≡ end_note format text found.0.position (furthest found.2) ns =
+      λ ns. ap₂ (λ e p. end_note format text e p ns) (sym found.1) found.3 in (
+        record { end_ = found.0; trees = m.trees; matches = found.2; lines_show = told.0 ∙ ap (λ e. trees_text format text e m.trees) (sym found.1) },
+        record {
+          end_ = found.0;
+          trees = m.trees;
+          matches = found.2;
+          tells = elim n [
+            | inl h ↦ inl (told.1 ∙ (same_note format text it.end it.furthest names (each_once (expected found.2)) h ∙ same (each_once (expected found.2))))
+            | inr h ↦ inr (h.0, told.1 ∙ (ap (end_note format text it.end it.furthest) h.1 ∙ same []))
+          ];
+        },
+      )
+  shows names (is.Failed report) t n = absurd (t m.trees m.entries)
+  shows names (is.NoRule message) t n = absurd (t m.trees m.entries)
+  shows names (is.OutOfSteps said) t n = absurd (t m.trees m.entries)
+  shows names is.EmptyStack t n = absurd (t m.trees m.entries)
+  shows names is.UnknownName t n = absurd (t m.trees m.entries)
+  shows names is.Bound t n = absurd (t m.trees m.entries)
+  shows names is.Memory t n = tt
+
+  -- with the names that are expected, where they are told
+  pub shows_names : (names : List (Bor (List ℕ))) (o : Outcome) → ((trees : Trees) → seen it.entries.items ≡ entries_of 0 trees → IsMatchReport text format it.end it.furthest (name_texts names) trees o)
+      → (tells_expected format text it.end it.furthest ≡ true → AreExpectedAt g ps (chars rule) text it.furthest names) → IsOutcome g rule text format limit o
+  shows_names names o t a =
+      let found = m.found is_in_property fits in
+      shows (name_texts names) o t (inl (λ h. expects g ps (chars rule) text it.furthest names found.2 fits (a h) found.3))
+
+  -- without them, where to find them may take too many steps
+  pub shows_none : (o : Outcome) → ((trees : Trees) → seen it.entries.items ≡ entries_of 0 trees → IsMatchReport text format it.end it.furthest [] trees o)
+      → IsStopped g ps (chars rule) text (note_limit limit (length text)) stop.OutOfSteps → IsOutcome g rule text format limit o
+  shows_none o t s = shows [] o t (inr (s is_in_property fits _ (m.found is_in_property fits).2, refl))
+
+-- the furthest failure of a derivation is one of the text
+stands_here : (g : Grammar) (n : Text) (text : List ℕ) (place : ℕ) {o : Result} (d : Has g n text is_in_property o) → IsUtf8 text → place ≡ furthest d → IsCharBoundary text place
+stands_here g n text place d utf8 e =
+    let stands : IsStateIn (chars text) (start_of text) = record { front = []; split = refl; size = refl } in
+    let here : IsCharBoundary text (furthest d) = on_bytes text utf8 (furthest d) (stands_at (chars text) d stands) in
+    subst (λ n. IsCharBoundary text n) (sym e) here
+
+-- a match ends between two characters, and so does its furthest failure
+pub ends_at_character : (g : Grammar) (ps : List Property) (n : Text) (text : List ℕ) (it : Found) → IsUtf8 text → Fits ps is_in_property → IsMatched g ps n text it
+    → IsCharBoundary text it.end
+ends_at_character g ps n text it utf8 fits m =
     let found = m.found is_in_property fits in
     let start : IsStateIn (chars text) (start_of text) = record { front = []; split = refl; size = refl } in
     let inside = (fits_in (chars text) found.2 start).0 in
     let here : IsCharBoundary text found.0.position = on_bytes text utf8 found.0.position (record { front = inside.front; back = found.0.rest; split = inside.split; size = inside.size }) in
     subst (λ n. IsCharBoundary text n) found.1 here
 
+pub stops_at_character : (g : Grammar) (ps : List Property) (n : Text) (text : List ℕ) (it : Found) → IsUtf8 text → Fits ps is_in_property → IsMatched g ps n text it
+    → IsCharBoundary text it.furthest
+stops_at_character g ps n text it utf8 fits m =
+    let found = m.found is_in_property fits in
+    stands_here g n text it.furthest found.2 utf8 found.3
+
 -- the place of the failure is one of the text
 pub at_character : (g : Grammar) (ps : List Property) (n : Text) (text : List ℕ) (place : ℕ) → IsUtf8 text → Fits ps is_in_property → FailsAt g ps n text place
     → IsCharBoundary text place
 at_character g ps n text place utf8 fits f =
     let fails = f is_in_property fits in
-    let stands : IsStateIn (chars text) (start_of text) = record { front = []; split = refl; size = refl } in
-    let here : IsCharBoundary text (furthest fails.0) = on_bytes text utf8 (furthest fails.0) (stands_at (chars text) fails.0 stands) in
-    subst (λ n. IsCharBoundary text n) (sym fails.1) here
+    stands_here g n text place fails.0 utf8 fails.1
 
 -- what comes of a run that was stopped is what the matcher says of it
 pub stopped : (g : Grammar) (ps : List Property) (rule text : List ℕ) (format : Format) (limit : ℕ) (why : Stop) (o : Outcome) → Fits ps is_in_property

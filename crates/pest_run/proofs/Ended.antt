@@ -34,15 +34,15 @@ neither n k (inl z) e f h = f (sym e ∙ z)
 neither n k (inr z) e f h = h (sym e ∙ z)
 
 -- rules by which a text is matched, and which match it
-record Matched (form : RuleForm) (grammar rule text : List ℕ) (format : Format) (lines : List ℕ) (note : Option (List ℕ)) : Type 0 where
+record Matched (form : RuleForm) (grammar rule text : List ℕ) (format : Format) (lines : List ℕ) : Type 0 where
   pub rules : Grammar
   pub matched : AreMatched form grammar rules
-  pub shows : IsShown rules rule text format lines note
+  pub shows : IsShown rules rule text format lines
 
 -- what rules match as they are run, those that the text spells match
-matched : (form : RuleForm) (grammar rule text : List ℕ) (format : Format) (rules : Grammar) (lines : List ℕ) (note : Option (List ℕ))
-    → AreRun form grammar rules → IsShown rules rule text format lines note → Matched form grammar rule text format lines note
-matched form_is.Written grammar rule text format rules lines _ a i =
+matched : (form : RuleForm) (grammar rule text : List ℕ) (format : Format) (rules : Grammar) (lines : List ℕ)
+    → AreRun form grammar rules → IsShown rules rule text format lines → Matched form grammar rule text format lines
+matched form_is.Written grammar rule text format rules lines a i =
     let spelled : IsWritten grammar rules = a in
     record {
       rules = spelled.spelled;
@@ -52,18 +52,17 @@ matched form_is.Written grammar rule text format rules lines _ a i =
         trees = i.trees;
         matches = (spelled.outcomes is_in_property (Ident (chars rule)) NonAtomicMode (start_of text) (Success i.end_ i.trees)).1 i.matches;
         lines_show = i.lines_show;
-        note_tells = i.note_tells;
       };
     }
-matched form_is.Optimized grammar rule text format rules lines _ a i = record { rules = rules; matched = a; shows = i }
+matched form_is.Optimized grammar rule text format rules lines a i = record { rules = rules; matched = a; shows = i }
 
 -- where the status is 0, trees were printed
 pub prints : {X E : Type 0} (o : Outcome) (grammar rule text : List ℕ) (format : Format) (form : RuleForm) (rules : Grammar) (limit : ℕ) (told : Result X E) (same : Type 0) (status : ℕ)
     (old_out new_out old new : Option (List ℕ)) → AreRun form grammar rules → IsOutcome rules rule text format limit o
     → EndsAs o same status told old_out new_out old new → status ≡ 0 → PrintsTrees form grammar rule text format old_out new_out
 prints (is.Shown lines note) grammar rule text format form rules limit told same status old_out new_out old new a i e zero =
-    let m = matched form grammar rule text format rules (string_bytes lines) (option_map string_bytes note) a i in
-    record { rules = m.rules; matched = m.matched; lines = string_bytes lines; note = option_map string_bytes note; shows = m.shows; gained = e.1 zero }
+    let m = matched form grammar rule text format rules (string_bytes lines) a i.0 in
+    record { rules = m.rules; matched = m.matched; lines = string_bytes lines; shows = m.shows; gained = e.1 zero }
 prints (is.Failed report) grammar rule text format form rules limit told same status old_out new_out old new a i e zero = absurd (apart status 0 1 zero e.0 (omega arith))
 prints (is.NoRule said) grammar rule text format form rules limit told same status old_out new_out old new a i e zero = absurd (apart status 0 1 zero e.0 (omega arith))
 prints (is.OutOfSteps said) grammar rule text format form rules limit told same status old_out new_out old new a i e zero = absurd (apart status 0 5 zero e.0 (omega arith))
@@ -75,10 +74,9 @@ prints is.Memory grammar rule text format form rules limit told same status old_
 -- and the note on their end was written
 pub notes : {X E : Type 0} (o : Outcome) (grammar rule text : List ℕ) (format : Format) (form : RuleForm) (rules : Grammar) (limit : ℕ) (told : Result X E) (same : Type 0) (status : ℕ)
     (old_out new_out old new : Option (List ℕ)) → AreRun form grammar rules → IsOutcome rules rule text format limit o
-    → EndsAs o same status told old_out new_out old new → status ≡ 0 → NotesEnd form grammar rule text format same told old new
+    → EndsAs o same status told old_out new_out old new → status ≡ 0 → NotesEnd form grammar rule text format limit same told old new
 notes (is.Shown lines note) grammar rule text format form rules limit told same status old_out new_out old new a i e zero =
-    let m = matched form grammar rule text format rules (string_bytes lines) (option_map string_bytes note) a i in
-    record { rules = m.rules; matched = m.matched; lines = string_bytes lines; note = option_map string_bytes note; shows = m.shows; line = e.2 zero }
+    record { rules = rules; are = a; note = option_map string_bytes note; noted = i.1; line = e.2 zero }
 notes (is.Failed report) grammar rule text format form rules limit told same status old_out new_out old new a i e zero = absurd (apart status 0 1 zero e.0 (omega arith))
 notes (is.NoRule said) grammar rule text format form rules limit told same status old_out new_out old new a i e zero = absurd (apart status 0 1 zero e.0 (omega arith))
 notes (is.OutOfSteps said) grammar rule text format form rules limit told same status old_out new_out old new a i e zero = absurd (apart status 0 5 zero e.0 (omega arith))

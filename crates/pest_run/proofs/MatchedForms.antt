@@ -14,7 +14,7 @@ module _ {X E : Type 0} (grammar rule text : List ℕ) (limit : ℕ) (same : Typ
       → TellsForms grammar rule text same written old new
   tells (is.Shown lines _) i noted silent =
       let matched : IsMatchedBy form_is.Optimized grammar rule text =
-      record { rules = i.rules; matched = i.are; end_ = i.comes.end_; trees = i.comes.trees; matches = i.comes.matches } in
+      record { rules = i.rules; matched = i.are; end_ = i.comes.0.end_; trees = i.comes.0.trees; matches = i.comes.0.matches } in
       inr (matched, noted refl)
   tells (is.Failed report) i noted silent = inl (silent refl)
   tells (is.NoRule message) i noted silent = inl (silent refl)

@@ -1,10 +1,10 @@
 -- Messages about a rule, a text and files.
-use Rattle.std.specs.Prelude.{ℕ, ◌==◌, ◌||◌, not, Bool, List, [], ◌++◌, bytes_eq, codes, length, take}
+use Rattle.std.specs.Prelude.{ℕ, ◌==◌, ◌||◌, not, Bool, List, [], ◌++◌, bytes_eq, codes, if◌then◌else◌, length, nat_le, take}
 use Rattle.std.specs.Fmt.{decimal}
 use Rattle.meta_base.specs.Language.Expression.{Grammar}
 use Rattle.meta_base.specs.Language.Text.{Text}
 use Rattle.meta_base.specs.Pieces.LineColumn.{line_column}
-use Rattle.matcher_support.specs.Expectations.{list_text}
+use Rattle.matcher_support.specs.Expectations.{failure_message, list_text}
 use Rattle.tool_support.specs.Escapes.{escaped_bytes}
 use Rattle.pest_run.specs.RuleNames.{near_names}
 
@@ -36,9 +36,17 @@ abbrev pub note_between : ℕ × ℕ → ℕ × ℕ → List ℕ
 note_between end_ last =
     codes "note: matched up to " ++ place_text end_ ++ codes ", the text ends at " ++ place_text last
 
--- that a match ends at a byte position of a text
-abbrev pub end_text : List ℕ → ℕ → List ℕ
-end_text text end_ = note_between (line_column text end_) (line_column text (length text))
+-- that these names are expected at a position, if there are any
+abbrev pub expected_text : ℕ × ℕ → List Text → List ℕ
+expected_text place [] = []
+expected_text place names = codes "; " ++ failure_message names ++ codes " at " ++ place_text place
+
+-- that a match ends at a byte position of a text; and, if its furthest failure is no earlier, the names that
+-- are expected there
+abbrev pub end_text : List ℕ → (end_ place : ℕ) → List Text → List ℕ
+end_text text end_ place names =
+    note_between (line_column text end_) (line_column text (length text))
+    ++ (if nat_le end_ place then expected_text (line_column text place) names else [])
 
 -- that the optimized rules match
 abbrev pub optimized_text : List ℕ

@@ -1,5 +1,5 @@
 -- The outcome of a rule on a text.
-use Rattle.std.specs.Prelude.{◌≡◌, ◌<◌, ℕ, List, ◌++◌, Option, Some, None, codes, drop, if◌then◌else◌, option_map, string_bytes, ⊤}
+use Rattle.std.specs.Prelude.{◌≡◌, ◌<◌, ◌⊎◌, ◌&&◌, ℕ, List, [], ◌++◌, Option, Some, None, Bool, false, codes, drop, if◌then◌else◌, length, nat_le, option_map, string_bytes, ⊤}
 use Rattle.std.specs.Str.{chars}
 use Rattle.meta_base.specs.Language.Expression.{Grammar, Ident, rule_of}
 use Rattle.meta_base.specs.Language.Expected.{expected}
@@ -26,6 +26,7 @@ use Rattle.matcher_support.specs.Values.{answer_data}
 use Rattle.tool_support.specs.Escapes.{escaped_lines}
 use Rattle.pest_run.specs.Json.{escaped_json}
 use Rattle.pest_run.specs.Messages.{end_text, is_more, no_rule_text, steps_text}
+use Rattle.pest_run.specs.Steps.{note_limit}
 use Rattle.pest_run.specs.declared.arguments.Format.{Format}
 use Rattle.pest_run.specs.declared.arguments.Format.TheVariants as format_is
 use Rattle.pest_run.specs.declared.outcomes.Outcome.{Outcome}
@@ -39,21 +40,40 @@ trees_text format_is.Lines text end_ trees = lines_of 0 trees
 trees_text format_is.Json text end_ trees =
     escaped_json (compact_text (answer_data text end_ trees)) ++ codes "\n"
 
--- the note on a match that ends at a position: as text, where more than a line's end of the text is left
-abbrev pub end_note : Format → List ℕ → ℕ → Option (List ℕ)
-end_note format_is.Text text end_ = if is_more (drop end_ text) then Some (end_text text end_) else None
-end_note format_is.Json text end_ = None
-end_note format_is.Lines text end_ = None
+-- the note on a match that ends at a position, and has its furthest failure at another, where these names
+-- are expected: as text, where more than a line's end of the text is left
+abbrev pub end_note : Format → List ℕ → (end_ place : ℕ) → List Text → Option (List ℕ)
+end_note format_is.Text text end_ place names =
+    if is_more (drop end_ text) then Some (end_text text end_ place names) else None
+end_note format_is.Json text end_ place names = None
+end_note format_is.Lines text end_ place names = None
 
--- the rule, called at the start of the text, succeeds, the lines show its trees, and the note, if there is
--- one, where it ends
-pub record IsShown (g : Grammar) (rule text : List ℕ) (format : Format) (lines : List ℕ)
-    (note : Option (List ℕ)) : Type 0 where
+-- whether the note tells what is expected: as text, where more than a line's end is left, and the furthest
+-- failure is no earlier than the end
+abbrev pub tells_expected : Format → List ℕ → (end_ place : ℕ) → Bool
+tells_expected format_is.Text text end_ place = nat_le end_ place && is_more (drop end_ text)
+tells_expected format_is.Json text end_ place = false
+tells_expected format_is.Lines text end_ place = false
+
+-- the rule, called at the start of the text, succeeds, and the lines show its trees
+pub record IsShown (g : Grammar) (rule text : List ℕ) (format : Format) (lines : List ℕ) : Type 0 where
   pub end_ : State
   pub trees : Trees
   pub matches : Has g (chars rule) text is_in_property (Success end_ trees)
   pub lines_show : lines ≡ trees_text format text end_.position trees
-  pub note_tells : note ≡ end_note format text end_.position
+
+-- the rule, called at the start of the text, succeeds, and the note, if there is one, tells where it ends,
+-- and what is expected at its furthest failure; or, where the matcher may take more steps than the limit
+-- of a note, where it ends
+pub record IsNoted (g : Grammar) (rule text : List ℕ) (format : Format) (limit : ℕ)
+    (note : Option (List ℕ)) : Type 0 where
+  pub end_ : State
+  pub trees : Trees
+  pub matches : Has g (chars rule) text is_in_property (Success end_ trees)
+  pub tells :
+      (note ≡ end_note format text end_.position (furthest matches) (each_once (expected matches)))
+      ⊎ ((note_limit limit (length text) < most_steps matches)
+      × (note ≡ end_note format text end_.position (furthest matches) []))
 
 -- the text of an error at a position of a text, where these names are expected, with escapes of hidden
 -- characters
@@ -109,13 +129,14 @@ IsFailureReport text place names (is.Failed report) = string_bytes report ≡ fa
 IsFailureReport text place names is.Memory = ⊤
 IsFailureReport text place names _ = ⊥
 
--- the outcome shows the trees of a match that ends at a position, or reports an allocation failure
-abbrev pub IsMatchReport : List ℕ → Format → ℕ → Trees → Outcome → Type 0
-IsMatchReport text format end_ trees (is.Shown lines note) =
+-- the outcome shows the trees of a match that ends at a position, and has its furthest failure at another,
+-- where these names are expected; or it reports an allocation failure
+abbrev pub IsMatchReport : List ℕ → Format → (end_ place : ℕ) → List Text → Trees → Outcome → Type 0
+IsMatchReport text format end_ place names trees (is.Shown lines note) =
     (string_bytes lines ≡ trees_text format text end_ trees)
-    × (option_map string_bytes note ≡ end_note format text end_)
-IsMatchReport text format end_ trees is.Memory = ⊤
-IsMatchReport text format end_ trees _ = ⊥
+    × (option_map string_bytes note ≡ end_note format text end_ place names)
+IsMatchReport text format end_ place names trees is.Memory = ⊤
+IsMatchReport text format end_ place names trees _ = ⊥
 
 -- the outcome says that no rule has the name, or reports an allocation failure
 abbrev pub IsNoRuleReport : Grammar → List ℕ → Outcome → Type 0
@@ -127,7 +148,8 @@ IsNoRuleReport g rule _ = ⊥
 -- not constrained
 abbrev pub IsOutcome : Grammar → List ℕ → List ℕ → Format → ℕ → Outcome → Type 0
 IsOutcome g rule text format limit (is.Shown lines note) =
-    IsShown g rule text format (string_bytes lines) (option_map string_bytes note)
+    IsShown g rule text format (string_bytes lines)
+    × IsNoted g rule text format limit (option_map string_bytes note)
 IsOutcome g rule text format limit (is.Failed report) = HasFailed g rule text (string_bytes report)
 IsOutcome g rule text format limit (is.NoRule message) =
     HasNoRule g rule × (string_bytes message ≡ no_rule_text g rule)

@@ -12,7 +12,7 @@ use Rattle.pest_meta.specs.Spelling.{IsAnswer, IsRefusedWith}
 use Rattle.pest_meta.specs.Written.{IsWritten, SpellsAccepted}
 use Rattle.tool_support.specs.Escapes.{escaped_lines}
 use Rattle.pest_run.specs.Messages.{no_rule_text, steps_text, unread_text}
-use Rattle.pest_run.specs.Outcomes.{CallsUnknownName, HasFailed, HasNoOutcome, HasNoRule, HasWrongBound, IsShown, TakesTooManySteps}
+use Rattle.pest_run.specs.Outcomes.{CallsUnknownName, HasFailed, HasNoOutcome, HasNoRule, HasWrongBound, IsNoted, IsShown, TakesTooManySteps}
 use Rattle.pest_run.specs.declared.arguments.Format.{Format}
 use Rattle.pest_run.specs.declared.arguments.RuleForm.{RuleForm}
 use Rattle.pest_run.specs.declared.arguments.RuleForm.TheVariants as form_is
@@ -58,8 +58,8 @@ pub record AreAnswered (grammar : List ℕ) (rules : Grammar) : Type 0 where
   pub answers : IsAnswer grammar builtins answer
   pub same : rules ≡ optimized_rules_of answer
 
--- the rules by which a text is matched: those that the grammar's text spells, or those that the optimizer
--- returns for it
+-- a text is matched by the rules that the grammar's text spells, or by those that the optimizer returns for
+-- it
 abbrev pub AreMatched : RuleForm → List ℕ → Grammar → Type 0
 AreMatched form_is.Written grammar rules = SpellsAccepted grammar rules
 AreMatched form_is.Optimized grammar rules = AreAnswered grammar rules
@@ -75,8 +75,7 @@ pub record PrintsTrees (form : RuleForm) (grammar rule text : List ℕ) (format 
   pub rules : Grammar
   pub matched : AreMatched form grammar rules
   pub lines : List ℕ
-  pub note : Option (List ℕ)
-  pub shows : IsShown rules rule text format lines note
+  pub shows : IsShown rules rule text format lines
   pub gained : Appends old new lines
 
 -- a note is a line; where there is none, the writer is the same
@@ -87,12 +86,11 @@ WritesNote (Some note) same written old new = WritesLine note written old new
 
 -- the rule of the grammar matches the text, and the note on its end was written
 pub record NotesEnd {X E : Type 0} (form : RuleForm) (grammar rule text : List ℕ) (format : Format)
-    (same : Type 0) (written : Result X E) (old new : Option (List ℕ)) : Type 0 where
+    (limit : ℕ) (same : Type 0) (written : Result X E) (old new : Option (List ℕ)) : Type 0 where
   pub rules : Grammar
-  pub matched : AreMatched form grammar rules
-  pub lines : List ℕ
+  pub are : AreRun form grammar rules
   pub note : Option (List ℕ)
-  pub shows : IsShown rules rule text format lines note
+  pub noted : IsNoted rules rule text format limit note
   pub line : WritesNote note same written old new
 
 -- the reason why there are no trees, and its text: the grammar is refused, and its report is the text; or

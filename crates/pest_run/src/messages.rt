@@ -1,12 +1,12 @@
 //! Messages without hidden characters.
-ghost use Rattle.std.specs.Prelude.{◌≡◌, IfOk, string_bytes};
+ghost use Rattle.std.specs.Prelude.{◌≡◌, ◌++◌, IfOk, OnOk, string_bytes};
 ghost use Rattle.std.specs.Str.{IsCharBoundary};
 ghost use Rattle.meta_matcher.specs.ExpectedNames.{name_texts};
 ghost use Rattle.meta_ast.specs.Optimized.{optimized_rules_of};
-ghost use Rattle.pest_run.specs.Messages.{end_text, is_more, no_rule_text, note_between, place_text, steps_text, suggestion, unread_text};
+ghost use Rattle.pest_run.specs.Messages.{end_text, expected_text, is_more, no_rule_text, note_between, place_text, steps_text, suggestion, unread_text};
 
 use crate::rule_names::near_names;
-use matcher_support::expectations::add_names;
+use matcher_support::expectations::{add_names, failure_message};
 use meta_ast::optimized::OptimizedRule;
 use meta_base::runtime::Position;
 use std::alloc::{AllocError, Global};
@@ -76,19 +76,55 @@ pub fn is_more(rest: &str) -> bool
     !(rest.is_empty() || rest == "\n" || rest == "\r\n")
 }
 
-/// Returns the note that a match ends at a byte position between two characters, and where the text ends. The
-/// only error is an allocation failure.
-pub fn end_message(alloc: Global, text: &str, end: usize) -> Result<String, AllocError>
-    requires { IsCharBoundary text.now end }
-    ensures { IfOk result (λ note. string_bytes note ≡ end_text text.now end) }
+/// Returns the note that a match ends at a byte position, and where the text ends; and, if the furthest
+/// failure, at another byte position, is no earlier, the names that are expected there. Both positions are
+/// between two characters. The only error is an allocation failure.
+pub fn end_message(
+    alloc: Global,
+    text: &str,
+    end: usize,
+    place: usize,
+    names: &[&str],
+) -> Result<String, AllocError>
+    requires end { IsCharBoundary text.now end }
+    requires place { IsCharBoundary text.now place }
+    ensures { IfOk result (λ note. string_bytes note ≡ end_text text.now end place (name_texts names.now)) }
 {
-    let Some(end) = Position::new(text, end) else {
+    let Some(ended) = Position::new(text, end) else {
         unreachable!()
     };
     let Some(last) = Position::new(text, text.len()) else {
         unreachable!()
     };
-    note_between(alloc, end.line_col(), last.line_col())
+    let Some(failed) = Position::new(text, place) else {
+        unreachable!()
+    };
+    let mut note = note_between(alloc, ended.line_col(), last.line_col())?;
+    if end <= place {
+        add_expected(alloc, &mut note, failed.line_col(), names)?;
+    }
+    Ok(note)
+}
+
+/// Adds to a note the names that are expected at a position, if there are any.
+fn add_expected(
+    alloc: Global,
+    note: &mut String,
+    place: (usize, usize),
+    names: &[&str],
+) -> Result<(), AllocError>
+    ensures { OnOk result (string_bytes note.new
+        ≡ string_bytes note.old ++ expected_text place (name_texts names.now)) }
+{
+    if names.is_empty() {
+        return Ok(());
+    }
+    let message = failure_message(alloc, names)?;
+    let shown = show_place(alloc, place)?;
+    note.push_str("; ")?;
+    note.push_str(message.as_str())?;
+    note.push_str(" at ")?;
+    note.push_str(shown.as_str())
 }
 
 /// Returns the note that a match ends at the first of two positions, and its text at the second. The only

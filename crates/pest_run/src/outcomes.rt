@@ -1,15 +1,18 @@
 //! The outcome of a rule on a text.
-ghost use Rattle.std.specs.Prelude.{◌≡◌, IfOk, option_map, string_bytes};
+ghost use Rattle.std.specs.Prelude.{◌≡◌, IfErr, IfOk, chars, length, option_map, string_bytes, true};
 ghost use Rattle.meta_ast.specs.Optimized.{optimized_rules_of};
 ghost use Rattle.meta_base.specs.Language.State.{Trees};
 ghost use Rattle.meta_base.specs.Pieces.Span.{position_offset, position_text};
+ghost use Rattle.matcher_engine.specs.Matchers.{grammar_in, properties_in};
+ghost use Rattle.meta_matcher.specs.Answers.{AreExpectedAt, IsUnanswered};
 ghost use Rattle.meta_matcher.specs.ExpectedNames.{name_texts};
 ghost use Rattle.meta_matcher.specs.Written.{seen};
 ghost use Rattle.meta_syntax.specs.Entries.{entries_of};
 ghost use Rattle.std.specs.Str.{IsCharBoundary};
 ghost use Rattle.matcher_support.specs.Shown.{shown};
 ghost use Rattle.tool_support.specs.Escapes.{escaped_lines};
-ghost use Rattle.pest_run.specs.Outcomes.{IsFailureReport, IsMatchReport, IsNoRuleReport, IsOutcome, IsStopReport, end_note, failure_text, trees_text, unfit_outcome};
+ghost use Rattle.pest_run.specs.Steps.{note_limit};
+ghost use Rattle.pest_run.specs.Outcomes.{IsFailureReport, IsMatchReport, IsNoRuleReport, IsOutcome, IsStopReport, end_note, failure_text, tells_expected, trees_text, unfit_outcome};
 
 use crate::arguments::Format;
 use crate::json::escape_json;
@@ -67,7 +70,16 @@ pub fn outcome_of(
         Err(unfit) => return unfit_outcome(unfit),
     };
     match matcher.parse(alloc, rule, text, steps) {
-        Ok(found) => shown_outcome(alloc, text, &found, format),
+        Ok(found) => match names_after(alloc, &matcher, rule, text, &found, format, steps) {
+            Ok(names) => shown_outcome(alloc, text, &found, &names, format),
+            Err(Refusal::UnknownRule(_)) => no_rule_outcome(alloc, rules, rule),
+            Err(Refusal::NoMatch(_)) => unreachable!(),
+            Err(Refusal::Stopped(Stop::OutOfSteps)) => {
+                shown_outcome(alloc, text, &found, &[], format)
+            }
+            Err(Refusal::Stopped(Stop::EmptyStack)) => Outcome::EmptyStack,
+            Err(Refusal::Stopped(Stop::Memory)) => Outcome::Memory,
+        },
         Err(Refusal::UnknownRule(_)) => no_rule_outcome(alloc, rules, rule),
         Err(Refusal::NoMatch(place)) => {
             match matcher.expected_at(alloc, rule, text, place, steps) {
@@ -81,14 +93,69 @@ pub fn outcome_of(
     }
 }
 
-/// Returns the outcome of a rule that matches a text, up to a byte position between two characters.
-fn shown_outcome(alloc: Global, text: &str, found: &Found<'_>, format: Format) -> Outcome
+/// The steps that each byte of a text is allowed while the names of a note are looked for.
+const NOTE_STEPS_PER_BYTE: u64 = 200;
+
+/// The bytes by which every text counts for longer then.
+const NOTE_MORE_BYTES: u64 = 5_000;
+
+/// Returns the greatest number of steps in which the names of a note are looked for, by that of a match and
+/// the length of the text in bytes.
+fn note_limit(steps: u64, length: usize) -> u64
+    ensures { result ≡ note_limit steps length }
+{
+    (length as u64)
+        .saturating_add(NOTE_MORE_BYTES)
+        .saturating_mul(NOTE_STEPS_PER_BYTE)
+        .min(steps)
+}
+
+/// Returns the names that are expected at the furthest failure of a match, if the note on its end tells them;
+/// for them the text is read again, in `note_limit` steps at most. Errors are those of
+/// `Matcher::expected_at`.
+fn names_after<'a>(
+    alloc: Global,
+    matcher: &'a Matcher,
+    rule: &'a str,
+    text: &'a str,
+    found: &Found<'_>,
+    format: Format,
+    steps: u64,
+) -> Result<Vec<&'a str>, Refusal<'a>>
     requires { IsCharBoundary text.now found.now.end }
+    ensures expected { IfOk result (λ names.
+        tells_expected format text.entry.now found.now.end found.now.furthest ≡ true
+        → AreExpectedAt (grammar_in matcher.entry.now) (properties_in matcher.entry.now)
+        (chars rule.entry.now) text.entry.now found.now.furthest names.items) }
+    ensures refused { IfErr result (IsUnanswered (grammar_in matcher.entry.now)
+        (properties_in matcher.entry.now) (chars rule.entry.now) text.entry.now
+        (note_limit steps (length text.entry.now))) }
+{
+    match format {
+        Format::Text if found.furthest >= found.end && is_more(&text[found.end..]) => {
+            let most = note_limit(steps, text.len());
+            matcher.expected_at(alloc, rule, text, found.furthest, most)
+        }
+        _ => Ok(Vec::new(alloc)),
+    }
+}
+
+/// Returns the outcome of a rule that matches a text, up to a byte position between two characters, where
+/// these names are expected at the furthest failure.
+fn shown_outcome(
+    alloc: Global,
+    text: &str,
+    found: &Found<'_>,
+    names: &[&str],
+    format: Format,
+) -> Outcome
+    requires end { IsCharBoundary text.now found.now.end }
+    requires place { IsCharBoundary text.now found.now.furthest }
     ensures { (trees : Trees) → seen found.now.entries.items ≡ entries_of 0 trees
-        → IsMatchReport text.now format found.now.end trees result }
+        → IsMatchReport text.now format found.now.end found.now.furthest (name_texts names.now) trees result }
 {
     match lines_of(alloc, text, found, format) {
-        Ok(lines) => match note_of(alloc, text, found.end, format) {
+        Ok(lines) => match note_of(alloc, text, found, names, format) {
             Ok(note) => Outcome::Shown { lines, note },
             Err(_) => Outcome::Memory,
         },
@@ -101,26 +168,37 @@ fn shown_outcome(alloc: Global, text: &str, found: &Found<'_>, format: Format) -
 fn note_of(
     alloc: Global,
     text: &str,
-    end: usize,
+    found: &Found<'_>,
+    names: &[&str],
     format: Format,
 ) -> Result<Option<String>, AllocError>
-    requires { IsCharBoundary text.now end }
-    ensures { IfOk result (λ note. option_map string_bytes note ≡ end_note format text.now end) }
+    requires end { IsCharBoundary text.now found.now.end }
+    requires place { IsCharBoundary text.now found.now.furthest }
+    ensures { IfOk result (λ note. option_map string_bytes note
+        ≡ end_note format text.now found.now.end found.now.furthest (name_texts names.now)) }
 {
     match format {
-        Format::Text => text_note(alloc, text, end),
+        Format::Text => text_note(alloc, text, found.end, found.furthest, names),
         Format::Json | Format::Lines => Ok(None),
     }
 }
 
 /// Returns the note on a match that ends before its text, if more than a line's end is left. The only error
 /// is an allocation failure.
-fn text_note(alloc: Global, text: &str, end: usize) -> Result<Option<String>, AllocError>
-    requires { IsCharBoundary text.now end }
-    ensures { IfOk result (λ note. option_map string_bytes note ≡ end_note Format.Text text.now end) }
+fn text_note(
+    alloc: Global,
+    text: &str,
+    end: usize,
+    place: usize,
+    names: &[&str],
+) -> Result<Option<String>, AllocError>
+    requires end { IsCharBoundary text.now end }
+    requires place { IsCharBoundary text.now place }
+    ensures { IfOk result (λ note. option_map string_bytes note
+        ≡ end_note Format.Text text.now end place (name_texts names.now)) }
 {
     if is_more(&text[end..]) {
-        Ok(Some(end_message(alloc, text, end)?))
+        Ok(Some(end_message(alloc, text, end, place, names)?))
     } else {
         Ok(None)
     }

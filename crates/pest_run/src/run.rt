@@ -41,7 +41,8 @@ pub fn run_files<W: Write, E: Write>(
     ensures refused_write { result.status ≡ 4 → out.new.refused ≡ true }
     ensures noted { result.status ≡ 0
         → NotesEnd request.entry.form grammar.now.bytes.items request.entry.rule.now
-        text.now.bytes.items request.entry.format (err.new ≡ err.old) result.write_result
+        text.now.bytes.items request.entry.format
+        (step_limit request.entry.steps (length text.now.bytes.items)) (err.new ≡ err.old) result.write_result
         (E.contents err.old.writer) (E.contents err.new.writer) }
     ensures reason { result.status ≡ 1
         → ReportsReason request.entry.form grammar.now.bytes.items request.entry.rule.now text.now.bytes.items
@@ -73,7 +74,8 @@ pub fn run_files<W: Write, E: Write>(
 }
 
 /// Matches a text by the requested rule of a grammar, and prints the trees to `out` (0). As text, a note on
-/// `err` says where the match ends, if more than a line's end of the text is left.
+/// `err` says where the match ends, if more than a line's end of the text is left, and what is expected at
+/// the furthest failure, if that is no earlier.
 ///
 /// Otherwise one text with a line break at its end goes to `err`: the report of a grammar that is refused,
 /// that the grammar has no such rule, or the furthest position at which the rule fails with the expected set
@@ -96,7 +98,7 @@ pub fn run<W: Write, E: Write>(
     ensures refused_write { result.status ≡ 4 → out.new.refused ≡ true }
     ensures noted { result.status ≡ 0
         → NotesEnd request.entry.form grammar.now request.entry.rule.now text.now request.entry.format
-        (err.new ≡ err.old) result.write_result
+        (step_limit request.entry.steps (length text.now)) (err.new ≡ err.old) result.write_result
         (E.contents err.old.writer) (E.contents err.new.writer) }
     ensures reason { result.status ≡ 1
         → ReportsReason request.entry.form grammar.now request.entry.rule.now text.now result.write_result

@@ -1,4 +1,4 @@
-//! What a reader says of a text.
+//! Answers of the reader on a text.
 ghost use Rattle.std.specs.Prelude.{IfOk, MatchResult, alloc_error, string_bytes, ◌≡◌};
 ghost use Rattle.meta_reader.specs.ShownNames.{shown_name};
 ghost use Rattle.meta_syntax.specs.ExpectedRules.{AreExpected, ExpectsNothing};

@@ -39,8 +39,7 @@ pub fn match_text<'a>(
 ) -> Result<Found<'a>, Refusal<'a>>
     requires sound { IsSoundMatcher matcher.now }
     ensures matched { IfOk result (λ found. IsMatched (grammar_of matcher.entry.now.program.rows.items)
-        matcher.entry.now.program.properties.items (chars rule.entry.now) text.entry.now
-        found.end found.entries.items) }
+        matcher.entry.now.program.properties.items (chars rule.entry.now) text.entry.now found) }
     ensures refused { IfErr result (IsRefused (grammar_of matcher.entry.now.program.rows.items)
         matcher.entry.now.program.properties.items (chars rule.entry.now) text.entry.now steps) }
 {

@@ -1,12 +1,13 @@
-use Rattle.std.proofs.Common.{◌≡◌, arith, false}
-use Rattle.std.proofs.lemmas.Grind.{common_steps}
-use Rattle.matcher_compiler.proofs.Shortening.{unstopped}
+use Rattle.matcher_sets.specs.Forms.{said}
+use Rattle.matcher_compiler.proofs.Shortening.{missing, unstopped}
 use Rattle.matcher_compiler.proofs.shortcuts.unstopped_ranges.Goals as goal
 
-pub returns : goal.returns
-returns c =
-    let head = c.in-Some.head in
-    let q : head.empty ≡ false = grind (arith, common_steps) in
-    let n : head.noted ≡ false = grind (arith, common_steps) in
-    unstopped c.args.program.now c.args.mode c.args.stop.now c.args.form.now head c.in-Some-made.ranges.items _ c.requires.tight
-    (rw c.in-Some.is at c.in_ok-known.ensures) q n (rw c.in-Some-made.is at c.in_ok-made.ensures) c.in_ok-rest.ensures
+pub returns-in-Some-clause-refused : goal.returns-in-Some-clause-refused
+returns-in-Some-clause-refused c =
+    unstopped c.args.program.now c.args.mode (said c.args.program.now c.args.stop.now) c.args.form.now c.in-Some.ranges.items c.outside_head.result c.outside_head.ensures
+    c.requires.tight (rw c.in-Some.is at c.in_ok-made.ensures)
+
+pub returns-in-Some-clause-missing : goal.returns-in-Some-clause-missing
+returns-in-Some-clause-missing c =
+    missing c.args.program.now c.args.mode (said c.args.program.now c.args.stop.now) c.args.form.now c.in-Some.ranges.items c.outside_head.result c.outside_head.ensures
+    c.requires.tight (rw c.in-Some.is at c.in_ok-made.ensures)

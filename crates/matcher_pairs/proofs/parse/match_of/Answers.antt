@@ -1,23 +1,47 @@
 use Rattle.std.proofs.Common.{◌≡◌, ◌∙◌, ap, subst, sym}
-use Rattle.std.specs.Prelude.{chars}
+use Rattle.std.specs.Prelude.{IsUtf8, chars}
+use Rattle.meta_base.specs.Language.Places.{IsStateIn}
+use Rattle.meta_base.specs.Pieces.Span.{position_text}
+use Rattle.meta_base.specs.Language.FurthestFailure.{furthest}
 use Rattle.meta_base.specs.Language.State.{Success}
+use Rattle.meta_base.specs.Pieces.Pairs.{pairs_trees}
 use Rattle.meta_base.specs.Pieces.TreeViews.{trees_of}
-use Rattle.meta_matcher.specs.Answers.{Has}
+use Rattle.meta_matcher.specs.Answers.{HasAt, state_at}
 use Rattle.meta_matcher.specs.Written.{seen}
 use Rattle.matcher_engine.specs.Matchers.{grammar_in, properties_in}
 use Rattle.meta_matcher.specs.Endings.{classes_in}
 use Rattle.matcher_engine.proofs.Sound.{fits_in}
 use Rattle.matcher_pairs.specs.Trees.{by_name}
-use Rattle.matcher_pairs.proofs.Nesting.{nested_in_text}
+use Rattle.matcher_pairs.proofs.Nesting.{nested_in_text, stands_in}
 use Rattle.matcher_pairs.proofs.parse.match_of.Goals as goal
 
 pub new-requires : goal.new-requires
 new-requires c =
     let g = grammar_in c.args.matcher.now in
     let n = chars c.args.rule.now in
-    let text = c.args.text.now in
+    let text = c.whole_text.result.now in
+    let s = state_at c.args.start in
+    let e : text ≡ position_text c.args.start = c.whole_text.ensures in
+    let u : IsUtf8 (position_text c.args.start) = rw e at c.whole_text.utf8 in
+    let stands = subst (λ t. IsStateIn (chars t) (state_at c.args.start)) (sym e) (stands_in c.args.start u c.args.start.at_character) in
     let classes = classes_in (properties_in c.args.matcher.now) in
     let x = c.requires.found classes (fits_in c.args.matcher.now) in
     let trees = trees_of c.in_ok-trees.trees.items in
     let same : by_name trees ≡ c.requires.trees = c.in_ok-trees.ensures c.requires.trees (ap seen c.deref.ensures.value ∙ c.requires.entries) in
-    record { nested = nested_in_text text c.utf8.text g classes n trees x.0 (subst (λ us. Has g n text classes (Success x.0 us)) (sym same) x.2) }
+    record { nested = nested_in_text text c.whole_text.utf8 g classes n trees x.0 s stands (subst (λ us. HasAt g n s classes (Success x.0 us)) (sym same) x.2) }
+
+pub returns : goal.returns
+returns c =
+    let g = grammar_in c.args.matcher.now in
+    let n = chars c.args.rule.now in
+    let s = state_at c.args.start in
+    let trees = trees_of c.in_ok-trees.trees.items in
+    let same : by_name trees ≡ c.requires.trees = c.in_ok-trees.ensures c.requires.trees (ap seen c.deref.ensures.value ∙ c.requires.entries) in
+    let p : c.requires.trees ≡ by_name (pairs_trees c.new.result) = sym same ∙ ap by_name (sym c.new.ensures.trees) in
+    record {
+      text_is = c.new.ensures.text ∙ c.whole_text.ensures;
+      found = λ classes fits.
+          let x = c.requires.found classes fits in
+          let d = subst (λ us. (d : HasAt g n s classes (Success x.0 us)) × (c.args.found.furthest ≡ furthest d)) p (x.2, x.3) in
+          (x.0, x.1, d.0, d.1);
+    }

@@ -5,7 +5,7 @@ use Rattle.meta_differences.proofs.comparer.end_of.Goals as goal
 
 pub returns-in-Ok : goal.returns-in-Ok
 returns-in-Ok c =
-    of_match (matcher_grammar c.args.matcher.now) c.args.matcher.now.program.properties.items (chars c.args.rule.now) c.args.text.now c.in-Ok.found.end c.in-Ok.found.entries.items c.requires.fits c.in-Ok.ensures.matched
+    of_match (matcher_grammar c.args.matcher.now) c.args.matcher.now.program.properties.items (chars c.args.rule.now) c.args.text.now c.in-Ok.found c.requires.fits c.in-Ok.ensures.matched
 
 pub returns-in-Err-NoMatch : goal.returns-in-Err-NoMatch
 returns-in-Err-NoMatch c =

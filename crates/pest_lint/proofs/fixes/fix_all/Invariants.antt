@@ -1,4 +1,4 @@
-use Rattle.std.proofs.Common.{◌≡◌, drop, length, take}
+use Rattle.std.proofs.Common.{◌≡◌, drop, take}
 use Rattle.std.specs.List.{AllZip}
 use Rattle.pest_lint.specs.Fixing.{IsKept}
 use Rattle.pest_lint.proofs.fixes.fix_all.Given as goal

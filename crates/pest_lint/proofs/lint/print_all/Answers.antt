@@ -1,4 +1,4 @@
-use Rattle.std.proofs.Common.{◌≡◌, ◌∙◌, ℕ, List, [], ◌∷◌, string_bytes, subst}
+use Rattle.std.proofs.Common.{◌∙◌, ℕ, List, [], ◌∷◌, string_bytes, subst}
 use Rattle.std.specs.Io.KnownBytes.{Appends}
 use Rattle.pest_lint.proofs.Printing.{both_gains, no_gain, zip_end, zip_next}
 use Rattle.pest_lint.proofs.lint.print_all.Goals as goal

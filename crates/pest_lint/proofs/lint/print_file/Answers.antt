@@ -1,5 +1,4 @@
-use Rattle.std.proofs.Common.{refl, ℕ, List, subst}
-use Rattle.pest_meta.specs.Spelling.{HasAnswer}
+use Rattle.std.proofs.Common.{refl}
 use Rattle.pest_lint.specs.Shows.{asked_of}
 use Rattle.pest_lint.proofs.Printing.{shown_text, shown_unread}
 use Rattle.pest_lint.proofs.lint.print_file.Goals as goal

@@ -1,4 +1,4 @@
-use Rattle.std.proofs.Common.{◌≡◌, ◌≤◌, ◌∙◌, [], ◌∷◌, max, arith}
+use Rattle.std.proofs.Common.{◌≡◌, ◌∙◌, [], ◌∷◌, arith}
 use Rattle.pest_lint.specs.Shows.{IsClean}
 use Rattle.pest_lint.proofs.Printing.{all_more, all_of, both_gains, no_gain, zip_end, zip_next}
 use Rattle.pest_lint.proofs.lint.print_files.Goals as goal

@@ -1,4 +1,4 @@
-use Rattle.std.proofs.Common.{◌≡◌, ◌∙◌, sym, ap}
+use Rattle.std.proofs.Common.{◌∙◌, sym, ap}
 use Rattle.pest_lint.specs.Shows.{asked_of, status_of}
 use Rattle.pest_lint.proofs.Printing.{no_errors, text_shown}
 use Rattle.pest_lint.proofs.lint.print_text.Goals as goal

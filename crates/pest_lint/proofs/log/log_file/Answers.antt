@@ -1,4 +1,4 @@
-use Rattle.std.proofs.Common.{refl, ◌≡◌, ◌∙◌, ℕ, List, sym, ap, subst}
+use Rattle.std.proofs.Common.{refl, ◌∙◌, ℕ, List, sym, ap, subst}
 use Rattle.pest_lint.specs.Shows.{asked_of, status_of}
 use Rattle.pest_meta.specs.Spelling.{HasAnswer}
 use Rattle.pest_lint.proofs.Logging.{read_logged, unread_logged}

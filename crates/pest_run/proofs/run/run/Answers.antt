@@ -1,7 +1,7 @@
-use Rattle.std.proofs.Common.{ℕ, List, Err, ap, ◌∙◌, subst}
+use Rattle.std.proofs.Common.{◌≡◌, ℕ, List, Err, ap, ◌∙◌, subst}
 use Rattle.meta_ast.specs.Optimized.{optimized_rules_of}
 use Rattle.tool_support.specs.Escapes.{escaped_lines}
-use Rattle.pest_run.specs.Written.{ReportsStop, WritesLine}
+use Rattle.pest_run.specs.Written.{NotesEnd, ReportsStop, WritesLine}
 use Rattle.pest_run.proofs.Ended.{notes, prints, refusal, refusal_is_reason, stops, tells, value}
 use Rattle.pest_run.proofs.run.run.Goals as goal
 
@@ -19,7 +19,12 @@ returns-in-Ok-clause-noted g c =
     let reported = c.unwrap_or_report in
     let answers = value parsed.result reported.result _ _ parsed.ensures.rules reported.ensures.value reported.ensures.report c.in-Ok.is in
     let comes = rw c.deref.ensures.value at c.outcome_of-outcome.ensures in
-    notes c.outcome_of-outcome.result c.args.grammar.now c.args.request.rule.now c.args.text.now c.args.request.format c.args.request.form (optimized_rules_of c.in-Ok.rules.items) _ c.print_outcome.result.write_result _ c.print_outcome.result.status _ _ _ _ answers comes c.print_outcome.ensures.ends
+    let old = g.E.Write.contents c.args.err.now.writer in
+    let new = g.E.Write.contents c.print_outcome.new.err.writer in
+    let same : Type 0 = c.print_outcome.new.err ≡ c.args.err.now in
+    let N : ℕ → Type 0 = λ n. NotesEnd c.args.request.form c.args.grammar.now c.args.request.rule.now c.args.text.now c.args.request.format n same c.print_outcome.result.write_result old new in
+    λ zero. subst N c.step_limit-steps.ensures
+    (notes c.outcome_of-outcome.result c.args.grammar.now c.args.request.rule.now c.args.text.now c.args.request.format c.args.request.form (optimized_rules_of c.in-Ok.rules.items) c.step_limit-steps.result c.print_outcome.result.write_result _ c.print_outcome.result.status _ _ _ _ answers comes c.print_outcome.ensures.ends zero)
 
 pub returns-in-Ok-clause-reason : goal.returns-in-Ok-clause-reason
 returns-in-Ok-clause-reason g c =

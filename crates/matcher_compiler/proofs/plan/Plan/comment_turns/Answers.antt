@@ -1,23 +1,9 @@
-use Rattle.std.proofs.Common.{◌<◌, arith, inl}
-use Rattle.matcher_layout.specs.Laid as lay
-use Rattle.matcher_compiler.proofs.Growing.{later_twice}
-use Rattle.matcher_compiler.proofs.Skipping.{tight_between}
-use Rattle.meta_base.specs.Language.Meaning.{Run}
-use Rattle.meta_base.specs.Language.State.{Between}
+use Rattle.std.proofs.Common.{refl}
 use Rattle.matcher_compiler.specs.Plans.{one_comment}
-use Rattle.matcher_sets.specs.Forms.{grammar_in}
 use Rattle.matcher_compiler.proofs.plan.Plan.comment_turns.Goals as goal
 
 pub returns-clause-later : goal.returns-clause-later
-returns-clause-later c =
-    let p = c.args.program.now in
-    later_twice p _ _ _ (later_twice p _ _ _ (c.in_ok-demand.ensures.later p) (c.in_ok-label.ensures.later p)) (c.in_ok-point.ensures.later p tt)
+returns-clause-later c = c.in_ok-turns_between.ensures.later
 
 pub returns-clause-lays : goal.returns-clause-lays
-returns-clause-lays c = λ classes fits code laid m.
-    let p = c.args.program.now in
-    let m2 = (c.in_ok-point.ensures.later p tt).met code laid m in
-    let m1 = (c.in_ok-label.ensures.later p).met code laid m2 in
-    let up : 0 < c.args.at.next = omega arith in
-    lay.tight_rep c.in_ok-label.label (tight_between (grammar_in p) classes) (c.in_ok-demand.ensures.met p code laid m1) up
-    (inl (c.in_ok-label.ensures.enters p (Run Between one_comment) c.in_ok-head.ensures classes fits code laid m2)) (c.in_ok-point.ensures.has p code laid m)
+returns-clause-lays c = c.in_ok-turns_between.ensures.lays one_comment refl c.in_ok-head.ensures

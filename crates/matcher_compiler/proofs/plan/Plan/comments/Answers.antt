@@ -6,4 +6,4 @@ use Rattle.matcher_compiler.proofs.plan.Plan.comments.Goals as goal
 
 pub no_comments-requires : goal.no_comments-requires
 no_comments-requires c =
-    record { none = subst (IsSkippedRule (grammar_in c.args.program.now) comment) c.in-None.is c.requires.sound.comment_is }
+    record { ready = c.requires.ready; none = subst (IsSkippedRule (grammar_in c.args.program.now) comment) c.in-None.is c.requires.sound.comment_is }

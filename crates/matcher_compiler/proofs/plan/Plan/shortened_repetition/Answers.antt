@@ -16,12 +16,10 @@ returns-clause-lays c = λ classes fits code laid m.
     let m2 = (c.in_ok-operation.ensures.later p).met code laid m3 in
     let m1 = (c.in_ok-set.ensures.later p).met code laid m2 in
     let up : 0 < c.args.at.next = omega arith in
-    let above : 0 < c.args.own = omega arith in
     lay.tight_rep c.args.own (c.requires.tight classes) (c.in_ok-demand.ensures.met p code laid m1) up
     (inr (record {
       set = c.in_ok-set.set;
       ranges = c.args.ranges.items;
-      above = above;
       taken = c.in_ok-operation.ensures.met p code laid m3;
       is = c.in_ok-set.ensures.means p code laid m2;
       takes = c.requires.takes classes fits;

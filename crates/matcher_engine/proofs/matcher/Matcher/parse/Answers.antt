@@ -1,5 +1,18 @@
-use Rattle.matcher_engine.proofs.Sound.{names_in}
+use Rattle.std.proofs.Common.{subst, ◌∙◌, IfErr, IfOk, chars}
+use Rattle.std.proofs.lemmas.Str.{IsCharBoundary-start}
+use Rattle.meta_matcher.specs.Answers.{IsMatchedFrom, IsRefusedFrom}
+use Rattle.matcher_engine.specs.Matchers.{grammar_in, properties_in}
+use Rattle.matcher_engine.proofs.Results.{first_state}
 use Rattle.matcher_engine.proofs.matcher.Matcher.parse.Goals as goal
 
-pub parse-requires : goal.parse-requires
-parse-requires c = record { sound = names_in c.args.self.now }
+pub of-requires-clause-starts_at_character : goal.of-requires-clause-starts_at_character
+of-requires-clause-starts_at_character c = IsCharBoundary-start c.args.text.now c.utf8.text
+
+pub of-requires-clause-ends_at_character : goal.of-requires-clause-ends_at_character
+of-requires-clause-ends_at_character c = IsCharBoundary-start c.args.text.now c.utf8.text
+
+pub returns-clause-matched : goal.returns-clause-matched
+returns-clause-matched c = subst (λ s. IfOk c.parse_from.result (λ found. IsMatchedFrom (grammar_in c.args.self.now) (properties_in c.args.self.now) (chars c.args.rule.now) s found)) (first_state c.start_pos.result c.args.text.now (c.start_pos.ensures.text ∙ c.of.ensures.text) (c.start_pos.ensures.place ∙ c.of.ensures.start)) c.parse_from.ensures.matched
+
+pub returns-clause-refused : goal.returns-clause-refused
+returns-clause-refused c = subst (λ s. IfErr c.parse_from.result (IsRefusedFrom (grammar_in c.args.self.now) (properties_in c.args.self.now) (chars c.args.rule.now) s c.args.steps)) (first_state c.start_pos.result c.args.text.now (c.start_pos.ensures.text ∙ c.of.ensures.text) (c.start_pos.ensures.place ∙ c.of.ensures.start)) c.parse_from.ensures.refused

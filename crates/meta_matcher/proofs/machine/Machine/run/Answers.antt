@@ -1,12 +1,8 @@
 use Rattle.std.proofs.Common.{◌+◌, ◌*◌, arith}
-use Rattle.matcher_program.proofs.TextLemmas.{left_whole}
 use Rattle.meta_matcher.specs.Machines.{round, steps_of}
 use Rattle.meta_matcher.proofs.Whole.{out_at_top, stops_at_top}
 use Rattle.meta_matcher.proofs.Waiting.{on_the_way_sooner, starts_at_top}
 use Rattle.meta_matcher.proofs.machine.Machine.run.Goals as goal
-
-pub call-requires-clause-left : goal.call-requires-clause-left
-call-requires-clause-left c = left_whole c.args.scene.now.text.now
 
 pub call-requires-clause-starts : goal.call-requires-clause-starts
 call-requires-clause-starts c = starts_at_top c.args.scene.now c.args.self.now c.requires.no_frames c.requires.fresh c.requires.no_steps

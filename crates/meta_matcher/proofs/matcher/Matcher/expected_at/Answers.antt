@@ -1,27 +1,15 @@
-use Rattle.std.proofs.Common.{sym, ap}
-use Rattle.meta_matcher.specs.ExpectedNames.{name_texts}
-use Rattle.meta_matcher.proofs.Waiting.{nothing_yet}
-use Rattle.meta_matcher.proofs.Whole.{expected_of_top, stopped_as}
+use Rattle.std.proofs.Common.{subst, IfErr, IfOk, chars}
+use Rattle.matcher_program.specs.Programs.{grammar_of}
+use Rattle.matcher_program.proofs.TextLemmas.{left_whole}
+use Rattle.meta_matcher.specs.Answers.{AreExpectedFrom, IsUnansweredFrom}
+use Rattle.meta_matcher.proofs.Whole.{at_start}
 use Rattle.meta_matcher.proofs.matcher.Matcher.expected_at.Goals as goal
 
-pub run-requires-clause-sound : goal.run-requires-clause-sound
-run-requires-clause-sound c = rw c.in-Some.ensures.known.same_program c.requires.sound
+pub names_from_rest-requires-clause-left : goal.names_from_rest-requires-clause-left
+names_from_rest-requires-clause-left c = left_whole c.args.text.now
 
-pub run-requires-clause-row : goal.run-requires-clause-row
-run-requires-clause-row c = c.in-Some.ensures.known.row
-
-pub run-requires-clause-meant : goal.run-requires-clause-meant
-run-requires-clause-meant c = c.in-Some.ensures.known.meant
-
-pub run-requires-clause-fresh : goal.run-requires-clause-fresh
-run-requires-clause-fresh c = nothing_yet _ c.new-machine.ensures.entries c.new-machine.ensures.stack c.new-machine.ensures.furthest c.new-machine.ensures.told
-
-pub returns-in-Ok-clause-expected : goal.returns-in-Ok-clause-expected
-returns-in-Ok-clause-expected c =
-    let h = c.in-Some.ensures.known in
-    rw (← h.same_program, ← h.same_text, ← h.same_place) (expected_of_top c.in-Some.scene _ _ c.in-Ok.field-0 _ h.named c.in-Ok.ensures.gives (sym (ap (λ v. name_texts v.items) c.into_expected.ensures)))
+pub returns-clause-expected : goal.returns-clause-expected
+returns-clause-expected c = subst (λ s. IfOk c.names_from_rest.result (λ names. AreExpectedFrom (grammar_of c.args.self.now.program.rows.items) c.args.self.now.program.properties.items (chars c.args.rule.now) s c.args.place names.items)) (at_start c.args.text.now) c.names_from_rest.ensures.expected
 
 pub returns-clause-refused : goal.returns-clause-refused
-returns-clause-refused c =
-    let h = c.in-Some.ensures.known in
-    rw (← h.same_program, ← h.same_text) (stopped_as _ _ _ _ c.in-Err.stop _ _ h.named c.in-Err.ensures.stopped)
+returns-clause-refused c = subst (λ s. IfErr c.names_from_rest.result (IsUnansweredFrom (grammar_of c.args.self.now.program.rows.items) c.args.self.now.program.properties.items (chars c.args.rule.now) s c.args.steps)) (at_start c.args.text.now) c.names_from_rest.ensures.refused

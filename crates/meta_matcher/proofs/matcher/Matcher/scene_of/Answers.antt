@@ -10,6 +10,7 @@ returns-clause-known c =
     record {
       same_program = refl;
       same_text = refl;
+      same_start = refl;
       same_place = refl;
       named = m.1;
       row = row_known c.args.self.now.program.rows.items _ _ _ _ _ c.index-row.result.now c.requires.sound h c.index-row.ensures;

@@ -1,4 +1,4 @@
-use Rattle.matcher_compiler.proofs.plan.Plan.enter_any.Goals as goal
+use Rattle.matcher_compiler.proofs.plan.Plan.enter_by_test.Goals as goal
 
 pub returns-in_ok-first-in-Some-clause-later : goal.returns-in_ok-first-in-Some-clause-later
 returns-in_ok-first-in-Some-clause-later c = c.in_ok-first-in-Some.ensures.later c.args.program.now
