@@ -1,10 +1,11 @@
 -- Sets of characters, by rows of flags.
-use Rattle.std.proofs.Common.{◌≡◌, ℕ, ◌+◌, ◌*◌, ◌<◌, ◌≤◌, List, [], ◌∷◌, ◌++◌, Bool, true, false, inl, inr, refl, ap, sym, ◌∙◌, get_or, length, map, nat_lt, chars, arith, if◌then◌else◌}
+use Rattle.std.proofs.Common.{◌≡◌, ℕ, zero, suc, ◌+◌, ◌*◌, ◌<◌, ◌≤◌, ◌&&◌, ◌||◌, List, [], ◌∷◌, ◌++◌, Bool, true, false, inl, inr, refl, ap, sym, ◌∙◌, ◌⊎◌, get_or, length, map, nat_lt, take, chars, arith, if◌then◌else◌}
 use Rattle.std.specs.Prelude.{encode_utf8_all}
 use Rattle.std.proofs.lemmas.Bool.{cases_lt}
 use Rattle.std.proofs.lemmas.List.{get_or-append-add, length-map, map-append}
 use Rattle.std.proofs.Math.Seq.{get_or-append_seam}
 use Rattle.std.proofs.lemmas.Str.{char_from_byte, encodes-chars, len_utf8_ascii, IsCharBoundary-start}
+use Rattle.meta_base.specs.Language.Builtins.{is_between}
 use Rattle.matcher_code.specs.declared.code.Code.{Code}
 use Rattle.matcher_code.specs.Reading.{char_len, first_of, flag, is_covered, ranges_of}
 use Rattle.matcher_code.specs.Sets.{IsRowOf, IsSetOf, flag_of}
@@ -67,3 +68,50 @@ set_added new rows row ranges set e l w r =
     means_ranges new set ranges r (λ b h.
     ap (λ items. get_or items (set * 256 + b) 0) e
     ∙ (ap (λ n. get_or (rows ++ row) (n + b) 0) (sym l) ∙ (get_or-append-add rows row b 0 ∙ w.told b h)))
+
+or_assoc : (a b c : Bool) → (a || (b || c)) ≡ ((a || b) || c)
+or_assoc true b c = refl
+or_assoc false b c = refl
+
+or_none : (b : Bool) → (b || false) ≡ b
+or_none true = refl
+or_none false = refl
+
+-- one range more
+covered_more : (ranges : List (ℕ × ℕ)) (i : ℕ) (d : ℕ × ℕ) (c : ℕ) → i < length ranges
+    → is_covered (take (suc i) ranges) c ≡ (is_covered (take i ranges) c || is_between (get_or ranges i d).0 (get_or ranges i d).1 c)
+covered_more [] i d c h = absurd (omega (arith, h))
+covered_more (r ∷ rs) zero d c h = or_none (is_between r.0 r.1 c)
+covered_more (r ∷ rs) (suc i) d c h =
+    let k : i < length rs = omega (arith, h) in
+    ap (λ b. is_between r.0 r.1 c || b) (covered_more rs i d c k)
+    ∙ or_assoc (is_between r.0 r.1 c) (is_covered (take i rs) c) (is_between (get_or rs i d).0 (get_or rs i d).1 c)
+
+marked : (x y : Bool) (n : ℕ) → n ≡ (if x then 1 else 0) → (if y then 1 else n) ≡ (if x || y then 1 else 0)
+marked true true n e = refl
+marked true false n e = e
+marked false true n e = refl
+marked false false n e = e
+
+pub row_more : (ranges : List (ℕ × ℕ)) (i j : ℕ) (d : ℕ × ℕ) (old new : List ℕ) → i < length ranges → j ≡ suc i → IsRowOf (take i ranges) old
+    → length new ≡ 256 → ((b : ℕ) → get_or new b 0
+    ≡ (if nat_lt b 128 && is_between (get_or ranges i d).0 (get_or ranges i d).1 b then 1 else get_or old b 0))
+    → IsRowOf (take j ranges) new
+row_more ranges i j d old new h e r l marks = record {
+  long = l;
+  told = λ b k. go b k (cases_lt b 128) ∙ ap (λ n. flag_of (take n ranges) b) (sym e);
+}
+  where
+    go : (b : ℕ) → b < 256 → (b < 128) ⊎ (128 ≤ b) → get_or new b 0 ≡ flag_of (take (suc i) ranges) b
+    go b k (inl m) =
+        let t : nat_lt b 128 ≡ true = grind arith in
+        let x = is_covered (take i ranges) b in
+        let y = is_between (get_or ranges i d).0 (get_or ranges i d).1 b in
+        marks b ∙ (ap (λ z. if z && y then 1 else get_or old b 0) t
+        ∙ (marked x y (get_or old b 0) (r.told b k ∙ below (take i ranges) b m)
+        ∙ (ap (λ z. if z then 1 else 0) (sym (covered_more ranges i d b h)) ∙ sym (below (take (suc i) ranges) b m))))
+    go b k (inr m) =
+        let t : nat_lt b 128 ≡ false = grind arith in
+        let y = is_between (get_or ranges i d).0 (get_or ranges i d).1 b in
+        marks b ∙ (ap (λ z. if z && y then 1 else get_or old b 0) t
+        ∙ (r.told b k ∙ (above (take i ranges) b m ∙ sym (above (take (suc i) ranges) b m))))

@@ -1,19 +1,21 @@
 //! Sets of characters, by rows of flags and ranges.
-ghost use Rattle.std.specs.Prelude.{◌≡◌, ◌<◌, ◌^◌, IfOk, OnErr, OnOk, length};
-ghost use Rattle.matcher_code.specs.Sets.{IsAligned, IsRowOf, IsSetOf, KeepsSets, flag_of};
+ghost use Rattle.std.specs.Prelude.{◌≡◌, ◌<◌, ◌^◌, ◌&&◌, ℕ, IfOk, OnErr, OnOk, get_or, if◌then◌else◌, length, nat_lt};
+ghost use Rattle.meta_base.specs.Language.Builtins.{is_between};
+ghost use Rattle.matcher_code.specs.Sets.{IsAligned, IsRowOf, IsSetOf, KeepsSets};
 
 use crate::code::{Code, Ranges};
-use crate::reading::is_covered;
 use std::alloc::{AllocError, Global};
 
-/// Returns the flag of a byte in a set's row.
-fn flag_of(ranges: &[(u32, u32)], byte: u32) -> u8
-    ensures { result ≡ flag_of ranges.now byte }
+/// Sets the flags of the bytes of ASCII in a range, both ends included.
+fn mark(row: &mut Vec<u8>, low: u32, high: u32)
+    requires long { length row.old.items ≡ 256 }
+    ensures long { length row.new.items ≡ 256 }
+    ensures flags { (b : ℕ) → get_or row.new.items b 0
+        ≡ (if nat_lt b 128 && is_between low high b then 1 else get_or row.old.items b 0) }
 {
-    if byte < 128 {
-        if is_covered(ranges, byte) { 1 } else { 0 }
-    } else {
-        5
+    let end = high.saturating_add(1).min(128);
+    for byte in low.min(end)..end {
+        row[byte as usize] = 1;
     }
 }
 
@@ -22,8 +24,10 @@ fn row_of(alloc: Global, ranges: &[(u32, u32)]) -> Result<Vec<u8>, AllocError>
     ensures { IfOk result (λ row. IsRowOf ranges.now row.items) }
 {
     let mut row = Vec::with_capacity(alloc, 256)?;
-    for byte in 0..256 {
-        row.push(flag_of(ranges, byte))?;
+    row.resize(128, 0)?;
+    row.resize(256, 5)?;
+    for (low, high) in ranges {
+        mark(&mut row, *low, *high);
     }
     Ok(row)
 }

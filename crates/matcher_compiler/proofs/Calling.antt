@@ -15,9 +15,9 @@ use Rattle.matcher_program.specs.declared.form.Program.{Program}
 use Rattle.matcher_program.specs.declared.form.Row.{Row}
 use Rattle.matcher_program.specs.Programs.{name_at, names_of, rule_of_row}
 use Rattle.matcher_compiler.specs.Names.{HasOwnNames, number_in, or_end}
-use Rattle.matcher_sets.specs.Forms.{IsSoundProgram, grammar_in, said}
+use Rattle.matcher_sets.specs.Forms.{IsSoundProgram, grammar_in, no_rule, said}
 use Rattle.matcher_sets.proofs.Rules.{in_mode, made, named, same}
-use Rattle.matcher_compiler.specs.Plans.{body_in, no_rule}
+use Rattle.matcher_compiler.specs.Plans.{body_in}
 
 no_place : (g : Grammar) (n : Text) → rule_of g n ≡ None → last_place g n ≡ None
 no_place [] n h = refl

@@ -22,40 +22,12 @@ use Rattle.matcher_sets.specs.declared.modes.Atomicity as code
 use Rattle.matcher_compiler.specs.declared.plan.Skips.TheVariants as skips
 use Rattle.matcher_sets.specs.declared.modes.Atomicity.TheVariants as mode
 use Rattle.matcher_sets.specs.declared.heads.Head.{Head}
-use Rattle.matcher_sets.specs.Heads.{HasHead}
 use Rattle.matcher_sets.specs.Modes.{mode_of}
 use Rattle.matcher_sets.specs.Differences.{MatchesOne}
-use Rattle.matcher_sets.specs.Forms.{IsSoundProgram, grammar_in, said}
-use Rattle.matcher_compiler.specs.Plans.{FailsWithout, IsBlankSet, SkipsAs, blanks, no_rule, one_comment}
-use Rattle.matcher_sets.proofs.Heading.{fails_outside}
+use Rattle.matcher_sets.specs.Forms.{IsSoundProgram, grammar_in, no_rule, said}
+use Rattle.matcher_compiler.specs.Plans.{FailsWithout, IsBlankSet, SkipsAs, blanks, one_comment}
+use Rattle.matcher_sets.proofs.Skipping.{IsSkipName, comment_is_no_end, does_between, rule_is_skipped, same_mode, same_tokens, skipped_named, white_is_no_end}
 use Rattle.matcher_sets.proofs.Rules.{made, same}
-
-white_is_no_end : is_eoi whitespace ≡ false
-unfolding whitespace
-white_is_no_end = refl
-
-comment_is_no_end : is_eoi comment ≡ false
-unfolding comment
-comment_is_no_end = refl
-
--- a name of the implicit skipping
-abbrev pub IsSkipName : Text → Type 0
-IsSkipName x = (bytes_eq x whitespace || bytes_eq x comment) ≡ true
-
-pub comment_is_skipped : IsSkipName comment
-unfolding whitespace comment
-comment_is_skipped = refl
-
-pub white_is_skipped : IsSkipName whitespace
-unfolding whitespace comment
-white_is_skipped = refl
-
--- the name of a row, and that of its rule
-row_name : (names : List Text) (rows : List Row) (i : ℕ) (d : Rule) → i < length rows
-    → get_or (map (λ r. text_of r.name) rows) i [] ≡ (get_or (map (rule_of_row names) rows) i d).name
-row_name names [] i d l = absurd (omega (arith, l))
-row_name names (r ∷ rows) zero d l = refl
-row_name names (r ∷ rows) (suc i) d l = row_name names rows i d (omega (arith, l))
 
 -- neither name is a rule's
 pub tight_nowhere : (g : Grammar) (classes : Classes) → rule_of g whitespace ≡ None → rule_of g comment ≡ None → IsTight g classes NonAtomicMode
@@ -125,58 +97,11 @@ pub skips_ready : (p : Program) (sets : Code) (set : ℕ) (b : Bool) → (b ≡ 
 skips_ready p sets set true none is = is
 skips_ready p sets set false none is = (none refl, is)
 
--- a call of `COMMENT` in the implicit skipping is as one in NonAtomic
-same_body : (t : RuleType) (b : Bool) → b ≡ true → mode_in t b NonAtomicMode ≡ mode_in t b Between
-same_body Normal true e = refl
-same_body Silent true e = refl
-same_body Atomic true e = refl
-same_body CompoundAtomic true e = refl
-same_body NonAtomic true e = refl
-same_body t false e = cc
-
-same_tokens : (t : RuleType) → gives_token t NonAtomicMode ≡ gives_token t Between
-same_tokens Normal = refl
-same_tokens Silent = refl
-same_tokens Atomic = refl
-same_tokens CompoundAtomic = refl
-same_tokens NonAtomic = refl
-
-abbrev token_if : Bool → Rule → State → Outcome → Outcome
-token_if b r s Failure = Failure
-token_if b r s (Success t us) = Success t (if b then Tree r.name s.position t.position us None' else us)
-
 module _ (g : Grammar) (classes : Classes) (x : Text) (r : Rule) (h : rule_of g x ≡ Some r) (b : (bytes_eq r.name whitespace || bytes_eq r.name comment) ≡ true) where
-  same_mode : body_mode r NonAtomicMode ≡ body_mode r Between
-  same_mode = same_body r.type_of (bytes_eq r.name whitespace || bytes_eq r.name comment) b
-
-  -- an outcome with the furthest failure
-  abbrev At : Mode → State → Outcome → ℕ → Type 0
-  At m s o f = (d : Does g classes (Run m (Ident x)) s o) × (furthest d ≡ f)
-
-  call_between : (q : Rule) → q ≡ r → rule_of g x ≡ Some q → (s : State) (o : Outcome) (d : Does g classes (Run (body_mode q NonAtomicMode) q.body) s o)
-      → At Between s (with_token q NonAtomicMode s o) (max (place_of (seen_from NonAtomicMode && gives_token q.type_of NonAtomicMode) s o) (furthest d))
-  call_between q e k s o d =
-      let m : body_mode q NonAtomicMode ≡ body_mode q Between = subst (λ y. body_mode y NonAtomicMode ≡ body_mode y Between) (sym e) same_mode in
-      let y = subst (λ i. (d' : Does g classes (Run i q.body) s o) × (furthest d' ≡ furthest d)) m (d, refl) in
-      let z : At Between s (with_token q Between s o) (max (place_of (seen_from Between && gives_token q.type_of Between) s o) (furthest d)) =
-      (by.call {m = Between} k y.0, ap (max (place_of (seen_from Between && gives_token q.type_of Between) s o)) y.1) in
-      with_tokens (gives_token q.type_of NonAtomicMode) (gives_token q.type_of Between) (same_tokens q.type_of) z
-    where
-      with_tokens : (u v : Bool) → u ≡ v
-          → At Between s (token_if v q s o) (max (place_of (true && v) s o) (furthest d)) → At Between s (token_if u q s o) (max (place_of (true && u) s o) (furthest d))
-      with_tokens u v e y = subst (λ w. At Between s (token_if w q s o) (max (place_of (true && w) s o) (furthest d))) (sym e) y
-
-  does_between : (s : State) (o : Outcome) (d : Does g classes (Run NonAtomicMode (Ident x)) s o) → At Between s o (furthest d)
-  does_between s o (by.call {o = i} {r = q} k d) = call_between q (same_some (sym k ∙ h)) k s i d
-  does_between s o (by.other k e) = absurd (no_rule_is (sym k ∙ h))
-    where
-      no_rule_is : None ≡ Some r → ⊥
-      no_rule_is e = cc
-
   module _ (code : Code) (number : Text → ℕ) (points : List lay.Point) where
     pub laid_between : {rank l n w : ℕ} → lay.Lays g classes code number points rank (Run NonAtomicMode (Ident x)) l n w → lay.Lays g classes code number points rank (Run Between (Ident x)) l n w
     laid_between (lay.leaf f place has performs) =
-        lay.leaf f place (λ s. let y = has s in let z = does_between s (f s) y.0 in (z.0, z.1 ∙ y.1)) performs
+        lay.leaf f place (λ s. let y = has s in let z = does_between g classes x r h b s (f s) y.0 in (z.0, z.1 ∙ y.1)) performs
     laid_between (lay.read f free has performs) = absurd (taken (sym h ∙ free))
       where
         taken : Some r ≡ None → ⊥
@@ -184,15 +109,15 @@ module _ (g : Grammar) (classes : Classes) (x : Text) (r : Rule) (h : rule_of g 
     laid_between (lay.call q first last counts e t i a p z) =
         let k : q ≡ r = same_some (sym e ∙ h) in
         lay.call q first last counts e (sym (same_tokens q.type_of) ∙ t) i a
-        (subst (λ m. IsPoint points (Run m q.body) first last 0) (subst (λ y. body_mode y NonAtomicMode ≡ body_mode y Between) (sym k) same_mode) p) z
+        (subst (λ m. IsPoint points (Run m q.body) first last 0) (subst (λ y. body_mode y NonAtomicMode ≡ body_mode y Between) (sym k) (same_mode g classes x r h b)) p) z
     laid_between {rank} {l} {n} {w} (lay.in_place q e t p) =
         let k : q ≡ r = same_some (sym e ∙ h) in
         lay.in_place q e (sym (same_tokens q.type_of) ∙ t)
-        (subst (λ m. IsPart points rank (Run m q.body) l n w) (subst (λ y. body_mode y NonAtomicMode ≡ body_mode y Between) (sym k) same_mode) p)
+        (subst (λ m. IsPart points rank (Run m q.body) l n w) (subst (λ y. body_mode y NonAtomicMode ≡ body_mode y Between) (sym k) (same_mode g classes x r h b)) p)
     laid_between (lay.sub q first last e t a p z) =
         let k : q ≡ r = same_some (sym e ∙ h) in
         lay.sub q first last e (sym (same_tokens q.type_of) ∙ t) a
-        (subst (λ m. IsPoint points (Run m q.body) first last 0) (subst (λ y. body_mode y NonAtomicMode ≡ body_mode y Between) (sym k) same_mode) p) z
+        (subst (λ m. IsPoint points (Run m q.body) first last 0) (subst (λ y. body_mode y NonAtomicMode ≡ body_mode y Between) (sym k) (same_mode g classes x r h b)) p) z
 
 -- without a rule of that name there are no comments
 pub no_comments : (g : Grammar) (classes : Classes) → rule_of g comment ≡ None
@@ -204,36 +129,12 @@ no_comments g classes m s =
 
 -- a rule that is called in the implicit skipping
 module _ (p : Program) (x : Text) (i : ℕ) (meant : IsRuleOf (grammar_in p) x i) (blank : IsSkipName x) where
-  skipped_within : i < length p.rows.items
-  skipped_within =
-      let l = meant.within in
-      omega (arith, l, length-map p.rows.items (rule_of_row (names_of p.rows.items)))
-
-  skipped_named : name_at (names_of p.rows.items) i ≡ x
-  skipped_named = row_name (names_of p.rows.items) p.rows.items i no_rule skipped_within ∙ meant.named no_rule
-
-  pub skipped_is_rule : IsRuleOf (grammar_in p) (name_at (names_of p.rows.items) i) i
-  skipped_is_rule = subst (λ n. IsRuleOf (grammar_in p) n i) (sym skipped_named) meant
-
-  rule_is_skipped : IsSkipName (get_or (grammar_in p) i no_rule).name
-  rule_is_skipped = subst IsSkipName (sym (meant.named no_rule)) blank
-
   pub skipped_laid : (classes : Classes) (code : Code) (number : Text → ℕ) (points : List lay.Point) {rank l n w : ℕ}
       → lay.Lays (grammar_in p) classes code number points rank (Run NonAtomicMode (Ident (name_at (names_of p.rows.items) i))) l n w
       → lay.Lays (grammar_in p) classes code number points rank (Run Between (Ident x)) l n w
   skipped_laid classes code number points {rank = rank} {l = l} {n = n} {w = w} y =
-      laid_between (grammar_in p) classes x (get_or (grammar_in p) i no_rule) (meant.meant no_rule) rule_is_skipped code number points
-      (subst (λ z. lay.Lays (grammar_in p) classes code number points rank (Run NonAtomicMode (Ident z)) l n w) skipped_named y)
-
-  -- where no character of its head is next, the call fails
-  pub skipped_fails : (h : Head) → HasHead p NonAtomicMode (Ident (name_at (names_of p.rows.items) i)) h → h.empty ≡ false
-      → FailsWithout p (Run Between (Ident x)) h
-  skipped_fails h has q classes fits s miss =
-      let f : FailsOutside (grammar_in p) classes (Run NonAtomicMode (Ident x)) h.ranges.items h.noted =
-      subst (λ y. FailsOutside (grammar_in p) classes (Run NonAtomicMode (Ident y)) h.ranges.items h.noted) skipped_named (fails_outside p NonAtomicMode (Ident (name_at (names_of p.rows.items) i)) h has q classes fits) in
-      let z = f s miss in
-      let y = does_between (grammar_in p) classes x (get_or (grammar_in p) i no_rule) (meant.meant no_rule) rule_is_skipped s Failure z.0 in
-      (y.0, y.1 ∙ z.1)
+      laid_between (grammar_in p) classes x (get_or (grammar_in p) i no_rule) (meant.meant no_rule) (rule_is_skipped p x i meant blank) code number points
+      (subst (λ z. lay.Lays (grammar_in p) classes code number points rank (Run NonAtomicMode (Ident z)) l n w) (skipped_named p x i meant) y)
 
 -- two facts of a value give a third
 pub both_on_some : {X E : Type 0} {P Q R : X → Type 0} (r : Result (Option X) E) → ((x : X) → P x → Q x → R x)

@@ -1,6 +1,6 @@
 -- Plans of programs: points and demands, and what a program does that meets them.
 use Rattle.std.specs.Prelude.{◌≡◌, ◌<◌, ℕ, suc, Bool, List, [], ◌∷◌, None, Option, get_or, length, map, All, IsUtf8, chars, ⊤}
-use Rattle.meta_base.specs.Language.Expression.{Expression, Grammar, Ident, Normal, Rep, Rule, Seq, Str, comment, rule_of, whitespace}
+use Rattle.meta_base.specs.Language.Expression.{Expression, Grammar, Ident, Rep, Seq, comment, rule_of, whitespace}
 use Rattle.meta_base.specs.Language.Meaning.{Does, Run, Skipping, Task, once_or_more, skipped}
 use Rattle.meta_base.specs.Language.State as language
 use Rattle.meta_base.specs.Language.Text.{Text}
@@ -13,7 +13,7 @@ use Rattle.matcher_code.specs.Sets.{IsSetOf}
 use Rattle.matcher_program.specs.declared.form.Program.{Program}
 use Rattle.matcher_program.specs.Programs.{Fits, name_at, names_of}
 use Rattle.matcher_layout.specs.Laid as lay
-use Rattle.matcher_layout.specs.Laid.{Branches, Continues, Enters, FailsOutside, HasOutcome, HasTable, Hits, IsEnd, IsPart, IsPoint, IsTight, Lays, TakesOne, at_label, skip_set}
+use Rattle.matcher_layout.specs.Laid.{Branches, Continues, Enters, FailsOutside, HasOutcome, HasTable, Hits, IsEnd, IsPart, IsPoint, IsTight, Lays, TakesNone, TakesOne, at_label, skip_set}
 use Rattle.matcher_compiler.specs.declared.plan.Plan.{Plan}
 use Rattle.matcher_compiler.specs.declared.plan.Skips.{Skips}
 use Rattle.matcher_compiler.specs.declared.plan.Skips.TheVariants as skips
@@ -28,12 +28,8 @@ use Rattle.matcher_compiler.specs.declared.points.Place.{Place}
 use Rattle.matcher_compiler.specs.declared.points.Point.{Point}
 use Rattle.matcher_sets.specs.Modes.{mode_of}
 use Rattle.matcher_compiler.specs.Names.{number_in}
-use Rattle.matcher_sets.specs.Forms.{IsBoundIn, grammar_in, said}
+use Rattle.matcher_sets.specs.Forms.{IsBoundIn, grammar_in, no_rule, said}
 use Rattle.matcher_sets.specs.Ranges.{Covers}
-
--- a stand-in for a rule that a grammar does not have
-abbrev pub no_rule : Rule
-no_rule = record { name = []; type_of = Normal; body = Str [] }
 
 -- the body of the rule of a number
 abbrev pub body_in : Program → ℕ → Expression
@@ -192,6 +188,11 @@ EntersAt p plan k at first = (classes : Classes) → Fits p.properties.items cla
 abbrev pub FailsWithout : Program → Task → Head → Type 0
 FailsWithout p k h = (classes : Classes) → Fits p.properties.items classes
     → FailsOutside (grammar_in p) classes k h.ranges.items h.noted
+
+-- so the task takes nothing then, and does not fail
+abbrev pub TakesNoneIn : Program → Task → Head → Type 0
+TakesNoneIn p k h = (classes : Classes) → Fits p.properties.items classes
+    → TakesNone (grammar_in p) classes k h.ranges.items h.noted
 
 -- so a table at the place leads on to the task at a label, or, where that fails, to another label
 abbrev pub BranchesAt : Program → Plan → Task → Place → (first second : ℕ) → Type 0

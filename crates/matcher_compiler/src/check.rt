@@ -89,6 +89,30 @@ fn is_same_text(one: Op, other: Op) -> bool
     }
 }
 
+/// Returns whether two operations are the same one of those that skip characters and look behind them, or
+/// that match texts.
+fn is_same_gap(one: Op, other: Op) -> bool
+    ensures { result ≡ true → one ≡ other }
+{
+    match one {
+        Op::Gap {
+            set,
+            stops,
+            next,
+            slow,
+        } => match other {
+            Op::Gap {
+                set: set2,
+                stops: stops2,
+                next: next2,
+                slow: slow2,
+            } => set == set2 && stops == stops2 && next == next2 && slow == slow2,
+            _ => false,
+        },
+        _ => is_same_text(one, other),
+    }
+}
+
 /// Returns whether two operations are the same one of those that take characters.
 fn is_same_leaf(one: Op, other: Op) -> bool
     ensures { result ≡ true → one ≡ other }
@@ -131,7 +155,7 @@ fn is_same_leaf(one: Op, other: Op) -> bool
             } => next == next2 && fail == fail2,
             _ => false,
         },
-        _ => is_same_text(one, other),
+        _ => is_same_gap(one, other),
     }
 }
 

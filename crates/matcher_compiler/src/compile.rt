@@ -18,7 +18,7 @@ use matcher_code::code::{Code, Op, Ranges};
 use matcher_code::sets::add_set;
 use matcher_program::form::{Form, Program, Row};
 use matcher_sets::difference::choice_ranges;
-use matcher_sets::heads::rule_heads;
+use matcher_sets::learning::rule_heads;
 use matcher_sets::modes::Atomicity;
 use matcher_sets::sizes::body_sizes;
 use meta_ast::ast::RuleType;
@@ -56,11 +56,7 @@ fn fresh_plan<'p>(
 {
     let sizes = body_sizes(alloc, program)?;
     let mut bodies = Vec::new(alloc);
-    for _ in 0..program.rows.len().saturating_mul(6) {
-        if bodies.push(None).is_err() {
-            return Err(NotCompiled::Memory);
-        }
-    }
+    bodies.resize(program.rows.len().saturating_mul(6), None)?;
     Ok(Plan {
         points: Vec::new(alloc),
         demands: Vec::new(alloc),
@@ -252,19 +248,23 @@ fn plan_entries(program: &Program, plan: &mut Plan<'_>) -> Result<(), NotCompile
     Ok(())
 }
 
+/// Writes an operation at a label. Labels that have no operation fail.
+fn put(ops: &mut Vec<Op>, label: usize, op: Op) -> Result<(), NotCompiled> {
+    if label >= ops.len() {
+        ops.resize(label.saturating_add(1), Op::Fail)?;
+    }
+    if let Some(place) = ops.get_mut(label) {
+        *place = op;
+    }
+    Ok(())
+}
+
 /// Writes the operations that are demanded.
 fn write(alloc: Global, demands: &[Demand]) -> Result<Vec<Op>, NotCompiled> {
     let mut ops = Vec::new(alloc);
     for demand in demands {
         if let Demand::Operation { label, op } = demand {
-            for _ in ops.len()..(*label as usize).saturating_add(1) {
-                if ops.push(Op::Fail).is_err() {
-                    return Err(NotCompiled::Memory);
-                }
-            }
-            if let Some(place) = ops.get_mut(*label as usize) {
-                *place = *op;
-            }
+            put(&mut ops, *label as usize, *op)?;
         }
     }
     Ok(ops)

@@ -8,7 +8,7 @@ ghost use Rattle.matcher_program.specs.declared.form.Program.{Program};
 ghost use Rattle.matcher_sets.specs.Forms.{IsBoundIn, IsSoundProgram, said};
 ghost use Rattle.matcher_sets.specs.Heads.{AreHeads};
 ghost use Rattle.matcher_sets.specs.Modes.{mode_of};
-ghost use Rattle.matcher_compiler.specs.Plans.{EntersAt, FailsWithout, IsLater, Meets};
+ghost use Rattle.matcher_compiler.specs.Plans.{EntersAt, FailsWithout, IsLater, Meets, TakesNoneIn};
 
 use crate::forms::FAIL;
 use crate::plan::Plan;
@@ -19,10 +19,21 @@ use matcher_sets::heads::{Head, Heads, head_of};
 use matcher_sets::modes::Atomicity;
 use std::alloc::Global;
 
+/// Returns a form without what restores the stack where it fails.
+fn inside(form: &Form) -> &Form {
+    match form {
+        Form::Restore(body) => body,
+        _ => form,
+    }
+}
+
 /// Returns whether a test may spare more than it takes, if calls are as they are: the form is a call, or has
 /// several parts.
 fn is_long(form: &Form) -> bool {
-    matches!(form, Form::Call(_) | Form::Seq(_, _) | Form::RepOnce(_))
+    matches!(
+        inside(form),
+        Form::Call(_) | Form::Seq(_, _) | Form::RepOnce(_)
+    )
 }
 
 /// Returns whether ranges have nearly all characters.
@@ -62,6 +73,34 @@ pub(crate) fn narrow_head(
     }
 }
 
+/// Returns the head of a form in a mode, if it is known and tells that the form takes nothing elsewhere, and
+/// does not fail.
+pub(crate) fn spare_head(
+    alloc: Global,
+    program: &Program,
+    heads: &Heads,
+    form: &Form,
+    mode: Atomicity,
+) -> Result<Option<Head>, NotCompiled>
+    requires sound { IsSoundProgram program.now }
+    requires heads { AreHeads program.now heads.now }
+    requires bound { IsBoundIn program.now form.now }
+    ensures { IfOk result (λ made. IfSome made
+        (TakesNoneIn program.now (Run (mode_of mode) (said program.now form.now)))) }
+{
+    let made = head_of(alloc, program, heads, form, mode)?;
+    match made {
+        Some(head) => {
+            if head.empty && !is_wide(&head.ranges) {
+                Ok(Some(head))
+            } else {
+                Ok(None)
+            }
+        }
+        None => Ok(None),
+    }
+}
+
 impl<'p> Plan<'p> {
     /// Returns whether a test may spare more than it takes. A call in place is as long as the body.
     fn is_long_at(&self, program: &Program, form: &Form, at: Place) -> bool {
@@ -76,7 +115,7 @@ impl<'p> Plan<'p> {
 
     /// Returns the label at which a failure goes on at `way`, after an operation at the label `note` if it is
     /// recorded.
-    fn miss(&mut self, noted: bool, way: u32, note: u32) -> Result<u32, NotCompiled>
+    pub(crate) fn miss(&mut self, noted: bool, way: u32, note: u32) -> Result<u32, NotCompiled>
         ensures later { OnOk result ((p : Program) → IsLater p self.old self.new) }
         ensures goes { IfOk result (λ miss. (p : Program) (code : Code) (laid : List lay.Point)
             → Meets p self.new code laid → GoesTo code noted miss way) }
@@ -183,6 +222,27 @@ impl<'p> Plan<'p> {
     {
         let made = narrow_head(alloc, program, heads, form, at.mode)?;
         match made {
+            Some(head) => {
+                let first = self.test(head, at, own)?;
+                Ok(first)
+            }
+            None => Ok(at.label),
+        }
+    }
+
+    /// Plans a test of the next character before a task, if its head is known. Returns the label at which the
+    /// task begins. The labels from `own` on are free.
+    pub(crate) fn enter_head(
+        &mut self,
+        head: Option<Head>,
+        at: Place,
+        own: u32,
+    ) -> Result<u32, NotCompiled>
+        ensures later { OnOk result ((p : Program) → IsLater p self.old self.new) }
+        ensures enters { IfOk result (λ first. (p : Program) (k : Task) → IfSome head (FailsWithout p k)
+            → EntersAt p self.new k at first) }
+    {
+        match head {
             Some(head) => {
                 let first = self.test(head, at, own)?;
                 Ok(first)

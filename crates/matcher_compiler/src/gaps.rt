@@ -1,7 +1,7 @@
 //! The implicit skipping.
 ghost use Rattle.std.specs.Prelude.{◌≡◌, ◌≤◌, IfOk, IfSome, None, OnOk, false, length};
 ghost use Rattle.meta_base.specs.Language.Expression.{Expression, Ident, Rep, comment, rule_of, whitespace};
-ghost use Rattle.meta_base.specs.Language.Meaning.{Run, Skipping, Task, skipped};
+ghost use Rattle.meta_base.specs.Language.Meaning.{Run, Skipping, skipped};
 ghost use Rattle.meta_base.specs.Language.State.{Between, NonAtomicMode};
 ghost use Rattle.matcher_program.specs.declared.form.Program.{Program};
 ghost use Rattle.matcher_program.specs.Programs.{IsRuleOf, name_at, names_of};
@@ -9,7 +9,7 @@ ghost use Rattle.matcher_sets.specs.Modes.{mode_of};
 ghost use Rattle.matcher_compiler.specs.Names.{HasOwnNames};
 ghost use Rattle.matcher_sets.specs.Forms.{IsSoundProgram, grammar_in};
 ghost use Rattle.matcher_sets.specs.Heads.{AreHeads, HasHead};
-ghost use Rattle.matcher_compiler.specs.Plans.{EntersAt, FailsWithout, IsBlankSet, IsBoundPart, IsLater, IsReady, IsTightIn, LaysAt, blanks, one_comment, task_in};
+ghost use Rattle.matcher_compiler.specs.Plans.{FailsWithout, IsBlankSet, IsBoundPart, IsLater, IsReady, IsTightIn, LaysAt, blanks, one_comment, task_in};
 
 use crate::forms::FAIL;
 use crate::plan::{Plan, Skips};
@@ -43,7 +43,7 @@ fn sure_head(
 }
 
 /// Returns the head of a comment, if it is known, and a comment takes something.
-fn comment_head(
+pub(crate) fn comment_head(
     alloc: Global,
     program: &Program,
     heads: &Heads,
@@ -136,19 +136,17 @@ impl<'p> Plan<'p> {
         }
     }
 
-    /// Plans the skipping as an expression: blanks, and then comments. The labels from `own` on are free.
-    pub(crate) fn skipped(
+    /// Plans blanks, and then comments. The labels from `own` on are free.
+    pub(crate) fn blanks_and_comments(
         &mut self,
         program: &Program,
         at: Place,
         own: u32,
     ) -> Result<(), NotCompiled>
+        requires way { at.way ≡ 0 }
         ensures later { OnOk result (IsLater program.now self.old self.new) }
         ensures lays { OnOk result (LaysAt program.now self.new (Run Between skipped) at) }
     {
-        if at.way != FAIL {
-            return Err(NotCompiled::Unsupported);
-        }
         self.point(
             Part::Blanks,
             Place {
@@ -175,6 +173,30 @@ impl<'p> Plan<'p> {
             },
         )?;
         Ok(())
+    }
+
+    /// Plans the skipping as an expression: blanks, and then comments. The labels from `own` on are free.
+    pub(crate) fn skipped(
+        &mut self,
+        alloc: Global,
+        program: &Program,
+        heads: &Heads,
+        at: Place,
+        own: u32,
+    ) -> Result<(), NotCompiled>
+        requires sound { IsSoundProgram program.now }
+        requires heads { AreHeads program.now heads.now }
+        requires ready { IsReady program.now self.old }
+        ensures later { OnOk result (IsLater program.now self.old self.new) }
+        ensures lays { OnOk result (LaysAt program.now self.new (Run Between skipped) at) }
+    {
+        if at.way != FAIL {
+            return Err(NotCompiled::Unsupported);
+        }
+        match self.skips {
+            Skips::Comments(set) => self.blanks_of_set(alloc, program, heads, set, at, own),
+            _ => self.blanks_and_comments(program, at, own),
+        }
     }
 
     /// Plans as many blanks as there are, which are the characters of a set.
@@ -336,22 +358,6 @@ impl<'p> Plan<'p> {
         let head = comment_head(alloc, program, heads)?;
         self.turns_between(program, Part::Comment, head, at, own)?;
         Ok(())
-    }
-
-    /// Plans a test of the next character before a task, if its head is known. Returns the label at which the
-    /// task begins. The labels from `own` on are free.
-    fn enter_head(&mut self, head: Option<Head>, at: Place, own: u32) -> Result<u32, NotCompiled>
-        ensures later { OnOk result ((p : Program) → IsLater p self.old self.new) }
-        ensures enters { IfOk result (λ first. (p : Program) (k : Task) → IfSome head (FailsWithout p k)
-            → EntersAt p self.new k at first) }
-    {
-        match head {
-            Some(head) => {
-                let first = self.test(head, at, own)?;
-                Ok(first)
-            }
-            None => Ok(at.label),
-        }
     }
 
     /// Plans a comment with blanks behind it. The labels from `own` on are free.

@@ -12,6 +12,7 @@ pub mod names;
 pub mod plan;
 mod planning;
 pub mod points;
+mod sequences;
 mod shortcuts;
 mod skips;
 mod stacks;

@@ -13,6 +13,7 @@ ghost use Rattle.matcher_compiler.specs.declared.points.Point.{Point};
 use crate::plan::Plan;
 use crate::points::{NotCompiled, Part, Place, Point};
 use matcher_program::form::{Form, Program};
+use matcher_sets::characters::character_ranges;
 use matcher_sets::difference::{choice_ranges, refused_ranges};
 use matcher_sets::heads::Heads;
 use matcher_sets::modes::Atomicity;
@@ -96,7 +97,7 @@ impl<'p> Plan<'p> {
         ensures lays { OnOk result (LaysAt program.now self.new (Run (mode_of at.mode)
             (Rep (said program.now body.entry.now))) at) }
     {
-        let made = choice_ranges(alloc, program, body)?;
+        let made = character_ranges(alloc, program, body)?;
         match made {
             Some(ranges) => self.span(program, body, ranges, at),
             None => self.tight_loop(alloc, program, heads, body, at, own),
@@ -211,80 +212,6 @@ impl<'p> Plan<'p> {
         Ok(())
     }
 
-    /// Plans two expressions, one right after the other.
-    fn tight_both(
-        &mut self,
-        alloc: Global,
-        program: &Program,
-        first: &'p Form,
-        second: &'p Form,
-        at: Place,
-        own: u32,
-    ) -> Result<(), NotCompiled>
-        requires first_bound { IsBoundIn program.now first.now }
-        requires second_bound { IsBoundIn program.now second.now }
-        requires tight { IsTightIn program.now at.mode }
-        ensures later { OnOk result (IsLater program.now self.old self.new) }
-        ensures lays { OnOk result (LaysAt program.now self.new (Run (mode_of at.mode)
-            (Seq (said program.now first.entry.now) (said program.now second.entry.now))) at) }
-    {
-        let refused = refused_ranges(alloc, program, first)?;
-        let others = match refused {
-            Some(others) => others,
-            None => return self.both(program, first, second, at, own),
-        };
-        let made = choice_ranges(alloc, program, second)?;
-        match made {
-            Some(ranges) => {
-                self.other_character(alloc, program, first, second, &others, ranges, at)
-            }
-            None => self.both(program, first, second, at, own),
-        }
-    }
-
-    /// Plans a sequence of two expressions.
-    fn two(
-        &mut self,
-        alloc: Global,
-        program: &Program,
-        first: &'p Form,
-        second: &'p Form,
-        at: Place,
-        own: u32,
-    ) -> Result<(), NotCompiled>
-        requires first_bound { IsBoundIn program.now first.now }
-        requires second_bound { IsBoundIn program.now second.now }
-        requires ready { IsReady program.now self.old }
-        ensures later { OnOk result (IsLater program.now self.old self.new) }
-        ensures lays { OnOk result (LaysAt program.now self.new (Run (mode_of at.mode)
-            (Seq (said program.now first.entry.now) (said program.now second.entry.now))) at) }
-    {
-        if self.is_tight(at.mode) {
-            self.tight_both(alloc, program, first, second, at, own)
-        } else {
-            self.both(program, first, second, at, own)
-        }
-    }
-
-    /// Plans two expressions, one after the other.
-    fn both(
-        &mut self,
-        program: &Program,
-        first: &'p Form,
-        second: &'p Form,
-        at: Place,
-        own: u32,
-    ) -> Result<(), NotCompiled>
-        requires first_bound { IsBoundIn program.now first.now }
-        requires second_bound { IsBoundIn program.now second.now }
-        ensures later { OnOk result (IsLater program.now self.old self.new) }
-        ensures lays { OnOk result (LaysAt program.now self.new (Run (mode_of at.mode)
-            (Seq (said program.now first.entry.now) (said program.now second.entry.now))) at) }
-    {
-        self.sequence(program, Part::Form(first), Part::Form(second), at, own)?;
-        Ok(())
-    }
-
     /// Plans an expression and its repetition, one after the other.
     fn once_and_turns(
         &mut self,
@@ -364,7 +291,7 @@ impl<'p> Plan<'p> {
             Form::Call(rule) => self.call(program, *rule, at),
             Form::PosPred(body) => self.ahead(program, body, at, own),
             Form::NegPred(body) => self.not_ahead(program, body, at, own),
-            Form::Seq(first, second) => { self.two(alloc, program, first, second, at, own) }
+            Form::Seq(first, second) => { self.two(alloc, program, heads, first, second, at, own) }
             Form::Choice(left, right) => {
                 self.alternatives(alloc, program, heads, form, left, right, at, own)
             }
@@ -422,7 +349,7 @@ impl<'p> Plan<'p> {
             },
             Part::Rule(rule) => self.call(program, rule, at),
             Part::Gap => self.gap(program, at),
-            Part::Skipped => self.skipped(program, at, own),
+            Part::Skipped => self.skipped(alloc, program, heads, at, own),
             Part::Blanks => self.blanks(alloc, program, heads, at, own),
             Part::BlankCall => self.blank_call(program, at),
             Part::Comments => self.comments(alloc, program, heads, at, own),

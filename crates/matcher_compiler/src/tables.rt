@@ -1,5 +1,5 @@
 //! Tables by the first byte.
-ghost use Rattle.std.specs.Prelude.{◌≡◌, ◌≤◌, IfSome, List, MatchOption, OnOk, false, nat_eq, true, ℕ};
+ghost use Rattle.std.specs.Prelude.{◌≡◌, ◌<◌, ◌≤◌, IfSome, List, MatchOption, OnOk, Some, false, nat_eq, true, ℕ};
 ghost use Rattle.meta_base.specs.Language.Matching.{begins};
 ghost use Rattle.matcher_code.specs.declared.code.Op.TheVariants as op;
 ghost use Rattle.matcher_code.specs.Reading.{char_len, text_of};
@@ -93,14 +93,21 @@ fn label_after_test(
     }
 }
 
-/// Returns the label at which the operation of a label goes on for a first byte, if it does nothing else.
-fn next_label(code: &Code, head: Option<u8>, label: u32) -> Option<u32>
-    ensures { IfSome result (Moves code.now head label) }
+/// Returns the operation of a label.
+fn operation_at(code: &Code, label: u32) -> Op
+    ensures { result ≡ at_label code.now label }
 {
-    let here = match code.ops.get(label as usize) {
+    match code.ops.get(label as usize) {
         Some(here) => *here,
-        None => return None,
-    };
+        None => Op::Lose,
+    }
+}
+
+/// Returns the label at which the operation of a label goes on for a first byte, if it does nothing else.
+#[inline(always)]
+fn next_label(code: &Code, label: u32, here: Op, head: Option<u8>) -> Option<u32>
+    ensures { at_label code.now label ≡ here → IfSome result (Moves code.now head label) }
+{
     match here {
         Op::Switch { table } => Some(label_for(code, table, head)),
         Op::IsOne { set, next, fail } => label_after_test(code, label, set, next, fail, head),
@@ -137,73 +144,149 @@ fn label_after_note(code: &Code, label: u32) -> Option<u32>
 }
 
 /// Returns whether the operation of a label goes on at another one for a first byte, and does nothing else.
-fn moves(code: &Code, head: Option<u8>, from: u32, to: u32) -> bool
-    ensures { result ≡ true → Moves code.now head from to }
+#[inline(always)]
+fn moves(code: &Code, from: u32, here: Op, head: Option<u8>, to: u32) -> bool
+    ensures { at_label code.now from ≡ here → result ≡ true → Moves code.now head from to }
 {
-    match next_label(code, head, from) {
+    match next_label(code, from, here, head) {
         Some(next) => next == to,
         None => false,
     }
 }
 
 /// Returns whether a label is another one, or where the operation of that one goes on for a first byte.
-fn skips(code: &Code, head: Option<u8>, from: u32, to: u32) -> bool
-    ensures { result ≡ true → Skips code.now head from to }
+#[inline(always)]
+fn skips(code: &Code, from: u32, here: Op, head: Option<u8>, to: u32) -> bool
+    ensures { at_label code.now from ≡ here → result ≡ true → Skips code.now head from to }
 {
-    to == from || moves(code, head, from, to)
+    to == from || moves(code, from, here, head, to)
 }
 
-/// Returns whether a failure of the first alternative is recorded before the second one.
-fn notes(code: &Code, branch: Branch, head: Option<u8>, to: u32) -> bool
-    ensures { result ≡ true → Notes code.now head branch.second branch.next branch.way to }
+/// Returns whether a failure of the first alternative is recorded before the second one, whose operation is
+/// given.
+fn has_note(code: &Code, branch: Branch, second: Op, head: Option<u8>, to: u32) -> bool
+    ensures { at_label code.now branch.second ≡ second → result ≡ true
+        → Notes code.now head branch.second branch.next branch.way to }
 {
     match label_after_note(code, to) {
         Some(behind) => {
-            skips(code, head, branch.second, behind)
-                || to != branch.next && to != branch.way && moves(code, head, branch.second, to)
+            skips(code, branch.second, second, head, behind)
+                || to != branch.next
+                    && to != branch.way
+                    && moves(code, branch.second, second, head, to)
         }
         None => false,
     }
 }
 
-/// Returns whether a choice may go on at a label for a first byte.
-fn continues(code: &Code, branch: Branch, head: Option<u8>, to: u32) -> bool
-    ensures { result ≡ true → ContinuesAs code.now branch head to }
+/// Returns whether the table of a choice has the label for a first byte. The operations are those at which
+/// the alternatives begin.
+#[inline(always)]
+fn has_label(code: &Code, branch: Branch, first: Op, second: Op, head: Option<u8>) -> bool
+    ensures { at_label code.now branch.first ≡ first → at_label code.now branch.second ≡ second
+        → result ≡ true → ContinuesAs code.now branch head (label_for code.now branch.table head) }
 {
+    let to = label_for(code, branch.table, head);
     if flag_at(code, branch.set, head) != 0 {
-        skips(code, head, branch.first, to)
+        skips(code, branch.first, first, head, to)
     } else if branch.noted {
-        notes(code, branch, head, to)
+        has_note(code, branch, second, head, to)
     } else {
-        skips(code, head, branch.second, to)
+        skips(code, branch.second, second, head, to)
     }
 }
 
-/// Returns whether the table of a choice has the label for a first byte.
-fn has_label(code: &Code, branch: Branch, head: Option<u8>) -> bool
-    ensures { result ≡ true → ContinuesAs code.now branch head (label_for code.now branch.table head) }
+/// Returns whether a text is not empty, and begins with a byte of ASCII.
+fn begins_in_ascii(code: &Code, text: u32) -> bool
+    ensures { result ≡ true → (b : ℕ) (bs : List ℕ) → 128 ≤ b → head_of bs ≡ Some b
+        → begins nat_eq (text_of code.now text) bs ≡ false }
 {
-    continues(code, branch, head, label_for(code, branch.table, head))
+    match first_byte(code, text) {
+        Some(first) => first < 128,
+        None => false,
+    }
+}
+
+/// Returns the label at which the operation of a label goes on for each first byte above ASCII, the label
+/// itself if that does more, or `None` if that is not known.
+fn wide_label(code: &Code, label: u32, here: Op) -> Option<u32>
+    ensures { at_label code.now label ≡ here → IfSome result (λ to. (b : ℕ) → 128 ≤ b
+        → Skips code.now (Some b) label to) }
+{
+    match here {
+        Op::Switch { table: _ } => None,
+        Op::Text {
+            text,
+            next: _,
+            fail,
+        } => {
+            if begins_in_ascii(code, text) {
+                Some(fail)
+            } else {
+                None
+            }
+        }
+        _ => Some(label),
+    }
+}
+
+/// Returns whether a table has one label for all first bytes above ASCII.
+fn is_wide(code: &Code, table: u32, to: u32) -> bool
+    ensures { result ≡ true → (b : ℕ) → 128 ≤ b → b < 256 → label_for code.now table (Some b) ≡ to }
+{
+    for byte in 128..256u32 {
+        if label_for(code, table, Some(byte as u8)) != to {
+            return false;
+        }
+    }
+    true
+}
+
+/// Returns whether the table of a choice has the labels for some first bytes, from one to before another.
+/// The operations are those at which the alternatives begin.
+fn has_labels(code: &Code, branch: Branch, first: Op, second: Op, from: u32, to: u32) -> bool
+    requires { to ≤ 256 }
+    ensures { at_label code.now branch.first ≡ first → at_label code.now branch.second ≡ second
+        → result ≡ true → (b : ℕ) → from ≤ b → b < to
+        → ContinuesAs code.now branch (Some b) (label_for code.now branch.table (Some b)) }
+{
+    for byte in from..to {
+        if !has_label(code, branch, first, second, Some(byte as u8)) {
+            return false;
+        }
+    }
+    true
+}
+
+/// Returns whether the table of a choice has the labels for all first bytes above ASCII.
+fn has_wide(code: &Code, branch: Branch, first: Op, second: Op) -> bool
+    ensures { at_label code.now branch.first ≡ first → at_label code.now branch.second ≡ second
+        → result ≡ true → (b : ℕ) → 128 ≤ b → b < 256
+        → ContinuesAs code.now branch (Some b) (label_for code.now branch.table (Some b)) }
+{
+    match wide_label(code, branch.first, first) {
+        Some(to) => {
+            is_wide(code, branch.table, to) || has_labels(code, branch, first, second, 128, 256)
+        }
+        None => has_labels(code, branch, first, second, 128, 256),
+    }
 }
 
 /// Returns whether the table of a choice has the labels for all first bytes and for the end.
 pub(crate) fn has_branch(code: &Code, branch: Branch) -> bool
     ensures { result ≡ true → HasBranch code.now branch }
 {
-    for byte in 0..256u32 {
-        if !has_label(code, branch, Some(byte as u8)) {
-            return false;
-        }
-    }
-    has_label(code, branch, None)
+    let first = operation_at(code, branch.first);
+    let second = operation_at(code, branch.second);
+    has_labels(code, branch, first, second, 0, 128)
+        && has_wide(code, branch, first, second)
+        && has_label(code, branch, first, second, None)
 }
 
 /// Returns so many zeros.
 pub(crate) fn zeros(alloc: Global, count: usize) -> Result<Vec<u32>, AllocError> {
     let mut list = Vec::new(alloc);
-    for _ in 0..count {
-        list.push(0)?;
-    }
+    list.resize(count, 0)?;
     Ok(list)
 }
 
@@ -224,19 +307,24 @@ fn note_before(code: &mut Code, notes: &mut Vec<u32>, label: u32) -> Result<u32,
     Ok(*known)
 }
 
-/// Returns the label at which a choice goes on for a first byte.
+/// Returns the label at which a choice goes on for a first byte. The operations are those at which the
+/// alternatives begin.
+#[inline(always)]
 fn find_label(
     code: &mut Code,
     notes: &mut Vec<u32>,
     branch: Branch,
+    first: Op,
+    second: Op,
     head: Option<u8>,
 ) -> Result<u32, AllocError>
     ensures { OnOk result (KeepsData code.old code.new) }
 {
-    let fails = flag_at(code, branch.set, head) == 0;
-    let from = if fails { branch.second } else { branch.first };
-    let to = next_label(code, head, from).unwrap_or(from);
-    if fails && !continues(code, branch, head, to) {
+    if flag_at(code, branch.set, head) != 0 {
+        return Ok(next_label(code, branch.first, first, head).unwrap_or(branch.first));
+    }
+    let to = next_label(code, branch.second, second, head).unwrap_or(branch.second);
+    if branch.noted && !has_note(code, branch, second, head, to) {
         note_before(code, notes, to)
     } else {
         Ok(to)
@@ -244,29 +332,67 @@ fn find_label(
 }
 
 /// Writes the label of a table for a first byte.
+#[inline(always)]
 fn write_label(
     code: &mut Code,
     notes: &mut Vec<u32>,
     branch: Branch,
+    first: Op,
+    second: Op,
     head: Option<u8>,
 ) -> Result<(), AllocError>
     ensures { OnOk result (KeepsData code.old code.new) }
 {
-    let label = find_label(code, notes, branch, head)?;
+    let label = find_label(code, notes, branch, first, second, head)?;
     if let Some(place) = code.tables.get_mut(branch.table as usize + index_of(head)) {
         *place = label;
     }
     Ok(())
 }
 
+/// Writes the labels of a table for some first bytes, from one to before another. The operations are those
+/// at which the alternatives begin.
+fn write_labels(
+    code: &mut Code,
+    notes: &mut Vec<u32>,
+    branch: Branch,
+    first: Op,
+    second: Op,
+    from: u32,
+    to: u32,
+) -> Result<(), AllocError>
+    requires { to ≤ 256 }
+    ensures { OnOk result (KeepsData code.old code.new) }
+{
+    for byte in from..to {
+        write_label(code, notes, branch, first, second, Some(byte as u8))?;
+    }
+    Ok(())
+}
+
+/// Writes one label of a table for all first bytes above ASCII.
+fn write_wide(code: &mut Code, table: u32, label: u32)
+    ensures { KeepsData code.old code.new }
+{
+    let start = table as usize + 128;
+    let end = start + 128;
+    if end <= code.tables.len() {
+        code.tables.as_mut_slice()[start..end].fill(label);
+    }
+}
+
 /// Writes a table.
 fn write_table(code: &mut Code, notes: &mut Vec<u32>, branch: Branch) -> Result<(), AllocError>
     ensures { OnOk result (KeepsData code.old code.new) }
 {
-    for byte in 0..256u32 {
-        write_label(code, notes, branch, Some(byte as u8))?;
+    let first = operation_at(code, branch.first);
+    let second = operation_at(code, branch.second);
+    write_labels(code, notes, branch, first, second, 0, 128)?;
+    match wide_label(code, branch.first, first) {
+        Some(label) => write_wide(code, branch.table, label),
+        None => write_labels(code, notes, branch, first, second, 128, 256)?,
     }
-    write_label(code, notes, branch, None)
+    write_label(code, notes, branch, first, second, None)
 }
 
 /// Writes the tables that are demanded, the last first, since those of the parts of a choice come later. The

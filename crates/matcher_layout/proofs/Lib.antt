@@ -14,3 +14,4 @@ pub mod Until
 pub mod Stacks
 pub mod Between
 pub mod StackReads
+pub mod Gaps

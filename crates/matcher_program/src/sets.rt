@@ -1,16 +1,17 @@
 //! Sets, forms that match one character; and first sets.
-ghost use Rattle.std.specs.Prelude.{◌≡◌, ◌==◌, ◌<◌, ◌∷◌, ℕ, List, IfOk, chars, false, get_or, length, map, nat_eq, true};
+ghost use Rattle.std.specs.Prelude.{◌≡◌, ◌==◌, ◌<◌, ◌∷◌, ℕ, Bool, List, IfOk, chars, false, get_or, if◌then◌else◌, length, map, nat_eq, true};
 ghost use Rattle.meta_ast.specs.Ast.{text_of};
 ghost use Rattle.meta_base.specs.Language.Expression.{Expression, Grammar};
+ghost use Rattle.meta_base.specs.Language.Builtins.{is_between, is_letter};
 ghost use Rattle.meta_base.specs.Language.Matching.{any_begins, begins, character_outcome, starts_in};
 ghost use Rattle.meta_base.specs.Language.State.{moved};
 ghost use Rattle.meta_base.specs.Language.Text.{Text};
 ghost use Rattle.matcher_program.specs.declared.form.Property.{Property};
 ghost use Rattle.matcher_program.specs.Compiled.{Compiles};
-ghost use Rattle.matcher_program.specs.Programs.{AreStops, IsBarred, IsSetOf, characters_of, is_one, is_set, may_begin, may_start};
+ghost use Rattle.matcher_program.specs.Programs.{AreStops, IsBarred, IsSetOf, characters_of, is_one, is_set, may_begin, may_start, set_of};
 ghost use Rattle.matcher_program.specs.Rests.{GoesOn, IsLeft, Progress, leaving, span, standing};
 
-use crate::form::Form;
+use crate::form::{Class, Form};
 use crate::leaves::is_in;
 use std::alloc::{AllocError, Global};
 
@@ -94,15 +95,119 @@ fn matches_one(form: &Form, c: char) -> bool
     has_here(rest, c)
 }
 
+/// Sets the flags of some first characters, both ends included.
+fn mark(flags: &mut Vec<bool>, low: char, high: char)
+    requires long { length flags.old.items ≡ 128 }
+    ensures long { length flags.new.items ≡ 128 }
+    ensures told { (c : ℕ) (d : Bool) → c < 128 → get_or flags.new.items c d
+        ≡ (if is_between low high c then true else get_or flags.old.items c d) }
+{
+    let end = (high as u32).saturating_add(1).min(u32::from(FLAGS));
+    for number in (low as u32).min(end)..end {
+        flags[number as usize] = true;
+    }
+}
+
+/// Sets the flag of the character with which a text begins.
+fn mark_first(flags: &mut Vec<bool>, text: &str)
+    requires long { length flags.old.items ≡ 128 }
+    ensures long { length flags.new.items ≡ 128 }
+    ensures told { (c : ℕ) (d : Bool) → c < 128 → get_or flags.new.items c d
+        ≡ (if starts_in (λ e. nat_eq e c) (chars text.now) then true else get_or flags.old.items c d) }
+{
+    if let Some(c) = text.chars().next() {
+        mark(flags, c, c);
+    }
+}
+
+/// Sets the flags of the letters of ASCII.
+fn mark_letters(flags: &mut Vec<bool>)
+    requires long { length flags.old.items ≡ 128 }
+    ensures long { length flags.new.items ≡ 128 }
+    ensures told { (c : ℕ) (d : Bool) → c < 128 → get_or flags.new.items c d
+        ≡ (if is_letter c then true else get_or flags.old.items c d) }
+{
+    mark(flags, 'a', 'z');
+    mark(flags, 'A', 'Z');
+}
+
+/// Sets the flags of the characters in the set of a builtin.
+fn mark_class(flags: &mut Vec<bool>, class: Class)
+    requires long { length flags.old.items ≡ 128 }
+    ensures long { length flags.new.items ≡ 128 }
+    ensures told { (c : ℕ) (d : Bool) → c < 128 → get_or flags.new.items c d
+        ≡ (if set_of class c then true else get_or flags.old.items c d) }
+{
+    match class {
+        Class::Any | Class::Ascii => mark(flags, '\0', '\x7f'),
+        Class::Digit => mark(flags, '0', '9'),
+        Class::NonzeroDigit => mark(flags, '1', '9'),
+        Class::BinDigit => mark(flags, '0', '1'),
+        Class::OctDigit => mark(flags, '0', '7'),
+        Class::HexDigit => {
+            mark(flags, 'A', 'F');
+            mark(flags, 'a', 'f');
+            mark(flags, '0', '9');
+        }
+        Class::AlphaLower => mark(flags, 'a', 'z'),
+        Class::AlphaUpper => mark(flags, 'A', 'Z'),
+        Class::Alpha => mark_letters(flags),
+        Class::Alphanumeric => {
+            mark(flags, '0', '9');
+            mark_letters(flags);
+        }
+    }
+}
+
+/// Sets the flags of the characters that a form matches, which matches one character, and is no choice.
+fn mark_one(flags: &mut Vec<bool>, form: &Form)
+    requires one { is_one form.now ≡ true }
+    requires long { length flags.old.items ≡ 128 }
+    ensures long { length flags.new.items ≡ 128 }
+    ensures told { (c : ℕ) (d : Bool) → c < 128 → get_or flags.new.items c d
+        ≡ (if characters_of form.now c then true else get_or flags.old.items c d) }
+{
+    match form {
+        Form::Str(text) => mark_first(flags, text.as_str()),
+        Form::Range(low, high) => mark(flags, *low, *high),
+        Form::One(class) => mark_class(flags, *class),
+        _ => {}
+    }
+}
+
+/// Sets the flags of the characters that a form matches, which matches one character.
+fn mark_set(flags: &mut Vec<bool>, form: &Form)
+    requires set { is_set form.now ≡ true }
+    requires long { length flags.old.items ≡ 128 }
+    ensures long { length flags.new.items ≡ 128 }
+    ensures told { (c : ℕ) (d : Bool) → c < 128 → get_or flags.new.items c d
+        ≡ (if characters_of form.now c then true else get_or flags.old.items c d) }
+{
+    let mut rest = form;
+    'alternatives: while let Form::Choice(left, right) = rest {
+        mark_one(flags, left);
+        rest = right;
+    }
+    mark_one(flags, rest);
+}
+
+/// Returns a flag for each first character by number, none of which is set.
+fn no_flags(alloc: Global) -> Result<Vec<bool>, AllocError>
+    ensures long { IfOk result (λ flags. length flags.items ≡ 128) }
+    ensures none { IfOk result (λ flags. (c : ℕ) (d : Bool) → c < 128 → get_or flags.items c d ≡ false) }
+{
+    let mut flags = Vec::with_capacity(alloc, usize::from(FLAGS))?;
+    flags.resize(usize::from(FLAGS), false)?;
+    Ok(flags)
+}
+
 /// Returns a flag for each first character by number, set if a form matches it.
 fn flags_of(alloc: Global, form: &Form) -> Result<Vec<bool>, AllocError>
     requires { is_set form.now ≡ true }
     ensures { IfOk result (λ flags. IsSetOf flags.items form.now) }
 {
-    let mut flags = Vec::with_capacity(alloc, usize::from(FLAGS))?;
-    for number in 0..FLAGS {
-        flags.push(matches_one(form, number as char))?;
-    }
+    let mut flags = no_flags(alloc)?;
+    mark_set(&mut flags, form);
     Ok(flags)
 }
 
@@ -140,42 +245,62 @@ pub(crate) fn stops_of(alloc: Global, texts: &Vec<String>) -> Result<Vec<bool>, 
     Ok(flags)
 }
 
-/// Whether a form that matches one character, if it does, matches this one; where it is of another kind it
-/// may.
-fn may_match(form: &Form, c: char) -> bool
-    ensures { result ≡ false → characters_of form.now c ≡ false }
+/// Sets the flags of the characters with which a text may begin.
+fn mark_start(flags: &mut Vec<bool>, text: &str)
+    requires long { length flags.old.items ≡ 128 }
+    ensures long { length flags.new.items ≡ 128 }
+    ensures told { (c : ℕ) → c < 128 → get_or flags.new.items c true ≡ false
+        → (get_or flags.old.items c true ≡ false) × (may_start (chars text.now) c ≡ false) }
 {
-    if is_set(form) {
-        matches_one(form, c)
-    } else {
-        true
+    match text.chars().next() {
+        Some(c) => mark(flags, c, c),
+        None => mark(flags, '\0', '\x7f'),
     }
 }
 
-/// Whether a form may begin with a character, as far as that is seen from `levels` levels. Where not, it
-/// fails at once, and calls no rule before.
-#[cycle(may_begin)]
-fn may_begin(form: &Form, c: char, levels: u8) -> bool
-    ensures { result ≡ false → may_begin form.now c ≡ false }
+/// Sets the flags of the characters that a form matches, if it matches one character, and else all flags.
+fn mark_match(flags: &mut Vec<bool>, form: &Form)
+    requires long { length flags.old.items ≡ 128 }
+    ensures long { length flags.new.items ≡ 128 }
+    ensures told { (c : ℕ) → c < 128 → get_or flags.new.items c true ≡ false
+        → (get_or flags.old.items c true ≡ false) × (characters_of form.now c ≡ false) }
+{
+    if is_set(form) {
+        mark_set(flags, form);
+    } else {
+        mark(flags, '\0', '\x7f');
+    }
+}
+
+/// Sets the flags of the characters with which a form may begin, as far as that is seen from `levels` levels.
+/// Before others it fails at once, and calls no rule before.
+#[cycle(mark_firsts)]
+fn mark_firsts(flags: &mut Vec<bool>, form: &Form, levels: u8)
+    requires long { length flags.old.items ≡ 128 }
+    ensures long { length flags.new.items ≡ 128 }
+    ensures told { (c : ℕ) → c < 128 → get_or flags.new.items c true ≡ false
+        → (get_or flags.old.items c true ≡ false) × (may_begin form.now c ≡ false) }
 {
     if levels == 0 {
-        return true;
+        mark(flags, '\0', '\x7f');
+        return;
     }
     match form {
-        Form::Str(text) => may_start(text.as_str(), c),
-        Form::Range(low, high) => *low <= c && c <= *high,
-        Form::One(class) => is_in(*class, c),
-        Form::Set(_, inner) => may_match(inner, c),
+        Form::Str(text) => mark_start(flags, text.as_str()),
+        Form::Range(low, high) => mark(flags, *low, *high),
+        Form::One(class) => mark_class(flags, *class),
+        Form::Set(_, inner) => mark_match(flags, inner),
         Form::Choice(left, right) => {
-            may_begin(left, c, levels - 1) || may_begin(right, c, levels - 1)
+            mark_firsts(flags, left, levels - 1);
+            mark_firsts(flags, right, levels - 1);
         }
         Form::Seq(inner, _)
         | Form::PosPred(inner)
         | Form::RepOnce(inner)
         | Form::Push(inner)
         | Form::Tag(inner, _)
-        | Form::Restore(inner) => may_begin(inner, c, levels - 1),
-        _ => true,
+        | Form::Restore(inner) => mark_firsts(flags, inner, levels - 1),
+        _ => mark(flags, '\0', '\x7f'),
     }
 }
 
@@ -185,10 +310,8 @@ pub(crate) fn firsts_of(alloc: Global, form: &Form) -> Result<Vec<bool>, AllocEr
     ensures { IfOk result (λ flags. (c : ℕ) → c < length flags.items
         → get_or flags.items c true ≡ false → may_begin form.now c ≡ false) }
 {
-    let mut flags = Vec::with_capacity(alloc, usize::from(FLAGS))?;
-    for number in 0..FLAGS {
-        flags.push(may_begin(form, number as char, LEVELS))?;
-    }
+    let mut flags = no_flags(alloc)?;
+    mark_firsts(&mut flags, form, LEVELS);
     Ok(flags)
 }
 

@@ -1,20 +1,22 @@
 -- The characters with which expressions begin.
-use Rattle.std.proofs.Common.{◌≡◌, refl, sym, ◌∙◌, ap, ap₂, subst, ℕ, zero, suc, ◌<◌, List, [], ◌∷◌, ◌++◌, Bool, true, false, ◌||◌, ◌&&◌, inl, inr, None, Some, arith, get_or, length, nat_eq, if◌then◌else◌}
-use Rattle.std.specs.Prelude.{Err, IfOk, IfSome, Ok, Option, Result, max}
+use Rattle.std.proofs.Common.{◌≡◌, refl, sym, ◌∙◌, ap, ap₂, subst, ℕ, zero, suc, ◌<◌, List, [], ◌∷◌, ◌++◌, Bool, true, false, ◌||◌, ◌&&◌, inl, inr, None, Some, ◌+◌, ◌≤◌, arith, eqb-true, get_or, length, nat_eq, if◌then◌else◌}
+use Rattle.std.specs.Char.{eq_ignore_ascii_case, to_ascii_lowercase, to_ascii_uppercase}
+use Rattle.std.proofs.lemmas.Str.Ascii.{lowercase_is, uppercase_is}
+use Rattle.std.specs.Prelude.{◌⊎◌, Err, IfOk, IfSome, Ok, Option, Result, max}
 use Rattle.std.proofs.Math.ListN.{set}
 use Rattle.std.proofs.lemmas.Bool.{cases_lt}
 use Rattle.std.proofs.lemmas.List.{get_or-set_other, get_or-set_same}
 use Rattle.meta_ast.specs.Ast.{rule_type_of}
 use Rattle.meta_base.specs.Language.Builtins.{is_between}
-use Rattle.meta_base.specs.Language.Expression.{Choice, Expression, Grammar, Ident, Opt, RepOnce, Rule, Seq, Str, rule_of}
+use Rattle.meta_base.specs.Language.Expression.{Choice, Expression, Grammar, Ident, Insens, NegPred, NodeTag, Opt, Rep, RepOnce, RestoreOnErr, Rule, Seq, Str, rule_of}
 use Rattle.meta_base.specs.Language.FurthestFailure.{furthest, place_of}
 use Rattle.meta_base.specs.Language.Matching.{begins, starts_in}
 use Rattle.meta_base.specs.Language.Meaning as by
-use Rattle.meta_base.specs.Language.Meaning.{Does, Run, body_mode, gives_token, mode_in, seen_from}
-use Rattle.meta_base.specs.Language.State.{Classes, Failure, Mode, None', Outcome, Success, moved}
+use Rattle.meta_base.specs.Language.Meaning.{Does, Run, Skipping, body_mode, gives_token, mode_in, seen_from}
+use Rattle.meta_base.specs.Language.State.{Classes, Failure, Mode, NonAtomicMode, None', Outcome, State, Success, moved}
 use Rattle.meta_base.specs.Language.Text.{Text}
 use Rattle.matcher_code.specs.Reading.{is_covered}
-use Rattle.matcher_layout.specs.Laid.{FailsOutside, IsTight, Misses}
+use Rattle.matcher_layout.specs.Laid.{FailsOutside, IsTight, Misses, TakesNone}
 use Rattle.matcher_program.specs.declared.form.Form.{Form}
 use Rattle.matcher_program.specs.declared.form.Program.{Program}
 use Rattle.matcher_program.specs.declared.form.Row.{Row}
@@ -23,7 +25,7 @@ use Rattle.matcher_sets.specs.declared.heads.Head.{Head}
 use Rattle.matcher_sets.specs.declared.modes.Atomicity.{Atomicity}
 use Rattle.matcher_sets.specs.Differences.{AddsFirsts, is_success}
 use Rattle.matcher_sets.specs.Forms.{IsSoundProgram, grammar_in, said}
-use Rattle.matcher_sets.specs.Heads.{AreHeadsIn, HasHead, IsCall, IsJoin, TakesNothing}
+use Rattle.matcher_sets.specs.Heads.{AreHeadsIn, HasFront, HasHead, IsCall, IsGapHead, IsJoin, TakesNothing}
 use Rattle.matcher_sets.specs.Modes.{mode_of}
 use Rattle.matcher_sets.specs.Ranges.{Adds}
 use Rattle.matcher_sets.proofs.Ranging.{between_same, covered-append, or_none}
@@ -43,14 +45,22 @@ misses_starts : (ranges : List (ℕ × ℕ)) (set : ℕ → Bool) → Adds [] ra
 misses_starts ranges set adds [] h = refl
 misses_starts ranges set adds (c ∷ cs) h = sym (adds c h.0) ∙ h.1
 
-greater_place : (a b : Bool) (i : ℕ) → max (if a then i else 0) (if b then i else 0) ≡ (if (a || b) then i else 0)
+pub greater_place : (a b : Bool) (i : ℕ) → max (if a then i else 0) (if b then i else 0) ≡ (if (a || b) then i else 0)
 greater_place true true i = omega arith
 greater_place true false i = omega arith
 greater_place false true i = omega arith
 greater_place false false i = refl
 
-between_parts : (a k b : ℕ) → k ≡ 0 → max a (max k b) ≡ max a b
-between_parts a k b h = omega (arith, h)
+first_parts : (a k b : ℕ) → max a (max k b) ≡ max (max a k) b
+first_parts a k b = omega arith
+
+beside_none : (a k b : ℕ) → a ≡ b → k ≡ 0 → max a k ≡ b
+beside_none a k b e h = omega (arith, e, h)
+
+-- an expression takes nothing, and neither does the skipping behind it
+abbrev pub HaveTaken : Grammar → Classes → Mode → Expression → State → Bool → Type 0
+HaveTaken g classes m a s n = (d : Does g classes (Run m a) s (Success s None'))
+    × ((k : Does g classes (Skipping m) s (Success s None')) × (max (furthest d) (furthest k) ≡ place_of n s Failure))
 
 module _ (g : Grammar) (classes : Classes) (m : Mode) where
   module _ (a b : Expression) where
@@ -68,24 +78,51 @@ module _ (g : Grammar) (classes : Classes) (m : Mode) where
     pub first_fails : (xs : List (ℕ × ℕ)) (n : Bool) → TakesNothing g classes (Run m a) xs false n → TakesNothing g classes (Run m (Seq a b)) xs false n
     first_fails xs n x s h = let u = x s h in (by.seq_first u.0, u.1)
 
-    pub both_take : (xs ys : List (ℕ × ℕ)) (n e k : Bool) → IsTight g classes m → TakesNothing g classes (Run m a) xs true n → TakesNothing g classes (Run m b) ys e k
+    pub tight_takes : (xs : List (ℕ × ℕ)) (n : Bool) → IsTight g classes m → TakesNothing g classes (Run m a) xs true n
+        → (s : State) → Misses xs s.rest → HaveTaken g classes m a s n
+    tight_takes xs n tight x s h =
+        let u = x s h in
+        let t = tight s in
+        (u.0, (t.0, beside_none (furthest u.0) (furthest t.0) (place_of n s Failure) u.1 t.1))
+
+    pub skipping_takes : (xs ys : List (ℕ × ℕ)) (n k : Bool) → TakesNothing g classes (Run m a) xs true n → TakesNothing g classes (Skipping m) ys true k
+        → (s : State) → Misses (xs ++ ys) s.rest → HaveTaken g classes m a s (n || k)
+    skipping_takes xs ys n k x y s h =
+        let i = misses_parts xs ys s.rest h in
+        let u = x s i.0 in
+        let v = y s i.1 in
+        (u.0, (v.0, ap₂ (λ p q. max p q) u.1 v.1 ∙ greater_place n k s.position))
+
+    pub both_take : (xs ys : List (ℕ × ℕ)) (n e k : Bool) → ((s : State) → Misses xs s.rest → HaveTaken g classes m a s n) → TakesNothing g classes (Run m b) ys e k
         → TakesNothing g classes (Run m (Seq a b)) (xs ++ ys) e (n || k)
-    both_take xs ys n true k tight x y s h =
+    both_take xs ys n true k x y s h =
         let i = misses_parts xs ys s.rest h in
         let u = x s i.0 in
-        let t = tight s in
+        let t = u.1 in
         let v = y s i.1 in
-        (by.seq u.0 t.0 v.0, between_parts (furthest u.0) (furthest t.0) (furthest v.0) t.1 ∙ (ap₂ (λ p q. max p q) u.1 v.1 ∙ greater_place n k s.position))
-    both_take xs ys n false k tight x y s h =
+        (by.seq u.0 t.0 v.0, first_parts (furthest u.0) (furthest t.0) (furthest v.0) ∙ (ap₂ (λ p q. max p q) t.1 v.1 ∙ greater_place n k s.position))
+    both_take xs ys n false k x y s h =
         let i = misses_parts xs ys s.rest h in
         let u = x s i.0 in
-        let t = tight s in
+        let t = u.1 in
         let v = y s i.1 in
-        (by.seq_second u.0 t.0 v.0, between_parts (furthest u.0) (furthest t.0) (furthest v.0) t.1 ∙ (ap₂ (λ p q. max p q) u.1 v.1 ∙ greater_place n k s.position))
+        (by.seq_second u.0 t.0 v.0, first_parts (furthest u.0) (furthest t.0) (furthest v.0) ∙ (ap₂ (λ p q. max p q) t.1 v.1 ∙ greater_place n k s.position))
 
   pub option_takes : (a : Expression) (xs : List (ℕ × ℕ)) (e n : Bool) → TakesNothing g classes (Run m a) xs e n → TakesNothing g classes (Run m (Opt a)) xs true n
   option_takes a xs true n x s h = let u = x s h in (by.opt u.0, u.1)
   option_takes a xs false n x s h = let u = x s h in (by.opt_none u.0, u.1)
+
+  pub repetition_takes : (a : Expression) (xs : List (ℕ × ℕ)) (n : Bool) → TakesNothing g classes (Run m a) xs false n → TakesNothing g classes (Run m (Rep a)) xs true n
+  repetition_takes a xs n x s h = let u = x s h in (by.rep_none u.0, u.1)
+
+  pub negation_takes : (a : Expression) (xs : List (ℕ × ℕ)) (n : Bool) → TakesNothing g classes (Run m a) xs false n → TakesNothing g classes (Run m (NegPred a)) xs true n
+  negation_takes a xs n x s h = let u = x s h in (by.neg_pred u.0, u.1)
+
+  pub tag_takes : (a : Expression) (t : Text) (xs : List (ℕ × ℕ)) (e n : Bool) → TakesNothing g classes (Run m a) xs e n → TakesNothing g classes (Run m (NodeTag a t)) xs e n
+  tag_takes a t xs e n x s h = let u = x s h in (by.tag u.0, u.1)
+
+  pub restore_takes : (a : Expression) (xs : List (ℕ × ℕ)) (e n : Bool) → TakesNothing g classes (Run m a) xs e n → TakesNothing g classes (Run m (RestoreOnErr a)) xs e n
+  restore_takes a xs e n x s h = let u = x s h in (by.restore u.0, u.1)
 
   pub once_takes : (a : Expression) (xs : List (ℕ × ℕ)) (n : Bool) → TakesNothing g classes (Run m a) xs false n → TakesNothing g classes (Run m (RepOnce a)) xs false n
   once_takes a xs n x s h = let u = x s h in (by.rep_once (by.seq_first u.0), u.1)
@@ -114,6 +151,65 @@ module _ (g : Grammar) (classes : Classes) (m : Mode) where
       one [] h = tt
       one (d ∷ cs) h = (h.0, or_none (is_between c c d) ∙ (sym (adds d h.0) ∙ h.1))
 
+-- a literal in any case, by the cases of its first character
+other_case : (c d : ℕ) → eq_ignore_ascii_case c d ≡ true → (d ≡ to_ascii_lowercase c) ⊎ (d ≡ to_ascii_uppercase c)
+other_case c d e = elim (cases_lt d 65) [
+  | inl k ↦ inl (sym (h ∙ (lowercase_is d).1 k))
+  | inr k ↦ elim (cases_lt 90 d) [ inl l ↦ inl (sym (h ∙ (lowercase_is d).2 l)) | inr l ↦ inr (capital k l) ]
+]
+  where
+    h : to_ascii_lowercase c ≡ to_ascii_lowercase d
+    h = eqb-true (to_ascii_lowercase c) (to_ascii_lowercase d) e
+
+    capital : 65 ≤ d → d ≤ 90 → d ≡ to_ascii_uppercase c
+    capital k l =
+        let x : to_ascii_lowercase c ≡ d + 32 = h ∙ (lowercase_is d).0 (k, l) in
+        elim (cases_lt c 65) [
+          | inl i ↦ absurd (omega (arith, i, k, x, (lowercase_is c).1 i))
+          | inr i ↦ elim (cases_lt 90 c) [
+            | inl j ↦
+                let y : c ≡ d + 32 = sym ((lowercase_is c).2 j) ∙ x in
+                let z = (uppercase_is c).0 (omega (arith, y, k), omega (arith, y, l)) in
+                omega (arith, y, z)
+            | inr j ↦
+                let y = (lowercase_is c).0 (i, j) in
+                let z = (uppercase_is c).1 (omega (arith, j)) in
+                omega (arith, x, y, z)
+          ]
+        ]
+
+pub any_case_takes : (g : Grammar) (classes : Classes) (m : Mode) (t : Text) (c : ℕ) → ((d : ℕ) → starts_in (λ e. nat_eq e d) t ≡ nat_eq c d)
+    → (xs ys : List (ℕ × ℕ)) → Adds [] xs (is_between (to_ascii_lowercase c) (to_ascii_lowercase c)) → Adds xs ys (is_between (to_ascii_uppercase c) (to_ascii_uppercase c))
+    → TakesNothing g classes (Run m (Insens t)) ys false false
+any_case_takes g classes m t c first xs ys low high s miss =
+    let P : Bool → Type 0 = λ b. (d : Does g classes (Run m (Insens t)) s (if b then Success (moved (length t) s) None' else Failure)) × (furthest d ≡ 0) in
+    subst P (begins_none t s.rest first miss) (by.insens, refl)
+  where
+    outside : (d : ℕ) → d < 1114112 → is_covered ys d ≡ false → eq_ignore_ascii_case c d ≡ false
+    outside d l free = go (eq_ignore_ascii_case c d) refl
+      where
+        one : (a : ℕ) → d ≡ a → is_between a a d ≡ true
+        one a e = between_same a d ∙ (ap (λ x. nat_eq a x) e ∙ same_self a)
+
+        covered : (is_between (to_ascii_lowercase c) (to_ascii_lowercase c) d ≡ false) × (is_between (to_ascii_uppercase c) (to_ascii_uppercase c) d ≡ false)
+        covered =
+            let x = neither (is_covered xs d) (is_between (to_ascii_uppercase c) (to_ascii_uppercase c) d) (sym (high d l) ∙ free) in
+            (sym (low d l) ∙ x.0, x.1)
+
+        go : (b : Bool) → eq_ignore_ascii_case c d ≡ b → eq_ignore_ascii_case c d ≡ false
+        go false e = e
+        go true e = elim (other_case c d e) [
+          | inl q ↦ let z : true ≡ false = sym (one (to_ascii_lowercase c) q) ∙ covered.0 in cc
+          | inr q ↦ let z : true ≡ false = sym (one (to_ascii_uppercase c) q) ∙ covered.1 in cc
+        ]
+
+    begins_none : (u cs : Text) → ((d : ℕ) → starts_in (λ e. nat_eq e d) u ≡ nat_eq c d) → Misses ys cs → begins eq_ignore_ascii_case u cs ≡ false
+    begins_none [] cs f k = let z : false ≡ true = f c ∙ same_self c in cc
+    begins_none (x ∷ u) [] f k = refl
+    begins_none (x ∷ u) (d ∷ cs) f k =
+        let e : x ≡ c = eqb-true x c (f c ∙ same_self c) in
+        ap (λ b. b && begins eq_ignore_ascii_case u cs) (ap (λ y. eq_ignore_ascii_case y d) e ∙ outside d k.0 k.1)
+
 -- a form that begins with one of some characters
 pub firsts_take : (p : Program) (f : Form) (m : Atomicity) (ranges : List (ℕ × ℕ)) → AddsFirsts p f [] ranges → (classes : Classes) → Fits p.properties.items classes
     → TakesNothing (grammar_in p) classes (Run (mode_of m) (said p f)) ranges false false
@@ -131,6 +227,11 @@ firsts_take p f m ranges h classes fits s miss =
 pub fails_outside : (p : Program) (m : Mode) (e : Expression) (h : Head) → HasHead p m e h → h.empty ≡ false → (classes : Classes) → Fits p.properties.items classes
     → FailsOutside (grammar_in p) classes (Run m e) h.ranges.items h.noted
 fails_outside p m e h x q classes fits = subst (λ b. TakesNothing (grammar_in p) classes (Run m e) h.ranges.items b h.noted) q (x.takes classes fits)
+
+-- where a form always succeeds without taking something
+pub takes_none : (p : Program) (m : Mode) (e : Expression) (h : Head) → HasHead p m e h → h.empty ≡ true → (classes : Classes) → Fits p.properties.items classes
+    → TakesNone (grammar_in p) classes (Run m e) h.ranges.items h.noted
+takes_none p m e h x q classes fits = subst (λ b. TakesNothing (grammar_in p) classes (Run m e) h.ranges.items b h.noted) q (x.takes classes fits)
 
 -- heads by those of the parts
 module _ (p : Program) (m : Mode) (a b : Expression) where
@@ -165,21 +266,52 @@ module _ (p : Program) (m : Mode) (a b : Expression) where
         (with_empty h a classes q (x.takes classes fits)) (y.takes classes fits));
   }
 
-  pub both_head : (h k j : Head) → h.empty ≡ true → IsJoin h k j → ((classes : Classes) → IsTight (grammar_in p) classes m) → HasHead p m a h → HasHead p m b k
-      → HasHead p m (Seq a b) j
-  both_head h k j q joined tight x y = record {
-    takes = λ classes fits.
-        joined_as (Seq a b) classes h k j joined (both_take (grammar_in p) classes m a b h.ranges.items k.ranges.items h.noted k.empty k.noted (tight classes)
-        (with_empty h a classes q (x.takes classes fits)) (y.takes classes fits));
+  pub tight_front : (h : Head) → h.empty ≡ true → ((classes : Classes) → IsTight (grammar_in p) classes m) → HasHead p m a h → HasFront p m a h
+  tight_front h q tight x = record {
+    takes = λ classes fits. tight_takes (grammar_in p) classes m a b h.ranges.items h.noted (tight classes) (with_empty h a classes q (x.takes classes fits));
   }
 
-  pub option_head : (h j : Head) → j.ranges.items ≡ h.ranges.items → j.empty ≡ true → j.noted ≡ h.noted → HasHead p m a h → HasHead p m (Opt a) j
-  option_head h j r q n x = record {
+  pub gap_front : (h k j : Head) → h.empty ≡ true → m ≡ NonAtomicMode → IsJoin h k j → HasHead p m a h → IsGapHead p k → HasFront p m a j
+  gap_front h k j q e joined x y = record {
     takes = λ classes fits.
-        with_empty j (Opt a) classes (sym q) (subst (λ n. TakesNothing (grammar_in p) classes (Run m (Opt a)) j.ranges.items true n) (sym n)
-        (subst (λ r. TakesNothing (grammar_in p) classes (Run m (Opt a)) r true h.noted) (sym r)
-        (option_takes (grammar_in p) classes m a h.ranges.items h.empty h.noted (x.takes classes fits))));
+        let z = subst (λ i. TakesNothing (grammar_in p) classes (Skipping i) k.ranges.items true k.noted) (sym e) (y.takes classes fits) in
+        let w = skipping_takes (grammar_in p) classes m a b h.ranges.items k.ranges.items h.noted k.noted (with_empty h a classes q (x.takes classes fits)) z in
+        subst (λ r. (s : State) → Misses r s.rest → HaveTaken (grammar_in p) classes m a s j.noted) (sym joined.ranges)
+        (subst (λ n. (s : State) → Misses (h.ranges.items ++ k.ranges.items) s.rest → HaveTaken (grammar_in p) classes m a s n) (sym joined.noted) w);
   }
+
+  pub both_head : (h k j : Head) → IsJoin h k j → HasFront p m a h → HasHead p m b k → HasHead p m (Seq a b) j
+  both_head h k j joined x y = record {
+    takes = λ classes fits.
+        joined_as (Seq a b) classes h k j joined (both_take (grammar_in p) classes m a b h.ranges.items k.ranges.items h.noted k.empty k.noted
+        (x.takes classes fits) (y.takes classes fits));
+  }
+
+  -- another head with the ranges of the operand's, where nothing is taken
+  spared_as : (e : Expression) (h j : Head) → j.ranges.items ≡ h.ranges.items → j.empty ≡ true → j.noted ≡ h.noted
+      → ((classes : Classes) → Fits p.properties.items classes → TakesNothing (grammar_in p) classes (Run m e) h.ranges.items true h.noted) → HasHead p m e j
+  spared_as e h j r q n x = record {
+    takes = λ classes fits.
+        with_empty j e classes (sym q) (subst (λ n. TakesNothing (grammar_in p) classes (Run m e) j.ranges.items true n) (sym n)
+        (subst (λ r. TakesNothing (grammar_in p) classes (Run m e) r true h.noted) (sym r) (x classes fits)));
+  }
+
+  pub repetition_head : (h j : Head) → j.ranges.items ≡ h.ranges.items → j.empty ≡ true → j.noted ≡ h.noted → h.empty ≡ false → HasHead p m a h → HasHead p m (Rep a) j
+  repetition_head h j r q n f x = spared_as (Rep a) h j r q n
+      (λ classes fits. repetition_takes (grammar_in p) classes m a h.ranges.items h.noted (with_empty h a classes f (x.takes classes fits)))
+
+  pub negation_head : (h j : Head) → j.ranges.items ≡ h.ranges.items → j.empty ≡ true → j.noted ≡ h.noted → h.empty ≡ false → HasHead p m a h → HasHead p m (NegPred a) j
+  negation_head h j r q n f x = spared_as (NegPred a) h j r q n
+      (λ classes fits. negation_takes (grammar_in p) classes m a h.ranges.items h.noted (with_empty h a classes f (x.takes classes fits)))
+
+  pub tag_head : (h : Head) (t : Text) → HasHead p m a h → HasHead p m (NodeTag a t) h
+  tag_head h t x = record { takes = λ classes fits. tag_takes (grammar_in p) classes m a t h.ranges.items h.empty h.noted (x.takes classes fits) }
+
+  pub restore_head : (h : Head) → HasHead p m a h → HasHead p m (RestoreOnErr a) h
+  restore_head h x = record { takes = λ classes fits. restore_takes (grammar_in p) classes m a h.ranges.items h.empty h.noted (x.takes classes fits) }
+
+  pub option_head : (h j : Head) → j.ranges.items ≡ h.ranges.items → j.empty ≡ true → j.noted ≡ h.noted → HasHead p m a h → HasHead p m (Opt a) j
+  option_head h j r q n x = spared_as (Opt a) h j r q n (λ classes fits. option_takes (grammar_in p) classes m a h.ranges.items h.empty h.noted (x.takes classes fits))
 
   pub once_head : (h : Head) → h.empty ≡ false → HasHead p m a h → HasHead p m (RepOnce a) h
   once_head h q x = record {

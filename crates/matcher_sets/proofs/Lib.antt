@@ -8,3 +8,5 @@ pub mod Searching
 pub mod Starting
 pub mod Heading
 pub mod Rules
+pub mod Skipping
+pub mod Silent

@@ -1,5 +1,6 @@
 -- Forms of a program, and what they mean.
-use Rattle.meta_base.specs.Language.Expression.{Expression, Grammar}
+use Rattle.std.specs.Prelude.{[]}
+use Rattle.meta_base.specs.Language.Expression.{Expression, Grammar, Normal, Rule, Str}
 use Rattle.matcher_program.specs.declared.form.Form.{Form}
 use Rattle.matcher_program.specs.declared.form.Program.{Program}
 use Rattle.matcher_program.specs.Programs.{IsBound, IsSound, expression_of, grammar_of, names_of}
@@ -10,6 +11,10 @@ grammar_in p = grammar_of p.rows.items
 
 abbrev pub said : Program → Form → Expression
 said p f = expression_of (names_of p.rows.items) f
+
+-- a stand-in for a rule that a grammar does not have
+abbrev pub no_rule : Rule
+no_rule = record { name = []; type_of = Normal; body = Str [] }
 
 -- the names in a form mean what they are resolved to
 abbrev pub IsBoundIn : Program → Form → Type 0

@@ -1,10 +1,11 @@
 -- The characters with which forms begin.
-use Rattle.std.specs.Prelude.{◌≡◌, ◌<◌, ◌++◌, ◌||◌, ℕ, Bool, true, false, List, Option, None, IfSome, get_or, length}
-use Rattle.meta_base.specs.Language.Expression.{Expression, Grammar}
+use Rattle.std.specs.Prelude.{◌≡◌, ◌<◌, ◌++◌, ◌||◌, ℕ, Bool, true, false, List, Option, None, IfSome, get_or, length, max}
+use Rattle.meta_base.specs.Language.Expression.{Expression, Ident, Grammar}
 use Rattle.meta_base.specs.Language.FurthestFailure.{furthest, place_of}
-use Rattle.meta_base.specs.Language.Meaning.{Does, Run, Task}
-use Rattle.meta_base.specs.Language.State.{AtomicMode, Classes, CompoundAtomicMode, Failure, Mode, NonAtomicMode, None', Outcome, State, Success}
-use Rattle.matcher_layout.specs.Laid.{Misses}
+use Rattle.meta_base.specs.Language.Meaning.{Does, Run, Skipping, Task}
+use Rattle.meta_base.specs.Language.Text.{Text}
+use Rattle.meta_base.specs.Language.State.{AtomicMode, Between, Classes, CompoundAtomicMode, Failure, Mode, NonAtomicMode, None', Outcome, State, Success}
+use Rattle.matcher_layout.specs.Laid.{FailsOutside, Misses}
 use Rattle.matcher_program.specs.declared.form.Program.{Program}
 use Rattle.matcher_program.specs.declared.form.Row.{Row}
 use Rattle.matcher_program.specs.Programs.{Fits}
@@ -26,6 +27,24 @@ TakesNothing g classes k ranges empty noted = (s : State) → Misses ranges s.re
 pub record HasHead (p : Program) (m : Mode) (e : Expression) (h : Head) : Type 0 where
   pub takes : (classes : Classes) → Fits p.properties.items classes
       → TakesNothing (grammar_in p) classes (Run m e) h.ranges.items h.empty h.noted
+
+-- so it is of an expression with the skipping behind it, which take nothing then
+pub record HasFront (p : Program) (m : Mode) (e : Expression) (h : Head) : Type 0 where
+  pub takes : (classes : Classes) → Fits p.properties.items classes
+      → (s : State) → Misses h.ranges.items s.rest
+      → (d : Does (grammar_in p) classes (Run m e) s (Success s None'))
+      × ((k : Does (grammar_in p) classes (Skipping m) s (Success s None'))
+      × (max (furthest d) (furthest k) ≡ place_of h.noted s Failure))
+
+-- so it is of the implicit skipping in NonAtomic
+pub record IsGapHead (p : Program) (h : Head) : Type 0 where
+  pub takes : (classes : Classes) → Fits p.properties.items classes
+      → TakesNothing (grammar_in p) classes (Skipping NonAtomicMode) h.ranges.items true h.noted
+
+-- so a call of a rule of the implicit skipping fails there, and without a rule of that name everywhere
+pub record IsSkipHead (p : Program) (x : Text) (h : Head) : Type 0 where
+  pub fails : (classes : Classes) → Fits p.properties.items classes
+      → FailsOutside (grammar_in p) classes (Run Between (Ident x)) h.ranges.items h.noted
 
 -- a head has the characters of two, and is the second where none of them is next
 pub record IsJoin (first second head : Head) : Type 0 where
@@ -49,3 +68,4 @@ pub record AreHeads (p : Program) (heads : Heads) : Type 0 where
   pub non_atomic : AreHeadsIn p NonAtomicMode heads.non_atomic.items
   pub atomic : AreHeadsIn p AtomicMode heads.atomic.items
   pub compound_atomic : AreHeadsIn p CompoundAtomicMode heads.compound_atomic.items
+  pub gap : IfSome heads.gap (IsGapHead p)

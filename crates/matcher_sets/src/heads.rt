@@ -1,15 +1,15 @@
 //! First characters of forms.
-ghost use Rattle.std.specs.Prelude.{◌≡◌, ◌<◌, ◌&&◌, IfOk, IfSome, None, OnOk, chars, get_or, length, true};
-ghost use Rattle.meta_base.specs.Language.Expression.{Choice, Expression, Grammar, Ident, Opt, RepOnce, Seq, Str};
+ghost use Rattle.std.specs.Prelude.{◌≡◌, ◌<◌, ◌&&◌, IfOk, IfSome, None, OnOk, chars, false, get_or, length, true};
+ghost use Rattle.meta_base.specs.Language.Expression.{Choice, Expression, Grammar, Ident, Insens, NegPred, NodeTag, Opt, Rep, RepOnce, RestoreOnErr, Seq, Str};
 ghost use Rattle.meta_ast.specs.Ast.{rule_type_of};
 ghost use Rattle.meta_base.specs.Language.Meaning.{gives_token, seen_from};
-ghost use Rattle.meta_base.specs.Language.State.{Classes, Mode};
+ghost use Rattle.meta_base.specs.Language.Text.{Text};
+ghost use Rattle.meta_base.specs.Language.State.{Classes, Mode, NonAtomicMode};
 ghost use Rattle.matcher_layout.specs.Laid.{IsTight};
 ghost use Rattle.matcher_program.specs.Programs.{IsRuleOf, name_at, names_of};
 ghost use Rattle.matcher_program.specs.declared.form.Program.{Program};
-ghost use Rattle.matcher_program.specs.declared.form.Row.{Row};
 ghost use Rattle.matcher_sets.specs.Forms.{IsBoundIn, IsSoundProgram, grammar_in, said};
-ghost use Rattle.matcher_sets.specs.Heads.{AreHeads, AreHeadsIn, HasHead, IsCall, IsJoin};
+ghost use Rattle.matcher_sets.specs.Heads.{AreHeads, AreHeadsIn, HasFront, HasHead, IsCall, IsJoin};
 ghost use Rattle.matcher_sets.specs.Modes.{mode_of};
 
 use crate::difference::{MOST_RANGES, push_firsts};
@@ -21,10 +21,7 @@ use meta_ast::ast::RuleType;
 use std::alloc::{AllocError, Global};
 
 /// How deep the parts of a form are looked into.
-const DEPTH: u32 = 64;
-
-/// How often the heads of all rules are looked for.
-const ROUNDS: u32 = 3;
+pub(crate) const DEPTH: u32 = 64;
 
 /// The characters with which a form begins. Where none of them is next, the form takes nothing.
 #[derive(Drop)]
@@ -36,16 +33,17 @@ pub struct Head {
     pub noted: bool,
 }
 
-/// The heads of the bodies of rules in each mode, as far as they are known.
+/// The heads of the bodies of rules in each mode, and that of the implicit skipping, if they are known.
 #[derive(Drop)]
 pub struct Heads {
     pub(crate) non_atomic: Vec<Option<Head>>,
     pub(crate) atomic: Vec<Option<Head>>,
     pub(crate) compound_atomic: Vec<Option<Head>>,
+    pub(crate) gap: Option<Head>,
 }
 
 /// Returns a head with the characters of two, or `None` if they are too many.
-fn join(first: Head, second: &Head) -> Result<Option<Head>, AllocError>
+pub(crate) fn join(first: Head, second: &Head) -> Result<Option<Head>, AllocError>
     ensures { IfOk result (λ made. IfSome made (IsJoin first second.now)) }
 {
     let Head {
@@ -79,12 +77,11 @@ fn choice_head(first: Head, second: Option<Head>) -> Result<Option<Head>, AllocE
     }
 }
 
-/// Returns the head of a sequence whose first part may take nothing, by those of its parts.
+/// Returns the head of a sequence, by that of its first part with the skipping behind it, which may take
+/// nothing, and that of its second part.
 fn sequence_head(first: Head, second: Option<Head>) -> Result<Option<Head>, AllocError>
-    requires empty { first.empty ≡ true }
     ensures { IfOk result (λ made. IfSome made (λ head. (p : Program) (m : Mode) (a b : Expression)
-        → ((classes : Classes) → IsTight (grammar_in p) classes m)
-        → HasHead p m a first → IfSome second (HasHead p m b) → HasHead p m (Seq a b) head)) }
+        → HasFront p m a first → IfSome second (HasHead p m b) → HasHead p m (Seq a b) head)) }
 {
     match second {
         Some(other) => join(first, &other),
@@ -92,9 +89,14 @@ fn sequence_head(first: Head, second: Option<Head>) -> Result<Option<Head>, Allo
     }
 }
 
-/// Returns the head of an option, by that of its operand.
+/// Returns the head of an option, a repetition or a negative lookahead, by that of its operand.
 fn option_head(body: Head) -> Head
-    ensures { (p : Program) (m : Mode) (e : Expression) → HasHead p m e body → HasHead p m (Opt e) result }
+    ensures option { (p : Program) (m : Mode) (e : Expression)
+        → HasHead p m e body → HasHead p m (Opt e) result }
+    ensures repetition { body.empty ≡ false → (p : Program) (m : Mode) (e : Expression)
+        → HasHead p m e body → HasHead p m (Rep e) result }
+    ensures lookahead { body.empty ≡ false → (p : Program) (m : Mode) (e : Expression)
+        → HasHead p m e body → HasHead p m (NegPred e) result }
 {
     let Head {
         ranges,
@@ -126,6 +128,27 @@ fn literal_head(alloc: Global, text: &str) -> Result<Option<Head>, AllocError>
     }))
 }
 
+/// Returns the head of a literal in any case.
+fn any_case_head(alloc: Global, text: &str) -> Result<Option<Head>, AllocError>
+    ensures { IfOk result (λ made. IfSome made (λ head. (p : Program) (m : Mode)
+        → HasHead p m (Insens (chars text.now)) head)) }
+{
+    let c = match first_character(text) {
+        Some(c) => c,
+        None => return Ok(None),
+    };
+    let lower = c.to_ascii_lowercase() as u32;
+    let upper = c.to_ascii_uppercase() as u32;
+    let mut ranges = Vec::new(alloc);
+    push_range(&mut ranges, lower, lower)?;
+    push_range(&mut ranges, upper, upper)?;
+    Ok(Some(Head {
+        ranges,
+        empty: false,
+        noted: false,
+    }))
+}
+
 /// Returns the head of a form that begins with one of some characters, and has no operands.
 fn leaf_head(
     alloc: Global,
@@ -150,7 +173,7 @@ fn leaf_head(
 }
 
 /// Returns the heads of bodies in a mode.
-fn heads_in(heads: &Heads, mode: Atomicity) -> &[Option<Head>]
+pub(crate) fn heads_in(heads: &Heads, mode: Atomicity) -> &[Option<Head>]
     ensures { (p : Program) → AreHeads p heads.entry.now → AreHeadsIn p (mode_of mode) result.now }
 {
     match mode {
@@ -161,7 +184,7 @@ fn heads_in(heads: &Heads, mode: Atomicity) -> &[Option<Head>]
 }
 
 /// Returns a head, if it is known.
-fn known_head(known: &Option<Head>) -> Option<&Head>
+pub(crate) fn known_head(known: &Option<Head>) -> Option<&Head>
     ensures { IfSome result (λ head. known.entry.now ≡ Some head.now) }
 {
     match known {
@@ -171,7 +194,7 @@ fn known_head(known: &Option<Head>) -> Option<&Head>
 }
 
 /// Returns the head of a rule, if it is known.
-fn rule_head(heads: &[Option<Head>], rule: usize) -> Option<&Head>
+pub(crate) fn rule_head(heads: &[Option<Head>], rule: usize) -> Option<&Head>
     ensures { IfSome result (λ head. get_or heads.entry.now rule None ≡ Some head.now) }
 {
     match heads.get(rule) {
@@ -252,12 +275,28 @@ pub fn call_head(
 
 /// Returns whether nothing is skipped in a mode, whatever the rules are.
 fn is_tight(mode: Atomicity) -> bool
-    ensures { result ≡ true → (g : Grammar) (classes : Classes) → IsTight g classes (mode_of mode) }
+    ensures tight { result ≡ true → (g : Grammar) (classes : Classes) → IsTight g classes (mode_of mode) }
+    ensures loose { result ≡ false → mode_of mode ≡ NonAtomicMode }
 {
     match mode {
         Atomicity::NonAtomic => false,
         Atomicity::Atomic => true,
         Atomicity::CompoundAtomic => true,
+    }
+}
+
+/// Returns the head of a first part that may take nothing, with the skipping behind it in a mode.
+fn front_head(heads: &Heads, first: Head, mode: Atomicity) -> Result<Option<Head>, AllocError>
+    requires empty { first.empty ≡ true }
+    ensures { IfOk result (λ made. IfSome made (λ head. (p : Program) (e : Expression)
+        → AreHeads p heads.now → HasHead p (mode_of mode) e first → HasFront p (mode_of mode) e head)) }
+{
+    if is_tight(mode) {
+        return Ok(Some(first));
+    }
+    match known_head(&heads.gap) {
+        Some(gap) => join(first, gap),
+        None => Ok(None),
     }
 }
 
@@ -314,11 +353,13 @@ fn parts_head(
     if !first.empty {
         return Ok(Some(first));
     }
-    if !is_tight(mode) {
-        return Ok(None);
-    }
+    let behind = front_head(heads, first, mode)?;
+    let front = match behind {
+        Some(front) => front,
+        None => return Ok(None),
+    };
     let second = form_head(alloc, program, heads, right, mode, depth)?;
-    sequence_head(first, second)
+    sequence_head(front, second)
 }
 
 /// Returns the head of an option.
@@ -342,6 +383,59 @@ fn optional_head(
         Some(head) => Ok(Some(option_head(head))),
         None => Ok(None),
     }
+}
+
+/// Returns the head of what takes nothing where its operand fails: a repetition, or a negative lookahead.
+#[cycle(form_heads)]
+fn spared_head(
+    alloc: Global,
+    program: &Program,
+    heads: &Heads,
+    body: &Form,
+    mode: Atomicity,
+    depth: u32,
+) -> Result<Option<Head>, AllocError>
+    requires sound { IsSoundProgram program.now }
+    requires heads { AreHeads program.now heads.now }
+    requires bound { IsBoundIn program.now body.now }
+    ensures repetition { IfOk result (λ made. IfSome made (HasHead program.now (mode_of mode)
+        (Rep (said program.now body.now)))) }
+    ensures lookahead { IfOk result (λ made. IfSome made (HasHead program.now (mode_of mode)
+        (NegPred (said program.now body.now)))) }
+{
+    let made = form_head(alloc, program, heads, body, mode, depth)?;
+    match made {
+        Some(head) => {
+            if head.empty {
+                Ok(None)
+            } else {
+                Ok(Some(option_head(head)))
+            }
+        }
+        None => Ok(None),
+    }
+}
+
+/// Returns the head of what takes as much as its operand: a tagged expression, or one whose failure restores
+/// the stack.
+#[cycle(form_heads)]
+fn wrapped_head(
+    alloc: Global,
+    program: &Program,
+    heads: &Heads,
+    body: &Form,
+    mode: Atomicity,
+    depth: u32,
+) -> Result<Option<Head>, AllocError>
+    requires sound { IsSoundProgram program.now }
+    requires heads { AreHeads program.now heads.now }
+    requires bound { IsBoundIn program.now body.now }
+    ensures tag { IfOk result (λ made. IfSome made (λ head. (t : Text) → HasHead program.now (mode_of mode)
+        (NodeTag (said program.now body.now) t) head)) }
+    ensures restore { IfOk result (λ made. IfSome made (HasHead program.now (mode_of mode)
+        (RestoreOnErr (said program.now body.now)))) }
+{
+    form_head(alloc, program, heads, body, mode, depth)
 }
 
 /// Returns the head of a repetition that matches at least once.
@@ -369,7 +463,7 @@ fn repeated_head(
 
 /// Returns the head of a form. `depth`: how deep its parts are looked into.
 #[cycle(form_heads)]
-fn form_head(
+pub(crate) fn form_head(
     alloc: Global,
     program: &Program,
     heads: &Heads,
@@ -389,6 +483,7 @@ fn form_head(
     let less = depth - 1;
     match form {
         Form::Str(text) => literal_head(alloc, text.as_str()),
+        Form::Insens(text) => any_case_head(alloc, text.as_str()),
         Form::Call(rule) => call_head(alloc, program, heads, *rule, mode),
         Form::Choice(left, right) => {
             alternatives_head(alloc, program, heads, left, right, mode, less)
@@ -396,6 +491,10 @@ fn form_head(
         Form::Seq(left, right) => parts_head(alloc, program, heads, left, right, mode, less),
         Form::Opt(body) => optional_head(alloc, program, heads, body, mode, less),
         Form::RepOnce(body) => repeated_head(alloc, program, heads, body, mode, less),
+        Form::Rep(body) => spared_head(alloc, program, heads, body, mode, less),
+        Form::NegPred(body) => spared_head(alloc, program, heads, body, mode, less),
+        Form::Tag(body, _) => wrapped_head(alloc, program, heads, body, mode, less),
+        Form::Restore(body) => wrapped_head(alloc, program, heads, body, mode, less),
         Form::Range(_, _) | Form::One(_) | Form::Set(_, _) | Form::Property(_, _) | Form::Newline =>
             { leaf_head(alloc, program, form, mode) }
         _ => Ok(None),
@@ -417,102 +516,4 @@ pub fn head_of(
         (HasHead program.now (mode_of mode) (said program.now form.now))) }
 {
     form_head(alloc, program, heads, form, mode, DEPTH)
-}
-
-/// Sets the head of a body.
-fn put(list: &mut Vec<Option<Head>>, rule: usize, head: Option<Head>)
-    ensures { (p : Program) (m : Mode) → AreHeadsIn p m list.old.items
-        → ((d : Row) → rule < length p.rows.items
-        → IfSome head (HasHead p m (said p (get_or p.rows.items rule d).body)))
-        → AreHeadsIn p m list.new.items }
-{
-    if rule < list.len() {
-        list[rule] = head;
-    }
-}
-
-/// Sets the head of a body in a mode.
-fn set_head(heads: &mut Heads, rule: usize, mode: Atomicity, head: Option<Head>)
-    ensures { (p : Program) → AreHeads p heads.old
-        → ((d : Row) → rule < length p.rows.items
-        → IfSome head (HasHead p (mode_of mode) (said p (get_or p.rows.items rule d).body)))
-        → AreHeads p heads.new }
-{
-    match mode {
-        Atomicity::NonAtomic => put(&mut heads.non_atomic, rule, head),
-        Atomicity::Atomic => put(&mut heads.atomic, rule, head),
-        Atomicity::CompoundAtomic => put(&mut heads.compound_atomic, rule, head),
-    }
-}
-
-/// Looks for the head of a body in a mode, if it is not known.
-fn learn(
-    alloc: Global,
-    program: &Program,
-    heads: &mut Heads,
-    rule: usize,
-    mode: Atomicity,
-) -> Result<(), AllocError>
-    requires sound { IsSoundProgram program.now }
-    requires heads { AreHeads program.now heads.old }
-    ensures { OnOk result (AreHeads program.now heads.new) }
-{
-    if rule_head(heads_in(heads, mode), rule).is_some() {
-        return Ok(());
-    }
-    let row = match program.rows.get(rule) {
-        Some(row) => row,
-        None => return Ok(()),
-    };
-    let made = form_head(alloc, program, heads, &row.body, mode, DEPTH)?;
-    set_head(heads, rule, mode, made);
-    Ok(())
-}
-
-/// Looks for the heads of all bodies, the last rule first.
-fn learn_all(alloc: Global, program: &Program, heads: &mut Heads) -> Result<(), AllocError>
-    requires sound { IsSoundProgram program.now }
-    requires heads { AreHeads program.now heads.old }
-    ensures { OnOk result (AreHeads program.now heads.new) }
-{
-    let mut below = program.rows.len();
-    while below > 0 {
-        below -= 1;
-        learn(alloc, program, heads, below, Atomicity::NonAtomic)?;
-        learn(alloc, program, heads, below, Atomicity::Atomic)?;
-        learn(alloc, program, heads, below, Atomicity::CompoundAtomic)?;
-    }
-    Ok(())
-}
-
-/// Returns a list without a known head.
-fn none_known(alloc: Global, rules: usize) -> Result<Vec<Option<Head>>, AllocError>
-    ensures { IfOk result (λ list. (p : Program) (m : Mode) → AreHeadsIn p m list.items) }
-{
-    let mut list = Vec::new(alloc);
-    'rules: for _ in 0..rules {
-        list.push(None)?;
-    }
-    Ok(list)
-}
-
-/// Returns the heads of the bodies of rules, as far as three rounds find them. The only error is an
-/// allocation failure.
-pub fn rule_heads(alloc: Global, program: &Program) -> Result<Heads, AllocError>
-    requires sound { IsSoundProgram program.now }
-    ensures { IfOk result (AreHeads program.now) }
-{
-    let rules = program.rows.len();
-    let non_atomic = none_known(alloc, rules)?;
-    let atomic = none_known(alloc, rules)?;
-    let compound_atomic = none_known(alloc, rules)?;
-    let mut heads = Heads {
-        non_atomic,
-        atomic,
-        compound_atomic,
-    };
-    'rounds: for _ in 0..ROUNDS {
-        learn_all(alloc, program, &mut heads)?;
-    }
-    Ok(heads)
 }

@@ -1,8 +1,10 @@
 //! Sets of characters as ranges, for forms and for texts.
 #![tactic(auto)]
 
+pub mod characters;
 pub mod difference;
 pub mod heads;
+pub mod learning;
 pub mod modes;
 mod ranges;
 pub mod sizes;

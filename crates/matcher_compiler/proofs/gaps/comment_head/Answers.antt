@@ -1,13 +1,14 @@
 use Rattle.meta_base.specs.Language.Expression.{comment}
-use Rattle.matcher_compiler.proofs.Skipping.{both_on_some, comment_fails, comment_is_skipped, comment_meant, skipped_fails, skipped_is_rule}
+use Rattle.matcher_sets.proofs.Skipping.{comment_is_skipped, skipped_fails, skipped_is_rule}
+use Rattle.matcher_compiler.proofs.Skipping.{both_on_some, comment_fails, comment_meant}
 use Rattle.matcher_compiler.proofs.gaps.comment_head.Goals as goal
 
 pub sure_head-requires-clause-meant : goal.sure_head-requires-clause-meant
 sure_head-requires-clause-meant c =
     let p = c.args.program.now in
-    skipped_is_rule p comment c.in-Some.rule (comment_meant p c.in-Some.rule c.requires.sound c.in-Some.is) comment_is_skipped
+    skipped_is_rule p comment c.in-Some.rule (comment_meant p c.in-Some.rule c.requires.sound c.in-Some.is)
 
 pub returns-in-Some : goal.returns-in-Some
 returns-in-Some c =
     let p = c.args.program.now in
-    both_on_some c.sure_head.result (λ h has takes. comment_fails p h (skipped_fails p comment c.in-Some.rule (comment_meant p c.in-Some.rule c.requires.sound c.in-Some.is) comment_is_skipped h has takes)) c.sure_head.ensures.head c.sure_head.ensures.takes
+    both_on_some c.sure_head.result (λ h has takes. comment_fails p h (skipped_fails p comment c.in-Some.rule (comment_meant p c.in-Some.rule c.requires.sound c.in-Some.is) comment_is_skipped h has takes).fails) c.sure_head.ensures.head c.sure_head.ensures.takes

@@ -1,5 +1,6 @@
 use Rattle.meta_base.specs.Language.Expression.{whitespace}
-use Rattle.matcher_compiler.proofs.Skipping.{skipped_is_rule, skipped_laid, white_is_skipped, white_meant}
+use Rattle.matcher_sets.proofs.Skipping.{skipped_is_rule, white_is_skipped}
+use Rattle.matcher_compiler.proofs.Skipping.{skipped_laid, white_meant}
 use Rattle.matcher_compiler.specs.Names.{number_in}
 use Rattle.matcher_sets.specs.Forms.{grammar_in}
 use Rattle.matcher_compiler.proofs.plan.Plan.blank_call.Goals as goal
@@ -7,7 +8,7 @@ use Rattle.matcher_compiler.proofs.plan.Plan.blank_call.Goals as goal
 pub call-requires-clause-meant : goal.call-requires-clause-meant
 call-requires-clause-meant c =
     let p = c.args.program.now in
-    skipped_is_rule p whitespace c.in-Some.rule (white_meant p c.in-Some.rule c.requires.sound c.in-Some.is) white_is_skipped
+    skipped_is_rule p whitespace c.in-Some.rule (white_meant p c.in-Some.rule c.requires.sound c.in-Some.is)
 
 pub returns-clause-lays : goal.returns-clause-lays
 returns-clause-lays c = λ classes fits code laid m.

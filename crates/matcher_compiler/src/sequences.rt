@@ -1,0 +1,282 @@
+//! Sequences, and blanks with a test of what is behind them.
+ghost use Rattle.std.specs.Prelude.{◌≡◌, None, OnOk};
+ghost use Rattle.meta_base.specs.Language.Expression.{Seq, comment, rule_of};
+ghost use Rattle.meta_base.specs.Language.Meaning.{Run, skipped};
+ghost use Rattle.meta_base.specs.Language.State.{Between, NonAtomicMode};
+ghost use Rattle.matcher_sets.specs.Modes.{mode_of};
+ghost use Rattle.matcher_sets.specs.Forms.{IsBoundIn, IsSoundProgram, grammar_in, said};
+ghost use Rattle.matcher_sets.specs.Heads.{AreHeads};
+ghost use Rattle.matcher_compiler.specs.Plans.{FailsWithout, IsBlankSet, IsLater, IsReady, IsTightIn, LaysAt, TakesNoneIn, one_comment};
+
+use crate::firsts::spare_head;
+use crate::forms::FAIL;
+use crate::gaps::comment_head;
+use crate::plan::{Plan, Skips};
+use crate::points::{NotCompiled, Part, Place};
+use matcher_code::code::Op;
+use matcher_program::form::{Form, Program};
+use matcher_sets::difference::{choice_ranges, refused_ranges};
+use matcher_sets::heads::{Head, Heads};
+use std::alloc::Global;
+
+impl<'p> Plan<'p> {
+    /// Plans blanks of a set, with a test of what is behind them, and then comments. The labels from `own` on
+    /// are free.
+    fn blanks_before(
+        &mut self,
+        program: &Program,
+        set: u32,
+        head: Head,
+        at: Place,
+        own: u32,
+    ) -> Result<(), NotCompiled>
+        requires set { IsBlankSet program.now self.old.sets set }
+        requires fails { FailsWithout program.now (Run Between one_comment) head }
+        requires way { at.way ≡ 0 }
+        ensures later { OnOk result (IsLater program.now self.old self.new) }
+        ensures lays { OnOk result (LaysAt program.now self.new (Run Between skipped) at) }
+    {
+        if at.next == FAIL {
+            return Err(NotCompiled::Unsupported);
+        }
+        let Head {
+            ranges,
+            empty: _,
+            noted,
+        } = head;
+        let note = own.saturating_add(1);
+        let miss = self.miss(noted, at.next, note)?;
+        let stops = self.set(ranges)?;
+        self.operation(
+            at.label,
+            Op::Gap {
+                set,
+                stops,
+                next: miss,
+                slow: own,
+            },
+        )?;
+        self.point(
+            Part::Comments,
+            Place {
+                label: own,
+                way: FAIL,
+                ..at
+            },
+        )?;
+        Ok(())
+    }
+
+    /// Plans blanks of a set, and then comments. The labels from `own` on are free.
+    pub(crate) fn blanks_of_set(
+        &mut self,
+        alloc: Global,
+        program: &Program,
+        heads: &Heads,
+        set: u32,
+        at: Place,
+        own: u32,
+    ) -> Result<(), NotCompiled>
+        requires sound { IsSoundProgram program.now }
+        requires heads { AreHeads program.now heads.now }
+        requires set { IsBlankSet program.now self.old.sets set }
+        requires way { at.way ≡ 0 }
+        ensures later { OnOk result (IsLater program.now self.old self.new) }
+        ensures lays { OnOk result (LaysAt program.now self.new (Run Between skipped) at) }
+    {
+        let made = comment_head(alloc, program, heads)?;
+        match made {
+            Some(head) => self.blanks_before(program, set, head, at, own),
+            None => self.blanks_and_comments(program, at, own),
+        }
+    }
+
+    /// Plans a sequence with blanks of a set between its parts, and a test of what is behind them: where no
+    /// character of a head is next, the second part takes nothing. A failure goes on as the last slot says.
+    /// The labels from `own` on are free.
+    fn gap_sequence(
+        &mut self,
+        program: &Program,
+        set: u32,
+        head: Head,
+        first: &'p Form,
+        second: &'p Form,
+        at: Place,
+        own: u32,
+    ) -> Result<(), NotCompiled>
+        requires first_bound { IsBoundIn program.now first.now }
+        requires second_bound { IsBoundIn program.now second.now }
+        requires way { at.way ≡ 0 }
+        requires mode { mode_of at.mode ≡ NonAtomicMode }
+        requires none { rule_of (grammar_in program.now) comment ≡ None }
+        requires set { IsBlankSet program.now self.old.sets set }
+        requires takes { TakesNoneIn program.now (Run (mode_of at.mode) (said program.now second.now)) head }
+        ensures later { OnOk result (IsLater program.now self.old self.new) }
+        ensures lays { OnOk result (LaysAt program.now self.new (Run (mode_of at.mode)
+            (Seq (said program.now first.entry.now) (said program.now second.entry.now))) at) }
+    {
+        if at.next == FAIL {
+            return Err(NotCompiled::Unsupported);
+        }
+        let Head {
+            ranges,
+            empty: _,
+            noted,
+        } = head;
+        let begin = own.saturating_add(1);
+        let note = own.saturating_add(2);
+        let miss = self.miss(noted, at.next, note)?;
+        let stops = self.set(ranges)?;
+        self.operation(
+            own,
+            Op::Gap {
+                set,
+                stops,
+                next: miss,
+                slow: begin,
+            },
+        )?;
+        self.point(Part::Form(first), Place { next: own, ..at })?;
+        self.point(Part::Form(second), Place { label: begin, ..at })?;
+        Ok(())
+    }
+
+    /// Plans two expressions, one right after the other.
+    fn tight_both(
+        &mut self,
+        alloc: Global,
+        program: &Program,
+        first: &'p Form,
+        second: &'p Form,
+        at: Place,
+        own: u32,
+    ) -> Result<(), NotCompiled>
+        requires first_bound { IsBoundIn program.now first.now }
+        requires second_bound { IsBoundIn program.now second.now }
+        requires tight { IsTightIn program.now at.mode }
+        ensures later { OnOk result (IsLater program.now self.old self.new) }
+        ensures lays { OnOk result (LaysAt program.now self.new (Run (mode_of at.mode)
+            (Seq (said program.now first.entry.now) (said program.now second.entry.now))) at) }
+    {
+        let refused = refused_ranges(alloc, program, first)?;
+        let others = match refused {
+            Some(others) => others,
+            None => return self.both(program, first, second, at, own),
+        };
+        let made = choice_ranges(alloc, program, second)?;
+        match made {
+            Some(ranges) => {
+                self.other_character(alloc, program, first, second, &others, ranges, at)
+            }
+            None => self.both(program, first, second, at, own),
+        }
+    }
+
+    /// Plans two expressions with blanks of a set between them, and a test behind these if that spares work.
+    fn blank_both(
+        &mut self,
+        alloc: Global,
+        program: &Program,
+        heads: &Heads,
+        set: u32,
+        first: &'p Form,
+        second: &'p Form,
+        at: Place,
+        own: u32,
+    ) -> Result<(), NotCompiled>
+        requires sound { IsSoundProgram program.now }
+        requires heads { AreHeads program.now heads.now }
+        requires first_bound { IsBoundIn program.now first.now }
+        requires second_bound { IsBoundIn program.now second.now }
+        requires mode { mode_of at.mode ≡ NonAtomicMode }
+        requires none { rule_of (grammar_in program.now) comment ≡ None }
+        requires set { IsBlankSet program.now self.old.sets set }
+        ensures later { OnOk result (IsLater program.now self.old self.new) }
+        ensures lays { OnOk result (LaysAt program.now self.new (Run (mode_of at.mode)
+            (Seq (said program.now first.entry.now) (said program.now second.entry.now))) at) }
+    {
+        if at.way != FAIL {
+            return self.both(program, first, second, at, own);
+        }
+        let made = spare_head(alloc, program, heads, second, at.mode)?;
+        match made {
+            Some(head) => self.gap_sequence(program, set, head, first, second, at, own),
+            None => self.both(program, first, second, at, own),
+        }
+    }
+
+    /// Plans two expressions with the implicit skipping between them.
+    fn loose_both(
+        &mut self,
+        alloc: Global,
+        program: &Program,
+        heads: &Heads,
+        first: &'p Form,
+        second: &'p Form,
+        at: Place,
+        own: u32,
+    ) -> Result<(), NotCompiled>
+        requires sound { IsSoundProgram program.now }
+        requires heads { AreHeads program.now heads.now }
+        requires first_bound { IsBoundIn program.now first.now }
+        requires second_bound { IsBoundIn program.now second.now }
+        requires ready { IsReady program.now self.old }
+        requires mode { mode_of at.mode ≡ NonAtomicMode }
+        ensures later { OnOk result (IsLater program.now self.old self.new) }
+        ensures lays { OnOk result (LaysAt program.now self.new (Run (mode_of at.mode)
+            (Seq (said program.now first.entry.now) (said program.now second.entry.now))) at) }
+    {
+        match self.skips {
+            Skips::Blanks(set) => {
+                self.blank_both(alloc, program, heads, set, first, second, at, own)
+            }
+            _ => self.both(program, first, second, at, own),
+        }
+    }
+
+    /// Plans a sequence of two expressions.
+    pub(crate) fn two(
+        &mut self,
+        alloc: Global,
+        program: &Program,
+        heads: &Heads,
+        first: &'p Form,
+        second: &'p Form,
+        at: Place,
+        own: u32,
+    ) -> Result<(), NotCompiled>
+        requires sound { IsSoundProgram program.now }
+        requires heads { AreHeads program.now heads.now }
+        requires first_bound { IsBoundIn program.now first.now }
+        requires second_bound { IsBoundIn program.now second.now }
+        requires ready { IsReady program.now self.old }
+        ensures later { OnOk result (IsLater program.now self.old self.new) }
+        ensures lays { OnOk result (LaysAt program.now self.new (Run (mode_of at.mode)
+            (Seq (said program.now first.entry.now) (said program.now second.entry.now))) at) }
+    {
+        if self.is_tight(at.mode) {
+            self.tight_both(alloc, program, first, second, at, own)
+        } else {
+            self.loose_both(alloc, program, heads, first, second, at, own)
+        }
+    }
+
+    /// Plans two expressions, one after the other.
+    fn both(
+        &mut self,
+        program: &Program,
+        first: &'p Form,
+        second: &'p Form,
+        at: Place,
+        own: u32,
+    ) -> Result<(), NotCompiled>
+        requires first_bound { IsBoundIn program.now first.now }
+        requires second_bound { IsBoundIn program.now second.now }
+        ensures later { OnOk result (IsLater program.now self.old self.new) }
+        ensures lays { OnOk result (LaysAt program.now self.new (Run (mode_of at.mode)
+            (Seq (said program.now first.entry.now) (said program.now second.entry.now))) at) }
+    {
+        self.sequence(program, Part::Form(first), Part::Form(second), at, own)?;
+        Ok(())
+    }
+}

@@ -1,0 +1,43 @@
+-- Calls of silent rules that match one character.
+use Rattle.std.proofs.Common.{◌≡◌, refl, ◌∙◌, ap, subst, ℕ, ◌<◌, ◌||◌, Bool, true, false, sym, List, bytes_eq, get_or, length}
+use Rattle.meta_ast.specs.Ast.{rule_type_of}
+use Rattle.meta_base.specs.Language.Expression.{Silent, comment, whitespace}
+use Rattle.meta_base.specs.Language.Matching.{character_outcome}
+use Rattle.meta_base.specs.Language.Meaning.{Run, body_mode, gives_token, inherited, mode_in}
+use Rattle.matcher_layout.specs.Laid.{HasOutcome}
+use Rattle.matcher_layout.proofs.Characters.{silent_call_of_set}
+use Rattle.matcher_program.specs.declared.form.Form.TheVariants as form
+use Rattle.matcher_program.specs.declared.form.Program.{Program}
+use Rattle.matcher_program.specs.declared.form.Row.{Row}
+use Rattle.matcher_program.specs.Programs.{IsRuleOf, name_at, names_of}
+use Rattle.matcher_sets.specs.declared.modes.Atomicity.{Atomicity}
+use Rattle.matcher_sets.specs.declared.modes.Atomicity.TheVariants as mode
+use Rattle.matcher_sets.specs.Differences.{HasRanges}
+use Rattle.matcher_sets.specs.Forms.{grammar_in, said}
+use Rattle.matcher_sets.specs.Modes.{mode_of}
+use Rattle.matcher_sets.proofs.Rules.{made, meant_is}
+
+-- the mode in which a silent rule runs
+inner_mode : (b : Bool) (m : Atomicity) → (k : Atomicity) × (mode_of k ≡ inherited b (mode_of m))
+inner_mode true m = (mode.Atomic, refl)
+inner_mode false mode.NonAtomic = (mode.NonAtomic, refl)
+inner_mode false mode.Atomic = (mode.Atomic, refl)
+inner_mode false mode.CompoundAtomic = (mode.CompoundAtomic, refl)
+
+pub call_has : (p : Program) (rule : ℕ) (row : Row) (within : rule < length p.rows.items) (is : row ≡ get_or p.rows.items rule row)
+    → IsRuleOf (grammar_in p) (name_at (names_of p.rows.items) rule) rule → rule_type_of row.kind ≡ Silent
+    → (ranges : List (ℕ × ℕ)) → HasRanges p row.body ranges → HasRanges p (form.Call rule) ranges
+call_has p rule row within is meant silent ranges has classes fits =
+    let r = made p rule row within is in
+    let x = has classes fits in
+    let blank = bytes_eq r.name whitespace || bytes_eq r.name comment in
+    record {
+      characters = x.characters;
+      covers = x.covers;
+      holds = λ m.
+          let k = inner_mode blank m in
+          let e : mode_of k.0 ≡ body_mode r (mode_of m) = k.1 ∙ ap (λ t. mode_in t blank (mode_of m)) (sym silent) in
+          silent_call_of_set (grammar_in p) classes (mode_of m) (name_at (names_of p.rows.items) rule) r x.characters (meant_is p rule row within is meant)
+          (ap (λ t. gives_token t (mode_of m)) silent)
+          (subst (λ z. HasOutcome (grammar_in p) classes (Run z (said p row.body)) (character_outcome x.characters) (λ s. 0)) e (x.holds k.0));
+    }

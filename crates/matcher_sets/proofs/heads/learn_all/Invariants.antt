@@ -1,8 +1,0 @@
-use Rattle.matcher_sets.specs.Heads.{AreHeads}
-use Rattle.matcher_sets.proofs.heads.learn_all.Given as goal
-
-abbrev pub invariant-loop-below : goal.invariant-loop-below
-invariant-loop-below l = AreHeads l.program l.heads
-
-abbrev pub decreases-loop-below : goal.decreases-loop-below
-decreases-loop-below l = l.below
