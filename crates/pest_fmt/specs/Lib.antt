@@ -1,3 +1,4 @@
+pub mod Files
 pub mod Messages
 pub mod Outcomes
 pub mod Processing

@@ -1,5 +1,6 @@
 //! The program's work on each file.
-ghost use Rattle.std.specs.Prelude.{◌≡◌, [], IfOk};
+ghost use Rattle.std.specs.Prelude.{◌≡◌, ◌⊎◌, [], IfOk};
+ghost use Rattle.pest_fmt.specs.Files.{IsOfFile, IsOfRun};
 ghost use Rattle.pest_fmt.specs.Processing.{IsKnown};
 
 use crate::arguments::{Delivery, Target};
@@ -14,7 +15,8 @@ use tool_support::replacement::replace;
 use tool_support::status::Status;
 
 /// Formats the files of these names, `-` being standard input, and returns the status with the highest
-/// number. Stops where standard output refuses a write. The only error is an allocation failure.
+/// number. Stops where standard output refuses a write. The only error is an allocation failure. No clause
+/// can say what the files have, nor what becomes of them.
 pub fn format_files(
     rt: &HostRuntime,
     names: &[&str],
@@ -22,6 +24,7 @@ pub fn format_files(
     options: Options,
 ) -> Result<Status, AllocError>
     ensures known { IfOk result IsKnown }
+    ensures each { IfOk result (IsOfRun options.line_ends delivery.target names.now) }
     ensures none { names.now ≡ [] → IfOk result (λ status. status ≡ Status.Done) }
 {
     let mut status = Status::Done;
@@ -43,7 +46,8 @@ fn format_file(
     delivery: Delivery,
     options: Options,
 ) -> Result<Status, AllocError>
-    ensures { IfOk result IsKnown }
+    ensures known { IfOk result IsKnown }
+    ensures status { IfOk result (IsOfFile options.line_ends delivery.target) }
 {
     let alloc = rt.alloc();
     let bytes = match read_input(rt, name) {
@@ -72,7 +76,7 @@ fn format_file(
 
 /// Replaces a file by its formatted text.
 fn put_back(rt: &HostRuntime, name: &str, formatted: &str) -> Result<Status, AllocError>
-    ensures { IfOk result IsKnown }
+    ensures { IfOk result (λ status. (status ≡ Status.Done) ⊎ (status ≡ Status.Unwritable)) }
 {
     match replace(rt, name, formatted.as_bytes()) {
         Ok(()) => Ok(Status::Done),

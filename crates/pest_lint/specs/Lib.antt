@@ -1,3 +1,4 @@
+pub mod Colours
 pub mod Fixing
 pub mod Logs
 pub mod Pages

@@ -1,6 +1,7 @@
 -- The pages of codes.
-use Rattle.std.specs.Prelude.{ℕ, List, ◌++◌, codes}
-use Rattle.diagnostic_data.specs.Codes.{code_name, severity_name, severity_of}
+use Rattle.std.specs.Prelude.{◌≡◌, ℕ, List, ◌++◌, Option, codes, true}
+use Rattle.std.specs.Io.KnownBytes.{Appends}
+use Rattle.diagnostic_data.specs.Codes.{code_name, has_name, severity_name, severity_of}
 use Rattle.diagnostic_data.specs.declared.codes.Code.{Code}
 use Rattle.diagnostic_data.specs.declared.codes.Code.TheVariants as code
 use Rattle.pest_lint.specs.declared.explain.TheConstants as page
@@ -37,3 +38,13 @@ page_of code.RepeatedBody = page.REPEATED_BODY.now
 abbrev pub page_text : Code → List ℕ
 page_text c = code_name c ++ (codes " (" ++ (severity_name (severity_of c) ++ (codes ")\n\n"
     ++ (page_of c ++ codes "\n"))))
+
+-- a writer gained the page of the code of a name
+pub record Explains (name : List ℕ) (old new : Option (List ℕ)) : Type 0 where
+  pub code : Code
+  pub named : has_name code name ≡ true
+  pub gained : Appends old new (page_text code)
+
+-- that no code has a name
+abbrev pub unknown_line : List ℕ
+unknown_line = codes "no diagnostic has this code; one is pest::left_recursion\n"

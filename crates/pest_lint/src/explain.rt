@@ -1,12 +1,49 @@
 //! Pages of codes.
-ghost use Rattle.std.specs.Prelude.{◌≡◌, IfOk, string_bytes};
-ghost use Rattle.pest_lint.specs.Pages.{page_of, page_text};
+ghost use Rattle.std.specs.Prelude.{◌≡◌, ◌≢◌, ◌≤◌, IfOk, string_bytes, true};
+ghost use Rattle.diagnostic_data.specs.Codes.{IsUnknown};
+ghost use Rattle.pest_lint.specs.Pages.{Explains, page_of, page_text, unknown_line};
+ghost use Rattle.pest_lint.specs.Reports.{Tells};
 
+use crate::lint::{CLEAN, MEMORY, UNREADABLE, UNWRITABLE};
 use meta_diagnostics::Code;
 use std::alloc::{AllocError, Global};
+use std::io::Write;
+use tool_support::output::Output;
+
+/// Prints the page of the code of a name, with or without `pest::`, to `out`, and answers the status. A name
+/// that no code has is reported on `err` (3). An allocation may fail (2), and `out` refuse a write (4).
+pub fn print_page<W: Write, E: Write>(
+    alloc: Global,
+    name: &str,
+    out: &mut Output<W>,
+    err: &mut Output<E>,
+) -> u8
+    ensures known { result ≤ 4 }
+    ensures explains { result ≡ 0
+        → Explains name.now (W.contents out.old.writer) (W.contents out.new.writer) }
+    ensures unknown { result ≡ 3 → IsUnknown name.now }
+    ensures told { result ≡ 3
+        → Tells unknown_line (E.contents err.old.writer) (E.contents err.new.writer) err.new.refused }
+    ensures unprinted { result ≢ 0 → result ≢ 4 → out.new ≡ out.old }
+    ensures silent { result ≢ 3 → err.new ≡ err.old }
+    ensures refused_write { result ≡ 4 → out.new.refused ≡ true }
+    ensures taken { result ≢ 4 → out.new.refused ≡ out.old.refused }
+{
+    let Some(code) = Code::from_name(name) else {
+        let _ = err.write_line(&["no diagnostic has this code; one is pest::left_recursion"]);
+        return UNREADABLE;
+    };
+    let Ok(page) = page_text(alloc, code) else {
+        return MEMORY;
+    };
+    match out.write_text(page.as_str()) {
+        Ok(()) => CLEAN,
+        Err(_) => UNWRITABLE,
+    }
+}
 
 /// The lines on a code: its name, whether it is an error, and its page.
-pub fn page_text(alloc: Global, code: Code) -> Result<String, AllocError>
+fn page_text(alloc: Global, code: Code) -> Result<String, AllocError>
     ensures { IfOk result (λ text. string_bytes text ≡ page_text code) }
 {
     let name = code.name();
@@ -93,9 +130,9 @@ const UNUSED_ALLOWANCE: &str =
 
 const UNCALLED_RULE: &str =
     "A rule is not needed. It is needed if another rule calls it, if it calls SOI or EOI, if --start \
-     names it, or if it is WHITESPACE or COMMENT. Where no rule calls SOI or EOI, the first rule is \
-     taken for the start, and where that one is called, nothing is reported. --warn all takes no \
-     rule for the start.";
+     names it, or if it is WHITESPACE or COMMENT. Where no rule calls SOI or EOI, and --start names \
+     none, the first rule is taken for the start, and where that one is called, nothing is reported. \
+     --warn all takes no rule for the start.";
 
 const UNREACHABLE: &str =
     "A literal or a call before an alternative begins all that it matches, so it is never \

@@ -1,13 +1,17 @@
 //! Reports what is wrong with pest grammars.
 #![tactic(auto)]
 
-ghost use Rattle.std.specs.Prelude.{◌≡◌, ◌≢◌, ◌≤◌, ◌∷◌, ◌++◌, [], All, IfOk, None, Some, codes};
+ghost use Rattle.std.specs.Prelude.{◌≡◌, ◌≢◌, ◌≤◌, ◌∷◌, ◌++◌, [], All, IfOk, None, Some, codes, false, true};
 ghost use Rattle.clap.specs.Matches.{first_value, found_of};
+ghost use Rattle.diagnostic_data.specs.Codes.{IsUnknown};
+ghost use Rattle.pest_lint.specs.Colours.{value_of};
 ghost use Rattle.pest_lint.specs.Logs.{GainsIn};
+ghost use Rattle.pest_lint.specs.Pages.{Explains};
 ghost use Rattle.pest_lint.specs.Shows.{IsClean, asked_of};
 ghost use Rattle.pest_lint.specs.Starts.{names_of, values_of};
 
 mod arguments;
+mod colours;
 mod explain;
 mod fixes;
 mod lint;
@@ -16,12 +20,12 @@ mod sources;
 
 use arguments::{Format, Settings, command, is_all, settings_of};
 use clap::ArgMatches;
-use explain::page_text;
+use colours::is_coloured;
+use explain::print_page;
 use fixes::fix_files;
-use lint::{CLEAN, MEMORY, Source, UNREADABLE, UNWRITABLE, print_files};
+use lint::{CLEAN, MEMORY, Source, UNREADABLE, print_files};
 use log::log_files;
 use meta_builtins::Builtin;
-use meta_diagnostics::Code;
 use sources::read_sources;
 use std::alloc::{AllocError, Global};
 use std::env;
@@ -29,26 +33,16 @@ use std::io::IsTerminal;
 use std::process::ExitCode;
 use tool_support::output::Output;
 
-/// Whether text is in colours: as the command line says, or on a terminal, unless the variable NO_COLOR has a
-/// value or TERM is `dumb`.
-fn has_colour(rt: &HostRuntime, choice: Option<&str>) -> bool {
-    match choice {
-        Some("always") => true,
-        Some("never") => false,
-        _ => rt.stdout().is_terminal() && !is_colour_refused(rt),
-    }
-}
-
-/// Whether the environment refuses colours.
-fn is_colour_refused(rt: &HostRuntime) -> bool {
-    let is_dumb = match env::var(rt, "TERM") {
-        Ok(value) => value.as_str() == "dumb",
-        Err(_) => false,
-    };
-    match env::var(rt, "NO_COLOR") {
-        Ok(value) => is_dumb || !value.is_empty(),
-        Err(_) => is_dumb,
-    }
+/// Whether text is in colours, by the value of `--color`: `is_coloured`, of the process's own output and
+/// variables.
+fn has_colour(rt: &HostRuntime, choice: Option<&str>) -> bool
+    ensures always { value_of choice.entry ≡ Some (codes "always") → result ≡ true }
+    ensures never { value_of choice.entry ≡ Some (codes "never") → result ≡ false }
+{
+    let term = env::var(rt, "TERM").ok();
+    let no_color = env::var(rt, "NO_COLOR").ok();
+    let is_terminal = rt.stdout().is_terminal();
+    is_coloured(choice, is_terminal, term.as_deref(), no_color.as_deref())
 }
 
 /// Diagnoses files, over the process's own output, and answers the status.
@@ -68,32 +62,31 @@ fn lint_files(rt: &HostRuntime, sources: &[Source], settings: Settings<'_>) -> u
     }
 }
 
-/// Prints the page of a code, and answers the status.
-fn print_page(rt: &HostRuntime, name: &str) -> u8 {
-    let Some(code) = Code::from_name(name) else {
-        let _ = eprintln!(rt; "no diagnostic has this code; one is pest::left_recursion");
-        return UNREADABLE;
-    };
-    let Ok(page) = page_text(rt.alloc(), code) else {
-        return MEMORY;
-    };
-    match print!(rt; "{page}") {
-        Ok(()) => CLEAN,
-        Err(_) => UNWRITABLE,
-    }
+/// Explains the code of a name, over the process's own output, and answers the status.
+fn explain_code(rt: &HostRuntime, name: &str) -> u8
+    ensures known { result ≤ 4 }
+    ensures explains { result ≡ 0 → Explains name.now None None }
+    ensures unknown { result ≡ 3 → IsUnknown name.now }
+{
+    let mut out = Output::new(rt.stdout());
+    let mut err = Output::new(rt.stderr());
+    print_page(rt.alloc(), name, &mut out, &mut err)
 }
 
-/// The names of the rules that are starts. Where all warnings are asked for, one that no rule has is among
-/// them, so that the first rule is not taken for a start.
+/// The names of the rules that are starts. Where all warnings are asked for, or `--start` names some, one
+/// that no rule has is among them, so that the first rule is not taken for a start.
 fn starts_of<'a>(alloc: Global, matches: &'a ArgMatches<'_>) -> Result<Vec<&'a str>, AllocError>
-    ensures some { first_value (found_of matches.entry.now) (codes "warn") ≡ None
-        → IfOk result (λ starts. names_of starts.items ≡ values_of matches.entry.now (codes "start")) }
+    ensures unnamed { first_value (found_of matches.entry.now) (codes "warn") ≡ None
+        → values_of matches.entry.now (codes "start") ≡ [] → IfOk result (λ starts. starts.items ≡ []) }
+    ensures named { values_of matches.entry.now (codes "start") ≢ []
+        → IfOk result (λ starts. names_of starts.items
+        ≡ values_of matches.entry.now (codes "start") ++ codes "SOI" ∷ []) }
     ensures all { first_value (found_of matches.entry.now) (codes "warn") ≡ Some (codes "all")
         → IfOk result (λ starts. names_of starts.items
         ≡ values_of matches.entry.now (codes "start") ++ codes "SOI" ∷ []) }
 {
     let mut starts = named_starts(alloc, matches)?;
-    if is_all(matches) {
+    if is_all(matches) || !starts.is_empty() {
         starts.push(Builtin::Soi.name())?;
     }
     Ok(starts)
@@ -115,7 +108,7 @@ fn named_starts<'a>(alloc: Global, matches: &'a ArgMatches<'_>) -> Result<Vec<&'
 /// The status for a command line that was parsed.
 fn run(rt: &HostRuntime, matches: &ArgMatches<'_>) -> Result<u8, AllocError> {
     if let Some(name) = matches.get_str("explain") {
-        return Ok(print_page(rt, name));
+        return Ok(explain_code(rt, name));
     }
     let names = matches.get_strs("FILE").unwrap_or(&[]);
     if names.is_empty() {

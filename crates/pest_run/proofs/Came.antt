@@ -1,6 +1,7 @@
 -- What comes of a rule that fails on a text, by what the matcher answers.
-use Rattle.std.proofs.Common.{◌≡◌, ◌⊎◌, ◌∙◌, ◌<◌, ◌++◌, ◌&&◌, ap, ap₂, inl, inr, refl, sym, subst, ℕ, Bool, true, false, List, [], None, Option, Some, drop, if◌then◌else◌, length, nat_le}
-use Rattle.std.specs.Prelude.{IsUtf8}
+use Rattle.std.proofs.Common.{◌≡◌, ◌⊎◌, ◌∙◌, ◌++◌, ◌&&◌, ap, ap₂, inl, inr, refl, sym, subst, ℕ, Bool, true, false, List, [], None, Option, Some, drop, if◌then◌else◌, length, nat_le}
+use Rattle.std.specs.Prelude.{IsUtf8, option_map, string_bytes}
+use Rattle.std.proofs.lemmas.Bool.{true≢false}
 use Rattle.std.specs.Borrow.{Bor}
 use Rattle.std.specs.Str.{chars, IsCharBoundary}
 use Rattle.meta_ast.specs.Ast.{text_of}
@@ -22,18 +23,19 @@ use Rattle.meta_matcher.specs.Answers.{AreExpectedAt, FailsAt, Has, IsMatched, I
 use Rattle.meta_matcher.specs.declared.matcher.Found.{Found}
 use Rattle.meta_matcher.specs.declared.machine.Stop.{Stop}
 use Rattle.meta_matcher.specs.declared.machine.Stop.TheVariants as stop
-use Rattle.meta_matcher.specs.Sizes.{most_steps}
 use Rattle.meta_matcher.specs.ExpectedNames.{each_once, name_texts}
 use Rattle.matcher_program.specs.Programs.{Fits}
 use Rattle.meta_matcher.specs.Written.{seen}
 use Rattle.meta_syntax.specs.Entries.{entries_of}
 use Rattle.matcher_program.specs.declared.form.Property.{Property}
 use Rattle.matcher_support.specs.Sets.{has_set, is_in_property}
-use Rattle.pest_run.specs.Outcomes.{HasNoRule, IsFailureReport, IsMatchReport, IsNoRuleReport, IsOutcome, IsStopReport, end_note, failure_text, tells_expected, trees_text, unfit_outcome}
-use Rattle.pest_run.specs.Messages.{expected_text, is_more, note_between}
-use Rattle.pest_run.specs.Steps.{note_limit}
+use Rattle.pest_run.specs.Outcomes.{AreLookedFor, AreNamesOf, HasNoRule, IsFailureReport, IsMatchReport, IsNoRuleReport, IsNoted, IsOutcome, IsStopReport, end_note, failure_text, names_of, tells_expected, trees_text, unfit_outcome}
+use Rattle.pest_run.specs.Messages.{Names, expected_text, is_more, known, note_between}
+use Rattle.pest_run.specs.Steps.{name_limit}
 use Rattle.pest_run.specs.declared.arguments.Format.{Format}
 use Rattle.pest_run.specs.declared.arguments.Format.TheVariants as format_is
+use Rattle.pest_run.specs.declared.expected.Expected.{Expected}
+use Rattle.pest_run.specs.declared.expected.Expected.TheVariants as expected_is
 use Rattle.pest_run.specs.declared.outcomes.Outcome.{Outcome}
 use Rattle.pest_run.specs.declared.outcomes.Outcome.TheVariants as is
 
@@ -44,15 +46,26 @@ expects g ps n text place names d fits a e =
     let told = a is_in_property fits in
     told.2 ∙ ap each_once (one_list g is_in_property place told.1 d ∙ ap (λ p. expected_at p d) e)
 
+-- what is known of names that were looked for is known of those that are expected at the furthest failure of a derivation
+looked_for : (g : Grammar) (ps : List Property) (n : Text) (text : List ℕ) (place limit : ℕ) (names : Expected) {o : Result} (d : Has g n text is_in_property o)
+    → Fits ps is_in_property → AreLookedFor g ps n text place limit names → place ≡ furthest d → AreNamesOf d limit (names_of names)
+looked_for g ps n text place limit (expected_is.Names names) d fits a e = expects g ps n text place names.items d fits a e
+looked_for g ps n text place limit (expected_is.Unfound steps) {o = o} d fits a e = (a.0, a.1 is_in_property fits o d)
+
 -- what is told of the place of the failure, and of what is expected there, is told of the failure
-pub failed : (g : Grammar) (ps : List Property) (rule text : List ℕ) (format : Format) (limit : ℕ) (place : ℕ) (names : List (Bor (List ℕ))) (o : Outcome)
-    → Fits ps is_in_property → ((classes : Classes) → Fits ps classes → (d : Has g (chars rule) text classes Failure) × (place ≡ furthest d)) → AreExpectedAt g ps (chars rule) text place names → IsFailureReport text place (name_texts names) o
+pub failed : (g : Grammar) (ps : List Property) (rule text : List ℕ) (format : Format) (limit : ℕ) (place : ℕ) (names : Expected) (o : Outcome)
+    → Fits ps is_in_property → ((classes : Classes) → Fits ps classes → (d : Has g (chars rule) text classes Failure) × (place ≡ furthest d))
+    → AreLookedFor g ps (chars rule) text place (name_limit limit (length text)) names → IsFailureReport text place (names_of names) o
     → IsOutcome g rule text format limit o
 failed g ps rule text format limit place names (is.Shown lines _) fits f a t = absurd t
 failed g ps rule text format limit place names (is.Failed report) fits f a t =
     let fails = f is_in_property fits in
-    let same = expects g ps (chars rule) text place names fails.0 fits a fails.1 in
-    record { fails = fails.0; report_shows = t ∙ ap₂ (λ n ns. failure_text text n ns) fails.1 same }
+    record {
+      fails = fails.0;
+      names = names_of names;
+      are = looked_for g ps (chars rule) text place (name_limit limit (length text)) names fails.0 fits a fails.1;
+      report_shows = t ∙ ap (λ n. failure_text text n (names_of names)) fails.1;
+    }
 failed g ps rule text format limit place names (is.NoRule message) fits f a t = absurd t
 failed g ps rule text format limit place names (is.OutOfSteps said) fits f a t = absurd t
 failed g ps rule text format limit place names is.EmptyStack fits f a t = absurd t
@@ -72,14 +85,19 @@ unknown g rule text format limit is.UnknownName h t = absurd t
 unknown g rule text format limit is.Bound h t = absurd t
 unknown g rule text format limit is.Memory h t = tt
 
--- notes are the same where names are the same that they tell
-same_text : (more after : Bool) (start : List ℕ) (place : ℕ × ℕ) (ns ms : List Text) → (after && more ≡ true → ns ≡ ms)
+-- whether the note tells what is expected, or not
+told : (b : Bool) → (b ≡ true) ⊎ (b ≡ false)
+told true = inl refl
+told false = inr refl
+
+-- a note that does not tell what is expected is the same for all names
+same_text : (more after : Bool) (start : List ℕ) (place : ℕ × ℕ) (ns ms : Names) → after && more ≡ false
     → (if more then Some (start ++ (if after then expected_text place ns else [])) else None) ≡ (if more then Some (start ++ (if after then expected_text place ms else [])) else None)
 same_text false after start place ns ms h = refl
 same_text true false start place ns ms h = refl
-same_text true true start place ns ms h = ap (λ k. Some (start ++ expected_text place k)) (h refl)
+same_text true true start place ns ms h = absurd (true≢false h)
 
-same_note : (format : Format) (text : List ℕ) (end_ place : ℕ) (ns ms : List Text) → (tells_expected format text end_ place ≡ true → ns ≡ ms)
+same_note : (format : Format) (text : List ℕ) (end_ place : ℕ) (ns ms : Names) → tells_expected format text end_ place ≡ false
     → end_note format text end_ place ns ≡ end_note format text end_ place ms
 same_note format_is.Text text end_ place ns ms h = same_text (is_more (drop end_ text)) (nat_le end_ place) (note_between (line_column text end_) (line_column text (length text))) (line_column text place) ns ms h
 same_note format_is.Json text end_ place ns ms h = refl
@@ -87,44 +105,47 @@ same_note format_is.Lines text end_ place ns ms h = refl
 
 -- what is told of a match is told of what the rule gives
 module _ (g : Grammar) (ps : List Property) (rule text : List ℕ) (format : Format) (limit : ℕ) (it : Found) (fits : Fits ps is_in_property) (m : IsMatched g ps (chars rule) text it) where
-  shows : (names : List Text) (o : Outcome) → ((trees : Trees) → seen it.entries.items ≡ entries_of 0 trees → IsMatchReport text format it.end it.furthest names trees o)
-      → let d = (m.found is_in_property fits).2 in (tells_expected format text it.end it.furthest ≡ true → names ≡ each_once (expected d)) ⊎ ((note_limit limit (length text) < most_steps d) × (names ≡ []))
+  -- where the note on it has these names
+  noted : (names : Names) (note : Option (List ℕ)) → let d = (m.found is_in_property fits).2 in AreNamesOf d (name_limit limit (length text)) names
+      → note ≡ end_note format text it.end it.furthest names → IsNoted g rule text format limit note
+  noted names note a t =
+      let found = m.found is_in_property fits in
+      record {
+        end_ = found.0;
+        trees = m.trees;
+        matches = found.2;
+        names = names;
+        are = a;
+        tells = t ∙ ap₂ (λ e p. end_note format text e p names) (sym found.1) found.3;
+      }
+
+  -- where the names are known if the note tells them
+  notes : (names : Expected) (note : Option (List ℕ)) → (tells_expected format text it.end it.furthest ≡ true → AreLookedFor g ps (chars rule) text it.furthest (name_limit limit (length text)) names)
+      → note ≡ end_note format text it.end it.furthest (names_of names) → IsNoted g rule text format limit note
+  notes names note a t =
+      let found = m.found is_in_property fits in
+      let all = known (each_once (expected found.2)) in
+      elim (told (tells_expected format text it.end it.furthest)) [
+        | inl h ↦ noted (names_of names) note (looked_for g ps (chars rule) text it.furthest (name_limit limit (length text)) names found.2 fits (a h) found.3) t
+        | inr h ↦ noted all note refl (t ∙ same_note format text it.end it.furthest (names_of names) all h)
+      ]
+
+  pub shows : (names : Expected) (o : Outcome) → ((trees : Trees) → seen it.entries.items ≡ entries_of 0 trees → IsMatchReport text format it.end it.furthest (names_of names) trees o)
+      → (tells_expected format text it.end it.furthest ≡ true → AreLookedFor g ps (chars rule) text it.furthest (name_limit limit (length text)) names)
       → IsOutcome g rule text format limit o
-  shows names (is.Shown lines note) t n =
+  shows names (is.Shown lines note) t a =
       let found = m.found is_in_property fits in
-      let told = t m.trees m.entries in
-      let same : (ns : List Text) → end_note format text it.end it.furthest ns ≡ end_note format text found.0.position (furthest found.2) ns =
-      λ ns. ap₂ (λ e p. end_note format text e p ns) (sym found.1) found.3 in (
+      let told = t m.trees m.entries in (
         record { end_ = found.0; trees = m.trees; matches = found.2; lines_show = told.0 ∙ ap (λ e. trees_text format text e m.trees) (sym found.1) },
-        record {
-          end_ = found.0;
-          trees = m.trees;
-          matches = found.2;
-          tells = elim n [
-            | inl h ↦ inl (told.1 ∙ (same_note format text it.end it.furthest names (each_once (expected found.2)) h ∙ same (each_once (expected found.2))))
-            | inr h ↦ inr (h.0, told.1 ∙ (ap (end_note format text it.end it.furthest) h.1 ∙ same []))
-          ];
-        },
+        notes names (option_map string_bytes note) a told.1,
       )
-  shows names (is.Failed report) t n = absurd (t m.trees m.entries)
-  shows names (is.NoRule message) t n = absurd (t m.trees m.entries)
-  shows names (is.OutOfSteps said) t n = absurd (t m.trees m.entries)
-  shows names is.EmptyStack t n = absurd (t m.trees m.entries)
-  shows names is.UnknownName t n = absurd (t m.trees m.entries)
-  shows names is.Bound t n = absurd (t m.trees m.entries)
-  shows names is.Memory t n = tt
-
-  -- with the names that are expected, where they are told
-  pub shows_names : (names : List (Bor (List ℕ))) (o : Outcome) → ((trees : Trees) → seen it.entries.items ≡ entries_of 0 trees → IsMatchReport text format it.end it.furthest (name_texts names) trees o)
-      → (tells_expected format text it.end it.furthest ≡ true → AreExpectedAt g ps (chars rule) text it.furthest names) → IsOutcome g rule text format limit o
-  shows_names names o t a =
-      let found = m.found is_in_property fits in
-      shows (name_texts names) o t (inl (λ h. expects g ps (chars rule) text it.furthest names found.2 fits (a h) found.3))
-
-  -- without them, where to find them may take too many steps
-  pub shows_none : (o : Outcome) → ((trees : Trees) → seen it.entries.items ≡ entries_of 0 trees → IsMatchReport text format it.end it.furthest [] trees o)
-      → IsStopped g ps (chars rule) text (note_limit limit (length text)) stop.OutOfSteps → IsOutcome g rule text format limit o
-  shows_none o t s = shows [] o t (inr (s is_in_property fits _ (m.found is_in_property fits).2, refl))
+  shows names (is.Failed report) t a = absurd (t m.trees m.entries)
+  shows names (is.NoRule message) t a = absurd (t m.trees m.entries)
+  shows names (is.OutOfSteps said) t a = absurd (t m.trees m.entries)
+  shows names is.EmptyStack t a = absurd (t m.trees m.entries)
+  shows names is.UnknownName t a = absurd (t m.trees m.entries)
+  shows names is.Bound t a = absurd (t m.trees m.entries)
+  shows names is.Memory t a = tt
 
 -- the furthest failure of a derivation is one of the text
 stands_here : (g : Grammar) (n : Text) (text : List ℕ) (place : ℕ) {o : Result} (d : Has g n text is_in_property o) → IsUtf8 text → place ≡ furthest d → IsCharBoundary text place

@@ -88,7 +88,7 @@ notes is.Memory grammar rule text format form rules limit told same status old_o
 -- where it is 1, a reason was told
 pub tells : {X E : Type 0} (o : Outcome) (grammar rule text : List ℕ) (format : Format) (form : RuleForm) (rules : Grammar) (limit : ℕ) (told : Result X E) (same : Type 0) (status : ℕ)
     (old_out new_out old new : Option (List ℕ)) → AreRun form grammar rules → IsOutcome rules rule text format limit o
-    → EndsAs o same status told old_out new_out old new → status ≡ 1 → ReportsReason form grammar rule text told old new
+    → EndsAs o same status told old_out new_out old new → status ≡ 1 → ReportsReason form grammar rule text limit told old new
 tells (is.Shown lines _) grammar rule text format form rules limit told same status old_out new_out old new a i e one = absurd (neither status 1 e.0 one (omega arith) (omega arith))
 tells (is.Failed report) grammar rule text format form rules limit told same status old_out new_out old new a i e one =
     record { message = string_bytes report; reason = no_match rules (string_bytes report) a i; line = e.1 }
@@ -128,9 +128,9 @@ refusal grammar (Err (fault_is.Grammar errors)) answer message told old new r a 
     record { errors = errors.items; refused = r; line = subst P said line }
 
 -- a refusal is a reason
-pub refusal_is_reason : {X E : Type 0} (form : RuleForm) (grammar rule text : List ℕ) (told : Result X E) (old new : Option (List ℕ))
-    → ReportsRefusal grammar told old new → ReportsReason form grammar rule text told old new
-refusal_is_reason form grammar rule text told old new r =
+pub refusal_is_reason : {X E : Type 0} (form : RuleForm) (grammar rule text : List ℕ) (limit : ℕ) (told : Result X E) (old new : Option (List ℕ))
+    → ReportsRefusal grammar told old new → ReportsReason form grammar rule text limit told old new
+refusal_is_reason form grammar rule text limit told old new r =
     record { message = escaped_lines (report_text r.errors); reason = refused r.errors r.refused; line = r.line }
 
 -- where there is a value, the outcome was that value

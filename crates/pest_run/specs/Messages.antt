@@ -36,14 +36,29 @@ abbrev pub note_between : ℕ × ℕ → ℕ × ℕ → List ℕ
 note_between end_ last =
     codes "note: matched up to " ++ place_text end_ ++ codes ", the text ends at " ++ place_text last
 
--- that these names are expected at a position, if there are any
-abbrev pub expected_text : ℕ × ℕ → List Text → List ℕ
-expected_text place [] = []
-expected_text place names = codes "; " ++ failure_message names ++ codes " at " ++ place_text place
+-- names that are expected at a position: these; or so many steps did not find them
+pub data Names : Type 0 where
+  known : List Text → Names
+  unfound : ℕ → Names
+
+-- that so many steps did not find expected names
+abbrev pub unfound_text : ℕ → List ℕ
+unfound_text steps = codes "the expected names were not found in " ++ (decimal steps ++ codes " steps")
+
+-- the message on expected names, in pest's words if they are known
+abbrev pub names_text : Names → List ℕ
+names_text (known names) = failure_message names
+names_text (unfound steps) = unfound_text steps
+
+-- that these names are expected at a position, if there are any; or that they were not found
+abbrev pub expected_text : ℕ × ℕ → Names → List ℕ
+expected_text place (known []) = []
+expected_text place (known names) = codes "; " ++ failure_message names ++ codes " at " ++ place_text place
+expected_text place (unfound steps) = codes "; at " ++ place_text place ++ codes " " ++ unfound_text steps
 
 -- that a match ends at a byte position of a text; and, if its furthest failure is no earlier, the names that
--- are expected there
-abbrev pub end_text : List ℕ → (end_ place : ℕ) → List Text → List ℕ
+-- are expected there, or that they were not found
+abbrev pub end_text : List ℕ → (end_ place : ℕ) → Names → List ℕ
 end_text text end_ place names =
     note_between (line_column text end_) (line_column text (length text))
     ++ (if nat_le end_ place then expected_text (line_column text place) names else [])

@@ -1,10 +1,11 @@
 -- The outcome of a rule on a text.
-use Rattle.std.specs.Prelude.{◌≡◌, ◌<◌, ◌⊎◌, ◌&&◌, ℕ, List, [], ◌++◌, Option, Some, None, Bool, false, codes, drop, if◌then◌else◌, length, nat_le, option_map, string_bytes, ⊤}
+use Rattle.std.specs.Prelude.{◌≡◌, ◌<◌, ◌&&◌, ℕ, List, ◌++◌, Option, Some, None, Bool, false, codes, drop, if◌then◌else◌, length, nat_le, option_map, string_bytes, ⊤}
 use Rattle.std.specs.Str.{chars}
 use Rattle.meta_base.specs.Language.Expression.{Grammar, Ident, rule_of}
 use Rattle.meta_base.specs.Language.Expected.{expected}
 use Rattle.meta_base.specs.Language.FurthestFailure.{furthest}
-use Rattle.meta_base.specs.Language.State.{State, Trees, Outcome as Result, Success, Failure}
+use Rattle.meta_base.specs.Language.Meaning.{Does, Task}
+use Rattle.meta_base.specs.Language.State.{Classes, State, Trees, Outcome as Result, Success, Failure}
 use Rattle.meta_base.specs.Language.Text.{Text}
 use Rattle.meta_base.specs.Language.WellFormed.{InSomeRule}
 use Rattle.meta_base.specs.Pieces.LineColumn.{line_column}
@@ -13,22 +14,24 @@ use Rattle.meta_base.specs.declared.runtime.errors.LineColLocation.TheVariants.{
 use Rattle.matcher_program.specs.Refusals.{IsBoundOf, IsNoCharacter, IsUnknown}
 use Rattle.matcher_program.specs.declared.compile.Unfit.{Unfit}
 use Rattle.matcher_program.specs.declared.compile.Unfit.TheVariants as unfit
-use Rattle.meta_matcher.specs.Answers.{Has}
+use Rattle.matcher_program.specs.declared.form.Property.{Property}
+use Rattle.meta_matcher.specs.Answers.{AreExpectedAt, Has, IsStopped}
 use Rattle.meta_matcher.specs.Sizes.{most_steps}
-use Rattle.meta_matcher.specs.ExpectedNames.{each_once}
+use Rattle.meta_matcher.specs.ExpectedNames.{each_once, name_texts}
 use Rattle.meta_matcher.specs.declared.machine.Stop.{Stop}
 use Rattle.meta_matcher.specs.declared.machine.Stop.TheVariants as stop
-use Rattle.matcher_support.specs.Expectations.{failure_message}
 use Rattle.matcher_support.specs.Lines.{lines_of}
 use Rattle.matcher_support.specs.Sets.{has_set, is_in_property}
 use Rattle.matcher_support.specs.Shown.{shown}
 use Rattle.matcher_support.specs.Values.{answer_data}
 use Rattle.tool_support.specs.Escapes.{escaped_lines}
 use Rattle.pest_run.specs.Json.{escaped_json}
-use Rattle.pest_run.specs.Messages.{end_text, is_more, no_rule_text, steps_text}
-use Rattle.pest_run.specs.Steps.{note_limit}
+use Rattle.pest_run.specs.Messages.{Names, end_text, is_more, known, names_text, no_rule_text, steps_text, unfound}
+use Rattle.pest_run.specs.Steps.{name_limit}
 use Rattle.pest_run.specs.declared.arguments.Format.{Format}
 use Rattle.pest_run.specs.declared.arguments.Format.TheVariants as format_is
+use Rattle.pest_run.specs.declared.expected.Expected.{Expected}
+use Rattle.pest_run.specs.declared.expected.Expected.TheVariants as expected_is
 use Rattle.pest_run.specs.declared.outcomes.Outcome.{Outcome}
 use Rattle.pest_run.specs.declared.outcomes.Outcome.TheVariants as is
 use Rattle.serde_json.specs.Written.{compact_text}
@@ -40,9 +43,28 @@ trees_text format_is.Lines text end_ trees = lines_of 0 trees
 trees_text format_is.Json text end_ trees =
     escaped_json (compact_text (answer_data text end_ trees)) ++ codes "\n"
 
--- the note on a match that ends at a position, and has its furthest failure at another, where these names
--- are expected: as text, where more than a line's end of the text is left
-abbrev pub end_note : Format → List ℕ → (end_ place : ℕ) → List Text → Option (List ℕ)
+-- expected names of the code
+abbrev pub names_of : Expected → Names
+names_of (expected_is.Names names) = known (name_texts names.items)
+names_of (expected_is.Unfound steps) = unfound steps
+
+-- names that are expected at the furthest failure of a derivation: these, each once; or so many steps did not
+-- find them, where the matcher may take more
+abbrev pub AreNamesOf : {g : Grammar} {classes : Classes} {k : Task} {s : State} {o : Result}
+    → Does g classes k s o → ℕ → Names → Type 0
+AreNamesOf d limit (known names) = names ≡ each_once (expected d)
+AreNamesOf d limit (unfound steps) = (steps ≡ limit) × (limit < most_steps d)
+
+-- names that are expected at a position where the rule is run on a text: these; or so many steps did not find
+-- them, since the run was stopped
+abbrev pub AreLookedFor : Grammar → List Property → Text → List ℕ → (place limit : ℕ) → Expected → Type 0
+AreLookedFor g ps n text place limit (expected_is.Names names) = AreExpectedAt g ps n text place names.items
+AreLookedFor g ps n text place limit (expected_is.Unfound steps) =
+    (steps ≡ limit) × IsStopped g ps n text limit stop.OutOfSteps
+
+-- the note on a match that ends at a position, and has its furthest failure at another, where this is known
+-- of expected names: as text, where more than a line's end of the text is left
+abbrev pub end_note : Format → List ℕ → (end_ place : ℕ) → Names → Option (List ℕ)
 end_note format_is.Text text end_ place names =
     if is_more (drop end_ text) then Some (end_text text end_ place names) else None
 end_note format_is.Json text end_ place names = None
@@ -63,30 +85,30 @@ pub record IsShown (g : Grammar) (rule text : List ℕ) (format : Format) (lines
   pub lines_show : lines ≡ trees_text format text end_.position trees
 
 -- the rule, called at the start of the text, succeeds, and the note, if there is one, tells where it ends,
--- and what is expected at its furthest failure; or, where the matcher may take more steps than the limit
--- of a note, where it ends
+-- and the names that are expected at its furthest failure, or that they were not found
 pub record IsNoted (g : Grammar) (rule text : List ℕ) (format : Format) (limit : ℕ)
     (note : Option (List ℕ)) : Type 0 where
   pub end_ : State
   pub trees : Trees
   pub matches : Has g (chars rule) text is_in_property (Success end_ trees)
-  pub tells :
-      (note ≡ end_note format text end_.position (furthest matches) (each_once (expected matches)))
-      ⊎ ((note_limit limit (length text) < most_steps matches)
-      × (note ≡ end_note format text end_.position (furthest matches) []))
+  pub names : Names
+  pub are : AreNamesOf matches (name_limit limit (length text)) names
+  pub tells : note ≡ end_note format text end_.position (furthest matches) names
 
--- the text of an error at a position of a text, where these names are expected, with escapes of hidden
+-- the text of an error at a position of a text, where this is known of expected names, with escapes of hidden
 -- characters
-abbrev pub failure_text : List ℕ → ℕ → List Text → List ℕ
+abbrev pub failure_text : List ℕ → ℕ → Names → List ℕ
 failure_text text place names =
-    let message = failure_message names in
+    let message = names_text names in
     escaped_lines (printed_error message (Pos (line_column text place)) (printed_line text place))
 
 -- the rule, called at the start of the text, fails, and the report shows the furthest position of a failure,
--- and the names that are expected there, each once
-pub record HasFailed (g : Grammar) (rule text report : List ℕ) : Type 0 where
+-- and the names that are expected there, or that they were not found
+pub record HasFailed (g : Grammar) (rule text : List ℕ) (limit : ℕ) (report : List ℕ) : Type 0 where
   pub fails : Has g (chars rule) text is_in_property Failure
-  pub report_shows : report ≡ failure_text text (furthest fails) (each_once (expected fails))
+  pub names : Names
+  pub are : AreNamesOf fails (name_limit limit (length text)) names
+  pub report_shows : report ≡ failure_text text (furthest fails) names
 
 -- no rule has the name
 abbrev pub HasNoRule : Grammar → List ℕ → Type 0
@@ -123,15 +145,16 @@ unfit_outcome unfit.Memory = is.Memory
 unfit_outcome (unfit.UnknownName name) = is.UnknownName
 unfit_outcome (unfit.Bound text) = is.Bound
 
--- the outcome reports a failure at a position, or an allocation failure
-abbrev pub IsFailureReport : List ℕ → ℕ → List Text → Outcome → Type 0
+-- the outcome reports a failure at a position, where this is known of expected names, or an allocation
+-- failure
+abbrev pub IsFailureReport : List ℕ → ℕ → Names → Outcome → Type 0
 IsFailureReport text place names (is.Failed report) = string_bytes report ≡ failure_text text place names
 IsFailureReport text place names is.Memory = ⊤
 IsFailureReport text place names _ = ⊥
 
 -- the outcome shows the trees of a match that ends at a position, and has its furthest failure at another,
--- where these names are expected; or it reports an allocation failure
-abbrev pub IsMatchReport : List ℕ → Format → (end_ place : ℕ) → List Text → Trees → Outcome → Type 0
+-- where this is known of expected names; or it reports an allocation failure
+abbrev pub IsMatchReport : List ℕ → Format → (end_ place : ℕ) → Names → Trees → Outcome → Type 0
 IsMatchReport text format end_ place names trees (is.Shown lines note) =
     (string_bytes lines ≡ trees_text format text end_ trees)
     × (option_map string_bytes note ≡ end_note format text end_ place names)
@@ -150,7 +173,7 @@ abbrev pub IsOutcome : Grammar → List ℕ → List ℕ → Format → ℕ → 
 IsOutcome g rule text format limit (is.Shown lines note) =
     IsShown g rule text format (string_bytes lines)
     × IsNoted g rule text format limit (option_map string_bytes note)
-IsOutcome g rule text format limit (is.Failed report) = HasFailed g rule text (string_bytes report)
+IsOutcome g rule text format limit (is.Failed report) = HasFailed g rule text limit (string_bytes report)
 IsOutcome g rule text format limit (is.NoRule message) =
     HasNoRule g rule × (string_bytes message ≡ no_rule_text g rule)
 IsOutcome g rule text format limit (is.OutOfSteps message) =

@@ -13,7 +13,7 @@ abbrev pub step_limit : Option ℕ → ℕ → ℕ
 step_limit (Some steps) length = steps
 step_limit None length = min (100000 * (length + 1000)) (2 ^ 64 - 1)
 
--- the greatest number of steps in which the names of a note are looked for, by that of a match and the length
--- of the text
-abbrev pub note_limit : ℕ → ℕ → ℕ
-note_limit steps length = min steps (min (200 * (length + 5000)) (2 ^ 64 - 1))
+-- the greatest number of steps in which expected names are looked for, by that of a match and the length of
+-- the text
+abbrev pub name_limit : ℕ → ℕ → ℕ
+name_limit steps length = min steps (min (1000 * (length + 1000)) (2 ^ 64 - 1))

@@ -95,20 +95,20 @@ pub record NotesEnd {X E : Type 0} (form : RuleForm) (grammar rule text : List �
 
 -- the reason why there are no trees, and its text: the grammar is refused, and its report is the text; or
 -- it has no rule of that name; or the rule fails, and the text shows its furthest position and the expected
--- set there
-pub data IsReason (form : RuleForm) (grammar rule text : List ℕ) : List ℕ → Type 0 where
+-- set there, or that it was not found
+pub data IsReason (form : RuleForm) (grammar rule text : List ℕ) (limit : ℕ) : List ℕ → Type 0 where
   refused : (errors : List (Error Rule)) → IsRefusedWith grammar errors
-      → IsReason form grammar rule text (escaped_lines (report_text errors))
+      → IsReason form grammar rule text limit (escaped_lines (report_text errors))
   no_rule : (rules : Grammar) → AreRun form grammar rules → HasNoRule rules rule
-      → IsReason form grammar rule text (no_rule_text rules rule)
+      → IsReason form grammar rule text limit (no_rule_text rules rule)
   no_match : (rules : Grammar) (report : List ℕ) → AreRun form grammar rules
-      → HasFailed rules rule text report → IsReason form grammar rule text report
+      → HasFailed rules rule text limit report → IsReason form grammar rule text limit report
 
 -- there is such a reason, and it is the line
-pub record ReportsReason {X E : Type 0} (form : RuleForm) (grammar rule text : List ℕ) (written : Result X E)
-    (old new : Option (List ℕ)) : Type 0 where
+pub record ReportsReason {X E : Type 0} (form : RuleForm) (grammar rule text : List ℕ) (limit : ℕ)
+    (written : Result X E) (old new : Option (List ℕ)) : Type 0 where
   pub message : List ℕ
-  pub reason : IsReason form grammar rule text message
+  pub reason : IsReason form grammar rule text limit message
   pub line : WritesLine message written old new
 
 -- the reason why the matcher was stopped on the text, and its text: too many steps; or the rule has no

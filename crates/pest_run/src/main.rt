@@ -9,6 +9,7 @@ ghost use Rattle.pest_run.specs.Written.{IsReadable, PrintsTrees};
 
 mod arguments;
 mod ends;
+mod expected;
 mod forms;
 mod json;
 mod listing;

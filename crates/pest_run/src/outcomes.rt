@@ -1,25 +1,21 @@
 //! The outcome of a rule on a text.
-ghost use Rattle.std.specs.Prelude.{◌≡◌, IfErr, IfOk, chars, length, option_map, string_bytes, true};
+ghost use Rattle.std.specs.Prelude.{◌≡◌, IfOk, option_map, string_bytes};
 ghost use Rattle.meta_ast.specs.Optimized.{optimized_rules_of};
 ghost use Rattle.meta_base.specs.Language.State.{Trees};
 ghost use Rattle.meta_base.specs.Pieces.Span.{position_offset, position_text};
-ghost use Rattle.matcher_engine.specs.Matchers.{grammar_in, properties_in};
-ghost use Rattle.meta_matcher.specs.Answers.{AreExpectedAt, IsUnanswered};
-ghost use Rattle.meta_matcher.specs.ExpectedNames.{name_texts};
 ghost use Rattle.meta_matcher.specs.Written.{seen};
 ghost use Rattle.meta_syntax.specs.Entries.{entries_of};
 ghost use Rattle.std.specs.Str.{IsCharBoundary};
 ghost use Rattle.matcher_support.specs.Shown.{shown};
 ghost use Rattle.tool_support.specs.Escapes.{escaped_lines};
-ghost use Rattle.pest_run.specs.Steps.{note_limit};
-ghost use Rattle.pest_run.specs.Outcomes.{IsFailureReport, IsMatchReport, IsNoRuleReport, IsOutcome, IsStopReport, end_note, failure_text, tells_expected, trees_text, unfit_outcome};
+ghost use Rattle.pest_run.specs.Outcomes.{IsFailureReport, IsMatchReport, IsNoRuleReport, IsOutcome, IsStopReport, end_note, failure_text, names_of, trees_text, unfit_outcome};
 
 use crate::arguments::Format;
+use crate::expected::{Expected, find_names, name_limit, names_after};
 use crate::json::escape_json;
-use crate::messages::{end_message, is_more, no_rule_message, steps_message};
+use crate::messages::{end_message, expected_message, is_more, no_rule_message, steps_message};
 use matcher_engine::matcher::Matcher;
 use matcher_program::compile::Unfit;
-use matcher_support::expectations::failure_message;
 use matcher_support::json::tree_json;
 use matcher_support::lines::tree_lines;
 use matcher_support::shown::tree_text;
@@ -38,7 +34,7 @@ use tool_support::escape::escape_lines;
 pub enum Outcome {
     /// The rule matches, and these lines show the trees. The note says that the match ends before the text.
     Shown { lines: String, note: Option<String> },
-    /// The rule fails; the report has the position and the expected set.
+    /// The rule fails; the report has the position and the expected set, or that it was not found in time.
     Failed(String),
     /// The grammar has no rule of that name, and the message says so.
     NoRule(String),
@@ -69,20 +65,17 @@ pub fn outcome_of(
         Ok(matcher) => matcher,
         Err(unfit) => return unfit_outcome(unfit),
     };
+    let most = name_limit(steps, text.len());
     match matcher.parse(alloc, rule, text, steps) {
-        Ok(found) => match names_after(alloc, &matcher, rule, text, &found, format, steps) {
+        Ok(found) => match names_after(alloc, &matcher, rule, text, &found, format, most) {
             Ok(names) => shown_outcome(alloc, text, &found, &names, format),
             Err(Refusal::UnknownRule(_)) => no_rule_outcome(alloc, rules, rule),
             Err(Refusal::NoMatch(_)) => unreachable!(),
-            Err(Refusal::Stopped(Stop::OutOfSteps)) => {
-                shown_outcome(alloc, text, &found, &[], format)
-            }
-            Err(Refusal::Stopped(Stop::EmptyStack)) => Outcome::EmptyStack,
-            Err(Refusal::Stopped(Stop::Memory)) => Outcome::Memory,
+            Err(Refusal::Stopped(stop)) => stopped_outcome(alloc, stop, steps),
         },
         Err(Refusal::UnknownRule(_)) => no_rule_outcome(alloc, rules, rule),
         Err(Refusal::NoMatch(place)) => {
-            match matcher.expected_at(alloc, rule, text, place, steps) {
+            match find_names(alloc, &matcher, rule, text, place, most) {
                 Ok(names) => failed_outcome(alloc, text, place, &names),
                 Err(Refusal::UnknownRule(_)) => no_rule_outcome(alloc, rules, rule),
                 Err(Refusal::NoMatch(_)) => unreachable!(),
@@ -93,66 +86,19 @@ pub fn outcome_of(
     }
 }
 
-/// The steps that each byte of a text is allowed while the names of a note are looked for.
-const NOTE_STEPS_PER_BYTE: u64 = 200;
-
-/// The bytes by which every text counts for longer then.
-const NOTE_MORE_BYTES: u64 = 5_000;
-
-/// Returns the greatest number of steps in which the names of a note are looked for, by that of a match and
-/// the length of the text in bytes.
-fn note_limit(steps: u64, length: usize) -> u64
-    ensures { result ≡ note_limit steps length }
-{
-    (length as u64)
-        .saturating_add(NOTE_MORE_BYTES)
-        .saturating_mul(NOTE_STEPS_PER_BYTE)
-        .min(steps)
-}
-
-/// Returns the names that are expected at the furthest failure of a match, if the note on its end tells them;
-/// for them the text is read again, in `note_limit` steps at most. Errors are those of
-/// `Matcher::expected_at`.
-fn names_after<'a>(
-    alloc: Global,
-    matcher: &'a Matcher,
-    rule: &'a str,
-    text: &'a str,
-    found: &Found<'_>,
-    format: Format,
-    steps: u64,
-) -> Result<Vec<&'a str>, Refusal<'a>>
-    requires { IsCharBoundary text.now found.now.end }
-    ensures expected { IfOk result (λ names.
-        tells_expected format text.entry.now found.now.end found.now.furthest ≡ true
-        → AreExpectedAt (grammar_in matcher.entry.now) (properties_in matcher.entry.now)
-        (chars rule.entry.now) text.entry.now found.now.furthest names.items) }
-    ensures refused { IfErr result (IsUnanswered (grammar_in matcher.entry.now)
-        (properties_in matcher.entry.now) (chars rule.entry.now) text.entry.now
-        (note_limit steps (length text.entry.now))) }
-{
-    match format {
-        Format::Text if found.furthest >= found.end && is_more(&text[found.end..]) => {
-            let most = note_limit(steps, text.len());
-            matcher.expected_at(alloc, rule, text, found.furthest, most)
-        }
-        _ => Ok(Vec::new(alloc)),
-    }
-}
-
 /// Returns the outcome of a rule that matches a text, up to a byte position between two characters, where
-/// these names are expected at the furthest failure.
+/// this is known of the names that are expected at the furthest failure.
 fn shown_outcome(
     alloc: Global,
     text: &str,
     found: &Found<'_>,
-    names: &[&str],
+    names: &Expected<'_>,
     format: Format,
 ) -> Outcome
     requires end { IsCharBoundary text.now found.now.end }
     requires place { IsCharBoundary text.now found.now.furthest }
     ensures { (trees : Trees) → seen found.now.entries.items ≡ entries_of 0 trees
-        → IsMatchReport text.now format found.now.end found.now.furthest (name_texts names.now) trees result }
+        → IsMatchReport text.now format found.now.end found.now.furthest (names_of names.now) trees result }
 {
     match lines_of(alloc, text, found, format) {
         Ok(lines) => match note_of(alloc, text, found, names, format) {
@@ -169,13 +115,13 @@ fn note_of(
     alloc: Global,
     text: &str,
     found: &Found<'_>,
-    names: &[&str],
+    names: &Expected<'_>,
     format: Format,
 ) -> Result<Option<String>, AllocError>
     requires end { IsCharBoundary text.now found.now.end }
     requires place { IsCharBoundary text.now found.now.furthest }
     ensures { IfOk result (λ note. option_map string_bytes note
-        ≡ end_note format text.now found.now.end found.now.furthest (name_texts names.now)) }
+        ≡ end_note format text.now found.now.end found.now.furthest (names_of names.now)) }
 {
     match format {
         Format::Text => text_note(alloc, text, found.end, found.furthest, names),
@@ -190,12 +136,12 @@ fn text_note(
     text: &str,
     end: usize,
     place: usize,
-    names: &[&str],
+    names: &Expected<'_>,
 ) -> Result<Option<String>, AllocError>
     requires end { IsCharBoundary text.now end }
     requires place { IsCharBoundary text.now place }
     ensures { IfOk result (λ note. option_map string_bytes note
-        ≡ end_note Format.Text text.now end place (name_texts names.now)) }
+        ≡ end_note Format.Text text.now end place (names_of names.now)) }
 {
     if is_more(&text[end..]) {
         Ok(Some(end_message(alloc, text, end, place, names)?))
@@ -247,11 +193,11 @@ fn json_line(
     Ok(line)
 }
 
-/// Returns the outcome of a rule that fails at a byte position between two characters, where these names are
-/// expected.
-fn failed_outcome(alloc: Global, text: &str, place: usize, names: &[&str]) -> Outcome
+/// Returns the outcome of a rule that fails at a byte position between two characters, where this is known of
+/// the expected names.
+fn failed_outcome(alloc: Global, text: &str, place: usize, names: &Expected<'_>) -> Outcome
     requires { IsCharBoundary text.now place }
-    ensures { IsFailureReport text.now place (name_texts names.now) result }
+    ensures { IsFailureReport text.now place (names_of names.now) result }
 {
     let Some(position) = Position::new(text, place) else {
         unreachable!()
@@ -272,13 +218,13 @@ fn no_rule_outcome(alloc: Global, rules: &[OptimizedRule], rule: &str) -> Outcom
     }
 }
 
-/// Returns the text of an error at a position where these names are expected, with escapes of hidden
-/// characters. The only error is an allocation failure.
-fn report_at(alloc: Global, place: Position<'_>, names: &[&str]) -> Result<String, Fault>
+/// Returns the text of an error at a position where this is known of the expected names, with escapes of
+/// hidden characters. The only error is an allocation failure.
+fn report_at(alloc: Global, place: Position<'_>, names: &Expected<'_>) -> Result<String, Fault>
     ensures { IfOk result (λ report. string_bytes report
-        ≡ failure_text (position_text place.entry) (position_offset place.entry) (name_texts names.now)) }
+        ≡ failure_text (position_text place.entry) (position_offset place.entry) (names_of names.now)) }
 {
-    let message = failure_message(alloc, names)?;
+    let message = expected_message(alloc, names)?;
     let error: Error<Rule> = Error::new_from_pos(
         alloc,
         ErrorVariant::CustomError { message },

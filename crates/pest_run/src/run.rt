@@ -45,9 +45,9 @@ pub fn run_files<W: Write, E: Write>(
         (step_limit request.entry.steps (length text.now.bytes.items)) (err.new ≡ err.old) result.write_result
         (E.contents err.old.writer) (E.contents err.new.writer) }
     ensures reason { result.status ≡ 1
-        → ReportsReason request.entry.form grammar.now.bytes.items request.entry.rule.now text.now.bytes.items
-        result.write_result
-        (E.contents err.old.writer) (E.contents err.new.writer) }
+        → ReportsReason request.entry.form grammar.now.bytes.items request.entry.rule.now
+        text.now.bytes.items (step_limit request.entry.steps (length text.now.bytes.items))
+        result.write_result (E.contents err.old.writer) (E.contents err.new.writer) }
     ensures tells_memory { result.status ≡ 2
         → WritesLine (codes "out of memory") result.write_result
         (E.contents err.old.writer) (E.contents err.new.writer) }
@@ -79,8 +79,8 @@ pub fn run_files<W: Write, E: Write>(
 ///
 /// Otherwise one text with a line break at its end goes to `err`: the report of a grammar that is refused,
 /// that the grammar has no such rule, or the furthest position at which the rule fails with the expected set
-/// there (1); `out of memory` (2); `cannot write` where `out` refuses a write (4); why the run was stopped
-/// (5). A write that `err` refuses changes no status.
+/// there, or that the set was not found in time (1); `out of memory` (2); `cannot write` where `out` refuses
+/// a write (4); why the run was stopped (5). A write that `err` refuses changes no status.
 pub fn run<W: Write, E: Write>(
     alloc: Global,
     grammar: &str,
@@ -101,7 +101,8 @@ pub fn run<W: Write, E: Write>(
         (step_limit request.entry.steps (length text.now)) (err.new ≡ err.old) result.write_result
         (E.contents err.old.writer) (E.contents err.new.writer) }
     ensures reason { result.status ≡ 1
-        → ReportsReason request.entry.form grammar.now request.entry.rule.now text.now result.write_result
+        → ReportsReason request.entry.form grammar.now request.entry.rule.now text.now
+        (step_limit request.entry.steps (length text.now)) result.write_result
         (E.contents err.old.writer) (E.contents err.new.writer) }
     ensures tells_memory { result.status ≡ 2
         → WritesLine (codes "out of memory") result.write_result

@@ -2,10 +2,9 @@ use Rattle.std.proofs.Common.{subst, sym}
 use Rattle.meta_ast.specs.Optimized.{optimized_rules_of}
 use Rattle.meta_base.specs.Language.Expression.{Grammar}
 use Rattle.matcher_engine.specs.Matchers.{grammar_in, properties_in}
-use Rattle.matcher_support.specs.Sets.{is_in_property}
-use Rattle.pest_run.specs.Outcomes.{HasNoOutcome, HasNoRule, IsOutcome}
+use Rattle.pest_run.specs.Outcomes.{HasNoRule, IsOutcome}
 use Rattle.pest_run.specs.declared.outcomes.Outcome.{Outcome}
-use Rattle.pest_run.proofs.Came.{at_character, ends_at_character, failed, shows_names, shows_none, stopped, stops_at_character, unfit, unknown}
+use Rattle.pest_run.proofs.Came.{at_character, ends_at_character, failed, shows, stopped, stops_at_character, unfit, unknown}
 use Rattle.pest_run.proofs.outcomes.outcome_of.Goals as goal
 
 -- a match
@@ -27,48 +26,21 @@ shown_outcome-requires-clause-place c =
 pub returns-in-Ok-names_after : goal.returns-in-Ok-names_after
 returns-in-Ok-names_after c =
     let m = c.in-Ok.matcher in
-    let told = rw c.deref.ensures.value at c.shown_outcome.ensures in
+    let names = rw c.name_limit-most.ensures at c.in-Ok-names_after.ensures.expected in
     let P : Grammar → Type 0 = λ g. IsOutcome g c.args.rule.now c.args.text.now c.args.format c.args.steps c.shown_outcome.result in
     subst P c.in-Ok.ensures.means
-    (shows_names (grammar_in m) (properties_in m) c.args.rule.now c.args.text.now c.args.format c.args.steps c.in-Ok-parse.found c.in-Ok.ensures.fits c.in-Ok-parse.ensures.matched c.in-Ok-names_after.names.items c.shown_outcome.result told c.in-Ok-names_after.ensures.expected)
+    (shows (grammar_in m) (properties_in m) c.args.rule.now c.args.text.now c.args.format c.args.steps c.in-Ok-parse.found c.in-Ok.ensures.fits c.in-Ok-parse.ensures.matched c.in-Ok-names_after.names c.shown_outcome.result c.shown_outcome.ensures names)
 
--- a match whose expected names take too many steps
-pub shown_outcome-requires-in-Err-Stopped-OutOfSteps-clause-end : goal.shown_outcome-requires-in-Err-Stopped-OutOfSteps-clause-end
-shown_outcome-requires-in-Err-Stopped-OutOfSteps-clause-end c =
-    let m = c.in-Ok.matcher in
-    ends_at_character (grammar_in m) (properties_in m) _ c.args.text.now c.in-Ok-parse.found c.utf8.text c.in-Ok.ensures.fits c.in-Ok-parse.ensures.matched
-
-pub shown_outcome-requires-in-Err-Stopped-OutOfSteps-clause-place : goal.shown_outcome-requires-in-Err-Stopped-OutOfSteps-clause-place
-shown_outcome-requires-in-Err-Stopped-OutOfSteps-clause-place c =
-    let m = c.in-Ok.matcher in
-    stops_at_character (grammar_in m) (properties_in m) _ c.args.text.now c.in-Ok-parse.found c.utf8.text c.in-Ok.ensures.fits c.in-Ok-parse.ensures.matched
-
-pub returns-in-Err-Stopped-OutOfSteps : goal.returns-in-Err-Stopped-OutOfSteps
-returns-in-Err-Stopped-OutOfSteps c =
-    let m = c.in-Ok.matcher in
-    let says = rw (c.in-Err-Stopped-OutOfSteps.field-0-is, c.in-Err-Stopped-OutOfSteps.field-0-0-is) at c.in-Err-Stopped-OutOfSteps.ensures.refused in
-    let o = c.shown_outcome-in-Err-Stopped-OutOfSteps.result in
-    let P : Grammar → Type 0 = λ g. IsOutcome g c.args.rule.now c.args.text.now c.args.format c.args.steps o in
-    subst P c.in-Ok.ensures.means
-    (shows_none (grammar_in m) (properties_in m) c.args.rule.now c.args.text.now c.args.format c.args.steps c.in-Ok-parse.found c.in-Ok.ensures.fits c.in-Ok-parse.ensures.matched o c.shown_outcome-in-Err-Stopped-OutOfSteps.ensures says)
-
--- a match whose expected names need an entry of the empty stack
-pub returns-in-Err-Stopped-EmptyStack : goal.returns-in-Err-Stopped-EmptyStack
-returns-in-Err-Stopped-EmptyStack c =
-    let m = c.in-Ok.matcher in
-    let says = rw (c.in-Err-Stopped-EmptyStack.field-0-is, c.in-Err-Stopped-EmptyStack.field-0-0-is) at c.in-Err-Stopped-EmptyStack.ensures.refused in
-    let P : Grammar → Type 0 = λ g. HasNoOutcome g c.args.rule.now c.args.text.now in
-    subst P c.in-Ok.ensures.means (λ o found. says is_in_property c.in-Ok.ensures.fits o found)
-
-pub returns-in-Ok-expected_at : goal.returns-in-Ok-expected_at
-returns-in-Ok-expected_at c =
+-- a failure
+pub returns-in-Ok-find_names : goal.returns-in-Ok-find_names
+returns-in-Ok-find_names c =
     let m = c.in-Ok.matcher in
     let refused = rw c.in-Err-NoMatch.field-0-is at c.in-Err-NoMatch.ensures.refused in
-    let names = rw c.in-Err-NoMatch.field-0-is at c.in-Ok-expected_at.ensures.expected in
-    let told = rw (c.deref-in-Ok-expected_at.ensures.value, c.in-Err-NoMatch.field-0-is) at c.failed_outcome.ensures in
+    let names = rw (c.in-Err-NoMatch.field-0-is, c.name_limit-most.ensures) at c.in-Ok-find_names.ensures.expected in
+    let told = rw c.in-Err-NoMatch.field-0-is at c.failed_outcome.ensures in
     let P : Grammar → Type 0 = λ g. IsOutcome g c.args.rule.now c.args.text.now c.args.format c.args.steps c.failed_outcome.result in
     subst P c.in-Ok.ensures.means
-    (failed (grammar_in m) (properties_in m) c.args.rule.now c.args.text.now c.args.format c.args.steps c.in-Err-NoMatch.place c.in-Ok-expected_at.names.items c.failed_outcome.result c.in-Ok.ensures.fits refused names told)
+    (failed (grammar_in m) (properties_in m) c.args.rule.now c.args.text.now c.args.format c.args.steps c.in-Err-NoMatch.place c.in-Ok-find_names.names c.failed_outcome.result c.in-Ok.ensures.fits refused names told)
 
 pub failed_outcome-requires : goal.failed_outcome-requires
 failed_outcome-requires c =
@@ -81,11 +53,12 @@ failed_outcome-requires c =
 pub returns-in-Err-NoMatch : goal.returns-in-Err-NoMatch
 returns-in-Err-NoMatch c =
     let m = c.in-Ok.matcher in
-    let why = c.in-Err-Stopped-expected_at.stop in
-    let says = rw c.in-Err-Stopped-expected_at.field-0-is at c.in-Err-Stopped-expected_at.ensures.refused in
-    let told = c.stopped_outcome.ensures in
-    let Q : Grammar → Type 0 = λ g. IsOutcome g c.args.rule.now c.args.text.now c.args.format c.args.steps c.stopped_outcome.result in
-    subst Q c.in-Ok.ensures.means (stopped (grammar_in m) (properties_in m) c.args.rule.now c.args.text.now c.args.format c.args.steps why c.stopped_outcome.result c.in-Ok.ensures.fits says told)
+    let why = c.in-Err-Stopped-find_names.stop in
+    let refused = c.in-Err-Stopped-find_names.ensures.refused c.args.steps in
+    let says = rw c.in-Err-Stopped-find_names.field-0-is at refused in
+    let told = c.stopped_outcome-in-Err-Stopped-find_names.ensures in
+    let Q : Grammar → Type 0 = λ g. IsOutcome g c.args.rule.now c.args.text.now c.args.format c.args.steps c.stopped_outcome-in-Err-Stopped-find_names.result in
+    subst Q c.in-Ok.ensures.means (stopped (grammar_in m) (properties_in m) c.args.rule.now c.args.text.now c.args.format c.args.steps why c.stopped_outcome-in-Err-Stopped-find_names.result c.in-Ok.ensures.fits says told)
 
 -- the same of the match
 pub returns : goal.returns
@@ -104,14 +77,44 @@ returns-in-Err-UnknownRule c =
     let R : Grammar → Type 0 = λ g. HasNoRule g c.args.rule.now in
     unknown (optimized_rules_of c.args.rules.now) c.args.rule.now c.args.text.now c.args.format c.args.steps c.no_rule_outcome-in-Err-UnknownRule.result (subst R c.in-Ok.ensures.means told.0) c.no_rule_outcome-in-Err-UnknownRule.ensures
 
-pub returns-in-Err-UnknownRule-expected_at : goal.returns-in-Err-UnknownRule-expected_at
-returns-in-Err-UnknownRule-expected_at c =
-    let told = rw c.in-Err-UnknownRule-expected_at.field-0-is at c.in-Err-UnknownRule-expected_at.ensures.refused in
+pub returns-in-Err-UnknownRule-find_names : goal.returns-in-Err-UnknownRule-find_names
+returns-in-Err-UnknownRule-find_names c =
+    let refused = c.in-Err-UnknownRule-find_names.ensures.refused c.args.steps in
+    let told = rw c.in-Err-UnknownRule-find_names.field-0-is at refused in
     let R : Grammar → Type 0 = λ g. HasNoRule g c.args.rule.now in
-    unknown (optimized_rules_of c.args.rules.now) c.args.rule.now c.args.text.now c.args.format c.args.steps c.no_rule_outcome-in-Err-UnknownRule-expected_at.result (subst R c.in-Ok.ensures.means told.0) c.no_rule_outcome-in-Err-UnknownRule-expected_at.ensures
+    unknown (optimized_rules_of c.args.rules.now) c.args.rule.now c.args.text.now c.args.format c.args.steps c.no_rule_outcome-in-Err-UnknownRule-find_names.result (subst R c.in-Ok.ensures.means told.0) c.no_rule_outcome-in-Err-UnknownRule-find_names.ensures
 
 -- rules that can't be run
 pub returns-in-Err : goal.returns-in-Err
 returns-in-Err c =
     let P : Outcome → Type 0 = λ o. IsOutcome (optimized_rules_of c.args.rules.now) c.args.rule.now c.args.text.now c.args.format c.args.steps o in
     subst P (sym c.unfit_outcome.ensures) (unfit (optimized_rules_of c.args.rules.now) c.args.rule.now c.args.text.now c.args.format c.args.steps c.in-Err.unfit c.in-Err.ensures.refused)
+
+-- names that were looked for after a match
+pub returns-in-Err-UnknownRule-names_after : goal.returns-in-Err-UnknownRule-names_after
+returns-in-Err-UnknownRule-names_after c =
+    let refused = c.in-Err-UnknownRule-names_after.ensures.refused c.args.steps in
+    let told = rw c.in-Err-UnknownRule-names_after.field-0-is at refused in
+    let R : Grammar → Type 0 = λ g. HasNoRule g c.args.rule.now in
+    unknown (optimized_rules_of c.args.rules.now) c.args.rule.now c.args.text.now c.args.format c.args.steps c.no_rule_outcome.result (subst R c.in-Ok.ensures.means told.0) c.no_rule_outcome.ensures
+
+pub returns-in-Ok-parse : goal.returns-in-Ok-parse
+returns-in-Ok-parse c =
+    let m = c.in-Ok.matcher in
+    let why = c.in-Err-Stopped-names_after.stop in
+    let refused = c.in-Err-Stopped-names_after.ensures.refused c.args.steps in
+    let says = rw c.in-Err-Stopped-names_after.field-0-is at refused in
+    let told = rw c.in-Err-Stopped-names_after.field-0-is at c.stopped_outcome.ensures in
+    let Q : Grammar → Type 0 = λ g. IsOutcome g c.args.rule.now c.args.text.now c.args.format c.args.steps c.stopped_outcome.result in
+    subst Q c.in-Ok.ensures.means (stopped (grammar_in m) (properties_in m) c.args.rule.now c.args.text.now c.args.format c.args.steps why c.stopped_outcome.result c.in-Ok.ensures.fits says told)
+
+-- names are told of a rule that fails
+pub unreachable-requires : goal.unreachable-requires
+unreachable-requires c =
+    let refused = c.in-Err-NoMatch-names_after.ensures.refused c.args.steps in
+    rw c.in-Err-NoMatch-names_after.field-0-is at refused
+
+pub unreachable-requires-in-Err-NoMatch-find_names : goal.unreachable-requires-in-Err-NoMatch-find_names
+unreachable-requires-in-Err-NoMatch-find_names c =
+    let refused = c.in-Err-NoMatch-find_names.ensures.refused c.args.steps in
+    rw c.in-Err-NoMatch-find_names.field-0-is at refused
