@@ -1,4 +1,4 @@
-//! Use of the front end by a program, as CALLING.md describes it: two callers, each proved.
+//! Use of the front end by a program, as CALLING.md describes it: callers, each proved.
 ghost use Rattle.std.specs.Prelude.{◌≡◌, IfOk, map};
 ghost use Rattle.calling.specs.NamedPlaces.{AreNamedPlaces, named_place, named_place_of};
 ghost use Rattle.meta_spanned.specs.Nodes.{rule_views};
@@ -8,6 +8,8 @@ use matcher_engine::matcher::Matcher;
 use matcher_pairs::parse::{ParseError, parse as parse_text};
 use matcher_program::compile::Unfit;
 use matcher_support::unicode_properties::UnicodeProperties;
+use matcher_tags::pairs::as_node_tag;
+use matcher_tags::parse::parse_tagged;
 use pest_meta::optimizer::OptimizedRule;
 use pest_meta::parser::{ParserRule, Rule, consume_rules_with_spans, parse};
 use pest_meta::runtime::Fault;
@@ -73,4 +75,21 @@ pub fn print_pairs(
         Err(ParseError::UnknownRule(name)) => eprintln!(rt; "no rule {name}"),
         Err(ParseError::Stopped(_)) => eprintln!(rt; "stopped"),
     }
+}
+
+/// Prints the tags in the pair that a text spells for a rule, each with its part of the text. The matcher is
+/// one of wrapped rules.
+pub fn print_tags(rt: &HostRuntime, matcher: &Matcher, rule: &str, text: &str) -> io::Result<()> {
+    let Ok(mut found) = parse_tagged(rt.alloc(), matcher, rule, text, 1_000_000) else {
+        return eprintln!(rt; "no match");
+    };
+    let Some(pair) = found.pairs.next() else {
+        return Ok(());
+    };
+    for inner in pair.into_inner() {
+        if let Some(tag) = as_node_tag(&inner) {
+            println!(rt; "{tag}: {:?}", inner.as_str())?;
+        }
+    }
+    Ok(())
 }

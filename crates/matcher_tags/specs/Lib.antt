@@ -1,0 +1,4 @@
+pub mod Entries
+pub mod Trees
+pub mod Matches
+pub mod Parses

@@ -1,0 +1,11 @@
+pub mod Naming
+pub mod Splicing
+pub mod Wraps
+pub mod Made
+pub mod Finding
+pub mod BuiltinNames
+pub mod Showing
+pub mod WrappedRules
+pub mod Rules
+pub mod Reading
+pub mod Untagged

@@ -1,0 +1,5 @@
+pub mod Names
+pub mod Wrapped
+pub mod Frames
+pub mod Tags
+pub mod Spliced
