@@ -1,2 +1,5 @@
 mod Caseless
+mod IdentifierWords
 mod Named
+mod NamesInTrees
+mod Unmarked

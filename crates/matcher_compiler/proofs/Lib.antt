@@ -5,4 +5,6 @@ pub mod Naming
 pub mod Skipping
 pub mod Listing
 pub mod Shortening
+pub mod Sharing
+pub mod Spanning
 pub mod Reading

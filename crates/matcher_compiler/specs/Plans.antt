@@ -127,16 +127,20 @@ pub record AreTexts (code : Code) (numbers : List ℕ) (ts : List Text) : Type 0
   pub valid : All IsUtf8 (map (text_of code) numbers)
   pub same : map chars (map (text_of code) numbers) ≡ ts
 
--- the characters of ranges are what the blanks of the implicit skipping take
-pub record TakesBlanks (p : Program) (classes : Classes) (ranges : List (ℕ × ℕ)) : Type 0 where
+-- a task takes all characters of the ranges that follow, and no others
+pub record TakesSpan (p : Program) (classes : Classes) (k : Task) (ranges : List (ℕ × ℕ)) : Type 0 where
   pub characters : ℕ → Bool
   pub covers : Covers ranges characters
-  pub takes : HasOutcome (grammar_in p) classes (Run Between blanks) (skip_set characters) (λ s. 0)
+  pub takes : HasOutcome (grammar_in p) classes k (skip_set characters) (λ s. 0)
 
+abbrev pub TakesSpanIn : Program → Task → List (ℕ × ℕ) → Type 0
+TakesSpanIn p k ranges = (classes : Classes) → Fits p.properties.items classes → TakesSpan p classes k ranges
+
+-- so do the blanks of the implicit skipping
 abbrev pub AreBlanks : Program → List (ℕ × ℕ) → Type 0
-AreBlanks p ranges = (classes : Classes) → Fits p.properties.items classes → TakesBlanks p classes ranges
+AreBlanks p ranges = TakesSpanIn p (Run Between blanks) ranges
 
--- so are the characters of a set
+-- they take the characters of a set
 pub record IsBlankSet (p : Program) (sets : Code) (set : ℕ) : Type 0 where
   pub ranges : List (ℕ × ℕ)
   pub within : set < length sets.ranges.items

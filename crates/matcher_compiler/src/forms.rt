@@ -1,6 +1,6 @@
 //! Plans of expressions without operands.
 ghost use Rattle.std.specs.Prelude.{◌≡◌, ◌≤◌, ◌&&◌, ℕ, IfOk, List, None, OnOk, chars, codes, length, not, true};
-ghost use Rattle.meta_base.specs.Language.Expression.{Ident, Insens, Rep, Seq, Str, rule_of};
+ghost use Rattle.meta_base.specs.Language.Expression.{Ident, Insens, Seq, Str, rule_of};
 ghost use Rattle.meta_base.specs.Language.Meaning.{Run, seen_from};
 ghost use Rattle.meta_base.specs.Language.State.{AtomicMode};
 ghost use Rattle.matcher_code.specs.Reading.{is_covered};
@@ -77,25 +77,6 @@ impl<'p> Plan<'p> {
         }
     }
 
-    /// Plans a repetition of a form of one character of some ranges, where nothing is skipped.
-    pub(crate) fn span(
-        &mut self,
-        program: &Program,
-        form: &Form,
-        ranges: Ranges,
-        at: Place,
-    ) -> Result<(), NotCompiled>
-        requires ranges { HasRanges program.now form.now ranges.items }
-        requires tight { IsTightIn program.now at.mode }
-        ensures later { OnOk result (IsLater program.now self.old self.new) }
-        ensures lays { OnOk result
-            (LaysAt program.now self.new (Run (mode_of at.mode) (Rep (said program.now form.now))) at) }
-    {
-        let set = self.set(ranges)?;
-        self.operation(at.label, Op::All { set, next: at.next })?;
-        Ok(())
-    }
-
     /// Adds the set of the characters in some ranges that are in no other ones, and returns its number.
     pub(crate) fn difference(
         &mut self,
@@ -144,29 +125,6 @@ impl<'p> Plan<'p> {
                 fail: at.way,
             },
         )?;
-        Ok(())
-    }
-
-    /// Plans a repetition of such two forms.
-    pub(crate) fn other_span(
-        &mut self,
-        alloc: Global,
-        program: &Program,
-        first: &Form,
-        second: &Form,
-        others: &Ranges,
-        ranges: Ranges,
-        at: Place,
-    ) -> Result<(), NotCompiled>
-        requires refused { HasRefused program.now first.now others.now.items }
-        requires ranges { HasRanges program.now second.now ranges.items }
-        requires tight { IsTightIn program.now at.mode }
-        ensures later { OnOk result (IsLater program.now self.old self.new) }
-        ensures lays { OnOk result (LaysAt program.now self.new (Run (mode_of at.mode)
-            (Rep (Seq (said program.now first.now) (said program.now second.now)))) at) }
-    {
-        let set = self.difference(alloc, others, ranges)?;
-        self.operation(at.label, Op::All { set, next: at.next })?;
         Ok(())
     }
 

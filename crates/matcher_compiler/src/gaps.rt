@@ -176,7 +176,7 @@ impl<'p> Plan<'p> {
     }
 
     /// Plans the skipping as an expression: blanks, and then comments. The labels from `own` on are free.
-    pub(crate) fn skipped(
+    pub(crate) fn plan_skipping(
         &mut self,
         alloc: Global,
         program: &Program,

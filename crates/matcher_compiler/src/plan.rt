@@ -1,7 +1,9 @@
 //! Plans of programs.
 ghost use Rattle.matcher_code.specs.Sets.{IsAligned};
+ghost use Rattle.matcher_compiler.specs.Sets.{AreKnownIn};
 
 use crate::points::{Demand, NotCompiled, Part, Place, Point};
+use crate::sets::{KnownSet, known_set};
 use matcher_code::code::{Code, Op, Ranges};
 use matcher_code::sets::add_set;
 use matcher_sets::modes::Atomicity;
@@ -27,6 +29,8 @@ pub struct Plan<'p> {
     pub(crate) demands: Vec<Demand>,
     /// A program that has the sets alone.
     pub(crate) sets: Code,
+    /// Sets of this program, each other than the ones before it.
+    pub(crate) known: Vec<KnownSet>,
     pub(crate) texts: Vec<Vec<u8>>,
     /// Lists of numbers of texts.
     pub(crate) lists: Vec<Vec<u32>>,
@@ -37,6 +41,7 @@ pub struct Plan<'p> {
     pub(crate) bodies: Vec<Option<usize>>,
     pub(crate) sizes: Sizes,
     ghost aligned: { IsAligned sets },
+    ghost are_known: { AreKnownIn sets known.items },
 }
 
 impl<'p> Plan<'p> {
@@ -113,7 +118,7 @@ impl<'p> Plan<'p> {
     }
 
     /// Adds a set of the characters in some ranges, and returns its number.
-    pub(crate) fn set(&mut self, ranges: Ranges) -> Result<u32, NotCompiled>
+    fn new_set(&mut self, ranges: Ranges) -> Result<u32, NotCompiled>
         ensures later { OnOk result ((p : Program) → IsLater p self.old self.new) }
         ensures means { IfOk result (λ set. (p : Program) (code : Code) (laid : List lay.Point)
             → Meets p self.new code laid → IsSetOf code set ranges.items) }
@@ -122,11 +127,32 @@ impl<'p> Plan<'p> {
         if before >= 0xffff_ffff {
             return Err(NotCompiled::Unsupported);
         }
-        let set = add_set(&mut self.sets, ranges)?;
-        if set as usize >= self.sets.ranges.len() {
+        let copy = Vec::from_slice(*self.sets.rows.allocator(), ranges.as_slice())?;
+        let number = add_set(&mut self.sets, ranges)?;
+        if number as usize >= self.sets.ranges.len() {
+            self.known.clear();
             return Err(NotCompiled::Unsupported);
         }
-        Ok(set)
+        let known = KnownSet {
+            ranges: copy,
+            number,
+        };
+        if self.known.push(known).is_err() {
+            return Err(NotCompiled::Memory);
+        }
+        Ok(number)
+    }
+
+    /// Returns the number of a set of the characters in some ranges, which is added if there is none.
+    pub(crate) fn set(&mut self, ranges: Ranges) -> Result<u32, NotCompiled>
+        ensures later { OnOk result ((p : Program) → IsLater p self.old self.new) }
+        ensures means { IfOk result (λ set. (p : Program) (code : Code) (laid : List lay.Point)
+            → Meets p self.new code laid → IsSetOf code set ranges.items) }
+    {
+        match known_set(self.known.as_slice(), &ranges) {
+            Some(number) => Ok(number),
+            None => self.new_set(ranges),
+        }
     }
 
     /// Adds a text, and returns its number.

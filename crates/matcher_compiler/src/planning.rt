@@ -1,6 +1,6 @@
 //! The loop over points.
 ghost use Rattle.std.specs.Prelude.{◌≡◌, ◌<◌, ◌≤◌, ℕ, OnOk, chars, get_or, length};
-ghost use Rattle.meta_base.specs.Language.Expression.{Choice, NegPred, NodeTag, PosPred, Rep, RepOnce, RestoreOnErr, Seq};
+ghost use Rattle.meta_base.specs.Language.Expression.{Choice, NegPred, NodeTag, PosPred, Rep, RepOnce, RestoreOnErr};
 ghost use Rattle.meta_base.specs.Language.Meaning.{Run, once_or_more};
 ghost use Rattle.matcher_program.specs.declared.form.Form.TheVariants as form;
 ghost use Rattle.matcher_sets.specs.Modes.{mode_of};
@@ -12,9 +12,9 @@ ghost use Rattle.matcher_compiler.specs.declared.points.Point.{Point};
 
 use crate::plan::Plan;
 use crate::points::{NotCompiled, Part, Place, Point};
+use crate::spans::repeated_ranges;
 use matcher_program::form::{Form, Program};
-use matcher_sets::characters::character_ranges;
-use matcher_sets::difference::{choice_ranges, refused_ranges};
+use matcher_sets::difference::choice_ranges;
 use matcher_sets::heads::Heads;
 use matcher_sets::modes::Atomicity;
 use std::alloc::Global;
@@ -43,49 +43,13 @@ impl<'p> Plan<'p> {
         }
     }
 
-    /// Plans a repetition of a sequence, where nothing is skipped.
+    /// Plans a repetition where nothing is skipped.
     fn tight_turns(
         &mut self,
         alloc: Global,
         program: &Program,
         heads: &Heads,
         body: &'p Form,
-        first: &Form,
-        second: &Form,
-        at: Place,
-        own: u32,
-    ) -> Result<(), NotCompiled>
-        requires sound { IsSoundProgram program.now }
-        requires heads { AreHeads program.now heads.now }
-        requires bound { IsBoundIn program.now body.now }
-        requires first_bound { IsBoundIn program.now first.now }
-        requires second_bound { IsBoundIn program.now second.now }
-        requires same { said program.now body.now
-            ≡ Seq (said program.now first.now) (said program.now second.now) }
-        requires tight { IsTightIn program.now at.mode }
-        ensures later { OnOk result (IsLater program.now self.old self.new) }
-        ensures lays { OnOk result (LaysAt program.now self.new (Run (mode_of at.mode)
-            (Rep (said program.now body.entry.now))) at) }
-    {
-        let refused = refused_ranges(alloc, program, first)?;
-        let others = match refused {
-            Some(others) => others,
-            None => return self.tight_loop(alloc, program, heads, body, at, own),
-        };
-        let made = choice_ranges(alloc, program, second)?;
-        match made {
-            Some(ranges) => { self.other_span(alloc, program, first, second, &others, ranges, at) }
-            None => self.tight_loop(alloc, program, heads, body, at, own),
-        }
-    }
-
-    /// Plans a repetition of a form that is no sequence, where nothing is skipped.
-    fn tight_span(
-        &mut self,
-        alloc: Global,
-        program: &Program,
-        heads: &Heads,
-        body: &'p Form,
         at: Place,
         own: u32,
     ) -> Result<(), NotCompiled>
@@ -97,9 +61,12 @@ impl<'p> Plan<'p> {
         ensures lays { OnOk result (LaysAt program.now self.new (Run (mode_of at.mode)
             (Rep (said program.now body.entry.now))) at) }
     {
-        let made = character_ranges(alloc, program, body)?;
+        let made = repeated_ranges(alloc, program, body, at.mode)?;
         match made {
-            Some(ranges) => self.span(program, body, ranges, at),
+            Some(ranges) => {
+                self.span(ranges, at)?;
+                Ok(())
+            }
             None => self.tight_loop(alloc, program, heads, body, at, own),
         }
     }
@@ -123,12 +90,7 @@ impl<'p> Plan<'p> {
             (Rep (said program.now body.entry.now))) at) }
     {
         if self.is_tight(at.mode) {
-            match body {
-                Form::Seq(first, second) => {
-                    self.tight_turns(alloc, program, heads, body, first, second, at, own)
-                }
-                _ => self.tight_span(alloc, program, heads, body, at, own),
-            }
+            self.tight_turns(alloc, program, heads, body, at, own)
         } else {
             self.repetition(alloc, program, heads, body, at, own)
         }
@@ -349,7 +311,7 @@ impl<'p> Plan<'p> {
             },
             Part::Rule(rule) => self.call(program, rule, at),
             Part::Gap => self.gap(program, at),
-            Part::Skipped => self.skipped(alloc, program, heads, at, own),
+            Part::Skipped => self.plan_skipping(alloc, program, heads, at, own),
             Part::Blanks => self.blanks(alloc, program, heads, at, own),
             Part::BlankCall => self.blank_call(program, at),
             Part::Comments => self.comments(alloc, program, heads, at, own),

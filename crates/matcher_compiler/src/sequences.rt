@@ -13,6 +13,7 @@ use crate::forms::FAIL;
 use crate::gaps::comment_head;
 use crate::plan::{Plan, Skips};
 use crate::points::{NotCompiled, Part, Place};
+use crate::spans::span_ranges;
 use matcher_code::code::Op;
 use matcher_program::form::{Form, Program};
 use matcher_sets::difference::{choice_ranges, refused_ranges};
@@ -141,8 +142,8 @@ impl<'p> Plan<'p> {
         Ok(())
     }
 
-    /// Plans two expressions, one right after the other.
-    fn tight_both(
+    /// Plans two expressions, one right after the other, by the character that both match or by parts.
+    fn plain_both(
         &mut self,
         alloc: Global,
         program: &Program,
@@ -169,6 +170,38 @@ impl<'p> Plan<'p> {
                 self.other_character(alloc, program, first, second, &others, ranges, at)
             }
             None => self.both(program, first, second, at, own),
+        }
+    }
+
+    /// Plans two expressions, one right after the other.
+    fn tight_both(
+        &mut self,
+        alloc: Global,
+        program: &Program,
+        heads: &Heads,
+        first: &'p Form,
+        second: &'p Form,
+        at: Place,
+        own: u32,
+    ) -> Result<(), NotCompiled>
+        requires sound { IsSoundProgram program.now }
+        requires heads { AreHeads program.now heads.now }
+        requires first_bound { IsBoundIn program.now first.now }
+        requires second_bound { IsBoundIn program.now second.now }
+        requires tight { IsTightIn program.now at.mode }
+        ensures later { OnOk result (IsLater program.now self.old self.new) }
+        ensures lays { OnOk result (LaysAt program.now self.new (Run (mode_of at.mode)
+            (Seq (said program.now first.entry.now) (said program.now second.entry.now))) at) }
+    {
+        if at.way != FAIL {
+            return self.plain_both(alloc, program, first, second, at, own);
+        }
+        let made = span_ranges(alloc, program, first, at.mode)?;
+        match made {
+            Some(ranges) => {
+                self.span_both(alloc, program, heads, ranges, first, second, at, own)
+            }
+            None => self.plain_both(alloc, program, first, second, at, own),
         }
     }
 
@@ -255,14 +288,14 @@ impl<'p> Plan<'p> {
             (Seq (said program.now first.entry.now) (said program.now second.entry.now))) at) }
     {
         if self.is_tight(at.mode) {
-            self.tight_both(alloc, program, first, second, at, own)
+            self.tight_both(alloc, program, heads, first, second, at, own)
         } else {
             self.loose_both(alloc, program, heads, first, second, at, own)
         }
     }
 
     /// Plans two expressions, one after the other.
-    fn both(
+    pub(crate) fn both(
         &mut self,
         program: &Program,
         first: &'p Form,

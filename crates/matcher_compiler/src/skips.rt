@@ -1,49 +1,21 @@
-//! Searches for the first of some characters.
-ghost use Rattle.std.specs.Prelude.{◌≡◌, ◌<◌, ◌∷◌, ℕ, OnOk, map};
+//! Searches for texts.
+ghost use Rattle.std.specs.Prelude.{OnOk, map};
 ghost use Rattle.meta_ast.specs.Ast.{text_of};
 ghost use Rattle.meta_base.specs.Language.Expression.{Skip};
-ghost use Rattle.meta_base.specs.Language.Matching.{any_begins};
 ghost use Rattle.meta_base.specs.Language.Meaning.{Run};
-ghost use Rattle.meta_base.specs.Language.Text.{Text};
-ghost use Rattle.matcher_code.specs.Reading.{is_covered};
 ghost use Rattle.matcher_layout.specs.Laid.{StartIn};
 ghost use Rattle.matcher_sets.specs.Modes.{mode_of};
 ghost use Rattle.matcher_compiler.specs.Plans.{IsLater, LaysAt};
 
 use crate::plan::Plan;
 use crate::points::{NotCompiled, Place};
+use crate::spans::searched_ranges;
 use matcher_code::code::{Op, Ranges};
 use matcher_program::form::Program;
-use matcher_sets::difference::{MOST_RANGES, outside_ranges};
-use matcher_sets::texts::{all_characters, first_characters, single_characters};
+use matcher_sets::texts::first_characters;
 use std::alloc::Global;
 
 impl<'p> Plan<'p> {
-    /// Plans a search for the first of the characters in some ranges, which are those of texts.
-    fn search_for(
-        &mut self,
-        alloc: Global,
-        program: &Program,
-        texts: &Vec<String>,
-        others: &Ranges,
-        at: Place,
-    ) -> Result<(), NotCompiled>
-        requires same { (c : ℕ) (u : Text) → c < 1114112
-            → any_begins (map text_of texts.now.items) (c ∷ u) ≡ is_covered others.now.items c }
-        ensures later { OnOk result (IsLater program.now self.old self.new) }
-        ensures lays { OnOk result (LaysAt program.now self.new
-            (Run (mode_of at.mode) (Skip (map text_of texts.now.items))) at) }
-    {
-        if others.len() > MOST_RANGES {
-            return Err(NotCompiled::Unsupported);
-        }
-        let ranges = all_characters(alloc)?;
-        let rest = outside_ranges(alloc, ranges, others)?;
-        let set = self.set(rest)?;
-        self.operation(at.label, Op::All { set, next: at.next })?;
-        Ok(())
-    }
-
     /// Plans a search for the first of some texts that are not empty.
     fn search_texts(
         &mut self,
@@ -102,9 +74,12 @@ impl<'p> Plan<'p> {
         ensures lays { OnOk result (LaysAt program.now self.new
             (Run (mode_of at.mode) (Skip (map text_of texts.now.items))) at) }
     {
-        let made = single_characters(alloc, texts)?;
+        let made = searched_ranges(alloc, texts)?;
         match made {
-            Some(others) => self.search_for(alloc, program, texts, &others, at),
+            Some(ranges) => {
+                self.span(ranges, at)?;
+                Ok(())
+            }
             None => self.search_texts(alloc, program, texts, at),
         }
     }

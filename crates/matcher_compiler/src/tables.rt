@@ -164,17 +164,20 @@ fn skips(code: &Code, from: u32, here: Op, head: Option<u8>, to: u32) -> bool
 
 /// Returns whether a failure of the first alternative is recorded before the second one, whose operation is
 /// given.
+#[inline(always)]
 fn has_note(code: &Code, branch: Branch, second: Op, head: Option<u8>, to: u32) -> bool
     ensures { at_label code.now branch.second ≡ second → result ≡ true
         → Notes code.now head branch.second branch.next branch.way to }
 {
-    match label_after_note(code, to) {
-        Some(behind) => {
-            skips(code, branch.second, second, head, behind)
-                || to != branch.next
-                    && to != branch.way
-                    && moves(code, branch.second, second, head, to)
-        }
+    let behind = match label_after_note(code, to) {
+        Some(behind) => behind,
+        None => return false,
+    };
+    if behind == branch.second {
+        return true;
+    }
+    match next_label(code, branch.second, second, head) {
+        Some(next) => next == behind || next == to && to != branch.next && to != branch.way,
         None => false,
     }
 }

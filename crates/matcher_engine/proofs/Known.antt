@@ -1,5 +1,6 @@
 -- Names of known numbers.
-use Rattle.std.proofs.Common.{◌≡◌, refl, sym, ◌∙◌, subst, ℕ, zero, suc, ◌<◌, ◌≤◌, List, [], ◌∷◌, Bool, true, false, Option, Some, None, codes, bytes_eq, get_or, length, map, arith, if◌then◌else◌}
+use Rattle.std.proofs.Common.{◌≡◌, refl, sym, ◌∙◌, ap, subst, ℕ, zero, suc, ◌<◌, ◌≤◌, List, [], ◌∷◌, Bool, true, false, Option, Some, None, IfSome, chars, codes, bytes_eq, get_or, length, map, arith, if◌then◌else◌}
+use Rattle.std.specs.Borrow.{Bor}
 use Rattle.std.proofs.lemmas.List.{length-map}
 use Rattle.std.proofs.lemmas.Slice.Eq.{bytes_eq-Decides}
 use Rattle.meta_ast.specs.Ast.{text_of}
@@ -79,3 +80,9 @@ module _ (rows : List Row) (r : Text) where
 
   pub known_name : number_in (grammar_of rows) r ≤ length rows → name_in (names_of rows) (number_in (grammar_of rows) r) ≡ r
   known_name h = by_place (last_place (grammar_of rows) r) refl (is_eoi r) refl h
+
+-- so is the name that is found for a number
+pub names_rule : (rows : List Row) (row : ℕ) (found : Option (Bor (List ℕ))) → IfSome found (λ name. row ≤ length rows) → IfSome found (λ name. chars name.now ≡ name_in (names_of rows) row)
+    → IfSome found (λ name. (r : Text) → number_in (grammar_of rows) r ≡ row → chars name.now ≡ r)
+names_rule rows row None h e = tt
+names_rule rows row (Some name) h e = λ r n. e ∙ (ap (name_in (names_of rows)) (sym n) ∙ known_name rows r (subst (λ k. k ≤ length rows) (sym n) h))

@@ -6,14 +6,15 @@ use Rattle.std.proofs.Math.Logic.{∥∥₁_elim}
 use Rattle.std.proofs.Math.Nat.{ℕ_set}
 use Rattle.std.specs.Coded.{×_prop}
 use mathlib.Core.HLevel.{Σ_prop, ⊥_prop}
-use mathlib.Core.Sum.{⊎_set}
 use Rattle.meta_base.specs.Language.Expression.{Grammar, Ident}
 use Rattle.meta_base.specs.Language.FurthestFailure.{furthest}
 use Rattle.meta_base.specs.Language.Meaning.{Run}
 use Rattle.meta_base.specs.Language.State.{Classes, Failure, NonAtomicMode, State, Success, Trees}
 use Rattle.meta_base.specs.Language.Text.{Text}
 use Rattle.meta_syntax.specs.Entries.{entries_of}
-use Rattle.meta_syntax.specs.Entries as listed
+use Rattle.matcher_code.specs.declared.state.TreeNode.{TreeNode}
+use Rattle.matcher_layout.specs.Reached.{nodes_of}
+use Rattle.matcher_compiler.specs.Names.{number_in}
 use Rattle.matcher_program.specs.declared.form.Property.{Property}
 use Rattle.matcher_program.specs.Programs.{Fits}
 use Rattle.meta_matcher.specs.Answers.{FailsWith, HasAt, IsMatchedFrom, IsStoppedFrom}
@@ -21,61 +22,56 @@ use Rattle.meta_matcher.specs.Endings.{classes_in}
 use Rattle.meta_matcher.specs.Written.{seen}
 use Rattle.meta_matcher.specs.declared.matcher.Found.{Found}
 use Rattle.meta_matcher.specs.declared.machine.Stop.TheVariants as stop
+use Rattle.matcher_engine.specs.Preorders.{HasPreorder}
+use Rattle.matcher_engine.specs.declared.matcher.Preorder.{Preorder}
 use Rattle.matcher_engine.proofs.OneDerivation.{Answer, one_answer}
 use Rattle.matcher_engine.proofs.Uniqueness.{one_trees}
 
-entries_set : IsSet (List listed.Entry)
-entries_set = hlevel (props, ⊎_set)
+nodes_set : IsSet (List TreeNode)
+nodes_set = hlevel props
 
 module _ (g : Grammar) (ps : List Property) (n : Text) (s : State) where
   -- an outcome of the rule from the state, with its derivation
   abbrev Result : Classes → Type 0
   Result classes = Answer g classes (Run NonAtomicMode (Ident n)) s
 
-  module _ (it : Found) where
-    -- it is a success with this end, this furthest failure and these entries
+  module _ (it : Preorder) where
+    -- it is a success with this end, this furthest failure and these trees
     abbrev IsSuccess : {classes : Classes} → Result classes → Type 0
-    IsSuccess (Success t us, d) = (t.position ≡ it.end) × ((it.furthest ≡ furthest d) × (seen it.entries.items ≡ entries_of 0 us))
+    IsSuccess (Success t us, d) = (it.end ≡ t.position) × ((it.furthest ≡ furthest d) × (it.trees.items ≡ nodes_of (number_in g) 0 us))
     IsSuccess (Failure, d) = ⊥
 
     success_prop : {classes : Classes} (x : Result classes) → IsProp (IsSuccess x)
-    success_prop (Success t us, d) = ×_prop (ℕ_set _ _) (×_prop (ℕ_set _ _) (entries_set _ _))
+    success_prop (Success t us, d) = ×_prop (ℕ_set _ _) (×_prop (ℕ_set _ _) (nodes_set _ _))
     success_prop (Failure, d) = ⊥_prop
 
-    -- the parts of such a success
-    record Parts (classes : Classes) : Type 0 where
-      pub state : State
-      pub trees : Trees
-      pub found : HasAt g n s classes (Success state trees)
-      pub ends : state.position ≡ it.end
-      pub place : it.furthest ≡ furthest found
-      pub entries : seen it.entries.items ≡ entries_of 0 trees
-
-    parts : {classes : Classes} (x : Result classes) → IsSuccess x → Parts classes
-    parts (Success t us, d) h = record { state = t; trees = us; found = d; ends = h.0; place = h.1.0; entries = h.1.1 }
+    parts : {classes : Classes} (x : Result classes) → IsSuccess x → HasPreorder g n s classes it
+    parts (Success t us, d) h = record { state = t; trees = us; found = d; ends = h.0; nodes = h.1.1; place = h.1.0 }
     parts (Failure, d) h = absurd h
 
-    module _ (matched : ∥ IsMatchedFrom g ps n s it ∥₁) where
-      parts_in : (classes : Classes) → Fits ps classes → Parts classes
-      parts_in classes fits =
-          let x : (r : Result classes) × IsSuccess r =
-          ∥∥₁_elim matched (Σ_prop (λ r q. one_answer g classes r q) (λ r. success_prop r))
-          (λ m. let found = m.found classes fits in ((Success found.0 m.trees, found.2), (found.1, (found.3, m.entries)))) in
-          parts x.0 x.1
+    -- a match
+    pub one_match : (classes : Classes) → ∥ HasPreorder g n s classes it ∥₁ → HasPreorder g n s classes it
+    one_match classes matched =
+        let x : (r : Result classes) × IsSuccess r =
+        ∥∥₁_elim matched (Σ_prop (λ r q. one_answer g classes r q) (λ r. success_prop r))
+        (λ m. ((Success m.state m.trees, m.found), (m.ends, (m.place, m.nodes)))) in
+        parts x.0 x.1
 
-      -- a match
-      pub one_match : Fits ps (classes_in ps) → IsMatchedFrom g ps n s it
-      one_match fits =
-          let x = parts_in (classes_in ps) fits in
-          record {
-            trees = x.trees;
-            found = λ classes fit.
-                let y = parts_in classes fit in
-                let same : y.trees ≡ x.trees = one_trees y.trees x.trees 0 (sym y.entries ∙ x.entries) in
-                let d = subst (λ us. (d : HasAt g n s classes (Success y.state us)) × (it.furthest ≡ furthest d)) same (y.found, y.place) in
-                (y.state, y.ends, d.0, d.1);
-            entries = x.entries;
-          }
+    -- the match with its entries, which tell the trees
+    pub with_entries : Fits ps (classes_in ps) → ((classes : Classes) → Fits ps classes → HasPreorder g n s classes it) → (found : Found) → found.end ≡ it.end → found.furthest ≡ it.furthest
+        → ((trees : Trees) → it.trees.items ≡ nodes_of (number_in g) 0 trees → seen found.entries.items ≡ entries_of 0 trees)
+        → IsMatchedFrom g ps n s found
+    with_entries fits has found e f w =
+        let x = has (classes_in ps) fits in
+        record {
+          trees = x.trees;
+          found = λ classes fit.
+              let y = has classes fit in
+              let same : y.trees ≡ x.trees = one_trees y.trees x.trees 0 (sym (w y.trees y.nodes) ∙ w x.trees x.nodes) in
+              let d = subst (λ us. (d : HasAt g n s classes (Success y.state us)) × (found.furthest ≡ furthest d)) same (y.found, f ∙ y.place) in
+              (y.state, sym (e ∙ y.ends), d.0, d.1);
+          entries = w x.trees x.nodes;
+        }
 
   module _ (place : ℕ) where
     -- it is a failure at the place

@@ -28,18 +28,16 @@ use Rattle.matcher_machine.specs.declared.machine.RunEnd.TheVariants as ended
 use Rattle.matcher_machine.specs.Machines.{EndsAtLast, config}
 use Rattle.matcher_program.specs.declared.form.Program.{Program}
 use Rattle.matcher_program.specs.Programs.{Fits, name_at, names_of, rule_of_row}
-use Rattle.meta_syntax.specs.Entries.{entries_of}
-use Rattle.meta_matcher.specs.declared.matcher.Found.{Found}
 use Rattle.meta_matcher.specs.declared.machine.Stop.TheVariants as stop
-use Rattle.meta_matcher.specs.Answers.{FailsWith, IsMatchedFrom, IsStoppedFrom, start_of, state_at}
-use Rattle.meta_matcher.specs.Written.{seen}
+use Rattle.meta_matcher.specs.Answers.{FailsWith, IsStoppedFrom, start_of, state_at}
 use Rattle.matcher_compiler.specs.Compiled.{IsCodeOf}
 use Rattle.matcher_compiler.specs.Names.{number_in}
 use Rattle.matcher_sets.specs.Forms.{grammar_in}
+use Rattle.matcher_engine.specs.Preorders.{HasPreorder}
+use Rattle.matcher_engine.specs.declared.matcher.Preorder.{Preorder}
 use Rattle.matcher_engine.proofs.Bytes.{bytes_of_text}
 use Rattle.matcher_engine.proofs.Known.{named_map, no_rule, placed}
 use Rattle.matcher_engine.proofs.Totals.{same_size}
-use Rattle.matcher_engine.proofs.Uniqueness.{one_trees}
 
 -- the configuration of a run from a position
 abbrev pub start_at : ℕ → ℕ → Config
@@ -162,20 +160,11 @@ module _ (p : Program) (code : Code) (is : IsCodeOf p code) (n : Text) (i : ℕ)
         let z : op.Halt ≡ op.Lose = sym is.ends.halt ∙ (sym e ∙ h) in cc
 
     matched : (classes : Classes) → Fits p.properties.items classes → op_at code [] (after m).pc ≡ op.Halt
-        → (it : Found) → it.end ≡ (after m).at → it.furthest ≡ (after m).furthest
-        → ((trees : Trees) → (after m).trees ≡ nodes_of (number_in (grammar_in p)) 0 trees → seen it.entries.items ≡ entries_of 0 trees)
-        → IsMatchedFrom (grammar_in p) p.properties.items n s it
+        → (it : Preorder) → it.end ≡ (after m).at → it.furthest ≡ (after m).furthest → it.trees.items ≡ (after m).trees
+        → HasPreorder (grammar_in p) n s classes it
     matched classes fits h it e f w =
         let x = success classes fits h in
-        record {
-          trees = x.trees;
-          found = λ others fit.
-              let y = success others fit h in
-              let same : x.trees ≡ y.trees = one_trees x.trees y.trees 0 (sym (w x.trees x.nodes) ∙ w y.trees y.nodes) in
-              let d = subst (λ t. (d : Does (grammar_in p) others task s (Success y.state t)) × (it.furthest ≡ furthest d)) (sym same) (y.found, f ∙ y.place) in
-              (y.state, sym (e ∙ y.position), d.0, d.1);
-          entries = w x.trees x.nodes;
-        }
+        record { state = x.state; trees = x.trees; found = x.found; ends = e ∙ x.position; nodes = w ∙ x.nodes; place = f ∙ x.place }
 
     failed : op_at code [] (after m).pc ≡ op.Lose → (place : ℕ)
         → place ≡ (after m).furthest → FailsWith (grammar_in p) p.properties.items n s place
@@ -186,14 +175,13 @@ module _ (p : Program) (code : Code) (is : IsCodeOf p code) (n : Text) (i : ℕ)
 
   module _ (old new : Machine) (most : ℕ) (same : config code text old (i + 3) from ≡ start) where
     -- the result of a run that found the end of a match
-    pub found_as : (classes : Classes) → Fits p.properties.items classes → (it : Found) → it.furthest ≡ new.furthest
+    pub found_as : (classes : Classes) → Fits p.properties.items classes → (it : Preorder) → it.furthest ≡ new.furthest → it.trees.items ≡ new.trees.items
         → EndsAtLast code text most (config code text old (i + 3) from) new (ended.Found it.end)
-        → ((trees : Trees) → new.trees.items ≡ nodes_of (number_in (grammar_in p)) 0 trees → seen it.entries.items ≡ entries_of 0 trees)
-        → IsMatchedFrom (grammar_in p) p.properties.items n s it
-    found_as classes fits it f x w =
+        → HasPreorder (grammar_in p) n s classes it
+    found_as classes fits it f w x =
         let q : after x.taken ≡ config code text new x.ends.0 it.end = ap (λ c. steps code text x.taken c) (sym same) ∙ x.ends.1 in
         let h : op_at code [] (after x.taken).pc ≡ op.Halt = subst (λ c. op_at code [] c.pc ≡ op.Halt) (sym q) x.ends.2 in
-        matched x.taken classes fits h it (ap (λ c. c.at) (sym q)) (f ∙ ap (λ c. c.furthest) (sym q)) (λ trees e. w trees (ap (λ c. c.trees) (sym q) ∙ e))
+        matched x.taken classes fits h it (ap (λ c. c.at) (sym q)) (f ∙ ap (λ c. c.furthest) (sym q)) (w ∙ ap (λ c. c.trees) (sym q))
 
     -- of a run that failed
     pub failed_as : EndsAtLast code text most (config code text old (i + 3) from) new ended.Failed → FailsWith (grammar_in p) p.properties.items n s new.furthest

@@ -1,3 +1,4 @@
 pub mod Entries
 pub mod Matchers
+pub mod Preorders
 pub mod Soundness

@@ -1,5 +1,5 @@
 //! Entries of token trees, from trees in preorder.
-ghost use Rattle.std.specs.Prelude.{◌≡◌, ◌≤◌, ℕ, ◌+◌, ◌-◌, ◌*◌, ◌++◌, ◌∷◌, IfOk, IfSome, OnOk, [], chars, codes, get_or, length, reverse, true};
+ghost use Rattle.std.specs.Prelude.{◌≡◌, ◌≤◌, ◌<◌, ℕ, ◌+◌, ◌-◌, ◌*◌, ◌++◌, ◌∷◌, IfNone, IfOk, IfSome, OnOk, [], chars, codes, get_or, length, reverse, true};
 ghost use Rattle.meta_base.specs.Language.State.{Trees};
 ghost use Rattle.matcher_layout.specs.Reached.{nodes_of};
 ghost use Rattle.matcher_program.specs.Programs.{grammar_of, names_of};
@@ -25,8 +25,9 @@ pub(crate) struct OpenTree {
 
 /// Returns the name of the rule of a number, or `EOI` for the number after all rules.
 #[inline(always)]
-fn name_of<'a>(rows: &'a [Row], row: u32) -> Option<&'a str>
+pub(crate) fn name_of<'a>(rows: &'a [Row], row: u32) -> Option<&'a str>
     ensures known { IfSome result (λ name. row ≤ length rows.entry.now) }
+    ensures unknown { IfNone result (length rows.entry.now < row) }
     ensures name { IfSome result (λ name. chars name.now
         ≡ get_or (names_of rows.entry.now) row (codes "EOI")) }
 {

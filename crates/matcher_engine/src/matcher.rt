@@ -1,12 +1,13 @@
 //! The matcher.
-ghost use Rattle.std.specs.Prelude.{◌≡◌, IfErr, IfOk, IfSome, chars};
+ghost use Rattle.std.specs.Prelude.{◌≡◌, ◌<◌, IfErr, IfNone, IfOk, IfSome, chars, length};
 ghost use Rattle.meta_ast.specs.Optimized.{optimized_rules_of};
 ghost use Rattle.matcher_program.specs.Programs.{Fits};
 ghost use Rattle.matcher_program.specs.Refusals.{IsReason};
 ghost use Rattle.matcher_engine.specs.Soundness.{IsSound};
 
-use crate::entries::entries_of;
+use crate::entries::{entries_of, name_of};
 use matcher_code::code::Code;
+use matcher_code::state::TreeNode;
 use matcher_compiler::compile::compile;
 use matcher_compiler::names::last_index;
 use matcher_compiler::points::NotCompiled;
@@ -33,12 +34,21 @@ pub struct Matcher {
     ghost sound: { ∥ IsSound interpreter code ∥₁ },
 }
 
-/// The result of a compiled rule; `None` if the interpreter has to answer.
-type Answer<'a> = Option<Result<Found<'a>, Refusal<'a>>>;
+/// A match by its trees in preorder.
+#[derive(Drop)]
+pub struct Preorder {
+    /// The trees, each before its descendants. `Matcher::rule_name` has the name of a `row`.
+    pub trees: Vec<TreeNode>,
+    /// The position after the match, in bytes.
+    pub end: usize,
+    /// The furthest position, in bytes, at which a call that counts failed; 0 if none did.
+    pub furthest: usize,
+}
 
 impl Matcher {
     ghost use Rattle.meta_matcher.specs.Answers.{AreExpectedAt, AreExpectedFrom, IsMatched, IsMatchedFrom, IsRefused, IsRefusedFrom, IsUnanswered, IsUnansweredFrom, state_at};
     ghost use Rattle.matcher_engine.specs.Matchers.{IsAnswer, grammar_in, properties_in};
+    ghost use Rattle.matcher_engine.specs.Preorders.{HasName, IsPreorderAnswer};
 
     /// Compiles rules, and resolves every name once, to the last rule of that name, or to a builtin if no
     /// rule has it. Errors: a name in a body that is neither, or a property's that `properties` does not
@@ -66,16 +76,18 @@ impl Matcher {
         }
     }
 
-    /// Runs the program of a rule from a position of a text, if the rules are compiled.
-    fn run<'a>(
+    /// Matches as `parse_from`, and returns the trees in preorder: one node for each in place of two entries.
+    /// `None` where only `parse_from` has an answer, since the rules are not compiled, there are more than
+    /// 4096 of them, or a text is taken from the empty stack.
+    pub fn parse_preorder<'a>(
         &'a self,
         alloc: Global,
         rule: &'a str,
         start: Position<'a>,
         steps: u64,
-    ) -> Answer<'a>
+    ) -> Option<Result<Preorder, Refusal<'a>>>
         ensures { IfSome result
-            (IsAnswer self.entry.now (chars rule.entry.now) (state_at start.entry) steps) }
+            (IsPreorderAnswer self.entry.now (chars rule.entry.now) (state_at start.entry) steps) }
     {
         let Some(code) = &self.code else {
             return None;
@@ -91,15 +103,15 @@ impl Matcher {
         let most = steps.saturating_mul(OPERATIONS);
         let text = whole_text(start);
         match machine.run_with_memory(alloc, code, text, number as u32 + 3, start.pos(), most) {
-            Ok(RunEnd::Found(end)) => match entries_of(alloc, rows, &machine.trees) {
-                Ok(Some(entries)) => Some(Ok(Found {
-                    entries,
+            Ok(RunEnd::Found(end)) => {
+                let place = machine.furthest;
+                let Machine { trees, .. } = machine;
+                Some(Ok(Preorder {
+                    trees,
                     end,
-                    furthest: machine.furthest,
-                })),
-                Ok(None) => None,
-                Err(_) => Some(Err(Refusal::Stopped(Stop::Memory))),
-            },
+                    furthest: place,
+                }))
+            }
             Ok(RunEnd::Failed) => Some(Err(Refusal::NoMatch(machine.furthest))),
             Ok(RunEnd::OutOfSteps) => {
                 if most / OPERATIONS == steps {
@@ -110,6 +122,39 @@ impl Matcher {
             }
             Ok(RunEnd::Stuck) => None,
             Err(_) => Some(Err(Refusal::Stopped(Stop::Memory))),
+        }
+    }
+
+    /// Returns the name of the rule of a tree, by the tree's `row`; `None` for a number of no rule.
+    pub fn rule_name(&self, row: u32) -> Option<&str>
+        ensures known { IfSome result (λ name. HasName self.entry.now row (chars name.now)) }
+        ensures unknown { IfNone result (length (grammar_in self.entry.now) < row) }
+    {
+        name_of(self.interpreter.program.rows.as_slice(), row)
+    }
+
+    /// Returns the match of a rule with its entries, or `None` if the interpreter has to answer.
+    fn run<'a>(
+        &'a self,
+        alloc: Global,
+        rule: &'a str,
+        start: Position<'a>,
+        steps: u64,
+    ) -> Option<Result<Found<'a>, Refusal<'a>>>
+        ensures { IfSome result
+            (IsAnswer self.entry.now (chars rule.entry.now) (state_at start.entry) steps) }
+    {
+        match self.parse_preorder(alloc, rule, start, steps)? {
+            Ok(found) => match entries_of(alloc, &self.interpreter.program.rows, &found.trees) {
+                Ok(Some(entries)) => Some(Ok(Found {
+                    entries,
+                    end: found.end,
+                    furthest: found.furthest,
+                })),
+                Ok(None) => None,
+                Err(_) => Some(Err(Refusal::Stopped(Stop::Memory))),
+            },
+            Err(refusal) => Some(Err(refusal)),
         }
     }
 

@@ -1,10 +1,10 @@
 -- Names of builtins, and the trees that they give.
-use Rattle.std.proofs.Common.{◌≡◌, refl, sym, ◌∙◌, ap, subst, ℕ, List, [], ◌∷◌, ◌++◌, Bool, true, false, ◌||◌, ◌&&◌, ◌==◌, Option, Some, None, if◌then◌else◌, bytes_eq, nat_eq, codes}
+use Rattle.std.proofs.Common.{◌≡◌, refl, ap, subst, List, [], ◌∷◌, Bool, true, false, ◌&&◌, ◌==◌, Option, Some, None, if◌then◌else◌, bytes_eq, nat_eq}
 use Rattle.std.proofs.lemmas.Slice.Eq.{bytes_eq-Decides}
 use Rattle.meta_base.specs.Language.Text.{Text}
 use Rattle.meta_base.specs.Language.Builtins.{Builtin, Named, One, Property, Newline, Soi, Eoi, Peek, Pop, Drop, PeekAll, PopAll, builtins, property_names, general_categories, binary_properties, scripts, is_one_of, looked_up, builtin_of}
-use Rattle.meta_base.specs.Language.State.{Classes, State, Mode, NonAtomicMode, AtomicMode, CompoundAtomicMode, Between, IsRuleMode, Trees, None', Tree, Outcome, Success, Failure, moved}
-use Rattle.meta_base.specs.Language.Matching.{begins, text_outcome, concatenated, end_token, end_outcome, with_stack, peek_outcome, pop_outcome, drop_outcome, builtin_outcome, named_outcome, other_outcome}
+use Rattle.meta_base.specs.Language.State.{Classes, State, Mode, NonAtomicMode, AtomicMode, CompoundAtomicMode, Between, IsRuleMode, None', Outcome, Success, Failure, moved}
+use Rattle.meta_base.specs.Language.Matching.{begins, text_outcome, end_token, end_outcome, with_stack, peek_outcome, pop_outcome, drop_outcome, builtin_outcome, named_outcome, other_outcome}
 use Rattle.meta_base.specs.Pieces.TokenTrees.{NoTokens, Token, followed_by}
 use Rattle.meta_tags.specs.Names.{tag_in}
 use Rattle.meta_tags.specs.Tags.{TaggedTrees, without_tags, trees_in}

@@ -1,10 +1,10 @@
 -- What wrapping makes: expressions whose tags are calls of the wrappers made.
-use Rattle.std.proofs.Common.{◌≡◌, ◌<◌, ◌≤◌, ◌+◌, ◌^◌, refl, sym, ◌∙◌, ap, subst, ℕ, suc, List, [], ◌∷◌, ◌++◌, Bool, true, false, Option, Some, None, if◌then◌else◌, bytes_eq, length, append_assoc, length-append, arith}
+use Rattle.std.proofs.Common.{◌≡◌, ◌<◌, ◌+◌, ◌^◌, refl, sym, ◌∙◌, ap, subst, ℕ, suc, [], ◌∷◌, ◌++◌, Bool, true, false, Option, Some, None, bytes_eq, length, append_assoc, length-append, arith}
 use Rattle.std.proofs.lemmas.List.{append-nil}
 use Rattle.meta_base.specs.Language.Text.{Text}
-use Rattle.meta_base.specs.Language.Expression.{Grammar, Rule, Expression, Str, Insens, Range, Ident, PeekSlice, PosPred, NegPred, Seq, Choice, Opt, Rep, RepOnce, RepExact, RepMin, RepMax, RepMinMax, Skip, Push, PushLiteral, NodeTag, RestoreOnErr, rule_of, or_else}
+use Rattle.meta_base.specs.Language.Expression.{Grammar, Rule, Expression, Str, Insens, Range, Ident, PeekSlice, PosPred, NegPred, Seq, Choice, Opt, Rep, RepOnce, RepExact, RepMin, RepMax, RepMinMax, Skip, Push, PushLiteral, NodeTag, RestoreOnErr, rule_of}
 use Rattle.meta_base.specs.Language.State.{Mode, IsRuleMode}
-use Rattle.meta_tags.specs.Names.{tag_in, wrapper_name}
+use Rattle.meta_tags.specs.Names.{wrapper_name}
 use Rattle.meta_tags.specs.Wrapped.{wrapper, wrapped, wrapped_rules, with_wrapper}
 use Rattle.meta_tags.proofs.Naming.{wrapper_tag, not_blank}
 use Rattle.meta_tags.proofs.Wraps.{Wraps}

@@ -1,17 +1,16 @@
 -- A match has its like by wrapped rules, whose trees show its tagged trees.
-use Rattle.std.proofs.Common.{◌≡◌, refl, sym, ◌∙◌, ap, subst, ℕ, List, [], ◌∷◌, Bool, true, false, ◌||◌, Option, Some, None, if◌then◌else◌, bytes_eq, nat_eq, length, ℤ}
-use Rattle.std.specs.Char.{eq_ignore_ascii_case}
+use Rattle.std.proofs.Common.{◌≡◌, refl, sym, ◌∙◌, ap, subst, ℕ, Bool, true, false, ◌||◌, Option, Some, None, if◌then◌else◌, bytes_eq, length}
 use Rattle.meta_base.specs.Language.Text.{Text}
-use Rattle.meta_base.specs.Language.Expression.{Grammar, Rule, Expression, Ident, PosPred, NegPred, Push, NodeTag, RestoreOnErr, Normal, rule_of, whitespace, comment}
+use Rattle.meta_base.specs.Language.Expression.{Grammar, Rule, Expression, Ident, PosPred, NegPred, Push, rule_of, whitespace, comment}
 use Rattle.meta_base.specs.Language.State.{Classes, State, Mode, NonAtomicMode, AtomicMode, CompoundAtomicMode, Between, IsRuleMode, Trees, None', Tree, joined, Outcome, Success, Failure}
-use Rattle.meta_base.specs.Language.Matching.{text_outcome, begins, character_outcome, range_set, starts_in, slice_outcome, slice_at, place, end_place, other_outcome}
-use Rattle.meta_base.specs.Language.Meaning.{Does, Task, Run, Turns, Skipping, str, insens, range, slice, skip, call, other, pos_pred, neg_pred, push, restore, seq, seq_first, seq_second, left, right, opt, opt_none, rep_none, turn, turn_none, rep_exact, rep_max, rep_min_max, skips, atomic, compound_atomic, between, rep, rep_once, rep_min, push_literal, tag, inherited, body_mode, gives_token, seen_from, with_token, ahead, not_ahead, pushed}
+use Rattle.meta_base.specs.Language.Matching.{slice_at, place, end_place, other_outcome}
+use Rattle.meta_base.specs.Language.Meaning.{Does, Task, Run, str, insens, range, slice, skip, call, other, pos_pred, neg_pred, push, restore, seq, seq_first, seq_second, left, right, opt, opt_none, rep_none, turn, turn_none, rep_exact, rep_max, rep_min_max, skips, atomic, compound_atomic, between, rep, rep_once, rep_min, push_literal, tag, inherited, body_mode, gives_token, seen_from, with_token, ahead, not_ahead, pushed}
 use Rattle.meta_base.specs.Pieces.TokenTrees.{NoTokens, Token, followed_by}
 use Rattle.meta_base.proofs.RuleModes.{runs_in_rule_mode}
 use Rattle.meta_tags.specs.Names.{tag_in}
 use Rattle.meta_tags.specs.Wrapped.{wrapper}
 use Rattle.meta_tags.specs.Tags.{TaggedTrees, with_tag, with_tree, without_tags, trees_in, called, tagged}
-use Rattle.meta_tags.specs.Spliced.{spliced, with_next, with_trees, Shows}
+use Rattle.meta_tags.specs.Spliced.{spliced, Shows}
 use Rattle.meta_tags.proofs.Naming.{unmarked_whitespace, unmarked_comment}
 use Rattle.meta_tags.proofs.Splicing.{spliced_joined, spliced_three}
 use Rattle.meta_tags.proofs.Wraps.{Wraps, WrapsTask, run, turns, skipping, ident, skipped_name, once, exact, least, most, within, skipping_wraps}

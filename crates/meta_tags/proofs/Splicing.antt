@@ -1,11 +1,8 @@
 -- Trees that are spliced one after another.
-use Rattle.std.proofs.Common.{◌≡◌, refl, sym, ◌∙◌, ap, ℕ, Bool, true, false, Option, Some, None}
-use Rattle.meta_base.specs.Language.Text.{Text}
+use Rattle.std.proofs.Common.{◌≡◌, refl, ◌∙◌}
 use Rattle.meta_base.specs.Language.State.{Trees, None', Tree, joined}
-use Rattle.meta_base.specs.Pieces.TokenTrees.{NoTokens, Token, followed_by}
-use Rattle.meta_tags.specs.Names.{tag_in}
-use Rattle.meta_tags.specs.Tags.{TaggedTrees, with_tag, with_tree}
-use Rattle.meta_tags.specs.Spliced.{spliced, with_next}
+use Rattle.meta_tags.specs.Tags.{TaggedTrees}
+use Rattle.meta_tags.specs.Spliced.{spliced}
 
 pub spliced_joined : (us vs : Trees) (ts : TaggedTrees) → spliced (joined us vs) ts ≡ spliced vs (spliced us ts)
 spliced_joined None' vs ts = refl

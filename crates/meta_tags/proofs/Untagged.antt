@@ -1,5 +1,5 @@
 -- Tags change no tree.
-use Rattle.std.proofs.Common.{◌≡◌, refl, sym, ◌∙◌, ap, ℕ, Bool, true, false, Option, Some, None, if◌then◌else◌, length, nat_eq}
+use Rattle.std.proofs.Common.{◌≡◌, refl, sym, ◌∙◌, ap, Bool, true, false, Some, None, if◌then◌else◌, length, nat_eq}
 use Rattle.std.specs.Char.{eq_ignore_ascii_case}
 use Rattle.meta_base.specs.Language.Text.{Text}
 use Rattle.meta_base.specs.Language.Expression.{Grammar, Rule}

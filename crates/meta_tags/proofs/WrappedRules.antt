@@ -1,9 +1,9 @@
 -- Matches by wrapped rules show the tagged trees of the plain ones.
-use Rattle.std.proofs.Common.{◌≡◌, ◌<◌, ◌+◌, ◌^◌, refl, sym, ◌∙◌, ap, subst, ℕ, List, [], ◌∷◌, ◌++◌, Option, Some, None, length, arith}
+use Rattle.std.proofs.Common.{◌≡◌, ◌<◌, ◌+◌, ◌^◌, refl, sym, ◌∙◌, ap, subst, [], ◌++◌, Some, None, length, arith}
 use Rattle.std.specs.List.{AllByRecursion}
 use Rattle.std.proofs.lemmas.List.Elements.{recursion_from_All}
 use Rattle.meta_base.specs.Language.Text.{Text}
-use Rattle.meta_base.specs.Language.Expression.{Grammar, Rule, Ident, rule_of, or_else}
+use Rattle.meta_base.specs.Language.Expression.{Grammar, Rule, Ident, rule_of}
 use Rattle.meta_base.specs.Language.State.{Classes, State, NonAtomicMode, Outcome, Success, Failure}
 use Rattle.meta_base.specs.Language.Meaning.{Does, Run}
 use Rattle.meta_base.proofs.OneOutcome.{same}

@@ -2,7 +2,7 @@
 use Rattle.std.proofs.Common.{◌≡◌, ℕ, zero, suc, ◌-◌, min, List, [], ◌∷◌, ◌++◌, ◌||◌, Option, Some, None, false, bytes_eq, ℤ, replicate}
 use Rattle.meta_base.specs.Language.Text.{Text}
 use Rattle.meta_base.specs.Language.Expression.{Grammar, Expression, Str, Insens, Range, Ident, PeekSlice, PosPred, NegPred, Seq, Choice, Opt, Rep, RepOnce, RepExact, RepMin, RepMax, RepMinMax, Skip, Push, PushLiteral, NodeTag, RestoreOnErr, rule_of, whitespace, comment}
-use Rattle.meta_base.specs.Language.State.{Mode, Between, IsRuleMode}
+use Rattle.meta_base.specs.Language.State.{Mode, IsRuleMode}
 use Rattle.meta_base.specs.Language.Meaning.{Task, Run, Turns, Skipping, in_sequence, once_or_more, exactly, at_least, at_most, from_to, skipped}
 use Rattle.meta_tags.specs.Names.{tag_in}
 use Rattle.meta_tags.specs.Wrapped.{wrapper}

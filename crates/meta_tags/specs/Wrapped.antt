@@ -1,5 +1,5 @@
 -- Rules in which each tag has become a call of a wrapper.
-use Rattle.std.specs.Prelude.{ℕ, List, [], ◌∷◌, ◌++◌, length}
+use Rattle.std.specs.Prelude.{[], ◌∷◌, ◌++◌, length}
 use Rattle.meta_base.specs.Language.Text.{Text}
 use Rattle.meta_base.specs.Language.Expression.{Expression, Ident, PosPred, NegPred, Seq, Choice, Opt, Rep, RepOnce, RepExact, RepMin, RepMax, RepMinMax, Push, NodeTag, RestoreOnErr, Rule, Normal, Grammar}
 use Rattle.meta_tags.specs.Names.{wrapper_name}

@@ -2,4 +2,3 @@ pub mod Ended
 pub mod Came
 pub mod RuleNames
 pub mod Listed
-pub mod MatchedForms

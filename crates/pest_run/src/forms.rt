@@ -1,15 +1,16 @@
 //! The note on optimized rules.
-ghost use Rattle.std.specs.Prelude.{◌≡◌, IfSome, IsOk, false, length, true};
-ghost use Rattle.pest_run.specs.Forms.{IsOutcomeBy, TellsForms, is_shown};
+ghost use Rattle.std.specs.Prelude.{◌≡◌, true};
+ghost use Rattle.meta_ast.specs.Optimized.{optimized_rules_of};
+ghost use Rattle.pest_run.specs.Forms.{HasMatch, IsMatchedBy, TellsForms};
 ghost use Rattle.pest_run.specs.Messages.{optimized_text};
-ghost use Rattle.pest_run.specs.Steps.{step_limit};
 ghost use Rattle.pest_run.specs.Written.{WritesLine};
 
-use crate::arguments::{Format, Request, RuleForm, step_limit};
-use crate::outcomes::{Outcome, outcome_of};
+use crate::arguments::{Request, RuleForm, step_limit};
 use crate::run::read_rules;
 use crate::sources::{Source, text_of};
-use meta_ast::optimized::release;
+use matcher_engine::matcher::Matcher;
+use matcher_support::unicode_properties::UnicodeProperties;
+use meta_ast::optimized::{OptimizedRule, release};
 use std::alloc::Global;
 use std::io::Write;
 use tool_support::output::{Output, RefusedWrite};
@@ -36,53 +37,45 @@ pub fn note_forms<E: Write>(
     let Some(input) = text_of(text) else {
         return Ok(());
     };
-    match optimized_outcome(alloc, rules, input, request) {
-        Some(outcome) => note_match(&outcome, err),
-        None => Ok(()),
-    }
-}
-
-/// Returns the outcome of the optimized rules of a grammar on a text, or `None` if the grammar is refused or
-/// an allocation failed.
-fn optimized_outcome(
-    alloc: Global,
-    grammar: &str,
-    text: &str,
-    request: Request<'_>,
-) -> Option<Outcome>
-    ensures { IfSome result (λ outcome. IsOutcomeBy RuleForm.Optimized grammar.now
-        request.entry.rule.now text.now (step_limit request.entry.steps (length text.now)) outcome) }
-{
-    let rules = match read_rules(alloc, grammar, RuleForm::Optimized) {
-        Ok(rules) => rules,
-        Err(_) => return None,
-    };
-    let steps = step_limit(request.steps, text.len());
-    let outcome = outcome_of(alloc, &rules, request.rule, text, Format::Lines, steps);
-    release(rules);
-    Some(outcome)
-}
-
-/// Writes the note to `err` if an outcome of the optimized rules shows trees.
-fn note_match<E: Write>(outcome: &Outcome, err: &mut Output<E>) -> Result<(), RefusedWrite>
-    ensures noted { is_shown outcome.now ≡ true
-        → WritesLine optimized_text result (E.contents err.old.writer) (E.contents err.new.writer) }
-    ensures silent { is_shown outcome.now ≡ false → err.new ≡ err.old }
-    ensures silent_ok { is_shown outcome.now ≡ false → IsOk result }
-{
-    if is_shown(outcome) {
-        err.write_line(&[OPTIMIZED_MATCH])
+    if are_matched(alloc, rules, input, request) {
+        write_note(err)
     } else {
         Ok(())
     }
 }
 
-/// Returns whether an outcome shows trees.
-fn is_shown(outcome: &Outcome) -> bool
-    ensures { result ≡ is_shown outcome.now }
+/// Returns whether the optimized rules of a grammar match a text. No match is found where the grammar is
+/// refused, an allocation failed or the run is stopped.
+fn are_matched(alloc: Global, grammar: &str, text: &str, request: Request<'_>) -> bool
+    ensures { result ≡ true
+        → IsMatchedBy RuleForm.Optimized grammar.now request.entry.rule.now text.now }
 {
-    match outcome {
-        Outcome::Shown { .. } => true,
-        _ => false,
+    let Ok(rules) = read_rules(alloc, grammar, RuleForm::Optimized) else {
+        return false;
+    };
+    let steps = step_limit(request.steps, text.len());
+    let matched = has_match(alloc, &rules, request.rule, text, steps);
+    release(rules);
+    matched
+}
+
+/// Returns whether the rule of a name matches a text, in so many steps at most. Names that are expected at a
+/// failure are not looked for.
+fn has_match(alloc: Global, rules: &[OptimizedRule], rule: &str, text: &str, steps: u64) -> bool
+    ensures { result ≡ true → HasMatch (optimized_rules_of rules.now) rule.now text.now }
+{
+    let Ok(matcher) = Matcher::new(alloc, rules, &UnicodeProperties) else {
+        return false;
+    };
+    match matcher.parse(alloc, rule, text, steps) {
+        Ok(_) => true,
+        Err(_) => false,
     }
+}
+
+/// Writes the note to `err`.
+fn write_note<E: Write>(err: &mut Output<E>) -> Result<(), RefusedWrite>
+    ensures { WritesLine optimized_text result (E.contents err.old.writer) (E.contents err.new.writer) }
+{
+    err.write_line(&[OPTIMIZED_MATCH])
 }

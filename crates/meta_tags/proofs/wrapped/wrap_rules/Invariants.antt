@@ -1,6 +1,5 @@
 use Rattle.std.proofs.Common.{◌≡◌, [], drop}
 use Rattle.meta_ast.specs.Optimized.{optimized_rules_of}
-use Rattle.meta_tags.specs.Wrapped.{wrapped_rules}
 use Rattle.meta_tags.proofs.Rules.{goes_on}
 use Rattle.meta_tags.proofs.wrapped.wrap_rules.Given as goal
 

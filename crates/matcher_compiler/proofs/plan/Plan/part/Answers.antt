@@ -26,7 +26,7 @@ pub returns-in-Gap-clause-lays : goal.returns-in-Gap-clause-lays
 returns-in-Gap-clause-lays c = subst (λ q. OnOk c.gap.result (LaysAt c.args.program.now c.gap.new.self (task_in c.args.program.now q (mode_of c.args.point.at.mode)) c.args.point.at)) (sym c.in-Gap.is) c.gap.ensures.lays
 
 pub returns-in-Skipped-clause-lays : goal.returns-in-Skipped-clause-lays
-returns-in-Skipped-clause-lays c = subst (λ q. OnOk c.skipped.result (LaysAt c.args.program.now c.skipped.new.self (task_in c.args.program.now q (mode_of c.args.point.at.mode)) c.args.point.at)) (sym c.in-Skipped.is) c.skipped.ensures.lays
+returns-in-Skipped-clause-lays c = subst (λ q. OnOk c.plan_skipping.result (LaysAt c.args.program.now c.plan_skipping.new.self (task_in c.args.program.now q (mode_of c.args.point.at.mode)) c.args.point.at)) (sym c.in-Skipped.is) c.plan_skipping.ensures.lays
 
 pub returns-in-Blanks-clause-lays : goal.returns-in-Blanks-clause-lays
 returns-in-Blanks-clause-lays c = subst (λ q. OnOk c.blanks.result (LaysAt c.args.program.now c.blanks.new.self (task_in c.args.program.now q (mode_of c.args.point.at.mode)) c.args.point.at)) (sym c.in-Blanks.is) c.blanks.ensures.lays

@@ -1,8 +1,4 @@
 use Rattle.matcher_compiler.proofs.plan.Plan.tight_both.Goals as goal
 
-pub other_character-requires : goal.other_character-requires
-other_character-requires c = record {
-  refused = rw c.in-Some.is at c.in_ok-refused.ensures;
-  ranges = rw c.in-Some-made.is at c.in_ok-made.ensures;
-  tight = c.requires.tight;
-}
+pub span_both-requires-clause-span : goal.span_both-requires-clause-span
+span_both-requires-clause-span c = rw c.in-Some.is at c.in_ok-made.ensures

@@ -1,0 +1,33 @@
+//! Sets of a plan.
+ghost use Rattle.std.specs.Prelude.{◌≡◌, IfSome, true};
+ghost use Rattle.matcher_code.specs.declared.code.Code.{Code};
+ghost use Rattle.matcher_compiler.specs.Sets.{AreKnownIn, IsKnownIn};
+
+use matcher_code::code::Ranges;
+
+/// A set of the characters in some ranges, and its number.
+#[derive(Drop)]
+pub struct KnownSet {
+    pub(crate) ranges: Ranges,
+    pub(crate) number: u32,
+}
+
+/// Returns whether two lists have the same ranges.
+fn is_same(one: &Ranges, other: &Ranges) -> bool
+    ensures { result ≡ true → one.now.items ≡ other.now.items }
+{
+    *one == *other
+}
+
+/// Returns the number of the set of the characters in some ranges, if it is known.
+pub(crate) fn known_set(known: &[KnownSet], ranges: &Ranges) -> Option<u32>
+    ensures { IfSome result (λ number. (sets : Code) → AreKnownIn sets known.now
+        → IsKnownIn sets number ranges.now.items) }
+{
+    for set in known {
+        if is_same(&set.ranges, ranges) {
+            return Some(set.number);
+        }
+    }
+    None
+}

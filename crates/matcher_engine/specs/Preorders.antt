@@ -1,0 +1,34 @@
+-- Matches by their trees in preorder.
+use Rattle.std.specs.Prelude.{◌≡◌, ℕ, Result, Err, Ok}
+use Rattle.meta_base.specs.Language.Expression.{Grammar}
+use Rattle.meta_base.specs.Language.FurthestFailure.{furthest}
+use Rattle.meta_base.specs.Language.State.{Classes, State, Success, Trees}
+use Rattle.meta_base.specs.Language.Text.{Text}
+use Rattle.matcher_layout.specs.Reached.{nodes_of}
+use Rattle.matcher_program.specs.Programs.{Fits}
+use Rattle.meta_matcher.specs.Answers.{HasAt, IsRefusedFrom}
+use Rattle.meta_matcher.specs.declared.matcher.Refusal.{Refusal}
+use Rattle.matcher_compiler.specs.Names.{number_in}
+use Rattle.matcher_engine.specs.Matchers.{grammar_in, properties_in}
+use Rattle.matcher_engine.specs.declared.matcher.Matcher.{Matcher}
+use Rattle.matcher_engine.specs.declared.matcher.Preorder.{Preorder}
+
+-- the rule gives trees from a state, which are these in preorder, ends there, and this is the furthest
+-- position of a failure
+pub record HasPreorder (g : Grammar) (n : Text) (s : State) (classes : Classes) (it : Preorder) : Type 0 where
+  pub state : State
+  pub trees : Trees
+  pub found : HasAt g n s classes (Success state trees)
+  pub ends : it.end ≡ state.position
+  pub nodes : it.trees.items ≡ nodes_of (number_in g) 0 trees
+  pub place : it.furthest ≡ furthest found
+
+-- so it does for all fitting classes; or this is the reason why there is no match in so many steps at most
+abbrev pub IsPreorderAnswer : Matcher → Text → State → ℕ → Result Preorder Refusal → Type 0
+IsPreorderAnswer m n s steps (Ok it) =
+    (classes : Classes) → Fits (properties_in m) classes → HasPreorder (grammar_in m) n s classes it
+IsPreorderAnswer m n s steps (Err why) = IsRefusedFrom (grammar_in m) (properties_in m) n s steps why
+
+-- the name of each rule of this number is the text
+abbrev pub HasName : Matcher → ℕ → Text → Type 0
+HasName m row name = (r : Text) → number_in (grammar_in m) r ≡ row → name ≡ r
