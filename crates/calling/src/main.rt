@@ -5,6 +5,7 @@ pub mod callers;
 pub mod laws;
 pub mod mapped;
 pub mod tags;
+pub mod trees;
 
 use pest_meta::optimizer::release;
 use pest_meta::{Report, parse_and_optimize, unwrap_or_report};
@@ -13,6 +14,7 @@ use std::process::ExitCode;
 
 fn main(rt: HostRuntime) -> io::Result<ExitCode> {
     tags::print_examples(&rt)?;
+    trees::print_example(&rt)?;
     let alloc = rt.alloc();
     let grammar = io::read_to_string(alloc, rt.stdin())?;
     match unwrap_or_report(alloc, parse_and_optimize(alloc, grammar.as_str())) {

@@ -8,7 +8,7 @@ use pest_meta::parse_and_optimize;
 use std::io;
 
 /// The grammar of pairs.
-const PAIRS: &str = "pair = { #key = name ~ \"=\" ~ #value = (sign? ~ digits) }
+pub(crate) const PAIRS: &str = "pair = { #key = name ~ \"=\" ~ #value = (sign? ~ digits) }
     name = @{ ASCII_ALPHA+ }
     sign = { \"-\" }
     digits = @{ ASCII_DIGIT+ }";

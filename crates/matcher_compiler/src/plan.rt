@@ -10,6 +10,9 @@ use matcher_sets::modes::Atomicity;
 use matcher_sets::sizes::Sizes;
 use std::alloc::Global;
 
+/// How many sets are compared with a new one, so that many sets take linear time.
+const MOST_KNOWN: usize = 256;
+
 /// What the implicit skipping takes.
 #[derive(Clone, Copy)]
 pub enum Skips {
@@ -29,7 +32,7 @@ pub struct Plan<'p> {
     pub(crate) demands: Vec<Demand>,
     /// A program that has the sets alone.
     pub(crate) sets: Code,
-    /// Sets of this program, each other than the ones before it.
+    /// The first sets of this program that differ, to be found again.
     pub(crate) known: Vec<KnownSet>,
     pub(crate) texts: Vec<Vec<u8>>,
     /// Lists of numbers of texts.
@@ -132,6 +135,9 @@ impl<'p> Plan<'p> {
         if number as usize >= self.sets.ranges.len() {
             self.known.clear();
             return Err(NotCompiled::Unsupported);
+        }
+        if self.known.len() >= MOST_KNOWN {
+            return Ok(number);
         }
         let known = KnownSet {
             ranges: copy,

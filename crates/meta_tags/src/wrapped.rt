@@ -1,10 +1,10 @@
 //! Rules whose tags have become calls of wrappers, rules that give one tree more, which ends where the tagged
 //! expression ends.
-ghost use Rattle.std.specs.Prelude.{◌≡◌, ◌<◌, ◌^◌, [], ⊤, All, IfNone, IfOk, chars, length};
+ghost use Rattle.std.specs.Prelude.{◌≡◌, ◌<◌, ◌^◌, [], ⊤, All, IfNone, IfOk, IfSome, chars, length};
 ghost use Rattle.meta_base.specs.Language.Expression.{Expression, Grammar};
 ghost use Rattle.meta_ast.specs.Optimized.{optimized_expression_of, optimized_rule_of, optimized_rules_of};
 ghost use Rattle.meta_tags.specs.Frames.{IsWrapped, made_of, size_of, waits_of, with_operand, wrapped_of};
-ghost use Rattle.meta_tags.specs.Spliced.{HasNoMark};
+ghost use Rattle.meta_tags.specs.Spliced.{HasNoMark, IsMarked};
 ghost use Rattle.meta_tags.specs.Wrapped.{with_wrapper, wrapped_grammar, wrapped_rules};
 
 use crate::names::{find_tag, name_wrapper};
@@ -213,7 +213,9 @@ pub fn wrap_rules(
 
 /// Returns a name with a `#`, which might be a wrapper's, if a rule has one.
 pub fn find_marked(rules: &[OptimizedRule]) -> Option<&str>
-    ensures { IfNone result (All HasNoMark (optimized_rules_of rules.now)) }
+    ensures none { IfNone result (All HasNoMark (optimized_rules_of rules.entry.now)) }
+    ensures marked { IfSome result
+        (λ name. IsMarked (optimized_rules_of rules.entry.now) (chars name.now)) }
 {
     for rule in rules {
         let name = rule.name.as_str();
