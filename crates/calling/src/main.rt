@@ -14,7 +14,7 @@ use std::process::ExitCode;
 
 fn main(rt: HostRuntime) -> io::Result<ExitCode> {
     tags::print_examples(&rt)?;
-    trees::print_example(&rt)?;
+    trees::print_examples(&rt)?;
     let alloc = rt.alloc();
     let grammar = io::read_to_string(alloc, rt.stdin())?;
     match unwrap_or_report(alloc, parse_and_optimize(alloc, grammar.as_str())) {

@@ -1,4 +1,5 @@
 pub mod Bytes
+pub mod FromEntries
 pub mod Known
 pub mod OneAnswer
 pub mod OneDerivation

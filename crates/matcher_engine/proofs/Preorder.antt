@@ -1,7 +1,7 @@
 -- The entries of trees, by the trees in preorder.
 use Rattle.std.proofs.Common.{◌≡◌, refl, sym, ◌∙◌, ap, ap₂, subst, ◌⊎◌, inl, inr, ℕ, zero, suc, ◌+◌, ◌-◌, ◌*◌, ◌<◌, ◌≤◌, List, [], ◌∷◌, ◌++◌, Bool, true, false, drop, get_or, length, reverse, nat_le, arith, if◌then◌else◌, append_assoc, append-nil}
 use Rattle.std.specs.Prelude.{⊤}
-use Rattle.std.proofs.Math.Seq.{drop-cons}
+use Rattle.std.proofs.Math.Seq.{drop-cons, drop-length}
 use Rattle.std.proofs.lemmas.List.{get_or_default, length-append, reverse-append}
 use Rattle.meta_base.specs.Language.Text.{Text}
 use Rattle.meta_base.specs.Language.State.{Trees, None', Tree}
@@ -42,7 +42,8 @@ written names (t ∷ ts) i k os =
     let n = k + length (closed i os) in
     closed i os ++ start_entry names t i n ∷ written names ts (suc i) (suc n) (opened t n ∷ left_open i os)
 
-counts : (us : Trees) → entry_count us ≡ 2 * count_of us
+-- each tree has two entries
+pub counts : (us : Trees) → entry_count us ≡ 2 * count_of us
 counts None' = refl
 counts (Tree r i j inner others) = omega (arith, counts inner, counts others)
 
@@ -204,13 +205,9 @@ module _ (names : List Text) where
   opened_more n i o between new os e f =
       ap reverse e ∙ (reverse-append between (left_open n (o ∷ [])) ∙ ap₂ (λ x y. x ++ y) (reversed_if (nat_le o.after n) o) f)
 
-  drop_all : (ts : List TreeNode) → drop (length ts) ts ≡ []
-  drop_all [] = refl
-  drop_all (t ∷ ts) = drop_all ts
-
   -- all trees were written
   pub all_written : (nodes : List TreeNode) (i : ℕ) (es new : List Entry) (os : List OpenTree) (done : List Entry)
       → i ≡ length nodes → new ≡ es ++ closed (length nodes) os → es ++ written names (drop i nodes) i (length es) os ≡ done → new ≡ done
   all_written nodes i es new os done e1 e2 e =
-      let d : drop i nodes ≡ [] = ap (λ k. drop k nodes) e1 ∙ drop_all nodes in
+      let d : drop i nodes ≡ [] = ap (λ k. drop k nodes) e1 ∙ drop-length nodes in
       e2 ∙ (ap (λ k. es ++ closed k os) (sym e1) ∙ (sym (ap (λ ts. es ++ written names ts i (length es) os) d) ∙ e))

@@ -1,10 +1,11 @@
 -- Matches by their trees in preorder.
-use Rattle.std.specs.Prelude.{◌≡◌, ℕ, Result, Err, Ok}
+use Rattle.std.specs.Prelude.{◌≡◌, List, ℕ, Result, Err, Ok}
 use Rattle.meta_base.specs.Language.Expression.{Grammar}
 use Rattle.meta_base.specs.Language.FurthestFailure.{furthest}
 use Rattle.meta_base.specs.Language.State.{Classes, State, Success, Trees}
 use Rattle.meta_base.specs.Language.Text.{Text}
 use Rattle.matcher_layout.specs.Reached.{nodes_of}
+use Rattle.matcher_program.specs.declared.form.Property.{Property}
 use Rattle.matcher_program.specs.Programs.{Fits}
 use Rattle.meta_matcher.specs.Answers.{HasAt, IsRefusedFrom}
 use Rattle.meta_matcher.specs.declared.matcher.Refusal.{Refusal}
@@ -23,10 +24,13 @@ pub record HasPreorder (g : Grammar) (n : Text) (s : State) (classes : Classes) 
   pub nodes : it.trees.items ≡ nodes_of (number_in g) 0 trees
   pub place : it.furthest ≡ furthest found
 
--- so it does for all fitting classes; or this is the reason why there is no match in so many steps at most
+-- so it does for all fitting classes
+abbrev pub IsPreorderFrom : Grammar → List Property → Text → State → Preorder → Type 0
+IsPreorderFrom g ps n s it = (classes : Classes) → Fits ps classes → HasPreorder g n s classes it
+
+-- so it is; or this is the reason why there is no match in so many steps at most
 abbrev pub IsPreorderAnswer : Matcher → Text → State → ℕ → Result Preorder Refusal → Type 0
-IsPreorderAnswer m n s steps (Ok it) =
-    (classes : Classes) → Fits (properties_in m) classes → HasPreorder (grammar_in m) n s classes it
+IsPreorderAnswer m n s steps (Ok it) = IsPreorderFrom (grammar_in m) (properties_in m) n s it
 IsPreorderAnswer m n s steps (Err why) = IsRefusedFrom (grammar_in m) (properties_in m) n s steps why
 
 -- the name of each rule of this number is the text

@@ -3,3 +3,4 @@
 
 mod entries;
 pub mod matcher;
+mod trees;

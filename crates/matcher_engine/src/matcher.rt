@@ -6,6 +6,7 @@ ghost use Rattle.matcher_program.specs.Refusals.{IsReason};
 ghost use Rattle.matcher_engine.specs.Soundness.{IsSound};
 
 use crate::entries::{entries_of, name_of};
+use crate::trees::trees_of;
 use matcher_code::code::Code;
 use matcher_code::state::TreeNode;
 use matcher_compiler::compile::compile;
@@ -48,7 +49,7 @@ pub struct Preorder {
 impl Matcher {
     ghost use Rattle.meta_matcher.specs.Answers.{AreExpectedAt, AreExpectedFrom, IsMatched, IsMatchedFrom, IsRefused, IsRefusedFrom, IsUnanswered, IsUnansweredFrom, state_at};
     ghost use Rattle.matcher_engine.specs.Matchers.{IsAnswer, grammar_in, properties_in};
-    ghost use Rattle.matcher_engine.specs.Preorders.{HasName, IsPreorderAnswer};
+    ghost use Rattle.matcher_engine.specs.Preorders.{HasName, IsPreorderAnswer, IsPreorderFrom};
 
     /// Compiles rules, and resolves every name once, to the last rule of that name, or to a builtin if no
     /// rule has it. Errors: a name in a body that is neither, or a property's that `properties` does not
@@ -76,10 +77,10 @@ impl Matcher {
         }
     }
 
-    /// Matches as `parse_from`, and returns the trees in preorder: one node for each in place of two entries.
-    /// `None` where only `parse_from` has an answer, since the rules are not compiled, there are more than
-    /// 4096 of them, or a text is taken from the empty stack.
-    pub fn parse_preorder<'a>(
+    /// Matches as `parse_preorder` by the program. Returns `None` where the interpreter has to answer: the
+    /// rules are not compiled, the rule's number is 4096 or more, a text is taken from the empty stack, or
+    /// the operations of so many steps are more than a `u64` counts and no fewer were enough.
+    fn run_program<'a>(
         &'a self,
         alloc: Global,
         rule: &'a str,
@@ -125,6 +126,34 @@ impl Matcher {
         }
     }
 
+    /// Matches as `parse_from`, and returns the trees in preorder: one node for each in place of two entries.
+    pub fn parse_preorder<'a>(
+        &'a self,
+        alloc: Global,
+        rule: &'a str,
+        start: Position<'a>,
+        steps: u64,
+    ) -> Result<Preorder, Refusal<'a>>
+        ensures matched { IfOk result (IsPreorderFrom (grammar_in self.entry.now)
+            (properties_in self.entry.now) (chars rule.entry.now) (state_at start.entry)) }
+        ensures refused { IfErr result (IsRefusedFrom (grammar_in self.entry.now)
+            (properties_in self.entry.now) (chars rule.entry.now) (state_at start.entry) steps) }
+    {
+        if let Some(answer) = self.run_program(alloc, rule, start, steps) {
+            return answer;
+        }
+        let found = self.interpreter.parse_from(alloc, rule, start, steps)?;
+        let rows = self.interpreter.program.rows.as_slice();
+        match trees_of(alloc, rows, &found.entries) {
+            Ok(trees) => Ok(Preorder {
+                trees,
+                end: found.end,
+                furthest: found.furthest,
+            }),
+            Err(_) => Err(Refusal::Stopped(Stop::Memory)),
+        }
+    }
+
     /// Returns the name of the rule of a tree, by the tree's `row`; `None` for a number of no rule.
     pub fn rule_name(&self, row: u32) -> Option<&str>
         ensures known { IfSome result (λ name. HasName self.entry.now row (chars name.now)) }
@@ -144,7 +173,7 @@ impl Matcher {
         ensures { IfSome result
             (IsAnswer self.entry.now (chars rule.entry.now) (state_at start.entry) steps) }
     {
-        match self.parse_preorder(alloc, rule, start, steps)? {
+        match self.run_program(alloc, rule, start, steps)? {
             Ok(found) => match entries_of(alloc, &self.interpreter.program.rows, &found.trees) {
                 Ok(Some(entries)) => Some(Ok(Found {
                     entries,

@@ -1,8 +1,8 @@
 -- Bytes are those of one list of optimized rules at most: they are decoded to it.
-use Rattle.std.proofs.Common.{◌≡◌, ◌∙◌, ◌==◌, ℕ, ℤ, zero, suc, ◌+◌, ◌<◌, ◌≤◌, ◌^◌, Option, Some, None, List, [], ◌∷◌, ◌++◌, cond, String, Global, All, ap, ap₂, append_assoc, append-nil, arith, drop, flat_map, length, length-append, map, refl, string_bytes, subst, sym, take}
+use Rattle.std.proofs.Common.{◌≡◌, ◌∙◌, ◌==◌, ℕ, ℤ, zero, suc, ◌<◌, ◌≤◌, ◌^◌, Option, Some, None, List, [], ◌∷◌, ◌++◌, cond, String, Global, All, ap, ap₂, append_assoc, arith, drop, flat_map, length, length-append, map, refl, string_bytes, sym, take}
 use Rattle.std.specs.Prelude.{FitsSigned}
 use Rattle.std.specs.Str.{chars}
-use Rattle.std.specs.Int.{cast_signed, cast_unsigned, from_le_bytes, to_le_bytes, w32, w64}
+use Rattle.std.specs.Int.{cast_signed, cast_unsigned, from_le_bytes, w32, w64}
 use Rattle.std.proofs.Math.Facts.{Fits-of_z}
 use Rattle.std.proofs.Math.Seq.{drop-append_seam, take-append_seam}
 use Rattle.std.proofs.lemmas.Int.{to_z-of_z}
@@ -20,20 +20,20 @@ use Rattle.meta_binary.specs.Format.{end_bytes, index_bytes, list_bytes, optimiz
 use Rattle.meta_binary.specs.Indices.{FitsEnd, HasIndices}
 
 -- sizes and texts at the front of bytes
-abbrev size_in : List ℕ → ℕ
+abbrev pub size_in : List ℕ → ℕ
 size_in bs = from_le_bytes w64 (take 8 bs)
 
 abbrev text_in : List ℕ → List ℕ
 text_in bs = take (size_in bs) (drop 8 bs)
 
-abbrev after_text : List ℕ → List ℕ
+abbrev pub after_text : List ℕ → List ℕ
 after_text bs = drop (size_in bs) (drop 8 bs)
 
-size_back : (n : ℕ) (t : List ℕ) → n < 2 ^ 64 → size_in (size_bytes n ++ t) ≡ n
+pub size_back : (n : ℕ) (t : List ℕ) → n < 2 ^ 64 → size_in (size_bytes n ++ t) ≡ n
 unfolding size_bytes
 size_back n t h = from_le_bytes-to_le_bytes_8 n h
 
-size_tail : (n : ℕ) (t : List ℕ) → drop 8 (size_bytes n ++ t) ≡ t
+pub size_tail : (n : ℕ) (t : List ℕ) → drop 8 (size_bytes n ++ t) ≡ t
 unfolding size_bytes
 size_tail n t = refl
 
@@ -42,7 +42,7 @@ text_back s t h =
     let flat = append_assoc (size_bytes (length s)) s t in
     ap text_in flat ∙ (ap₂ take (size_back (length s) (s ++ t) h) (size_tail (length s) (s ++ t)) ∙ take-append_seam s t)
 
-text_tail : (s t : List ℕ) → length s < 2 ^ 64 → after_text (text_bytes s ++ t) ≡ t
+pub text_tail : (s t : List ℕ) → length s < 2 ^ 64 → after_text (text_bytes s ++ t) ≡ t
 text_tail s t h =
     let flat = append_assoc (size_bytes (length s)) s t in
     ap after_text flat ∙ (ap₂ drop (size_back (length s) (s ++ t) h) (size_tail (length s) (s ++ t)) ∙ drop-append_seam s t)
@@ -55,7 +55,7 @@ index_back : (z : ℤ) (t : List ℕ) → FitsSigned w32 z → cast_unsigned w32
 unfolding index_bytes
 index_back z t f h = ap (cast_signed w32) (from_le_bytes-to_le_bytes_4 (cast_unsigned w32 z) h) ∙ to_z-of_z w32 z f
 
-index_tail : (z : ℤ) (t : List ℕ) → drop 4 (index_bytes z ++ t) ≡ t
+pub index_tail : (z : ℤ) (t : List ℕ) → drop 4 (index_bytes z ++ t) ≡ t
 unfolding index_bytes
 index_tail z t = refl
 
@@ -63,7 +63,7 @@ abbrev end_in : List ℕ → Option ℤ
 end_in [] = None
 end_in (b ∷ bs) = cond (b == 0) None (Some (index_in bs))
 
-abbrev after_end : List ℕ → List ℕ
+abbrev pub after_end : List ℕ → List ℕ
 after_end [] = []
 after_end (b ∷ bs) = cond (b == 0) bs (drop 4 bs)
 
@@ -74,7 +74,7 @@ end_back : (j : Option ℤ) (t : List ℕ) → FitsEnd j → end_in (end_bytes j
 end_back None t f = refl
 end_back (Some z) t f = ap Some (index_back z t f (small_bits z f))
 
-end_tail : (j : Option ℤ) (t : List ℕ) → after_end (end_bytes j ++ t) ≡ t
+pub end_tail : (j : Option ℤ) (t : List ℕ) → after_end (end_bytes j ++ t) ≡ t
 end_tail None t = refl
 end_tail (Some z) t = index_tail z t
 
@@ -183,7 +183,7 @@ sliced i j t f g =
     let H : Option ℤ → List ℕ → Decoded = λ o bs. (e.PeekSlice i o, bs) in
     ap F flat ∙ (ap₂ G (index_back i (end_bytes j ++ t) f (small_bits i f)) (index_tail i (end_bytes j ++ t)) ∙ ap₂ H (end_back j t g) (end_tail j t))
 
-size_long : (n : ℕ) → length (size_bytes n) ≡ 8
+pub size_long : (n : ℕ) → length (size_bytes n) ≡ 8
 unfolding size_bytes
 size_long n = refl
 

@@ -1,4 +1,5 @@
 pub mod Format
+pub mod Fronts
 pub mod Indices
 pub mod Nodes
 pub mod Reading

@@ -1,9 +1,10 @@
 //! Bytes in binary form, read from the front.
-ghost use Rattle.std.specs.Prelude.{◌≡◌, ◌∷◌, ◌++◌, FitsSigned, IfOk, length, string_bytes};
+ghost use Rattle.std.specs.Prelude.{◌≡◌, ◌<◌, ◌^◌, ℕ, List, [], ◌∷◌, ◌++◌, FitsSigned, IfErr, IfOk, length, string_bytes};
 ghost use Rattle.std.specs.Int.{w32};
-ghost use Rattle.meta_binary.specs.declared.input.BinaryRefusal.TheVariants.{Memory};
+ghost use Rattle.meta_binary.specs.declared.input.BinaryRefusal.TheVariants.{Form, Memory};
 ghost use Rattle.meta_binary.specs.Format.{end_bytes, index_bytes, list_bytes, size_bytes, text_bytes};
 ghost use Rattle.meta_binary.specs.Indices.{FitsEnd};
+ghost use Rattle.meta_binary.specs.Fronts.{BeginsWithEnd, BeginsWithText, BeginsWithTexts, Texts, item_bytes};
 
 use std::alloc::{AllocError, AllocFailed, Global};
 
@@ -55,7 +56,8 @@ pub(crate) struct ByteInput<'a> {
 impl<'a> ByteInput<'a> {
     /// Reads a byte.
     pub(crate) fn read_byte(&mut self) -> Result<u8, BinaryRefusal>
-        ensures { IfOk result (λ byte. self.old.rest.now ≡ byte ∷ self.new.rest.now) }
+        ensures read { IfOk result (λ byte. self.old.rest.now ≡ byte ∷ self.new.rest.now) }
+        ensures refused { IfErr result (λ why. self.old.rest.now ≡ []) }
     {
         match self.rest.split_first() {
             Some((byte, rest)) => {
@@ -68,7 +70,9 @@ impl<'a> ByteInput<'a> {
 
     /// Reads a size.
     pub(crate) fn read_size(&mut self) -> Result<usize, BinaryRefusal>
-        ensures { IfOk result (λ size. self.old.rest.now ≡ size_bytes size ++ self.new.rest.now) }
+        ensures read { IfOk result (λ size. self.old.rest.now ≡ size_bytes size ++ self.new.rest.now) }
+        ensures fits { IfOk result (λ size. size < 2 ^ 64) }
+        ensures refused { IfErr result (λ why. length self.old.rest.now < 8) }
     {
         match self.rest.split_first_chunk::<8>() {
             Some((bytes, rest)) => {
@@ -83,6 +87,7 @@ impl<'a> ByteInput<'a> {
     pub(crate) fn read_index(&mut self) -> Result<i32, BinaryRefusal>
         ensures read { IfOk result (λ index. self.old.rest.now ≡ index_bytes index ++ self.new.rest.now) }
         ensures fits { IfOk result (FitsSigned w32) }
+        ensures refused { IfErr result (λ why. length self.old.rest.now < 4) }
     {
         match self.rest.split_first_chunk::<4>() {
             Some((bytes, rest)) => {
@@ -97,6 +102,7 @@ impl<'a> ByteInput<'a> {
     pub(crate) fn read_end(&mut self) -> Result<Option<i32>, BinaryRefusal>
         ensures read { IfOk result (λ end. self.old.rest.now ≡ end_bytes end ++ self.new.rest.now) }
         ensures fits { IfOk result FitsEnd }
+        ensures refused { IfErr result (λ why. BeginsWithEnd self.old.rest.now → ⊥) }
     {
         match self.read_byte()? {
             0 => Ok(None),
@@ -109,6 +115,7 @@ impl<'a> ByteInput<'a> {
     fn read_bytes(&mut self, size: usize) -> Result<&'a [u8], BinaryRefusal>
         ensures bytes { IfOk result (λ bytes. self.old.rest.now ≡ bytes.now ++ self.new.rest.now) }
         ensures size { IfOk result (λ bytes. length bytes.now ≡ size) }
+        ensures refused { IfErr result (λ why. length self.old.rest.now < size) }
     {
         match self.rest.split_at_checked(size) {
             Some((bytes, rest)) => {
@@ -121,8 +128,9 @@ impl<'a> ByteInput<'a> {
 
     /// Reads a text.
     pub(crate) fn read_string(&mut self, alloc: Global) -> Result<String, BinaryRefusal>
-        ensures { IfOk result (λ text.
+        ensures read { IfOk result (λ text.
             self.old.rest.now ≡ text_bytes (string_bytes text) ++ self.new.rest.now) }
+        ensures refused { IfErr result (λ why. why ≡ Form → BeginsWithText self.old.rest.now → ⊥) }
     {
         let size = self.read_size()?;
         let bytes = self.read_bytes(size)?;
@@ -134,8 +142,11 @@ impl<'a> ByteInput<'a> {
 
     /// Reads a list of texts.
     pub(crate) fn read_strings(&mut self, alloc: Global) -> Result<Vec<String>, BinaryRefusal>
-        ensures { IfOk result (λ texts. self.old.rest.now
+        ensures read { IfOk result (λ texts. self.old.rest.now
             ≡ list_bytes (λ text. text_bytes (string_bytes text)) texts.items ++ self.new.rest.now) }
+        ensures ends { IfOk result (λ read. (texts : Texts) (rest : List ℕ)
+            → self.old.rest.now ≡ list_bytes item_bytes texts.items ++ rest → self.new.rest.now ≡ rest) }
+        ensures refused { IfErr result (λ why. why ≡ Form → BeginsWithTexts self.old.rest.now → ⊥) }
     {
         let count = self.read_size()?;
         let mut texts = Vec::new(alloc);

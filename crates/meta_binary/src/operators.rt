@@ -1,7 +1,10 @@
 //! The first node of an expression in binary form, read with its arguments.
-ghost use Rattle.std.specs.Prelude.{◌≡◌, ◌<◌, ◌∷◌, ◌++◌, IfOk, OnOk, length};
+ghost use Rattle.std.specs.Prelude.{◌≡◌, ◌<◌, ℕ, List, ◌∷◌, ◌++◌, IfErr, IfOk, OnOk, length};
 ghost use Rattle.meta_binary.specs.Format.{optimized_expression_bytes};
 ghost use Rattle.meta_binary.specs.Indices.{HasIndices};
+ghost use Rattle.meta_ast.specs.declared.optimized.OptimizedExpr.{OptimizedExpr};
+ghost use Rattle.meta_binary.specs.declared.input.BinaryRefusal.TheVariants.{Form};
+ghost use Rattle.meta_binary.specs.Fronts.{BeginsWithExpression, OperandsFollow};
 ghost use Rattle.meta_binary.specs.Reading.{IsFirstWithin, first_bytes, one_bytes, two_bytes};
 
 use crate::input::{BinaryRefusal, ByteInput};
@@ -82,6 +85,10 @@ pub(crate) fn read_node(
     ensures read { IfOk result (λ node. input.old.rest.now ≡ first_bytes node ++ input.new.rest.now) }
     ensures indices { IfOk result IsFirstWithin }
     ensures goes_on { OnOk result (length input.new.rest.now < length input.old.rest.now) }
+    ensures follows { IfOk result (λ node. (x : OptimizedExpr) (rest : List ℕ)
+        → input.old.rest.now ≡ optimized_expression_bytes x ++ rest
+        → OperandsFollow node input.new.rest.now rest) }
+    ensures refused { IfErr result (λ why. why ≡ Form → BeginsWithExpression input.old.rest.now → ⊥) }
 {
     match input.read_byte()? {
         0 => Ok(FirstNode::Whole(OptimizedExpr::Str(input.read_string(alloc)?))),
@@ -109,6 +116,10 @@ pub(crate) fn read_node(
 fn read_range(alloc: Global, input: &mut ByteInput<'_>) -> Result<FirstNode, BinaryRefusal>
     ensures read { IfOk result (λ node. 2 ∷ input.old.rest.now ≡ first_bytes node ++ input.new.rest.now) }
     ensures indices { IfOk result IsFirstWithin }
+    ensures follows { IfOk result (λ node. (x : OptimizedExpr) (rest : List ℕ)
+        → 2 ∷ input.old.rest.now ≡ optimized_expression_bytes x ++ rest
+        → OperandsFollow node input.new.rest.now rest) }
+    ensures refused { IfErr result (λ why. why ≡ Form → BeginsWithExpression (2 ∷ input.old.rest.now) → ⊥) }
 {
     let low = input.read_string(alloc)?;
     let high = input.read_string(alloc)?;
@@ -119,6 +130,10 @@ fn read_range(alloc: Global, input: &mut ByteInput<'_>) -> Result<FirstNode, Bin
 fn read_slice(input: &mut ByteInput<'_>) -> Result<FirstNode, BinaryRefusal>
     ensures read { IfOk result (λ node. 4 ∷ input.old.rest.now ≡ first_bytes node ++ input.new.rest.now) }
     ensures indices { IfOk result IsFirstWithin }
+    ensures follows { IfOk result (λ node. (x : OptimizedExpr) (rest : List ℕ)
+        → 4 ∷ input.old.rest.now ≡ optimized_expression_bytes x ++ rest
+        → OperandsFollow node input.new.rest.now rest) }
+    ensures refused { IfErr result (λ why. why ≡ Form → BeginsWithExpression (4 ∷ input.old.rest.now) → ⊥) }
 {
     let start = input.read_index()?;
     let end = input.read_end()?;

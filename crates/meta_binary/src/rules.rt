@@ -1,6 +1,9 @@
 //! Lists of rules in binary form, and read back.
-ghost use Rattle.std.specs.Prelude.{◌≡◌, ◌∷◌, ◌++◌, All, IfOk, OnOk, string_bytes};
+ghost use Rattle.std.specs.Prelude.{◌≡◌, ℕ, List, ◌∷◌, ◌++◌, All, IfErr, IfOk, OnOk, string_bytes};
+ghost use Rattle.meta_ast.specs.declared.optimized.OptimizedRule.{OptimizedRule};
+ghost use Rattle.meta_binary.specs.declared.input.BinaryRefusal.TheVariants.{Form};
 ghost use Rattle.meta_binary.specs.Format.{optimized_expression_bytes, optimized_rules_bytes, rule_bytes, rules_bytes, type_byte};
+ghost use Rattle.meta_binary.specs.Fronts.{AreOfNoRules, BeginsWithRule, BeginsWithType, rule_item};
 ghost use Rattle.meta_binary.specs.Indices.{HasIndices};
 
 use crate::expressions::{AsNodes, push_expression};
@@ -74,6 +77,7 @@ pub fn read_optimized_rules(
 ) -> Result<Vec<OptimizedRule>, BinaryRefusal>
     ensures bytes { IfOk result (λ rules. bytes.now ≡ optimized_rules_bytes rules.items) }
     ensures indices { IfOk result (λ rules. All (λ r. HasIndices r.expr) rules.items) }
+    ensures refused { IfErr result (λ why. why ≡ Form → AreOfNoRules bytes.now) }
 {
     let mut input = ByteInput { rest: bytes };
     let count = input.read_size()?;
@@ -98,6 +102,9 @@ fn read_rule(alloc: Global, input: &mut ByteInput<'_>) -> Result<OptimizedRule, 
     ensures read { IfOk result (λ rule. input.old.rest.now ≡ rule_bytes (string_bytes rule.name) rule.ty
         (optimized_expression_bytes rule.expr) ++ input.new.rest.now) }
     ensures indices { IfOk result (λ rule. HasIndices rule.expr) }
+    ensures follows { IfOk result (λ rule. (r : OptimizedRule) (rest : List ℕ)
+        → input.old.rest.now ≡ rule_item r ++ rest → input.new.rest.now ≡ rest) }
+    ensures refused { IfErr result (λ why. why ≡ Form → BeginsWithRule input.old.rest.now → ⊥) }
 {
     let name = input.read_string(alloc)?;
     let ty = read_type(input)?;
@@ -107,7 +114,8 @@ fn read_rule(alloc: Global, input: &mut ByteInput<'_>) -> Result<OptimizedRule, 
 
 /// Reads a type.
 fn read_type(input: &mut ByteInput<'_>) -> Result<RuleType, BinaryRefusal>
-    ensures { IfOk result (λ ty. input.old.rest.now ≡ type_byte ty ∷ input.new.rest.now) }
+    ensures read { IfOk result (λ ty. input.old.rest.now ≡ type_byte ty ∷ input.new.rest.now) }
+    ensures refused { IfErr result (λ why. BeginsWithType input.old.rest.now → ⊥) }
 {
     match input.read_byte()? {
         0 => Ok(RuleType::Normal),

@@ -1,6 +1,9 @@
 //! Optimized expressions, read from their nodes in preorder. Stack use does not depend on nesting depth.
-ghost use Rattle.std.specs.Prelude.{◌≡◌, ◌++◌, IfOk, MatchOption};
+ghost use Rattle.std.specs.Prelude.{◌≡◌, ℕ, suc, List, ◌++◌, IfErr, IfOk, MatchOption};
+ghost use Rattle.meta_ast.specs.declared.optimized.OptimizedExpr.{OptimizedExpr};
 ghost use Rattle.meta_binary.specs.Format.{optimized_expression_bytes};
+ghost use Rattle.meta_binary.specs.declared.input.BinaryRefusal.TheVariants.{Form};
+ghost use Rattle.meta_binary.specs.Fronts.{BeginsWithExpression, missing};
 ghost use Rattle.meta_binary.specs.Indices.{HasIndices};
 ghost use Rattle.meta_binary.specs.Reading.{AreWithin, open_bytes};
 
@@ -29,6 +32,9 @@ pub(crate) fn read_expression(
     ensures read { IfOk result (λ expr.
         input.old.rest.now ≡ optimized_expression_bytes expr ++ input.new.rest.now) }
     ensures indices { IfOk result HasIndices }
+    ensures follows { IfOk result (λ expr. (x : OptimizedExpr) (rest : List ℕ)
+        → input.old.rest.now ≡ optimized_expression_bytes x ++ rest → input.new.rest.now ≡ rest) }
+    ensures refused { IfErr result (λ why. why ≡ Form → BeginsWithExpression input.old.rest.now → ⊥) }
 {
     let mut waiting = Vec::new(alloc);
     'nodes: loop {
@@ -56,6 +62,9 @@ fn close(
         ≡ open_bytes waiting.old.items ++ optimized_expression_bytes expr)) }
     ensures indices { AreWithin waiting.old.items → HasIndices expr
         → IfOk result (λ closed. MatchOption closed (AreWithin waiting.new.items) HasIndices) }
+    ensures missing { IfOk result (λ closed. MatchOption closed
+        (missing waiting.old.items ≡ suc (missing waiting.new.items))
+        (λ whole. missing waiting.old.items ≡ 0)) }
 {
     let mut made = Deep { value: expr };
     'operators: while let Some(operator) = waiting.pop() {

@@ -1,5 +1,5 @@
 //! For each rule the rules that call it.
-ghost use Rattle.std.specs.Prelude.{◌<◌, ℕ, IfOk, OnOk};
+ghost use Rattle.std.specs.Prelude.{◌≡◌, ◌<◌, ℕ, IfOk, OnOk, length};
 ghost use Rattle.meta_doc.specs.Links.{AreCallersBelow};
 
 use crate::source::{RuleSource, SourcePart};
@@ -14,7 +14,8 @@ pub fn find_callers(
     rules: &[RuleSource<'_>],
     numbers: &HashMap<String, usize>,
 ) -> Result<Vec<Vec<usize>>, AllocError>
-    ensures { IfOk result (λ callers. AreCallersBelow count callers.items) }
+    ensures each { IfOk result (λ callers. length callers.items ≡ count) }
+    ensures below { IfOk result (λ callers. AreCallersBelow count callers.items) }
 {
     let mut callers = no_callers(alloc, count)?;
     for caller in 0..count.min(rules.len()) {
@@ -25,7 +26,8 @@ pub fn find_callers(
 
 /// No callers for each of so many rules.
 fn no_callers(alloc: Global, count: usize) -> Result<Vec<Vec<usize>>, AllocError>
-    ensures { (n : ℕ) → IfOk result (λ callers. AreCallersBelow n callers.items) }
+    ensures each { IfOk result (λ callers. length callers.items ≡ count) }
+    ensures below { (n : ℕ) → IfOk result (λ callers. AreCallersBelow n callers.items) }
 {
     let mut callers: Vec<Vec<usize>> = Vec::new(alloc);
     for _rule in 0..count {
@@ -41,7 +43,8 @@ fn add_calls(
     numbers: &HashMap<String, usize>,
     callers: &mut Vec<Vec<usize>>,
 ) -> Result<(), AllocError>
-    ensures { OnOk result ((n : ℕ) → caller < n → AreCallersBelow n callers.old.items
+    ensures each { OnOk result (length callers.new.items ≡ length callers.old.items) }
+    ensures below { OnOk result ((n : ℕ) → caller < n → AreCallersBelow n callers.old.items
         → AreCallersBelow n callers.new.items) }
 {
     for part in rule.parts.iter().skip(2) {
@@ -56,7 +59,8 @@ fn add_calls(
 
 /// Adds a rule to the callers of another, unless it is the last of them.
 fn add_caller(caller: usize, called: usize, callers: &mut Vec<Vec<usize>>) -> Result<(), AllocError>
-    ensures { OnOk result ((n : ℕ) → caller < n → AreCallersBelow n callers.old.items
+    ensures each { OnOk result (length callers.new.items ≡ length callers.old.items) }
+    ensures below { OnOk result ((n : ℕ) → caller < n → AreCallersBelow n callers.old.items
         → AreCallersBelow n callers.new.items) }
 {
     if let Some(others) = callers.get_mut(called) {

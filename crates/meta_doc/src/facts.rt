@@ -1,5 +1,5 @@
 //! The facts that a document gives of each rule.
-ghost use Rattle.std.specs.Prelude.{IfOk, length};
+ghost use Rattle.std.specs.Prelude.{◌≡◌, IfOk, length};
 ghost use Rattle.meta_doc.specs.Links.{AreFactsBelow};
 
 use crate::callers::find_callers;
@@ -31,13 +31,15 @@ pub fn find_facts<'i>(
     sources: &[RuleSource<'i>],
     rules: &[ParserRule<'i>],
 ) -> Result<Vec<RuleFacts<'i>>, AllocError>
-    ensures { IfOk result (λ facts. AreFactsBelow (length rules.now) facts.items) }
+    ensures each { IfOk result (λ facts. length facts.items ≡ length rules.now) }
+    ensures below { IfOk result (λ facts. AreFactsBelow (length rules.now) facts.items) }
 {
     let analysis = analyze(alloc, rules)?;
     let mut callers = find_callers(alloc, rules.len(), sources, &analysis.grammar.names.places)?;
     let mut warnings = find_warnings(alloc, sources, rules)?;
     let mut facts = Vec::new(alloc);
-    for (number, rule) in rules.iter().enumerate().rev() {
+    for number in (0..rules.len()).rev() {
+        let rule = &rules[number];
         let first_set = find_first_set(alloc, &analysis, number)?;
         let called_by = callers.pop().unwrap_or(Vec::new(alloc));
         facts.push(RuleFacts {

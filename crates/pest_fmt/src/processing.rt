@@ -1,8 +1,8 @@
 //! The work on the text of a file.
-ghost use Rattle.std.specs.Prelude.{◌≡◌, ◌≢◌, IfOk, false};
+ghost use Rattle.std.specs.Prelude.{◌≡◌, ◌⊎◌, IfOk, false, true};
 ghost use Rattle.std.specs.Io.KnownBytes.{Appends};
 ghost use Rattle.meta_format.specs.Formatting.{IsFormatted};
-ghost use Rattle.pest_fmt.specs.Processing.{IsKnown, IsKnownEnd, IsReplacement, PrintsFormatted};
+ghost use Rattle.pest_fmt.specs.Processing.{IsKnownEnd, IsReplacement, PrintsFormatted};
 
 use crate::arguments::{Delivery, Target};
 use crate::diff::diff;
@@ -54,6 +54,7 @@ pub fn process<W: Write, E: Write>(
     ensures replaced { IfOk result (IsReplacement options.line_ends delivery.target file.entry.text.now) }
     ensures unprinted { delivery.target ≡ Target.File → out.new ≡ out.old }
     ensures ended { IfOk result IsKnownEnd }
+    ensures refused { IfOk result (λ end. end ≡ Processed.Ended Status.Unwritable → out.new.refused ≡ true) }
 {
     match outcome_of(alloc, file.text, options)? {
         FileChange::Same => match delivery.target {
@@ -102,8 +103,8 @@ fn print_difference<W: Write>(
     delivery: Delivery,
     out: &mut Output<W>,
 ) -> Result<Status, AllocError>
-    ensures changed { IfOk result (λ status. status ≢ Status.Done) }
-    ensures known { IfOk result IsKnown }
+    ensures ended { IfOk result (λ status. (status ≡ Status.Found) ⊎ (status ≡ Status.Unwritable)) }
+    ensures refused { IfOk result (λ status. status ≡ Status.Unwritable → out.new.refused ≡ true) }
 {
     let name = escape(alloc, file.name)?;
     let changes = diff(alloc, name.as_str(), file.text, formatted)?;
@@ -122,7 +123,8 @@ fn print<W: Write>(
 ) -> Result<Status, AllocError>
     ensures written { IfOk result (λ status. delivery.is_to_terminal ≡ false → status ≡ Status.Done
         → Appends (W.contents out.old.writer) (W.contents out.new.writer) text.now) }
-    ensures known { IfOk result IsKnown }
+    ensures ended { IfOk result (λ status. (status ≡ Status.Done) ⊎ (status ≡ Status.Unwritable)) }
+    ensures refused { IfOk result (λ status. status ≡ Status.Unwritable → out.new.refused ≡ true) }
 {
     let written = if delivery.is_to_terminal {
         let shown = escape_lines(alloc, text)?;

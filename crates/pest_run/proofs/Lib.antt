@@ -1,4 +1,5 @@
-pub mod Ended
 pub mod Came
-pub mod RuleNames
+pub mod Ended
 pub mod Listed
+pub mod OptimizedMatch
+pub mod RuleNames

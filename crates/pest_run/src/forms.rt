@@ -11,6 +11,7 @@ use crate::sources::{Source, text_of};
 use matcher_engine::matcher::Matcher;
 use matcher_support::unicode_properties::UnicodeProperties;
 use meta_ast::optimized::{OptimizedRule, release};
+use meta_base::runtime::Span;
 use std::alloc::Global;
 use std::io::Write;
 use tool_support::output::{Output, RefusedWrite};
@@ -67,10 +68,8 @@ fn has_match(alloc: Global, rules: &[OptimizedRule], rule: &str, text: &str, ste
     let Ok(matcher) = Matcher::new(alloc, rules, &UnicodeProperties) else {
         return false;
     };
-    match matcher.parse(alloc, rule, text, steps) {
-        Ok(_) => true,
-        Err(_) => false,
-    }
+    let start = Span::of(text, 0, 0).start_pos();
+    matcher.parse_preorder(alloc, rule, start, steps).is_ok()
 }
 
 /// Writes the note to `err`.

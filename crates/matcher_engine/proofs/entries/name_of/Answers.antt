@@ -1,14 +1,12 @@
-use Rattle.std.proofs.Common.{◌∙◌, ◌∷◌, [], ap, arith, chars, codes, sym}
+use Rattle.std.proofs.Common.{◌∙◌, ap, arith, chars, codes, sym}
 use Rattle.std.proofs.lemmas.List.{get_or_past, length-map}
-use Rattle.std.proofs.lemmas.Str.{chars-IsAscii}
-use Rattle.std.proofs.lemmas.Str.Ascii.{IsAscii-cons, IsAscii-nil}
 use Rattle.meta_ast.specs.Ast.{text_of}
 use Rattle.matcher_program.specs.Programs.{names_of}
+use Rattle.matcher_engine.proofs.FromEntries.{eoi_text}
 use Rattle.matcher_engine.proofs.entries.name_of.Goals as goal
 
 pub returns-then-number-rows-clause-name : goal.returns-then-number-rows-clause-name
 returns-then-number-rows-clause-name c =
-    let ascii = IsAscii-cons 69 (79 ∷ 73 ∷ []) (omega arith) (IsAscii-cons 79 (73 ∷ []) (omega arith) (IsAscii-cons 73 [] (omega arith) IsAscii-nil)) in
     ap chars c.name.ensures
-    ∙ chars-IsAscii (codes "EOI") ascii
+    ∙ eoi_text
     ∙ sym (get_or_past (names_of c.args.rows.now) c.args.row (codes "EOI") (omega (arith, c.if-number-rows.true, length-map c.args.rows.now (λ w. text_of w.name))))

@@ -9,7 +9,6 @@ use Rattle.meta_base.specs.Language.WellFormed.{IsNullable}
 use Rattle.meta_diagram.proofs.Lending.{lent}
 use Rattle.meta_spanned.specs.Erasure.{without_spans}
 use Rattle.meta_spanned.specs.Nodes.{view}
-use Rattle.meta_spanned.specs.declared.node.ParserRule.{ParserRule}
 use Rattle.meta_doc.specs.Nullability.{DecidesNullable}
 use Rattle.meta_doc.proofs.first_sets.is_nullable.Goals as goal
 

@@ -1,5 +1,4 @@
 use Rattle.std.proofs.Common.{ap, ◌∙◌, ◌∷◌, ◌++◌, []}
-use Rattle.meta_markup.specs.Links.{markdown_links}
 use Rattle.meta_doc.proofs.Linking.{one_link_more}
 use Rattle.meta_doc.proofs.markdown.MarkdownBuilder.rules.Goals as goal
 
