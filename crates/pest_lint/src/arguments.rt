@@ -139,6 +139,10 @@ pub fn settings_of<'a>(
         → result.format ≡ Format.Log }
     ensures json { first_value (found_of matches.entry.now) (codes "format") ≡ Some (codes "json")
         → result.format ≡ Format.Stream Style.Json }
+    ensures github { first_value (found_of matches.entry.now) (codes "format") ≡ Some (codes "github")
+        → result.format ≡ Format.Stream Style.Github }
+    ensures text { first_value (found_of matches.entry.now) (codes "format") ≡ Some (codes "text")
+        → result.format ≡ Format.Stream (Style.Text has_colour) }
     ensures all { first_value (found_of matches.entry.now) (codes "warn") ≡ Some (codes "all")
         → result.warn_all ≡ true }
     ensures some { first_value (found_of matches.entry.now) (codes "warn") ≡ None
@@ -170,6 +174,8 @@ fn format_of(matches: &ArgMatches<'_>, has_colour: bool) -> Format
         → result ≡ Format.Stream Style.Json }
     ensures github { first_value (found_of matches.now) (codes "format") ≡ Some (codes "github")
         → result ≡ Format.Stream Style.Github }
+    ensures text { first_value (found_of matches.now) (codes "format") ≡ Some (codes "text")
+        → result ≡ Format.Stream (Style.Text has_colour) }
     ensures log { first_value (found_of matches.now) (codes "format") ≡ Some (codes "sarif")
         → result ≡ Format.Log }
 {

@@ -19,6 +19,7 @@ pub fn print_page<W: Write, E: Write>(
     err: &mut Output<E>,
 ) -> u8
     ensures known { result ≤ 4 }
+    ensures no_verdict { result ≢ 1 }
     ensures explains { result ≡ 0
         → Explains name.now (W.contents out.old.writer) (W.contents out.new.writer) }
     ensures unknown { result ≡ 3 → IsUnknown name.now }

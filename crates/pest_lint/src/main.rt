@@ -65,6 +65,7 @@ fn lint_files(rt: &HostRuntime, sources: &[Source], settings: Settings<'_>) -> u
 /// Explains the code of a name, over the process's own output, and answers the status.
 fn explain_code(rt: &HostRuntime, name: &str) -> u8
     ensures known { result ≤ 4 }
+    ensures no_verdict { result ≢ 1 }
     ensures explains { result ≡ 0 → Explains name.now None None }
     ensures unknown { result ≡ 3 → IsUnknown name.now }
 {

@@ -1,5 +1,5 @@
 //! The note on optimized rules.
-ghost use Rattle.std.specs.Prelude.{◌≡◌, true};
+ghost use Rattle.std.specs.Prelude.{◌≡◌, IsErr, IsOk, true};
 ghost use Rattle.meta_ast.specs.Optimized.{optimized_rules_of};
 ghost use Rattle.pest_run.specs.Forms.{HasMatch, IsMatchedBy, TellsForms};
 ghost use Rattle.pest_run.specs.Messages.{optimized_text};
@@ -29,8 +29,10 @@ pub fn note_forms<E: Write>(
     request: Request<'_>,
     err: &mut Output<E>,
 ) -> Result<(), RefusedWrite>
-    ensures { TellsForms grammar.now.bytes.items request.entry.rule.now text.now.bytes.items
+    ensures tells { TellsForms grammar.now.bytes.items request.entry.rule.now text.now.bytes.items
         (err.new ≡ err.old) result (E.contents err.old.writer) (E.contents err.new.writer) }
+    ensures told { IsOk result → err.new.refused ≡ err.old.refused }
+    ensures refused_line { IsErr result → err.new.refused ≡ true }
 {
     let Some(rules) = text_of(grammar) else {
         return Ok(());
@@ -74,7 +76,10 @@ fn has_match(alloc: Global, rules: &[OptimizedRule], rule: &str, text: &str, ste
 
 /// Writes the note to `err`.
 fn write_note<E: Write>(err: &mut Output<E>) -> Result<(), RefusedWrite>
-    ensures { WritesLine optimized_text result (E.contents err.old.writer) (E.contents err.new.writer) }
+    ensures tells { WritesLine optimized_text result
+        (E.contents err.old.writer) (E.contents err.new.writer) }
+    ensures told { IsOk result → err.new.refused ≡ err.old.refused }
+    ensures refused_line { IsErr result → err.new.refused ≡ true }
 {
     err.write_line(&[OPTIMIZED_MATCH])
 }
