@@ -4,11 +4,11 @@ use Rattle.std.proofs.lemmas.Bool.{or_from}
 use Rattle.serde_json.specs.Data.{Data, Items, string}
 use Rattle.serde_json.specs.View.{items_of}
 use Rattle.serde_json.specs.Written.{has_float, items_have_float}
-use Rattle.meta_base.proofs.Basics.{first_of_neither, second_of_neither}
-use Rattle.diagnostic_data.specs.declared.diagnostic.Diagnostic.{Diagnostic}
-use Rattle.meta_hints.specs.declared.help.Fix.{Fix}
-use Rattle.meta_hints.specs.declared.help.Help.{Help}
-use Rattle.meta_hints.specs.declared.help.Related.{Related}
+use Rattle.base_language.proofs.Basics.{first_of_neither, second_of_neither}
+use Rattle.lint_findings.specs.declared.diagnostic.Diagnostic.{Diagnostic}
+use Rattle.lint_hints.specs.declared.help.Fix.{Fix}
+use Rattle.lint_hints.specs.declared.help.Help.{Help}
+use Rattle.lint_hints.specs.declared.help.Related.{Related}
 use Rattle.lint_output.specs.Json.{fix_data, help_data, line_data, mended_data, part_data, related_data}
 use Rattle.lint_output.specs.Locations.{location_at}
 use Rattle.lint_output.specs.Sarif.{log_data, result_data}

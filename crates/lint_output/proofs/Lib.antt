@@ -2,3 +2,4 @@ pub mod Floats
 pub mod Locating
 pub mod Placing
 pub mod Values
+pub mod Fixing

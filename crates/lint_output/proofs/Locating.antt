@@ -6,8 +6,8 @@ use Rattle.std.proofs.lemmas.Option.{get_or_from_slice_get, slice_get-get_or}
 use Rattle.std.proofs.Math.ListN.{get_or-append, length-append}
 use Rattle.std.proofs.Math.Nat.{mul-mod_right}
 use Rattle.std.proofs.Math.Seq.{get_or-append_seam}
-use Rattle.meta_base.specs.Pieces.LineColumn.{is_line_feed, last_line}
-use Rattle.meta_base.proofs.Surveys.{order}
+use Rattle.base_language.specs.Pieces.LineColumn.{is_line_feed, last_line}
+use Rattle.base_language.proofs.Surveys.{order}
 use Rattle.lint_output.specs.Locations.{AreCheckpoints, IsIndexOf, begins_character, location_at}
 use Rattle.lint_output.specs.declared.lines.LineIndex.{LineIndex}
 use Rattle.lint_output.specs.declared.lines.Location.{Location}

@@ -2,8 +2,8 @@
 use Rattle.std.proofs.Common.{◌≡◌, ◌∙◌, ◌++◌, Bool, List, ℕ, Err, IfOk, Ok, Result, ap, append_assoc, codes, false, string_bytes, subst, sym}
 use Rattle.serde_json.specs.Data.{Data}
 use Rattle.serde_json.specs.Written.{compact_text, has_float}
-use Rattle.diagnostic_data.specs.Codes.{code_name, severity_name}
-use Rattle.diagnostic_data.specs.declared.diagnostic.Diagnostic.{Diagnostic}
+use Rattle.lint_findings.specs.Codes.{code_name, severity_name}
+use Rattle.lint_findings.specs.declared.diagnostic.Diagnostic.{Diagnostic}
 use Rattle.lint_output.specs.Annotations.{located_command, message_text, place_text, property}
 use Rattle.lint_output.specs.Json.{line_data, located_line, related_data}
 use Rattle.lint_output.specs.Locations.{location_at}

@@ -1,8 +1,8 @@
 -- Workflow commands of GitHub.
 use Rattle.std.specs.Prelude.{ℕ, List, [], ◌++◌, ◌==◌, None, Option, Some, codes, decimal, if◌then◌else◌, string_bytes}
-use Rattle.diagnostic_data.specs.Codes.{code_name, severity_name}
-use Rattle.diagnostic_data.specs.declared.diagnostic.Diagnostic.{Diagnostic}
-use Rattle.meta_hints.specs.declared.help.Help.{Help}
+use Rattle.lint_findings.specs.Codes.{code_name, severity_name}
+use Rattle.lint_findings.specs.declared.diagnostic.Diagnostic.{Diagnostic}
+use Rattle.lint_hints.specs.declared.help.Help.{Help}
 use Rattle.lint_output.specs.Locations.{location_at}
 use Rattle.lint_output.specs.Visible.{shown, written_by}
 use Rattle.lint_output.specs.declared.lines.Location.{Location}

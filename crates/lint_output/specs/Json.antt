@@ -2,11 +2,11 @@
 use Rattle.std.specs.Prelude.{ℕ, List, None, Option, Some, codes, map, string_bytes}
 use Rattle.serde_json.specs.Data.{Data, Members, array, member, no_members, null, object, string}
 use Rattle.serde_json.specs.View.{items_of}
-use Rattle.diagnostic_data.specs.Codes.{code_name, severity_name}
-use Rattle.diagnostic_data.specs.declared.diagnostic.Diagnostic.{Diagnostic}
-use Rattle.meta_hints.specs.declared.help.Fix.{Fix}
-use Rattle.meta_hints.specs.declared.help.Help.{Help}
-use Rattle.meta_hints.specs.declared.help.Related.{Related}
+use Rattle.lint_findings.specs.Codes.{code_name, severity_name}
+use Rattle.lint_findings.specs.declared.diagnostic.Diagnostic.{Diagnostic}
+use Rattle.lint_hints.specs.declared.help.Fix.{Fix}
+use Rattle.lint_hints.specs.declared.help.Help.{Help}
+use Rattle.lint_hints.specs.declared.help.Related.{Related}
 use Rattle.lint_output.specs.Locations.{location_at}
 use Rattle.lint_output.specs.Sarif.{size_data}
 use Rattle.lint_output.specs.declared.lines.Location.{Location}

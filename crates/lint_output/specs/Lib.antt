@@ -4,3 +4,4 @@ pub mod Locations
 pub mod Prints
 pub mod Sarif
 pub mod Visible
+pub mod Fixes

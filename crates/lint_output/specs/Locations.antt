@@ -1,6 +1,6 @@
 -- Lines and columns of a text's bytes.
 use Rattle.std.specs.Prelude.{◌≡◌, ◌<◌, ◌≤◌, ℕ, ◌+◌, ◌*◌, ◌-◌, Bool, ◌||◌, EachIndex, List, Some, count_by, length, nat_le, nat_lt, slice_get, take}
-use Rattle.meta_base.specs.Pieces.LineColumn.{last_line, line_number}
+use Rattle.base_language.specs.Pieces.LineColumn.{last_line, line_number}
 use Rattle.lint_output.specs.declared.lines.LineIndex.{LineIndex}
 use Rattle.lint_output.specs.declared.lines.Location.{Location}
 

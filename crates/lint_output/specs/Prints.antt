@@ -2,10 +2,10 @@
 use Rattle.std.specs.Prelude.{◌≡◌, ℕ, List, [], ◌∷◌, ◌++◌, Bool, codes, decimal, if◌then◌else◌, length, string_bytes}
 use Rattle.std.specs.List.{repeat}
 use Rattle.serde_json.specs.Written.{compact_text}
-use Rattle.diagnostic_data.specs.Codes.{code_name, severity_name}
-use Rattle.diagnostic_data.specs.declared.codes.Severity.{Severity}
-use Rattle.diagnostic_data.specs.declared.codes.Severity.TheVariants as severity
-use Rattle.diagnostic_data.specs.declared.diagnostic.Diagnostic.{Diagnostic}
+use Rattle.lint_findings.specs.Codes.{code_name, severity_name}
+use Rattle.lint_findings.specs.declared.codes.Severity.{Severity}
+use Rattle.lint_findings.specs.declared.codes.Severity.TheVariants as severity
+use Rattle.lint_findings.specs.declared.diagnostic.Diagnostic.{Diagnostic}
 use Rattle.lint_output.specs.Annotations.{command}
 use Rattle.lint_output.specs.Json.{line_data}
 use Rattle.lint_output.specs.Locations.{location_at}

@@ -2,7 +2,7 @@
 use Rattle.std.specs.Prelude.{ℕ, ◌+◌, ◌==◌, ◌||◌, Bool, List, [], ◌∷◌, codes, encode_utf8_all, if◌then◌else◌, nat_lt}
 use Rattle.std.specs.List.{flat_map}
 use Rattle.std.specs.Str.{chars}
-use Rattle.tool_support.specs.Escapes.{is_between}
+use Rattle.program_support.specs.Escapes.{is_between}
 
 -- a control character past ASCII, or one that is invisible or turns the direction of a line
 abbrev pub is_hidden : ℕ → Bool

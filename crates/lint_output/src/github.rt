@@ -9,7 +9,7 @@ ghost use Rattle.lint_output.specs.Visible.{written_by};
 use crate::Origin;
 use crate::lines::Location;
 use crate::visible::push_shown;
-use diagnostic_data::Diagnostic;
+use lint_findings::Diagnostic;
 use std::alloc::{AllocError, Global};
 
 /// A diagnostic as a workflow command: `::error file=..,line=..,col=..,..::MESSAGE` and a line feed.

@@ -11,7 +11,7 @@ ghost use Rattle.lint_output.specs.Prints.{IsLine};
 use crate::Origin;
 use crate::lines::Location;
 use crate::objects::{put_size, put_text};
-use diagnostic_data::{Diagnostic, Fix, Help, Related};
+use lint_findings::{Diagnostic, Fix, Help, Related};
 use serde_json::{Map, Value, json, put};
 use std::alloc::{AllocError, Global};
 

@@ -1,7 +1,9 @@
-//! Diagnostics as they are printed: as text, JSON, SARIF and annotations of GitHub.
+//! Diagnostics as they are printed: as text, JSON, SARIF and annotations of GitHub. And fixes of a text's
+//! syntax errors.
 #![tactic(auto)]
 
 mod excerpts;
+mod fixes;
 mod github;
 mod json;
 mod lines;
@@ -11,6 +13,7 @@ mod styles;
 mod text;
 mod visible;
 
+pub use crate::fixes::{Mended, mend};
 pub use crate::lines::{LineIndex, Location};
 pub use crate::sarif::{sarif_log, sarif_result};
 pub use crate::styles::print_diagnostic;

@@ -8,7 +8,7 @@ ghost use Rattle.lint_output.specs.Sarif.{located_data, log_data, place_data, re
 use crate::Origin;
 use crate::json::to_line;
 use crate::lines::Location;
-use diagnostic_data::Diagnostic;
+use lint_findings::Diagnostic;
 use serde_json::{Value, json};
 use std::alloc::{AllocError, Global};
 

@@ -7,7 +7,7 @@ use crate::github::to_annotation;
 use crate::json::to_json_line;
 use crate::text::to_text;
 use crate::{Origin, Style};
-use diagnostic_data::Diagnostic;
+use lint_findings::Diagnostic;
 use std::alloc::{AllocError, Global};
 
 /// A diagnostic as it is printed. The only error is an allocation failure.

@@ -8,7 +8,7 @@ use crate::Origin;
 use crate::excerpts::{excerpt_at, margin_of, part, push_excerpt};
 use crate::lines::Location;
 use crate::visible::{push_visible, to_visible};
-use diagnostic_data::{Diagnostic, Fix, Help, Related, Severity};
+use lint_findings::{Diagnostic, Fix, Help, Related, Severity};
 use std::alloc::{AllocError, Global};
 
 /// A diagnostic as text: severity, code and message; file, line and column; the line with a mark; the other

@@ -5,7 +5,7 @@ use Rattle.std.proofs.lemmas.Bool.{cases_lt}
 use Rattle.std.proofs.lemmas.List.{get_or-append-add, length-map, map-append}
 use Rattle.std.proofs.Math.Seq.{get_or-append_seam}
 use Rattle.std.proofs.lemmas.Str.{char_from_byte, encodes-chars, len_utf8_ascii, IsCharBoundary-start}
-use Rattle.meta_base.specs.Language.Builtins.{is_between}
+use Rattle.base_language.specs.Language.Builtins.{is_between}
 use Rattle.matcher_code.specs.declared.code.Code.{Code}
 use Rattle.matcher_code.specs.Reading.{char_len, first_of, flag, is_covered, ranges_of}
 use Rattle.matcher_code.specs.Sets.{IsRowOf, IsSetOf, flag_of}

@@ -1,7 +1,9 @@
-//! Programs of operations that match texts, and the functions by which operations read a text.
+//! Programs of operations that match texts, the functions by which operations read a text, and which code
+//! does which task of a grammar.
 #![tactic(auto)]
 
 pub mod code;
+pub mod laws;
 pub mod reading;
 pub mod sets;
 pub mod state;

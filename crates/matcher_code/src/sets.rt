@@ -1,6 +1,6 @@
 //! Sets of characters, by rows of flags and ranges.
 ghost use Rattle.std.specs.Prelude.{◌≡◌, ◌<◌, ◌^◌, ◌&&◌, ℕ, IfOk, OnErr, OnOk, get_or, if◌then◌else◌, length, nat_lt};
-ghost use Rattle.meta_base.specs.Language.Builtins.{is_between};
+ghost use Rattle.base_language.specs.Language.Builtins.{is_between};
 ghost use Rattle.matcher_code.specs.Sets.{IsAligned, IsRowOf, IsSetOf, KeepsSets};
 
 use crate::code::{Code, Ranges};

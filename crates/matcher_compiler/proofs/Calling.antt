@@ -1,16 +1,16 @@
 -- Calls of rules by their numbers.
 use Rattle.std.proofs.Common.{◌≡◌, refl, sym, ◌∙◌, ap, ap₂, subst, ℕ, ◌<◌, Bool, true, false, List, [], ◌∷◌, Some, None, Option, codes, if◌then◌else◌, bytes_eq, get_or, length}
 use Rattle.std.proofs.lemmas.List.{length-map}
-use Rattle.meta_ast.specs.Ast.{rule_type_of}
-use Rattle.meta_base.specs.Language.Expression.{Grammar, Rule, last_place, or_else, rule_of}
-use Rattle.meta_base.specs.Language.FurthestFailure.{is_eoi}
-use Rattle.meta_base.specs.Language.Meaning.{Run, body_mode, mode_in}
-use Rattle.meta_base.specs.Language.State.{Mode}
-use Rattle.meta_base.specs.Language.Text.{Text}
+use Rattle.base_ast.specs.Ast.{rule_type_of}
+use Rattle.base_language.specs.Language.Expression.{Grammar, Rule, last_place, or_else, rule_of}
+use Rattle.base_language.specs.Language.FurthestFailure.{is_eoi}
+use Rattle.base_language.specs.Language.Meaning.{Run, body_mode, mode_in}
+use Rattle.base_language.specs.Language.State.{Mode}
+use Rattle.base_language.specs.Language.Text.{Text}
 use Rattle.matcher_code.specs.declared.code.Code.{Code}
 use Rattle.matcher_code.specs.declared.code.Op.TheVariants as op
-use Rattle.matcher_layout.specs.Laid as lay
-use Rattle.matcher_layout.specs.Laid.{IsPart, IsPoint, at_label}
+use Rattle.matcher_code.specs.Laid as lay
+use Rattle.matcher_code.specs.Laid.{IsPart, IsPoint, at_label}
 use Rattle.matcher_program.specs.declared.form.Program.{Program}
 use Rattle.matcher_program.specs.declared.form.Row.{Row}
 use Rattle.matcher_program.specs.Programs.{name_at, names_of, rule_of_row}

@@ -3,13 +3,13 @@ use Rattle.std.proofs.Common.{◌≡◌, refl, sym, ◌∙◌, ap, ap₂, subst,
 use Rattle.std.specs.Prelude.{if◌then◌else◌, nat_lt}
 use Rattle.std.proofs.lemmas.Bool.{cases_lt}
 use Rattle.std.proofs.lemmas.List.{get_or-map, length-map}
-use Rattle.meta_base.specs.Language.Expression.{Ident}
-use Rattle.meta_base.specs.Language.Meaning.{Run, Task}
-use Rattle.meta_base.specs.Language.State.{Classes, NonAtomicMode}
+use Rattle.base_language.specs.Language.Expression.{Ident}
+use Rattle.base_language.specs.Language.Meaning.{Run, Task}
+use Rattle.base_language.specs.Language.State.{Classes, NonAtomicMode}
 use Rattle.matcher_code.specs.declared.code.Code.{Code}
 use Rattle.matcher_code.specs.Reading.{char_len, wide_len}
-use Rattle.matcher_layout.specs.Laid as lay
-use Rattle.matcher_layout.specs.Laid.{IsPoint, Lays, no_point}
+use Rattle.matcher_code.specs.Laid as lay
+use Rattle.matcher_code.specs.Laid.{IsPoint, Lays, no_point}
 use Rattle.matcher_program.specs.declared.form.Program.{Program}
 use Rattle.matcher_program.specs.Programs.{name_at, names_of}
 use Rattle.matcher_sets.specs.declared.modes.Atomicity.{Atomicity}

@@ -4,7 +4,7 @@ use Rattle.std.specs.Prelude.{All, IsUtf8}
 use Rattle.std.proofs.lemmas.List.{map-append}
 use Rattle.std.specs.declared.string.String.{String}
 use Rattle.std.specs.declared.alloc.Global.{Global}
-use Rattle.meta_ast.specs.Ast as ast
+use Rattle.base_ast.specs.Ast as ast
 use Rattle.matcher_code.specs.declared.code.Code.{Code}
 use Rattle.matcher_code.specs.Reading.{text_of}
 use Rattle.matcher_compiler.specs.Plans.{AreTexts}

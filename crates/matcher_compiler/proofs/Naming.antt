@@ -2,9 +2,9 @@
 use Rattle.std.proofs.Common.{◌≡◌, ◌∙◌, ap, refl, sym, subst, Bool, Option, if◌then◌else◌, ℕ, zero, ◌+◌, ◌<◌, suc, List, [], ◌∷◌, None, Some, arith, bytes_eq, drop, false, get_or, length, true}
 use Rattle.std.proofs.lemmas.List.{get_or-map, length-map}
 use Rattle.std.proofs.lemmas.Slice.Eq.{bytes_eq-Decides}
-use Rattle.meta_ast.specs.Ast.{text_of}
-use Rattle.meta_base.specs.Language.Expression.{Grammar, Rule, last_place, rule_of}
-use Rattle.meta_base.specs.Language.Text.{Text}
+use Rattle.base_ast.specs.Ast.{text_of}
+use Rattle.base_language.specs.Language.Expression.{Grammar, Rule, last_place, rule_of}
+use Rattle.base_language.specs.Language.Text.{Text}
 use Rattle.matcher_program.specs.declared.form.Row.{Row}
 use Rattle.matcher_program.specs.Programs.{IsRuleOf, grammar_of, names_of, rule_of_row}
 

@@ -1,15 +1,15 @@
 -- What the names that read the stack match.
 use Rattle.std.proofs.Common.{◌≡◌, refl, sym, ◌∙◌, ap, [], false, ◌&&◌, Option, None, Some, codes, nat_eq}
 use Rattle.std.proofs.Math.Bool.{and-false}
-use Rattle.meta_base.specs.Language.Builtins.{Builtin, Drop, Peek, PeekAll, Pop, PopAll, builtin_of, builtins}
-use Rattle.meta_base.specs.Language.Expression.{Ident, Rule, rule_of}
-use Rattle.meta_base.specs.Language.FurthestFailure.{is_eoi}
-use Rattle.meta_base.specs.Language.Matching.{builtin_outcome, concatenated, drop_outcome, other_outcome, peek_outcome, pop_outcome, text_outcome, with_stack}
-use Rattle.meta_base.specs.Language.Meaning as by
-use Rattle.meta_base.specs.Language.Meaning.{Does, Run, seen_from}
-use Rattle.meta_base.specs.Language.State.{Classes, Outcome, State}
-use Rattle.meta_base.specs.Language.Text.{Text}
-use Rattle.matcher_layout.specs.Laid.{HasOrLacks, HasOutcome, MayHave}
+use Rattle.base_language.specs.Language.Builtins.{Builtin, Drop, Peek, PeekAll, Pop, PopAll, builtin_of, builtins}
+use Rattle.base_language.specs.Language.Expression.{Ident, Rule, rule_of}
+use Rattle.base_language.specs.Language.FurthestFailure.{is_eoi}
+use Rattle.base_language.specs.Language.Matching.{builtin_outcome, concatenated, drop_outcome, other_outcome, peek_outcome, pop_outcome, text_outcome, with_stack}
+use Rattle.base_language.specs.Language.Meaning as by
+use Rattle.base_language.specs.Language.Meaning.{Does, Run, seen_from}
+use Rattle.base_language.specs.Language.State.{Classes, Outcome, State}
+use Rattle.base_language.specs.Language.Text.{Text}
+use Rattle.matcher_code.specs.Laid.{HasOrLacks, HasOutcome, MayHave}
 use Rattle.matcher_program.specs.declared.form.Program.{Program}
 use Rattle.matcher_sets.specs.declared.modes.Atomicity.{Atomicity}
 use Rattle.matcher_sets.specs.Forms.{grammar_in}

@@ -3,16 +3,16 @@ use Rattle.std.proofs.Common.{◌≡◌, refl, sym, ◌∙◌, ap, subst, ℕ, �
 use Rattle.std.specs.Prelude.{Err, IfOk, IfSome, None, Ok, Option, Result, Some, not}
 use Rattle.std.specs.declared.alloc.Global.{Global}
 use Rattle.std.specs.declared.vec.Vec.{Vec}
-use Rattle.meta_base.specs.Language.Expression.{Choice, Expression, NegPred, Opt, Seq}
-use Rattle.meta_base.specs.Language.FurthestFailure.{furthest, place_of}
-use Rattle.meta_base.specs.Language.Matching.{starts_in}
-use Rattle.meta_base.specs.Language.Meaning as by
-use Rattle.meta_base.specs.Language.Meaning.{Does, Run, Task}
-use Rattle.meta_base.specs.Language.State.{Failure, Mode, None', Success, moved}
-use Rattle.meta_base.specs.Language.Text.{Text}
+use Rattle.base_language.specs.Language.Expression.{Choice, Expression, NegPred, Opt, Seq}
+use Rattle.base_language.specs.Language.FurthestFailure.{furthest, place_of}
+use Rattle.base_language.specs.Language.Matching.{starts_in}
+use Rattle.base_language.specs.Language.Meaning as by
+use Rattle.base_language.specs.Language.Meaning.{Does, Run, Task}
+use Rattle.base_language.specs.Language.State.{Failure, Mode, None', Success, moved}
+use Rattle.base_language.specs.Language.Text.{Text}
 use Rattle.matcher_code.specs.Reading.{is_covered}
-use Rattle.matcher_layout.specs.Laid.{Hits, Misses}
-use Rattle.matcher_layout.proofs.Characters.{not_and_then}
+use Rattle.matcher_code.specs.Laid.{Hits, Misses}
+use Rattle.matcher_code.proofs.Characters.{not_and_then}
 use Rattle.matcher_program.specs.declared.form.Form.{Form}
 use Rattle.matcher_program.specs.declared.form.Program.{Program}
 use Rattle.matcher_sets.specs.declared.heads.Head.{Head}

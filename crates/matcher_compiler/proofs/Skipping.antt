@@ -2,19 +2,19 @@
 use Rattle.std.proofs.Common.{◌≡◌, refl, sym, ◌∙◌, ap, ap₂, subst, ℕ, zero, suc, ◌<◌, ◌||◌, ◌&&◌, List, [], ◌∷◌, Bool, true, false, None, Some, add-zero, bytes_eq, get_or, length, map, arith, if◌then◌else◌}
 use Rattle.std.specs.Prelude.{Err, IfOk, IfSome, Ok, Option, Result, max}
 use Rattle.std.proofs.lemmas.List.{length-map}
-use Rattle.meta_ast.specs.Ast.{rule_type_of, text_of}
-use Rattle.meta_base.specs.Language.Expression.{Atomic, CompoundAtomic, Grammar, Ident, NonAtomic, Normal, Rep, Rule, RuleType, Silent, comment, rule_of, whitespace}
-use Rattle.meta_base.specs.Language.FurthestFailure.{furthest, is_eoi, place_of}
-use Rattle.meta_base.specs.Language.Matching.{character_outcome}
-use Rattle.meta_base.specs.Language.Meaning as by
-use Rattle.meta_base.specs.Language.Meaning.{Does, Run, Skipping, body_mode, gives_token, inherited, mode_in, seen_from, with_token}
-use Rattle.meta_base.specs.Language.State.{AtomicMode, Between, Classes, CompoundAtomicMode, Failure, Mode, NonAtomicMode, None', Outcome, State, Success, Tree, moved}
-use Rattle.meta_base.specs.Language.Text.{Text}
-use Rattle.meta_base.proofs.Basics.{same_some}
+use Rattle.base_ast.specs.Ast.{rule_type_of, text_of}
+use Rattle.base_language.specs.Language.Expression.{Atomic, CompoundAtomic, Grammar, Ident, NonAtomic, Normal, Rep, Rule, RuleType, Silent, comment, rule_of, whitespace}
+use Rattle.base_language.specs.Language.FurthestFailure.{furthest, is_eoi, place_of}
+use Rattle.base_language.specs.Language.Matching.{character_outcome}
+use Rattle.base_language.specs.Language.Meaning as by
+use Rattle.base_language.specs.Language.Meaning.{Does, Run, Skipping, body_mode, gives_token, inherited, mode_in, seen_from, with_token}
+use Rattle.base_language.specs.Language.State.{AtomicMode, Between, Classes, CompoundAtomicMode, Failure, Mode, NonAtomicMode, None', Outcome, State, Success, Tree, moved}
+use Rattle.base_language.specs.Language.Text.{Text}
+use Rattle.base_language.proofs.Basics.{same_some}
 use Rattle.matcher_code.specs.declared.code.Code.{Code}
-use Rattle.matcher_layout.specs.Laid as lay
-use Rattle.matcher_layout.specs.Laid.{FailsOutside, HasOutcome, IsPart, IsPoint, IsTight, skip_set, span_of}
-use Rattle.matcher_layout.proofs.Characters.{silent_call_of_set, span_of_set}
+use Rattle.matcher_code.specs.Laid as lay
+use Rattle.matcher_code.specs.Laid.{FailsOutside, HasOutcome, IsPart, IsPoint, IsTight, skip_set, span_of}
+use Rattle.matcher_code.proofs.Characters.{silent_call_of_set, span_of_set}
 use Rattle.matcher_program.specs.declared.form.Program.{Program}
 use Rattle.matcher_program.specs.declared.form.Row.{Row}
 use Rattle.matcher_program.specs.Programs.{IsRuleOf, IsSkippedRule, name_at, names_of, rule_of_row}

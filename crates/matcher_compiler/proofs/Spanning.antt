@@ -9,18 +9,18 @@ use Rattle.std.specs.String.{string_bytes}
 use Rattle.std.specs.declared.alloc.Global.{Global}
 use Rattle.std.specs.declared.string.String.{String}
 use Rattle.std.specs.declared.vec.Vec.{Vec}
-use Rattle.meta_ast.specs.Ast.{text_of}
-use Rattle.meta_base.specs.Language.Expression.{Expression, Rep, Seq, Skip}
-use Rattle.meta_base.specs.Language.FurthestFailure.{furthest}
-use Rattle.meta_base.specs.Language.Matching.{any_begins, begins, distance}
-use Rattle.meta_base.specs.Language.Meaning as by
-use Rattle.meta_base.specs.Language.Meaning.{Does, Run, Task}
-use Rattle.meta_base.specs.Language.State.{Mode, None', Success, moved}
-use Rattle.meta_base.specs.Language.Text.{Text}
+use Rattle.base_ast.specs.Ast.{text_of}
+use Rattle.base_language.specs.Language.Expression.{Expression, Rep, Seq, Skip}
+use Rattle.base_language.specs.Language.FurthestFailure.{furthest}
+use Rattle.base_language.specs.Language.Matching.{any_begins, begins, distance}
+use Rattle.base_language.specs.Language.Meaning as by
+use Rattle.base_language.specs.Language.Meaning.{Does, Run, Task}
+use Rattle.base_language.specs.Language.State.{Mode, None', Success, moved}
+use Rattle.base_language.specs.Language.Text.{Text}
 use Rattle.matcher_code.specs.Reading.{is_covered}
-use Rattle.matcher_layout.specs.Laid.{span_of}
-use Rattle.matcher_layout.proofs.Characters.{span_of_set}
-use Rattle.matcher_layout.proofs.Sets.{below}
+use Rattle.matcher_code.specs.Laid.{span_of}
+use Rattle.matcher_code.proofs.Characters.{span_of_set}
+use Rattle.matcher_code.proofs.Sets.{below}
 use Rattle.matcher_program.specs.declared.form.Form.{Form}
 use Rattle.matcher_program.specs.declared.form.Program.{Program}
 use Rattle.matcher_sets.specs.declared.modes.Atomicity.{Atomicity}

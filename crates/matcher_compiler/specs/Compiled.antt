@@ -1,12 +1,12 @@
 -- Programs of operations that are those of rules.
 use Rattle.std.specs.Prelude.{◌≡◌, ◌<◌, ◌+◌, ℕ, List, [], get_or, length, map}
-use Rattle.meta_base.specs.Language.Expression.{Ident}
-use Rattle.meta_base.specs.Language.Meaning.{Run}
-use Rattle.meta_base.specs.Language.State.{Classes, NonAtomicMode}
+use Rattle.base_language.specs.Language.Expression.{Ident}
+use Rattle.base_language.specs.Language.Meaning.{Run}
+use Rattle.base_language.specs.Language.State.{Classes, NonAtomicMode}
 use Rattle.matcher_code.specs.declared.code.Code.{Code}
 use Rattle.matcher_code.specs.declared.code.Op.TheVariants as op
-use Rattle.matcher_layout.specs.Laid as lay
-use Rattle.matcher_layout.specs.Laid.{AreLaid, HasOutcome, IsPoint, at_label, skip_set}
+use Rattle.matcher_code.specs.Laid as lay
+use Rattle.matcher_code.specs.Laid.{AreLaid, HasOutcome, IsPoint, at_label, skip_set}
 use Rattle.matcher_program.specs.declared.form.Program.{Program}
 use Rattle.matcher_program.specs.Programs.{Fits, name_at, names_of}
 use Rattle.matcher_compiler.specs.declared.plan.Plan.{Plan}

@@ -1,8 +1,8 @@
 -- Numbers of rules by their names.
 use Rattle.std.specs.Prelude.{◌≡◌, ◌<◌, ℕ, suc, List, Bool, true, false, Option, Some, None, length}
-use Rattle.meta_base.specs.Language.Text.{Text}
-use Rattle.meta_base.specs.Language.Expression.{Grammar, last_place}
-use Rattle.meta_base.specs.Language.FurthestFailure.{is_eoi}
+use Rattle.base_language.specs.Language.Text.{Text}
+use Rattle.base_language.specs.Language.Expression.{Grammar, last_place}
+use Rattle.base_language.specs.Language.FurthestFailure.{is_eoi}
 use Rattle.matcher_program.specs.declared.form.Program.{Program}
 use Rattle.matcher_program.specs.declared.form.Row.{Row}
 use Rattle.matcher_program.specs.Programs.{grammar_of, name_at, names_of}

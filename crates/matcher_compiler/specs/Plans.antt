@@ -1,19 +1,19 @@
 -- Plans of programs: points and demands, and what a program does that meets them.
 use Rattle.std.specs.Prelude.{◌≡◌, ◌<◌, ℕ, suc, Bool, List, [], ◌∷◌, None, Option, get_or, length, map, All, IsUtf8, chars, ⊤}
-use Rattle.meta_base.specs.Language.Expression.{Expression, Grammar, Ident, Rep, Seq, comment, rule_of, whitespace}
-use Rattle.meta_base.specs.Language.Meaning.{Does, Run, Skipping, Task, once_or_more, skipped}
-use Rattle.meta_base.specs.Language.State as language
-use Rattle.meta_base.specs.Language.Text.{Text}
-use Rattle.meta_base.specs.Language.State.{Between, Classes, Failure, NonAtomicMode, State}
-use Rattle.meta_base.specs.Language.FurthestFailure.{furthest}
+use Rattle.base_language.specs.Language.Expression.{Expression, Grammar, Ident, Rep, Seq, comment, rule_of, whitespace}
+use Rattle.base_language.specs.Language.Meaning.{Does, Run, Skipping, Task, once_or_more, skipped}
+use Rattle.base_language.specs.Language.State as language
+use Rattle.base_language.specs.Language.Text.{Text}
+use Rattle.base_language.specs.Language.State.{Between, Classes, Failure, NonAtomicMode, State}
+use Rattle.base_language.specs.Language.FurthestFailure.{furthest}
 use Rattle.matcher_code.specs.declared.code.Code.{Code}
 use Rattle.matcher_code.specs.declared.code.Op.TheVariants as op
 use Rattle.matcher_code.specs.Reading.{char_len, text_of}
 use Rattle.matcher_code.specs.Sets.{IsSetOf}
 use Rattle.matcher_program.specs.declared.form.Program.{Program}
 use Rattle.matcher_program.specs.Programs.{Fits, name_at, names_of}
-use Rattle.matcher_layout.specs.Laid as lay
-use Rattle.matcher_layout.specs.Laid.{Branches, Continues, Enters, FailsOutside, HasOutcome, HasTable, Hits, IsEnd, IsPart, IsPoint, IsTight, Lays, TakesNone, TakesOne, at_label, skip_set}
+use Rattle.matcher_code.specs.Laid as lay
+use Rattle.matcher_code.specs.Laid.{Branches, Continues, Enters, FailsOutside, HasOutcome, HasTable, Hits, IsEnd, IsPart, IsPoint, IsTight, Lays, TakesNone, TakesOne, at_label, skip_set}
 use Rattle.matcher_compiler.specs.declared.plan.Plan.{Plan}
 use Rattle.matcher_compiler.specs.declared.plan.Skips.{Skips}
 use Rattle.matcher_compiler.specs.declared.plan.Skips.TheVariants as skips

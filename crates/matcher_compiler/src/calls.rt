@@ -1,11 +1,11 @@
 //! Calls of rules.
 ghost use Rattle.std.specs.Prelude.{◌≡◌, ◌<◌, ◌≤◌, IfOk, List, OnOk, false, get_or, length, true};
-ghost use Rattle.meta_ast.specs.Ast.{rule_type_of};
-ghost use Rattle.meta_base.specs.Language.Expression.{Ident};
-ghost use Rattle.meta_base.specs.Language.Meaning.{Run, gives_token};
+ghost use Rattle.base_ast.specs.Ast.{rule_type_of};
+ghost use Rattle.base_language.specs.Language.Expression.{Ident};
+ghost use Rattle.base_language.specs.Language.Meaning.{Run, gives_token};
 ghost use Rattle.matcher_code.specs.declared.code.Code.{Code};
-ghost use Rattle.matcher_layout.specs.Laid as lay;
-ghost use Rattle.matcher_layout.specs.Laid.{IsPoint};
+ghost use Rattle.matcher_code.specs.Laid as lay;
+ghost use Rattle.matcher_code.specs.Laid.{IsPoint};
 ghost use Rattle.matcher_program.specs.Programs.{IsRuleOf, name_at, names_of};
 ghost use Rattle.matcher_program.specs.declared.form.Program.{Program};
 ghost use Rattle.matcher_sets.specs.Modes.{mode_of};

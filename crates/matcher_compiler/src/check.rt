@@ -1,7 +1,7 @@
 //! The comparison of a program with its demands.
 ghost use Rattle.std.specs.Prelude.{◌≡◌, map, true};
-ghost use Rattle.meta_base.specs.Language.Meaning.{Run};
-ghost use Rattle.matcher_layout.specs.Laid.{IsEnd, IsPoint, at_label};
+ghost use Rattle.base_language.specs.Language.Meaning.{Run};
+ghost use Rattle.matcher_code.specs.Laid.{IsEnd, IsPoint, at_label};
 ghost use Rattle.matcher_program.specs.declared.form.Program.{Program};
 ghost use Rattle.matcher_compiler.specs.Compiled.{AreMet, HasEnds};
 ghost use Rattle.matcher_sets.specs.Modes.{mode_of};

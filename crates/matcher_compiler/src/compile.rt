@@ -1,7 +1,7 @@
 //! The compiler.
 ghost use Rattle.std.specs.Prelude.{◌≡◌, ◌<◌, ◌≤◌, IfOk, IfSome, None, OnOk, Some, [], false, get_or, if◌then◌else◌, length, map, true};
-ghost use Rattle.meta_ast.specs.Ast.{rule_type_of};
-ghost use Rattle.meta_base.specs.Language.Expression.{Silent};
+ghost use Rattle.base_ast.specs.Ast.{rule_type_of};
+ghost use Rattle.base_language.specs.Language.Expression.{Silent};
 ghost use Rattle.matcher_code.specs.Sets.{IsAligned};
 ghost use Rattle.matcher_program.specs.declared.form.Program.{Program};
 ghost use Rattle.matcher_compiler.specs.Compiled.{AreMet, HasEnds, HasEntries, IsCodeOf, IsEmpty};
@@ -14,6 +14,7 @@ use crate::names::has_own_names;
 use crate::plan::{Plan, Skips};
 use crate::points::{Demand, NO_CALL, NotCompiled, Part, Place, Point, TOP_RANK};
 use crate::tables::{write_tables, zeros};
+use base_ast::ast::RuleType;
 use matcher_code::code::{Code, Op, Ranges};
 use matcher_code::sets::add_set;
 use matcher_program::form::{Form, Program, Row};
@@ -21,7 +22,6 @@ use matcher_sets::difference::choice_ranges;
 use matcher_sets::learning::rule_heads;
 use matcher_sets::modes::Atomicity;
 use matcher_sets::sizes::body_sizes;
-use meta_ast::ast::RuleType;
 use std::alloc::Global;
 
 /// The largest number of rules.

@@ -1,8 +1,8 @@
 //! Plans of expressions with operands.
 ghost use Rattle.std.specs.Prelude.{◌≡◌, ◌<◌, None, OnOk, Some};
-ghost use Rattle.meta_base.specs.Language.Expression.{Choice, Expression, NegPred, Opt, PosPred, Rep, Seq};
-ghost use Rattle.meta_base.specs.Language.Meaning.{Run, Skipping};
-ghost use Rattle.meta_base.specs.Language.State.{NonAtomicMode};
+ghost use Rattle.base_language.specs.Language.Expression.{Choice, Expression, NegPred, Opt, PosPred, Rep, Seq};
+ghost use Rattle.base_language.specs.Language.Meaning.{Run, Skipping};
+ghost use Rattle.base_language.specs.Language.State.{NonAtomicMode};
 ghost use Rattle.matcher_sets.specs.Modes.{mode_of};
 ghost use Rattle.matcher_sets.specs.Forms.{IsBoundIn, IsSoundProgram, said};
 ghost use Rattle.matcher_sets.specs.Heads.{AreHeads};

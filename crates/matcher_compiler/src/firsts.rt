@@ -1,9 +1,9 @@
 //! Tests before expressions.
 ghost use Rattle.std.specs.Prelude.{IfOk, IfSome, List, OnOk};
-ghost use Rattle.meta_base.specs.Language.Meaning.{Run, Task};
+ghost use Rattle.base_language.specs.Language.Meaning.{Run, Task};
 ghost use Rattle.matcher_code.specs.declared.code.Code.{Code};
-ghost use Rattle.matcher_layout.specs.Laid as lay;
-ghost use Rattle.matcher_layout.specs.Laid.{GoesTo};
+ghost use Rattle.matcher_code.specs.Laid as lay;
+ghost use Rattle.matcher_code.specs.Laid.{GoesTo};
 ghost use Rattle.matcher_program.specs.declared.form.Program.{Program};
 ghost use Rattle.matcher_sets.specs.Forms.{IsBoundIn, IsSoundProgram, said};
 ghost use Rattle.matcher_sets.specs.Heads.{AreHeads};

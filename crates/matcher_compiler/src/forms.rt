@@ -1,12 +1,12 @@
 //! Plans of expressions without operands.
 ghost use Rattle.std.specs.Prelude.{◌≡◌, ◌≤◌, ◌&&◌, ℕ, IfOk, List, None, OnOk, chars, codes, length, not, true};
-ghost use Rattle.meta_base.specs.Language.Expression.{Ident, Insens, Seq, Str, rule_of};
-ghost use Rattle.meta_base.specs.Language.Meaning.{Run, seen_from};
-ghost use Rattle.meta_base.specs.Language.State.{AtomicMode};
+ghost use Rattle.base_language.specs.Language.Expression.{Ident, Insens, Seq, Str, rule_of};
+ghost use Rattle.base_language.specs.Language.Meaning.{Run, seen_from};
+ghost use Rattle.base_language.specs.Language.State.{AtomicMode};
 ghost use Rattle.matcher_code.specs.Reading.{is_covered};
 ghost use Rattle.matcher_code.specs.declared.code.Code.{Code};
-ghost use Rattle.matcher_layout.specs.Laid as lay;
-ghost use Rattle.matcher_layout.specs.Laid.{MatchesText};
+ghost use Rattle.matcher_code.specs.Laid as lay;
+ghost use Rattle.matcher_code.specs.Laid.{MatchesText};
 ghost use Rattle.matcher_program.specs.declared.form.Program.{Program};
 ghost use Rattle.matcher_sets.specs.Differences.{HasRanges, HasRefused, HasSet};
 ghost use Rattle.matcher_sets.specs.Modes.{mode_of};

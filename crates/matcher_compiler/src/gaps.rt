@@ -1,8 +1,8 @@
 //! The implicit skipping.
 ghost use Rattle.std.specs.Prelude.{◌≡◌, ◌≤◌, IfOk, IfSome, None, OnOk, false, length};
-ghost use Rattle.meta_base.specs.Language.Expression.{Expression, Ident, Rep, comment, rule_of, whitespace};
-ghost use Rattle.meta_base.specs.Language.Meaning.{Run, Skipping, skipped};
-ghost use Rattle.meta_base.specs.Language.State.{Between, NonAtomicMode};
+ghost use Rattle.base_language.specs.Language.Expression.{Expression, Ident, Rep, comment, rule_of, whitespace};
+ghost use Rattle.base_language.specs.Language.Meaning.{Run, Skipping, skipped};
+ghost use Rattle.base_language.specs.Language.State.{Between, NonAtomicMode};
 ghost use Rattle.matcher_program.specs.declared.form.Program.{Program};
 ghost use Rattle.matcher_program.specs.Programs.{IsRuleOf, name_at, names_of};
 ghost use Rattle.matcher_sets.specs.Modes.{mode_of};

@@ -1,6 +1,6 @@
 //! Names of rules.
 ghost use Rattle.std.specs.Prelude.{◌≡◌, chars, true};
-ghost use Rattle.meta_base.specs.Language.Expression.{last_place};
+ghost use Rattle.base_language.specs.Language.Expression.{last_place};
 ghost use Rattle.matcher_program.specs.Programs.{grammar_of};
 ghost use Rattle.matcher_compiler.specs.Names.{HasOwnNames, IsLast};
 

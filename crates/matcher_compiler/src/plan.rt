@@ -49,13 +49,13 @@ pub struct Plan<'p> {
 
 impl<'p> Plan<'p> {
     ghost use Rattle.std.specs.Prelude.{◌≡◌, IfOk, List, OnOk, false, map, true};
-    ghost use Rattle.meta_ast.specs.Ast.{text_of as characters_of};
-    ghost use Rattle.meta_base.specs.Language.State.{NonAtomicMode};
+    ghost use Rattle.base_ast.specs.Ast.{text_of as characters_of};
+    ghost use Rattle.base_language.specs.Language.State.{NonAtomicMode};
     ghost use Rattle.matcher_code.specs.declared.code.Code.{Code};
     ghost use Rattle.matcher_code.specs.Reading.{list_of, text_of};
     ghost use Rattle.matcher_code.specs.Sets.{IsSetOf};
-    ghost use Rattle.matcher_layout.specs.Laid as lay;
-    ghost use Rattle.matcher_layout.specs.Laid.{IsPart, at_label};
+    ghost use Rattle.matcher_code.specs.Laid as lay;
+    ghost use Rattle.matcher_code.specs.Laid.{IsPart, at_label};
     ghost use Rattle.matcher_program.specs.declared.form.Program.{Program};
     ghost use Rattle.matcher_sets.specs.Modes.{mode_of};
     ghost use Rattle.matcher_compiler.specs.Plans.{AreTexts, IsBoundPart, IsLater, IsMet, IsReady, IsTightIn, Meets, task_in};

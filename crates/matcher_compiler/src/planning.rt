@@ -1,7 +1,7 @@
 //! The loop over points.
 ghost use Rattle.std.specs.Prelude.{◌≡◌, ◌<◌, ◌≤◌, ℕ, OnOk, chars, get_or, length};
-ghost use Rattle.meta_base.specs.Language.Expression.{Choice, NegPred, NodeTag, PosPred, Rep, RepOnce, RestoreOnErr};
-ghost use Rattle.meta_base.specs.Language.Meaning.{Run, once_or_more};
+ghost use Rattle.base_language.specs.Language.Expression.{Choice, NegPred, NodeTag, PosPred, Rep, RepOnce, RestoreOnErr};
+ghost use Rattle.base_language.specs.Language.Meaning.{Run, once_or_more};
 ghost use Rattle.matcher_program.specs.declared.form.Form.TheVariants as form;
 ghost use Rattle.matcher_sets.specs.Modes.{mode_of};
 ghost use Rattle.matcher_compiler.specs.Names.{HasOwnNames};

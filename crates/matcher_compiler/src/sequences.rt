@@ -1,8 +1,8 @@
 //! Sequences, and blanks with a test of what is behind them.
 ghost use Rattle.std.specs.Prelude.{◌≡◌, None, OnOk};
-ghost use Rattle.meta_base.specs.Language.Expression.{Seq, comment, rule_of};
-ghost use Rattle.meta_base.specs.Language.Meaning.{Run, skipped};
-ghost use Rattle.meta_base.specs.Language.State.{Between, NonAtomicMode};
+ghost use Rattle.base_language.specs.Language.Expression.{Seq, comment, rule_of};
+ghost use Rattle.base_language.specs.Language.Meaning.{Run, skipped};
+ghost use Rattle.base_language.specs.Language.State.{Between, NonAtomicMode};
 ghost use Rattle.matcher_sets.specs.Modes.{mode_of};
 ghost use Rattle.matcher_sets.specs.Forms.{IsBoundIn, IsSoundProgram, grammar_in, said};
 ghost use Rattle.matcher_sets.specs.Heads.{AreHeads};

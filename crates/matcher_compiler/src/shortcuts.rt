@@ -1,7 +1,7 @@
 //! Shortcuts in repetitions.
 ghost use Rattle.std.specs.Prelude.{IfOk, IfSome, OnOk};
-ghost use Rattle.meta_base.specs.Language.Expression.{Choice, NegPred, Opt, Rep, Seq};
-ghost use Rattle.meta_base.specs.Language.Meaning.{Run};
+ghost use Rattle.base_language.specs.Language.Expression.{Choice, NegPred, Opt, Rep, Seq};
+ghost use Rattle.base_language.specs.Language.Meaning.{Run};
 ghost use Rattle.matcher_sets.specs.Forms.{IsBoundIn, IsSoundProgram, said};
 ghost use Rattle.matcher_sets.specs.Heads.{AreHeads};
 ghost use Rattle.matcher_sets.specs.Modes.{mode_of};

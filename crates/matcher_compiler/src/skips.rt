@@ -1,9 +1,9 @@
 //! Searches for texts.
 ghost use Rattle.std.specs.Prelude.{OnOk, map};
-ghost use Rattle.meta_ast.specs.Ast.{text_of};
-ghost use Rattle.meta_base.specs.Language.Expression.{Skip};
-ghost use Rattle.meta_base.specs.Language.Meaning.{Run};
-ghost use Rattle.matcher_layout.specs.Laid.{StartIn};
+ghost use Rattle.base_ast.specs.Ast.{text_of};
+ghost use Rattle.base_language.specs.Language.Expression.{Skip};
+ghost use Rattle.base_language.specs.Language.Meaning.{Run};
+ghost use Rattle.matcher_code.specs.Laid.{StartIn};
 ghost use Rattle.matcher_sets.specs.Modes.{mode_of};
 ghost use Rattle.matcher_compiler.specs.Plans.{IsLater, LaysAt};
 

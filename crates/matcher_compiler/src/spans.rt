@@ -1,9 +1,9 @@
 //! Spans of characters, which expressions take.
 ghost use Rattle.std.specs.Prelude.{◌≡◌, IfOk, IfSome, OnOk, map};
-ghost use Rattle.meta_ast.specs.Ast.{text_of};
-ghost use Rattle.meta_base.specs.Language.Expression.{Expression, Rep, Seq, Skip};
-ghost use Rattle.meta_base.specs.Language.Meaning.{Run, Task};
-ghost use Rattle.meta_base.specs.Language.State.{Mode};
+ghost use Rattle.base_ast.specs.Ast.{text_of};
+ghost use Rattle.base_language.specs.Language.Expression.{Expression, Rep, Seq, Skip};
+ghost use Rattle.base_language.specs.Language.Meaning.{Run, Task};
+ghost use Rattle.base_language.specs.Language.State.{Mode};
 ghost use Rattle.matcher_program.specs.declared.form.Program.{Program};
 ghost use Rattle.matcher_sets.specs.Forms.{IsBoundIn, IsSoundProgram, said};
 ghost use Rattle.matcher_sets.specs.Heads.{AreHeads};

@@ -1,7 +1,7 @@
 //! Plans of expressions that read or change the stack.
 ghost use Rattle.std.specs.Prelude.{◌≡◌, None, OnOk, chars, codes};
-ghost use Rattle.meta_base.specs.Language.Expression.{Ident, PeekSlice, Push, PushLiteral, rule_of};
-ghost use Rattle.meta_base.specs.Language.Meaning.{Run};
+ghost use Rattle.base_language.specs.Language.Expression.{Ident, PeekSlice, Push, PushLiteral, rule_of};
+ghost use Rattle.base_language.specs.Language.Meaning.{Run};
 ghost use Rattle.matcher_sets.specs.Modes.{mode_of};
 ghost use Rattle.matcher_sets.specs.Forms.{IsBoundIn, grammar_in, said};
 ghost use Rattle.matcher_compiler.specs.Plans.{IsLater, LaysAt};

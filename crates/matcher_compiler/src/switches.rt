@@ -1,7 +1,7 @@
 //! Choices by the first byte.
 ghost use Rattle.std.specs.Prelude.{◌<◌, IfOk, IfSome, OnOk};
-ghost use Rattle.meta_base.specs.Language.Expression.{Choice};
-ghost use Rattle.meta_base.specs.Language.Meaning.{Run, Task};
+ghost use Rattle.base_language.specs.Language.Expression.{Choice};
+ghost use Rattle.base_language.specs.Language.Meaning.{Run, Task};
 ghost use Rattle.matcher_program.specs.declared.form.Program.{Program};
 ghost use Rattle.matcher_sets.specs.Forms.{IsBoundIn, IsSoundProgram, said};
 ghost use Rattle.matcher_sets.specs.Heads.{AreHeads};

@@ -1,9 +1,9 @@
 //! Tables by the first byte.
 ghost use Rattle.std.specs.Prelude.{◌≡◌, ◌<◌, ◌≤◌, IfSome, List, MatchOption, OnOk, Some, false, nat_eq, true, ℕ};
-ghost use Rattle.meta_base.specs.Language.Matching.{begins};
+ghost use Rattle.base_language.specs.Language.Matching.{begins};
 ghost use Rattle.matcher_code.specs.declared.code.Op.TheVariants as op;
 ghost use Rattle.matcher_code.specs.Reading.{char_len, text_of};
-ghost use Rattle.matcher_layout.specs.Laid.{Moves, Notes, Skips, at_label, head_of, label_for};
+ghost use Rattle.matcher_code.specs.Laid.{Moves, Notes, Skips, at_label, head_of, label_for};
 ghost use Rattle.matcher_compiler.specs.Plans.{ContinuesAs, HasBranch, KeepsData};
 
 use crate::points::{Branch, Demand, NotCompiled};

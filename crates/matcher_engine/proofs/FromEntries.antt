@@ -4,16 +4,16 @@ use Rattle.std.proofs.Math.Seq.{drop-cons}
 use Rattle.std.proofs.lemmas.Str.{chars-IsAscii}
 use Rattle.std.proofs.lemmas.Str.Ascii.{IsAscii-cons, IsAscii-nil}
 use Rattle.std.proofs.lemmas.List.{get_or-map, length-append, length-map, length-take-le, take_more}
-use Rattle.meta_ast.specs.Ast.{text_of}
-use Rattle.meta_base.specs.Language.Expression.{Grammar, Rule, last_place}
-use Rattle.meta_base.specs.Language.State.{Trees, None', Tree}
-use Rattle.meta_base.specs.Language.Text.{Text}
+use Rattle.base_ast.specs.Ast.{text_of}
+use Rattle.base_language.specs.Language.Expression.{Grammar, Rule, last_place}
+use Rattle.base_language.specs.Language.State.{Trees, None', Tree}
+use Rattle.base_language.specs.Language.Text.{Text}
 use Rattle.matcher_code.specs.declared.state.TreeNode.{TreeNode}
-use Rattle.matcher_layout.specs.Reached.{count_of, nodes_of}
+use Rattle.matcher_code.specs.Reached.{count_of, nodes_of}
 use Rattle.matcher_program.specs.declared.form.Row.{Row}
 use Rattle.matcher_program.specs.Programs.{grammar_of, names_of, rule_of_row}
-use Rattle.meta_syntax.proofs.EntryLists.{length-entries}
-use Rattle.meta_syntax.specs.Entries.{Entry, Ends, Starts, entries_of, entry_count}
+use Rattle.front_syntax.proofs.EntryLists.{length-entries}
+use Rattle.front_syntax.specs.Entries.{Entry, Ends, Starts, entries_of, entry_count}
 use Rattle.matcher_engine.proofs.Preorder.{counts}
 use Rattle.matcher_engine.specs.Entries.{place_in, position_of}
 

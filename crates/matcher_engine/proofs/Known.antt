@@ -3,10 +3,10 @@ use Rattle.std.proofs.Common.{◌≡◌, refl, sym, ◌∙◌, ap, subst, ℕ, z
 use Rattle.std.specs.Borrow.{Bor}
 use Rattle.std.proofs.lemmas.List.{length-map}
 use Rattle.std.proofs.lemmas.Slice.Eq.{bytes_eq-Decides}
-use Rattle.meta_ast.specs.Ast.{text_of}
-use Rattle.meta_base.specs.Language.Expression.{Grammar, Normal, Rule, Str, last_place, or_else, rule_of}
-use Rattle.meta_base.specs.Language.FurthestFailure.{is_eoi}
-use Rattle.meta_base.specs.Language.Text.{Text}
+use Rattle.base_ast.specs.Ast.{text_of}
+use Rattle.base_language.specs.Language.Expression.{Grammar, Normal, Rule, Str, last_place, or_else, rule_of}
+use Rattle.base_language.specs.Language.FurthestFailure.{is_eoi}
+use Rattle.base_language.specs.Language.Text.{Text}
 use Rattle.matcher_program.specs.declared.form.Row.{Row}
 use Rattle.matcher_program.specs.Programs.{grammar_of, names_of, rule_of_row}
 use Rattle.matcher_compiler.specs.Names.{number_in, or_end}

@@ -6,22 +6,22 @@ use Rattle.std.proofs.Math.Logic.{∥∥₁_elim}
 use Rattle.std.proofs.Math.Nat.{ℕ_set}
 use Rattle.std.specs.Coded.{×_prop}
 use mathlib.Core.HLevel.{Σ_prop, ⊥_prop}
-use Rattle.meta_base.specs.Language.Expression.{Grammar, Ident}
-use Rattle.meta_base.specs.Language.FurthestFailure.{furthest}
-use Rattle.meta_base.specs.Language.Meaning.{Run}
-use Rattle.meta_base.specs.Language.State.{Classes, Failure, NonAtomicMode, State, Success, Trees}
-use Rattle.meta_base.specs.Language.Text.{Text}
-use Rattle.meta_syntax.specs.Entries.{entries_of}
+use Rattle.base_language.specs.Language.Expression.{Grammar, Ident}
+use Rattle.base_language.specs.Language.FurthestFailure.{furthest}
+use Rattle.base_language.specs.Language.Meaning.{Run}
+use Rattle.base_language.specs.Language.State.{Classes, Failure, NonAtomicMode, State, Success, Trees}
+use Rattle.base_language.specs.Language.Text.{Text}
+use Rattle.front_syntax.specs.Entries.{entries_of}
 use Rattle.matcher_code.specs.declared.state.TreeNode.{TreeNode}
-use Rattle.matcher_layout.specs.Reached.{nodes_of}
+use Rattle.matcher_code.specs.Reached.{nodes_of}
 use Rattle.matcher_compiler.specs.Names.{number_in}
 use Rattle.matcher_program.specs.declared.form.Property.{Property}
 use Rattle.matcher_program.specs.Programs.{Fits}
-use Rattle.meta_matcher.specs.Answers.{FailsWith, HasAt, IsMatchedFrom, IsStoppedFrom}
-use Rattle.meta_matcher.specs.Endings.{classes_in}
-use Rattle.meta_matcher.specs.Written.{seen}
-use Rattle.meta_matcher.specs.declared.matcher.Found.{Found}
-use Rattle.meta_matcher.specs.declared.machine.Stop.TheVariants as stop
+use Rattle.matcher_interpreter.specs.Answers.{FailsWith, HasAt, IsMatchedFrom, IsStoppedFrom}
+use Rattle.matcher_interpreter.specs.Endings.{classes_in}
+use Rattle.matcher_interpreter.specs.Written.{seen}
+use Rattle.matcher_interpreter.specs.declared.matcher.Found.{Found}
+use Rattle.matcher_interpreter.specs.declared.machine.Stop.TheVariants as stop
 use Rattle.matcher_engine.specs.Preorders.{HasPreorder}
 use Rattle.matcher_engine.specs.declared.matcher.Preorder.{Preorder}
 use Rattle.matcher_engine.proofs.OneDerivation.{Answer, one_answer}

@@ -1,10 +1,10 @@
 -- A task has at most one outcome from one state, by at most one derivation.
 use Rattle.std.proofs.Common.{◌≡◌, refl, sym, ◌∙◌, ap, ap₂, subst, Option, Some, None}
 use Rattle.std.proofs.Math.Path.{contract}
-use Rattle.meta_base.specs.Language.Expression.{Grammar, Rule, rule_of}
-use Rattle.meta_base.specs.Language.State.{Classes, State, Trees, Outcome, Success, Failure, joined, None'}
-use Rattle.meta_base.specs.Language.Meaning.{Does, Task, Run, Skipping, Turns, str, insens, range, slice, skip, call, other, pos_pred, neg_pred, push, restore, seq, seq_first, seq_second, left, right, opt, opt_none, rep_none, turn, turn_none, rep_exact, rep_max, rep_min_max, skips, atomic, compound_atomic, between, ahead, not_ahead, pushed, body_mode, rep, rep_once, rep_min, push_literal, tag, with_token}
-use Rattle.meta_base.proofs.OneOutcome.{same, same_state, from}
+use Rattle.base_language.specs.Language.Expression.{Grammar, Rule, rule_of}
+use Rattle.base_language.specs.Language.State.{Classes, State, Trees, Outcome, Success, Failure, joined, None'}
+use Rattle.base_language.specs.Language.Meaning.{Does, Task, Run, Skipping, Turns, str, insens, range, slice, skip, call, other, pos_pred, neg_pred, push, restore, seq, seq_first, seq_second, left, right, opt, opt_none, rep_none, turn, turn_none, rep_exact, rep_max, rep_min_max, skips, atomic, compound_atomic, between, ahead, not_ahead, pushed, body_mode, rep, rep_once, rep_min, push_literal, tag, with_token}
+use Rattle.base_language.proofs.OneOutcome.{same, same_state, from}
 
 -- values with the equation that a value is one of them are one
 some_one : {A : Type 0} {o : Option A} {x y : A} (p : o ≡ Some x) (q : o ≡ Some y) → ◌≡◌ {A = (z : A) × (o ≡ Some z)} (x, p) (y, q)

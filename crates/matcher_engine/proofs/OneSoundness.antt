@@ -2,8 +2,8 @@
 use Rattle.std.proofs.Common.{◌≡◌, List, ℕ, Option, None, Some}
 use Rattle.std.proofs.Props.{props}
 use Rattle.std.specs.Coded.{×_prop, Unit-prop}
-use Rattle.meta_base.specs.Language.Expression.{Grammar, rule_of}
-use Rattle.meta_base.specs.Language.Text.{Text}
+use Rattle.base_language.specs.Language.Expression.{Grammar, rule_of}
+use Rattle.base_language.specs.Language.Text.{Text}
 use Rattle.matcher_program.specs.declared.form.Form.{Form}
 use Rattle.matcher_program.specs.declared.form.Form.TheVariants as form
 use Rattle.matcher_program.specs.declared.form.Property.{Property}

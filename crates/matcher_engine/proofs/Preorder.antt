@@ -3,11 +3,11 @@ use Rattle.std.proofs.Common.{◌≡◌, refl, sym, ◌∙◌, ap, ap₂, subst,
 use Rattle.std.specs.Prelude.{⊤}
 use Rattle.std.proofs.Math.Seq.{drop-cons, drop-length}
 use Rattle.std.proofs.lemmas.List.{get_or_default, length-append, reverse-append}
-use Rattle.meta_base.specs.Language.Text.{Text}
-use Rattle.meta_base.specs.Language.State.{Trees, None', Tree}
+use Rattle.base_language.specs.Language.Text.{Text}
+use Rattle.base_language.specs.Language.State.{Trees, None', Tree}
 use Rattle.matcher_code.specs.declared.state.TreeNode.{TreeNode}
-use Rattle.matcher_layout.specs.Reached.{count_of, nodes_of}
-use Rattle.meta_syntax.specs.Entries.{Entry, Ends, Starts, entries_of, entry_count}
+use Rattle.matcher_code.specs.Reached.{count_of, nodes_of}
+use Rattle.front_syntax.specs.Entries.{Entry, Ends, Starts, entries_of, entry_count}
 use Rattle.matcher_engine.specs.declared.entries.OpenTree.{OpenTree}
 use Rattle.matcher_engine.specs.Entries.{closed, left_open, name_in, opened, start_entry}
 

@@ -6,30 +6,30 @@ use Rattle.std.proofs.lemmas.Bool.{cases_lt}
 use Rattle.std.proofs.lemmas.List.{length-map}
 use Rattle.std.proofs.lemmas.List.Elements.{All-nil}
 use Rattle.std.proofs.lemmas.Str.{IsUtf8-drop}
-use Rattle.meta_base.specs.Language.Expression.{Ident, last_place}
-use Rattle.meta_base.specs.Language.FurthestFailure.{furthest}
-use Rattle.meta_base.specs.Language.Meaning.{Does, Run, Task}
-use Rattle.meta_base.specs.Language.State.{Classes, Failure, NonAtomicMode, Outcome, State, Success, Trees}
-use Rattle.meta_base.specs.Language.Text.{Text}
-use Rattle.meta_base.specs.Pieces.Span.{position_offset, position_text}
-use Rattle.meta_base.specs.declared.runtime.places.Position.{Position}
+use Rattle.base_language.specs.Language.Expression.{Ident, last_place}
+use Rattle.base_language.specs.Language.FurthestFailure.{furthest}
+use Rattle.base_language.specs.Language.Meaning.{Does, Run, Task}
+use Rattle.base_language.specs.Language.State.{Classes, Failure, NonAtomicMode, Outcome, State, Success, Trees}
+use Rattle.base_language.specs.Language.Text.{Text}
+use Rattle.base_language.specs.Pieces.Span.{position_offset, position_text}
+use Rattle.base_language.specs.declared.runtime.places.Position.{Position}
 use Rattle.matcher_code.specs.declared.code.Code.{Code}
 use Rattle.matcher_code.specs.declared.code.Op.TheVariants as op
 use Rattle.matcher_code.specs.Steps.{Config, jump, op_at, steps}
-use Rattle.matcher_layout.specs.Endings.{IsFound}
-use Rattle.matcher_layout.specs.Laid.{IsEnd, IsPoint}
-use Rattle.matcher_layout.specs.Reached.{IsAt, Reaches, nodes_of, with_failure, with_success}
-use Rattle.matcher_layout.specs.Sizes.{size}
-use Rattle.matcher_layout.proofs.Existence.{finds, stays_ended}
-use Rattle.matcher_layout.proofs.Forward.{comes, fail_forward, guard_forward}
-use Rattle.matcher_layout.proofs.Reaching.{reaching, steps_add, within}
+use Rattle.matcher_code.specs.Endings.{IsFound}
+use Rattle.matcher_code.specs.Laid.{IsEnd, IsPoint}
+use Rattle.matcher_code.specs.Reached.{IsAt, Reaches, nodes_of, with_failure, with_success}
+use Rattle.matcher_code.specs.Sizes.{size}
+use Rattle.matcher_code.proofs.Existence.{finds, stays_ended}
+use Rattle.matcher_code.proofs.Forward.{comes, fail_forward, guard_forward}
+use Rattle.matcher_code.proofs.Reaching.{reaching, steps_add, within}
 use Rattle.matcher_machine.specs.declared.machine.Machine.{Machine}
 use Rattle.matcher_machine.specs.declared.machine.RunEnd.TheVariants as ended
 use Rattle.matcher_machine.specs.Machines.{EndsAtLast, config}
 use Rattle.matcher_program.specs.declared.form.Program.{Program}
 use Rattle.matcher_program.specs.Programs.{Fits, name_at, names_of, rule_of_row}
-use Rattle.meta_matcher.specs.declared.machine.Stop.TheVariants as stop
-use Rattle.meta_matcher.specs.Answers.{FailsWith, IsStoppedFrom, start_of, state_at}
+use Rattle.matcher_interpreter.specs.declared.machine.Stop.TheVariants as stop
+use Rattle.matcher_interpreter.specs.Answers.{FailsWith, IsStoppedFrom, start_of, state_at}
 use Rattle.matcher_compiler.specs.Compiled.{IsCodeOf}
 use Rattle.matcher_compiler.specs.Names.{number_in}
 use Rattle.matcher_sets.specs.Forms.{grammar_in}

@@ -1,9 +1,9 @@
 -- The entries of trees tell the trees.
 use Rattle.std.proofs.Common.{◌≡◌, refl, sym, ◌∙◌, ap, ℕ, ◌+◌, List, ◌∷◌, ◌++◌, length, take, drop, arith}
 use Rattle.std.proofs.Math.Seq.{drop-append_seam, take-append_seam}
-use Rattle.meta_base.specs.Language.State.{Trees, None', Tree}
-use Rattle.meta_syntax.specs.Entries.{Entry, Ends, entries_of, entry_count}
-use Rattle.meta_syntax.proofs.EntryLists.{length-entries}
+use Rattle.base_language.specs.Language.State.{Trees, None', Tree}
+use Rattle.front_syntax.specs.Entries.{Entry, Ends, entries_of, entry_count}
+use Rattle.front_syntax.proofs.EntryLists.{length-entries}
 
 -- lists of the same length in front of others
 same_front : (xs ys us vs : List Entry) → length xs ≡ length ys → xs ++ us ≡ ys ++ vs → (xs ≡ ys) × (us ≡ vs)

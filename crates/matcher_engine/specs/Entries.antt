@@ -1,13 +1,13 @@
 -- Entries of trees that are given in preorder, and the way back.
 use Rattle.std.specs.HashMap.{get_by_text}
 use Rattle.std.specs.Prelude.{IsUtf8, chars, ◌≡◌, ◌≤◌, ℕ, suc, ◌+◌, ◌-◌, ◌*◌, List, [], ◌∷◌, ◌++◌, codes, get_or, length, nat_le, if◌then◌else◌}
-use Rattle.meta_base.specs.Language.Text.{Text}
-use Rattle.meta_base.specs.Language.Expression.{Grammar, last_place}
+use Rattle.base_language.specs.Language.Text.{Text}
+use Rattle.base_language.specs.Language.Expression.{Grammar, last_place}
 use Rattle.matcher_code.specs.declared.state.TreeNode.{TreeNode}
 use Rattle.matcher_program.specs.declared.form.Row.{Row}
 use Rattle.matcher_program.specs.Indexed.{Numbers}
 use Rattle.matcher_program.specs.Programs.{names_of}
-use Rattle.meta_syntax.specs.Entries.{Entry, Ends, Starts}
+use Rattle.front_syntax.specs.Entries.{Entry, Ends, Starts}
 use Rattle.matcher_engine.specs.declared.entries.OpenTree.{OpenTree}
 
 -- the ends of the open trees that have no descendant from a number on, the last opened tree first

@@ -1,13 +1,13 @@
 -- What a matcher is and answers.
 use Rattle.std.specs.Prelude.{List, ℕ, Result, Err, Ok}
-use Rattle.meta_base.specs.Language.Expression.{Grammar}
-use Rattle.meta_base.specs.Language.State.{State}
-use Rattle.meta_base.specs.Language.Text.{Text}
+use Rattle.base_language.specs.Language.Expression.{Grammar}
+use Rattle.base_language.specs.Language.State.{State}
+use Rattle.base_language.specs.Language.Text.{Text}
 use Rattle.matcher_program.specs.declared.form.Property.{Property}
 use Rattle.matcher_program.specs.Programs.{grammar_of}
-use Rattle.meta_matcher.specs.Answers.{IsMatchedFrom, IsRefusedFrom}
-use Rattle.meta_matcher.specs.declared.matcher.Found.{Found}
-use Rattle.meta_matcher.specs.declared.matcher.Refusal.{Refusal}
+use Rattle.matcher_interpreter.specs.Answers.{IsMatchedFrom, IsRefusedFrom}
+use Rattle.matcher_interpreter.specs.declared.matcher.Found.{Found}
+use Rattle.matcher_interpreter.specs.declared.matcher.Refusal.{Refusal}
 use Rattle.matcher_engine.specs.declared.matcher.Matcher.{Matcher}
 
 -- the grammar of a matcher, and its properties

@@ -1,14 +1,14 @@
 -- Matches by their trees in preorder.
 use Rattle.std.specs.Prelude.{◌≡◌, List, ℕ, Result, Err, Ok}
-use Rattle.meta_base.specs.Language.Expression.{Grammar}
-use Rattle.meta_base.specs.Language.FurthestFailure.{furthest}
-use Rattle.meta_base.specs.Language.State.{Classes, State, Success, Trees}
-use Rattle.meta_base.specs.Language.Text.{Text}
-use Rattle.matcher_layout.specs.Reached.{nodes_of}
+use Rattle.base_language.specs.Language.Expression.{Grammar}
+use Rattle.base_language.specs.Language.FurthestFailure.{furthest}
+use Rattle.base_language.specs.Language.State.{Classes, State, Success, Trees}
+use Rattle.base_language.specs.Language.Text.{Text}
+use Rattle.matcher_code.specs.Reached.{nodes_of}
 use Rattle.matcher_program.specs.declared.form.Property.{Property}
 use Rattle.matcher_program.specs.Programs.{Fits}
-use Rattle.meta_matcher.specs.Answers.{HasAt, IsRefusedFrom}
-use Rattle.meta_matcher.specs.declared.matcher.Refusal.{Refusal}
+use Rattle.matcher_interpreter.specs.Answers.{HasAt, IsRefusedFrom}
+use Rattle.matcher_interpreter.specs.declared.matcher.Refusal.{Refusal}
 use Rattle.matcher_compiler.specs.Names.{number_in}
 use Rattle.matcher_engine.specs.Matchers.{grammar_in, properties_in}
 use Rattle.matcher_engine.specs.declared.matcher.Matcher.{Matcher}

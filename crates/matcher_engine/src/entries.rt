@@ -1,17 +1,17 @@
 //! Entries of token trees, from trees in preorder.
 ghost use Rattle.std.specs.Prelude.{◌≡◌, ◌≤◌, ◌<◌, ℕ, ◌+◌, ◌-◌, ◌*◌, ◌++◌, ◌∷◌, IfNone, IfOk, IfSome, OnOk, [], chars, codes, get_or, length, reverse, true};
-ghost use Rattle.meta_base.specs.Language.State.{Trees};
-ghost use Rattle.matcher_layout.specs.Reached.{nodes_of};
+ghost use Rattle.base_language.specs.Language.State.{Trees};
+ghost use Rattle.matcher_code.specs.Reached.{nodes_of};
 ghost use Rattle.matcher_program.specs.Programs.{grammar_of, names_of};
-ghost use Rattle.meta_matcher.specs.Written.{seen};
-ghost use Rattle.meta_syntax.specs.Entries.{entries_of};
+ghost use Rattle.matcher_interpreter.specs.Written.{seen};
+ghost use Rattle.front_syntax.specs.Entries.{entries_of};
 ghost use Rattle.matcher_compiler.specs.Names.{number_in};
 ghost use Rattle.matcher_engine.specs.Entries.{HasStarted, closed, left_open};
 
+use front_names::Builtin;
 use matcher_code::state::TreeNode;
+use matcher_interpreter::entries::Entry;
 use matcher_program::form::Row;
-use meta_builtins::Builtin;
-use meta_matcher::entries::Entry;
 use std::alloc::{AllocError, Global};
 
 /// A tree whose end is not written yet: its end, in bytes; the number of trees up to its last descendant; and

@@ -1,24 +1,24 @@
 //! The matcher.
 ghost use Rattle.std.specs.Prelude.{◌≡◌, ◌<◌, IfErr, IfNone, IfOk, IfSome, chars, length};
-ghost use Rattle.meta_ast.specs.Optimized.{optimized_rules_of};
+ghost use Rattle.base_ast.specs.Optimized.{optimized_rules_of};
 ghost use Rattle.matcher_program.specs.Programs.{Fits};
 ghost use Rattle.matcher_program.specs.Refusals.{IsReason};
 ghost use Rattle.matcher_engine.specs.Soundness.{IsSound};
 
 use crate::entries::{entries_of, name_of};
 use crate::trees::trees_of;
+use base_ast::optimized::OptimizedRule;
+use base_language::runtime::{Position, Span};
 use matcher_code::code::Code;
 use matcher_code::state::TreeNode;
 use matcher_compiler::compile::compile;
 use matcher_compiler::names::last_index;
 use matcher_compiler::points::NotCompiled;
+use matcher_interpreter::machine::Stop;
+use matcher_interpreter::matcher::{Found, Matcher as Interpreter, Refusal, whole_text};
 use matcher_machine::machine::{Machine, RunEnd};
 use matcher_program::compile::Unfit;
 use matcher_program::properties::Properties;
-use meta_ast::optimized::OptimizedRule;
-use meta_base::runtime::{Position, Span};
-use meta_matcher::machine::Stop;
-use meta_matcher::matcher::{Found, Matcher as Interpreter, Refusal, whole_text};
 use std::alloc::Global;
 
 /// The largest number of rules that are compiled.
@@ -47,7 +47,7 @@ pub struct Preorder {
 }
 
 impl Matcher {
-    ghost use Rattle.meta_matcher.specs.Answers.{AreExpectedAt, AreExpectedFrom, IsMatched, IsMatchedFrom, IsRefused, IsRefusedFrom, IsUnanswered, IsUnansweredFrom, state_at};
+    ghost use Rattle.matcher_interpreter.specs.Answers.{AreExpectedAt, AreExpectedFrom, IsMatched, IsMatchedFrom, IsRefused, IsRefusedFrom, IsUnanswered, IsUnansweredFrom, state_at};
     ghost use Rattle.matcher_engine.specs.Matchers.{IsAnswer, grammar_in, properties_in};
     ghost use Rattle.matcher_engine.specs.Preorders.{HasName, IsPreorderAnswer, IsPreorderFrom};
 

@@ -32,7 +32,7 @@ pub struct TextStack {
 
 impl TextStack {
     ghost use Rattle.std.specs.Prelude.{◌≡◌, ◌-◌, List, [], IfOk, IfSome, OnOk, drop, map, ℕ};
-    ghost use Rattle.meta_base.specs.Language.Matching.{concatenated};
+    ghost use Rattle.base_language.specs.Language.Matching.{concatenated};
     ghost use Rattle.matcher_code.specs.Steps.{slice_bytes};
     ghost use Rattle.matcher_machine.specs.Stacks.{IsPushed, IsTop, bytes_of, length_if, length_of_slice, texts_in};
 

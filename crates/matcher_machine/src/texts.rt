@@ -1,6 +1,6 @@
 //! Texts of the stack.
 ghost use Rattle.std.specs.Prelude.{◌≡◌, ◌≤◌, ◌-◌, IfSome, drop, length, map, reverse, take};
-ghost use Rattle.meta_base.specs.Language.Matching.{concatenated, end_place, place};
+ghost use Rattle.base_language.specs.Language.Matching.{concatenated, end_place, place};
 ghost use Rattle.matcher_machine.specs.Stacks.{bytes_of, length_if};
 
 use crate::stack::StackText;

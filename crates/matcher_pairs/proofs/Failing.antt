@@ -3,20 +3,20 @@ use Rattle.std.proofs.Common.{◌≡◌, ◌∙◌, ap, subst, ℕ, List}
 use Rattle.std.specs.Borrow.{Bor}
 use Rattle.std.specs.Prelude.{IsUtf8}
 use Rattle.std.specs.Str.{chars, IsCharBoundary}
-use Rattle.meta_base.specs.Language.Expected.{expected, expected_at}
-use Rattle.meta_base.specs.Language.Expression.{Grammar}
-use Rattle.meta_base.specs.Language.FurthestFailure.{furthest}
-use Rattle.meta_base.specs.Language.Places.{IsStateIn}
-use Rattle.meta_base.specs.Language.State.{Classes, Failure, State}
-use Rattle.meta_base.specs.Language.Text.{Text}
-use Rattle.meta_base.specs.declared.runtime.errors.Error.{Error}
-use Rattle.meta_base.proofs.ExpectedOnce.{one_list}
-use Rattle.meta_base.proofs.FailuresStand.{stands_at}
-use Rattle.meta_base.proofs.InBytes.{on_bytes}
+use Rattle.base_language.specs.Language.Expected.{expected, expected_at}
+use Rattle.base_language.specs.Language.Expression.{Grammar}
+use Rattle.base_language.specs.Language.FurthestFailure.{furthest}
+use Rattle.base_language.specs.Language.Places.{IsStateIn}
+use Rattle.base_language.specs.Language.State.{Classes, Failure, State}
+use Rattle.base_language.specs.Language.Text.{Text}
+use Rattle.base_language.specs.declared.runtime.errors.Error.{Error}
+use Rattle.base_language.proofs.ExpectedOnce.{one_list}
+use Rattle.base_language.proofs.FailuresStand.{stands_at}
+use Rattle.base_language.proofs.InBytes.{on_bytes}
 use Rattle.matcher_program.specs.Programs.{Fits}
 use Rattle.matcher_program.specs.declared.form.Property.{Property}
-use Rattle.meta_matcher.specs.Answers.{AreExpectedFrom, FailsWith, HasAt}
-use Rattle.meta_matcher.specs.ExpectedNames.{each_once, name_texts}
+use Rattle.matcher_interpreter.specs.Answers.{AreExpectedFrom, FailsWith, HasAt}
+use Rattle.matcher_interpreter.specs.ExpectedNames.{each_once, name_texts}
 use Rattle.matcher_pairs.specs.Parses.{IsErrorAt}
 use Rattle.matcher_pairs.specs.Trees.{Name}
 

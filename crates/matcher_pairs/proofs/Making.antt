@@ -2,9 +2,9 @@
 use Rattle.std.proofs.Common.{◌≡◌, sym, ◌∙◌, ap, ℕ, suc, ◌-◌, ◌<◌, ◌≤◌, List, ◌∷◌, length, drop, get_or, map, arith}
 use Rattle.std.proofs.Math.Seq.{drop-cons}
 use Rattle.std.proofs.lemmas.List.{drop-map}
-use Rattle.meta_matcher.specs.Written.{entry_of}
-use Rattle.meta_matcher.specs.declared.entries.Entry as code
-use Rattle.meta_syntax.specs.Building.{Making, making_from, with_one_more}
+use Rattle.matcher_interpreter.specs.Written.{entry_of}
+use Rattle.matcher_interpreter.specs.declared.entries.Entry as code
+use Rattle.front_syntax.specs.Building.{Making, making_from, with_one_more}
 
 pub made_more : (es : List code.Entry) (left : ℕ) (d : code.Entry) (k : Making) → 0 < left → left ≤ length es
     → k ≡ making_from (drop left (map entry_of es))

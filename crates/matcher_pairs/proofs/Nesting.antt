@@ -4,17 +4,17 @@ use Rattle.std.specs.Prelude.{IsUtf8}
 use Rattle.std.specs.Str.{chars, IsCharBoundary}
 use Rattle.std.proofs.lemmas.List.{length-take-le, take-append-drop}
 use Rattle.std.proofs.lemmas.Str.{IsUtf8-take, chars-append, encodes-chars}
-use Rattle.meta_base.specs.Language.Expression.{Grammar}
-use Rattle.meta_base.specs.Language.Places.{IsStateIn, Nested}
-use Rattle.meta_base.specs.Language.State.{Classes, State, Success}
-use Rattle.meta_base.specs.Language.Text.{Text}
-use Rattle.meta_base.specs.Pieces.TokenTrees.{TokenTrees, NoTokens, Token, AreNested}
-use Rattle.meta_base.specs.Pieces.Span.{position_offset, position_text}
-use Rattle.meta_base.specs.declared.runtime.places.Position.{Position}
-use Rattle.meta_base.proofs.InBytes.{ends_within, on_bytes, sizes}
-use Rattle.meta_base.proofs.PairLemmas.{AreNested-wider}
-use Rattle.meta_base.proofs.TreesAreNested.{fits}
-use Rattle.meta_matcher.specs.Answers.{HasAt, state_at}
+use Rattle.base_language.specs.Language.Expression.{Grammar}
+use Rattle.base_language.specs.Language.Places.{IsStateIn, Nested}
+use Rattle.base_language.specs.Language.State.{Classes, State, Success}
+use Rattle.base_language.specs.Language.Text.{Text}
+use Rattle.base_language.specs.Pieces.TokenTrees.{TokenTrees, NoTokens, Token, AreNested}
+use Rattle.base_language.specs.Pieces.Span.{position_offset, position_text}
+use Rattle.base_language.specs.declared.runtime.places.Position.{Position}
+use Rattle.base_language.proofs.InBytes.{ends_within, on_bytes, sizes}
+use Rattle.base_language.proofs.PairLemmas.{AreNested-wider}
+use Rattle.base_language.proofs.TreesAreNested.{fits}
+use Rattle.matcher_interpreter.specs.Answers.{HasAt, state_at}
 use Rattle.matcher_pairs.specs.Trees.{Name, by_name}
 
 -- a position of a text is a state in it

@@ -1,2 +1,11 @@
 pub mod Trees
 pub mod Parses
+pub mod TagEntries
+pub mod TagTrees
+pub mod TagMatches
+pub mod TagParses
+pub mod Names
+pub mod Wrapped
+pub mod Frames
+pub mod Tags
+pub mod Spliced

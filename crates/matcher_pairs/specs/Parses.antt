@@ -1,19 +1,19 @@
 -- Answers of a parse.
 use Rattle.std.specs.Prelude.{◌≡◌, ℕ, List, None, chars}
-use Rattle.meta_base.specs.Language.Expected.{expected}
-use Rattle.meta_base.specs.Language.Expression.{rule_of}
-use Rattle.meta_base.specs.Language.FurthestFailure.{furthest}
-use Rattle.meta_base.specs.Language.State.{Classes, Failure, State, Success}
-use Rattle.meta_base.specs.Language.Text.{Text}
-use Rattle.meta_base.specs.Pieces.LineColumn.{line_column}
-use Rattle.meta_base.specs.Pieces.Pairs.{pairs_text, pairs_trees}
-use Rattle.meta_base.specs.Pieces.PrintedError.{error_line, message_of, printed_line}
-use Rattle.meta_base.specs.declared.runtime.errors.Error.{Error}
-use Rattle.meta_base.specs.declared.runtime.errors.InputLocation.TheVariants as location
-use Rattle.meta_base.specs.declared.runtime.errors.LineColLocation.TheVariants as line_col
+use Rattle.base_language.specs.Language.Expected.{expected}
+use Rattle.base_language.specs.Language.Expression.{rule_of}
+use Rattle.base_language.specs.Language.FurthestFailure.{furthest}
+use Rattle.base_language.specs.Language.State.{Classes, Failure, State, Success}
+use Rattle.base_language.specs.Language.Text.{Text}
+use Rattle.base_language.specs.Pieces.LineColumn.{line_column}
+use Rattle.base_language.specs.Pieces.Pairs.{pairs_text, pairs_trees}
+use Rattle.base_language.specs.Pieces.PrintedError.{error_line, message_of, printed_line}
+use Rattle.base_language.specs.declared.runtime.errors.Error.{Error}
+use Rattle.base_language.specs.declared.runtime.errors.InputLocation.TheVariants as location
+use Rattle.base_language.specs.declared.runtime.errors.LineColLocation.TheVariants as line_col
 use Rattle.matcher_program.specs.Programs.{Fits}
-use Rattle.meta_matcher.specs.Answers.{HasAt, IsStoppedFrom, start_of}
-use Rattle.meta_matcher.specs.ExpectedNames.{each_once}
+use Rattle.matcher_interpreter.specs.Answers.{HasAt, IsStoppedFrom, start_of}
+use Rattle.matcher_interpreter.specs.ExpectedNames.{each_once}
 use Rattle.matcher_support.specs.Expectations.{failure_message}
 use Rattle.matcher_engine.specs.Matchers.{grammar_in, properties_in}
 use Rattle.matcher_engine.specs.declared.matcher.Matcher.{Matcher}

@@ -1,11 +1,11 @@
 -- Token trees with the names of their rules.
 use Rattle.std.specs.Prelude.{List, map, reverse, chars, ℕ}
 use Rattle.std.specs.Borrow.{Bor}
-use Rattle.meta_base.specs.Language.State as state
-use Rattle.meta_base.specs.Pieces.TokenTrees.{TokenTrees, NoTokens, Token}
-use Rattle.meta_base.specs.Pieces.TreeViews.{trees_of}
-use Rattle.meta_base.specs.declared.runtime.trees.TokenTree.{TokenTree}
-use Rattle.meta_syntax.specs.Building.{Making, Pending}
+use Rattle.base_language.specs.Language.State as state
+use Rattle.base_language.specs.Pieces.TokenTrees.{TokenTrees, NoTokens, Token}
+use Rattle.base_language.specs.Pieces.TreeViews.{trees_of}
+use Rattle.base_language.specs.declared.runtime.trees.TokenTree.{TokenTree}
+use Rattle.front_syntax.specs.Building.{Making, Pending}
 use Rattle.matcher_pairs.specs.declared.trees.PartialTree as partial
 
 -- the name of a rule

@@ -1,21 +1,21 @@
 //! Parsing by the rules of a matcher.
 ghost use Rattle.std.specs.Prelude.{◌≡◌, ◌⊎◌, IfErr, IfOk, MatchResult, chars};
 ghost use Rattle.std.specs.Str.{IsCharBoundary};
-ghost use Rattle.meta_base.specs.Language.State.{Trees};
-ghost use Rattle.meta_base.specs.Pieces.Pairs.{pairs_text, pairs_trees};
-ghost use Rattle.meta_base.specs.Pieces.Span.{position_text};
-ghost use Rattle.meta_base.specs.Pieces.TokenTrees.{AreNested};
-ghost use Rattle.meta_matcher.specs.Answers.{FailsWith, IsMatchedFrom, state_at};
-ghost use Rattle.meta_matcher.specs.ExpectedNames.{name_texts};
+ghost use Rattle.base_language.specs.Language.State.{Trees};
+ghost use Rattle.base_language.specs.Pieces.Pairs.{pairs_text, pairs_trees};
+ghost use Rattle.base_language.specs.Pieces.Span.{position_text};
+ghost use Rattle.base_language.specs.Pieces.TokenTrees.{AreNested};
+ghost use Rattle.matcher_interpreter.specs.Answers.{FailsWith, IsMatchedFrom, state_at};
+ghost use Rattle.matcher_interpreter.specs.ExpectedNames.{name_texts};
 ghost use Rattle.matcher_engine.specs.Matchers.{grammar_in, properties_in};
 ghost use Rattle.matcher_pairs.specs.Parses.{IsErrorAt, IsMatch, IsMatchFrom, IsRefused, IsRefusedFrom};
 
 use crate::trees::build_trees;
+use base_language::runtime::{Error, ErrorVariant, Fault, Pairs, Position, Span};
 use matcher_engine::matcher::Matcher;
+use matcher_interpreter::machine::Stop;
+use matcher_interpreter::matcher::{Found, Refusal, whole_text};
 use matcher_support::expectations::failure_message;
-use meta_base::runtime::{Error, ErrorVariant, Fault, Pairs, Position, Span};
-use meta_matcher::machine::Stop;
-use meta_matcher::matcher::{Found, Refusal, whole_text};
 use std::alloc::{AllocError, Global};
 
 /// The match of a rule.

@@ -3,28 +3,28 @@ use Prim.Native.Nat.{zero}
 use Rattle.std.proofs.Common.{◌≡◌, refl, sym, ◌∙◌, ap, ap₂, subst, ℕ, suc, ◌+◌, ◌<◌, List, [], ◌∷◌, Bool, true, false, Option, Some, None, if◌then◌else◌, length, drop, get_or, bytes_eq, arith, map, ◌++◌, ◌==◌, ◌||◌, ◌&&◌, ◌≤◌, take, eqb-true}
 use Rattle.std.specs.Prelude.{IsUtf8, chars, encode_utf8}
 use Rattle.std.proofs.lemmas.List.{get_or-map, length-map}
-use Rattle.meta_ast.specs.Ast.{text_of}
-use Rattle.meta_ast.specs.declared.optimized.OptimizedRule.{OptimizedRule}
-use Rattle.meta_ast.specs.Optimized.{optimized_rule_of, optimized_rules_of}
-use Rattle.meta_base.specs.Language.Text.{Text}
-use Rattle.meta_base.specs.Rewritings.Equality.{text_eq-Decides}
-use Rattle.meta_base.specs.Language.Expression.{Grammar, Rule, rule_of}
+use Rattle.base_ast.specs.Ast.{text_of}
+use Rattle.base_ast.specs.declared.optimized.OptimizedRule.{OptimizedRule}
+use Rattle.base_ast.specs.Optimized.{optimized_rule_of, optimized_rules_of}
+use Rattle.base_language.specs.Language.Text.{Text}
+use Rattle.base_language.specs.Rewritings.Equality.{text_eq-Decides}
+use Rattle.base_language.specs.Language.Expression.{Grammar, Rule, rule_of}
 use Rattle.std.proofs.lemmas.Str.{chars_past_char}
 use Rattle.std.proofs.lemmas.List.{length-append}
-use Rattle.meta_base.specs.Language.Expression as spec
-use Rattle.meta_base.specs.Language.Expression.{Ident, whitespace, comment}
+use Rattle.base_language.specs.Language.Expression as spec
+use Rattle.base_language.specs.Language.Expression.{Ident, whitespace, comment}
 use Rattle.std.specs.Borrow.{Bor}
 use Rattle.std.proofs.Math.Seq.{drop-cons}
-use Rattle.meta_syntax.specs.Forms.{decoded}
-use Rattle.meta_syntax.proofs.LeafLemmas.{chars_empty, decoded_chars}
+use Rattle.front_syntax.specs.Forms.{decoded}
+use Rattle.front_syntax.proofs.LeafLemmas.{chars_empty, decoded_chars}
 use Rattle.std.specs.declared.string.String.{String}
 use Rattle.std.specs.declared.alloc.Global.{Global}
 use Rattle.std.proofs.lemmas.Bool.{and_parts}
-use Rattle.meta_base.specs.Language.Builtins.{Named, Property as PropertyOf, builtin_of, builtins, looked_up, is_one_of, property_names, general_categories, binary_properties, scripts}
+use Rattle.base_language.specs.Language.Builtins.{Named, Property as PropertyOf, builtin_of, builtins, looked_up, is_one_of, property_names, general_categories, binary_properties, scripts}
 use Rattle.matcher_program.specs.declared.form.Property.{Property}
 use Rattle.matcher_program.specs.declared.form.Class.{Class}
-use Rattle.meta_builtins.specs.CharSets.{set_name}
-use Rattle.meta_builtins.specs.declared.char_set.CharSet.{CharSet}
+use Rattle.front_names.specs.CharSets.{set_name}
+use Rattle.front_names.specs.declared.char_set.CharSet.{CharSet}
 use Rattle.matcher_program.specs.declared.form.Row.{Row}
 use Rattle.matcher_program.specs.declared.form.Form.TheVariants as form
 use Rattle.matcher_program.specs.Compiled.{Compiles, names_in}

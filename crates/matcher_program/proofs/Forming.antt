@@ -1,13 +1,13 @@
 -- One more that stands around an operand, innermost, and one less, while a form is made.
 use Rattle.std.proofs.Common.{◌≡◌, ◌+◌, ◌≤◌, ◌<◌, List, [], ◌∷◌, ◌++◌, Bor, ap, sym, subst, ◌∙◌, append-nil, append_assoc, arith}
 use Rattle.std.specs.Prelude.{⊤}
-use Rattle.meta_base.specs.Language.Expression.{Expression, Grammar}
-use Rattle.meta_ast.specs.Rebuilding.{GoesOn, filled, waiting}
-use Rattle.meta_ast.proofs.Rebuilding.{AllReady, last_ready, right_inside, less_inside, less_outside, ready_inside, ready_outside, same_inside, same_outside}
-use Rattle.meta_ast.specs.declared.optimized.OptimizedExpr.{OptimizedExpr}
-use Rattle.meta_ast.specs.declared.rebuilt.Step.{Step}
-use Rattle.meta_ast.specs.declared.rebuilt.Step.TheVariants as is
-use Rattle.meta_ast.specs.Weight.{weight}
+use Rattle.base_language.specs.Language.Expression.{Expression, Grammar}
+use Rattle.base_ast.specs.Rebuilding.{GoesOn, filled, waiting}
+use Rattle.base_ast.proofs.Rebuilding.{AllReady, last_ready, right_inside, less_inside, less_outside, ready_inside, ready_outside, same_inside, same_outside}
+use Rattle.base_ast.specs.declared.optimized.OptimizedExpr.{OptimizedExpr}
+use Rattle.base_ast.specs.declared.rebuilt.Step.{Step}
+use Rattle.base_ast.specs.declared.rebuilt.Step.TheVariants as is
+use Rattle.base_ast.specs.Weight.{weight}
 use Rattle.matcher_program.specs.Compiled.{names_in}
 use Rattle.matcher_program.specs.Forming.{IsAroundWithin, IsReady, IsSoundStep, IsStepWithin, calls_of, calls_waiting, comes_of, effort, heft, said, size, waits_of, with_operand}
 use Rattle.matcher_program.specs.Programs.{IsBound, expression_of}

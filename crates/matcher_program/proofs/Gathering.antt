@@ -7,13 +7,13 @@ use Rattle.std.specs.List.{All, Contains}
 use Rattle.std.specs.Prelude.{flat_map, string_bytes}
 use Rattle.std.specs.declared.alloc.Global.{Global}
 use Rattle.std.specs.declared.string.String.{String}
-use Rattle.meta_ast.specs.Optimized.{optimized_expression_of, optimized_rule_of, optimized_rules_of}
-use Rattle.meta_ast.specs.declared.optimized.OptimizedExpr.{OptimizedExpr}
-use Rattle.meta_ast.specs.declared.optimized.OptimizedExpr.TheVariants as code
-use Rattle.meta_ast.specs.declared.optimized.OptimizedRule.{OptimizedRule}
-use Rattle.meta_base.specs.Language.Expression.{Expression, Ident, Part, Rule, whole, of_pos_pred, of_neg_pred, of_seq_left, of_seq_right, of_choice_left, of_choice_right, of_opt, of_rep, of_rep_once, of_rep_exact, of_rep_min, of_rep_max, of_rep_min_max, of_push, of_tag, of_restore}
-use Rattle.meta_base.specs.Language.Text.{Text}
-use Rattle.meta_base.specs.Language.WellFormed.{InSomeRule}
+use Rattle.base_ast.specs.Optimized.{optimized_expression_of, optimized_rule_of, optimized_rules_of}
+use Rattle.base_ast.specs.declared.optimized.OptimizedExpr.{OptimizedExpr}
+use Rattle.base_ast.specs.declared.optimized.OptimizedExpr.TheVariants as code
+use Rattle.base_ast.specs.declared.optimized.OptimizedRule.{OptimizedRule}
+use Rattle.base_language.specs.Language.Expression.{Expression, Ident, Part, Rule, whole, of_pos_pred, of_neg_pred, of_seq_left, of_seq_right, of_choice_left, of_choice_right, of_opt, of_rep, of_rep_once, of_rep_exact, of_rep_min, of_rep_max, of_rep_min_max, of_push, of_tag, of_restore}
+use Rattle.base_language.specs.Language.Text.{Text}
+use Rattle.base_language.specs.Language.WellFormed.{InSomeRule}
 use Rattle.matcher_program.proofs.Forming.{calls_more}
 use Rattle.matcher_program.specs.Forming.{calls_of, calls_waiting, own_call, said}
 

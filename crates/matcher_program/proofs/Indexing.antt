@@ -3,11 +3,11 @@ use Rattle.std.proofs.Common.{◌≡◌, refl, sym, ◌∙◌, ap, subst, ℕ, s
 use Rattle.std.proofs.Math.ListN.{get_or-append}
 use Rattle.std.proofs.Math.Seq.{get_or-append_seam}
 use Rattle.std.proofs.lemmas.List.{length-append, length-map, length-take-le, map-append, take_more}
-use Rattle.meta_base.specs.Language.Text.{Text}
-use Rattle.meta_base.specs.Rewritings.Equality.{text_eq-Decides}
-use Rattle.meta_base.specs.Language.Expression.{Grammar, Rule, rule_of, or_else}
-use Rattle.meta_ast.specs.Optimized.{optimized_rule_of, optimized_rules_of}
-use Rattle.meta_ast.specs.declared.optimized.OptimizedRule.{OptimizedRule}
+use Rattle.base_language.specs.Language.Text.{Text}
+use Rattle.base_language.specs.Rewritings.Equality.{text_eq-Decides}
+use Rattle.base_language.specs.Language.Expression.{Grammar, Rule, rule_of, or_else}
+use Rattle.base_ast.specs.Optimized.{optimized_rule_of, optimized_rules_of}
+use Rattle.base_ast.specs.declared.optimized.OptimizedRule.{OptimizedRule}
 use Rattle.matcher_program.specs.Programs.{IsRuleOf, IsSkippedRule}
 use Rattle.matcher_program.proofs.Compiling.{last_rule}
 

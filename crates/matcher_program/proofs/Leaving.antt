@@ -2,11 +2,11 @@
 use Rattle.std.proofs.Common.{◌≡◌, refl, sym, ◌∙◌, ap, ℕ, List, ◌++◌, Bool, true, false, Option, Some, None, if◌then◌else◌}
 use Rattle.std.specs.Borrow.{Bor}
 use Rattle.std.specs.Prelude.{chars, encode_utf8}
-use Rattle.meta_base.specs.Language.Text.{Text}
-use Rattle.meta_base.specs.Language.State.{State, Success, Failure, None', moved}
-use Rattle.meta_base.specs.Language.Matching.{begins, starts_in, text_outcome, character_outcome, with_stack}
-use Rattle.meta_syntax.specs.Runs as bare
-use Rattle.meta_syntax.proofs.LeafLemmas.{past_one}
+use Rattle.base_language.specs.Language.Text.{Text}
+use Rattle.base_language.specs.Language.State.{State, Success, Failure, None', moved}
+use Rattle.base_language.specs.Language.Matching.{begins, starts_in, text_outcome, character_outcome, with_stack}
+use Rattle.front_syntax.specs.Runs as bare
+use Rattle.front_syntax.proofs.LeafLemmas.{past_one}
 use Rattle.matcher_program.specs.Rests.{IsLeft, GoesOn, leaving, standing}
 
 -- the same with another stack

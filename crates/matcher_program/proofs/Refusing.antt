@@ -8,23 +8,23 @@ use Rattle.std.specs.List.{Contains}
 use Rattle.std.proofs.lemmas.Str.{chars_past_char, encodes-chars}
 use Rattle.std.proofs.Math.Utf8.{encodes}
 use Rattle.std.proofs.lemmas.Bool.{false_from_ne_true}
-use Rattle.meta_ast.specs.Ast.{text_of}
-use Rattle.meta_base.specs.Language.Builtins.{Property as PropertyOf, builtin_of, is_one_of, property_names}
-use Rattle.meta_base.specs.Language.Expression.{Expression, Grammar, Ident, Part, Range, rule_of, whole}
-use Rattle.meta_base.specs.Language.CharacterBounds.{HasCharacterBounds}
-use Rattle.meta_base.specs.Language.KnownNames.{HasKnownNames}
-use Rattle.meta_base.specs.Language.Text.{Text}
-use Rattle.meta_base.specs.Language.WellFormed.{InSomeRule}
-use Rattle.meta_base.specs.Rewritings.Equality.{text_eq-Decides}
+use Rattle.base_ast.specs.Ast.{text_of}
+use Rattle.base_language.specs.Language.Builtins.{Property as PropertyOf, builtin_of, is_one_of, property_names}
+use Rattle.base_language.specs.Language.Expression.{Expression, Grammar, Ident, Part, Range, rule_of, whole}
+use Rattle.base_language.specs.Language.CharacterBounds.{HasCharacterBounds}
+use Rattle.base_language.specs.Language.KnownNames.{HasKnownNames}
+use Rattle.base_language.specs.Language.Text.{Text}
+use Rattle.base_language.specs.Language.WellFormed.{InSomeRule}
+use Rattle.base_language.specs.Rewritings.Equality.{text_eq-Decides}
 use Rattle.matcher_program.proofs.Compiling.{is_property_of}
 use Rattle.matcher_program.specs.Refusals.{IsNoBuiltin, IsNoCharacter, IsReason, IsUnknown, IsWithin, KnowsProperties, IsWrong, IsWrongBound, IsWrongIn, has_property}
 use Rattle.matcher_program.specs.declared.compile.Unfit.{Unfit}
 use Rattle.matcher_program.specs.declared.compile.Unfit.TheVariants as unfit
-use Rattle.meta_ast.specs.Optimized.{optimized_expression_of, optimized_rule_of, optimized_rules_of}
-use Rattle.meta_ast.specs.declared.optimized.OptimizedRule.{OptimizedRule}
+use Rattle.base_ast.specs.Optimized.{optimized_expression_of, optimized_rule_of, optimized_rules_of}
+use Rattle.base_ast.specs.declared.optimized.OptimizedRule.{OptimizedRule}
 use Rattle.matcher_program.specs.Programs.{IsNumberOf}
-use Rattle.meta_builtins.proofs.BuiltinLemmas.{next_named, other_meaning}
-use Rattle.meta_builtins.specs.Builtins.{builtin_names}
+use Rattle.front_names.proofs.BuiltinLemmas.{next_named, other_meaning}
+use Rattle.front_names.specs.Builtins.{builtin_names}
 use Rattle.matcher_program.specs.declared.form.Property.{Property}
 
 true_is_false : true ≡ false → ⊥

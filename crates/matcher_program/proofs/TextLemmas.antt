@@ -5,10 +5,10 @@ use Rattle.std.specs.Borrow.{Bor}
 use Rattle.std.specs.List.{sum_by}
 use Rattle.std.specs.Char.{len_utf8}
 use Rattle.std.proofs.lemmas.List.Sums.{sum_by-cons}
-use Rattle.meta_base.specs.Language.Text.{Text, size_of}
-use Rattle.meta_base.specs.Language.State.{State, Outcome, Success, Failure, None', moved}
-use Rattle.meta_base.specs.Language.Matching.{any_begins, begins, character_outcome, concatenated, distance, end_place, place, slice_at, slice_outcome, text_outcome}
-use Rattle.meta_base.proofs.Basics.{first_of_both}
+use Rattle.base_language.specs.Language.Text.{Text, size_of}
+use Rattle.base_language.specs.Language.State.{State, Outcome, Success, Failure, None', moved}
+use Rattle.base_language.specs.Language.Matching.{any_begins, begins, character_outcome, concatenated, distance, end_place, place, slice_at, slice_outcome, text_outcome}
+use Rattle.base_language.proofs.Basics.{first_of_both}
 use Rattle.std.specs.Prelude.{encode_utf8, IsUtf8, ℤ, reverse, ◌<◌, ◌≤◌}
 use Rattle.std.proofs.Common.{◌⊎◌, inl, inr}
 use Rattle.std.proofs.Math.Utf8.{scalar_cases, scalars}

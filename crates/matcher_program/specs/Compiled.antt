@@ -1,7 +1,7 @@
 -- Compiled rules and their source.
 use Rattle.std.specs.Prelude.{◌≡◌, List, map}
-use Rattle.meta_base.specs.Language.Text.{Text}
-use Rattle.meta_base.specs.Language.Expression.{Expression, Grammar}
+use Rattle.base_language.specs.Language.Text.{Text}
+use Rattle.base_language.specs.Language.Expression.{Expression, Grammar}
 use Rattle.matcher_program.specs.declared.form.Form.{Form}
 use Rattle.matcher_program.specs.declared.form.Property.{Property}
 use Rattle.matcher_program.specs.Programs.{IsBound, expression_of}

@@ -1,16 +1,16 @@
 -- Continuation frames of the compiler: the operator around an operand while its form is made.
 use Rattle.std.specs.Prelude.{ℕ, ◌+◌, ◌*◌, List, [], ◌∷◌, ◌++◌, ⊤}
 use Rattle.std.specs.Borrow.{Bor}
-use Rattle.meta_base.specs.Language.Text.{Text}
-use Rattle.meta_base.specs.Language.Expression as spec
-use Rattle.meta_base.specs.Language.Expression.{Expression, Grammar}
-use Rattle.meta_ast.specs.Ast.{text_of}
-use Rattle.meta_ast.specs.Optimized.{optimized_expression_of}
-use Rattle.meta_ast.specs.Rebuilding.{GoesOn, meaning_of, work_of}
-use Rattle.meta_ast.specs.Weight.{weight}
-use Rattle.meta_ast.specs.declared.optimized.OptimizedExpr.{OptimizedExpr}
-use Rattle.meta_ast.specs.declared.rebuilt.Step.{Step}
-use Rattle.meta_ast.specs.declared.rebuilt.Step.TheVariants as is
+use Rattle.base_language.specs.Language.Text.{Text}
+use Rattle.base_language.specs.Language.Expression as spec
+use Rattle.base_language.specs.Language.Expression.{Expression, Grammar}
+use Rattle.base_ast.specs.Ast.{text_of}
+use Rattle.base_ast.specs.Optimized.{optimized_expression_of}
+use Rattle.base_ast.specs.Rebuilding.{GoesOn, meaning_of, work_of}
+use Rattle.base_ast.specs.Weight.{weight}
+use Rattle.base_ast.specs.declared.optimized.OptimizedExpr.{OptimizedExpr}
+use Rattle.base_ast.specs.declared.rebuilt.Step.{Step}
+use Rattle.base_ast.specs.declared.rebuilt.Step.TheVariants as is
 use Rattle.matcher_program.specs.Compiled.{names_in}
 use Rattle.matcher_program.specs.Programs.{IsBound, expression_of}
 use Rattle.matcher_program.specs.Refusals.{IsWithin}

@@ -6,7 +6,7 @@ use Rattle.std.specs.declared.alloc.Global.{Global}
 use Rattle.std.specs.declared.string.String.{String}
 use Rattle.std.specs.declared.hash.FoldHasher.{FoldHasher}
 use Rattle.std.specs.declared.hash.BuildHasherDefault.{BuildHasherDefault}
-use Rattle.meta_base.specs.Language.Expression.{Grammar}
+use Rattle.base_language.specs.Language.Expression.{Grammar}
 use Rattle.matcher_program.specs.Programs.{IsSkippedRule}
 
 -- texts and numbers

@@ -1,12 +1,12 @@
 -- The grammar of compiled rules.
 use Rattle.std.specs.Prelude.{◌≡◌, ◌<◌, ℕ, List, [], ◌∷◌, Option, Some, None, Bool, true, false, ◌&&◌, ◌||◌, ◌==◌, bytes_eq, codes, get_or, length, map, nat_eq, ⊤}
-use Rattle.meta_base.specs.Language.Text.{Text}
-use Rattle.meta_ast.specs.Ast.{rule_type_of, text_of}
-use Rattle.meta_base.specs.Language.Builtins.{Property as PropertyOf, builtin_of, is_between, is_letter, is_lower, is_upper}
-use Rattle.meta_base.specs.Language.Matching.{any_begins, starts_in}
-use Rattle.meta_base.specs.Language.State.{Classes}
-use Rattle.meta_base.specs.Language.Expression as spec
-use Rattle.meta_base.specs.Language.Expression.{Expression, Rule, Grammar, rule_of, whitespace, comment}
+use Rattle.base_language.specs.Language.Text.{Text}
+use Rattle.base_ast.specs.Ast.{rule_type_of, text_of}
+use Rattle.base_language.specs.Language.Builtins.{Property as PropertyOf, builtin_of, is_between, is_letter, is_lower, is_upper}
+use Rattle.base_language.specs.Language.Matching.{any_begins, starts_in}
+use Rattle.base_language.specs.Language.State.{Classes}
+use Rattle.base_language.specs.Language.Expression as spec
+use Rattle.base_language.specs.Language.Expression.{Expression, Rule, Grammar, rule_of, whitespace, comment}
 use Rattle.matcher_program.specs.declared.form.Class.{Class}
 use Rattle.matcher_program.specs.declared.form.Class.TheVariants as class
 use Rattle.matcher_program.specs.declared.form.Form.{Form}

@@ -1,10 +1,10 @@
 -- Reasons to refuse rules.
 use Rattle.std.specs.Prelude.{◌≡◌, ◌≢◌, ◌⊎◌, ⊤, List, Bool, false, true, Some, None, length, map}
-use Rattle.meta_base.specs.Language.Builtins.{Property as PropertyOf, builtin_of, is_one_of}
-use Rattle.meta_base.specs.Language.Expression.{Expression, Grammar, Ident, Part, Range, rule_of}
-use Rattle.meta_base.specs.Language.Text.{Text}
-use Rattle.meta_base.specs.Language.WellFormed.{InSomeRule}
-use Rattle.meta_ast.specs.Ast.{text_of}
+use Rattle.base_language.specs.Language.Builtins.{Property as PropertyOf, builtin_of, is_one_of}
+use Rattle.base_language.specs.Language.Expression.{Expression, Grammar, Ident, Part, Range, rule_of}
+use Rattle.base_language.specs.Language.Text.{Text}
+use Rattle.base_language.specs.Language.WellFormed.{InSomeRule}
+use Rattle.base_ast.specs.Ast.{text_of}
 use Rattle.matcher_program.specs.declared.compile.Unfit.{Unfit}
 use Rattle.matcher_program.specs.declared.compile.Unfit.TheVariants as is
 use Rattle.matcher_program.specs.declared.form.Property.{Property}

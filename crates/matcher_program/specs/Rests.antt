@@ -1,8 +1,8 @@
 -- The remaining input.
 use Rattle.std.specs.Prelude.{◌≡◌, ◌-◌, ◌≤◌, ℕ, suc, List, [], ◌∷◌, Bool, Option, Some, None, drop, length, chars, if◌then◌else◌, ⊤}
 use Rattle.std.specs.Borrow.{Bor}
-use Rattle.meta_base.specs.Language.Text.{Text}
-use Rattle.meta_base.specs.Language.State.{State, None', Outcome, Success, Failure}
+use Rattle.base_language.specs.Language.Text.{Text}
+use Rattle.base_language.specs.Language.State.{State, None', Outcome, Success, Failure}
 
 -- these bytes are the remaining input from some position on
 abbrev pub IsLeft : List ℕ → List ℕ → Type 0

@@ -1,18 +1,18 @@
 //! The compiler, from optimized rules to forms.
 ghost use Rattle.std.specs.Prelude.{◌≡◌, ℕ, List, false, Option, IfErr, IfNone, IfOk, IfSome, None, bytes_eq, chars, map, codes, ◌∷◌, [], ◌||◌};
-ghost use Rattle.meta_base.specs.Language.Text.{Text};
-ghost use Rattle.meta_base.specs.Language.Expression.{Grammar, Ident, rule_of, whitespace, comment};
-ghost use Rattle.meta_ast.specs.Optimized.{optimized_expression_of, optimized_rule_of, optimized_rules_of};
-ghost use Rattle.meta_base.specs.Language.Builtins.{is_one_of, property_names};
+ghost use Rattle.base_language.specs.Language.Text.{Text};
+ghost use Rattle.base_language.specs.Language.Expression.{Grammar, Ident, rule_of, whitespace, comment};
+ghost use Rattle.base_ast.specs.Optimized.{optimized_expression_of, optimized_rule_of, optimized_rules_of};
+ghost use Rattle.base_language.specs.Language.Builtins.{is_one_of, property_names};
 ghost use Rattle.matcher_program.specs.declared.compile.Unfit.TheVariants.{Memory};
 ghost use Rattle.matcher_program.specs.declared.form.Property.{Property};
 ghost use Rattle.matcher_program.specs.Programs.{Fits, IsRow, IsSkippedRule, IsSound, class_name, grammar_of, rule_of_row};
 ghost use Rattle.matcher_program.specs.Compiled.{Compiles, names_in};
 ghost use Rattle.matcher_program.specs.Indexed.{KnowsLast};
 ghost use Rattle.matcher_program.specs.Refusals.{IsNoBuiltin, IsNoCharacter, IsReason, IsWrongBound, IsWrongIn, has_property};
-ghost use Rattle.meta_ast.specs.Ast.{text_of};
-ghost use Rattle.meta_builtins.specs.Builtins.{name_of};
-ghost use Rattle.meta_builtins.specs.CharSets.{set_name};
+ghost use Rattle.base_ast.specs.Ast.{text_of};
+ghost use Rattle.front_names.specs.Builtins.{name_of};
+ghost use Rattle.front_names.specs.CharSets.{set_name};
 
 use crate::form::{Class, Form, Program, Property, Row};
 use crate::forms::form_of;
@@ -20,9 +20,8 @@ use crate::indexed::{Indexed, index_rules};
 use crate::properties::{Properties, find_property, properties_in};
 use crate::sets::{firsts_of, to_set};
 use crate::texts::same;
-use meta_ast::optimized::OptimizedRule;
-use meta_builtins::{Builtin, CharSet};
-use meta_names::{comment_name, unicode_property_names, whitespace_name};
+use base_ast::optimized::OptimizedRule;
+use front_names::{Builtin, CharSet, comment_name, unicode_property_names, whitespace_name};
 use std::alloc::{AllocError, Global};
 
 /// The reason to refuse rules.

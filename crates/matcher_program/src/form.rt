@@ -1,6 +1,6 @@
 //! Compiled rules, with resolved names.
-use meta_ast::ast::RuleType;
-use meta_ast::deep::Release;
+use base_ast::ast::RuleType;
+use base_ast::deep::Release;
 
 /// The builtins that match one character of a set.
 #[derive(Clone, Copy)]

@@ -1,10 +1,10 @@
 //! The compiler of expressions, iterative with continuation frames, so that stack use does not depend on
 //! the nesting of a grammar.
 ghost use Rattle.std.specs.Prelude.{◌≡◌, ◌<◌, ◌≤◌, ◌*◌, IfErr, IfOk, List};
-ghost use Rattle.meta_base.specs.Language.Expression.{Expression, Grammar};
-ghost use Rattle.meta_base.specs.Language.Text.{Text};
-ghost use Rattle.meta_ast.specs.Optimized.{optimized_expression_of, optimized_rules_of};
-ghost use Rattle.meta_ast.specs.Weight.{weight};
+ghost use Rattle.base_language.specs.Language.Expression.{Expression, Grammar};
+ghost use Rattle.base_language.specs.Language.Text.{Text};
+ghost use Rattle.base_ast.specs.Optimized.{optimized_expression_of, optimized_rules_of};
+ghost use Rattle.base_ast.specs.Weight.{weight};
 ghost use Rattle.matcher_program.specs.Compiled.{Compiles, names_in};
 ghost use Rattle.matcher_program.specs.Forming.{IsAroundWithin, IsReady, IsSoundStep, IsStepWithin, comes_of, effort, waits_of, with_operand};
 ghost use Rattle.matcher_program.specs.Indexed.{KnowsLast};
@@ -17,10 +17,10 @@ use crate::compile::{Unfit, range_bound, resolve_name};
 use crate::form::{Form, Property};
 use crate::indexed::Indexed;
 use crate::sets::{stops_of, to_set};
-use meta_ast::deep::Deep;
-use meta_ast::optimized::OptimizedExpr;
-use meta_ast::rebuilt::Step;
-use meta_ast::texts::copy_texts;
+use base_ast::deep::Deep;
+use base_ast::optimized::OptimizedExpr;
+use base_ast::rebuilt::Step;
+use base_ast::texts::copy_texts;
 use std::alloc::Global;
 
 /// A continuation frame, the operator around an operand while the form of that is made.

@@ -1,10 +1,10 @@
 //! Rules with an index by name.
 ghost use Rattle.std.specs.Prelude.{◌≡◌, IfOk, chars};
-ghost use Rattle.meta_ast.specs.Optimized.{optimized_rules_of};
+ghost use Rattle.base_ast.specs.Optimized.{optimized_rules_of};
 ghost use Rattle.matcher_program.specs.Indexed.{KnowsLast};
 ghost use Rattle.matcher_program.specs.Programs.{IsSkippedRule};
 
-use meta_ast::optimized::OptimizedRule;
+use base_ast::optimized::OptimizedRule;
 use std::alloc::{AllocError, Global};
 use std::collections::HashMap;
 

@@ -1,10 +1,10 @@
 //! Laws over the definitions alone.
 ghost use Rattle.std.specs.Prelude.{Bool, ◌≡◌};
-ghost use Rattle.meta_base.specs.Language.CharacterBounds.{HasCharacterBounds};
-ghost use Rattle.meta_base.specs.Language.Expression.{Grammar, Ident};
-ghost use Rattle.meta_base.specs.Language.KnownNames.{HasKnownNames};
-ghost use Rattle.meta_base.specs.Language.Text.{Text};
-ghost use Rattle.meta_base.specs.Language.WellFormed.{InSomeRule};
+ghost use Rattle.base_language.specs.Language.CharacterBounds.{HasCharacterBounds};
+ghost use Rattle.base_language.specs.Language.Expression.{Grammar, Ident};
+ghost use Rattle.base_language.specs.Language.KnownNames.{HasKnownNames};
+ghost use Rattle.base_language.specs.Language.Text.{Text};
+ghost use Rattle.base_language.specs.Language.WellFormed.{InSomeRule};
 ghost use Rattle.matcher_program.specs.Refusals.{IsReason, IsUnknown, KnowsProperties};
 ghost use Rattle.matcher_program.specs.declared.compile.Unfit.{Unfit};
 ghost use Rattle.matcher_program.specs.declared.compile.Unfit.TheVariants.{Memory};

@@ -1,11 +1,11 @@
 //! Leaf expressions, matched by the text alone.
 ghost use Rattle.std.specs.Prelude.{◌≡◌, ℕ, [], ◌∷◌, List, length, true, false, nat_eq, chars};
-ghost use Rattle.meta_base.specs.Language.Text.{Text};
+ghost use Rattle.base_language.specs.Language.Text.{Text};
 ghost use Rattle.std.specs.Prelude.{map, ◌<◌, Bool, reverse};
 ghost use Rattle.std.specs.Char.{eq_ignore_ascii_case};
-ghost use Rattle.meta_ast.specs.Ast.{text_of};
-ghost use Rattle.meta_base.specs.Language.State.{None', Success, moved};
-ghost use Rattle.meta_base.specs.Language.Matching.{any_begins, begins, character_outcome, concatenated, distance, end_place, newline_outcome, place, range_set, slice_outcome, text_outcome};
+ghost use Rattle.base_ast.specs.Ast.{text_of};
+ghost use Rattle.base_language.specs.Language.State.{None', Success, moved};
+ghost use Rattle.base_language.specs.Language.Matching.{any_begins, begins, character_outcome, concatenated, distance, end_place, newline_outcome, place, range_set, slice_outcome, text_outcome};
 ghost use Rattle.matcher_program.specs.Programs.{AreStops, is_in_ranges, set_of};
 ghost use Rattle.matcher_program.specs.Rests.{GoesOn, IsLeft, Progress, leaving, standing};
 

@@ -1,17 +1,17 @@
 //! The sets of characters of property names.
 ghost use Rattle.std.specs.Prelude.{◌≡◌, ◌<◌, ◌+◌, ◌++◌, ℕ, Bool, true, false, IfNone, IfOk, IfSome, OnOk, chars, is_some, map};
-ghost use Rattle.meta_ast.specs.Optimized.{optimized_expression_of, optimized_rules_of};
-ghost use Rattle.meta_ast.specs.Weight.{weight};
-ghost use Rattle.meta_base.specs.Language.Expression.{Ident};
-ghost use Rattle.meta_base.specs.Language.Text.{Text};
-ghost use Rattle.meta_base.specs.Language.WellFormed.{InSomeRule};
+ghost use Rattle.base_ast.specs.Optimized.{optimized_expression_of, optimized_rules_of};
+ghost use Rattle.base_ast.specs.Weight.{weight};
+ghost use Rattle.base_language.specs.Language.Expression.{Ident};
+ghost use Rattle.base_language.specs.Language.Text.{Text};
+ghost use Rattle.base_language.specs.Language.WellFormed.{InSomeRule};
 ghost use Rattle.matcher_program.specs.Forming.{calls_of, calls_waiting, heft, own_call};
 ghost use Rattle.matcher_program.specs.Programs.{Fits, IsNumberOf, is_in_ranges};
 ghost use Rattle.matcher_program.specs.Refusals.{has_property};
 
 use crate::form::Property;
 use crate::texts::same;
-use meta_ast::optimized::{OptimizedExpr, OptimizedRule};
+use base_ast::optimized::{OptimizedExpr, OptimizedRule};
 use std::alloc::{AllocError, Global};
 
 /// The sets of Unicode property names.

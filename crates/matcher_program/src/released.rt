@@ -3,7 +3,7 @@ ghost use Rattle.std.specs.Prelude.{◌+◌, ◌*◌, ◌<◌};
 ghost use Rattle.matcher_program.specs.FormWeight.{weight};
 
 use crate::form::Form;
-use meta_ast::deep::Release;
+use base_ast::deep::Release;
 
 impl Release for Form {
     fn release(self) {

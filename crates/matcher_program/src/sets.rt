@@ -1,11 +1,11 @@
 //! Sets, forms that match one character; and first sets.
 ghost use Rattle.std.specs.Prelude.{◌≡◌, ◌==◌, ◌<◌, ◌∷◌, ℕ, Bool, List, IfOk, chars, false, get_or, if◌then◌else◌, length, map, nat_eq, true};
-ghost use Rattle.meta_ast.specs.Ast.{text_of};
-ghost use Rattle.meta_base.specs.Language.Expression.{Expression, Grammar};
-ghost use Rattle.meta_base.specs.Language.Builtins.{is_between, is_letter};
-ghost use Rattle.meta_base.specs.Language.Matching.{any_begins, begins, character_outcome, starts_in};
-ghost use Rattle.meta_base.specs.Language.State.{moved};
-ghost use Rattle.meta_base.specs.Language.Text.{Text};
+ghost use Rattle.base_ast.specs.Ast.{text_of};
+ghost use Rattle.base_language.specs.Language.Expression.{Expression, Grammar};
+ghost use Rattle.base_language.specs.Language.Builtins.{is_between, is_letter};
+ghost use Rattle.base_language.specs.Language.Matching.{any_begins, begins, character_outcome, starts_in};
+ghost use Rattle.base_language.specs.Language.State.{moved};
+ghost use Rattle.base_language.specs.Language.Text.{Text};
 ghost use Rattle.matcher_program.specs.declared.form.Property.{Property};
 ghost use Rattle.matcher_program.specs.Compiled.{Compiles};
 ghost use Rattle.matcher_program.specs.Programs.{AreStops, IsBarred, IsSetOf, characters_of, is_one, is_set, may_begin, may_start, set_of};

@@ -1,6 +1,6 @@
 -- Ranges of choices.
 use Rattle.std.proofs.Common.{◌≡◌, inl, inr, refl, subst, sym, ◌∙◌, ℕ, ◌<◌, List, [], Bool, true, false, ◌||◌}
-use Rattle.meta_base.specs.Language.Expression.{Choice}
+use Rattle.base_language.specs.Language.Expression.{Choice}
 use Rattle.matcher_code.specs.Reading.{is_covered}
 use Rattle.matcher_program.specs.declared.form.Form.{Form}
 use Rattle.matcher_program.specs.declared.form.Program.{Program}

@@ -3,15 +3,15 @@ use Rattle.std.proofs.Common.{◌≡◌, refl, sym, ◌∙◌, ap, subst, ℕ, L
 use Rattle.std.specs.Prelude.{IfOk, IfSome, OnOk, Option, Result, Some, Ok, Err, not}
 use Rattle.std.specs.declared.vec.Vec.{Vec}
 use Rattle.std.specs.declared.alloc.Global.{Global}
-use Rattle.meta_base.specs.Language.Expression.{Choice, Expression, Grammar, NegPred, Seq, rule_of}
-use Rattle.meta_base.specs.Language.FurthestFailure.{furthest}
-use Rattle.meta_base.specs.Language.Matching.{begins, character_outcome, newline_outcome, starts_in}
-use Rattle.meta_base.specs.Language.Meaning as by
-use Rattle.meta_base.specs.Language.Meaning.{Does, Run, Task}
-use Rattle.meta_base.specs.Language.State.{Classes, Failure, Mode, None', Outcome, State, Success, moved}
-use Rattle.meta_base.specs.Language.Text.{Text}
-use Rattle.matcher_layout.specs.Laid.{HasOutcome, IsTight}
-use Rattle.matcher_layout.proofs.Characters.{choice_of_sets}
+use Rattle.base_language.specs.Language.Expression.{Choice, Expression, Grammar, NegPred, Seq, rule_of}
+use Rattle.base_language.specs.Language.FurthestFailure.{furthest}
+use Rattle.base_language.specs.Language.Matching.{begins, character_outcome, newline_outcome, starts_in}
+use Rattle.base_language.specs.Language.Meaning as by
+use Rattle.base_language.specs.Language.Meaning.{Does, Run, Task}
+use Rattle.base_language.specs.Language.State.{Classes, Failure, Mode, None', Outcome, State, Success, moved}
+use Rattle.base_language.specs.Language.Text.{Text}
+use Rattle.matcher_code.specs.Laid.{HasOutcome, IsTight}
+use Rattle.matcher_code.proofs.Characters.{choice_of_sets}
 use Rattle.matcher_program.specs.declared.form.Form.{Form}
 use Rattle.matcher_program.specs.declared.form.Form.TheVariants as form
 use Rattle.matcher_program.specs.declared.form.Program.{Program}

@@ -6,17 +6,17 @@ use Rattle.std.specs.Prelude.{◌⊎◌, Err, IfOk, IfSome, Ok, Option, Result, 
 use Rattle.std.proofs.Math.ListN.{set}
 use Rattle.std.proofs.lemmas.Bool.{cases_lt}
 use Rattle.std.proofs.lemmas.List.{get_or-set_other, get_or-set_same}
-use Rattle.meta_ast.specs.Ast.{rule_type_of}
-use Rattle.meta_base.specs.Language.Builtins.{is_between}
-use Rattle.meta_base.specs.Language.Expression.{Choice, Expression, Grammar, Ident, Insens, NegPred, NodeTag, Opt, Rep, RepOnce, RestoreOnErr, Rule, Seq, Str, rule_of}
-use Rattle.meta_base.specs.Language.FurthestFailure.{furthest, place_of}
-use Rattle.meta_base.specs.Language.Matching.{begins, starts_in}
-use Rattle.meta_base.specs.Language.Meaning as by
-use Rattle.meta_base.specs.Language.Meaning.{Does, Run, Skipping, body_mode, gives_token, mode_in, seen_from}
-use Rattle.meta_base.specs.Language.State.{Classes, Failure, Mode, NonAtomicMode, None', Outcome, State, Success, moved}
-use Rattle.meta_base.specs.Language.Text.{Text}
+use Rattle.base_ast.specs.Ast.{rule_type_of}
+use Rattle.base_language.specs.Language.Builtins.{is_between}
+use Rattle.base_language.specs.Language.Expression.{Choice, Expression, Grammar, Ident, Insens, NegPred, NodeTag, Opt, Rep, RepOnce, RestoreOnErr, Rule, Seq, Str, rule_of}
+use Rattle.base_language.specs.Language.FurthestFailure.{furthest, place_of}
+use Rattle.base_language.specs.Language.Matching.{begins, starts_in}
+use Rattle.base_language.specs.Language.Meaning as by
+use Rattle.base_language.specs.Language.Meaning.{Does, Run, Skipping, body_mode, gives_token, mode_in, seen_from}
+use Rattle.base_language.specs.Language.State.{Classes, Failure, Mode, NonAtomicMode, None', Outcome, State, Success, moved}
+use Rattle.base_language.specs.Language.Text.{Text}
 use Rattle.matcher_code.specs.Reading.{is_covered}
-use Rattle.matcher_layout.specs.Laid.{FailsOutside, IsTight, Misses, TakesNone}
+use Rattle.matcher_code.specs.Laid.{FailsOutside, IsTight, Misses, TakesNone}
 use Rattle.matcher_program.specs.declared.form.Form.{Form}
 use Rattle.matcher_program.specs.declared.form.Program.{Program}
 use Rattle.matcher_program.specs.declared.form.Row.{Row}

@@ -4,23 +4,23 @@ use Rattle.std.proofs.Math.Bool.{and-false, and-true}
 use Rattle.std.proofs.Math.Utf8.{scalar, scalars}
 use Rattle.std.proofs.lemmas.Bool.{and_parts}
 use Rattle.std.proofs.lemmas.Str.{scalars-chars}
-use Rattle.meta_ast.specs.Ast.{text_of}
-use Rattle.meta_base.specs.Language.Builtins.{Builtin, Eoi, Newline, One, Soi, builtin_of, builtins}
-use Rattle.meta_base.specs.Language.Expression.{Grammar, Ident, rule_of}
-use Rattle.meta_base.specs.Language.FurthestFailure.{furthest, is_eoi, place_of}
-use Rattle.meta_base.specs.Language.Matching.{begins, builtin_outcome, character_outcome, end_outcome, newline_outcome, other_outcome, starts_in, text_outcome}
-use Rattle.meta_base.specs.Language.Meaning as by
-use Rattle.meta_base.specs.Language.Meaning.{Does, Run, seen_from}
-use Rattle.meta_base.specs.Language.State.{AtomicMode, Classes, Failure, None', Outcome, State, Success, moved}
-use Rattle.meta_base.specs.Language.Text.{Text}
+use Rattle.base_ast.specs.Ast.{text_of}
+use Rattle.base_language.specs.Language.Builtins.{Builtin, Eoi, Newline, One, Soi, builtin_of, builtins}
+use Rattle.base_language.specs.Language.Expression.{Grammar, Ident, rule_of}
+use Rattle.base_language.specs.Language.FurthestFailure.{furthest, is_eoi, place_of}
+use Rattle.base_language.specs.Language.Matching.{begins, builtin_outcome, character_outcome, end_outcome, newline_outcome, other_outcome, starts_in, text_outcome}
+use Rattle.base_language.specs.Language.Meaning as by
+use Rattle.base_language.specs.Language.Meaning.{Does, Run, seen_from}
+use Rattle.base_language.specs.Language.State.{AtomicMode, Classes, Failure, None', Outcome, State, Success, moved}
+use Rattle.base_language.specs.Language.Text.{Text}
 use Rattle.matcher_code.specs.declared.code.Code.{Code}
 use Rattle.matcher_code.specs.declared.code.Op.TheVariants as op
 use Rattle.matcher_code.specs.Reading.{is_covered}
 use Rattle.matcher_code.specs.Sets.{IsSetOf}
-use Rattle.matcher_layout.specs.Laid.{HasOutcome, Performs, at_label, skip_set, span_of}
-use Rattle.matcher_layout.specs.Reached.{Comes, IsAt}
-use Rattle.matcher_layout.proofs.Characters.{choice_of_sets}
-use Rattle.matcher_layout.proofs.Sets.{all_performs, below, one_performs}
+use Rattle.matcher_code.specs.Laid.{HasOutcome, Performs, at_label, skip_set, span_of}
+use Rattle.matcher_code.specs.Reached.{Comes, IsAt}
+use Rattle.matcher_code.proofs.Characters.{choice_of_sets}
+use Rattle.matcher_code.proofs.Sets.{all_performs, below, one_performs}
 use Rattle.matcher_program.specs.declared.form.Class.{Class}
 use Rattle.matcher_program.specs.declared.form.Class.TheVariants as class
 use Rattle.matcher_program.specs.declared.form.Form.{Form}

@@ -1,12 +1,12 @@
 -- Properties as sets of characters.
 use Rattle.std.proofs.Common.{◌≡◌, refl, sym, ◌∙◌, ap, ℕ, ◌<◌, List, [], ◌∷◌, ◌++◌, Bool, true, false, ◌||◌, Some, codes, get_or, length}
 use Rattle.std.proofs.lemmas.Slice.Eq.{bytes_eq-Decides}
-use Rattle.meta_ast.specs.Ast.{text_of}
-use Rattle.meta_base.specs.Language.Builtins.{Eoi, Property as PropertyOf, builtin_of, is_between}
-use Rattle.meta_base.specs.Language.FurthestFailure.{is_eoi}
-use Rattle.meta_base.specs.Language.Matching.{character_outcome}
-use Rattle.meta_base.specs.Language.State.{Classes}
-use Rattle.meta_base.specs.Language.Text.{Text}
+use Rattle.base_ast.specs.Ast.{text_of}
+use Rattle.base_language.specs.Language.Builtins.{Eoi, Property as PropertyOf, builtin_of, is_between}
+use Rattle.base_language.specs.Language.FurthestFailure.{is_eoi}
+use Rattle.base_language.specs.Language.Matching.{character_outcome}
+use Rattle.base_language.specs.Language.State.{Classes}
+use Rattle.base_language.specs.Language.Text.{Text}
 use Rattle.matcher_code.specs.Reading.{is_covered}
 use Rattle.matcher_program.specs.declared.form.Form.TheVariants as form
 use Rattle.matcher_program.specs.declared.form.Program.{Program}

@@ -2,7 +2,7 @@
 use Rattle.std.proofs.Common.{◌≡◌, refl, sym, ◌∙◌, ap, ℕ, ◌<◌, List, [], ◌∷◌, ◌++◌, Bool, true, false, ◌||◌, ◌&&◌, ◌≤◌, ◌⊎◌, inl, inr, ap₂, arith, nat_eq, nat_le}
 use Rattle.std.proofs.Math.Bool.{and-false}
 use Rattle.std.proofs.lemmas.Bool.{cases_lt}
-use Rattle.meta_base.specs.Language.Builtins.{is_between}
+use Rattle.base_language.specs.Language.Builtins.{is_between}
 use Rattle.matcher_code.specs.Reading.{is_covered}
 use Rattle.matcher_sets.specs.Ranges.{Adds}
 

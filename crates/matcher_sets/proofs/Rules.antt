@@ -1,10 +1,10 @@
 -- Rules by their numbers.
 use Rattle.std.proofs.Common.{◌≡◌, sym, ◌∙◌, ap, subst, ℕ, ◌<◌, ◌||◌, [], Some, bytes_eq, get_or, length}
 use Rattle.std.proofs.lemmas.List.{get_or-map}
-use Rattle.meta_ast.specs.Ast.{rule_type_of, text_of}
-use Rattle.meta_base.specs.Language.Expression.{Rule, comment, rule_of, whitespace}
-use Rattle.meta_base.specs.Language.Meaning.{body_mode, mode_in}
-use Rattle.meta_base.specs.Language.State.{Mode}
+use Rattle.base_ast.specs.Ast.{rule_type_of, text_of}
+use Rattle.base_language.specs.Language.Expression.{Rule, comment, rule_of, whitespace}
+use Rattle.base_language.specs.Language.Meaning.{body_mode, mode_in}
+use Rattle.base_language.specs.Language.State.{Mode}
 use Rattle.matcher_program.specs.declared.form.Program.{Program}
 use Rattle.matcher_program.specs.declared.form.Row.{Row}
 use Rattle.matcher_program.specs.Programs.{IsRuleOf, name_at, names_of, rule_of_row}

@@ -8,17 +8,17 @@ use Rattle.std.proofs.lemmas.Bool.{and_parts}
 use Rattle.std.proofs.lemmas.List.{map-append}
 use Rattle.std.specs.declared.string.String.{String}
 use Rattle.std.specs.declared.alloc.Global.{Global}
-use Rattle.meta_ast.specs.Ast.{text_of}
-use Rattle.meta_base.specs.Language.Matching.{any_begins, begins, distance, starts_in}
-use Rattle.meta_base.specs.Language.State.{None', Success, moved}
-use Rattle.meta_base.specs.Language.Text.{Text}
+use Rattle.base_ast.specs.Ast.{text_of}
+use Rattle.base_language.specs.Language.Matching.{any_begins, begins, distance, starts_in}
+use Rattle.base_language.specs.Language.State.{None', Success, moved}
+use Rattle.base_language.specs.Language.Text.{Text}
 use Rattle.matcher_code.specs.declared.code.Code.{Code}
 use Rattle.matcher_code.specs.declared.code.Op.TheVariants as op
 use Rattle.matcher_code.specs.Reading.{is_covered}
 use Rattle.matcher_code.specs.Sets.{IsSetOf}
-use Rattle.matcher_layout.specs.Laid.{Performs, at_label, span_of}
-use Rattle.matcher_layout.specs.Reached.{Comes}
-use Rattle.matcher_layout.proofs.Sets.{all_performs, below}
+use Rattle.matcher_code.specs.Laid.{Performs, at_label, span_of}
+use Rattle.matcher_code.specs.Reached.{Comes}
+use Rattle.matcher_code.proofs.Sets.{all_performs, below}
 use Rattle.matcher_sets.proofs.Leaves.{rest_scalars}
 
 pub any-append : (ts us : List Text) (v : Text) → any_begins (ts ++ us) v ≡ (any_begins ts v || any_begins us v)

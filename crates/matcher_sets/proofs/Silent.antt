@@ -1,11 +1,11 @@
 -- Calls of silent rules that match one character.
 use Rattle.std.proofs.Common.{◌≡◌, refl, ◌∙◌, ap, subst, ℕ, ◌<◌, ◌||◌, Bool, true, false, sym, List, bytes_eq, get_or, length}
-use Rattle.meta_ast.specs.Ast.{rule_type_of}
-use Rattle.meta_base.specs.Language.Expression.{Silent, comment, whitespace}
-use Rattle.meta_base.specs.Language.Matching.{character_outcome}
-use Rattle.meta_base.specs.Language.Meaning.{Run, body_mode, gives_token, inherited, mode_in}
-use Rattle.matcher_layout.specs.Laid.{HasOutcome}
-use Rattle.matcher_layout.proofs.Characters.{silent_call_of_set}
+use Rattle.base_ast.specs.Ast.{rule_type_of}
+use Rattle.base_language.specs.Language.Expression.{Silent, comment, whitespace}
+use Rattle.base_language.specs.Language.Matching.{character_outcome}
+use Rattle.base_language.specs.Language.Meaning.{Run, body_mode, gives_token, inherited, mode_in}
+use Rattle.matcher_code.specs.Laid.{HasOutcome}
+use Rattle.matcher_code.proofs.Characters.{silent_call_of_set}
 use Rattle.matcher_program.specs.declared.form.Form.TheVariants as form
 use Rattle.matcher_program.specs.declared.form.Program.{Program}
 use Rattle.matcher_program.specs.declared.form.Row.{Row}

@@ -2,15 +2,15 @@
 use Rattle.std.proofs.Common.{◌≡◌, refl, sym, ◌∙◌, ap, ap₂, subst, ℕ, zero, suc, ◌<◌, ◌||◌, ◌&&◌, List, [], ◌∷◌, Bool, true, false, None, Some, bytes_eq, get_or, length, map, arith, if◌then◌else◌}
 use Rattle.std.specs.Prelude.{max}
 use Rattle.std.proofs.lemmas.List.{length-map}
-use Rattle.meta_ast.specs.Ast.{text_of}
-use Rattle.meta_base.specs.Language.Expression.{Atomic, CompoundAtomic, Grammar, Ident, NonAtomic, Normal, Rule, RuleType, Silent, comment, rule_of, whitespace}
-use Rattle.meta_base.specs.Language.FurthestFailure.{furthest, is_eoi, place_of}
-use Rattle.meta_base.specs.Language.Meaning as by
-use Rattle.meta_base.specs.Language.Meaning.{Does, Run, Skipping, body_mode, gives_token, mode_in, seen_from, with_token}
-use Rattle.meta_base.specs.Language.State.{Between, Classes, Failure, Mode, NonAtomicMode, None', Outcome, State, Success, Tree}
-use Rattle.meta_base.specs.Language.Text.{Text}
-use Rattle.meta_base.proofs.Basics.{same_some}
-use Rattle.matcher_layout.specs.Laid.{FailsOutside, Misses}
+use Rattle.base_ast.specs.Ast.{text_of}
+use Rattle.base_language.specs.Language.Expression.{Atomic, CompoundAtomic, Grammar, Ident, NonAtomic, Normal, Rule, RuleType, Silent, comment, rule_of, whitespace}
+use Rattle.base_language.specs.Language.FurthestFailure.{furthest, is_eoi, place_of}
+use Rattle.base_language.specs.Language.Meaning as by
+use Rattle.base_language.specs.Language.Meaning.{Does, Run, Skipping, body_mode, gives_token, mode_in, seen_from, with_token}
+use Rattle.base_language.specs.Language.State.{Between, Classes, Failure, Mode, NonAtomicMode, None', Outcome, State, Success, Tree}
+use Rattle.base_language.specs.Language.Text.{Text}
+use Rattle.base_language.proofs.Basics.{same_some}
+use Rattle.matcher_code.specs.Laid.{FailsOutside, Misses}
 use Rattle.matcher_program.specs.declared.form.Program.{Program}
 use Rattle.matcher_program.specs.declared.form.Row.{Row}
 use Rattle.matcher_program.specs.Programs.{Fits, IsRuleOf, name_at, names_of, rule_of_row}

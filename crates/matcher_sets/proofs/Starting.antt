@@ -5,12 +5,12 @@ use Rattle.std.proofs.lemmas.Bool.{and_parts}
 use Rattle.std.proofs.lemmas.List.{map-append}
 use Rattle.std.specs.declared.string.String.{String}
 use Rattle.std.specs.declared.alloc.Global.{Global}
-use Rattle.meta_ast.specs.Ast as ast
-use Rattle.meta_base.specs.Language.Builtins.{is_between}
-use Rattle.meta_base.specs.Language.Matching.{any_begins, begins, starts_in}
-use Rattle.meta_base.specs.Language.Text.{Text}
+use Rattle.base_ast.specs.Ast as ast
+use Rattle.base_language.specs.Language.Builtins.{is_between}
+use Rattle.base_language.specs.Language.Matching.{any_begins, begins, starts_in}
+use Rattle.base_language.specs.Language.Text.{Text}
 use Rattle.matcher_code.specs.Reading.{is_covered}
-use Rattle.matcher_layout.specs.Laid.{StartIn}
+use Rattle.matcher_code.specs.Laid.{StartIn}
 use Rattle.matcher_sets.specs.Ranges.{Adds}
 use Rattle.matcher_sets.proofs.Ranging.{between_same}
 use Rattle.matcher_sets.proofs.Searching.{any-append, or_none}

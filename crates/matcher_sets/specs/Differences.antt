@@ -1,13 +1,13 @@
 -- Ranges of forms that match one character, or that tell whether one of some is next.
 use Rattle.std.specs.Prelude.{◌≡◌, ◌⊎◌, ℕ, suc, Bool, true, false, List, nat_le, if◌then◌else◌}
-use Rattle.meta_base.specs.Language.Expression.{Grammar}
-use Rattle.meta_base.specs.Language.FurthestFailure.{furthest}
-use Rattle.meta_base.specs.Language.Matching.{character_outcome, starts_in}
-use Rattle.meta_base.specs.Language.Meaning.{Does, Run, Task}
-use Rattle.meta_base.specs.Language.State.{Classes, Failure, None', Outcome, State, Success}
+use Rattle.base_language.specs.Language.Expression.{Grammar}
+use Rattle.base_language.specs.Language.FurthestFailure.{furthest}
+use Rattle.base_language.specs.Language.Matching.{character_outcome, starts_in}
+use Rattle.base_language.specs.Language.Meaning.{Does, Run, Task}
+use Rattle.base_language.specs.Language.State.{Classes, Failure, None', Outcome, State, Success}
 use Rattle.matcher_code.specs.Sets.{IsSetOf}
 use Rattle.matcher_code.specs.declared.code.Code.{Code}
-use Rattle.matcher_layout.specs.Laid.{HasOutcome}
+use Rattle.matcher_code.specs.Laid.{HasOutcome}
 use Rattle.matcher_program.specs.declared.form.Form.{Form}
 use Rattle.matcher_program.specs.declared.form.Program.{Program}
 use Rattle.matcher_program.specs.Programs.{Fits, is_set}

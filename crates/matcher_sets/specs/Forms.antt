@@ -1,6 +1,6 @@
 -- Forms of a program, and what they mean.
 use Rattle.std.specs.Prelude.{[]}
-use Rattle.meta_base.specs.Language.Expression.{Expression, Grammar, Normal, Rule, Str}
+use Rattle.base_language.specs.Language.Expression.{Expression, Grammar, Normal, Rule, Str}
 use Rattle.matcher_program.specs.declared.form.Form.{Form}
 use Rattle.matcher_program.specs.declared.form.Program.{Program}
 use Rattle.matcher_program.specs.Programs.{IsBound, IsSound, expression_of, grammar_of, names_of}

@@ -1,11 +1,11 @@
 -- The characters with which forms begin.
 use Rattle.std.specs.Prelude.{◌≡◌, ◌<◌, ◌++◌, ◌||◌, ℕ, Bool, true, false, List, Option, None, IfSome, get_or, length, max}
-use Rattle.meta_base.specs.Language.Expression.{Expression, Ident, Grammar}
-use Rattle.meta_base.specs.Language.FurthestFailure.{furthest, place_of}
-use Rattle.meta_base.specs.Language.Meaning.{Does, Run, Skipping, Task}
-use Rattle.meta_base.specs.Language.Text.{Text}
-use Rattle.meta_base.specs.Language.State.{AtomicMode, Between, Classes, CompoundAtomicMode, Failure, Mode, NonAtomicMode, None', Outcome, State, Success}
-use Rattle.matcher_layout.specs.Laid.{FailsOutside, Misses}
+use Rattle.base_language.specs.Language.Expression.{Expression, Ident, Grammar}
+use Rattle.base_language.specs.Language.FurthestFailure.{furthest, place_of}
+use Rattle.base_language.specs.Language.Meaning.{Does, Run, Skipping, Task}
+use Rattle.base_language.specs.Language.Text.{Text}
+use Rattle.base_language.specs.Language.State.{AtomicMode, Between, Classes, CompoundAtomicMode, Failure, Mode, NonAtomicMode, None', Outcome, State, Success}
+use Rattle.matcher_code.specs.Laid.{FailsOutside, Misses}
 use Rattle.matcher_program.specs.declared.form.Program.{Program}
 use Rattle.matcher_program.specs.declared.form.Row.{Row}
 use Rattle.matcher_program.specs.Programs.{Fits}

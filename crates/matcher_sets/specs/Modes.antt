@@ -1,6 +1,6 @@
 -- Modes of the code.
-use Rattle.meta_base.specs.Language.State as language
-use Rattle.meta_base.specs.Language.State.{AtomicMode, CompoundAtomicMode, NonAtomicMode}
+use Rattle.base_language.specs.Language.State as language
+use Rattle.base_language.specs.Language.State.{AtomicMode, CompoundAtomicMode, NonAtomicMode}
 use Rattle.matcher_sets.specs.declared.modes.Atomicity.{Atomicity}
 use Rattle.matcher_sets.specs.declared.modes.Atomicity.TheVariants as mode
 

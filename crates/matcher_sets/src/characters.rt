@@ -1,16 +1,16 @@
 //! Calls of rules that match one character.
 ghost use Rattle.std.specs.Prelude.{◌≡◌, ◌<◌, IfOk, IfSome, get_or, length};
-ghost use Rattle.meta_ast.specs.Ast.{rule_type_of};
-ghost use Rattle.meta_base.specs.Language.Expression.{Silent};
+ghost use Rattle.base_ast.specs.Ast.{rule_type_of};
+ghost use Rattle.base_language.specs.Language.Expression.{Silent};
 ghost use Rattle.matcher_program.specs.Programs.{IsRuleOf, name_at, names_of};
 ghost use Rattle.matcher_program.specs.declared.form.Form.TheVariants as form;
 ghost use Rattle.matcher_sets.specs.Differences.{HasRanges};
 ghost use Rattle.matcher_sets.specs.Forms.{IsBoundIn, IsSoundProgram, grammar_in};
 
 use crate::difference::choice_ranges;
+use base_ast::ast::RuleType;
 use matcher_code::code::Ranges;
 use matcher_program::form::{Form, Program, Row};
-use meta_ast::ast::RuleType;
 use std::alloc::{AllocError, Global};
 
 /// Returns the ranges of the characters that a call of a silent rule matches, if its body is a choice of sets

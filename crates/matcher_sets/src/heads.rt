@@ -1,11 +1,11 @@
 //! First characters of forms.
 ghost use Rattle.std.specs.Prelude.{◌≡◌, ◌<◌, ◌&&◌, IfOk, IfSome, None, OnOk, chars, false, get_or, length, true};
-ghost use Rattle.meta_base.specs.Language.Expression.{Choice, Expression, Grammar, Ident, Insens, NegPred, NodeTag, Opt, Rep, RepOnce, RestoreOnErr, Seq, Str};
-ghost use Rattle.meta_ast.specs.Ast.{rule_type_of};
-ghost use Rattle.meta_base.specs.Language.Meaning.{gives_token, seen_from};
-ghost use Rattle.meta_base.specs.Language.Text.{Text};
-ghost use Rattle.meta_base.specs.Language.State.{Classes, Mode, NonAtomicMode};
-ghost use Rattle.matcher_layout.specs.Laid.{IsTight};
+ghost use Rattle.base_language.specs.Language.Expression.{Choice, Expression, Grammar, Ident, Insens, NegPred, NodeTag, Opt, Rep, RepOnce, RestoreOnErr, Seq, Str};
+ghost use Rattle.base_ast.specs.Ast.{rule_type_of};
+ghost use Rattle.base_language.specs.Language.Meaning.{gives_token, seen_from};
+ghost use Rattle.base_language.specs.Language.Text.{Text};
+ghost use Rattle.base_language.specs.Language.State.{Classes, Mode, NonAtomicMode};
+ghost use Rattle.matcher_code.specs.Laid.{IsTight};
 ghost use Rattle.matcher_program.specs.Programs.{IsRuleOf, name_at, names_of};
 ghost use Rattle.matcher_program.specs.declared.form.Program.{Program};
 ghost use Rattle.matcher_sets.specs.Forms.{IsBoundIn, IsSoundProgram, grammar_in, said};
@@ -15,9 +15,9 @@ ghost use Rattle.matcher_sets.specs.Modes.{mode_of};
 use crate::difference::{MOST_RANGES, push_firsts};
 use crate::modes::{Atomicity, body_mode, gives_token, is_seen_from};
 use crate::ranges::{first_character, push_range};
+use base_ast::ast::RuleType;
 use matcher_code::code::Ranges;
 use matcher_program::form::{Form, Program, Row};
-use meta_ast::ast::RuleType;
 use std::alloc::{AllocError, Global};
 
 /// How deep the parts of a form are looked into.

@@ -1,7 +1,7 @@
 //! Heads of rules and of the implicit skipping.
 ghost use Rattle.std.specs.Prelude.{◌<◌, IfOk, IfSome, OnOk, get_or, length};
-ghost use Rattle.meta_base.specs.Language.Expression.{comment, whitespace};
-ghost use Rattle.meta_base.specs.Language.State.{Mode};
+ghost use Rattle.base_language.specs.Language.Expression.{comment, whitespace};
+ghost use Rattle.base_language.specs.Language.State.{Mode};
 ghost use Rattle.matcher_program.specs.Programs.{IsKnown, IsSkippedRule};
 ghost use Rattle.matcher_program.specs.declared.form.Program.{Program};
 ghost use Rattle.matcher_program.specs.declared.form.Row.{Row};

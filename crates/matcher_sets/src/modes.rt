@@ -1,10 +1,10 @@
 //! Modes of rules: in which a rule's body runs, and which rules give tokens.
 ghost use Rattle.std.specs.Prelude.{◌≡◌};
-ghost use Rattle.meta_ast.specs.Ast.{rule_type_of};
-ghost use Rattle.meta_base.specs.Language.Meaning.{gives_token, mode_in, seen_from};
+ghost use Rattle.base_ast.specs.Ast.{rule_type_of};
+ghost use Rattle.base_language.specs.Language.Meaning.{gives_token, mode_in, seen_from};
 ghost use Rattle.matcher_sets.specs.Modes.{mode_of};
 
-use meta_ast::ast::RuleType;
+use base_ast::ast::RuleType;
 
 /// The atomicity.
 #[derive(Clone, Copy)]

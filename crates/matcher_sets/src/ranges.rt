@@ -1,7 +1,7 @@
 //! Ranges of forms.
 ghost use Rattle.std.specs.Prelude.{◌≡◌, ℕ, IfNone, IfOk, IfSome, OnOk, chars, false, nat_eq, true};
-ghost use Rattle.meta_base.specs.Language.Builtins.{is_between};
-ghost use Rattle.meta_base.specs.Language.Matching.{starts_in};
+ghost use Rattle.base_language.specs.Language.Builtins.{is_between};
+ghost use Rattle.base_language.specs.Language.Matching.{starts_in};
 ghost use Rattle.matcher_program.specs.Programs.{characters_of, is_one, is_set, set_of};
 ghost use Rattle.matcher_sets.specs.Ranges.{Adds, Covers};
 

@@ -1,10 +1,10 @@
 //! First characters of texts.
 ghost use Rattle.std.specs.Prelude.{◌≡◌, ◌<◌, ◌∷◌, ◌==◌, ℕ, IfOk, IfSome, chars, length, map, true};
-ghost use Rattle.meta_ast.specs.Ast.{text_of};
-ghost use Rattle.meta_base.specs.Language.Matching.{any_begins};
-ghost use Rattle.meta_base.specs.Language.Text.{Text};
+ghost use Rattle.base_ast.specs.Ast.{text_of};
+ghost use Rattle.base_language.specs.Language.Matching.{any_begins};
+ghost use Rattle.base_language.specs.Language.Text.{Text};
 ghost use Rattle.matcher_code.specs.Reading.{is_covered};
-ghost use Rattle.matcher_layout.specs.Laid.{StartIn};
+ghost use Rattle.matcher_code.specs.Laid.{StartIn};
 
 use crate::ranges::{first_character, push_first, push_range};
 use matcher_code::code::Ranges;

@@ -2,11 +2,11 @@
 use Rattle.std.proofs.Common.{◌≡◌, ℕ, ◌+◌, ◌-◌, ◌<◌, ◌≤◌, List, [], ◌∷◌, ◌++◌, append_assoc, append-nil, add-one, drop, drop-cons, length, get_or, codes, refl, sym, ap, ap₂, ◌∙◌, arith, eq-eqb, encode_utf8_all}
 use Rattle.std.proofs.lemmas.Bool.{ne_eqb}
 use Rattle.std.proofs.lemmas.List.{drop_all}
-use Rattle.meta_base.specs.Language.Text.{Text}
-use Rattle.meta_base.specs.Language.State.{Trees, None', Tree}
-use Rattle.meta_syntax.specs.Entries.{Entry, Starts, Ends, entries_of, entry_count}
-use Rattle.meta_matcher.specs.Written.{entry_of, seen}
-use Rattle.meta_matcher.specs.declared.entries.Entry as code
+use Rattle.base_language.specs.Language.Text.{Text}
+use Rattle.base_language.specs.Language.State.{Trees, None', Tree}
+use Rattle.front_syntax.specs.Entries.{Entry, Starts, Ends, entries_of, entry_count}
+use Rattle.matcher_interpreter.specs.Written.{entry_of, seen}
+use Rattle.matcher_interpreter.specs.declared.entries.Entry as code
 use Rattle.matcher_support.specs.Flat.{before_of, flat, level_after, opening, piece}
 use Rattle.matcher_support.specs.Shown.{behind, line_start, shown}
 use Rattle.matcher_support.specs.declared.shown.Before.{Before}

@@ -4,12 +4,12 @@ use Rattle.std.specs.Prelude.{decimal}
 use Rattle.std.proofs.Math.Seq.{drop-append_seam}
 use Rattle.std.proofs.lemmas.Bool.{ne_eqb}
 use Rattle.std.proofs.lemmas.List.{drop_all, get_or-drop}
-use Rattle.meta_base.specs.Language.Text.{Text}
-use Rattle.meta_base.specs.Language.State.{Trees, None', Tree}
-use Rattle.meta_syntax.specs.Entries.{Entry, Starts, Ends, entries_of, entry_count}
-use Rattle.meta_syntax.proofs.EntryLists.{length-entries}
-use Rattle.meta_matcher.specs.Written.{entry_of, seen}
-use Rattle.meta_matcher.specs.declared.entries.Entry as code
+use Rattle.base_language.specs.Language.Text.{Text}
+use Rattle.base_language.specs.Language.State.{Trees, None', Tree}
+use Rattle.front_syntax.specs.Entries.{Entry, Starts, Ends, entries_of, entry_count}
+use Rattle.front_syntax.proofs.EntryLists.{length-entries}
+use Rattle.matcher_interpreter.specs.Written.{entry_of, seen}
+use Rattle.matcher_interpreter.specs.declared.entries.Entry as code
 use Rattle.matcher_support.specs.Json.{closing, closing_of, flat, head, is_end, own_data, piece}
 use Rattle.matcher_support.specs.Shown.{part}
 use Rattle.matcher_support.specs.Values.{answer_data, inner_data, leaf_data, tree_data, trees_data}

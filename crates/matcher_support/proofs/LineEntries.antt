@@ -1,10 +1,10 @@
 -- The lines of the entries of trees are the lines of the trees.
 use Rattle.std.proofs.Common.{◌≡◌, ℕ, ◌+◌, ◌-◌, ◌<◌, ◌≤◌, List, [], ◌∷◌, ◌++◌, append_assoc, append-nil, add-one, drop, drop-cons, get_or, length, refl, sym, ap, ap₂, ◌∙◌, arith}
 use Rattle.std.proofs.lemmas.List.{drop_all}
-use Rattle.meta_base.specs.Language.State.{Trees, None', Tree}
-use Rattle.meta_syntax.specs.Entries.{Entry, Starts, Ends, entries_of, entry_count}
-use Rattle.meta_matcher.specs.Written.{entry_of, seen}
-use Rattle.meta_matcher.specs.declared.entries.Entry as code
+use Rattle.base_language.specs.Language.State.{Trees, None', Tree}
+use Rattle.front_syntax.specs.Entries.{Entry, Starts, Ends, entries_of, entry_count}
+use Rattle.matcher_interpreter.specs.Written.{entry_of, seen}
+use Rattle.matcher_interpreter.specs.declared.entries.Entry as code
 use Rattle.matcher_support.specs.Lines.{depth_after, end_at, flat, line, lines_of, piece, position_of}
 use Rattle.matcher_support.proofs.JsonEntries.{after_front, first_of_rest, rest_of_rest}
 

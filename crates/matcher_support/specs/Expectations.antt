@@ -1,6 +1,6 @@
 -- Messages on what is expected in a text.
 use Rattle.std.specs.Prelude.{ℕ, ◌==◌, Bool, List, [], ◌∷◌, ◌++◌, codes, encode_utf8_all, if◌then◌else◌, length}
-use Rattle.meta_base.specs.Language.Text.{Text}
+use Rattle.base_language.specs.Language.Text.{Text}
 
 -- the separator before a name that is not the first: of two in all, or of more, and the last of them or not
 abbrev pub name_separator : Bool → Bool → List ℕ

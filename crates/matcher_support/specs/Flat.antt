@@ -1,6 +1,6 @@
 -- Output of the code that goes over entries, entry by entry.
 use Rattle.std.specs.Prelude.{ℕ, ◌+◌, ◌-◌, ◌==◌, List, [], ◌∷◌, ◌++◌, codes, encode_utf8_all, if◌then◌else◌}
-use Rattle.meta_syntax.specs.Entries.{Entry, Starts, Ends}
+use Rattle.front_syntax.specs.Entries.{Entry, Starts, Ends}
 use Rattle.matcher_support.specs.Shown.{leaf, line_start}
 use Rattle.matcher_support.specs.declared.shown.Before.{Before}
 use Rattle.matcher_support.specs.declared.shown.Before.TheVariants as is

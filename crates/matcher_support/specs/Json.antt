@@ -1,6 +1,6 @@
 -- Token trees as JSON, entry by entry.
 use Rattle.std.specs.Prelude.{ℕ, ◌+◌, ◌==◌, Bool, false, true, List, [], ◌∷◌, ◌++◌, codes, decimal, drop, encode_utf8_all, get_or, if◌then◌else◌}
-use Rattle.meta_syntax.specs.Entries.{Entry, Starts, Ends}
+use Rattle.front_syntax.specs.Entries.{Entry, Starts, Ends}
 use Rattle.matcher_support.specs.Shown.{part}
 use Rattle.matcher_support.specs.Values.{leaf_data}
 use Rattle.serde_json.specs.Data.{Data, number, unsigned, string, object, member, no_members}

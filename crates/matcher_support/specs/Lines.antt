@@ -1,8 +1,8 @@
 -- Token trees as flat lines.
 use Rattle.std.specs.Prelude.{ℕ, ◌+◌, ◌-◌, List, [], ◌∷◌, ◌++◌, codes, decimal, encode_utf8_all, get_or}
-use Rattle.meta_base.specs.Language.Text.{Text}
-use Rattle.meta_base.specs.Language.State.{Trees, None', Tree}
-use Rattle.meta_syntax.specs.Entries.{Entry, Starts, Ends}
+use Rattle.base_language.specs.Language.Text.{Text}
+use Rattle.base_language.specs.Language.State.{Trees, None', Tree}
+use Rattle.front_syntax.specs.Entries.{Entry, Starts, Ends}
 
 -- the positions of a tree and its depth
 abbrev pub numbers : ℕ → ℕ → ℕ → List ℕ

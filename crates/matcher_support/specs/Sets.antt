@@ -1,7 +1,7 @@
 -- The sets of property names.
 use Rattle.std.specs.Prelude.{ℕ, Bool, false, ◌&&◌, Option, Some, None, is_some}
-use Rattle.meta_base.specs.Language.Builtins.{is_one_of, property_names}
-use Rattle.meta_base.specs.Language.Text.{Text}
+use Rattle.base_language.specs.Language.Builtins.{is_one_of, property_names}
+use Rattle.base_language.specs.Language.Text.{Text}
 use Rattle.ucd_sets.specs.Lookup.{by_name}
 use Rattle.ucd_sets.specs.Loose.{normalize}
 use Rattle.ucd_sets.specs.Sets.{in_set}

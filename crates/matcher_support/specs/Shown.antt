@@ -2,8 +2,8 @@
 use Rattle.std.specs.Prelude.{ℕ, ◌+◌, ◌&&◌, ◌||◌, Bool, List, [], ◌++◌, codes, encode_utf8_all, if◌then◌else◌, length, nat_le, nat_lt, slice_index, slice_range}
 use Rattle.std.specs.List.{repeat}
 use Rattle.std.specs.Str.{chars}
-use Rattle.meta_base.specs.Language.State.{Trees, None', Tree}
-use Rattle.meta_ast.specs.Printing.{literal}
+use Rattle.base_language.specs.Language.State.{Trees, None', Tree}
+use Rattle.base_ast.specs.Printing.{literal}
 
 -- a position is between two characters of a text, at its start or at its end
 abbrev pub is_boundary : List ℕ → ℕ → Bool

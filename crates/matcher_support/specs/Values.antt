@@ -1,7 +1,7 @@
 -- Token trees as data of JSON.
 use Rattle.std.specs.Prelude.{ℕ, List, codes, encode_utf8_all}
-use Rattle.meta_base.specs.Language.Text.{Text}
-use Rattle.meta_base.specs.Language.State.{Trees, None', Tree}
+use Rattle.base_language.specs.Language.Text.{Text}
+use Rattle.base_language.specs.Language.State.{Trees, None', Tree}
 use Rattle.matcher_support.specs.Shown.{part}
 use Rattle.serde_json.specs.Data.{Data, number, unsigned, string, array, object, Items, no_items, item, member, no_members}
 

@@ -1,15 +1,15 @@
 //! Token trees as JSON, written one entry after another.
 ghost use Rattle.std.specs.Prelude.{◌≡◌, ◌++◌, ◌<◌, IfOk, OnOk, chars, encode_utf8_all, length, string_bytes};
-ghost use Rattle.meta_base.specs.Language.State.{Trees};
-ghost use Rattle.meta_syntax.specs.Entries.{entries_of};
-ghost use Rattle.meta_matcher.specs.Written.{entry_of, seen};
+ghost use Rattle.base_language.specs.Language.State.{Trees};
+ghost use Rattle.front_syntax.specs.Entries.{entries_of};
+ghost use Rattle.matcher_interpreter.specs.Written.{entry_of, seen};
 ghost use Rattle.matcher_support.specs.Json.{closing, head, is_end, own_data, piece};
 ghost use Rattle.matcher_support.specs.Values.{answer_data, leaf_data};
 ghost use Rattle.serde_json.specs.View.{view};
 ghost use Rattle.serde_json.specs.Written.{compact_text};
 
 use crate::shown::part_of;
-use meta_matcher::entries::Entry;
+use matcher_interpreter::entries::Entry;
 use serde_json::{Value, json};
 use std::alloc::{AllocError, Global};
 

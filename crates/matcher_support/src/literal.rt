@@ -1,9 +1,9 @@
 //! Texts between quotes.
 ghost use Rattle.std.specs.Prelude.{Some, encode_utf8_all};
 ghost use Rattle.std.specs.Str.{chars};
-ghost use Rattle.meta_ast.specs.Printing.{literal};
+ghost use Rattle.base_ast.specs.Printing.{literal};
 
-use meta_ast::printing::fmt_literal;
+use base_ast::printing::fmt_literal;
 use std::fmt;
 
 /// A text that is written in quotes, as a literal of a grammar. Quotes and backslashes are escaped by a

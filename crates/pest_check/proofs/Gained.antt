@@ -4,15 +4,15 @@ use Rattle.std.proofs.Math.Utf8.{encodes}
 use Rattle.std.proofs.lemmas.List.{map-append, take_all, take_more}
 use Rattle.std.proofs.lemmas.Str.{encode_ascii, encodes-append}
 use Rattle.std.specs.Io.KnownBytes.{Appends, Keeps}
-use Rattle.meta_base.specs.Language.Expression.{RuleType, Normal, Silent, Atomic, CompoundAtomic, NonAtomic, Rule, Grammar}
-use Rattle.meta_base.specs.Language.Text.{Text}
-use Rattle.meta_ast.specs.Ast.{rule_type_of, text_of}
-use Rattle.meta_ast.specs.Optimized.{optimized_expression_of, optimized_rule_of, optimized_rules_of}
-use Rattle.meta_ast.specs.Printing.{printed}
-use Rattle.meta_ast.specs.declared.optimized.OptimizedExpr.{OptimizedExpr}
-use Rattle.meta_ast.specs.declared.optimized.OptimizedRule.{OptimizedRule}
-use Rattle.meta_ast.proofs.Characters.{encodes-text_of}
-use Rattle.meta_roundtrip.specs.ReadsBack.{grammar_text, modifier, rule_line}
+use Rattle.base_language.specs.Language.Expression.{RuleType, Normal, Silent, Atomic, CompoundAtomic, NonAtomic, Rule, Grammar}
+use Rattle.base_language.specs.Language.Text.{Text}
+use Rattle.base_ast.specs.Ast.{rule_type_of, text_of}
+use Rattle.base_ast.specs.Optimized.{optimized_expression_of, optimized_rule_of, optimized_rules_of}
+use Rattle.base_ast.specs.Printing.{printed}
+use Rattle.base_ast.specs.declared.optimized.OptimizedExpr.{OptimizedExpr}
+use Rattle.base_ast.specs.declared.optimized.OptimizedRule.{OptimizedRule}
+use Rattle.base_ast.proofs.Characters.{encodes-text_of}
+use Rattle.front_roundtrip.specs.ReadsBack.{grammar_text, modifier, rule_line}
 
 -- what is kept behind a gain
 pub Appends-kept : (a b c : Option (List ℕ)) (xs : List ℕ) → Appends a b xs → Keeps b c → Appends a c xs

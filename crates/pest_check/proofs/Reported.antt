@@ -3,8 +3,8 @@ use Rattle.std.proofs.Common.{◌≡◌, ◌⊎◌, inl, inr, ℕ, List, Option,
 use Rattle.std.specs.Prelude.{IsErr, IsErrAnd}
 use Rattle.std.specs.declared.alloc.Global.{Global}
 use Rattle.std.specs.declared.string.String.{String}
-use Rattle.meta_base.specs.declared.runtime.faults.Fault.{Fault}
-use Rattle.meta_base.specs.declared.runtime.faults.Fault.TheVariants as fault_is
+use Rattle.base_language.specs.declared.runtime.faults.Fault.{Fault}
+use Rattle.base_language.specs.declared.runtime.faults.Fault.TheVariants as fault_is
 use Rattle.pest_check.specs.Written.{ReportsRefusal, WritesLine}
 use Rattle.pest_meta.specs.Reports.{IsReportOf, report_text}
 use Rattle.pest_meta.specs.Spelling.{IsRefusal}

@@ -2,13 +2,13 @@
 use Rattle.std.specs.Prelude.{ℕ, List, [], ◌∷◌, ◌++◌, Option, Result, OnOk, encode_utf8_all}
 use Rattle.std.specs.Borrow.{Bor}
 use Rattle.std.specs.Io.KnownBytes.{Appends}
-use Rattle.meta_base.specs.declared.grammar.Rule.{Rule}
-use Rattle.meta_base.specs.declared.runtime.errors.Error.{Error}
-use Rattle.meta_ast.specs.Optimized.{optimized_rules_of}
-use Rattle.meta_ast.specs.declared.optimized.OptimizedRule.{OptimizedRule}
+use Rattle.base_language.specs.declared.grammar.Rule.{Rule}
+use Rattle.base_language.specs.declared.runtime.errors.Error.{Error}
+use Rattle.base_ast.specs.Optimized.{optimized_rules_of}
+use Rattle.base_ast.specs.declared.optimized.OptimizedRule.{OptimizedRule}
 use Rattle.pest_meta.specs.Reports.{report_text}
 use Rattle.pest_meta.specs.Spelling.{IsAnswer, IsRefusedWith}
-use Rattle.meta_roundtrip.specs.ReadsBack.{grammar_text}
+use Rattle.front_roundtrip.specs.ReadsBack.{grammar_text}
 
 -- there is an answer for the text, and the writer's contents grew by its rules, a line each
 pub record PrintsAnswer (text : List ℕ) (old new : Option (List ℕ)) : Type 0 where

@@ -1,21 +1,21 @@
 //! The program after its input is read.
 ghost use Rattle.std.specs.Prelude.{◌≡◌, ◌≢◌, ◌≤◌, ◌⊎◌, ◌↔◌, IfNone, IfOk, IfSome, IsErr, IsOk, IsUtf8, codes, encode_utf8_all, string_bytes, true};
 ghost use Rattle.std.specs.Io.KnownBytes.{Appends};
-ghost use Rattle.meta_ast.specs.Ast.{rule_type_of};
-ghost use Rattle.meta_ast.specs.Optimized.{optimized_rules_of};
+ghost use Rattle.base_ast.specs.Ast.{rule_type_of};
+ghost use Rattle.base_ast.specs.Optimized.{optimized_rules_of};
 ghost use Rattle.pest_check.specs.Written.{PrintsAnswer, ReportsRefusal, WritesLine};
 ghost use Rattle.pest_meta.specs.Spelling.{HasAnswer};
-ghost use Rattle.meta_roundtrip.specs.ReadsBack.{grammar_text, modifier};
-ghost use Rattle.tool_support.specs.Statuses.{status_code};
+ghost use Rattle.front_roundtrip.specs.ReadsBack.{grammar_text, modifier};
+ghost use Rattle.program_support.specs.Statuses.{status_code};
 
-use meta_ast::optimized::release;
+use base_ast::optimized::release;
 use pest_meta::ast::RuleType;
 use pest_meta::optimizer::OptimizedRule;
 use pest_meta::{Report, parse_and_optimize, unwrap_or_report};
+use program_support::output::{Output, RefusedWrite};
+use program_support::status::Status;
 use std::alloc::{AllocError, Global};
 use std::io::Write;
-use tool_support::output::{Output, RefusedWrite};
-use tool_support::status::Status;
 
 /// The end of a run.
 #[derive(Drop)]

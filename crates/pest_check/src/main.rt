@@ -8,10 +8,10 @@ ghost use Rattle.pest_meta.specs.Spelling.{HasAnswer, HasRefusal};
 mod checks;
 
 use checks::run;
+use program_support::output::Output;
 use std::io::Read;
 use std::process::ExitCode;
 use std::{env, fs};
-use tool_support::output::Output;
 
 /// Reads the grammar's bytes from the file that the one argument names, or from standard input without one.
 /// Returns `None` if they can't be read, or if there is a second argument.

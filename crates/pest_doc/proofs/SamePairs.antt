@@ -1,9 +1,9 @@
 -- A copy of pairs is pairs of the same text.
 use Rattle.std.proofs.Common.{◌≡◌, ℕ, List, ◌∙◌}
-use Rattle.meta_base.specs.Pieces.Pairs.{IsSamePairs, pairs_text}
-use Rattle.meta_base.specs.declared.grammar.Rule.{Rule}
-use Rattle.meta_base.specs.declared.runtime.tokens.Pairs.{Pairs}
-use Rattle.meta_syntax.specs.Parses.{AreOfAGrammar}
+use Rattle.base_language.specs.Pieces.Pairs.{IsSamePairs, pairs_text}
+use Rattle.base_language.specs.declared.grammar.Rule.{Rule}
+use Rattle.base_language.specs.declared.runtime.tokens.Pairs.{Pairs}
+use Rattle.front_syntax.specs.Parses.{AreOfAGrammar}
 use Rattle.pest_doc.specs.Outcomes.{ArePairsOf}
 
 pub pairs_of_copy : (text : List ℕ) (pairs copy : Pairs Rule) → pairs_text pairs ≡ text → AreOfAGrammar pairs

@@ -1,7 +1,7 @@
 -- The message that a grammar has no rule of a name.
 use Rattle.std.specs.Prelude.{◌≡◌, ◌⊎◌, ℕ, List, ◌++◌, Contains, None, Option, Some, codes, map}
 use Rattle.std.specs.Borrow.{Bor}
-use Rattle.tool_support.specs.Escapes.{escaped_bytes}
+use Rattle.program_support.specs.Escapes.{escaped_bytes}
 
 -- that a file has no rule of a name, before what follows
 abbrev pub absence : List ℕ → List ℕ → List ℕ → List ℕ

@@ -3,20 +3,20 @@ use Rattle.std.specs.Prelude.{◌≡◌, ℕ, List, [], None, string_bytes}
 use Rattle.std.specs.Str.{IsUtf8}
 use Rattle.std.specs.declared.alloc.Global.{Global}
 use Rattle.std.specs.declared.string.String.{String}
-use Rattle.meta_base.specs.Language.Expression.{Grammar}
-use Rattle.meta_base.specs.Pieces.Pairs.{pairs_text}
-use Rattle.meta_base.specs.declared.grammar.Rule.{Rule}
-use Rattle.meta_base.specs.declared.grammar.Rule.TheVariants.{grammar_rules}
-use Rattle.meta_base.specs.declared.runtime.errors.Error.{Error}
-use Rattle.meta_base.specs.declared.runtime.faults.Fault.{Fault}
-use Rattle.meta_base.specs.declared.runtime.faults.Fault.TheVariants as fault
-use Rattle.meta_base.specs.declared.runtime.tokens.Pairs.{Pairs}
+use Rattle.base_language.specs.Language.Expression.{Grammar}
+use Rattle.base_language.specs.Pieces.Pairs.{pairs_text}
+use Rattle.base_language.specs.declared.grammar.Rule.{Rule}
+use Rattle.base_language.specs.declared.grammar.Rule.TheVariants.{grammar_rules}
+use Rattle.base_language.specs.declared.runtime.errors.Error.{Error}
+use Rattle.base_language.specs.declared.runtime.faults.Fault.{Fault}
+use Rattle.base_language.specs.declared.runtime.faults.Fault.TheVariants as fault
+use Rattle.base_language.specs.declared.runtime.tokens.Pairs.{Pairs}
 use Rattle.std.specs.declared.vec.Vec.{Vec}
-use Rattle.meta_doc.specs.Documents.{AreRulesOf, HasNoRule, IsDiagramOfRule}
-use Rattle.meta_markup.specs.Pages.{AreDefinitions, IsMarkdownPage, IsPage}
-use Rattle.meta_names.specs.GrammarNames.{IsNameRefusal, complaints_of}
-use Rattle.meta_reader.specs.Refusals.{IsReadRefusal, first_flaw_of}
-use Rattle.meta_syntax.specs.Parses.{AreOfAGrammar, ParseRefuses}
+use Rattle.doc_pages.specs.Documents.{AreRulesOf, HasNoRule, IsDiagramOfRule}
+use Rattle.doc_markup.specs.Pages.{AreDefinitions, IsMarkdownPage, IsPage}
+use Rattle.front_names.specs.GrammarNames.{IsNameRefusal, complaints_of}
+use Rattle.front_reader.specs.Refusals.{IsReadRefusal, first_flaw_of}
+use Rattle.front_syntax.specs.Parses.{AreOfAGrammar, ParseRefuses}
 use Rattle.pest_doc.specs.declared.arguments.DocumentFormat.{DocumentFormat}
 use Rattle.pest_doc.specs.declared.arguments.DocumentFormat.TheVariants as format
 use Rattle.pest_doc.specs.declared.run.DocumentOutcome.{DocumentOutcome}

@@ -1,11 +1,11 @@
 -- The message that a grammar is refused.
 use Rattle.std.specs.Prelude.{◌≡◌, ℕ, List, ◌++◌, codes}
-use Rattle.diagnostic_data.specs.Reports.{IsMessageOf}
-use Rattle.meta_base.specs.Pieces.PrintedError.{error_text}
-use Rattle.meta_base.specs.declared.grammar.Rule.{Rule}
-use Rattle.meta_base.specs.declared.runtime.errors.Error.{Error}
-use Rattle.tool_support.specs.Escapes.{escaped_lines}
-use Rattle.tool_support.specs.Messages.{ArePartsOf, IsPlaced}
+use Rattle.lint_findings.specs.Reports.{IsMessageOf}
+use Rattle.base_language.specs.Pieces.PrintedError.{error_text}
+use Rattle.base_language.specs.declared.grammar.Rule.{Rule}
+use Rattle.base_language.specs.declared.runtime.errors.Error.{Error}
+use Rattle.program_support.specs.Escapes.{escaped_lines}
+use Rattle.program_support.specs.Messages.{ArePartsOf, IsPlaced}
 
 -- an error's own message, or another one where it has none, and the error's place
 pub record ShowsError (name : List ℕ) (error : Error Rule) (part : List ℕ) : Type 0 where

@@ -2,11 +2,11 @@
 ghost use Rattle.std.specs.Prelude.{◌≡◌, ◌≢◌, ◌∷◌, [], IfNone, IfOk, IfSome, Some, codes, is_some, true};
 ghost use Rattle.clap.specs.Matches.{first_value, found_of};
 ghost use Rattle.clap.specs.Simple.{app_of};
-ghost use Rattle.command_line.specs.Arguments.{HasForm, arguments_of, option, positional};
+ghost use Rattle.program_support.specs.Arguments.{HasForm, arguments_of, option, positional};
 ghost use Rattle.pest_doc.specs.Arguments.{IsNamed, asked_rule};
 
 use clap::{Arg, ArgMatches, Command};
-use command_line::{add_argument, new_command, option, positional};
+use program_support::arguments::{add_argument, new_command, option, positional};
 use std::alloc::{AllocError, Global};
 
 /// A document that is asked for.

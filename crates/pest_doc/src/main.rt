@@ -7,14 +7,14 @@ mod run;
 
 use arguments::{command, format_of};
 use messages::NO_DIAGRAM;
+use program_support::input::read_input;
+use program_support::messages::{cannot_read, cannot_write, is_not_utf8};
+use program_support::status::Status;
 use run::{DocumentOutcome, Request, outcome_of};
 use std::alloc::AllocError;
 use std::io::{self, Write};
 use std::process::ExitCode;
 use std::{env, fs};
-use tool_support::input::read_input;
-use tool_support::messages::{cannot_read, cannot_write, is_not_utf8};
-use tool_support::status::Status;
 
 /// Writes a text to the file of a name, or to standard output where none is given.
 fn write(rt: &HostRuntime, text: &str, out: Option<&str>) -> io::Result<()> {

@@ -1,21 +1,21 @@
 //! Messages on standard error. A character that a terminal obeys is shown as an escape.
 ghost use Rattle.std.specs.Prelude.{◌≡◌, ◌++◌, IfOk, codes, string_bytes};
-ghost use Rattle.tool_support.specs.Escapes.{escaped_bytes};
+ghost use Rattle.program_support.specs.Escapes.{escaped_bytes};
 ghost use Rattle.std.specs.List.{AllZip};
-ghost use Rattle.diagnostic_data.specs.Reports.{IsMessageOf, ReportsError};
+ghost use Rattle.lint_findings.specs.Reports.{IsMessageOf, ReportsError};
 ghost use Rattle.pest_doc.specs.Messages.{IsAbsence, IsNamedAbsence};
 ghost use Rattle.pest_doc.specs.Refusals.{IsRefusal, ShowsError};
-ghost use Rattle.tool_support.specs.Messages.{ArePartsOf};
+ghost use Rattle.program_support.specs.Messages.{ArePartsOf};
 
-use diagnostic_data::{Diagnostic, diagnose_errors};
-use meta_base::grammar::Rule;
-use meta_base::runtime::Error;
-use meta_hints::nearest_name;
-use meta_reader::rules::common_name;
-use meta_syntax::grammar::PestParser;
+use base_language::grammar::Rule;
+use base_language::runtime::Error;
+use front_reader::rules::common_name;
+use front_syntax::grammar::PestParser;
+use lint_findings::{Diagnostic, diagnose_errors};
+use lint_hints::nearest_name;
+use program_support::escape::{escape, escape_lines};
+use program_support::messages::place_error;
 use std::alloc::{AllocError, Global};
-use tool_support::escape::{escape, escape_lines};
-use tool_support::messages::place_error;
 
 /// The message for a rule that is named where no diagram is asked for.
 pub const NO_DIAGRAM: &str = "--rule is for --format svg alone; pest-doc --help shows the usage\n";

@@ -1,15 +1,15 @@
 //! From the bytes of a grammar to a document, or to the reason why there is none.
 ghost use Rattle.std.specs.Prelude.{IfErr, IfOk};
-ghost use Rattle.meta_ast.specs.Ast.{rules_of};
+ghost use Rattle.base_ast.specs.Ast.{rules_of};
 ghost use Rattle.pest_doc.specs.Outcomes.{IsAnswerOf, IsMadeOf, IsOutcome, RefusesText, SpellsRules};
 
 use crate::arguments::DocumentFormat;
 use crate::messages::{has_no_rule, refusal_message};
-use meta_base::grammar::Rule;
-use meta_base::runtime::Fault;
-use meta_doc::{GrammarDoc, ebnf_text, html_page, markdown_page, read_grammar, svg_diagram};
-use meta_names::validate_pairs;
-use meta_syntax::grammar::PestParser;
+use base_language::grammar::Rule;
+use base_language::runtime::Fault;
+use doc_pages::{GrammarDoc, ebnf_text, html_page, markdown_page, read_grammar, svg_diagram};
+use front_names::validate_pairs;
+use front_syntax::grammar::PestParser;
 use std::alloc::{AllocError, Global};
 
 /// A request for a document.

@@ -3,12 +3,12 @@ use Rattle.std.proofs.Common.{◌≡◌, ◌≢◌, ◌≤◌, ◌<◌, ◌⊎�
 use Rattle.std.proofs.lemmas.List.{take_all, take_more}
 use Rattle.std.specs.Prelude.{IsUtf8}
 use Rattle.std.specs.Borrow.{Bor}
-use Rattle.meta_format.specs.declared.LineEnds.{LineEnds}
+use Rattle.format_grammar.specs.declared.LineEnds.{LineEnds}
 use Rattle.pest_fmt.specs.Files.AreOfNames.{more, none}
 use Rattle.pest_fmt.specs.Files.{AreOfNames, IsOfFile, IsOfName, IsOfRun, IsTargetFor}
 use Rattle.pest_fmt.specs.declared.arguments.Target.{Target}
-use Rattle.tool_support.specs.Statuses.{status_code}
-use Rattle.tool_support.specs.declared.status.Status.{Status}
+use Rattle.program_support.specs.Statuses.{status_code}
+use Rattle.program_support.specs.declared.status.Status.{Status}
 
 module _ (line_ends : LineEnds) (asked : Target) (names : List (Bor (List ℕ))) where
   -- one more file

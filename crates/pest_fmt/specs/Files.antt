@@ -1,16 +1,16 @@
 -- The statuses of the files of a command line.
 use Rattle.std.specs.Prelude.{◌≡◌, ◌≢◌, ◌⊎◌, ℕ, List, [], ◌∷◌, ◌++◌, IsUtf8, codes, max}
 use Rattle.std.specs.Borrow.{Bor}
-use Rattle.meta_format.specs.Formatting.{IsFormatted}
-use Rattle.meta_format.specs.declared.LineEnds.{LineEnds}
+use Rattle.format_grammar.specs.Formatting.{IsFormatted}
+use Rattle.format_grammar.specs.declared.LineEnds.{LineEnds}
 use Rattle.pest_fmt.specs.Processing.{IsReplacement}
 use Rattle.pest_fmt.specs.declared.arguments.Target.{Target}
 use Rattle.pest_fmt.specs.declared.arguments.Target.TheVariants.{File, Output}
 use Rattle.pest_fmt.specs.declared.processing.Processed.{Processed}
 use Rattle.pest_fmt.specs.declared.processing.Processed.TheVariants.{Ended, Replacement}
-use Rattle.tool_support.specs.Statuses.{status_code}
-use Rattle.tool_support.specs.declared.status.Status.{Status}
-use Rattle.tool_support.specs.declared.status.Status.TheVariants.{Done, Unreadable, Unwritable}
+use Rattle.program_support.specs.Statuses.{status_code}
+use Rattle.program_support.specs.declared.status.Status.{Status}
+use Rattle.program_support.specs.declared.status.Status.TheVariants.{Done, Unreadable, Unwritable}
 
 -- a status that follows from the end of the work on a text: the file is replaced, or can't be
 abbrev pub IsStatusOf : Processed → Status → Type 0

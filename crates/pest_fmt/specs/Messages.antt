@@ -1,10 +1,10 @@
 -- The message that a text is no grammar.
 use Rattle.std.specs.Prelude.{◌≡◌, ℕ, List, ◌++◌, codes}
-use Rattle.meta_base.specs.Pieces.PrintedError.{error_text}
-use Rattle.meta_base.specs.declared.grammar.Rule.{Rule}
-use Rattle.meta_base.specs.declared.runtime.errors.Error.{Error}
-use Rattle.tool_support.specs.Escapes.{escaped_bytes, escaped_lines}
-use Rattle.tool_support.specs.Messages.{ArePartsOf, IsPlaced}
+use Rattle.base_language.specs.Pieces.PrintedError.{error_text}
+use Rattle.base_language.specs.declared.grammar.Rule.{Rule}
+use Rattle.base_language.specs.declared.runtime.errors.Error.{Error}
+use Rattle.program_support.specs.Escapes.{escaped_bytes, escaped_lines}
+use Rattle.program_support.specs.Messages.{ArePartsOf, IsPlaced}
 
 -- that a file is left alone, with what was expected and what was found, and the place
 pub record TellsError (name : List ℕ) (error : Error Rule) (part : List ℕ) : Type 0 where

@@ -1,12 +1,12 @@
 -- The outcome of formatting a text.
 use Rattle.std.specs.Prelude.{◌≢◌, ℕ, List}
 use Rattle.std.specs.String.{string_bytes}
-use Rattle.meta_base.specs.declared.grammar.Rule.TheVariants.{grammar_rules}
-use Rattle.meta_base.specs.declared.runtime.faults.Fault.TheVariants.{Grammar}
-use Rattle.meta_format.specs.Formatting.{AreTokens, IsFormatted}
-use Rattle.meta_format.specs.declared.LineEnds.{LineEnds}
-use Rattle.meta_syntax.specs.Parses.{ParseRefuses}
-use Rattle.meta_syntax.specs.declared.entries.Entry.{Entry}
+use Rattle.base_language.specs.declared.grammar.Rule.TheVariants.{grammar_rules}
+use Rattle.base_language.specs.declared.runtime.faults.Fault.TheVariants.{Grammar}
+use Rattle.format_grammar.specs.Formatting.{AreTokens, IsFormatted}
+use Rattle.format_grammar.specs.declared.LineEnds.{LineEnds}
+use Rattle.front_syntax.specs.Parses.{ParseRefuses}
+use Rattle.front_syntax.specs.declared.entries.Entry.{Entry}
 use Rattle.pest_fmt.specs.declared.outcomes.FileChange.{FileChange}
 use Rattle.pest_fmt.specs.declared.outcomes.FileChange.TheVariants as is
 

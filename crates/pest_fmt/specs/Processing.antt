@@ -2,14 +2,14 @@
 use Rattle.std.specs.Prelude.{◌≡◌, ◌≢◌, ◌≤◌, ℕ, List, Option, ⊤}
 use Rattle.std.specs.Io.KnownBytes.{Appends}
 use Rattle.std.specs.String.{string_bytes}
-use Rattle.meta_format.specs.Formatting.{IsFormatted}
-use Rattle.meta_format.specs.declared.LineEnds.{LineEnds}
+use Rattle.format_grammar.specs.Formatting.{IsFormatted}
+use Rattle.format_grammar.specs.declared.LineEnds.{LineEnds}
 use Rattle.pest_fmt.specs.declared.arguments.Target.{Target}
 use Rattle.pest_fmt.specs.declared.arguments.Target.TheVariants.{File}
 use Rattle.pest_fmt.specs.declared.processing.Processed.{Processed}
 use Rattle.pest_fmt.specs.declared.processing.Processed.TheVariants.{Ended, Replacement}
-use Rattle.tool_support.specs.Statuses.{status_code}
-use Rattle.tool_support.specs.declared.status.Status.{Status}
+use Rattle.program_support.specs.Statuses.{status_code}
+use Rattle.program_support.specs.declared.status.Status.{Status}
 
 -- the contents of a writer grew by a formatted text
 pub record PrintsFormatted (line_ends : LineEnds) (text : List ℕ) (old new : Option (List ℕ)) : Type 0 where

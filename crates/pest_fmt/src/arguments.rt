@@ -2,11 +2,11 @@
 ghost use Rattle.std.specs.Prelude.{◌≡◌, ◌≢◌, ◌∷◌, [], IfOk, Some, codes};
 ghost use Rattle.clap.specs.Matches.{found_of, one_text};
 ghost use Rattle.clap.specs.Simple.{app_of};
-ghost use Rattle.command_line.specs.Arguments.{HasForm, arguments_of, flag, positionals};
+ghost use Rattle.program_support.specs.Arguments.{HasForm, arguments_of, flag, positionals};
 
 use clap::{Arg, ArgAction, ArgMatches, Command};
-use command_line::{add_argument, flag, new_command, positional};
-use meta_format::{LineEnds, Options};
+use format_grammar::{LineEnds, Options};
+use program_support::arguments::{add_argument, flag, new_command, positional};
 use std::alloc::{AllocError, Global};
 
 /// The destination of a formatted text.

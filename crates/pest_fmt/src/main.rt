@@ -9,11 +9,11 @@ mod processing;
 mod run;
 
 use arguments::{command, delivery_of, options_of};
+use program_support::status::Status;
 use run::format_files;
 use std::env;
 use std::io::{IsTerminal, Write};
 use std::process::ExitCode;
-use tool_support::status::Status;
 
 /// Returns the status for the words of the command line.
 fn answer(rt: &HostRuntime) -> Result<Status, clap::Error> {

@@ -1,15 +1,15 @@
 //! Messages on standard error.
 ghost use Rattle.std.specs.Prelude.{◌≡◌, ◌++◌, IfOk, codes, string_bytes};
 ghost use Rattle.pest_fmt.specs.Messages.{IsRefusal, TellsError};
-ghost use Rattle.tool_support.specs.Escapes.{escaped_bytes};
+ghost use Rattle.program_support.specs.Escapes.{escaped_bytes};
 
-use meta_base::grammar::Rule;
-use meta_base::runtime::{Error, InputLocation};
-use meta_reader::rules::common_name;
-use meta_syntax::grammar::PestParser;
+use base_language::grammar::Rule;
+use base_language::runtime::{Error, InputLocation};
+use front_reader::rules::common_name;
+use front_syntax::grammar::PestParser;
+use program_support::escape::{escape, escape_lines};
+use program_support::messages::place_error;
 use std::alloc::{AllocError, Global};
-use tool_support::escape::{escape, escape_lines};
-use tool_support::messages::place_error;
 
 /// The greatest number of expected rules that a message names.
 const NAMED: usize = 5;

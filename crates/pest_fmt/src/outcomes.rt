@@ -2,9 +2,9 @@
 ghost use Rattle.std.specs.Prelude.{IfOk};
 ghost use Rattle.pest_fmt.specs.Outcomes.{IsFileChange};
 
-use meta_base::grammar::Rule;
-use meta_base::runtime::{Error, Fault};
-use meta_format::{Formatted, Options, format};
+use base_language::grammar::Rule;
+use base_language::runtime::{Error, Fault};
+use format_grammar::{Formatted, Options, format};
 use std::alloc::{AllocError, Global};
 
 /// The outcome of formatting a text.

@@ -1,19 +1,19 @@
 //! The work on the text of a file.
 ghost use Rattle.std.specs.Prelude.{◌≡◌, ◌⊎◌, IfOk, false, true};
 ghost use Rattle.std.specs.Io.KnownBytes.{Appends};
-ghost use Rattle.meta_format.specs.Formatting.{IsFormatted};
+ghost use Rattle.format_grammar.specs.Formatting.{IsFormatted};
 ghost use Rattle.pest_fmt.specs.Processing.{IsKnownEnd, IsReplacement, PrintsFormatted};
 
 use crate::arguments::{Delivery, Target};
 use crate::diff::diff;
 use crate::messages::{cannot_format, refusal_message};
 use crate::outcomes::{FileChange, outcome_of};
-use meta_format::Options;
+use format_grammar::Options;
+use program_support::escape::{escape, escape_lines};
+use program_support::output::Output;
+use program_support::status::Status;
 use std::alloc::{AllocError, Global};
 use std::io::Write;
-use tool_support::escape::{escape, escape_lines};
-use tool_support::output::Output;
-use tool_support::status::Status;
 
 /// A file that was read.
 #[derive(Clone, Copy)]

@@ -5,14 +5,14 @@ ghost use Rattle.pest_fmt.specs.Processing.{IsKnown};
 
 use crate::arguments::{Delivery, Target};
 use crate::processing::{Processed, TextFile, process};
-use meta_format::Options;
+use format_grammar::Options;
+use program_support::input::read_input;
+use program_support::messages::{cannot_read, cannot_write, is_not_utf8};
+use program_support::output::Output;
+use program_support::replacement::replace;
+use program_support::status::Status;
 use std::alloc::AllocError;
 use std::io::Write;
-use tool_support::input::read_input;
-use tool_support::messages::{cannot_read, cannot_write, is_not_utf8};
-use tool_support::output::Output;
-use tool_support::replacement::replace;
-use tool_support::status::Status;
 
 /// Formats the files of these names, `-` being standard input, and returns the status with the highest
 /// number. Stops where standard output refuses a write. The only error is an allocation failure. No clause

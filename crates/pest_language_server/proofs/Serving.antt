@@ -1,7 +1,7 @@
 -- One frame of a session.
 use Rattle.std.proofs.Common.{◌≡◌, ℕ, List, Option, None, Some, refl}
-use Rattle.meta_service.specs.declared.replies.Reply.{Reply}
-use Rattle.meta_service.specs.declared.server.Server.{Server}
+use Rattle.pest_language_server.specs.declared.replies.Reply.{Reply}
+use Rattle.pest_language_server.specs.declared.server.Server.{Server}
 use Rattle.pest_language_server.specs.Sessions.{Answers, IsStep, answers, exits}
 
 -- the session ends with the status of a reply, or goes on

@@ -3,10 +3,10 @@ use Rattle.std.specs.Prelude.{◌≡◌, ℕ, List, Option, None, Some, string_b
 use Rattle.std.specs.Io.KnownBytes.{Appends, Keeps}
 use Rattle.std.specs.declared.alloc.Global.{Global}
 use Rattle.std.specs.declared.string.String.{String}
-use Rattle.meta_service.specs.Replies.{IsRefusal}
-use Rattle.meta_service.specs.Sessions.{IsNew, RepliesTo}
-use Rattle.meta_service.specs.declared.replies.Reply.{Reply}
-use Rattle.meta_service.specs.declared.server.Server.{Server}
+use Rattle.pest_language_server.specs.Replies.{IsRefusal}
+use Rattle.pest_language_server.specs.Serving.{IsNew, RepliesTo}
+use Rattle.pest_language_server.specs.declared.replies.Reply.{Reply}
+use Rattle.pest_language_server.specs.declared.server.Server.{Server}
 use Rattle.pest_language_server.specs.Frames.{IsFrameRead, frame_of}
 use Rattle.pest_language_server.specs.declared.frames.InputFrame.{InputFrame}
 use Rattle.pest_language_server.specs.declared.frames.InputFrame.TheVariants as frame

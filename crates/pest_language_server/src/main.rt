@@ -1,7 +1,11 @@
 //! A language server for pest grammars, over standard input and output.
 #![tactic(auto)]
 
+mod capabilities;
 mod frames;
+mod replies;
+mod requests;
+mod server;
 mod session;
 
 use session::run;

@@ -3,7 +3,8 @@ ghost use Rattle.std.specs.Prelude.{IfOk, OnOk};
 ghost use Rattle.pest_language_server.specs.Sessions.{IsSession, IsStep, RepliesToFrame, Sends, Serves};
 
 use crate::frames::{InputFrame, read_frame, write_frame};
-use meta_service::{Reply, Server};
+use crate::replies::Reply;
+use crate::server::Server;
 use std::alloc::{AllocError, Global};
 use std::io::{self, BufRead, Write};
 

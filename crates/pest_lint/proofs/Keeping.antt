@@ -3,7 +3,7 @@ use Rattle.std.proofs.Common.{◌≡◌, ◌∙◌, ℕ, ◌+◌, ◌<◌, ◌�
 use Rattle.std.proofs.lemmas.List.{drop-set-lt, take_all, take_more, take_more_set}
 use Rattle.std.proofs.lemmas.List.Elements.{AllZip-push}
 use Rattle.std.specs.List.{AllZip}
-use Rattle.lint_fixes.specs.Fixes.{AreFixed}
+use Rattle.lint_output.specs.Fixes.{AreFixed}
 use Rattle.pest_lint.specs.Fixing.{IsKept}
 use Rattle.pest_lint.specs.declared.lint.Source.{Source}
 

@@ -4,10 +4,10 @@ use Rattle.std.specs.List.{AllZip}
 use Rattle.serde_json.specs.Data.{Data}
 use Rattle.serde_json.specs.View.{items_of}
 use Rattle.serde_json.specs.Written.{items_have_float}
-use Rattle.diagnostic_data.specs.declared.diagnostic.Diagnostic.{Diagnostic}
+use Rattle.lint_findings.specs.declared.diagnostic.Diagnostic.{Diagnostic}
 use Rattle.lint_output.specs.Sarif.{result_data}
 use Rattle.lint_output.proofs.Floats.{append_free, results_free}
-use Rattle.meta_diagnostics.specs.Diagnosis.{IsDiagnosisWith}
+use Rattle.lint_diagnostics.specs.Diagnosis.{IsDiagnosisWith}
 use Rattle.pest_lint.specs.Logs.{AreLogged, Logs, Part, all_results, highest_part, read, results_of, unread}
 use Rattle.pest_lint.specs.Shows.{Asked, IsReadable, status_of}
 use Rattle.pest_lint.specs.declared.lint.Source.{Source}

@@ -4,10 +4,10 @@ use Rattle.std.proofs.lemmas.List.{drop_all, take_all, take_more}
 use Rattle.std.proofs.lemmas.List.Elements.{All-append}
 use Rattle.std.specs.List.{AllZip, list_any}
 use Rattle.std.specs.Io.KnownBytes.{Appends}
-use Rattle.diagnostic_data.specs.Reports.{is_error}
-use Rattle.diagnostic_data.specs.declared.diagnostic.Diagnostic.{Diagnostic}
+use Rattle.lint_findings.specs.Reports.{is_error}
+use Rattle.lint_findings.specs.declared.diagnostic.Diagnostic.{Diagnostic}
 use Rattle.lint_output.specs.declared.Style.{Style}
-use Rattle.meta_diagnostics.specs.Diagnosis.{IsDiagnosisWith}
+use Rattle.lint_diagnostics.specs.Diagnosis.{IsDiagnosisWith}
 use Rattle.pest_lint.specs.Shows.{ArePrinted, Asked, Gains, IsReadable, ShowsText, counts, read, status_of, unread}
 use Rattle.pest_lint.specs.declared.lint.Source.{Source}
 

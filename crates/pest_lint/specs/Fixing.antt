@@ -1,6 +1,6 @@
 -- Files with fixes.
 use Rattle.std.specs.Prelude.{◌≡◌, ◌⊎◌, ℕ}
-use Rattle.lint_fixes.specs.Fixes.{AreFixed}
+use Rattle.lint_output.specs.Fixes.{AreFixed}
 use Rattle.pest_lint.specs.declared.lint.Source.{Source}
 
 -- a file's name stays, and its bytes do, or they become those of its text with fixes

@@ -5,9 +5,9 @@ use Rattle.std.specs.Io.KnownBytes.{Appends}
 use Rattle.serde_json.specs.Data.{Data}
 use Rattle.serde_json.specs.View.{items_of}
 use Rattle.serde_json.specs.Written.{compact_text}
-use Rattle.diagnostic_data.specs.declared.diagnostic.Diagnostic.{Diagnostic}
+use Rattle.lint_findings.specs.declared.diagnostic.Diagnostic.{Diagnostic}
 use Rattle.lint_output.specs.Sarif.{log_data, result_data}
-use Rattle.meta_diagnostics.specs.Diagnosis.{IsDiagnosisWith}
+use Rattle.lint_diagnostics.specs.Diagnosis.{IsDiagnosisWith}
 use Rattle.pest_lint.specs.Shows.{Asked, GainsAll, IsReadable, status_of}
 use Rattle.pest_lint.specs.declared.arguments.Format.{Format}
 use Rattle.pest_lint.specs.declared.arguments.Format.TheVariants as format

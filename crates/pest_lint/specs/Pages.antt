@@ -1,9 +1,9 @@
 -- The pages of codes.
 use Rattle.std.specs.Prelude.{◌≡◌, ℕ, List, ◌++◌, Option, codes, true}
 use Rattle.std.specs.Io.KnownBytes.{Appends}
-use Rattle.diagnostic_data.specs.Codes.{code_name, has_name, severity_name, severity_of}
-use Rattle.diagnostic_data.specs.declared.codes.Code.{Code}
-use Rattle.diagnostic_data.specs.declared.codes.Code.TheVariants as code
+use Rattle.lint_findings.specs.Codes.{code_name, has_name, severity_name, severity_of}
+use Rattle.lint_findings.specs.declared.codes.Code.{Code}
+use Rattle.lint_findings.specs.declared.codes.Code.TheVariants as code
 use Rattle.pest_lint.specs.declared.explain.TheConstants as page
 
 -- the page of a code

@@ -2,13 +2,13 @@
 use Rattle.std.specs.Prelude.{◌≡◌, ℕ, List, [], ◌∷◌, ◌++◌, Bool, ◌||◌, None, Option, IsUtf8, if◌then◌else◌, max, string_bytes}
 use Rattle.std.specs.List.{AllZip, list_any}
 use Rattle.std.specs.Io.KnownBytes.{Appends}
-use Rattle.diagnostic_data.specs.Reports.{is_error}
-use Rattle.diagnostic_data.specs.declared.diagnostic.Diagnostic.{Diagnostic}
+use Rattle.lint_findings.specs.Reports.{is_error}
+use Rattle.lint_findings.specs.declared.diagnostic.Diagnostic.{Diagnostic}
 use Rattle.lint_output.specs.Prints.{IsExact}
 use Rattle.lint_output.specs.declared.Style.{Style}
-use Rattle.meta_base.specs.Language.Text.{Text}
-use Rattle.meta_diagnostics.specs.Diagnosis.{IsDiagnosisWith}
-use Rattle.meta_warnings.specs.Lists.{texts_of}
+use Rattle.base_language.specs.Language.Text.{Text}
+use Rattle.lint_diagnostics.specs.Diagnosis.{IsDiagnosisWith}
+use Rattle.lint_warnings.specs.Lists.{texts_of}
 use Rattle.pest_lint.specs.declared.arguments.Settings.{Settings}
 use Rattle.pest_lint.specs.declared.lint.Source.{Source}
 use Rattle.pest_meta.specs.Spelling.{HasAnswer}

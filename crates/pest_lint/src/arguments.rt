@@ -2,11 +2,11 @@
 ghost use Rattle.std.specs.Prelude.{◌≡◌, ◌∷◌, [], IfOk, None, Some, codes, false, true};
 ghost use Rattle.clap.specs.Matches.{first_value, found_of, one_text};
 ghost use Rattle.clap.specs.Simple.{app_of};
-ghost use Rattle.command_line.specs.Arguments.{HasForm, arguments_of, flag, option, options, positionals};
+ghost use Rattle.program_support.specs.Arguments.{HasForm, arguments_of, flag, option, options, positionals};
 
 use clap::{Arg, ArgAction, ArgMatches, Command};
-use command_line::{add_argument, flag, new_command, option, positional};
 use lint_output::Style;
+use program_support::arguments::{add_argument, flag, new_command, option, positional};
 use std::alloc::{AllocError, Global};
 
 /// The form in which diagnostics are printed.

@@ -1,14 +1,14 @@
 //! Pages of codes.
 ghost use Rattle.std.specs.Prelude.{◌≡◌, ◌≢◌, ◌≤◌, IfOk, string_bytes, true};
-ghost use Rattle.diagnostic_data.specs.Codes.{IsUnknown};
+ghost use Rattle.lint_findings.specs.Codes.{IsUnknown};
 ghost use Rattle.pest_lint.specs.Pages.{Explains, page_of, page_text, unknown_line};
 ghost use Rattle.pest_lint.specs.Reports.{Tells};
 
 use crate::lint::{CLEAN, MEMORY, UNREADABLE, UNWRITABLE};
-use meta_diagnostics::Code;
+use lint_diagnostics::Code;
+use program_support::output::Output;
 use std::alloc::{AllocError, Global};
 use std::io::Write;
-use tool_support::output::Output;
 
 /// Prints the page of the code of a name, with or without `pest::`, to `out`, and answers the status. A name
 /// that no code has is reported on `err` (3). An allocation may fail (2), and `out` refuse a write (4).

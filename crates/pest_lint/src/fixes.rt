@@ -4,11 +4,10 @@ ghost use Rattle.std.specs.List.{AllZip};
 ghost use Rattle.pest_lint.specs.Fixing.{IsKept};
 
 use crate::lint::{CLEAN, Source, UNWRITABLE, text_of};
-use lint_fixes::mend;
-use lint_output::to_visible;
+use lint_output::{mend, to_visible};
+use program_support::replacement::replace;
 use std::alloc::AllocError;
 use std::io;
-use tool_support::replacement::replace;
 
 /// How many mistakes were fixed, in how many files, and how many files can't be replaced.
 #[derive(Clone, Copy)]

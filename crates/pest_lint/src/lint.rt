@@ -2,21 +2,21 @@
 ghost use Rattle.std.specs.Prelude.{◌≡◌, ◌≢◌, ◌≤◌, ◌⊎◌, ◌↔◌, ℕ, List, All, IfOk, IfSome, IsSome, false, true};
 ghost use Rattle.std.specs.Io.KnownBytes.{Appends};
 ghost use Rattle.std.specs.List.{list_any};
-ghost use Rattle.diagnostic_data.specs.Reports.{is_error};
+ghost use Rattle.lint_findings.specs.Reports.{is_error};
 ghost use Rattle.lint_output.specs.Locations.{IsIndexOf};
-ghost use Rattle.meta_diagnostics.specs.Diagnosis.{IsDiagnosisWith};
-ghost use Rattle.meta_warnings.specs.Lists.{texts_of};
+ghost use Rattle.lint_diagnostics.specs.Diagnosis.{IsDiagnosisWith};
+ghost use Rattle.lint_warnings.specs.Lists.{texts_of};
 ghost use Rattle.pest_lint.specs.Reports.{Tells, memory_line, reason, unreadable_line};
 ghost use Rattle.pest_lint.specs.Shows as spec;
 ghost use Rattle.pest_lint.specs.Shows.{ArePrinted, Gains, GainsAll, IsClean, IsReadable, ShowsText, asked_of};
 ghost use Rattle.pest_meta.specs.Spelling.{HasAnswer};
 
 use crate::arguments::{Format, Settings};
+use lint_diagnostics::{Diagnostic, Options, Severity, diagnose, diagnose_all};
 use lint_output::{LineIndex, Origin, Style, print_diagnostic, to_visible};
-use meta_diagnostics::{Diagnostic, Options, Severity, diagnose, diagnose_all};
+use program_support::output::Output;
 use std::alloc::{AllocError, Global};
 use std::io::Write;
-use tool_support::output::Output;
 
 /// No error was found, and no warning that is denied.
 pub const CLEAN: u8 = 0;

@@ -13,12 +13,12 @@ use crate::lint::{
     CLEAN, MEMORY, Source, UNWRITABLE, diagnose_text, report_memory, report_unreadable, status_of,
     text_of,
 };
+use lint_diagnostics::Diagnostic;
 use lint_output::{LineIndex, Origin, sarif_log, sarif_result};
-use meta_diagnostics::Diagnostic;
+use program_support::output::Output;
 use serde_json::Value;
 use std::alloc::{AllocError, Global};
 use std::io::Write;
-use tool_support::output::Output;
 
 /// Diagnoses each file, and prints one log of all that is found. The status is the highest of theirs.
 ///

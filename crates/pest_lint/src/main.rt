@@ -3,7 +3,7 @@
 
 ghost use Rattle.std.specs.Prelude.{◌≡◌, ◌≢◌, ◌≤◌, ◌∷◌, ◌++◌, [], All, IfOk, None, Some, codes, false, true};
 ghost use Rattle.clap.specs.Matches.{first_value, found_of};
-ghost use Rattle.diagnostic_data.specs.Codes.{IsUnknown};
+ghost use Rattle.lint_findings.specs.Codes.{IsUnknown};
 ghost use Rattle.pest_lint.specs.Colours.{value_of};
 ghost use Rattle.pest_lint.specs.Logs.{GainsIn};
 ghost use Rattle.pest_lint.specs.Pages.{Explains};
@@ -23,15 +23,15 @@ use clap::ArgMatches;
 use colours::is_coloured;
 use explain::print_page;
 use fixes::fix_files;
+use front_names::Builtin;
 use lint::{CLEAN, MEMORY, Source, UNREADABLE, print_files};
 use log::log_files;
-use meta_builtins::Builtin;
+use program_support::output::Output;
 use sources::read_sources;
 use std::alloc::{AllocError, Global};
 use std::env;
 use std::io::IsTerminal;
 use std::process::ExitCode;
-use tool_support::output::Output;
 
 /// Whether text is in colours, by the value of `--color`: `is_coloured`, of the process's own output and
 /// variables.

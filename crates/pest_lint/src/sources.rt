@@ -3,10 +3,10 @@ ghost use Rattle.std.specs.Prelude.{◌≡◌, [], All, IfOk, IsSome, OnOk, stri
 ghost use Rattle.pest_lint.specs.Sources.{AreFilesOf, AreOfNames, Gain, IsGrammarName, IsOfFolder};
 
 use crate::lint::Source;
+use program_support::input::read_input;
 use std::alloc::AllocError;
 use std::fs;
 use std::io::{self, ErrorKind};
-use tool_support::input::read_input;
 
 /// The files of these names: of a folder all below it whose names end with `.pest`, in order. No clause can
 /// say which names are folders, nor what they have.

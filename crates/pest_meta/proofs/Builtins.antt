@@ -6,17 +6,17 @@ use Rattle.std.specs.List.{All, AllByRecursion}
 use Rattle.std.specs.Prelude.{◌&&◌, filter, not}
 use Rattle.std.specs.Str.{IsUtf8}
 use Rattle.std.proofs.lemmas.Bool.{false_from_ne_true}
-use Rattle.meta_validator.proofs.EmptyLemmas.{empty_second}
-use Rattle.meta_base.specs.Language.Builtins.{is_one_of}
-use Rattle.meta_base.specs.Language.Expression.{rule_of}
-use Rattle.meta_base.specs.Language.State.{Trees, None', Tree}
-use Rattle.meta_base.specs.Pieces.Saying.{Span, piece, written}
-use Rattle.meta_base.proofs.Basics.{first_of_neither, second_of_neither}
-use Rattle.meta_names.specs.GrammarNames.{AreWrittenAt, called_by, calls, definitions, first_calls, name_complaints, names_in, own_name}
-use Rattle.meta_names.specs.Names.{duplicate_complaints, first_places, is_builtin, pest_keyword_complaints, undefined_calls, undefined_complaints}
-use Rattle.meta_spanned.specs.Erasure.{rules_without_spans}
-use Rattle.meta_spanned.specs.Spanned.{SpannedRule}
-use Rattle.meta_reader.specs.Reading.{ReadsRules}
+use Rattle.front_validator.proofs.EmptyLemmas.{empty_second}
+use Rattle.base_language.specs.Language.Builtins.{is_one_of}
+use Rattle.base_language.specs.Language.Expression.{rule_of}
+use Rattle.base_language.specs.Language.State.{Trees, None', Tree}
+use Rattle.base_language.specs.Pieces.Saying.{Span, piece, written}
+use Rattle.base_language.proofs.Basics.{first_of_neither, second_of_neither}
+use Rattle.front_names.specs.GrammarNames.{AreWrittenAt, called_by, calls, definitions, first_calls, name_complaints, names_in, own_name}
+use Rattle.front_names.specs.Names.{duplicate_complaints, first_places, is_builtin, pest_keyword_complaints, undefined_calls, undefined_complaints}
+use Rattle.front_spanned.specs.Erasure.{rules_without_spans}
+use Rattle.front_spanned.specs.Spanned.{SpannedRule}
+use Rattle.front_reader.specs.Reading.{ReadsRules}
 use Rattle.pest_meta.proofs.WellNamed.{AreTexts, defined_texts, heads, names_read, no_rule, none_taken, nothing_said, tails, texts_append, texts_if, true_is_false}
 use Rattle.pest_meta.proofs.WholeCharacters.{OnCharacters}
 

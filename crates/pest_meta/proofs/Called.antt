@@ -4,21 +4,21 @@ use Rattle.std.proofs.lemmas.List.Elements.{All-nil, All-cons, All-contains, All
 use Rattle.std.proofs.lemmas.Slice.Eq.{bytes_eq-Decides}
 use Rattle.std.specs.List.{All, Contains}
 use Rattle.std.proofs.lemmas.Bool.{false_from_ne_true, or_cases, or_from, or_left, or_right}
-use Rattle.meta_base.specs.Language.Builtins.{is_one_of}
-use Rattle.meta_base.specs.Language.Expression as bare
-use Rattle.meta_base.specs.Language.Expression.{Expression, Grammar, Part, Rule, or_else, rule_of}
-use Rattle.meta_base.specs.Language.State.{Trees, None', Tree, joined}
-use Rattle.meta_base.specs.Language.Text.{Text}
-use Rattle.meta_base.specs.Language.WellFormed.{InSomeRule}
-use Rattle.meta_base.specs.Pieces.Saying.{Span, written}
-use Rattle.meta_names.specs.GrammarNames.{AreWrittenAt, called_by, calls, definitions, first_calls, names_in, own_name}
-use Rattle.meta_names.specs.Names.{first_places}
-use Rattle.meta_spanned.specs.Erasure.{between, round, rules_without_spans, without_spans}
-use Rattle.meta_spanned.specs.Spanned.{Binary, Choice, Seq, SpannedRule, Unary}
-use Rattle.meta_reader.proofs.ReadParts.{IsGiven, IsHandedDown, parts_so}
-use Rattle.meta_reader.specs.Reading as reading
-use Rattle.meta_reader.specs.Reading.{Postfix, ReadsRule, ReadsRules, Terminal, defined, documented, end_of_input, grammar_doc, line_doc, modified, normal}
-use Rattle.meta_syntax.specs.Shape.{Lone}
+use Rattle.base_language.specs.Language.Builtins.{is_one_of}
+use Rattle.base_language.specs.Language.Expression as bare
+use Rattle.base_language.specs.Language.Expression.{Expression, Grammar, Part, Rule, or_else, rule_of}
+use Rattle.base_language.specs.Language.State.{Trees, None', Tree, joined}
+use Rattle.base_language.specs.Language.Text.{Text}
+use Rattle.base_language.specs.Language.WellFormed.{InSomeRule}
+use Rattle.base_language.specs.Pieces.Saying.{Span, written}
+use Rattle.front_names.specs.GrammarNames.{AreWrittenAt, called_by, calls, definitions, first_calls, names_in, own_name}
+use Rattle.front_names.specs.Names.{first_places}
+use Rattle.front_spanned.specs.Erasure.{between, round, rules_without_spans, without_spans}
+use Rattle.front_spanned.specs.Spanned.{Binary, Choice, Seq, SpannedRule, Unary}
+use Rattle.front_reader.proofs.ReadParts.{IsGiven, IsHandedDown, parts_so}
+use Rattle.front_reader.specs.Reading as reading
+use Rattle.front_reader.specs.Reading.{Postfix, ReadsRule, ReadsRules, Terminal, defined, documented, end_of_input, grammar_doc, line_doc, modified, normal}
+use Rattle.front_syntax.specs.Shape.{Lone}
 use Rattle.pest_meta.proofs.WellNamed.{names_of, names_read, true_is_false}
 
 -- 1. a name is written at one of these places

@@ -1,23 +1,23 @@
 -- The bounds of ranges that are read are one character each, and stay so.
 use Rattle.std.proofs.Common.{◌≡◌, ℕ, List, length, sym, subst}
 use Rattle.std.specs.Str.{IsUtf8}
-use Rattle.meta_base.specs.Language.Text.{Text}
-use Rattle.meta_base.specs.Language.Expression.{Expression, Grammar, Range}
-use Rattle.meta_base.specs.Language.State.{Trees, None', Tree, joined}
-use Rattle.meta_base.specs.Rewritings.Rewriting.{Chain, EachBody}
-use Rattle.meta_base.proofs.ListingKeepsGrammars.{Finished}
-use Rattle.meta_spanned.specs.Erasure.{round, between}
-use Rattle.meta_spanned.specs.Spanned.{Unary, Binary, Seq, Choice}
-use Rattle.meta_syntax.specs.MetaGrammar.{body_of}
-use Rattle.meta_base.specs.declared.grammar.Rule.TheVariants as is
-use Rattle.meta_syntax.proofs.Naming.{rule_named}
-use Rattle.meta_syntax.proofs.Yields.{Yields, both, lone}
-use Rattle.meta_reader.specs.Reading as reading
-use Rattle.meta_reader.specs.Reading.{Postfix, Terminal, literal_value}
-use Rattle.meta_reader.proofs.ReadParts.{IsHandedDown, IsGiven, parts_so}
+use Rattle.base_language.specs.Language.Text.{Text}
+use Rattle.base_language.specs.Language.Expression.{Expression, Grammar, Range}
+use Rattle.base_language.specs.Language.State.{Trees, None', Tree, joined}
+use Rattle.base_language.specs.Rewritings.Rewriting.{Chain, EachBody}
+use Rattle.base_language.proofs.ListingKeepsGrammars.{Finished}
+use Rattle.front_spanned.specs.Erasure.{round, between}
+use Rattle.front_spanned.specs.Spanned.{Unary, Binary, Seq, Choice}
+use Rattle.front_syntax.specs.MetaGrammar.{body_of}
+use Rattle.base_language.specs.declared.grammar.Rule.TheVariants as is
+use Rattle.front_syntax.proofs.Naming.{rule_named}
+use Rattle.front_syntax.proofs.Yields.{Yields, both, lone}
+use Rattle.front_reader.specs.Reading as reading
+use Rattle.front_reader.specs.Reading.{Postfix, Terminal, literal_value}
+use Rattle.front_reader.proofs.ReadParts.{IsHandedDown, IsGiven, parts_so}
 use Rattle.pest_meta.proofs.CharacterTrees.{HoldCharacters, trees_hold}
 use Rattle.pest_meta.proofs.NothingNew.{HasNothingNew, kept_by_all, stands_in}
-use Rattle.meta_base.specs.Language.CharacterBounds.{HasCharacterBounds}
+use Rattle.base_language.specs.Language.CharacterBounds.{HasCharacterBounds}
 use Rattle.pest_meta.specs.Spelling.{AreReadAsRules, HasTrees}
 
 -- 1. where they are read

@@ -2,25 +2,25 @@
 use Rattle.std.proofs.Common.{◌≡◌, sym, subst, ℕ, List, [], ◌∷◌, Bool, true, false, Option, Some, None, if◌then◌else◌, nat_eq, ◌==◌, length, chars, codes, refl}
 use Rattle.std.specs.Char.{eq_ignore_ascii_case}
 use Rattle.std.specs.Str.{IsUtf8}
-use Rattle.meta_base.specs.Language.Expression as spec
-use Rattle.meta_base.specs.Language.Text.{Text}
-use Rattle.meta_base.specs.Language.Builtins.{Builtin, One, Property, Newline, Soi, Eoi, Peek, Pop, Drop, PeekAll, PopAll, builtin_of}
-use Rattle.meta_base.specs.Language.Expression.{rule_of}
-use Rattle.meta_base.specs.Language.State.{Classes, State, Mode, NonAtomicMode, AtomicMode, CompoundAtomicMode, Between, Trees, None', Tree, joined, Outcome, Success, Failure, moved}
-use Rattle.meta_base.specs.Language.Matching.{begins, text_outcome, starts_in, character_outcome, range_set, place, end_place, slice_at, end_outcome, with_stack, peek_outcome, pop_outcome, drop_outcome, concatenated, builtin_outcome, named_outcome, other_outcome}
-use Rattle.meta_base.specs.Language.Meaning.{Does, Task, Run, str, insens, range, slice, skip, call, other, pos_pred, neg_pred, push, restore, seq, seq_first, seq_second, left, right, opt, opt_none, rep, rep_none, turn, turn_none, rep_once, rep_exact, rep_min, rep_max, rep_min_max, skips, atomic, compound_atomic, between, ahead, not_ahead, pushed, with_token, gives_token, body_mode, push_literal, tag}
-use Rattle.meta_base.specs.Language.Places.{IsStateIn}
-use Rattle.meta_base.specs.Pieces.MetaRules.{name_of}
-use Rattle.meta_base.specs.declared.grammar.Rule.{Rule}
-use Rattle.meta_base.specs.declared.grammar.Rule.TheVariants as is
-use Rattle.meta_base.proofs.TreesAreNested.{fits}
-use Rattle.meta_syntax.specs.MetaGrammar.{meta_grammar, rule_at, type_of_rule, body_of}
-use Rattle.meta_syntax.specs.Parses.{start_of}
-use Rattle.meta_syntax.proofs.MetaWellFormed.{known}
-use Rattle.meta_syntax.proofs.Naming.{rule_named, named_rule}
-use Rattle.meta_syntax.proofs.Yielding.{yields}
-use Rattle.meta_syntax.proofs.Yields.{Yields}
-use Rattle.meta_reader.specs.Reading.{characters_between}
+use Rattle.base_language.specs.Language.Expression as spec
+use Rattle.base_language.specs.Language.Text.{Text}
+use Rattle.base_language.specs.Language.Builtins.{Builtin, One, Property, Newline, Soi, Eoi, Peek, Pop, Drop, PeekAll, PopAll, builtin_of}
+use Rattle.base_language.specs.Language.Expression.{rule_of}
+use Rattle.base_language.specs.Language.State.{Classes, State, Mode, NonAtomicMode, AtomicMode, CompoundAtomicMode, Between, Trees, None', Tree, joined, Outcome, Success, Failure, moved}
+use Rattle.base_language.specs.Language.Matching.{begins, text_outcome, starts_in, character_outcome, range_set, place, end_place, slice_at, end_outcome, with_stack, peek_outcome, pop_outcome, drop_outcome, concatenated, builtin_outcome, named_outcome, other_outcome}
+use Rattle.base_language.specs.Language.Meaning.{Does, Task, Run, str, insens, range, slice, skip, call, other, pos_pred, neg_pred, push, restore, seq, seq_first, seq_second, left, right, opt, opt_none, rep, rep_none, turn, turn_none, rep_once, rep_exact, rep_min, rep_max, rep_min_max, skips, atomic, compound_atomic, between, ahead, not_ahead, pushed, with_token, gives_token, body_mode, push_literal, tag}
+use Rattle.base_language.specs.Language.Places.{IsStateIn}
+use Rattle.base_language.specs.Pieces.MetaRules.{name_of}
+use Rattle.base_language.specs.declared.grammar.Rule.{Rule}
+use Rattle.base_language.specs.declared.grammar.Rule.TheVariants as is
+use Rattle.base_language.proofs.TreesAreNested.{fits}
+use Rattle.front_syntax.specs.MetaGrammar.{meta_grammar, rule_at, type_of_rule, body_of}
+use Rattle.front_syntax.specs.Parses.{start_of}
+use Rattle.front_syntax.proofs.MetaWellFormed.{known}
+use Rattle.front_syntax.proofs.Naming.{rule_named, named_rule}
+use Rattle.front_syntax.proofs.Yielding.{yields}
+use Rattle.front_syntax.proofs.Yields.{Yields}
+use Rattle.front_reader.specs.Reading.{characters_between}
 use Rattle.pest_meta.proofs.OneCharacter.{IsOneCharacter, one_between}
 use Rattle.pest_meta.proofs.Spelled.{empty_classes}
 use Rattle.pest_meta.specs.Spelling.{HasTrees}

@@ -8,18 +8,18 @@ use Rattle.std.specs.Char.{IsScalar}
 use Rattle.std.specs.Prelude.{nat_lt}
 use Rattle.std.specs.Str.{IsUtf8, all_scalars}
 use Rattle.std.specs.Option.{option_or}
-use Rattle.meta_base.specs.Language.Text.{Text, IsText, IsScalarValue}
-use Rattle.meta_base.specs.Language.Expression.{Expression}
-use Rattle.meta_base.specs.Language.Grammar.{FitsItsTypes, FitsSigned32, FitsUnsigned32}
-use Rattle.meta_base.specs.Language.State.{Trees, None', Tree, joined}
-use Rattle.meta_base.proofs.Basics.{first_of_both, second_of_both}
-use Rattle.meta_spanned.specs.Erasure.{round, between}
-use Rattle.meta_spanned.specs.Spanned.{Unary, Binary, Seq, Choice}
-use Rattle.meta_reader.specs.Flaws.{Cause, own_flaw, closes, flaw_if, fits_i32, past_u32, past_i32, wrong_literal, zero_times, first_flaw}
-use Rattle.meta_reader.specs.Reading as reading
-use Rattle.meta_reader.specs.Reading.{Postfix, Terminal, behind_first, number, integer, literal_value}
-use Rattle.meta_reader.proofs.Flawless.{none_left, own_none, inner_none, behind_none, front_none}
-use Rattle.meta_reader.proofs.ReadParts.{IsHandedDown, IsGiven}
+use Rattle.base_language.specs.Language.Text.{Text, IsText, IsScalarValue}
+use Rattle.base_language.specs.Language.Expression.{Expression}
+use Rattle.base_language.specs.Language.Grammar.{FitsItsTypes, FitsSigned32, FitsUnsigned32}
+use Rattle.base_language.specs.Language.State.{Trees, None', Tree, joined}
+use Rattle.base_language.proofs.Basics.{first_of_both, second_of_both}
+use Rattle.front_spanned.specs.Erasure.{round, between}
+use Rattle.front_spanned.specs.Spanned.{Unary, Binary, Seq, Choice}
+use Rattle.front_reader.specs.Flaws.{Cause, own_flaw, closes, flaw_if, fits_i32, past_u32, past_i32, wrong_literal, zero_times, first_flaw}
+use Rattle.front_reader.specs.Reading as reading
+use Rattle.front_reader.specs.Reading.{Postfix, Terminal, behind_first, number, integer, literal_value}
+use Rattle.front_reader.proofs.Flawless.{none_left, own_none, inner_none, behind_none, front_none}
+use Rattle.front_reader.proofs.ReadParts.{IsHandedDown, IsGiven}
 use Rattle.pest_meta.proofs.WholeCharacters.{OnCharacters}
 
 scalar_value : (c : ℕ) → IsScalar c → IsScalarValue c

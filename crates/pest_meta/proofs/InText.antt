@@ -3,17 +3,17 @@ use Rattle.std.proofs.Common.{◌≡◌, inl, inr, ℕ, suc, List, [], ◌∷◌
 use Rattle.std.specs.Bool.{⊤}
 use Rattle.std.proofs.lemmas.List.Elements.{All-nil, All-cons}
 use Rattle.std.proofs.lemmas.List.Sorted.{All-permutation}
-use Rattle.meta_base.specs.Language.State.{Trees}
-use Rattle.meta_spanned.specs.Erasure.{rules_without_spans}
-use Rattle.meta_spanned.specs.Spanned.{Span, Spanned, Leaf, One, Two, SpannedRule, placed}
-use Rattle.meta_reader.specs.Reading.{Category, Postfixed, done, more, Reads, barred, unbarred, one_alternative, choice, one_term, sequence, tagged, pos_pred, neg_pred, bare, grouped, leaf, pushed, literally_pushed, ReadsRule, line_doc, normal, modified, ReadsRules, end_of_input, grammar_doc, documented, defined}
-use Rattle.meta_stack_loops.specs.Certain.{AreReports, AreFound}
-use Rattle.meta_stack_domain.specs.Reported.{node_at}
-use Rattle.meta_stack_domain.specs.Reports.{Route, Here, First, Second, Inner, Turn, SkippingAltersStack}
-use Rattle.meta_stack_domain.specs.Stack.{In}
-use Rattle.meta_stack_domain.specs.Turns.{most_stacks}
-use Rattle.meta_validator.specs.Placed.{IsIn, AreIn, ArePiecesOf}
-use Rattle.meta_validator.proofs.PlacedLemmas.{at_one, its_span}
+use Rattle.base_language.specs.Language.State.{Trees}
+use Rattle.front_spanned.specs.Erasure.{rules_without_spans}
+use Rattle.front_spanned.specs.Spanned.{Span, Spanned, Leaf, One, Two, SpannedRule, placed}
+use Rattle.front_reader.specs.Reading.{Category, Postfixed, done, more, Reads, barred, unbarred, one_alternative, choice, one_term, sequence, tagged, pos_pred, neg_pred, bare, grouped, leaf, pushed, literally_pushed, ReadsRule, line_doc, normal, modified, ReadsRules, end_of_input, grammar_doc, documented, defined}
+use Rattle.front_stack_loops.specs.Certain.{AreReports, AreFound}
+use Rattle.front_stack_domain.specs.Reported.{node_at}
+use Rattle.front_stack_domain.specs.Reports.{Route, Here, First, Second, Inner, Turn, SkippingAltersStack}
+use Rattle.front_stack_domain.specs.Stack.{In}
+use Rattle.front_stack_domain.specs.Turns.{most_stacks}
+use Rattle.front_validator.specs.Placed.{IsIn, AreIn, ArePiecesOf}
+use Rattle.front_validator.proofs.PlacedLemmas.{at_one, its_span}
 
 module _ (text : List ℕ) where
   placed_in : (s : Span) (x : Spanned) → s.text ≡ text → IsIn text x → IsIn text (placed s x)

@@ -8,15 +8,15 @@ use Rattle.std.proofs.lemmas.Str.{chars-IsAscii}
 use Rattle.std.specs.Borrow.{Bor}
 use Rattle.std.specs.List.{All}
 use Rattle.std.specs.Prelude.{◌&&◌, is_some, nat_lt, slice_index}
-use Rattle.meta_base.proofs.Basics.{first_of_both, second_of_both}
-use Rattle.meta_base.proofs.StepsKeepOutcomes.{Matched, each_pair, neither, two}
-use Rattle.meta_base.proofs.ListingKeepsGrammars.{Finished}
-use Rattle.meta_base.specs.Language.Builtins.{Named, Property, builtins, builtin_of, is_one_of, looked_up, property_names, general_categories, binary_properties, scripts}
-use Rattle.meta_base.specs.Language.Expression.{Grammar, Ident, Rule, rule_of}
-use Rattle.meta_base.specs.Language.KnownNames.{HasKnownNames}
-use Rattle.meta_base.specs.Language.Text.{Text}
-use Rattle.meta_base.specs.Rewritings.Rewriting.{Chain, EachBody}
-use Rattle.meta_names.specs.Names.{is_builtin}
+use Rattle.base_language.proofs.Basics.{first_of_both, second_of_both}
+use Rattle.base_language.proofs.StepsKeepOutcomes.{Matched, each_pair, neither, two}
+use Rattle.base_language.proofs.ListingKeepsGrammars.{Finished}
+use Rattle.base_language.specs.Language.Builtins.{Named, Property, builtins, builtin_of, is_one_of, looked_up, property_names, general_categories, binary_properties, scripts}
+use Rattle.base_language.specs.Language.Expression.{Grammar, Ident, Rule, rule_of}
+use Rattle.base_language.specs.Language.KnownNames.{HasKnownNames}
+use Rattle.base_language.specs.Language.Text.{Text}
+use Rattle.base_language.specs.Rewritings.Rewriting.{Chain, EachBody}
+use Rattle.front_names.specs.Names.{is_builtin}
 use Rattle.pest_meta.proofs.NothingNew.{HasNothingNew, kept_by_all, stands_in}
 use Rattle.pest_meta.specs.Promises.{AreBuiltinsOf}
 

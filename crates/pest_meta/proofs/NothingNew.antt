@@ -2,19 +2,19 @@
 use Rattle.std.proofs.Common.{◌≡◌, ◌-◌, min, [], ◌∷◌, Option, Some, refl, subst}
 use Rattle.std.proofs.lemmas.List.Elements.{All-nil, All-cons, All-head, All-tail, All-contains}
 use Rattle.std.specs.List.{All}
-use Rattle.meta_base.proofs.Everywhere.{Condition, nothing, Everywhere, HoldsHere, at_part, everywhere, in_sequence_too, kept_along}
-use Rattle.meta_base.proofs.ListingKeepsGrammars.{Finished, Finishes, lists, wraps}
-use Rattle.meta_base.proofs.Moving.{also, each_copy, each_of_both, no_more}
-use Rattle.meta_base.proofs.SomeRule.{each_rule}
-use Rattle.meta_base.proofs.StepsKeepOutcomes.{Matched, each_body, each_pair, neither, pairs, two}
-use Rattle.meta_base.specs.Language.Expression.{Expression, Grammar, Ident, Part, Range, RepMin, Rule, RuleType, Normal, rule_of}
-use Rattle.meta_base.specs.Language.Text.{Text}
-use Rattle.meta_base.specs.Language.WellFormed.{InSomeRule, Reaches, itself, onward}
-use Rattle.meta_base.specs.Rewritings.Rewriting.{Chain, Changed, EachBody, Many, Rewrites, Within, also_rule, by_factoring, by_joining, by_rotating, by_skipping, by_unrolling, done, factor_absorbed, factor_optional, factor_optional_compound, factor_prefix, join_insensitive, join_literals, later, no_rules, no_step, one_step, rotate_choice, rotate_sequence, skip_until, step, this, unroll_exact, unroll_max, unroll_min, unroll_min_max, Unrolls}
-use Rattle.meta_base.proofs.Basics.{same_some}
-use Rattle.meta_optimizer.specs.Passes.{IsUnrolling}
-use Rattle.meta_optimizer.specs.Written.{AreWrittenOut}
-use Rattle.meta_restorer.specs.Agreeing.{WrappersSuffice}
+use Rattle.base_language.proofs.Everywhere.{Condition, nothing, Everywhere, HoldsHere, at_part, everywhere, in_sequence_too, kept_along}
+use Rattle.base_language.proofs.ListingKeepsGrammars.{Finished, Finishes, lists, wraps}
+use Rattle.base_language.proofs.Moving.{also, each_copy, each_of_both, no_more}
+use Rattle.base_language.proofs.SomeRule.{each_rule}
+use Rattle.base_language.proofs.StepsKeepOutcomes.{Matched, each_body, each_pair, neither, pairs, two}
+use Rattle.base_language.specs.Language.Expression.{Expression, Grammar, Ident, Part, Range, RepMin, Rule, RuleType, Normal, rule_of}
+use Rattle.base_language.specs.Language.Text.{Text}
+use Rattle.base_language.specs.Language.WellFormed.{InSomeRule, Reaches, itself, onward}
+use Rattle.base_language.specs.Rewritings.Rewriting.{Chain, Changed, EachBody, Many, Rewrites, Within, also_rule, by_factoring, by_joining, by_rotating, by_skipping, by_unrolling, done, factor_absorbed, factor_optional, factor_optional_compound, factor_prefix, join_insensitive, join_literals, later, no_rules, no_step, one_step, rotate_choice, rotate_sequence, skip_until, step, this, unroll_exact, unroll_max, unroll_min, unroll_min_max, Unrolls}
+use Rattle.base_language.proofs.Basics.{same_some}
+use Rattle.front_optimizer.specs.Passes.{IsUnrolling}
+use Rattle.front_optimizer.specs.Written.{AreWrittenOut}
+use Rattle.front_restorer.specs.Agreeing.{WrappersSuffice}
 
 -- of each name what N says, and of each range what B says
 abbrev asking : (Text → Type 0) → (Text → Text → Type 0) → Condition

@@ -1,11 +1,11 @@
 -- A text has one answer at most.
 use Rattle.std.proofs.Common.{◌≡◌, ℕ, List, sym, ◌∙◌, subst, map}
 use Rattle.std.specs.Borrow.{Bor}
-use Rattle.meta_ast.specs.Optimized.{optimized_rules_of}
-use Rattle.meta_ast.specs.declared.optimized.OptimizedRule.{OptimizedRule}
-use Rattle.meta_names.specs.GrammarNames.{AreWrittenAt, calls, definitions, first_calls}
-use Rattle.meta_optimizer.specs.Passes.{IsOptimized}
-use Rattle.meta_optimizer.proofs.OneResult.{optimized_once}
+use Rattle.base_ast.specs.Optimized.{optimized_rules_of}
+use Rattle.base_ast.specs.declared.optimized.OptimizedRule.{OptimizedRule}
+use Rattle.front_names.specs.GrammarNames.{AreWrittenAt, calls, definitions, first_calls}
+use Rattle.front_optimizer.specs.Passes.{IsOptimized}
+use Rattle.front_optimizer.proofs.OneResult.{optimized_once}
 use Rattle.pest_meta.specs.Spelling.{IsAnswer, SpellsGrammar}
 use Rattle.pest_meta.proofs.Spelled.{spells_once, trees_once}
 

@@ -7,31 +7,31 @@ use Rattle.std.proofs.Math.Utf8.{encodes}
 use Rattle.std.specs.Char.{eq_ignore_ascii_case}
 use Rattle.std.specs.List.{slice_range}
 use Rattle.std.specs.Str.{IsUtf8}
-use Rattle.meta_base.specs.Language.Expression as spec
-use Rattle.meta_base.specs.Language.Text.{Text, size_of}
-use Rattle.meta_base.specs.Language.Builtins.{is_between}
-use Rattle.meta_base.specs.Language.Expression.{Expression, Str, Insens, Range, Ident, PeekSlice, PosPred, NegPred, Seq, Choice, Opt, RepOnce, RepExact, RepMin, RepMax, RepMinMax, Push, NodeTag, RestoreOnErr, rule_of}
-use Rattle.meta_base.specs.Language.State.{Classes, State, Mode, NonAtomicMode, AtomicMode, CompoundAtomicMode, Between, Trees, None', Outcome, Success, Failure, moved}
-use Rattle.meta_base.specs.Language.Matching.{begins, starts_in, range_set, text_outcome, slice_outcome, other_outcome}
-use Rattle.meta_base.specs.Language.Meaning.{Does, Task, Run, Turns, Skipping, str, insens, range, slice, skip, call, other, pos_pred, neg_pred, push, restore, seq, seq_first, seq_second, left, right, opt, opt_none, rep, rep_none, turn, turn_none, rep_once, rep_exact, rep_min, rep_max, rep_min_max, skips, atomic, compound_atomic, between, ahead, not_ahead, pushed, with_token, mode_in, body_mode, from_to, push_literal, tag}
-use Rattle.meta_base.specs.Language.Places.{IsStateIn}
-use Rattle.meta_base.specs.Pieces.MetaRules.{name_of}
-use Rattle.meta_base.specs.declared.grammar.Rule.{Rule}
-use Rattle.meta_base.specs.declared.grammar.Rule.TheVariants as is
-use Rattle.meta_base.proofs.Basics.{clash, second_of_both}
-use Rattle.meta_base.proofs.Beginnings.{scalars_parts}
-use Rattle.meta_base.proofs.InBytes.{sizes, split_bytes}
-use Rattle.meta_base.proofs.Moving.{each_copy, each_of_both, in_all}
-use Rattle.meta_syntax.specs.MetaGrammar.{meta_grammar, rule, rule_at, type_of_rule, body_of}
-use Rattle.meta_syntax.specs.Rows.{is_defined}
-use Rattle.meta_syntax.specs.Runs.{is_blank}
-use Rattle.meta_syntax.proofs.Lookup.{any_builtin, blank_name, defined_rule, undefined}
-use Rattle.meta_syntax.proofs.MetaWellFormed.{known}
-use Rattle.meta_syntax.proofs.Naming.{rule_named, named_rule, name_of_named}
-use Rattle.meta_syntax.proofs.Numerals.{middle}
-use Rattle.meta_syntax.proofs.Taken.{Took, Stretch, Steps, stay, step, took_both, took_nothing, one_taken, begins_first}
-use Rattle.meta_reader.specs.Literal.{unescaped, escape, digits, extended}
-use Rattle.meta_reader.specs.Reading.{characters_between}
+use Rattle.base_language.specs.Language.Expression as spec
+use Rattle.base_language.specs.Language.Text.{Text, size_of}
+use Rattle.base_language.specs.Language.Builtins.{is_between}
+use Rattle.base_language.specs.Language.Expression.{Expression, Str, Insens, Range, Ident, PeekSlice, PosPred, NegPred, Seq, Choice, Opt, RepOnce, RepExact, RepMin, RepMax, RepMinMax, Push, NodeTag, RestoreOnErr, rule_of}
+use Rattle.base_language.specs.Language.State.{Classes, State, Mode, NonAtomicMode, AtomicMode, CompoundAtomicMode, Between, Trees, None', Outcome, Success, Failure, moved}
+use Rattle.base_language.specs.Language.Matching.{begins, starts_in, range_set, text_outcome, slice_outcome, other_outcome}
+use Rattle.base_language.specs.Language.Meaning.{Does, Task, Run, Turns, Skipping, str, insens, range, slice, skip, call, other, pos_pred, neg_pred, push, restore, seq, seq_first, seq_second, left, right, opt, opt_none, rep, rep_none, turn, turn_none, rep_once, rep_exact, rep_min, rep_max, rep_min_max, skips, atomic, compound_atomic, between, ahead, not_ahead, pushed, with_token, mode_in, body_mode, from_to, push_literal, tag}
+use Rattle.base_language.specs.Language.Places.{IsStateIn}
+use Rattle.base_language.specs.Pieces.MetaRules.{name_of}
+use Rattle.base_language.specs.declared.grammar.Rule.{Rule}
+use Rattle.base_language.specs.declared.grammar.Rule.TheVariants as is
+use Rattle.base_language.proofs.Basics.{clash, second_of_both}
+use Rattle.base_language.proofs.Beginnings.{scalars_parts}
+use Rattle.base_language.proofs.InBytes.{sizes, split_bytes}
+use Rattle.base_language.proofs.Moving.{each_copy, each_of_both, in_all}
+use Rattle.front_syntax.specs.MetaGrammar.{meta_grammar, rule, rule_at, type_of_rule, body_of}
+use Rattle.front_syntax.specs.Rows.{is_defined}
+use Rattle.front_syntax.specs.Runs.{is_blank}
+use Rattle.front_syntax.proofs.Lookup.{any_builtin, blank_name, defined_rule, undefined}
+use Rattle.front_syntax.proofs.MetaWellFormed.{known}
+use Rattle.front_syntax.proofs.Naming.{rule_named, named_rule, name_of_named}
+use Rattle.front_syntax.proofs.Numerals.{middle}
+use Rattle.front_syntax.proofs.Taken.{Took, Stretch, Steps, stay, step, took_both, took_nothing, one_taken, begins_first}
+use Rattle.front_reader.specs.Literal.{unescaped, escape, digits, extended}
+use Rattle.front_reader.specs.Reading.{characters_between}
 
 -- 1. what expressions of the meta-grammar take of the text where nothing is skipped
 abbrev is_tight : Mode → Bool

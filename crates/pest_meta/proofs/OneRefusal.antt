@@ -1,22 +1,22 @@
 -- A text is refused with one list of errors at most, by what they say and where.
 use Rattle.std.proofs.Common.{◌≡◌, ℕ, List, [], ◌∷◌, ◌⊎◌, inl, inr, sym, ap, subst, ◌∙◌}
-use Rattle.meta_base.specs.Language.State.{Trees}
-use Rattle.meta_base.specs.Pieces.LineColumn.{line_column}
-use Rattle.meta_base.specs.Pieces.PrintedError.{message_of, printed_line}
-use Rattle.meta_base.specs.declared.grammar.Rule.{Rule}
-use Rattle.meta_base.specs.declared.runtime.errors.Error.{Error}
-use Rattle.meta_base.specs.declared.runtime.errors.InputLocation.TheVariants as at
-use Rattle.meta_base.specs.declared.runtime.errors.LineColLocation.TheVariants as in_lines
-use Rattle.meta_base.proofs.FailurePlaces.{one_place}
-use Rattle.meta_reader.specs.Flaws.{Flaw}
-use Rattle.meta_reader.specs.Refusals.{cause_message, ReportsFlaw}
-use Rattle.meta_reader.proofs.Uniqueness.{rules_once}
-use Rattle.meta_syntax.specs.MetaGrammar.{meta_grammar}
-use Rattle.meta_syntax.specs.Parses.{FailsAt, IsSyntaxError}
-use Rattle.meta_base.specs.declared.grammar.Rule.TheVariants as rule_is
-use Rattle.meta_validator.specs.Alike.{AreAlike, IsAlike}
-use Rattle.meta_validator.specs.Reported.{AreReported}
-use Rattle.meta_validator.proofs.OneFindingList.{one_list_of_errors, says_alike, tell_alike}
+use Rattle.base_language.specs.Language.State.{Trees}
+use Rattle.base_language.specs.Pieces.LineColumn.{line_column}
+use Rattle.base_language.specs.Pieces.PrintedError.{message_of, printed_line}
+use Rattle.base_language.specs.declared.grammar.Rule.{Rule}
+use Rattle.base_language.specs.declared.runtime.errors.Error.{Error}
+use Rattle.base_language.specs.declared.runtime.errors.InputLocation.TheVariants as at
+use Rattle.base_language.specs.declared.runtime.errors.LineColLocation.TheVariants as in_lines
+use Rattle.base_language.proofs.FailurePlaces.{one_place}
+use Rattle.front_reader.specs.Flaws.{Flaw}
+use Rattle.front_reader.specs.Refusals.{cause_message, ReportsFlaw}
+use Rattle.front_reader.proofs.Uniqueness.{rules_once}
+use Rattle.front_syntax.specs.MetaGrammar.{meta_grammar}
+use Rattle.front_syntax.specs.Parses.{FailsAt, IsSyntaxError}
+use Rattle.base_language.specs.declared.grammar.Rule.TheVariants as rule_is
+use Rattle.front_validator.specs.Alike.{AreAlike, IsAlike}
+use Rattle.front_validator.specs.Reported.{AreReported}
+use Rattle.front_validator.proofs.OneFindingList.{one_list_of_errors, says_alike, tell_alike}
 use Rattle.pest_meta.specs.Findings.{AreErrorsOfFindings}
 use Rattle.pest_meta.specs.Spelling.{AreFlawed, complaints_in, HaveFindings, HasWrongRules, IsMisnamed, IsNoGrammar, IsRefusedWith}
 use Rattle.pest_meta.proofs.OneReportList.{one_list_of_reports}

@@ -8,14 +8,14 @@ use Rattle.std.specs.Cmp.{IsStrictWeakOrder, IsTotalOrder}
 use Rattle.std.specs.List.{All, filter, sum_by}
 use Rattle.std.specs.List.Sorted.{ties}
 use Rattle.std.specs.Ordering.{is_lt, nat_cmp, on, ordering_reverse, ordering_then, then_cmp}
-use Rattle.meta_spanned.specs.Erasure.{rules_without_spans, without_spans}
-use Rattle.meta_spanned.specs.Spanned.{Span, SpannedRule}
-use Rattle.meta_stack_loops.specs.Certain.{AreFound, AreRead, AreReports, is_before, IsSorted}
-use Rattle.meta_stack_domain.specs.Reported.{ReportedFrom}
-use Rattle.meta_stack_domain.specs.Reports.{reading_in, SkippingAltersStack}
-use Rattle.meta_stack_domain.specs.Stack.{entry}
-use Rattle.meta_stack_domain.specs.Turns.{most_stacks}
-use Rattle.meta_validator.proofs.OneOrder.{AgreeAt, one_order, rises}
+use Rattle.front_spanned.specs.Erasure.{rules_without_spans, without_spans}
+use Rattle.front_spanned.specs.Spanned.{Span, SpannedRule}
+use Rattle.front_stack_loops.specs.Certain.{AreFound, AreRead, AreReports, is_before, IsSorted}
+use Rattle.front_stack_domain.specs.Reported.{ReportedFrom}
+use Rattle.front_stack_domain.specs.Reports.{reading_in, SkippingAltersStack}
+use Rattle.front_stack_domain.specs.Stack.{entry}
+use Rattle.front_stack_domain.specs.Turns.{most_stacks}
+use Rattle.front_validator.proofs.OneOrder.{AgreeAt, one_order, rises}
 use Rattle.pest_meta.proofs.OneText.{all_stand, bodies_stand, InText, StandsIn}
 use Rattle.pest_meta.proofs.ReportsAgree.{plain_empty, read_alike}
 

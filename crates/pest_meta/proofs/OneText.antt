@@ -2,13 +2,13 @@
 use Rattle.std.proofs.Common.{◌≡◌, ℕ, List, [], ◌∷◌, ◌++◌, map, Bool, Some, inl, inr, refl}
 use Rattle.std.proofs.lemmas.List.Elements.{All-nil, All-cons, All-head, All-tail, All-same, All-append}
 use Rattle.std.specs.List.{All}
-use Rattle.meta_base.specs.Language.State.{Trees}
-use Rattle.meta_spanned.specs.Spanned.{Span, span_of, Spanned, Leaf, One, Two, Unary, placed, SpannedRule}
-use Rattle.meta_reader.specs.Reading.{Category, Postfixed, done, more, Reads, barred, unbarred, one_alternative, choice, one_term, sequence, tagged, pos_pred, neg_pred, bare, grouped, leaf, pushed, literally_pushed, ReadsRule, normal, modified, ReadsRules, end_of_input, grammar_doc, documented, defined}
-use Rattle.meta_stack_loops.specs.Visiting.{AllReported}
-use Rattle.meta_stack_domain.specs.Reading as says
-use Rattle.meta_stack_domain.specs.Reported.{Own, ReportedIn}
-use Rattle.meta_stack_domain.specs.Stack.{AbstractStack}
+use Rattle.base_language.specs.Language.State.{Trees}
+use Rattle.front_spanned.specs.Spanned.{Span, span_of, Spanned, Leaf, One, Two, Unary, placed, SpannedRule}
+use Rattle.front_reader.specs.Reading.{Category, Postfixed, done, more, Reads, barred, unbarred, one_alternative, choice, one_term, sequence, tagged, pos_pred, neg_pred, bare, grouped, leaf, pushed, literally_pushed, ReadsRule, normal, modified, ReadsRules, end_of_input, grammar_doc, documented, defined}
+use Rattle.front_stack_loops.specs.Visiting.{AllReported}
+use Rattle.front_stack_domain.specs.Reading as says
+use Rattle.front_stack_domain.specs.Reported.{Own, ReportedIn}
+use Rattle.front_stack_domain.specs.Stack.{AbstractStack}
 
 module _ (text : List ℕ) where
   -- a place in the text

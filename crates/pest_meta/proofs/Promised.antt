@@ -2,26 +2,26 @@
 use Rattle.std.proofs.Common.{◌≡◌, ℕ, List, [], subst, sym}
 use Rattle.std.specs.Borrow.{Bor}
 use Rattle.std.specs.Str.{IsUtf8}
-use Rattle.meta_ast.specs.Optimized.{optimized_rules_of}
-use Rattle.meta_ast.specs.declared.optimized.OptimizedRule.{OptimizedRule}
-use Rattle.meta_base.specs.Language.Expression.{Expression, Grammar}
-use Rattle.meta_base.specs.Language.Grammar.{FitsItsTypes, IsGrammar}
-use Rattle.meta_base.specs.Language.CharacterBounds.{HasCharacterBounds}
-use Rattle.meta_base.specs.Language.KnownNames.{HasKnownNames}
-use Rattle.meta_base.specs.Language.State.{Trees}
-use Rattle.meta_base.specs.Language.WellFormed.{InSomeRule, IsPlain}
-use Rattle.meta_base.proofs.OneOutcome.{same}
-use Rattle.meta_base.proofs.Termination.{ends}
-use Rattle.meta_base.proofs.ListingKeepsGrammars.{Finished, finished_grammar, finished_plain, finished_well_formed, wrapped_listing_finishes}
-use Rattle.meta_base.proofs.SomeRule.{names_readable}
-use Rattle.meta_base.proofs.StepsKeepGrammars.{grammar_along, plain_along, well_formed_along}
-use Rattle.meta_names.specs.GrammarNames.{AreWrittenAt, calls, definitions, first_calls}
-use Rattle.meta_spanned.specs.Erasure.{rules_without_spans}
-use Rattle.meta_spanned.specs.Spanned.{SpannedRule}
-use Rattle.meta_reader.proofs.ReadableCounts.{counts_readable}
-use Rattle.meta_reader.proofs.ReadParts.{parts_so}
-use Rattle.meta_reader.specs.Reading.{ReadsRules}
-use Rattle.meta_restorer.specs.Agreeing.{WrappersSuffice}
+use Rattle.base_ast.specs.Optimized.{optimized_rules_of}
+use Rattle.base_ast.specs.declared.optimized.OptimizedRule.{OptimizedRule}
+use Rattle.base_language.specs.Language.Expression.{Expression, Grammar}
+use Rattle.base_language.specs.Language.Grammar.{FitsItsTypes, IsGrammar}
+use Rattle.base_language.specs.Language.CharacterBounds.{HasCharacterBounds}
+use Rattle.base_language.specs.Language.KnownNames.{HasKnownNames}
+use Rattle.base_language.specs.Language.State.{Trees}
+use Rattle.base_language.specs.Language.WellFormed.{InSomeRule, IsPlain}
+use Rattle.base_language.proofs.OneOutcome.{same}
+use Rattle.base_language.proofs.Termination.{ends}
+use Rattle.base_language.proofs.ListingKeepsGrammars.{Finished, finished_grammar, finished_plain, finished_well_formed, wrapped_listing_finishes}
+use Rattle.base_language.proofs.SomeRule.{names_readable}
+use Rattle.base_language.proofs.StepsKeepGrammars.{grammar_along, plain_along, well_formed_along}
+use Rattle.front_names.specs.GrammarNames.{AreWrittenAt, calls, definitions, first_calls}
+use Rattle.front_spanned.specs.Erasure.{rules_without_spans}
+use Rattle.front_spanned.specs.Spanned.{SpannedRule}
+use Rattle.front_reader.proofs.ReadableCounts.{counts_readable}
+use Rattle.front_reader.proofs.ReadParts.{parts_so}
+use Rattle.front_reader.specs.Reading.{ReadsRules}
+use Rattle.front_restorer.specs.Agreeing.{WrappersSuffice}
 use Rattle.pest_meta.proofs.Builtins.{builtins_outside}
 use Rattle.pest_meta.proofs.Called.{each_is_called}
 use Rattle.pest_meta.proofs.CharacterBounds.{answer_bounds, read_bounds}

@@ -3,16 +3,16 @@ use Rattle.std.proofs.Common.{◌≡◌, ◌↔◌, List, [], ◌∷◌, ◌++�
 use Rattle.std.proofs.Math.Path.{fun_ext}
 use Rattle.std.proofs.lemmas.List.{nil_from_length}
 use Rattle.std.proofs.lemmas.List.Sorted.{length_permutation}
-use Rattle.meta_base.specs.Language.Text.{Text}
-use Rattle.meta_spanned.specs.Erasure.{rules_without_spans}
-use Rattle.meta_spanned.specs.Spanned.{Span, Spanned, Leaf, One, Two, Unary, SpannedRule}
-use Rattle.meta_stack_loops.specs.Certain.{AreFound, AreRead, AreReports}
-use Rattle.meta_stack_loops.specs.Visiting.{AllReported}
-use Rattle.meta_stack_domain.specs.Reading as says
-use Rattle.meta_stack_domain.specs.Reported.{Own, ReportedFrom, ReportedIn}
-use Rattle.meta_stack_domain.specs.Reports.{SkippingAltersStack}
-use Rattle.meta_stack_domain.specs.Stack.{AbstractStack}
-use Rattle.meta_stack_domain.specs.Turns.{most_stacks}
+use Rattle.base_language.specs.Language.Text.{Text}
+use Rattle.front_spanned.specs.Erasure.{rules_without_spans}
+use Rattle.front_spanned.specs.Spanned.{Span, Spanned, Leaf, One, Two, Unary, SpannedRule}
+use Rattle.front_stack_loops.specs.Certain.{AreFound, AreRead, AreReports}
+use Rattle.front_stack_loops.specs.Visiting.{AllReported}
+use Rattle.front_stack_domain.specs.Reading as says
+use Rattle.front_stack_domain.specs.Reported.{Own, ReportedFrom, ReportedIn}
+use Rattle.front_stack_domain.specs.Reports.{SkippingAltersStack}
+use Rattle.front_stack_domain.specs.Stack.{AbstractStack}
+use Rattle.front_stack_domain.specs.Turns.{most_stacks}
 
 module _ (limit turns : ℕ) (read : Spanned → AbstractStack → says.Reading) (nullable : Spanned → Bool) where
   own_once : (S : AbstractStack → Type 0) (t : Span) (f : Unary) (x : Spanned) (us ts vs : List Span)

@@ -1,38 +1,38 @@
 -- A text has one list of trees at most, and is read in one way at most.
 use Rattle.std.proofs.Common.{◌≡◌, ◌≢◌, ℕ, List, [], Option, Some, None, MatchOption, Result, Ok, Err, IfOk, false, ◌⊎◌, alloc_error, refl, sym, ap, subst, inl, inr, ◌∙◌}
 use Rattle.std.specs.Borrow.{Bor}
-use Rattle.meta_ast.specs.Optimized.{optimized_rules_of}
-use Rattle.meta_ast.specs.declared.optimized.OptimizedRule.{OptimizedRule}
-use Rattle.meta_base.specs.Language.Expression.{Grammar}
-use Rattle.meta_optimizer.specs.Passes.{IsOptimized}
-use Rattle.meta_base.specs.Language.State.{Classes, State, Trees, Success, Failure}
-use Rattle.meta_base.specs.Pieces.NamedTrees.{named}
-use Rattle.meta_base.specs.Pieces.Saying.{AreErrorsFor}
-use Rattle.meta_base.specs.Pieces.Pairs.{pairs_text, pairs_trees}
-use Rattle.meta_base.specs.declared.grammar.Rule.{Rule}
-use Rattle.meta_base.specs.declared.grammar.Rule.TheVariants as rule_is
-use Rattle.meta_base.specs.declared.runtime.errors.Error.{Error}
-use Rattle.meta_base.specs.declared.runtime.faults.Fault as code
-use Rattle.meta_base.specs.declared.runtime.faults.Fault.TheVariants as fault_is
-use Rattle.meta_base.specs.declared.runtime.tokens.Pairs.{Pairs}
-use Rattle.meta_base.proofs.OneOutcome.{same, same_trees}
-use Rattle.meta_spanned.specs.Erasure.{rules_without_spans}
-use Rattle.meta_spanned.specs.Spanned.{SpannedRule}
-use Rattle.meta_reader.specs.Flaws.{Flaw, first_flaw}
-use Rattle.meta_reader.specs.Reading.{ReadsRules}
-use Rattle.meta_reader.specs.Refusals.{AreReadAs, first_flaw_of, IsReadRefusal, ReportsFlaw}
-use Rattle.meta_reader.proofs.Uniqueness.{rules_once}
-use Rattle.meta_syntax.specs.MetaGrammar.{meta_grammar}
-use Rattle.meta_syntax.specs.Parses.{AreOfAGrammar, FailsAt, ParseRefuses}
-use Rattle.meta_names.specs.GrammarNames.{AreWrittenAt, complaints_of, first_calls_of, IsNameRefusal}
-use Rattle.meta_stack_loops.specs.Certain.{AreReports}
-use Rattle.meta_validator.specs.Reported.{AreReported}
-use Rattle.meta_validator.proofs.NothingElse.{nothing_else}
+use Rattle.base_ast.specs.Optimized.{optimized_rules_of}
+use Rattle.base_ast.specs.declared.optimized.OptimizedRule.{OptimizedRule}
+use Rattle.base_language.specs.Language.Expression.{Grammar}
+use Rattle.front_optimizer.specs.Passes.{IsOptimized}
+use Rattle.base_language.specs.Language.State.{Classes, State, Trees, Success, Failure}
+use Rattle.base_language.specs.Pieces.NamedTrees.{named}
+use Rattle.base_language.specs.Pieces.Saying.{AreErrorsFor}
+use Rattle.base_language.specs.Pieces.Pairs.{pairs_text, pairs_trees}
+use Rattle.base_language.specs.declared.grammar.Rule.{Rule}
+use Rattle.base_language.specs.declared.grammar.Rule.TheVariants as rule_is
+use Rattle.base_language.specs.declared.runtime.errors.Error.{Error}
+use Rattle.base_language.specs.declared.runtime.faults.Fault as code
+use Rattle.base_language.specs.declared.runtime.faults.Fault.TheVariants as fault_is
+use Rattle.base_language.specs.declared.runtime.tokens.Pairs.{Pairs}
+use Rattle.base_language.proofs.OneOutcome.{same, same_trees}
+use Rattle.front_spanned.specs.Erasure.{rules_without_spans}
+use Rattle.front_spanned.specs.Spanned.{SpannedRule}
+use Rattle.front_reader.specs.Flaws.{Flaw, first_flaw}
+use Rattle.front_reader.specs.Reading.{ReadsRules}
+use Rattle.front_reader.specs.Refusals.{AreReadAs, first_flaw_of, IsReadRefusal, ReportsFlaw}
+use Rattle.front_reader.proofs.Uniqueness.{rules_once}
+use Rattle.front_syntax.specs.MetaGrammar.{meta_grammar}
+use Rattle.front_syntax.specs.Parses.{AreOfAGrammar, FailsAt, ParseRefuses}
+use Rattle.front_names.specs.GrammarNames.{AreWrittenAt, complaints_of, first_calls_of, IsNameRefusal}
+use Rattle.front_stack_loops.specs.Certain.{AreReports}
+use Rattle.front_validator.specs.Reported.{AreReported}
+use Rattle.front_validator.proofs.NothingElse.{nothing_else}
 use Rattle.pest_meta.specs.Findings.{AreErrorsOfFindings}
 use Rattle.pest_meta.proofs.ReportsAgree.{reports_agree}
 use Rattle.pest_meta.specs.Promises.{OfRead}
-use Rattle.meta_optimizer.specs.Written.{AreWrittenOut}
-use Rattle.meta_base.specs.Rewritings.Rewriting.{SameOutcomes}
+use Rattle.front_optimizer.specs.Written.{AreWrittenOut}
+use Rattle.base_language.specs.Rewritings.Rewriting.{SameOutcomes}
 use Rattle.std.specs.declared.alloc.Global.{Global}
 use Rattle.std.specs.declared.vec.Vec.{Vec}
 use Rattle.pest_meta.specs.WithSpans.{SpellsWithSpans}

@@ -8,22 +8,22 @@ use Rattle.std.specs.List.{All, AllByRecursion}
 use Rattle.std.specs.Prelude.{filter}
 use Rattle.std.specs.Str.{IsUtf8}
 use Rattle.std.proofs.lemmas.Bool.{false_from_ne_true}
-use Rattle.meta_validator.proofs.EmptyLemmas.{empty_first, empty_second}
-use Rattle.meta_base.specs.Language.Builtins.{is_one_of}
-use Rattle.meta_base.specs.Language.Expression.{Grammar, rule_of}
-use Rattle.meta_base.specs.Language.Grammar.{HasDistinctNames, keywords}
-use Rattle.meta_base.specs.Rewritings.Rewriting.{KeepsAny}
-use Rattle.meta_base.specs.Pieces.Saying.{Complaint, Span, piece, written}
-use Rattle.meta_base.specs.Language.State.{Trees, None', Tree}
-use Rattle.meta_names.specs.GrammarNames.{defined_by, definitions, name_complaints}
-use Rattle.meta_names.specs.Names.{later_places, places_of, pest_keyword_complaints, duplicate_complaints, undefined_complaints}
-use Rattle.meta_spanned.specs.Erasure.{rules_without_spans}
-use Rattle.meta_spanned.specs.Spanned.{SpannedRule}
-use Rattle.meta_base.specs.Language.Text.{IsText}
-use Rattle.meta_base.proofs.Basics.{first_of_neither, second_of_neither}
+use Rattle.front_validator.proofs.EmptyLemmas.{empty_first, empty_second}
+use Rattle.base_language.specs.Language.Builtins.{is_one_of}
+use Rattle.base_language.specs.Language.Expression.{Grammar, rule_of}
+use Rattle.base_language.specs.Language.Grammar.{HasDistinctNames, keywords}
+use Rattle.base_language.specs.Rewritings.Rewriting.{KeepsAny}
+use Rattle.base_language.specs.Pieces.Saying.{Complaint, Span, piece, written}
+use Rattle.base_language.specs.Language.State.{Trees, None', Tree}
+use Rattle.front_names.specs.GrammarNames.{defined_by, definitions, name_complaints}
+use Rattle.front_names.specs.Names.{later_places, places_of, pest_keyword_complaints, duplicate_complaints, undefined_complaints}
+use Rattle.front_spanned.specs.Erasure.{rules_without_spans}
+use Rattle.front_spanned.specs.Spanned.{SpannedRule}
+use Rattle.base_language.specs.Language.Text.{IsText}
+use Rattle.base_language.proofs.Basics.{first_of_neither, second_of_neither}
 use Rattle.pest_meta.proofs.Fitting.{characters_are_text}
 use Rattle.pest_meta.proofs.WholeCharacters.{OnCharacters}
-use Rattle.meta_reader.specs.Reading.{line_doc, normal, modified, ReadsRules, end_of_input, grammar_doc, documented, defined}
+use Rattle.front_reader.specs.Reading.{line_doc, normal, modified, ReadsRules, end_of_input, grammar_doc, documented, defined}
 
 -- the names that are written at some places
 abbrev pub names_at : List Span → List (List ℕ)

@@ -4,11 +4,11 @@ use Rattle.std.proofs.lemmas.Str.{IsUtf8-between}
 use Rattle.std.specs.Bool.{⊤}
 use Rattle.std.specs.List.{slice_range}
 use Rattle.std.specs.Str.{IsUtf8}
-use Rattle.meta_base.specs.Language.Places.{Nested, IsStateIn}
-use Rattle.meta_base.specs.Language.State.{Classes, Trees, None', Tree}
-use Rattle.meta_base.proofs.InBytes.{on_bytes}
-use Rattle.meta_base.proofs.TreesAreNested.{fits}
-use Rattle.meta_syntax.specs.Parses.{start_of}
+use Rattle.base_language.specs.Language.Places.{Nested, IsStateIn}
+use Rattle.base_language.specs.Language.State.{Classes, Trees, None', Tree}
+use Rattle.base_language.proofs.InBytes.{on_bytes}
+use Rattle.base_language.proofs.TreesAreNested.{fits}
+use Rattle.front_syntax.specs.Parses.{start_of}
 use Rattle.pest_meta.specs.Spelling.{HasTrees}
 
 -- what is written at each tree is a text

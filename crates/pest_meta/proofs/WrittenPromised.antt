@@ -5,23 +5,23 @@ use Rattle.std.specs.Borrow.{Bor}
 use Rattle.std.specs.Str.{IsUtf8}
 use Rattle.std.specs.declared.alloc.Global.{Global}
 use Rattle.std.specs.declared.vec.Vec.{Vec}
-use Rattle.meta_ast.specs.Optimized.{optimized_rules_of}
-use Rattle.meta_ast.specs.declared.optimized.OptimizedRule.{OptimizedRule}
-use Rattle.meta_base.specs.Language.Expression.{Grammar}
-use Rattle.meta_base.specs.Language.KnownNames.{HasKnownNames}
-use Rattle.meta_base.specs.Pieces.NamedTrees.{named}
-use Rattle.meta_base.specs.Pieces.Pairs.{pairs_text, pairs_trees}
-use Rattle.meta_base.specs.Rewritings.Rewriting.{EachBody}
-use Rattle.meta_base.specs.declared.grammar.Rule.{Rule}
-use Rattle.meta_base.specs.declared.runtime.tokens.Pairs.{Pairs}
-use Rattle.meta_names.specs.GrammarNames.{AreWrittenAt, complaints_of, first_calls_of}
-use Rattle.meta_optimizer.specs.Written.{AreWrittenOut}
-use Rattle.meta_syntax.specs.Parses.{AreOfAGrammar}
+use Rattle.base_ast.specs.Optimized.{optimized_rules_of}
+use Rattle.base_ast.specs.declared.optimized.OptimizedRule.{OptimizedRule}
+use Rattle.base_language.specs.Language.Expression.{Grammar}
+use Rattle.base_language.specs.Language.KnownNames.{HasKnownNames}
+use Rattle.base_language.specs.Pieces.NamedTrees.{named}
+use Rattle.base_language.specs.Pieces.Pairs.{pairs_text, pairs_trees}
+use Rattle.base_language.specs.Rewritings.Rewriting.{EachBody}
+use Rattle.base_language.specs.declared.grammar.Rule.{Rule}
+use Rattle.base_language.specs.declared.runtime.tokens.Pairs.{Pairs}
+use Rattle.front_names.specs.GrammarNames.{AreWrittenAt, complaints_of, first_calls_of}
+use Rattle.front_optimizer.specs.Written.{AreWrittenOut}
+use Rattle.front_syntax.specs.Parses.{AreOfAGrammar}
 use Rattle.pest_meta.proofs.CharacterBounds.{bounds_on, read_bounds}
 use Rattle.pest_meta.proofs.KnownNames.{known_on, spelled_known}
 use Rattle.pest_meta.proofs.NothingNew.{HasNothingNew, kept_by_unrolling}
 use Rattle.pest_meta.proofs.Promised.{read_builtins}
-use Rattle.meta_base.specs.Language.CharacterBounds.{HasCharacterBounds}
+use Rattle.base_language.specs.Language.CharacterBounds.{HasCharacterBounds}
 use Rattle.pest_meta.specs.Spelling.{AreAccepted}
 
 module _ {E : Type 0} (text : List ℕ) (utf8 : IsUtf8 text) (pairs : Pairs Rule) (builtins : List (Bor (List ℕ))) (rules : Grammar) (answer : Result (Vec OptimizedRule Global) E)

@@ -1,10 +1,10 @@
 -- Findings in rules, with the reports of the stack pass.
 use Rattle.std.specs.Prelude.{List}
-use Rattle.meta_base.specs.declared.grammar.Rule.{Rule}
-use Rattle.meta_base.specs.declared.runtime.errors.Error.{Error}
-use Rattle.meta_spanned.specs.Spanned.{Span, SpannedRule}
-use Rattle.meta_stack_loops.specs.Certain.{AreReports}
-use Rattle.meta_validator.specs.Reported.{AreReported}
+use Rattle.base_language.specs.declared.grammar.Rule.{Rule}
+use Rattle.base_language.specs.declared.runtime.errors.Error.{Error}
+use Rattle.front_spanned.specs.Spanned.{Span, SpannedRule}
+use Rattle.front_stack_loops.specs.Certain.{AreReports}
+use Rattle.front_validator.specs.Reported.{AreReported}
 
 -- the errors are those of the rules, ordered by position; the repetitions that the stack pass reports are
 -- among them, and there are no others that are known to be endless

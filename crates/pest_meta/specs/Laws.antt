@@ -2,14 +2,14 @@
 use Rattle.std.specs.Prelude.{◌≡◌, ℕ, List, map}
 use Rattle.std.specs.Borrow.{Bor}
 use Rattle.std.specs.Str.{IsUtf8}
-use Rattle.meta_ast.specs.Optimized.{optimized_rules_of}
-use Rattle.meta_ast.specs.declared.optimized.OptimizedRule.{OptimizedRule}
-use Rattle.meta_base.specs.Language.Expression.{Expression, Grammar, RuleType}
-use Rattle.meta_base.specs.Language.State.{Trees}
-use Rattle.meta_base.specs.declared.grammar.Rule.{Rule}
-use Rattle.meta_base.specs.declared.runtime.errors.Error.{Error}
-use Rattle.meta_optimizer.specs.Passes.{IsOptimized}
-use Rattle.meta_validator.specs.Alike.{AreAlike}
+use Rattle.base_ast.specs.Optimized.{optimized_rules_of}
+use Rattle.base_ast.specs.declared.optimized.OptimizedRule.{OptimizedRule}
+use Rattle.base_language.specs.Language.Expression.{Expression, Grammar, RuleType}
+use Rattle.base_language.specs.Language.State.{Trees}
+use Rattle.base_language.specs.declared.grammar.Rule.{Rule}
+use Rattle.base_language.specs.declared.runtime.errors.Error.{Error}
+use Rattle.front_optimizer.specs.Passes.{IsOptimized}
+use Rattle.front_validator.specs.Alike.{AreAlike}
 use Rattle.pest_meta.specs.Spelling.{AreFlawed, AreReadAsRules, HasAnswer, HasRefusal, HasTrees, HasWrongRules, IsAnswer, IsMisnamed, IsNoGrammar, IsRefusedWith, SpellsGrammar}
 
 -- a text has one list of trees at most

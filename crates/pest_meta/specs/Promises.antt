@@ -1,17 +1,17 @@
 -- Promises about the grammar that an accepted text spells, and about the answered rules.
 use Rattle.std.specs.Prelude.{◌≡◌, ℕ, List, None, true, All, chars, map}
 use Rattle.std.specs.Borrow.{Bor}
-use Rattle.meta_base.specs.Language.Builtins.{is_one_of}
-use Rattle.meta_base.specs.Language.Expression.{Grammar, Ident, rule_of}
-use Rattle.meta_base.specs.Language.Grammar.{IsGrammar}
-use Rattle.meta_base.specs.Rewritings.Rewriting.{Chain, EachBody, SameOutcomes}
-use Rattle.meta_base.specs.Language.State.{Classes, Trees}
-use Rattle.meta_base.specs.Language.Text.{Text}
-use Rattle.meta_base.specs.Language.WellFormed.{EndsFrom, InSomeRule, IsWellFormed, Start}
-use Rattle.meta_names.specs.Names.{is_builtin}
-use Rattle.meta_optimizer.specs.Passes.{IsListing}
-use Rattle.meta_spanned.specs.Spanned.{SpannedRule}
-use Rattle.meta_reader.specs.Reading.{ReadsRules}
+use Rattle.base_language.specs.Language.Builtins.{is_one_of}
+use Rattle.base_language.specs.Language.Expression.{Grammar, Ident, rule_of}
+use Rattle.base_language.specs.Language.Grammar.{IsGrammar}
+use Rattle.base_language.specs.Rewritings.Rewriting.{Chain, EachBody, SameOutcomes}
+use Rattle.base_language.specs.Language.State.{Classes, Trees}
+use Rattle.base_language.specs.Language.Text.{Text}
+use Rattle.base_language.specs.Language.WellFormed.{EndsFrom, InSomeRule, IsWellFormed, Start}
+use Rattle.front_names.specs.Names.{is_builtin}
+use Rattle.front_optimizer.specs.Passes.{IsListing}
+use Rattle.front_spanned.specs.Spanned.{SpannedRule}
+use Rattle.front_reader.specs.Reading.{ReadsRules}
 use Rattle.pest_meta.specs.Spelling.{HasTrees, SpellsGrammar}
 
 -- this holds of the grammar that the text spells

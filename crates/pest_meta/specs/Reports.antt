@@ -1,11 +1,11 @@
 -- Printed faults.
 use Rattle.std.specs.Prelude.{◌≡◌, ℕ, List, [], ◌∷◌, ◌++◌, codes, string_bytes, ⊤}
 use Rattle.std.specs.List.{join_by}
-use Rattle.meta_base.specs.Pieces.PrintedError.{error_text}
-use Rattle.meta_base.specs.declared.grammar.Rule.{Rule}
-use Rattle.meta_base.specs.declared.runtime.errors.Error.{Error}
-use Rattle.meta_base.specs.declared.runtime.faults.Fault.{Fault}
-use Rattle.meta_base.specs.declared.runtime.faults.Fault.TheVariants as fault_is
+use Rattle.base_language.specs.Pieces.PrintedError.{error_text}
+use Rattle.base_language.specs.declared.grammar.Rule.{Rule}
+use Rattle.base_language.specs.declared.runtime.errors.Error.{Error}
+use Rattle.base_language.specs.declared.runtime.faults.Fault.{Fault}
+use Rattle.base_language.specs.declared.runtime.faults.Fault.TheVariants as fault_is
 use Rattle.pest_meta.specs.declared.report.Report as code
 use Rattle.pest_meta.specs.declared.report.Report.TheVariants as report_is
 

@@ -1,28 +1,28 @@
 -- The grammar that a text spells, and the answer for the text.
 use Rattle.std.specs.Prelude.{◌≡◌, ◌≢◌, ◌⊎◌, ℕ, List, [], Some, None, ⊤}
 use Rattle.std.specs.Borrow.{Bor}
-use Rattle.meta_base.specs.Language.Expression.{Grammar}
-use Rattle.meta_base.specs.Pieces.Saying.{Complaint, AreErrorsFor}
-use Rattle.meta_base.specs.Language.State.{Trees}
-use Rattle.meta_base.specs.Language.WellFormed.{IsWellFormed}
-use Rattle.meta_base.specs.declared.grammar.Rule.{Rule}
-use Rattle.meta_base.specs.declared.grammar.Rule.TheVariants as rule_is
-use Rattle.meta_base.specs.declared.runtime.errors.Error.{Error}
-use Rattle.meta_base.specs.declared.runtime.faults.Fault as code
-use Rattle.meta_base.specs.declared.runtime.faults.Fault.TheVariants as fault_is
-use Rattle.meta_ast.specs.Optimized.{optimized_rules_of}
-use Rattle.meta_ast.specs.declared.optimized.OptimizedRule.{OptimizedRule}
-use Rattle.meta_names.specs.GrammarNames.{AreWrittenAt, calls, definitions, first_calls, name_complaints}
-use Rattle.meta_spanned.specs.Erasure.{rules_without_spans}
-use Rattle.meta_spanned.specs.Spanned.{SpannedRule}
-use Rattle.meta_optimizer.specs.Passes.{IsOptimized}
-use Rattle.meta_reader.specs.Flaws.{Flaw, first_flaw}
-use Rattle.meta_reader.specs.Reading.{ReadsRules}
-use Rattle.meta_reader.specs.Refusals.{ReportsFlaw}
-use Rattle.meta_syntax.specs.Parses as parsed
-use Rattle.meta_syntax.specs.Parses.{IsRefused}
-use Rattle.meta_stack_loops.specs.Certain.{AreReports}
-use Rattle.meta_validator.specs.Reported.{AreReported}
+use Rattle.base_language.specs.Language.Expression.{Grammar}
+use Rattle.base_language.specs.Pieces.Saying.{Complaint, AreErrorsFor}
+use Rattle.base_language.specs.Language.State.{Trees}
+use Rattle.base_language.specs.Language.WellFormed.{IsWellFormed}
+use Rattle.base_language.specs.declared.grammar.Rule.{Rule}
+use Rattle.base_language.specs.declared.grammar.Rule.TheVariants as rule_is
+use Rattle.base_language.specs.declared.runtime.errors.Error.{Error}
+use Rattle.base_language.specs.declared.runtime.faults.Fault as code
+use Rattle.base_language.specs.declared.runtime.faults.Fault.TheVariants as fault_is
+use Rattle.base_ast.specs.Optimized.{optimized_rules_of}
+use Rattle.base_ast.specs.declared.optimized.OptimizedRule.{OptimizedRule}
+use Rattle.front_names.specs.GrammarNames.{AreWrittenAt, calls, definitions, first_calls, name_complaints}
+use Rattle.front_spanned.specs.Erasure.{rules_without_spans}
+use Rattle.front_spanned.specs.Spanned.{SpannedRule}
+use Rattle.front_optimizer.specs.Passes.{IsOptimized}
+use Rattle.front_reader.specs.Flaws.{Flaw, first_flaw}
+use Rattle.front_reader.specs.Reading.{ReadsRules}
+use Rattle.front_reader.specs.Refusals.{ReportsFlaw}
+use Rattle.front_syntax.specs.Parses as parsed
+use Rattle.front_syntax.specs.Parses.{IsRefused}
+use Rattle.front_stack_loops.specs.Certain.{AreReports}
+use Rattle.front_validator.specs.Reported.{AreReported}
 use Rattle.pest_meta.specs.Findings.{AreErrorsOfFindings}
 
 -- the trees of a text, which the meta-grammar gives for the whole of it

@@ -1,11 +1,11 @@
 -- The rules of an accepted text, with the spans of their nodes.
 use Rattle.std.specs.Prelude.{◌≡◌, ℕ, List, []}
 use Rattle.std.specs.Borrow.{Bor}
-use Rattle.meta_base.specs.Language.State.{Trees}
-use Rattle.meta_names.specs.GrammarNames.{AreWrittenAt, calls, definitions, first_calls}
-use Rattle.meta_reader.specs.Reading.{ReadsRules}
-use Rattle.meta_spanned.specs.Erasure.{rules_without_spans}
-use Rattle.meta_spanned.specs.Spanned.{SpannedRule}
+use Rattle.base_language.specs.Language.State.{Trees}
+use Rattle.front_names.specs.GrammarNames.{AreWrittenAt, calls, definitions, first_calls}
+use Rattle.front_reader.specs.Reading.{ReadsRules}
+use Rattle.front_spanned.specs.Erasure.{rules_without_spans}
+use Rattle.front_spanned.specs.Spanned.{SpannedRule}
 use Rattle.pest_meta.specs.Spelling.{AreAccepted, HasTrees, complaints_in}
 
 -- the text's trees are read as these rules, which are accepted without their spans; its names are in order,

@@ -1,9 +1,9 @@
 -- The rules of a grammar's text as they are written, in the form that runs.
 use Rattle.std.specs.Prelude.{◌≡◌, ℕ, List, []}
-use Rattle.meta_base.specs.Language.Expression.{Grammar}
-use Rattle.meta_base.specs.Language.State.{Trees}
-use Rattle.meta_base.specs.Rewritings.Rewriting.{SameOutcomes}
-use Rattle.meta_optimizer.specs.Written.{AreWrittenOut}
+use Rattle.base_language.specs.Language.Expression.{Grammar}
+use Rattle.base_language.specs.Language.State.{Trees}
+use Rattle.base_language.specs.Rewritings.Rewriting.{SameOutcomes}
+use Rattle.front_optimizer.specs.Written.{AreWrittenOut}
 use Rattle.pest_meta.specs.Spelling.{AreAccepted, HasTrees, complaints_in}
 
 -- the text spells these rules, which are accepted, and its names are in order

@@ -1,3 +1,3 @@
 //! Rules and expressions as values, and rules by their names.
-pub use meta_analysis::rule_number;
-pub use meta_ast::ast::{Expr, ExprTopDownIterator, Rule, RuleType, release};
+pub use base_ast::ast::{Expr, ExprTopDownIterator, Rule, RuleType, release};
+pub use front_analysis::rule_number;

@@ -1,12 +1,12 @@
 //! Laws over the definitions alone.
-ghost use Rattle.meta_base.specs.Language.CharacterBounds.{HasCharacterBounds};
-ghost use Rattle.meta_base.specs.Language.Expression.{Grammar};
-ghost use Rattle.meta_base.specs.Language.KnownNames.{HasKnownNames};
-ghost use Rattle.meta_base.specs.Rewritings.Listing.{EachListed};
-ghost use Rattle.meta_base.specs.Rewritings.Rewriting.{Chain, IsDone, Joins, Rotates, SkipsUntil};
-ghost use Rattle.meta_base.specs.Rewritings.Wrapping.{EachRestored, RestoresTo};
-ghost use Rattle.meta_optimizer.specs.Passes.{IsFactoring, IsUnrolling};
-ghost use Rattle.meta_restorer.specs.Agreeing.{WrappersSuffice};
+ghost use Rattle.base_language.specs.Language.CharacterBounds.{HasCharacterBounds};
+ghost use Rattle.base_language.specs.Language.Expression.{Grammar};
+ghost use Rattle.base_language.specs.Language.KnownNames.{HasKnownNames};
+ghost use Rattle.base_language.specs.Rewritings.Listing.{EachListed};
+ghost use Rattle.base_language.specs.Rewritings.Rewriting.{Chain, IsDone, Joins, Rotates, SkipsUntil};
+ghost use Rattle.base_language.specs.Rewritings.Wrapping.{EachRestored, RestoresTo};
+ghost use Rattle.front_optimizer.specs.Passes.{IsFactoring, IsUnrolling};
+ghost use Rattle.front_restorer.specs.Agreeing.{WrappersSuffice};
 ghost use Rattle.pest_meta.specs.Laws.{FlawedGiveNothing, HasOneListOfBuiltins, HasOneListOfRules, HasOneListOfTrees};
 ghost use Rattle.pest_meta.specs.Laws.{HasOneOptimization, HasOneRefusal, HasOneResult, HasTreesOrFails, IsNotBoth};
 ghost use Rattle.pest_meta.specs.Laws.{NamesComeFirst, OfAnswers, SpellsOneGrammar};

@@ -1,25 +1,25 @@
 //! From a grammar's text to its pairs, and from these to its rules.
 ghost use Rattle.std.specs.Prelude.{IfErr, IfOk};
-ghost use Rattle.meta_ast.specs.Ast.{rules_of};
-ghost use Rattle.meta_base.specs.Pieces.NamedTrees.{named};
-ghost use Rattle.meta_base.specs.Pieces.Pairs.{pairs_text, pairs_trees};
-ghost use Rattle.meta_base.specs.Language.WellFormed.{HasReadableCounts};
-ghost use Rattle.meta_reader.specs.Refusals.{AreReadAs};
-ghost use Rattle.meta_spanned.specs.Erasure.{rules_without_spans};
-ghost use Rattle.meta_spanned.specs.Nodes.{rule_views};
-ghost use Rattle.meta_syntax.specs.Parses.{AreOfAGrammar};
+ghost use Rattle.base_ast.specs.Ast.{rules_of};
+ghost use Rattle.base_language.specs.Pieces.NamedTrees.{named};
+ghost use Rattle.base_language.specs.Pieces.Pairs.{pairs_text, pairs_trees};
+ghost use Rattle.base_language.specs.Language.WellFormed.{HasReadableCounts};
+ghost use Rattle.front_reader.specs.Refusals.{AreReadAs};
+ghost use Rattle.front_spanned.specs.Erasure.{rules_without_spans};
+ghost use Rattle.front_spanned.specs.Nodes.{rule_views};
+ghost use Rattle.front_syntax.specs.Parses.{AreOfAGrammar};
 ghost use Rattle.pest_meta.specs.Spelling.{AreAccepted, AreRejected};
 
 use crate::validator::validate_ast_in;
-use meta_ast::ast;
-use meta_ast::deep::Deep;
-use meta_base::runtime::{Fault, Pairs};
-pub use meta_reader::rules::{
+use base_ast::ast;
+use base_ast::deep::Deep;
+use base_language::runtime::{Fault, Pairs};
+pub use front_reader::rules::{
     ParserExpr, ParserNode, ParserRule, PestParser, Rule, common_name, consume_rules_with_spans,
     filter_internal, parse, rename_meta_rule,
 };
-use meta_spanned::erase_spans;
-pub use meta_spanned::release;
+use front_spanned::erase_spans;
+pub use front_spanned::release;
 use std::alloc::Global;
 
 /// Returns the rules that the pairs of a grammar's text spell, in order, without spans. `pairs` are all

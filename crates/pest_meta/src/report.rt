@@ -2,8 +2,8 @@
 ghost use Rattle.std.specs.Prelude.{◌≡◌, IfErr, IfOk, IsErrAnd, string_bytes};
 ghost use Rattle.pest_meta.specs.Reports.{IsReportOf, report_text};
 
-use meta_base::grammar::Rule;
-use meta_base::runtime::{Error, Fault};
+use base_language::grammar::Rule;
+use base_language::runtime::{Error, Fault};
 use std::alloc::{AllocError, Global};
 
 /// A printed fault.

@@ -1,20 +1,20 @@
 //! Accepted rules with spans.
 ghost use Rattle.std.specs.Prelude.{ℕ, List, IfErr, IfOk};
 ghost use Rattle.std.specs.Borrow.{Bor};
-ghost use Rattle.meta_ast.specs.Optimized.{optimized_rules_of};
-ghost use Rattle.meta_base.specs.Pieces.Faults.{IsMemory};
-ghost use Rattle.meta_optimizer.specs.Passes.{IsOptimized};
-ghost use Rattle.meta_spanned.specs.Erasure.{rules_without_spans};
-ghost use Rattle.meta_spanned.specs.Nodes.{rule_views};
+ghost use Rattle.base_ast.specs.Optimized.{optimized_rules_of};
+ghost use Rattle.base_language.specs.Pieces.Faults.{IsMemory};
+ghost use Rattle.front_optimizer.specs.Passes.{IsOptimized};
+ghost use Rattle.front_spanned.specs.Erasure.{rules_without_spans};
+ghost use Rattle.front_spanned.specs.Nodes.{rule_views};
 ghost use Rattle.pest_meta.specs.Spelling.{IsAnswer, IsRefusal};
 ghost use Rattle.pest_meta.specs.WithSpans.{SpellsWithSpans};
 
 use crate::parser::{ParserRule, PestParser, consume_valid_rules};
-use meta_base::grammar::Rule;
-use meta_base::runtime::Fault;
-use meta_names::collect_builtins;
-use meta_optimizer::{OptimizedRule, optimize};
-use meta_spanned::erase_spans;
+use base_language::grammar::Rule;
+use base_language::runtime::Fault;
+use front_names::collect_builtins;
+use front_optimizer::{OptimizedRule, optimize};
+use front_spanned::erase_spans;
 use std::alloc::Global;
 
 /// Parses a grammar; returns the builtins that it uses, and its rules with the spans of their nodes, as

@@ -1,24 +1,24 @@
 //! Errors in a grammar's names and rules.
 ghost use Rattle.std.specs.Prelude.{◌≡◌, [], IfErr, IfOk, alloc_error};
-ghost use Rattle.meta_base.specs.Language.WellFormed.{IsWellFormed};
-ghost use Rattle.meta_spanned.specs.Erasure.{rules_without_spans};
-ghost use Rattle.meta_spanned.specs.Nodes.{rule_views};
-ghost use Rattle.meta_stack_loops.specs.Certain.{AreReports};
-ghost use Rattle.meta_validator.specs.Placed.{AreIn};
+ghost use Rattle.base_language.specs.Language.WellFormed.{IsWellFormed};
+ghost use Rattle.front_spanned.specs.Erasure.{rules_without_spans};
+ghost use Rattle.front_spanned.specs.Nodes.{rule_views};
+ghost use Rattle.front_stack_loops.specs.Certain.{AreReports};
+ghost use Rattle.front_validator.specs.Placed.{AreIn};
 ghost use Rattle.pest_meta.specs.Findings.{AreErrorsOfFindings};
 
-use meta_analysis::analyze;
-use meta_base::grammar::Rule;
-use meta_base::runtime::{Error, Fault};
-pub use meta_names::{
+use base_language::grammar::Rule;
+use base_language::runtime::{Error, Fault};
+use front_analysis::analyze;
+pub use front_names::{
     unicode_property_names, validate_already_defined, validate_pairs, validate_pest_keywords,
     validate_rust_keywords, validate_undefined,
 };
-use meta_spanned::ParserRule;
-use meta_stack_loops::sorted_reports_in;
-pub use meta_stack_loops::validate_stack_repetition;
-use meta_validator::validator::{validate_by, validate_by_in};
-pub use meta_validator::validator::{is_non_failing, is_non_progressing};
+use front_spanned::ParserRule;
+use front_stack_loops::sorted_reports_in;
+pub use front_stack_loops::validate_stack_repetition;
+use front_validator::validator::{validate_by, validate_by_in};
+pub use front_validator::validator::{is_non_failing, is_non_progressing};
 use std::alloc::Global;
 
 /// Returns the errors in rules, ordered by the start of their spans and then by the end, in bytes (at one

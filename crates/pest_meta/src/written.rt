@@ -1,16 +1,16 @@
 //! The rules of a grammar as they are written, in the form that runs.
 ghost use Rattle.std.specs.Prelude.{IfErr, IfOk};
-ghost use Rattle.meta_ast.specs.Optimized.{optimized_rules_of};
-ghost use Rattle.meta_base.specs.Language.CharacterBounds.{HasCharacterBounds};
-ghost use Rattle.meta_base.specs.Language.KnownNames.{HasKnownNames};
+ghost use Rattle.base_ast.specs.Optimized.{optimized_rules_of};
+ghost use Rattle.base_language.specs.Language.CharacterBounds.{HasCharacterBounds};
+ghost use Rattle.base_language.specs.Language.KnownNames.{HasKnownNames};
 ghost use Rattle.pest_meta.specs.Spelling.{IsRefusal};
 ghost use Rattle.pest_meta.specs.Written.{IsWritten};
 
 use crate::parser::{PestParser, consume_rules};
-use meta_base::grammar::Rule;
-use meta_base::runtime::Fault;
-use meta_names::collect_builtins;
-use meta_optimizer::{OptimizedRule, unroll_rules};
+use base_language::grammar::Rule;
+use base_language::runtime::Fault;
+use front_names::collect_builtins;
+use front_optimizer::{OptimizedRule, unroll_rules};
 use std::alloc::Global;
 
 /// Parses a grammar; returns its rules as they are written, in the form that runs.

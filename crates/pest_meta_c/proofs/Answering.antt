@@ -3,23 +3,23 @@ use Rattle.std.proofs.Common.{◌≡◌, ◌++◌, ◌∙◌, ap, ℕ, List, [],
 use Rattle.std.specs.declared.alloc.AllocError.{AllocError}
 use Rattle.serde_json.specs.Data.{Data}
 use Rattle.serde_json.specs.Written.{compact_text}
-use Rattle.meta_ast.specs.Ast.{rules_of}
-use Rattle.meta_ast.specs.declared.ast.Rule as bare_rule
-use Rattle.meta_ast.specs.declared.optimized.OptimizedRule.{OptimizedRule}
-use Rattle.meta_base.specs.Language.WellFormed.{HasReadableCounts}
-use Rattle.meta_base.specs.Pieces.NamedTrees.{named}
-use Rattle.meta_base.specs.Pieces.Pairs.{pairs_text, pairs_trees}
-use Rattle.meta_base.specs.declared.grammar.Rule.{Rule}
-use Rattle.meta_base.specs.declared.runtime.tokens.Pairs.{Pairs}
-use Rattle.meta_binary.specs.Format.{names_bytes, optimized_rules_bytes, rules_bytes}
-use Rattle.meta_json.specs.Errors.{names_data}
-use Rattle.meta_json.specs.Format.{rules_data}
-use Rattle.meta_json.specs.Placed.{placed_rules_data}
-use Rattle.meta_names.specs.GrammarNames.{AreWrittenAt, complaints_of, first_calls_of}
-use Rattle.meta_spanned.specs.Nodes.{rule_views}
-use Rattle.meta_spanned.specs.declared.node.ParserRule.{ParserRule}
-use Rattle.meta_reader.specs.Refusals.{AreReadAs, first_flaw_of}
-use Rattle.meta_syntax.specs.Parses.{AreOfAGrammar}
+use Rattle.base_ast.specs.Ast.{rules_of}
+use Rattle.base_ast.specs.declared.ast.Rule as bare_rule
+use Rattle.base_ast.specs.declared.optimized.OptimizedRule.{OptimizedRule}
+use Rattle.base_language.specs.Language.WellFormed.{HasReadableCounts}
+use Rattle.base_language.specs.Pieces.NamedTrees.{named}
+use Rattle.base_language.specs.Pieces.Pairs.{pairs_text, pairs_trees}
+use Rattle.base_language.specs.declared.grammar.Rule.{Rule}
+use Rattle.base_language.specs.declared.runtime.tokens.Pairs.{Pairs}
+use Rattle.format_binary.specs.Format.{names_bytes, optimized_rules_bytes, rules_bytes}
+use Rattle.format_json.specs.Errors.{names_data}
+use Rattle.format_json.specs.Format.{rules_data}
+use Rattle.format_json.specs.Placed.{placed_rules_data}
+use Rattle.front_names.specs.GrammarNames.{AreWrittenAt, complaints_of, first_calls_of}
+use Rattle.front_spanned.specs.Nodes.{rule_views}
+use Rattle.front_spanned.specs.declared.node.ParserRule.{ParserRule}
+use Rattle.front_reader.specs.Refusals.{AreReadAs, first_flaw_of}
+use Rattle.front_syntax.specs.Parses.{AreOfAGrammar}
 use Rattle.pest_meta.specs.Spelling.{AreAccepted, IsAnswer, SpellsGrammar}
 use Rattle.pest_meta_c.specs.declared.outcome.CallError as why
 use Rattle.pest_meta_c.specs.Answers.{AreNames, AreNodes, AreRules, IsGrammar}

@@ -1,8 +1,8 @@
 -- What goes over is handed over, by its status.
 use Rattle.std.proofs.Common.{◌≡◌, ◌<◌, ◌≤◌, ◌⊎◌, ℕ, List, Result, Ok, Err, IfOk, IfErr, String, Global, length, string_bytes, inl, inr, refl, sym, ◌∙◌, arith}
 use Rattle.std.proofs.lemmas.Bool.{cases_lt}
-use Rattle.matcher_tokens.specs.declared.outcome.MatchOutcome.{MatchOutcome}
-use Rattle.matcher_tokens.specs.declared.outcome.MatchOutcome.TheVariants as match_is
+use Rattle.pest_meta_c.specs.declared.matching.outcome.MatchOutcome.{MatchOutcome}
+use Rattle.pest_meta_c.specs.declared.matching.outcome.MatchOutcome.TheVariants as match_is
 use Rattle.pest_meta_c.specs.Handing.{AreBytesHandedOver, AreNumbersHandedOver, HandsOver, HandsOverMatch, HandsOverNumbers, IsHandedOver, IsMatchHandedOver, IsPut}
 use Rattle.pest_meta_c.specs.Outcomes.{RefusesNumbers, RefusesWith}
 use Rattle.pest_meta_c.specs.declared.outcome.CallError as why

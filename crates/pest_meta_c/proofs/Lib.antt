@@ -2,3 +2,5 @@ pub mod Answering
 pub mod HandedOver
 pub mod Lining
 pub mod Telling
+pub mod Numbering
+pub mod Running

@@ -3,11 +3,11 @@ use Rattle.std.proofs.Common.{◌≡◌, ◌∙◌, ℕ, suc, ◌+◌, ◌<◌, 
 use Rattle.std.proofs.lemmas.List.{drop_all, nil_from_length}
 use Rattle.std.specs.List.{AllZip, list_any}
 use Rattle.std.specs.declared.alloc.AllocError.{AllocError}
-use Rattle.diagnostic_data.specs.Reports.{is_error}
-use Rattle.diagnostic_data.specs.declared.diagnostic.Diagnostic.{Diagnostic}
+use Rattle.lint_findings.specs.Reports.{is_error}
+use Rattle.lint_findings.specs.declared.diagnostic.Diagnostic.{Diagnostic}
 use Rattle.lint_output.specs.Prints.{IsPrinted}
 use Rattle.lint_output.specs.declared.Style.TheVariants as style
-use Rattle.meta_diagnostics.specs.Diagnosis.{IsDiagnosis}
+use Rattle.lint_diagnostics.specs.Diagnosis.{IsDiagnosis}
 use Rattle.pest_meta.specs.Spelling.{HasAnswer}
 use Rattle.pest_meta_c.specs.Diagnostics.{AreDiagnostics, ArePrinted, joined}
 use Rattle.pest_meta_c.specs.Handing.{HandsOver}

@@ -1,28 +1,28 @@
 -- A fault of a text is told as what is wrong with it.
 use Rattle.std.proofs.Common.{◌≡◌, ◌⊎◌, ℕ, List, inl, inr, refl, subst, sym}
-use Rattle.meta_base.specs.Language.State.{Trees}
-use Rattle.meta_base.specs.Pieces.MetaRules.{name_of}
-use Rattle.meta_base.specs.Pieces.NamedTrees.{named}
-use Rattle.meta_base.specs.Pieces.Pairs.{pairs_text, pairs_trees}
-use Rattle.meta_base.specs.declared.grammar.Rule.{Rule}
-use Rattle.meta_base.specs.declared.grammar.Rule.TheVariants as rule_is
-use Rattle.meta_base.specs.declared.runtime.errors.Error.{Error}
-use Rattle.meta_base.specs.declared.runtime.faults.Fault as code
-use Rattle.meta_base.specs.declared.runtime.faults.Fault.TheVariants as fault_is
-use Rattle.meta_base.specs.declared.runtime.tokens.Pairs.{Pairs}
-use Rattle.meta_json.specs.RuleNames.{IsOfNoRule}
-use Rattle.meta_json.specs.declared.refusal.RefusalLocation.{RefusalLocation}
-use Rattle.meta_json.specs.declared.refusal.RefusalLocation.TheVariants as place_is
-use Rattle.meta_json.specs.declared.refusal.RefusalReason.{RefusalReason}
-use Rattle.meta_json.specs.declared.refusal.RefusalReason.TheVariants as json_why
-use Rattle.meta_names.specs.GrammarNames.{IsNameRefusal, complaints_of}
-use Rattle.meta_reader.specs.Refusals.{first_flaw_of, IsReadRefusal}
-use Rattle.meta_syntax.specs.Parses.{AreOfAGrammar, ParseRefuses}
+use Rattle.base_language.specs.Language.State.{Trees}
+use Rattle.base_language.specs.Pieces.MetaRules.{name_of}
+use Rattle.base_language.specs.Pieces.NamedTrees.{named}
+use Rattle.base_language.specs.Pieces.Pairs.{pairs_text, pairs_trees}
+use Rattle.base_language.specs.declared.grammar.Rule.{Rule}
+use Rattle.base_language.specs.declared.grammar.Rule.TheVariants as rule_is
+use Rattle.base_language.specs.declared.runtime.errors.Error.{Error}
+use Rattle.base_language.specs.declared.runtime.faults.Fault as code
+use Rattle.base_language.specs.declared.runtime.faults.Fault.TheVariants as fault_is
+use Rattle.base_language.specs.declared.runtime.tokens.Pairs.{Pairs}
+use Rattle.format_json.specs.RuleNames.{IsOfNoRule}
+use Rattle.format_json.specs.declared.refusal.RefusalLocation.{RefusalLocation}
+use Rattle.format_json.specs.declared.refusal.RefusalLocation.TheVariants as place_is
+use Rattle.format_json.specs.declared.refusal.RefusalReason.{RefusalReason}
+use Rattle.format_json.specs.declared.refusal.RefusalReason.TheVariants as json_why
+use Rattle.front_names.specs.GrammarNames.{IsNameRefusal, complaints_of}
+use Rattle.front_reader.specs.Refusals.{first_flaw_of, IsReadRefusal}
+use Rattle.front_syntax.specs.Parses.{AreOfAGrammar, ParseRefuses}
 use Rattle.pest_meta.proofs.Spelled.{fails_so, flawed}
 use Rattle.pest_meta.specs.Spelling.{AreFlawed, AreRejected, HaveFindings, IsMisnamed, IsNoGrammar, IsRefusal, IsRefusedWith}
 use Rattle.pest_meta_c.specs.Outcomes.{IsFaultRefusal, IsRefusalOf, RefusesWith}
-use Rattle.meta_json.specs.declared.refusal.Refusal.{Refusal}
-use Rattle.meta_json.specs.declared.refusal.Refusal.TheVariants as refusal_is
+use Rattle.format_json.specs.declared.refusal.Refusal.{Refusal}
+use Rattle.format_json.specs.declared.refusal.Refusal.TheVariants as refusal_is
 use Rattle.pest_meta_c.specs.Refusals.{HasNoTokens, IsNoJson, OfTrees, ReportsSuch}
 use Rattle.pest_meta_c.specs.declared.outcome.CallError as why
 use Rattle.pest_meta_c.specs.declared.outcome.CallError.TheVariants as why_is

@@ -2,36 +2,36 @@
 use Rattle.std.specs.Prelude.{◌≡◌, ℕ, List, [], ◌∷◌, ◌++◌, None, length}
 use Rattle.std.specs.Borrow.{Bor}
 use Rattle.serde_json.specs.Written.{compact_text}
-use Rattle.meta_ast.specs.Ast.{rules_of}
-use Rattle.meta_ast.specs.Optimized.{optimized_rules_of}
-use Rattle.meta_ast.specs.declared.ast.Rule as bare_rule
-use Rattle.meta_ast.specs.declared.optimized.OptimizedRule.{OptimizedRule}
-use Rattle.meta_base.specs.Language.State.{Trees}
-use Rattle.meta_base.specs.Language.WellFormed.{HasReadableCounts, IsPlain}
-use Rattle.meta_base.specs.Pieces.MetaRules.{name_of}
-use Rattle.meta_base.specs.Pieces.Saying.{AreErrorsFor, piece}
-use Rattle.meta_base.specs.declared.grammar.Rule.{Rule}
-use Rattle.meta_base.specs.declared.runtime.errors.Error.{Error}
-use Rattle.meta_binary.specs.Format.{names_bytes, optimized_rules_bytes, rules_bytes}
-use Rattle.meta_binary.specs.Tokens.{token_numbers}
-use Rattle.meta_json.specs.Errors.{answer_data, errors_data, names_data}
-use Rattle.meta_json.specs.Format.{optimized_rules_data, rules_data}
-use Rattle.meta_json.specs.Placed.{placed_rules_data}
-use Rattle.meta_json.specs.Reading as reading
-use Rattle.meta_json.specs.Tokens.{tokens_data}
-use Rattle.meta_json.specs.Versions.{version_data}
-use Rattle.meta_names.specs.GrammarNames.{AreWrittenAt, calls, definitions, first_calls}
-use Rattle.meta_names.specs.Names.{rust_keyword_complaints}
-use Rattle.meta_spanned.specs.Nodes.{rule_views}
-use Rattle.meta_spanned.specs.declared.node.ParserRule.{ParserRule}
-use Rattle.meta_optimizer.specs.Passes.{IsOptimized}
-use Rattle.meta_reader.specs.Flaws.{first_flaw}
-use Rattle.meta_reader.specs.Reading.{ReadsRules}
-use Rattle.meta_restorer.specs.Agreeing.{AgreesLoosely, WrappersSuffice}
-use Rattle.meta_stack_loops.specs.Certain.{AreReports}
-use Rattle.meta_syntax.specs.Entries as entries
-use Rattle.meta_syntax.specs.Parses.{AreTokensOf}
-use Rattle.meta_syntax.specs.declared.entries.Entry.{Entry}
+use Rattle.base_ast.specs.Ast.{rules_of}
+use Rattle.base_ast.specs.Optimized.{optimized_rules_of}
+use Rattle.base_ast.specs.declared.ast.Rule as bare_rule
+use Rattle.base_ast.specs.declared.optimized.OptimizedRule.{OptimizedRule}
+use Rattle.base_language.specs.Language.State.{Trees}
+use Rattle.base_language.specs.Language.WellFormed.{HasReadableCounts, IsPlain}
+use Rattle.base_language.specs.Pieces.MetaRules.{name_of}
+use Rattle.base_language.specs.Pieces.Saying.{AreErrorsFor, piece}
+use Rattle.base_language.specs.declared.grammar.Rule.{Rule}
+use Rattle.base_language.specs.declared.runtime.errors.Error.{Error}
+use Rattle.format_binary.specs.Format.{names_bytes, optimized_rules_bytes, rules_bytes}
+use Rattle.format_binary.specs.Tokens.{token_numbers}
+use Rattle.format_json.specs.Errors.{answer_data, errors_data, names_data}
+use Rattle.format_json.specs.Format.{optimized_rules_data, rules_data}
+use Rattle.format_json.specs.Placed.{placed_rules_data}
+use Rattle.format_json.specs.Reading as reading
+use Rattle.format_json.specs.Tokens.{tokens_data}
+use Rattle.format_json.specs.Versions.{version_data}
+use Rattle.front_names.specs.GrammarNames.{AreWrittenAt, calls, definitions, first_calls}
+use Rattle.front_names.specs.Names.{rust_keyword_complaints}
+use Rattle.front_spanned.specs.Nodes.{rule_views}
+use Rattle.front_spanned.specs.declared.node.ParserRule.{ParserRule}
+use Rattle.front_optimizer.specs.Passes.{IsOptimized}
+use Rattle.front_reader.specs.Flaws.{first_flaw}
+use Rattle.front_reader.specs.Reading.{ReadsRules}
+use Rattle.front_restorer.specs.Agreeing.{AgreesLoosely, WrappersSuffice}
+use Rattle.front_stack_loops.specs.Certain.{AreReports}
+use Rattle.front_syntax.specs.Entries as entries
+use Rattle.front_syntax.specs.Parses.{AreTokensOf}
+use Rattle.front_syntax.specs.declared.entries.Entry.{Entry}
 use Rattle.pest_meta.specs.Promises.{AreBuiltinsOf, EndsFromEverywhere, HasOutcomesOf, IsWellFormedGrammar, OfRead, OfSpelled}
 use Rattle.pest_meta.specs.Spelling.{AreAccepted, HasRefusal, HasTrees, IsAnswer, SpellsGrammar, complaints_in}
 

@@ -1,11 +1,11 @@
 -- The diagnostics of a grammar's text as lines.
 use Rattle.std.specs.Prelude.{◌≡◌, ℕ, List, [], ◌∷◌, ◌++◌, false}
 use Rattle.std.specs.List.{AllZip, list_any}
-use Rattle.diagnostic_data.specs.Reports.{is_error}
-use Rattle.diagnostic_data.specs.declared.diagnostic.Diagnostic.{Diagnostic}
+use Rattle.lint_findings.specs.Reports.{is_error}
+use Rattle.lint_findings.specs.declared.diagnostic.Diagnostic.{Diagnostic}
 use Rattle.lint_output.specs.Prints.{IsPrinted}
 use Rattle.lint_output.specs.declared.Style.TheVariants as style
-use Rattle.meta_diagnostics.specs.Diagnosis.{IsDiagnosis}
+use Rattle.lint_diagnostics.specs.Diagnosis.{IsDiagnosis}
 use Rattle.pest_meta.specs.Spelling.{HasAnswer}
 
 -- all of these, one after another

@@ -3,8 +3,8 @@ use Rattle.std.specs.Prelude.{◌≡◌, ◌≢◌, ◌<◌, ◌≤◌, ◌⊎�
 use Rattle.std.specs.declared.string.String.{String}
 use Rattle.std.specs.declared.alloc.Global.{Global}
 use Rattle.std.specs.declared.vec.Vec.{Vec}
-use Rattle.matcher_tokens.specs.declared.outcome.MatchOutcome.{MatchOutcome}
-use Rattle.matcher_tokens.specs.declared.outcome.MatchOutcome.TheVariants as match_is
+use Rattle.pest_meta_c.specs.declared.matching.outcome.MatchOutcome.{MatchOutcome}
+use Rattle.pest_meta_c.specs.declared.matching.outcome.MatchOutcome.TheVariants as match_is
 use Rattle.pest_meta_c.specs.declared.outcome.CallError as why
 use Rattle.pest_meta_c.specs.declared.outcome.CallError.TheVariants as why_is
 use Rattle.pest_meta_c.specs.declared.outcome.NumbersError.{NumbersError}

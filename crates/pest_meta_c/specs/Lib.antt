@@ -3,3 +3,5 @@ pub mod Diagnostics
 pub mod Handing
 pub mod Outcomes
 pub mod Refusals
+pub mod Numbers
+pub mod MatchOutcomes

@@ -1,15 +1,15 @@
 -- Errors and refusals in JSON, and the outcome of a call.
 use Rattle.std.specs.Prelude.{◌≡◌, ℕ, List, string_bytes, ⊤}
 use Rattle.serde_json.specs.Written.{compact_text}
-use Rattle.meta_base.specs.declared.grammar.Rule.{Rule}
-use Rattle.meta_base.specs.declared.runtime.errors.Error.{Error}
-use Rattle.meta_base.specs.declared.runtime.faults.Fault as code
-use Rattle.meta_base.specs.declared.runtime.faults.Fault.TheVariants as fault_is
-use Rattle.meta_json.specs.Errors.{errors_data}
-use Rattle.meta_json.specs.Refusals.{refusal_data}
-use Rattle.meta_json.specs.declared.refusal.RefusalLocation.{RefusalLocation}
-use Rattle.meta_json.specs.declared.refusal.RefusalReason.{RefusalReason}
-use Rattle.meta_syntax.specs.ExpectedRules.{AreExpected, ExpectsNothing}
+use Rattle.base_language.specs.declared.grammar.Rule.{Rule}
+use Rattle.base_language.specs.declared.runtime.errors.Error.{Error}
+use Rattle.base_language.specs.declared.runtime.faults.Fault as code
+use Rattle.base_language.specs.declared.runtime.faults.Fault.TheVariants as fault_is
+use Rattle.format_json.specs.Errors.{errors_data}
+use Rattle.format_json.specs.Refusals.{refusal_data}
+use Rattle.format_json.specs.declared.refusal.RefusalLocation.{RefusalLocation}
+use Rattle.format_json.specs.declared.refusal.RefusalReason.{RefusalReason}
+use Rattle.front_syntax.specs.ExpectedRules.{AreExpected, ExpectsNothing}
 use Rattle.pest_meta_c.specs.declared.outcome.CallError as why
 use Rattle.pest_meta_c.specs.declared.outcome.CallError.TheVariants as why_is
 use Rattle.pest_meta_c.specs.declared.outcome.NumbersError.{NumbersError}

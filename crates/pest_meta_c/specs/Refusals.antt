@@ -1,20 +1,20 @@
 -- The refusals of the calls, as bytes of JSON.
 use Rattle.std.specs.Prelude.{◌≡◌, ◌⊎◌, ℕ, List}
 use Rattle.serde_json.specs.Written.{compact_text}
-use Rattle.meta_base.specs.Language.State.{Trees}
-use Rattle.meta_base.specs.Pieces.MetaRules.{name_of}
-use Rattle.meta_base.specs.declared.grammar.Rule.{Rule}
-use Rattle.meta_base.specs.declared.grammar.Rule.TheVariants as rule_is
-use Rattle.meta_base.specs.declared.runtime.errors.Error.{Error}
-use Rattle.meta_json.specs.Refusals.{IsRefusedAsOptimized, IsRefusedAsRules, refusal_data}
-use Rattle.meta_json.specs.RuleNames.{IsOfNoRule}
-use Rattle.meta_json.specs.declared.refusal.RefusalLocation.{RefusalLocation}
-use Rattle.meta_json.specs.declared.refusal.RefusalLocation.TheVariants as place_is
-use Rattle.meta_json.specs.declared.refusal.Refusal.{Refusal}
-use Rattle.meta_json.specs.declared.refusal.Refusal.TheVariants as refusal_is
-use Rattle.meta_json.specs.declared.refusal.RefusalReason.{RefusalReason}
-use Rattle.meta_json.specs.declared.refusal.RefusalReason.TheVariants as why_is
-use Rattle.meta_syntax.specs.Parses as parsed
+use Rattle.base_language.specs.Language.State.{Trees}
+use Rattle.base_language.specs.Pieces.MetaRules.{name_of}
+use Rattle.base_language.specs.declared.grammar.Rule.{Rule}
+use Rattle.base_language.specs.declared.grammar.Rule.TheVariants as rule_is
+use Rattle.base_language.specs.declared.runtime.errors.Error.{Error}
+use Rattle.format_json.specs.Refusals.{IsRefusedAsOptimized, IsRefusedAsRules, refusal_data}
+use Rattle.format_json.specs.RuleNames.{IsOfNoRule}
+use Rattle.format_json.specs.declared.refusal.RefusalLocation.{RefusalLocation}
+use Rattle.format_json.specs.declared.refusal.RefusalLocation.TheVariants as place_is
+use Rattle.format_json.specs.declared.refusal.Refusal.{Refusal}
+use Rattle.format_json.specs.declared.refusal.Refusal.TheVariants as refusal_is
+use Rattle.format_json.specs.declared.refusal.RefusalReason.{RefusalReason}
+use Rattle.format_json.specs.declared.refusal.RefusalReason.TheVariants as why_is
+use Rattle.front_syntax.specs.Parses as parsed
 use Rattle.pest_meta.specs.Spelling.{AreFlawed, HasTrees, HaveFindings, IsMisnamed, IsNoGrammar, IsRefusedWith}
 use Rattle.pest_meta_c.specs.Outcomes.{ReportsErrors}
 

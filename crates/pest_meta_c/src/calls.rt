@@ -1,8 +1,8 @@
 //! The calls on texts, before their outcomes are written to a buffer.
 ghost use Rattle.std.specs.Prelude.{◌≡◌, IfErr, IfOk, string_bytes};
-ghost use Rattle.meta_base.specs.Pieces.MetaRules.{name_of};
-ghost use Rattle.meta_base.specs.Pieces.Pairs.{pairs_text};
-ghost use Rattle.meta_syntax.specs.Parses.{AreOfAGrammar};
+ghost use Rattle.base_language.specs.Pieces.MetaRules.{name_of};
+ghost use Rattle.base_language.specs.Pieces.Pairs.{pairs_text};
+ghost use Rattle.front_syntax.specs.Parses.{AreOfAGrammar};
 ghost use Rattle.pest_meta.specs.Spelling.{IsNoGrammar, IsRefusal};
 ghost use Rattle.pest_meta_c.specs.Answers.{AreKeywordErrors, AreNames, AreNodes, AreOptimized, AreRules, AreTokenNumbers, AreTokens, IsGrammar, IsPrepared, IsVersion, IsWhole};
 ghost use Rattle.pest_meta_c.specs.Diagnostics.{AreDiagnostics};
@@ -11,17 +11,17 @@ ghost use Rattle.pest_meta_c.specs.Refusals.{DoesNotMatch, HasNoMatch, HasNoName
 
 use crate::diagnostics::diagnostics_lines;
 use crate::outcome::{BytesOutcome, CallError, NumbersError, NumbersOutcome, Outcome, to_refusal};
-use meta_ast::deep::Deep;
-use meta_ast::{ast, optimized};
-use meta_base::grammar::Rule;
-use meta_base::runtime::{Fault, Pairs, Span};
-use meta_binary::{push_names, push_optimized_rules, push_rules, tokens_numbers};
-use meta_json::{
+use base_ast::deep::Deep;
+use base_ast::{ast, optimized};
+use base_language::grammar::Rule;
+use base_language::runtime::{Fault, Pairs, Span};
+use format_binary::{push_names, push_optimized_rules, push_rules, tokens_numbers};
+use format_json::{
     Refusal, RefusalLocation, RefusalReason, answer_text, errors_text, names_text, nodes_text,
     optimized_rules_text, read_optimized_rules, read_rules, refusal_text, rule_named, rules_text,
     tokens_text, version_text,
 };
-use meta_names::collect_builtins;
+use front_names::collect_builtins;
 use pest_meta::optimizer;
 use pest_meta::parser::{PestParser, consume_rules, consume_rules_with_spans, release};
 use pest_meta::validator::{validate_pairs, validate_rust_keywords};

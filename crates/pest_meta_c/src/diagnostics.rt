@@ -2,8 +2,8 @@
 ghost use Rattle.std.specs.Prelude.{[], IfOk, string_bytes};
 ghost use Rattle.pest_meta_c.specs.Diagnostics.{AreDiagnostics, ArePrinted};
 
+use lint_diagnostics::{Diagnostic, Options, diagnose};
 use lint_output::{LineIndex, Origin, Style, print_diagnostic};
-use meta_diagnostics::{Diagnostic, Options, diagnose};
 use std::alloc::{AllocError, Global};
 
 /// Returns the diagnostics of a text, a line of JSON for each. The only error is an allocation failure.

@@ -2,8 +2,8 @@
 ghost use Rattle.std.specs.Prelude.{◌≡◌, ◌<◌, ◌≤◌, ◌++◌, drop, length};
 ghost use Rattle.pest_meta_c.specs.Handing.{AreBytesHandedOver, AreNumbersHandedOver, IsHandedOver, IsMatchHandedOver, IsPut};
 
+use crate::matching::outcome::MatchOutcome;
 use crate::outcome::{BytesOutcome, CallError, NumbersError, NumbersOutcome, Outcome};
-use matcher_tokens::outcome::MatchOutcome;
 
 /// The call is answered, and the answer is written.
 const ANSWERED: u8 = 0;

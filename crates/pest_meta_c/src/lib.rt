@@ -13,19 +13,20 @@
 mod calls;
 mod diagnostics;
 mod handing;
+mod matching;
 mod outcome;
 
 ghost use Rattle.std.specs.Prelude.{◌≡◌, ◌≢◌, chars};
 ghost use Rattle.std.specs.Str.{IsUtf8};
 ghost use Rattle.pest_meta_c.specs.Answers.{AreKeywordErrors, AreNames, AreNodes, AreOptimized, AreRules, AreTokenNumbers, AreTokens, IsGrammar, IsPrepared, IsVersion, IsWhole};
-ghost use Rattle.matcher_tokens.specs.Outcomes.{IsMatchOutcome, IsPreparedOutcome};
+ghost use Rattle.pest_meta_c.specs.MatchOutcomes.{IsMatchOutcome, IsPreparedOutcome};
 ghost use Rattle.pest_meta.specs.Spelling.{HasAnswer};
 ghost use Rattle.pest_meta_c.specs.Diagnostics.{AreDiagnostics};
 ghost use Rattle.pest_meta_c.specs.Handing.{HandsOver, HandsOverMatch, HandsOverNumbers};
 ghost use Rattle.pest_meta_c.specs.Refusals.{HasNoMatch, HasNoNames, HasNoNodes, HasNoRules, HasNoTokens, IsNoOptimized, IsNoRules, IsRefused, Never};
 
+use crate::matching::run::{match_prepared, match_text};
 use handing::{hand_over, hand_over_bytes, hand_over_match, hand_over_numbers, no_text};
-use matcher_tokens::run::{match_prepared, match_text};
 use std::alloc::Global;
 
 /// Writes the tokens of a text for the rule of the meta-grammar of that name, from the text's start on.

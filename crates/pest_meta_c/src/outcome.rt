@@ -2,9 +2,9 @@
 ghost use Rattle.std.specs.Prelude.{◌≡◌, IfOk, string_bytes};
 ghost use Rattle.pest_meta_c.specs.Outcomes.{IsFaultRefusal, ReportsErrors};
 
-use meta_base::grammar::Rule;
-use meta_base::runtime::{Error, Fault};
-use meta_json::errors_text;
+use base_language::grammar::Rule;
+use base_language::runtime::{Error, Fault};
+use format_json::errors_text;
 use pest_meta::parser::PestParser;
 use std::alloc::{AllocError, Global};
 

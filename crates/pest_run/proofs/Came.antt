@@ -4,29 +4,29 @@ use Rattle.std.specs.Prelude.{IsUtf8, option_map, string_bytes}
 use Rattle.std.proofs.lemmas.Bool.{true≢false}
 use Rattle.std.specs.Borrow.{Bor}
 use Rattle.std.specs.Str.{chars, IsCharBoundary}
-use Rattle.meta_ast.specs.Ast.{text_of}
-use Rattle.meta_base.specs.Language.Expression.{Grammar}
-use Rattle.meta_base.specs.Language.Expected.{expected, expected_at}
-use Rattle.meta_base.specs.Language.FurthestFailure.{furthest}
-use Rattle.meta_base.specs.Language.State.{Classes, Failure, Outcome as Result, Trees}
-use Rattle.meta_base.specs.Language.Places.{IsStateIn}
-use Rattle.meta_base.specs.Language.Text.{Text}
-use Rattle.meta_base.specs.Pieces.LineColumn.{line_column}
-use Rattle.meta_base.proofs.ExpectedOnce.{one_list}
-use Rattle.meta_base.proofs.FailuresStand.{stands_at}
-use Rattle.meta_base.proofs.InBytes.{on_bytes}
-use Rattle.meta_base.proofs.TreesAreNested.{fits as fits_in}
+use Rattle.base_ast.specs.Ast.{text_of}
+use Rattle.base_language.specs.Language.Expression.{Grammar}
+use Rattle.base_language.specs.Language.Expected.{expected, expected_at}
+use Rattle.base_language.specs.Language.FurthestFailure.{furthest}
+use Rattle.base_language.specs.Language.State.{Classes, Failure, Outcome as Result, Trees}
+use Rattle.base_language.specs.Language.Places.{IsStateIn}
+use Rattle.base_language.specs.Language.Text.{Text}
+use Rattle.base_language.specs.Pieces.LineColumn.{line_column}
+use Rattle.base_language.proofs.ExpectedOnce.{one_list}
+use Rattle.base_language.proofs.FailuresStand.{stands_at}
+use Rattle.base_language.proofs.InBytes.{on_bytes}
+use Rattle.base_language.proofs.TreesAreNested.{fits as fits_in}
 use Rattle.matcher_program.specs.Refusals.{IsReason}
 use Rattle.matcher_program.specs.declared.compile.Unfit.{Unfit}
 use Rattle.matcher_program.specs.declared.compile.Unfit.TheVariants as no
-use Rattle.meta_matcher.specs.Answers.{AreExpectedAt, FailsAt, Has, IsMatched, IsStopped, start_of}
-use Rattle.meta_matcher.specs.declared.matcher.Found.{Found}
-use Rattle.meta_matcher.specs.declared.machine.Stop.{Stop}
-use Rattle.meta_matcher.specs.declared.machine.Stop.TheVariants as stop
-use Rattle.meta_matcher.specs.ExpectedNames.{each_once, name_texts}
+use Rattle.matcher_interpreter.specs.Answers.{AreExpectedAt, FailsAt, Has, IsMatched, IsStopped, start_of}
+use Rattle.matcher_interpreter.specs.declared.matcher.Found.{Found}
+use Rattle.matcher_interpreter.specs.declared.machine.Stop.{Stop}
+use Rattle.matcher_interpreter.specs.declared.machine.Stop.TheVariants as stop
+use Rattle.matcher_interpreter.specs.ExpectedNames.{each_once, name_texts}
 use Rattle.matcher_program.specs.Programs.{Fits}
-use Rattle.meta_matcher.specs.Written.{seen}
-use Rattle.meta_syntax.specs.Entries.{entries_of}
+use Rattle.matcher_interpreter.specs.Written.{seen}
+use Rattle.front_syntax.specs.Entries.{entries_of}
 use Rattle.matcher_program.specs.declared.form.Property.{Property}
 use Rattle.matcher_support.specs.Sets.{has_set, is_in_property}
 use Rattle.pest_run.specs.Outcomes.{AreLookedFor, AreNamesOf, HasNoRule, IsFailureReport, IsMatchReport, IsNoRuleReport, IsNoted, IsOutcome, IsStopReport, end_note, failure_text, names_of, tells_expected, trees_text, unfit_outcome}

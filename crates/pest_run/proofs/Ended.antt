@@ -3,10 +3,10 @@ use Rattle.std.proofs.Common.{◌≡◌, ◌≢◌, ◌⊎◌, inl, inr, sym, �
 use Rattle.std.specs.Prelude.{IsErrAnd, chars, option_map}
 use Rattle.std.specs.declared.alloc.Global.{Global}
 use Rattle.std.specs.declared.string.String.{String}
-use Rattle.meta_base.specs.Language.Expression.{Grammar, Ident}
-use Rattle.meta_base.specs.Language.State.{NonAtomicMode, Success}
-use Rattle.meta_base.specs.declared.runtime.faults.Fault.{Fault}
-use Rattle.meta_base.specs.declared.runtime.faults.Fault.TheVariants as fault_is
+use Rattle.base_language.specs.Language.Expression.{Grammar, Ident}
+use Rattle.base_language.specs.Language.State.{NonAtomicMode, Success}
+use Rattle.base_language.specs.declared.runtime.faults.Fault.{Fault}
+use Rattle.base_language.specs.declared.runtime.faults.Fault.TheVariants as fault_is
 use Rattle.pest_meta.specs.Reports.{IsReportOf, report_text}
 use Rattle.pest_meta.specs.Spelling.{IsRefusal}
 use Rattle.pest_meta.specs.Written.{IsWritten}
@@ -14,8 +14,8 @@ use Rattle.pest_meta.specs.declared.report.Report.{Report}
 use Rattle.pest_meta.specs.declared.report.Report.TheVariants as report_is
 use Rattle.pest_run.specs.Ends.{EndsAs}
 use Rattle.matcher_support.specs.Sets.{is_in_property}
-use Rattle.meta_matcher.specs.Answers.{start_of}
-use Rattle.tool_support.specs.Escapes.{escaped_lines}
+use Rattle.matcher_interpreter.specs.Answers.{start_of}
+use Rattle.program_support.specs.Escapes.{escaped_lines}
 use Rattle.pest_run.specs.Messages.{no_rule_text, steps_text}
 use Rattle.pest_run.specs.Outcomes.{IsOutcome, IsShown}
 use Rattle.pest_run.specs.Written.{AreMatched, AreRun, NotesEnd, PrintsTrees, ReportsReason, ReportsRefusal, ReportsStop, WritesLine, empty_stack, no_match, no_rule, refused, too_many_steps, unknown_name, wide_bound}

@@ -5,7 +5,7 @@ use Rattle.std.specs.declared.alloc.Global.{Global}
 use Rattle.std.specs.declared.string.String.{String}
 use Rattle.std.specs.Io.KnownBytes.{Appends}
 use Rattle.std.specs.List.{flat_map}
-use Rattle.meta_base.specs.Language.Expression.{Grammar}
+use Rattle.base_language.specs.Language.Expression.{Grammar}
 use Rattle.pest_meta.specs.Written.{IsWritten}
 use Rattle.pest_run.specs.Ends.{EndsAs}
 use Rattle.pest_run.specs.Listing.{IsListOutcome, ListsRules}

@@ -1,13 +1,13 @@
 -- A match of the optimized rules.
 use Rattle.std.proofs.Common.{◌≡◌, subst, true, IfOk, List, ℕ, Result, Ok, Err, chars}
 use Rattle.std.specs.Result.{is_ok}
-use Rattle.meta_base.specs.Language.Expression.{Grammar}
-use Rattle.meta_base.specs.Language.State.{State, Success}
+use Rattle.base_language.specs.Language.Expression.{Grammar}
+use Rattle.base_language.specs.Language.State.{State, Success}
 use Rattle.matcher_program.specs.Programs.{Fits}
 use Rattle.matcher_program.specs.declared.form.Property.{Property}
 use Rattle.matcher_support.specs.Sets.{is_in_property}
-use Rattle.meta_matcher.specs.Answers.{HasAt, start_of}
-use Rattle.meta_matcher.specs.declared.matcher.Refusal.{Refusal}
+use Rattle.matcher_interpreter.specs.Answers.{HasAt, start_of}
+use Rattle.matcher_interpreter.specs.declared.matcher.Refusal.{Refusal}
 use Rattle.matcher_engine.specs.Preorders.{IsPreorderFrom}
 use Rattle.matcher_engine.specs.declared.matcher.Preorder.{Preorder}
 use Rattle.pest_run.specs.Forms.{HasMatch}

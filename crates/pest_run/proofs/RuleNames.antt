@@ -7,13 +7,13 @@ use Rattle.std.proofs.lemmas.Grind.{flat_map-append}
 use Rattle.std.proofs.lemmas.List.{map-append, take_more}
 use Rattle.std.proofs.lemmas.Str.{IsUtf8-string_bytes, encodes-chars}
 use Rattle.std.proofs.lemmas.List.Elements.{filter-append}
-use Rattle.meta_ast.specs.Ast.{text_of}
-use Rattle.meta_ast.specs.Optimized.{optimized_rules_of}
-use Rattle.meta_ast.specs.declared.optimized.OptimizedRule.{OptimizedRule}
-use Rattle.meta_base.specs.Language.Expression.{Expression, Grammar, RuleType}
-use Rattle.meta_base.specs.Language.Text.{Text}
-use Rattle.meta_base.specs.Rewritings.Rewriting.{EachBody, also_rule, no_rules}
-use Rattle.meta_matcher.specs.ExpectedNames.{name_texts}
+use Rattle.base_ast.specs.Ast.{text_of}
+use Rattle.base_ast.specs.Optimized.{optimized_rules_of}
+use Rattle.base_ast.specs.declared.optimized.OptimizedRule.{OptimizedRule}
+use Rattle.base_language.specs.Language.Expression.{Expression, Grammar, RuleType}
+use Rattle.base_language.specs.Language.Text.{Text}
+use Rattle.base_language.specs.Rewritings.Rewriting.{EachBody, also_rule, no_rules}
+use Rattle.matcher_interpreter.specs.ExpectedNames.{name_texts}
 use Rattle.pest_run.specs.RuleNames.{name_line, name_lines, rule_names}
 
 -- rules with other bodies have the same names

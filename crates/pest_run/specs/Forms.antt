@@ -1,10 +1,10 @@
 -- Texts for which the two forms of a grammar's rules differ.
 use Rattle.std.specs.Prelude.{◌⊎◌, List, ℕ, Option, Result}
 use Rattle.std.specs.Str.{chars}
-use Rattle.meta_base.specs.Language.Expression.{Grammar}
-use Rattle.meta_base.specs.Language.State.{State, Success, Trees}
+use Rattle.base_language.specs.Language.Expression.{Grammar}
+use Rattle.base_language.specs.Language.State.{State, Success, Trees}
 use Rattle.matcher_support.specs.Sets.{is_in_property}
-use Rattle.meta_matcher.specs.Answers.{Has}
+use Rattle.matcher_interpreter.specs.Answers.{Has}
 use Rattle.pest_run.specs.Messages.{optimized_text}
 use Rattle.pest_run.specs.Written.{AreMatched, WritesLine}
 use Rattle.pest_run.specs.declared.arguments.RuleForm.{RuleForm}

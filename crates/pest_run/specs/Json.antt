@@ -2,8 +2,8 @@
 use Rattle.std.specs.Prelude.{ℕ, ◌/◌, ◌%◌, List, [], ◌∷◌, encode_utf8_all, if◌then◌else◌}
 use Rattle.std.specs.List.{flat_map}
 use Rattle.std.specs.Str.{chars}
-use Rattle.meta_ast.specs.Printing.{hex_digit}
-use Rattle.tool_support.specs.Escapes.{is_hidden}
+use Rattle.base_ast.specs.Printing.{hex_digit}
+use Rattle.program_support.specs.Escapes.{is_hidden}
 
 -- a character below U+10000 by its number: 92 is a backslash, and 117 is `u`
 abbrev pub json_escape : ℕ → List ℕ

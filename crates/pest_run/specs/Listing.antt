@@ -1,7 +1,7 @@
 -- The list of a grammar's rules.
 use Rattle.std.specs.Prelude.{◌≡◌, ℕ, List, Option, None, string_bytes, ⊤}
 use Rattle.std.specs.Io.KnownBytes.{Appends}
-use Rattle.meta_base.specs.Language.Expression.{Grammar}
+use Rattle.base_language.specs.Language.Expression.{Grammar}
 use Rattle.pest_meta.specs.Written.{SpellsAccepted}
 use Rattle.pest_run.specs.RuleNames.{name_lines}
 use Rattle.pest_run.specs.declared.outcomes.Outcome.{Outcome}

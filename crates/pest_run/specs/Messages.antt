@@ -1,11 +1,11 @@
 -- Messages about a rule, a text and files.
 use Rattle.std.specs.Prelude.{ℕ, ◌==◌, ◌||◌, not, Bool, List, [], ◌++◌, bytes_eq, codes, if◌then◌else◌, length, nat_le, take}
 use Rattle.std.specs.Fmt.{decimal}
-use Rattle.meta_base.specs.Language.Expression.{Grammar}
-use Rattle.meta_base.specs.Language.Text.{Text}
-use Rattle.meta_base.specs.Pieces.LineColumn.{line_column}
+use Rattle.base_language.specs.Language.Expression.{Grammar}
+use Rattle.base_language.specs.Language.Text.{Text}
+use Rattle.base_language.specs.Pieces.LineColumn.{line_column}
 use Rattle.matcher_support.specs.Expectations.{failure_message, list_text}
-use Rattle.tool_support.specs.Escapes.{escaped_bytes}
+use Rattle.program_support.specs.Escapes.{escaped_bytes}
 use Rattle.pest_run.specs.RuleNames.{near_names}
 
 -- whether one of some names is meant: `; did you mean a, b, or c?`

@@ -1,30 +1,30 @@
 -- The outcome of a rule on a text.
 use Rattle.std.specs.Prelude.{◌≡◌, ◌<◌, ◌&&◌, ℕ, List, ◌++◌, Option, Some, None, Bool, false, codes, drop, if◌then◌else◌, length, nat_le, option_map, string_bytes, ⊤}
 use Rattle.std.specs.Str.{chars}
-use Rattle.meta_base.specs.Language.Expression.{Grammar, Ident, rule_of}
-use Rattle.meta_base.specs.Language.Expected.{expected}
-use Rattle.meta_base.specs.Language.FurthestFailure.{furthest}
-use Rattle.meta_base.specs.Language.Meaning.{Does, Task}
-use Rattle.meta_base.specs.Language.State.{Classes, State, Trees, Outcome as Result, Success, Failure}
-use Rattle.meta_base.specs.Language.Text.{Text}
-use Rattle.meta_base.specs.Language.WellFormed.{InSomeRule}
-use Rattle.meta_base.specs.Pieces.LineColumn.{line_column}
-use Rattle.meta_base.specs.Pieces.PrintedError.{printed_error, printed_line}
-use Rattle.meta_base.specs.declared.runtime.errors.LineColLocation.TheVariants.{Pos}
+use Rattle.base_language.specs.Language.Expression.{Grammar, Ident, rule_of}
+use Rattle.base_language.specs.Language.Expected.{expected}
+use Rattle.base_language.specs.Language.FurthestFailure.{furthest}
+use Rattle.base_language.specs.Language.Meaning.{Does, Task}
+use Rattle.base_language.specs.Language.State.{Classes, State, Trees, Outcome as Result, Success, Failure}
+use Rattle.base_language.specs.Language.Text.{Text}
+use Rattle.base_language.specs.Language.WellFormed.{InSomeRule}
+use Rattle.base_language.specs.Pieces.LineColumn.{line_column}
+use Rattle.base_language.specs.Pieces.PrintedError.{printed_error, printed_line}
+use Rattle.base_language.specs.declared.runtime.errors.LineColLocation.TheVariants.{Pos}
 use Rattle.matcher_program.specs.Refusals.{IsBoundOf, IsNoCharacter, IsUnknown}
 use Rattle.matcher_program.specs.declared.compile.Unfit.{Unfit}
 use Rattle.matcher_program.specs.declared.compile.Unfit.TheVariants as unfit
 use Rattle.matcher_program.specs.declared.form.Property.{Property}
-use Rattle.meta_matcher.specs.Answers.{AreExpectedAt, Has, IsStopped}
-use Rattle.meta_matcher.specs.Sizes.{most_steps}
-use Rattle.meta_matcher.specs.ExpectedNames.{each_once, name_texts}
-use Rattle.meta_matcher.specs.declared.machine.Stop.{Stop}
-use Rattle.meta_matcher.specs.declared.machine.Stop.TheVariants as stop
+use Rattle.matcher_interpreter.specs.Answers.{AreExpectedAt, Has, IsStopped}
+use Rattle.matcher_interpreter.specs.Sizes.{most_steps}
+use Rattle.matcher_interpreter.specs.ExpectedNames.{each_once, name_texts}
+use Rattle.matcher_interpreter.specs.declared.machine.Stop.{Stop}
+use Rattle.matcher_interpreter.specs.declared.machine.Stop.TheVariants as stop
 use Rattle.matcher_support.specs.Lines.{lines_of}
 use Rattle.matcher_support.specs.Sets.{has_set, is_in_property}
 use Rattle.matcher_support.specs.Shown.{shown}
 use Rattle.matcher_support.specs.Values.{answer_data}
-use Rattle.tool_support.specs.Escapes.{escaped_lines}
+use Rattle.program_support.specs.Escapes.{escaped_lines}
 use Rattle.pest_run.specs.Json.{escaped_json}
 use Rattle.pest_run.specs.Messages.{Names, end_text, is_more, known, names_text, no_rule_text, steps_text, unfound}
 use Rattle.pest_run.specs.Steps.{name_limit}

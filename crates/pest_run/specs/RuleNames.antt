@@ -3,8 +3,8 @@ use Rattle.std.specs.Prelude.{ℕ, ◌/◌, Bool, true, false, List, ◌++◌, b
 use Rattle.std.specs.Char.{to_ascii_lowercase}
 use Rattle.std.specs.List.{flat_map}
 use Rattle.std.specs.Str.{chars}
-use Rattle.meta_base.specs.Language.Expression.{Grammar}
-use Rattle.meta_base.specs.Language.Text.{Text}
+use Rattle.base_language.specs.Language.Expression.{Grammar}
+use Rattle.base_language.specs.Language.Text.{Text}
 use Rattle.strsim.specs.Edits.{osa_table}
 
 -- the names of rules, in order

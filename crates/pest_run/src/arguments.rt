@@ -2,12 +2,12 @@
 ghost use Rattle.std.specs.Prelude.{◌≡◌, ◌∷◌, ℕ, List, [], IfOk, None, Some, codes, false, true};
 ghost use Rattle.clap.specs.Matches.{first_value, found_of, one_text};
 ghost use Rattle.clap.specs.Simple.{app_of};
-ghost use Rattle.command_line.specs.Arguments.{HasForm, arguments_of, flag, option, positional};
+ghost use Rattle.program_support.specs.Arguments.{HasForm, arguments_of, flag, option, positional};
 ghost use Rattle.pest_run.specs.Steps.{CountsSteps, step_limit};
 
 use clap::builder::ValueParser;
 use clap::{Arg, ArgMatches, Command};
-use command_line::{add_argument, flag, new_command, option, positional};
+use program_support::arguments::{add_argument, flag, new_command, option, positional};
 use std::alloc::{AllocError, Global};
 
 /// The format of printed trees.

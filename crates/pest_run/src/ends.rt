@@ -1,14 +1,14 @@
 //! Ends of a run.
 ghost use Rattle.std.specs.Prelude.{◌≡◌, ◌⊎◌, IsErr, IsOk, codes, option_map, string_bytes, true};
 ghost use Rattle.pest_run.specs.Written.{WritesLine, WritesNote};
-ghost use Rattle.tool_support.specs.Escapes.{escaped_lines};
-ghost use Rattle.tool_support.specs.Statuses.{status_code};
+ghost use Rattle.program_support.specs.Escapes.{escaped_lines};
+ghost use Rattle.program_support.specs.Statuses.{status_code};
 
+use program_support::escape::escape_lines;
+use program_support::output::{Output, RefusedWrite};
+use program_support::status::Status;
 use std::alloc::Global;
 use std::io::Write;
-use tool_support::escape::escape_lines;
-use tool_support::output::{Output, RefusedWrite};
-use tool_support::status::Status;
 
 /// The end of a run.
 #[derive(Drop)]

@@ -1,6 +1,6 @@
 //! The note on optimized rules.
 ghost use Rattle.std.specs.Prelude.{◌≡◌, IsErr, IsOk, true};
-ghost use Rattle.meta_ast.specs.Optimized.{optimized_rules_of};
+ghost use Rattle.base_ast.specs.Optimized.{optimized_rules_of};
 ghost use Rattle.pest_run.specs.Forms.{HasMatch, IsMatchedBy, TellsForms};
 ghost use Rattle.pest_run.specs.Messages.{optimized_text};
 ghost use Rattle.pest_run.specs.Written.{WritesLine};
@@ -8,13 +8,13 @@ ghost use Rattle.pest_run.specs.Written.{WritesLine};
 use crate::arguments::{Request, RuleForm, step_limit};
 use crate::run::read_rules;
 use crate::sources::{Source, text_of};
+use base_ast::optimized::{OptimizedRule, release};
+use base_language::runtime::Span;
 use matcher_engine::matcher::Matcher;
 use matcher_support::unicode_properties::UnicodeProperties;
-use meta_ast::optimized::{OptimizedRule, release};
-use meta_base::runtime::Span;
+use program_support::output::{Output, RefusedWrite};
 use std::alloc::Global;
 use std::io::Write;
-use tool_support::output::{Output, RefusedWrite};
 
 /// The note where the optimized rules match a text.
 const OPTIMIZED_MATCH: &str =

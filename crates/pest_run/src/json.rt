@@ -1,10 +1,10 @@
 //! JSON without hidden characters.
 ghost use Rattle.std.specs.Prelude.{◌≡◌, ◌++◌, ◌<◌, IfOk, OnOk, encode_utf8_all, string_bytes};
-ghost use Rattle.meta_ast.specs.Printing.{hex_digit};
+ghost use Rattle.base_ast.specs.Printing.{hex_digit};
 ghost use Rattle.pest_run.specs.Json.{escaped_json, json_character, json_escape};
 
+use program_support::escape::is_hidden;
 use std::alloc::{AllocError, Global};
-use tool_support::escape::is_hidden;
 
 /// Returns a JSON text without blanks with each hidden character as an escape, as `\u202e`. Such characters
 /// stand in strings alone, where the escape means the same. The only error is an allocation failure.

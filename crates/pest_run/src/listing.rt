@@ -1,6 +1,6 @@
 //! Lists of rules' names.
 ghost use Rattle.std.specs.Prelude.{◌≡◌, ◌≢◌, ◌≤◌, IsErr, IsOk, codes, true};
-ghost use Rattle.meta_ast.specs.Optimized.{optimized_rules_of};
+ghost use Rattle.base_ast.specs.Optimized.{optimized_rules_of};
 ghost use Rattle.pest_run.specs.Ends.{IsStatus};
 ghost use Rattle.pest_run.specs.Listing.{IsListOutcome, ListsRules};
 ghost use Rattle.pest_run.specs.Written.{IsReadable, ReportsRefusal, ReportsUnread, WritesLine};
@@ -10,12 +10,12 @@ use crate::outcomes::Outcome;
 use crate::rule_names::name_lines;
 use crate::run::print_outcome;
 use crate::sources::{Source, text_of, unreadable};
-use meta_ast::optimized::{OptimizedRule, release};
+use base_ast::optimized::{OptimizedRule, release};
 use pest_meta::{Report, parse_as_written, unwrap_or_report};
+use program_support::output::Output;
+use program_support::status::Status;
 use std::alloc::Global;
 use std::io::Write;
-use tool_support::output::Output;
-use tool_support::status::Status;
 
 /// Prints the names of the rules of a grammar, read from a file, to `out`, as `list_rules` does. A file that
 /// can't be read or is not UTF-8 is reported on `err` with its name and the reason (3).

@@ -23,15 +23,15 @@ use arguments::{Request, RuleForm, asks_for_rules, command, form_of, format_of, 
 use clap::ArgMatches;
 use forms::note_forms;
 use listing::list_file;
+use program_support::escape::escape_lines;
+use program_support::input::read_input;
+use program_support::output::Output;
+use program_support::status::Status;
 use run::run_files;
 use sources::Source;
 use std::alloc::AllocError;
 use std::env;
 use std::process::ExitCode;
-use tool_support::escape::escape_lines;
-use tool_support::input::read_input;
-use tool_support::output::Output;
-use tool_support::status::Status;
 
 /// Reads the file of that name, or standard input for `-`. The source has the bytes, or the reason why they
 /// can't be read.

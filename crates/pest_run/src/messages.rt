@@ -1,18 +1,18 @@
 //! Messages without hidden characters.
 ghost use Rattle.std.specs.Prelude.{◌≡◌, ◌++◌, IfOk, OnOk, string_bytes};
 ghost use Rattle.std.specs.Str.{IsCharBoundary};
-ghost use Rattle.meta_matcher.specs.ExpectedNames.{name_texts};
-ghost use Rattle.meta_ast.specs.Optimized.{optimized_rules_of};
+ghost use Rattle.matcher_interpreter.specs.ExpectedNames.{name_texts};
+ghost use Rattle.base_ast.specs.Optimized.{optimized_rules_of};
 ghost use Rattle.pest_run.specs.Messages.{end_text, expected_text, is_more, known, names_text, no_rule_text, note_between, place_text, steps_text, suggestion, unfound, unfound_text, unread_text};
 ghost use Rattle.pest_run.specs.Outcomes.{names_of};
 
 use crate::expected::Expected;
 use crate::rule_names::near_names;
+use base_ast::optimized::OptimizedRule;
+use base_language::runtime::Position;
 use matcher_support::expectations::{add_names, failure_message};
-use meta_ast::optimized::OptimizedRule;
-use meta_base::runtime::Position;
+use program_support::escape::escape;
 use std::alloc::{AllocError, Global};
-use tool_support::escape::escape;
 
 /// The greatest number of names that a message suggests.
 const SUGGESTED: usize = 5;

@@ -1,33 +1,33 @@
 //! The outcome of a rule on a text.
 ghost use Rattle.std.specs.Prelude.{◌≡◌, IfOk, option_map, string_bytes};
-ghost use Rattle.meta_ast.specs.Optimized.{optimized_rules_of};
-ghost use Rattle.meta_base.specs.Language.State.{Trees};
-ghost use Rattle.meta_base.specs.Pieces.Span.{position_offset, position_text};
-ghost use Rattle.meta_matcher.specs.Written.{seen};
-ghost use Rattle.meta_syntax.specs.Entries.{entries_of};
+ghost use Rattle.base_ast.specs.Optimized.{optimized_rules_of};
+ghost use Rattle.base_language.specs.Language.State.{Trees};
+ghost use Rattle.base_language.specs.Pieces.Span.{position_offset, position_text};
+ghost use Rattle.matcher_interpreter.specs.Written.{seen};
+ghost use Rattle.front_syntax.specs.Entries.{entries_of};
 ghost use Rattle.std.specs.Str.{IsCharBoundary};
 ghost use Rattle.matcher_support.specs.Shown.{shown};
-ghost use Rattle.tool_support.specs.Escapes.{escaped_lines};
+ghost use Rattle.program_support.specs.Escapes.{escaped_lines};
 ghost use Rattle.pest_run.specs.Outcomes.{IsFailureReport, IsMatchReport, IsNoRuleReport, IsOutcome, IsStopReport, end_note, failure_text, names_of, trees_text, unfit_outcome};
 
 use crate::arguments::Format;
 use crate::expected::{Expected, find_names, name_limit, names_after};
 use crate::json::escape_json;
 use crate::messages::{end_message, expected_message, is_more, no_rule_message, steps_message};
+use base_language::grammar::Rule;
+use base_language::runtime::{Error, ErrorVariant, Fault, Position};
 use matcher_engine::matcher::Matcher;
+use matcher_interpreter::entries::Entry;
+use matcher_interpreter::machine::Stop;
+use matcher_interpreter::matcher::{Found, Refusal};
 use matcher_program::compile::Unfit;
 use matcher_support::json::tree_json;
 use matcher_support::lines::tree_lines;
 use matcher_support::shown::tree_text;
 use matcher_support::unicode_properties::UnicodeProperties;
-use meta_base::grammar::Rule;
-use meta_base::runtime::{Error, ErrorVariant, Fault, Position};
-use meta_matcher::entries::Entry;
-use meta_matcher::machine::Stop;
-use meta_matcher::matcher::{Found, Refusal};
 use pest_meta::optimizer::OptimizedRule;
+use program_support::escape::escape_lines;
 use std::alloc::{AllocError, Global};
-use tool_support::escape::escape_lines;
 
 /// The outcome of a rule on a text.
 #[derive(Drop)]

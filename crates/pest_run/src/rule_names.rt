@@ -1,10 +1,10 @@
 //! Names of rules, and near names.
 ghost use Rattle.std.specs.Prelude.{◌≡◌, ◌++◌, IfOk, OnOk, codes, string_bytes};
-ghost use Rattle.meta_ast.specs.Optimized.{optimized_rules_of};
-ghost use Rattle.meta_matcher.specs.ExpectedNames.{name_texts};
+ghost use Rattle.base_ast.specs.Optimized.{optimized_rules_of};
+ghost use Rattle.matcher_interpreter.specs.ExpectedNames.{name_texts};
 ghost use Rattle.pest_run.specs.RuleNames.{is_near, name_lines, near_names};
 
-use meta_ast::optimized::OptimizedRule;
+use base_ast::optimized::OptimizedRule;
 use std::alloc::{AllocError, Global};
 use strsim::osa_distance;
 

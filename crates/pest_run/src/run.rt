@@ -1,6 +1,6 @@
 //! The program on read files.
 ghost use Rattle.std.specs.Prelude.{◌≡◌, ◌≢◌, ◌≤◌, IfErr, IfOk, IsErr, IsOk, codes, length, true};
-ghost use Rattle.meta_ast.specs.Optimized.{optimized_rules_of};
+ghost use Rattle.base_ast.specs.Optimized.{optimized_rules_of};
 ghost use Rattle.pest_meta.specs.Spelling.{IsRefusal};
 ghost use Rattle.pest_run.specs.Ends.{EndsAs, IsStatus};
 ghost use Rattle.pest_run.specs.Steps.{step_limit};
@@ -10,13 +10,13 @@ use crate::arguments::{Request, RuleForm, step_limit};
 use crate::ends::{RunExit, exit_after_write, exit_with, report_refusal};
 use crate::outcomes::{Outcome, outcome_of};
 use crate::sources::{Source, text_of, unreadable};
-use meta_ast::optimized::{OptimizedRule, release};
-use meta_base::runtime::Fault;
+use base_ast::optimized::{OptimizedRule, release};
+use base_language::runtime::Fault;
 use pest_meta::{Report, parse_and_optimize, parse_as_written, unwrap_or_report};
+use program_support::output::Output;
+use program_support::status::Status;
 use std::alloc::Global;
 use std::io::Write;
-use tool_support::output::Output;
-use tool_support::status::Status;
 
 /// Matches a text by the requested rule of a grammar, both read from files, and prints the trees to `out`, as
 /// `run` does. A file that can't be read or is not UTF-8 is reported on `err` with its name and the reason

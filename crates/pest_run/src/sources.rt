@@ -4,10 +4,10 @@ ghost use Rattle.pest_run.specs.Written.{IsReadable, WritesUnread, why_unread};
 
 use crate::ends::{RunExit, exit_with};
 use crate::messages::unread_message;
+use program_support::output::Output;
+use program_support::status::Status;
 use std::alloc::Global;
 use std::io::Write;
-use tool_support::output::Output;
-use tool_support::status::Status;
 
 /// A file: its name, its bytes, and the reason if they can't be read.
 #[derive(Drop)]

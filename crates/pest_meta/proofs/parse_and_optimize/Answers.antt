@@ -1,5 +1,5 @@
 use Rattle.std.proofs.lemmas.Result.{err_from_is_err_and}
-use Rattle.meta_ast.specs.Ast.{rules_of}
+use Rattle.base_ast.specs.Ast.{rules_of}
 use Rattle.pest_meta.proofs.Spelled.{answered, answered_without_reports, misnamed, no_grammar, not_both, rejected}
 use Rattle.pest_meta.proofs.Promised.{answer_ends, answer_suffices, answers_bounds, answers_builtins, answers_known, answers_outcomes, spelled_ends, spells_grammar}
 use Rattle.pest_meta.proofs.parse_and_optimize.Goals as goal

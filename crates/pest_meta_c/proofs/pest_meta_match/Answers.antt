@@ -1,5 +1,5 @@
 use Rattle.std.proofs.Common.{subst, chars}
-use Rattle.matcher_tokens.specs.Outcomes.{IsMatchOutcome}
+use Rattle.pest_meta_c.specs.MatchOutcomes.{IsMatchOutcome}
 use Rattle.pest_meta_c.proofs.HandedOver.{hands_match}
 use Rattle.pest_meta_c.proofs.pest_meta_match.Goals as goal
 

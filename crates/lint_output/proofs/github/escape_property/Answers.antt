@@ -3,7 +3,7 @@ use Rattle.std.proofs.lemmas.Iterator.{YieldsList-from_chars}
 use Rattle.std.proofs.lemmas.Iterator.Consumers.{YieldsList-end}
 use Rattle.std.specs.List.{flat_map}
 use Rattle.std.specs.Str.{chars}
-use Rattle.tool_support.proofs.Escaping.{one_more}
+use Rattle.program_support.proofs.Escaping.{one_more}
 use Rattle.lint_output.specs.Annotations.{property_part}
 use Rattle.lint_output.proofs.github.escape_property.Goals as goal
 

@@ -1,6 +1,6 @@
 use Rattle.std.proofs.Common.{ap, false, subst}
 use Rattle.matcher_code.specs.Reading.{is_covered}
-use Rattle.meta_base.specs.Language.Expression.{whitespace}
+use Rattle.base_language.specs.Language.Expression.{whitespace}
 use Rattle.matcher_program.specs.Programs.{IsSkippedRule}
 use Rattle.matcher_compiler.proofs.Skipping.{no_blanks}
 use Rattle.matcher_sets.specs.Forms.{grammar_in}

@@ -1,6 +1,6 @@
 use Rattle.std.proofs.Common.{◌≡◌, ◌∙◌, ◌<◌, None, arith, false, length, subst, sym}
 use Rattle.std.proofs.lemmas.Grind.{common_steps}
-use Rattle.meta_base.specs.Language.Expression.{comment, rule_of}
+use Rattle.base_language.specs.Language.Expression.{comment, rule_of}
 use Rattle.matcher_program.specs.Programs.{IsSkippedRule}
 use Rattle.matcher_sets.specs.Forms.{grammar_in}
 use Rattle.matcher_compiler.specs.Plans.{IsBlankSet, SkipsAs}

@@ -1,4 +1,4 @@
-use Rattle.meta_base.specs.Language.Expression.{comment}
+use Rattle.base_language.specs.Language.Expression.{comment}
 use Rattle.matcher_sets.proofs.Skipping.{comment_is_skipped, skipped_fails, skipped_is_rule}
 use Rattle.matcher_compiler.proofs.Skipping.{both_on_some, comment_fails, comment_meant}
 use Rattle.matcher_compiler.proofs.gaps.comment_head.Goals as goal

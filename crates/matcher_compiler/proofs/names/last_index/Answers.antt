@@ -1,5 +1,5 @@
 use Rattle.std.proofs.Common.{arith, refl, sym, ◌∙◌, ap, ◌≡◌, bytes_eq, true, false, chars, ◌<◌, ◌-◌, length}
-use Rattle.meta_ast.specs.Ast.{text_of}
+use Rattle.base_ast.specs.Ast.{text_of}
 use Rattle.matcher_compiler.proofs.Naming.{none_at_end, not_that_name, that_name}
 use Rattle.matcher_compiler.proofs.names.last_index.Goals as goal
 

@@ -1,5 +1,5 @@
 use Rattle.std.proofs.Common.{◌≡◌, None, chars, drop, ◌≤◌, length}
-use Rattle.meta_base.specs.Language.Expression.{last_place}
+use Rattle.base_language.specs.Language.Expression.{last_place}
 use Rattle.matcher_program.specs.Programs.{grammar_of}
 use Rattle.matcher_compiler.proofs.names.last_index.Given as goal
 

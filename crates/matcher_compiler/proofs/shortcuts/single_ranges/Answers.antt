@@ -1,6 +1,6 @@
 use Rattle.std.proofs.Common.{◌∙◌, IfOk, IfSome, ap, ap₂, subst, sym}
-use Rattle.meta_base.specs.Language.Expression.{Choice}
-use Rattle.meta_base.specs.Language.Meaning.{Run}
+use Rattle.base_language.specs.Language.Expression.{Choice}
+use Rattle.base_language.specs.Language.Meaning.{Run}
 use Rattle.matcher_sets.specs.Forms.{said}
 use Rattle.matcher_sets.specs.Modes.{mode_of}
 use Rattle.matcher_compiler.specs.Plans.{TakesOneIn}

@@ -1,5 +1,5 @@
 use Rattle.std.proofs.Common.{◌≡◌, ℕ, ◌<◌, ◌≤◌, Some}
-use Rattle.matcher_layout.specs.Laid.{at_label, label_for}
+use Rattle.matcher_code.specs.Laid.{at_label, label_for}
 use Rattle.matcher_compiler.specs.Plans.{ContinuesAs}
 use Rattle.matcher_compiler.proofs.tables.has_labels.Given as goal
 

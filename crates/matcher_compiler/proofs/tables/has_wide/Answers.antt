@@ -1,5 +1,5 @@
 use Rattle.std.proofs.Common.{Some, inl, subst, sym}
-use Rattle.matcher_layout.specs.Laid.{Skips}
+use Rattle.matcher_code.specs.Laid.{Skips}
 use Rattle.matcher_compiler.proofs.tables.has_wide.Goals as goal
 
 pub returns-then-is_wide : goal.returns-then-is_wide

@@ -1,5 +1,5 @@
 use Rattle.std.proofs.Common.{◌≡◌, ℕ, ◌<◌, ◌≤◌, Some}
-use Rattle.matcher_layout.specs.Laid.{label_for}
+use Rattle.matcher_code.specs.Laid.{label_for}
 use Rattle.matcher_compiler.proofs.tables.is_wide.Given as goal
 
 abbrev pub invariant-loop-byte : goal.invariant-loop-byte

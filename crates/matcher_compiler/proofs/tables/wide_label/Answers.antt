@@ -1,5 +1,5 @@
 use Rattle.std.proofs.Common.{◌≡◌, ◌∙◌, refl, inr, drop, false, nat_eq}
-use Rattle.meta_base.specs.Language.Matching.{begins}
+use Rattle.base_language.specs.Language.Matching.{begins}
 use Rattle.matcher_code.specs.Reading.{text_of}
 use Rattle.matcher_compiler.proofs.tables.wide_label.Goals as goal
 

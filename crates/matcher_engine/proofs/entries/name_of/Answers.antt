@@ -1,6 +1,6 @@
 use Rattle.std.proofs.Common.{◌∙◌, ap, arith, chars, codes, sym}
 use Rattle.std.proofs.lemmas.List.{get_or_past, length-map}
-use Rattle.meta_ast.specs.Ast.{text_of}
+use Rattle.base_ast.specs.Ast.{text_of}
 use Rattle.matcher_program.specs.Programs.{names_of}
 use Rattle.matcher_engine.proofs.FromEntries.{eoi_text}
 use Rattle.matcher_engine.proofs.entries.name_of.Goals as goal

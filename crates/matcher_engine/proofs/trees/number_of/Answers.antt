@@ -1,6 +1,6 @@
 use Rattle.std.proofs.Common.{rules, ◌≡◌, Some, None, chars, length, ap, sym, ◌∙◌, true, false, bytes_eq, arith, suc}
 use Rattle.std.specs.HashMap.{get_by_text}
-use Rattle.meta_base.specs.Language.FurthestFailure.{is_eoi}
+use Rattle.base_language.specs.Language.FurthestFailure.{is_eoi}
 use Rattle.matcher_compiler.specs.Names.{or_end}
 use Rattle.matcher_engine.proofs.FromEntries.{eoi_text}
 use Rattle.matcher_engine.proofs.trees.number_of.Goals as goal

@@ -1,5 +1,5 @@
 use Rattle.std.proofs.Common.{refl, sym, arith, ◌+◌, ◌-◌, drop, length, map, reverse, take}
-use Rattle.meta_base.specs.Language.Matching.{concatenated}
+use Rattle.base_language.specs.Language.Matching.{concatenated}
 use Rattle.matcher_machine.specs.Stacks.{bytes_of, length_if}
 use Rattle.matcher_machine.proofs.Stacking.{ends, goes_on, slice_first}
 use Rattle.matcher_machine.proofs.texts.match_between.Goals as goal

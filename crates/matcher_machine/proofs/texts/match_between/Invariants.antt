@@ -1,5 +1,5 @@
 use Rattle.std.proofs.Common.{◌≡◌, ◌≤◌, ◌+◌, ◌-◌, drop, length, map, reverse, take}
-use Rattle.meta_base.specs.Language.Matching.{concatenated}
+use Rattle.base_language.specs.Language.Matching.{concatenated}
 use Rattle.matcher_machine.specs.Stacks.{bytes_of, length_if}
 use Rattle.matcher_machine.proofs.Stacking.{more}
 use Rattle.matcher_machine.proofs.texts.match_between.Given as goal

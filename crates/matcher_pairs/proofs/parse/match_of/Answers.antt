@@ -1,15 +1,15 @@
 use Rattle.std.proofs.Common.{◌≡◌, ◌∙◌, ap, subst, sym}
 use Rattle.std.specs.Prelude.{IsUtf8, chars}
-use Rattle.meta_base.specs.Language.Places.{IsStateIn}
-use Rattle.meta_base.specs.Pieces.Span.{position_text}
-use Rattle.meta_base.specs.Language.FurthestFailure.{furthest}
-use Rattle.meta_base.specs.Language.State.{Success}
-use Rattle.meta_base.specs.Pieces.Pairs.{pairs_trees}
-use Rattle.meta_base.specs.Pieces.TreeViews.{trees_of}
-use Rattle.meta_matcher.specs.Answers.{HasAt, state_at}
-use Rattle.meta_matcher.specs.Written.{seen}
+use Rattle.base_language.specs.Language.Places.{IsStateIn}
+use Rattle.base_language.specs.Pieces.Span.{position_text}
+use Rattle.base_language.specs.Language.FurthestFailure.{furthest}
+use Rattle.base_language.specs.Language.State.{Success}
+use Rattle.base_language.specs.Pieces.Pairs.{pairs_trees}
+use Rattle.base_language.specs.Pieces.TreeViews.{trees_of}
+use Rattle.matcher_interpreter.specs.Answers.{HasAt, state_at}
+use Rattle.matcher_interpreter.specs.Written.{seen}
 use Rattle.matcher_engine.specs.Matchers.{grammar_in, properties_in}
-use Rattle.meta_matcher.specs.Endings.{classes_in}
+use Rattle.matcher_interpreter.specs.Endings.{classes_in}
 use Rattle.matcher_engine.proofs.Sound.{fits_in}
 use Rattle.matcher_pairs.specs.Trees.{by_name}
 use Rattle.matcher_pairs.proofs.Nesting.{nested_in_text, stands_in}

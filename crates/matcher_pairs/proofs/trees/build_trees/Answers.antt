@@ -1,7 +1,7 @@
 use Rattle.std.proofs.Common.{◌≡◌, ◌∙◌, ap, drop, arith}
-use Rattle.meta_matcher.specs.Written.{seen}
-use Rattle.meta_syntax.specs.Building.{making_from}
-use Rattle.meta_syntax.proofs.Making.{made_back}
+use Rattle.matcher_interpreter.specs.Written.{seen}
+use Rattle.front_syntax.specs.Building.{making_from}
+use Rattle.front_syntax.proofs.Making.{made_back}
 use Rattle.matcher_pairs.proofs.Making.{made_more}
 use Rattle.matcher_pairs.proofs.trees.build_trees.Goals as goal
 

@@ -1,6 +1,6 @@
 use Rattle.std.proofs.Common.{◌≡◌, ◌≤◌, drop, length}
-use Rattle.meta_matcher.specs.Written.{seen}
-use Rattle.meta_syntax.specs.Building.{making_from}
+use Rattle.matcher_interpreter.specs.Written.{seen}
+use Rattle.front_syntax.specs.Building.{making_from}
 use Rattle.matcher_pairs.specs.Trees.{making_of}
 use Rattle.matcher_pairs.proofs.trees.build_trees.Given as goal
 

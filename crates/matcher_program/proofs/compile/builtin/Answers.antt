@@ -1,5 +1,5 @@
 use Rattle.std.proofs.Common.{◌≡◌, None, inl, ap, subst, sym, ◌∙◌, chars}
-use Rattle.meta_base.specs.Language.Expression.{Ident, rule_of}
+use Rattle.base_language.specs.Language.Expression.{Ident, rule_of}
 use Rattle.matcher_program.specs.Compiled.{Compiles}
 use Rattle.matcher_program.proofs.Compiling.{property_compiles}
 use Rattle.matcher_program.proofs.Refusing.{no_builtin_of, unknown_property}

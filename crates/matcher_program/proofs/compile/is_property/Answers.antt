@@ -1,6 +1,6 @@
 use Rattle.std.proofs.Common.{◌≡◌, true, chars, map, ap, sym, ◌∙◌, ◌||◌, suc, add-one, drop, []}
 use Rattle.std.proofs.Math.ListN.{drop_of_length-le}
-use Rattle.meta_base.specs.Language.Builtins.{is_one_of}
+use Rattle.base_language.specs.Language.Builtins.{is_one_of}
 use Rattle.matcher_program.proofs.Compiling.{are_property_names, next_name}
 use Rattle.matcher_program.proofs.compile.is_property.Goals as goal
 

@@ -1,5 +1,5 @@
 use Rattle.std.proofs.Common.{◌≡◌, chars, drop, map}
-use Rattle.meta_base.specs.Language.Builtins.{is_one_of}
+use Rattle.base_language.specs.Language.Builtins.{is_one_of}
 use Rattle.matcher_program.proofs.compile.is_property.Given as goal
 
 abbrev pub invariant-loop-property : goal.invariant-loop-property

@@ -1,7 +1,7 @@
 use Rattle.std.proofs.Common.{ap, chars}
 use Rattle.matcher_program.proofs.Compiling.{call_compiles}
-use Rattle.meta_ast.specs.Ast.{text_of}
-use Rattle.meta_ast.specs.Optimized.{optimized_rules_of}
+use Rattle.base_ast.specs.Ast.{text_of}
+use Rattle.base_ast.specs.Optimized.{optimized_rules_of}
 use Rattle.matcher_program.proofs.Refusing.{name_refused}
 use Rattle.matcher_program.proofs.compile.resolve_name.Goals as goal
 

@@ -1,5 +1,5 @@
 use Rattle.std.proofs.Common.{rules}
-use Rattle.meta_ast.specs.Optimized.{optimized_expression_of, optimized_rules_of}
+use Rattle.base_ast.specs.Optimized.{optimized_expression_of, optimized_rules_of}
 use Rattle.matcher_program.specs.Compiled.{Compiles}
 use Rattle.matcher_program.proofs.compile.row_of.Goals as goal
 

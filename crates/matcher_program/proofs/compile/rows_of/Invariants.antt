@@ -1,5 +1,5 @@
 use Rattle.std.proofs.Common.{◌≡◌, ℕ, ◌<◌, get_or, length, map, take}
-use Rattle.meta_ast.specs.Optimized.{optimized_rule_of, optimized_rules_of}
+use Rattle.base_ast.specs.Optimized.{optimized_rule_of, optimized_rules_of}
 use Rattle.matcher_program.specs.declared.form.Row.{Row}
 use Rattle.matcher_program.specs.Programs.{IsRow, rule_of_row}
 use Rattle.matcher_program.specs.Compiled.{names_in}

@@ -1,7 +1,7 @@
 use Rattle.std.proofs.Common.{Err, ap, ◌∙◌}
 use Rattle.std.proofs.lemmas.Result.{err_from_is_err_and}
-use Rattle.meta_ast.specs.Optimized.{optimized_expression_of, optimized_rules_of}
-use Rattle.meta_base.specs.Language.Expression.{of_choice_left, of_choice_right, of_neg_pred, of_opt, of_pos_pred, of_push, of_rep, of_rep_once, of_restore, of_seq_left, of_seq_right, of_tag}
+use Rattle.base_ast.specs.Optimized.{optimized_expression_of, optimized_rules_of}
+use Rattle.base_language.specs.Language.Expression.{of_choice_left, of_choice_right, of_neg_pred, of_opt, of_pos_pred, of_push, of_rep, of_rep_once, of_restore, of_seq_left, of_seq_right, of_tag}
 use Rattle.matcher_program.proofs.Refusing.{high_refused, low_refused}
 use Rattle.matcher_program.proofs.forms.begin.Goals as goal
 use Rattle.matcher_program.proofs.forms.begin.Goals.{in-PosPred, in-NegPred, in-Opt, in-Rep, in-RepOnce, in-Push, in-RestoreOnErr, in-NodeTag+in_ok-clone-in-NodeTag, in-Seq, in-Choice}

@@ -1,6 +1,6 @@
 use Rattle.std.proofs.Common.{Err, ap, ◌∙◌}
 use Rattle.std.proofs.lemmas.Result.{err_from_is_err_and}
-use Rattle.meta_ast.specs.Optimized.{optimized_rules_of}
+use Rattle.base_ast.specs.Optimized.{optimized_rules_of}
 use Rattle.matcher_program.proofs.Forming.{gone_inside, gone_outside, less_in, less_out, operand_within, within_inside, within_outside}
 use Rattle.matcher_program.proofs.Refusing.{part_refused}
 use Rattle.matcher_program.proofs.forms.form_of.Goals as goal

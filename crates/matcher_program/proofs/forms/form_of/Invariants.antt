@@ -1,6 +1,6 @@
 use Rattle.std.proofs.Common.{◌+◌}
-use Rattle.meta_ast.specs.Optimized.{optimized_expression_of, optimized_rules_of}
-use Rattle.meta_ast.specs.Rebuilding.{waiting}
+use Rattle.base_ast.specs.Optimized.{optimized_expression_of, optimized_rules_of}
+use Rattle.base_ast.specs.Rebuilding.{waiting}
 use Rattle.matcher_program.specs.Forming.{effort, waits_of}
 use Rattle.matcher_program.proofs.Forming.{AreWithin, IsUnderWay}
 use Rattle.matcher_program.proofs.forms.form_of.Given as goal

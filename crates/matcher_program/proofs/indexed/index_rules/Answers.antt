@@ -3,8 +3,8 @@ use Rattle.std.specs.HashMap.{get_by_text}
 use Rattle.std.specs.Str.{chars}
 use Rattle.std.proofs.lemmas.Map.Text.{hash_map_updates_text}
 use Rattle.std.proofs.lemmas.Str.{IsUtf8-string_bytes}
-use Rattle.meta_ast.specs.Ast.{text_of}
-use Rattle.meta_ast.proofs.Characters.{bytes_text_eq}
+use Rattle.base_ast.specs.Ast.{text_of}
+use Rattle.base_ast.proofs.Characters.{bytes_text_eq}
 use Rattle.matcher_program.proofs.Indexing.{name_step}
 use Rattle.matcher_program.proofs.indexed.index_rules.Goals as goal
 

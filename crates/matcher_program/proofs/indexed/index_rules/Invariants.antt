@@ -1,5 +1,5 @@
 use Rattle.std.proofs.Common.{take}
-use Rattle.meta_ast.specs.Optimized.{optimized_rules_of}
+use Rattle.base_ast.specs.Optimized.{optimized_rules_of}
 use Rattle.matcher_program.specs.Indexed.{KnowsLast}
 use Rattle.matcher_program.proofs.indexed.index_rules.Given as goal
 

@@ -1,8 +1,8 @@
 use Rattle.std.proofs.Common.{rules, arith, ap, sym, ◌∙◌, chars, length, map, true, ◌-◌, refl, ℕ, length-append}
 use Rattle.std.specs.Prelude.{IsUtf8}
 use Rattle.std.proofs.lemmas.Str.{chars_past_char}
-use Rattle.meta_ast.specs.Ast.{text_of}
-use Rattle.meta_syntax.proofs.LeafLemmas.{one_found, one_at_end}
+use Rattle.base_ast.specs.Ast.{text_of}
+use Rattle.front_syntax.proofs.LeafLemmas.{one_found, one_at_end}
 use Rattle.matcher_program.specs.Rests.{standing}
 use Rattle.matcher_program.proofs.Leaving.{one_found_with, one_missing_with, past_one_with}
 use Rattle.matcher_program.proofs.TextLemmas.{at_last, is_further, is_there}

@@ -1,10 +1,10 @@
 use Rattle.std.proofs.Common.{◌≡◌, ℕ, List, ◌≤◌, chars, length, map}
 use denote.Text.{Utf8}
 use denote.Shadow.{shadow}
-use Rattle.meta_ast.specs.Ast.{text_of}
-use Rattle.meta_base.specs.Language.Text.{Text}
-use Rattle.meta_base.specs.Language.State.{moved}
-use Rattle.meta_base.specs.Language.Matching.{distance}
+use Rattle.base_ast.specs.Ast.{text_of}
+use Rattle.base_language.specs.Language.Text.{Text}
+use Rattle.base_language.specs.Language.State.{moved}
+use Rattle.base_language.specs.Language.Matching.{distance}
 use Rattle.matcher_program.specs.Rests.{IsLeft, standing}
 use Rattle.matcher_program.proofs.leaves.ahead_to.Given as goal
 

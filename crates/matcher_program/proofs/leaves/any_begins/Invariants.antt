@@ -1,6 +1,6 @@
 use Rattle.std.proofs.Common.{◌≡◌, chars, drop, map}
-use Rattle.meta_ast.specs.Ast.{text_of}
-use Rattle.meta_base.specs.Language.Matching.{any_begins}
+use Rattle.base_ast.specs.Ast.{text_of}
+use Rattle.base_language.specs.Language.Matching.{any_begins}
 use Rattle.matcher_program.proofs.leaves.any_begins.Given as goal
 
 abbrev pub invariant-loop-text : goal.invariant-loop-text

@@ -1,4 +1,4 @@
-use Rattle.meta_syntax.proofs.LeafLemmas.{one_found, one_refused, one_at_end, in_range, not_in_range}
+use Rattle.front_syntax.proofs.LeafLemmas.{one_found, one_refused, one_at_end, in_range, not_in_range}
 use Rattle.matcher_program.proofs.Leaving.{one_found_with, one_missing_with, past_one_with}
 use Rattle.matcher_program.proofs.leaves.character.Goals as goal
 

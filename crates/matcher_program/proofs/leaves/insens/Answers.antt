@@ -2,8 +2,8 @@ use Rattle.std.proofs.Common.{rules, arith, ap, sym, ◌∙◌, chars, length, �
 use Rattle.std.specs.Prelude.{IsUtf8}
 use Rattle.std.specs.Char.{eq_ignore_ascii_case}
 use Rattle.std.proofs.lemmas.Str.{chars_past_char}
-use Rattle.meta_base.specs.Language.Matching.{text_outcome}
-use Rattle.meta_syntax.proofs.LeafLemmas.{chars_empty}
+use Rattle.base_language.specs.Language.Matching.{text_outcome}
+use Rattle.front_syntax.proofs.LeafLemmas.{chars_empty}
 use Rattle.matcher_program.specs.Rests.{standing}
 use Rattle.matcher_program.proofs.TextLemmas.{goes_past, left_whole, nothing_wanted, stops_at}
 use Rattle.matcher_program.proofs.leaves.insens.Goals as goal

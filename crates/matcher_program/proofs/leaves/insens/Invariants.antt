@@ -2,8 +2,8 @@ use Rattle.std.proofs.Common.{◌≡◌, ℕ, List, ◌≤◌, chars, length}
 use denote.Text.{Utf8}
 use denote.Shadow.{shadow}
 use Rattle.std.specs.Char.{eq_ignore_ascii_case}
-use Rattle.meta_base.specs.Language.Text.{Text}
-use Rattle.meta_base.specs.Language.Matching.{text_outcome}
+use Rattle.base_language.specs.Language.Text.{Text}
+use Rattle.base_language.specs.Language.Matching.{text_outcome}
 use Rattle.matcher_program.specs.Rests.{IsLeft, standing}
 use Rattle.matcher_program.proofs.leaves.insens.Given as goal
 

@@ -1,8 +1,8 @@
 use Rattle.std.proofs.Common.{◌∙◌, ap}
 use Rattle.std.specs.Prelude.{nat_eq}
-use Rattle.meta_base.specs.Language.Matching.{text_outcome}
-use Rattle.meta_syntax.proofs.LeafLemmas.{decoded_chars, leaving_either, str_found, str_missing}
-use Rattle.meta_syntax.specs.Runs.{at}
+use Rattle.base_language.specs.Language.Matching.{text_outcome}
+use Rattle.front_syntax.proofs.LeafLemmas.{decoded_chars, leaving_either, str_found, str_missing}
+use Rattle.front_syntax.specs.Runs.{at}
 use Rattle.matcher_program.proofs.Leaving.{text_with}
 use Rattle.matcher_program.proofs.leaves.literal.Goals as goal
 

@@ -1,6 +1,6 @@
 use Rattle.std.proofs.Common.{rules, arith, ap, sym, ◌∙◌, nat_eq, add-one, suc, drop, map, chars, List, ℕ, [], length, ◌-◌, get_or}
 use Rattle.std.specs.Borrow.{Bor}
-use Rattle.meta_base.specs.Language.Matching.{concatenated, text_outcome}
+use Rattle.base_language.specs.Language.Matching.{concatenated, text_outcome}
 use Rattle.matcher_program.specs.Rests.{standing}
 use Rattle.matcher_program.proofs.TextLemmas.{both_found, first_is_missing, left_whole, texts_at}
 use Rattle.matcher_program.proofs.leaves.literals.Goals as goal

@@ -1,8 +1,8 @@
 use Rattle.std.proofs.Common.{◌≡◌, ℕ, List, ◌≤◌, chars, drop, length, map, nat_eq}
 use denote.Text.{Utf8}
 use denote.Shadow.{shadow}
-use Rattle.meta_base.specs.Language.Text.{Text}
-use Rattle.meta_base.specs.Language.Matching.{concatenated, text_outcome}
+use Rattle.base_language.specs.Language.Text.{Text}
+use Rattle.base_language.specs.Language.Matching.{concatenated, text_outcome}
 use Rattle.matcher_program.specs.Rests.{IsLeft, standing}
 use Rattle.matcher_program.proofs.leaves.literals.Given as goal
 

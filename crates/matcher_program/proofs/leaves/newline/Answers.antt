@@ -1,6 +1,6 @@
 use Rattle.std.proofs.Common.{◌∙◌, ap, sym, ◌∷◌, [], nat_eq}
-use Rattle.meta_base.specs.Language.Matching.{text_outcome}
-use Rattle.meta_syntax.proofs.LeafLemmas.{decoded_chars}
+use Rattle.base_language.specs.Language.Matching.{text_outcome}
+use Rattle.front_syntax.proofs.LeafLemmas.{decoded_chars}
 use Rattle.matcher_program.specs.Rests.{standing}
 use Rattle.matcher_program.proofs.TextLemmas.{pick_found, pick_missed}
 use Rattle.matcher_program.proofs.leaves.newline.Goals as goal

@@ -1,5 +1,5 @@
 use Rattle.std.proofs.Common.{sym, ◌∙◌}
-use Rattle.meta_syntax.proofs.LeafLemmas.{one_found, one_refused, one_at_end}
+use Rattle.front_syntax.proofs.LeafLemmas.{one_found, one_refused, one_at_end}
 use Rattle.matcher_program.proofs.Leaving.{one_found_with, one_missing_with, past_one_with}
 use Rattle.matcher_program.proofs.leaves.one.Goals as goal
 

@@ -1,6 +1,6 @@
 use Rattle.std.proofs.Common.{◌≡◌, sym, ◌∙◌, length, subst, Some, w32}
 use Rattle.std.proofs.Math.Facts.{to_z-of_z}
-use Rattle.meta_base.specs.Language.Matching.{end_place, place}
+use Rattle.base_language.specs.Language.Matching.{end_place, place}
 use Rattle.matcher_program.specs.Rests.{standing}
 use Rattle.matcher_program.proofs.TextLemmas.{of_slice, size_of_stack, sliced}
 use Rattle.matcher_program.proofs.leaves.slice.Goals as goal

@@ -1,5 +1,5 @@
 use Rattle.std.proofs.Common.{◌≡◌, ◌++◌, ap, ◌∙◌}
-use Rattle.meta_ast.specs.Optimized.{optimized_expression_of}
+use Rattle.base_ast.specs.Optimized.{optimized_expression_of}
 use Rattle.matcher_program.specs.Forming.{own_call}
 use Rattle.matcher_program.proofs.Gathering.{no_text, one_text, part_gathered, texts}
 use Rattle.matcher_program.proofs.properties.add_names.Goals as goal

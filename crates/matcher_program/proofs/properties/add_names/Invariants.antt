@@ -1,5 +1,5 @@
 use Rattle.std.proofs.Common.{◌≡◌, ◌++◌, map, chars}
-use Rattle.meta_ast.specs.Optimized.{optimized_expression_of}
+use Rattle.base_ast.specs.Optimized.{optimized_expression_of}
 use Rattle.matcher_program.specs.Forming.{calls_of, calls_waiting, heft}
 use Rattle.matcher_program.proofs.properties.add_names.Given as goal
 

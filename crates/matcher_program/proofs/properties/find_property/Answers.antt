@@ -1,6 +1,6 @@
 use Rattle.std.proofs.Common.{◌≡◌, false, sym, subst, ◌∙◌, bytes_eq, chars}
-use Rattle.meta_ast.specs.Ast.{text_of}
-use Rattle.meta_builtins.proofs.BuiltinLemmas.{none_left}
+use Rattle.base_ast.specs.Ast.{text_of}
+use Rattle.front_names.proofs.BuiltinLemmas.{none_left}
 use Rattle.matcher_program.proofs.Refusing.{next_property}
 use Rattle.matcher_program.proofs.properties.find_property.Goals as goal
 

@@ -1,5 +1,5 @@
 use Rattle.std.proofs.Common.{sym, ◌∙◌}
-use Rattle.meta_syntax.proofs.LeafLemmas.{one_at_end, one_found, one_refused}
+use Rattle.front_syntax.proofs.LeafLemmas.{one_at_end, one_found, one_refused}
 use Rattle.matcher_program.proofs.Leaving.{one_found_with, one_missing_with, past_one_with}
 use Rattle.matcher_program.proofs.sets.one_of.Goals as goal
 

@@ -1,6 +1,6 @@
 use Rattle.std.proofs.Common.{rules, arith, ap, sym, ◌∙◌, chars, length, ◌-◌, ℕ, length-append}
 use Rattle.std.specs.Prelude.{IsUtf8}
-use Rattle.meta_syntax.proofs.LeafLemmas.{one_at_end, one_found, one_refused}
+use Rattle.front_syntax.proofs.LeafLemmas.{one_at_end, one_found, one_refused}
 use Rattle.matcher_program.specs.Programs.{characters_of}
 use Rattle.matcher_program.specs.Rests.{standing}
 use Rattle.matcher_program.proofs.Leaving.{one_found_with, one_missing_with, past_one_with}

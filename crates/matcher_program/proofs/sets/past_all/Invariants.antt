@@ -1,8 +1,8 @@
 use Rattle.std.proofs.Common.{◌≡◌, ℕ, List, ◌≤◌, chars, length}
 use denote.Text.{Utf8}
 use denote.Shadow.{shadow}
-use Rattle.meta_base.specs.Language.Text.{Text}
-use Rattle.meta_base.specs.Language.State.{moved}
+use Rattle.base_language.specs.Language.Text.{Text}
+use Rattle.base_language.specs.Language.State.{moved}
 use Rattle.matcher_program.specs.Programs.{characters_of}
 use Rattle.matcher_program.specs.Rests.{IsLeft, span, standing}
 use Rattle.matcher_program.proofs.sets.past_all.Given as goal

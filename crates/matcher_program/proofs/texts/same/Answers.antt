@@ -1,5 +1,5 @@
 use Rattle.std.proofs.Common.{◌∙◌}
-use Rattle.meta_ast.proofs.Characters.{bytes_text_eq}
+use Rattle.base_ast.proofs.Characters.{bytes_text_eq}
 use Rattle.matcher_program.proofs.texts.same.Goals as goal
 
 pub returns : goal.returns

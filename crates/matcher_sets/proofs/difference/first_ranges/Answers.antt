@@ -1,6 +1,6 @@
 use Rattle.std.proofs.Common.{◌≡◌, ◌∙◌, ap, ap₂, arith, subst, sym, true}
 use Rattle.std.proofs.lemmas.Grind.{common_steps}
-use Rattle.meta_base.specs.Language.Expression.{Choice}
+use Rattle.base_language.specs.Language.Expression.{Choice}
 use Rattle.matcher_sets.specs.Differences.{BeginsWith}
 use Rattle.matcher_sets.specs.Forms.{IsBoundIn, said}
 use Rattle.matcher_sets.proofs.Choosing.{IsRest, bound_sides, last_one, no_rest, one_less_of_two}

@@ -1,4 +1,4 @@
-use Rattle.meta_base.specs.Language.State.{Classes}
+use Rattle.base_language.specs.Language.State.{Classes}
 use Rattle.matcher_program.specs.Programs.{Fits}
 use Rattle.matcher_sets.specs.Differences.{BeginsWith}
 use Rattle.matcher_sets.specs.Forms.{IsBoundIn}

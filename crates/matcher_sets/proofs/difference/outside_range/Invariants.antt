@@ -1,6 +1,6 @@
 use Rattle.std.proofs.Common.{◌≡◌, ◌<◌, ◌&&◌, ℕ, take}
 use Rattle.std.specs.Prelude.{not}
-use Rattle.meta_base.specs.Language.Builtins.{is_between}
+use Rattle.base_language.specs.Language.Builtins.{is_between}
 use Rattle.matcher_code.specs.Reading.{is_covered}
 use Rattle.matcher_sets.proofs.difference.outside_range.Given as goal
 

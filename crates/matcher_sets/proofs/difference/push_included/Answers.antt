@@ -1,9 +1,9 @@
 use Rattle.std.proofs.Common.{◌≡◌, ◌∙◌, ◌++◌, ◌||◌, ap, arith, subst, sym}
 use Rattle.std.proofs.lemmas.Grind.{common_steps}
-use Rattle.meta_base.specs.Language.Matching.{character_outcome}
-use Rattle.meta_base.specs.Language.Meaning.{Run}
+use Rattle.base_language.specs.Language.Matching.{character_outcome}
+use Rattle.base_language.specs.Language.Meaning.{Run}
 use Rattle.matcher_code.specs.Reading.{is_covered}
-use Rattle.matcher_layout.specs.Laid.{HasOutcome}
+use Rattle.matcher_code.specs.Laid.{HasOutcome}
 use Rattle.matcher_program.specs.Programs.{characters_of}
 use Rattle.matcher_sets.specs.Modes.{mode_of}
 use Rattle.matcher_sets.specs.Forms.{grammar_in}

@@ -1,5 +1,5 @@
 use Rattle.std.proofs.Common.{◌∙◌, ap, subst, sym}
-use Rattle.meta_base.specs.Language.Expression.{NegPred}
+use Rattle.base_language.specs.Language.Expression.{NegPred}
 use Rattle.matcher_sets.specs.Forms.{IsBoundIn, said}
 use Rattle.matcher_sets.proofs.Excluding.{all_refused}
 use Rattle.matcher_sets.proofs.difference.refused_ranges.Goals as goal

@@ -1,5 +1,5 @@
 use Rattle.std.proofs.Common.{[], chars, subst}
-use Rattle.meta_base.specs.Language.Builtins.{is_between}
+use Rattle.base_language.specs.Language.Builtins.{is_between}
 use Rattle.matcher_sets.specs.Forms.{grammar_in}
 use Rattle.matcher_sets.specs.Ranges.{Adds}
 use Rattle.matcher_sets.proofs.Heading.{any_case_takes}

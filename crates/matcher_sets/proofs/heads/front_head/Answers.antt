@@ -1,6 +1,6 @@
 use Rattle.std.proofs.Common.{subst}
 use Rattle.std.specs.Prelude.{IfSome}
-use Rattle.meta_base.specs.Language.State.{Classes}
+use Rattle.base_language.specs.Language.State.{Classes}
 use Rattle.matcher_sets.specs.Forms.{grammar_in}
 use Rattle.matcher_sets.specs.Heads.{IsGapHead}
 use Rattle.matcher_sets.specs.Modes.{mode_of}

@@ -1,6 +1,6 @@
 use Rattle.std.proofs.Common.{refl, subst, sym}
-use Rattle.meta_base.specs.Language.Meaning as by
-use Rattle.matcher_layout.specs.Laid.{IsTight}
+use Rattle.base_language.specs.Language.Meaning as by
+use Rattle.matcher_code.specs.Laid.{IsTight}
 use Rattle.matcher_sets.specs.Modes.{mode_of}
 use Rattle.matcher_sets.proofs.heads.is_tight.Goals as goal
 

@@ -1,6 +1,6 @@
 use Rattle.std.proofs.Common.{subst}
 use Rattle.std.specs.Prelude.{IfSome}
-use Rattle.meta_base.specs.Language.Expression.{comment, whitespace}
+use Rattle.base_language.specs.Language.Expression.{comment, whitespace}
 use Rattle.matcher_program.specs.Programs.{IsSkippedRule}
 use Rattle.matcher_sets.specs.Forms.{grammar_in}
 use Rattle.matcher_sets.specs.Heads.{IsSkipHead}

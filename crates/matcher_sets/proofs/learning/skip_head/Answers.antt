@@ -1,6 +1,6 @@
 use Rattle.std.proofs.Common.{◌≡◌, arith, false, subst}
 use Rattle.std.proofs.lemmas.Grind.{common_steps}
-use Rattle.meta_base.specs.Language.Expression.{comment, whitespace}
+use Rattle.base_language.specs.Language.Expression.{comment, whitespace}
 use Rattle.matcher_program.specs.Programs.{IsSkippedRule}
 use Rattle.matcher_sets.specs.Forms.{grammar_in}
 use Rattle.matcher_sets.proofs.Skipping.{comment_is_skipped, no_blank, no_comment, skipped_fails, skipped_is_rule, white_is_skipped}

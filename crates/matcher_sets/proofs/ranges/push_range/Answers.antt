@@ -2,7 +2,7 @@ use Rattle.std.proofs.Common.{◌≡◌, ◌∙◌, ◌++◌, ◌∷◌, [], ap,
 use Rattle.std.proofs.lemmas.Grind.{common_steps}
 use Rattle.matcher_code.specs.Reading.{is_covered}
 use Rattle.matcher_sets.proofs.Ranging.{covered-append, or_none}
-use Rattle.meta_base.specs.Language.Builtins.{is_between}
+use Rattle.base_language.specs.Language.Builtins.{is_between}
 use Rattle.matcher_sets.proofs.ranges.push_range.Goals as goal
 
 pub returns : goal.returns

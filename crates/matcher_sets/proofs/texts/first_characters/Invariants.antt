@@ -1,6 +1,6 @@
 use Rattle.std.proofs.Common.{map, take}
-use Rattle.meta_ast.specs.Ast.{text_of}
-use Rattle.matcher_layout.specs.Laid.{StartIn}
+use Rattle.base_ast.specs.Ast.{text_of}
+use Rattle.matcher_code.specs.Laid.{StartIn}
 use Rattle.matcher_sets.proofs.texts.first_characters.Given as goal
 
 abbrev pub invariant-loop-text : goal.invariant-loop-text

@@ -1,7 +1,7 @@
 use Rattle.std.proofs.Common.{◌≡◌, ◌+◌, arith, get_or, suc, true, ◌∙◌, ap, ◌∷◌, map, take}
 use Rattle.std.proofs.lemmas.Grind.{common_steps}
-use Rattle.meta_ast.specs.Ast.{text_of}
-use Rattle.meta_base.specs.Language.Matching.{any_begins}
+use Rattle.base_ast.specs.Ast.{text_of}
+use Rattle.base_language.specs.Language.Matching.{any_begins}
 use Rattle.matcher_code.specs.Reading.{is_covered}
 use Rattle.matcher_sets.proofs.Searching.{one_text_more}
 use Rattle.matcher_sets.proofs.texts.single_characters.Goals as goal

@@ -1,5 +1,5 @@
 use Rattle.std.proofs.lemmas.Result.{IfOk-weaker}
-use Rattle.command_line.proofs.Adding.{one_argument_more}
+use Rattle.program_support.proofs.Adding.{one_argument_more}
 use Rattle.pest_doc.proofs.arguments.command.Goals as goal
 
 pub returns-clause-arguments : goal.returns-clause-arguments

@@ -1,9 +1,9 @@
 use Rattle.std.proofs.Common.{◌<◌, arith, get_or, length, subst, sym}
 use Rattle.std.proofs.lemmas.Slice.Zip.{AllZip-long}
-use Rattle.diagnostic_data.specs.Reports.{IsMessageOf, ReportsError}
+use Rattle.lint_findings.specs.Reports.{IsMessageOf, ReportsError}
 use Rattle.pest_doc.proofs.Showing.{zip_at}
 use Rattle.pest_doc.specs.Refusals.{ShowsError}
-use Rattle.tool_support.proofs.Parts.{one_part_more}
+use Rattle.program_support.proofs.Parts.{one_part_more}
 use Rattle.pest_doc.proofs.messages.show_errors.Goals as goal
 
 pub bounds-diagnostics-i : goal.bounds-diagnostics-i

@@ -1,6 +1,6 @@
 use Rattle.std.proofs.Common.{string_bytes, take}
 use Rattle.pest_doc.specs.Refusals.{ShowsError}
-use Rattle.tool_support.specs.Messages.{ArePartsOf}
+use Rattle.program_support.specs.Messages.{ArePartsOf}
 use Rattle.pest_doc.proofs.messages.show_errors.Given as goal
 
 abbrev pub invariant-loop-i : goal.invariant-loop-i

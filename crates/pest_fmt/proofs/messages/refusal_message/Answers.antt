@@ -1,9 +1,9 @@
 use Rattle.std.proofs.Common.{◌∙◌, ap, string_bytes, subst, sym}
 use Rattle.std.proofs.lemmas.List.{take_all}
 use Rattle.std.proofs.lemmas.Result.{IfOk-weaker}
-use Rattle.tool_support.proofs.Parts.{one_part_more}
-use Rattle.tool_support.specs.Escapes.{escaped_bytes, escaped_lines}
-use Rattle.tool_support.specs.Messages.{ArePartsOf}
+use Rattle.program_support.proofs.Parts.{one_part_more}
+use Rattle.program_support.specs.Escapes.{escaped_bytes, escaped_lines}
+use Rattle.program_support.specs.Messages.{ArePartsOf}
 use Rattle.pest_fmt.specs.Messages.{TellsError}
 use Rattle.pest_fmt.proofs.messages.refusal_message.Goals as goal
 

@@ -1,5 +1,5 @@
 use Rattle.std.proofs.Common.{string_bytes, take}
-use Rattle.tool_support.specs.Messages.{ArePartsOf}
+use Rattle.program_support.specs.Messages.{ArePartsOf}
 use Rattle.pest_fmt.specs.Messages.{TellsError}
 use Rattle.pest_fmt.proofs.messages.refusal_message.Given as goal
 

@@ -2,7 +2,7 @@ use Rattle.std.proofs.Common.{◌≡◌, ◌∙◌, ◌+◌, ℕ, ap, arith, ref
 use Rattle.pest_fmt.specs.Files.AreOfNames.{none}
 use Rattle.pest_fmt.specs.Files.{AreOfNames, IsTargetFor}
 use Rattle.pest_fmt.specs.declared.arguments.Delivery.{Delivery}
-use Rattle.tool_support.specs.Statuses.{status_code}
+use Rattle.program_support.specs.Statuses.{status_code}
 use Rattle.pest_fmt.proofs.Running.{cut, one_more}
 use Rattle.pest_fmt.proofs.run.format_files.Goals.{in-Unwritable, in_default}
 use Rattle.pest_fmt.proofs.run.format_files.Goals as goal

@@ -1,7 +1,7 @@
 use Rattle.std.proofs.Common.{◌≡◌, take}
 use Rattle.pest_fmt.specs.Files.{AreOfNames}
 use Rattle.pest_fmt.specs.Processing.{IsKnown}
-use Rattle.tool_support.specs.declared.status.Status.TheVariants.{Done}
+use Rattle.program_support.specs.declared.status.Status.TheVariants.{Done}
 use Rattle.pest_fmt.proofs.run.format_files.Given as goal
 
 abbrev pub invariant-loop-name : goal.invariant-loop-name

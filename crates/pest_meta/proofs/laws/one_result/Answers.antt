@@ -1,9 +1,9 @@
-use Rattle.meta_optimizer.proofs.OneFactoring.{one_factoring}
-use Rattle.meta_optimizer.proofs.OneJoining.{one_joining, one_skipping}
-use Rattle.meta_optimizer.proofs.OneResult.{optimized_once}
-use Rattle.meta_optimizer.proofs.OneRotation.{one_rotation}
-use Rattle.meta_optimizer.proofs.OneUnrolling.{one_unrolling}
-use Rattle.meta_optimizer.proofs.OneWrapping.{one_wrapping}
+use Rattle.front_optimizer.proofs.OneFactoring.{one_factoring}
+use Rattle.front_optimizer.proofs.OneJoining.{one_joining, one_skipping}
+use Rattle.front_optimizer.proofs.OneResult.{optimized_once}
+use Rattle.front_optimizer.proofs.OneRotation.{one_rotation}
+use Rattle.front_optimizer.proofs.OneUnrolling.{one_unrolling}
+use Rattle.front_optimizer.proofs.OneWrapping.{one_wrapping}
 use Rattle.pest_meta.proofs.laws.one_result.Goals as goal
 
 pub returns-clause-rotate : goal.returns-clause-rotate

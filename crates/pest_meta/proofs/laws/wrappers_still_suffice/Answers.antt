@@ -1,4 +1,4 @@
-use Rattle.meta_base.proofs.ListingKeepsGrammars.{listing_finishes, restoring_finishes}
+use Rattle.base_language.proofs.ListingKeepsGrammars.{listing_finishes, restoring_finishes}
 use Rattle.pest_meta.proofs.NothingNew.{finished_suffice, steps_suffice}
 use Rattle.pest_meta.proofs.laws.wrappers_still_suffice.Goals as goal
 

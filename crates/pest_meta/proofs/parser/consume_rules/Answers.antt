@@ -1,6 +1,6 @@
-use Rattle.meta_base.specs.Pieces.NamedTrees.{named}
-use Rattle.meta_base.specs.Pieces.Pairs.{pairs_text, pairs_trees}
-use Rattle.meta_reader.proofs.ReadableCounts.{counts_readable}
+use Rattle.base_language.specs.Pieces.NamedTrees.{named}
+use Rattle.base_language.specs.Pieces.Pairs.{pairs_text, pairs_trees}
+use Rattle.front_reader.proofs.ReadableCounts.{counts_readable}
 use Rattle.pest_meta.proofs.parser.consume_rules.Goals as goal
 
 pub returns-clause-rules : goal.returns-clause-rules

@@ -1,14 +1,14 @@
 use Rattle.std.proofs.Common.{List, ◌≡◌, ◌≢◌, [], inr, refl, rules, subst, sym, arith}
 use Rattle.std.proofs.lemmas.Grind.{common_steps}
-use Rattle.meta_base.specs.Pieces.Pairs.{pairs_text}
-use Rattle.meta_base.specs.declared.grammar.Rule.{Rule}
-use Rattle.meta_base.specs.declared.runtime.errors.Error.{Error}
-use Rattle.meta_spanned.specs.Erasure.{rules_without_spans}
-use Rattle.meta_spanned.specs.Spanned.{SpannedRule}
-use Rattle.meta_spanned.specs.Nodes.{rule_views}
-use Rattle.meta_validator.specs.Reported.{AreReported}
-use Rattle.meta_validator.specs.Placed.{AreIn}
-use Rattle.meta_validator.proofs.NothingElse.{none_endless}
+use Rattle.base_language.specs.Pieces.Pairs.{pairs_text}
+use Rattle.base_language.specs.declared.grammar.Rule.{Rule}
+use Rattle.base_language.specs.declared.runtime.errors.Error.{Error}
+use Rattle.front_spanned.specs.Erasure.{rules_without_spans}
+use Rattle.front_spanned.specs.Spanned.{SpannedRule}
+use Rattle.front_spanned.specs.Nodes.{rule_views}
+use Rattle.front_validator.specs.Reported.{AreReported}
+use Rattle.front_validator.specs.Placed.{AreIn}
+use Rattle.front_validator.proofs.NothingElse.{none_endless}
 use Rattle.pest_meta.specs.Findings.{AreErrorsOfFindings}
 use Rattle.pest_meta.proofs.InText.{rules_in}
 use Rattle.pest_meta.proofs.Spelled.{given}

@@ -1,6 +1,6 @@
 use Rattle.std.proofs.Common.{◌≡◌, [], length, codes, ◌++◌, take, drop, ◌-◌, refl, ap, ◌∙◌, arith, string_bytes}
 use Rattle.std.proofs.lemmas.List.{nil_from_length}
-use Rattle.meta_base.specs.Pieces.PrintedError.{error_text}
+use Rattle.base_language.specs.Pieces.PrintedError.{error_text}
 use Rattle.pest_meta.specs.Reports.{empty_line}
 use Rattle.pest_meta.proofs.Reporting.{joined}
 use Rattle.pest_meta.proofs.report.print_errors.Goals as goal

@@ -1,6 +1,6 @@
 use Rattle.std.proofs.Common.{◌≡◌, ◌++◌, take, string_bytes}
 use Rattle.std.specs.List.{flat_map}
-use Rattle.meta_base.specs.Pieces.PrintedError.{error_text}
+use Rattle.base_language.specs.Pieces.PrintedError.{error_text}
 use Rattle.pest_meta.specs.Reports.{empty_line}
 use Rattle.pest_meta.proofs.report.print_errors.Given as goal
 

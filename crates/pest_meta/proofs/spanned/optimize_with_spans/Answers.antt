@@ -1,5 +1,5 @@
-use Rattle.meta_ast.specs.Ast.{rules_of}
-use Rattle.meta_spanned.specs.Nodes.{rule_views}
+use Rattle.base_ast.specs.Ast.{rules_of}
+use Rattle.front_spanned.specs.Nodes.{rule_views}
 use Rattle.pest_meta.proofs.Spelled.{optimized_answer, optimized_spans}
 use Rattle.pest_meta.proofs.spanned.optimize_with_spans.Goals as goal
 

@@ -1,5 +1,5 @@
 use Rattle.std.proofs.lemmas.Result.{err_from_is_err_and}
-use Rattle.meta_spanned.specs.Nodes.{rule_views}
+use Rattle.front_spanned.specs.Nodes.{rule_views}
 use Rattle.pest_meta.proofs.Spelled.{misnamed, no_grammar, rejected, spells_with_spans}
 use Rattle.pest_meta.proofs.spanned.parse_with_spans.Goals as goal
 

@@ -1,11 +1,11 @@
 use Rattle.std.proofs.Common.{◌≡◌, ◌∙◌, [], IfOk, map, subst}
 use Rattle.std.proofs.lemmas.Result.{IfOk-weaker}
-use Rattle.meta_base.specs.Language.WellFormed.{IsWellFormed}
-use Rattle.meta_spanned.specs.Nodes.{piece_of, rule_views}
-use Rattle.meta_analysis.specs.Names.{grammar_of}
-use Rattle.meta_stack_loops.specs.Certain.{AreReports}
-use Rattle.meta_validator.specs.Reported.{AreReported}
-use Rattle.meta_validator.proofs.NothingElse.{none_endless}
+use Rattle.base_language.specs.Language.WellFormed.{IsWellFormed}
+use Rattle.front_spanned.specs.Nodes.{piece_of, rule_views}
+use Rattle.front_analysis.specs.Names.{grammar_of}
+use Rattle.front_stack_loops.specs.Certain.{AreReports}
+use Rattle.front_validator.specs.Reported.{AreReported}
+use Rattle.front_validator.proofs.NothingElse.{none_endless}
 use Rattle.pest_meta.specs.Findings.{AreErrorsOfFindings}
 use Rattle.pest_meta.proofs.validator.validate_ast.Goals as goal
 

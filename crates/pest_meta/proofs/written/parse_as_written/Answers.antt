@@ -1,5 +1,5 @@
 use Rattle.std.proofs.lemmas.Result.{err_from_is_err_and}
-use Rattle.meta_ast.specs.Ast.{rules_of}
+use Rattle.base_ast.specs.Ast.{rules_of}
 use Rattle.pest_meta.proofs.Spelled.{misnamed, no_grammar, rejected, spells_accepted, written}
 use Rattle.pest_meta.proofs.WrittenPromised.{written_bounds, written_known}
 use Rattle.pest_meta.proofs.written.parse_as_written.Goals as goal

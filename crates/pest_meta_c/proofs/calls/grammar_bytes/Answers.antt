@@ -1,9 +1,9 @@
 use Rattle.std.proofs.Common.{◌++◌, ◌∙◌, ap, subst}
 use Rattle.std.proofs.lemmas.Result.{err_from_is_err_and}
-use Rattle.meta_ast.specs.Ast.{rules_of}
-use Rattle.meta_ast.specs.Optimized.{optimized_rules_of}
-use Rattle.meta_binary.specs.Format.{names_bytes, optimized_rules_bytes, rules_bytes}
-use Rattle.meta_optimizer.specs.Passes.{IsOptimized}
+use Rattle.base_ast.specs.Ast.{rules_of}
+use Rattle.base_ast.specs.Optimized.{optimized_rules_of}
+use Rattle.format_binary.specs.Format.{names_bytes, optimized_rules_bytes, rules_bytes}
+use Rattle.front_optimizer.specs.Passes.{IsOptimized}
 use Rattle.pest_meta.proofs.Spelled.{answered, misnamed, no_grammar, rejected}
 use Rattle.pest_meta_c.proofs.Answering.{grammar_answered}
 use Rattle.pest_meta_c.proofs.calls.grammar_bytes.Goals as goal

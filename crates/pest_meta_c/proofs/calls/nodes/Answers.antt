@@ -2,7 +2,7 @@ use Rattle.std.proofs.Common.{ap, ◌∙◌}
 use Rattle.std.proofs.lemmas.Result.{err_from_is_err_and}
 use Rattle.serde_json.specs.Written.{compact_text}
 use Rattle.pest_meta.specs.Spelling.{AreFlawed}
-use Rattle.meta_json.specs.Placed.{placed_rules_data}
+use Rattle.format_json.specs.Placed.{placed_rules_data}
 use Rattle.pest_meta_c.specs.Answers.{AreNodes}
 use Rattle.pest_meta_c.specs.Refusals.{OfTrees}
 use Rattle.pest_meta_c.proofs.Answering.{answered_from, nodes_answered}

@@ -1,9 +1,9 @@
 use Rattle.std.proofs.Common.{ap, ◌∙◌}
 use Rattle.serde_json.specs.Written.{compact_text}
-use Rattle.meta_json.specs.Format.{optimized_rules_data}
+use Rattle.format_json.specs.Format.{optimized_rules_data}
 use Rattle.pest_meta_c.specs.Answers.{AreOptimized}
 use Rattle.pest_meta_c.proofs.Answering.{answered_from}
-use Rattle.meta_json.specs.Refusals.{IsRefusedAsRules}
+use Rattle.format_json.specs.Refusals.{IsRefusedAsRules}
 use Rattle.pest_meta_c.proofs.Telling.{no_json}
 use Rattle.pest_meta_c.proofs.calls.optimize.Goals as goal
 

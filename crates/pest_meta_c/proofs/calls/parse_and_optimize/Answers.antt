@@ -1,6 +1,6 @@
 use Rattle.std.proofs.Common.{ap, ◌∙◌}
 use Rattle.serde_json.specs.Written.{compact_text}
-use Rattle.meta_json.specs.Errors.{answer_data}
+use Rattle.format_json.specs.Errors.{answer_data}
 use Rattle.pest_meta_c.specs.Answers.{IsWhole}
 use Rattle.pest_meta_c.proofs.Answering.{answered_from}
 use Rattle.pest_meta_c.proofs.calls.parse_and_optimize.Goals as goal

@@ -1,6 +1,6 @@
 use Rattle.std.proofs.Common.{◌++◌, ◌∙◌, ap}
-use Rattle.meta_binary.specs.Format.{optimized_rules_bytes}
-use Rattle.meta_json.specs.Refusals.{IsRefusedAsOptimized}
+use Rattle.format_binary.specs.Format.{optimized_rules_bytes}
+use Rattle.format_json.specs.Refusals.{IsRefusedAsOptimized}
 use Rattle.pest_meta_c.proofs.Telling.{no_json}
 use Rattle.pest_meta_c.proofs.calls.prepare.Goals as goal
 

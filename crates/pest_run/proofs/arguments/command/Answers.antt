@@ -1,6 +1,6 @@
 use Rattle.std.proofs.Common.{◌∙◌}
 use Rattle.std.proofs.lemmas.Result.{IfOk-weaker}
-use Rattle.command_line.proofs.Adding.{one_argument_more}
+use Rattle.program_support.proofs.Adding.{one_argument_more}
 use Rattle.pest_run.proofs.arguments.command.Goals as goal
 
 pub returns-clause-name : goal.returns-clause-name

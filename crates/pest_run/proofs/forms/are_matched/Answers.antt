@@ -1,4 +1,4 @@
-use Rattle.meta_ast.specs.Optimized.{optimized_rules_of}
+use Rattle.base_ast.specs.Optimized.{optimized_rules_of}
 use Rattle.pest_run.proofs.forms.are_matched.Goals as goal
 
 pub returns : goal.returns

@@ -3,7 +3,7 @@ use Rattle.std.proofs.lemmas.Iterator.{YieldsList-from_chars}
 use Rattle.std.proofs.lemmas.Iterator.Consumers.{YieldsList-end}
 use Rattle.std.specs.List.{flat_map}
 use Rattle.std.specs.Str.{chars}
-use Rattle.tool_support.proofs.Escaping.{one_more}
+use Rattle.program_support.proofs.Escaping.{one_more}
 use Rattle.pest_run.specs.Json.{json_character}
 use Rattle.pest_run.proofs.json.escape_json.Goals as goal
 

@@ -1,6 +1,6 @@
 use Rattle.std.proofs.Common.{subst, sym}
-use Rattle.meta_ast.specs.Optimized.{optimized_rules_of}
-use Rattle.meta_base.specs.Language.Expression.{Grammar}
+use Rattle.base_ast.specs.Optimized.{optimized_rules_of}
+use Rattle.base_language.specs.Language.Expression.{Grammar}
 use Rattle.matcher_engine.specs.Matchers.{grammar_in, properties_in}
 use Rattle.pest_run.specs.Outcomes.{HasNoRule, IsOutcome}
 use Rattle.pest_run.specs.declared.outcomes.Outcome.{Outcome}

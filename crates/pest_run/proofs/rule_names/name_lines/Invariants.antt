@@ -1,6 +1,6 @@
 use Rattle.std.proofs.Common.{◌≡◌, take}
 use Rattle.std.specs.Prelude.{string_bytes}
-use Rattle.meta_ast.specs.Optimized.{optimized_rules_of}
+use Rattle.base_ast.specs.Optimized.{optimized_rules_of}
 use Rattle.pest_run.specs.RuleNames.{name_lines}
 use Rattle.pest_run.proofs.rule_names.name_lines.Given as goal
 

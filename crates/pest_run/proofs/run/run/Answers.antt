@@ -1,6 +1,6 @@
 use Rattle.std.proofs.Common.{◌≡◌, ℕ, List, Err, ap, ◌∙◌, subst}
-use Rattle.meta_ast.specs.Optimized.{optimized_rules_of}
-use Rattle.tool_support.specs.Escapes.{escaped_lines}
+use Rattle.base_ast.specs.Optimized.{optimized_rules_of}
+use Rattle.program_support.specs.Escapes.{escaped_lines}
 use Rattle.pest_run.specs.Written.{NotesEnd, ReportsReason, ReportsStop, WritesLine}
 use Rattle.pest_run.proofs.Ended.{notes, prints, refusal, refusal_is_reason, stops, tells, value}
 use Rattle.pest_run.proofs.run.run.Goals as goal

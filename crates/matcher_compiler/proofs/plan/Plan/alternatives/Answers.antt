@@ -1,6 +1,6 @@
 use Rattle.std.proofs.Common.{subst, sym}
 use Rattle.std.specs.Prelude.{OnOk}
-use Rattle.meta_base.specs.Language.Meaning.{Run}
+use Rattle.base_language.specs.Language.Meaning.{Run}
 use Rattle.matcher_sets.specs.Modes.{mode_of}
 use Rattle.matcher_compiler.specs.Plans.{LaysAt}
 use Rattle.matcher_compiler.proofs.plan.Plan.alternatives.Goals as goal

@@ -1,7 +1,7 @@
-use Rattle.matcher_layout.specs.Laid as lay
-use Rattle.matcher_layout.proofs.Ends.{bare_end_performs}
-use Rattle.meta_base.specs.Language.Matching.{end_outcome}
-use Rattle.meta_base.specs.Language.State.{AtomicMode}
+use Rattle.matcher_code.specs.Laid as lay
+use Rattle.matcher_code.proofs.Ends.{bare_end_performs}
+use Rattle.base_language.specs.Language.Matching.{end_outcome}
+use Rattle.base_language.specs.Language.State.{AtomicMode}
 use Rattle.matcher_sets.proofs.Leaves.{bare_end_outcome}
 use Rattle.matcher_compiler.specs.Names.{number_in}
 use Rattle.matcher_sets.specs.Forms.{grammar_in}

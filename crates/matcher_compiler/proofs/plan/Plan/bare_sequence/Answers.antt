@@ -1,7 +1,7 @@
 use Rattle.std.proofs.Common.{sym, subst}
-use Rattle.matcher_layout.specs.Laid as lay
-use Rattle.meta_base.specs.Language.Expression.{Seq}
-use Rattle.meta_base.specs.Language.Meaning.{Run}
+use Rattle.matcher_code.specs.Laid as lay
+use Rattle.base_language.specs.Language.Expression.{Seq}
+use Rattle.base_language.specs.Language.Meaning.{Run}
 use Rattle.matcher_sets.specs.Modes.{mode_of}
 use Rattle.matcher_compiler.specs.Names.{number_in}
 use Rattle.matcher_sets.specs.Forms.{grammar_in}

@@ -1,4 +1,4 @@
-use Rattle.meta_base.specs.Language.Expression.{whitespace}
+use Rattle.base_language.specs.Language.Expression.{whitespace}
 use Rattle.matcher_sets.proofs.Skipping.{skipped_is_rule, white_is_skipped}
 use Rattle.matcher_compiler.proofs.Skipping.{skipped_laid, white_meant}
 use Rattle.matcher_compiler.specs.Names.{number_in}

@@ -1,5 +1,5 @@
 use Rattle.std.proofs.Common.{refl}
-use Rattle.meta_base.specs.Language.Expression.{Ident, whitespace}
+use Rattle.base_language.specs.Language.Expression.{Ident, whitespace}
 use Rattle.matcher_compiler.proofs.plan.Plan.blank_calls.Goals as goal
 
 pub returns-clause-later : goal.returns-clause-later

@@ -1,7 +1,7 @@
 use Rattle.std.proofs.Common.{subst, sym}
-use Rattle.matcher_layout.specs.Laid as lay
-use Rattle.meta_base.specs.Language.Meaning.{Run, skipped}
-use Rattle.meta_base.specs.Language.State.{Between}
+use Rattle.matcher_code.specs.Laid as lay
+use Rattle.base_language.specs.Language.Meaning.{Run, skipped}
+use Rattle.base_language.specs.Language.State.{Between}
 use Rattle.matcher_compiler.proofs.Growing.{later_twice}
 use Rattle.matcher_compiler.specs.Names.{number_in}
 use Rattle.matcher_sets.specs.Forms.{grammar_in}

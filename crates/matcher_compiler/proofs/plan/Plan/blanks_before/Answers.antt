@@ -1,10 +1,10 @@
 use Rattle.std.proofs.Common.{◌∙◌, ◌<◌, arith, subst, sym}
-use Rattle.meta_base.specs.Language.Expression.{Rep}
-use Rattle.meta_base.specs.Language.Meaning as by
-use Rattle.meta_base.specs.Language.Meaning.{Run, skipped}
-use Rattle.meta_base.specs.Language.State.{Between}
-use Rattle.matcher_layout.specs.Laid as lay
-use Rattle.matcher_layout.proofs.Gaps.{gap_of}
+use Rattle.base_language.specs.Language.Expression.{Rep}
+use Rattle.base_language.specs.Language.Meaning as by
+use Rattle.base_language.specs.Language.Meaning.{Run, skipped}
+use Rattle.base_language.specs.Language.State.{Between}
+use Rattle.matcher_code.specs.Laid as lay
+use Rattle.matcher_code.proofs.Gaps.{gap_of}
 use Rattle.matcher_compiler.proofs.Growing.{later_twice}
 use Rattle.matcher_compiler.proofs.Skipping.{tight_between}
 use Rattle.matcher_compiler.specs.Names.{number_in}

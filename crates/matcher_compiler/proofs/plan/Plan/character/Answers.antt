@@ -1,5 +1,5 @@
-use Rattle.meta_base.specs.Language.Matching.{character_outcome}
-use Rattle.matcher_layout.specs.Laid as lay
+use Rattle.base_language.specs.Language.Matching.{character_outcome}
+use Rattle.matcher_code.specs.Laid as lay
 use Rattle.matcher_compiler.proofs.Growing.{later_twice}
 use Rattle.matcher_sets.proofs.Leaves.{one_as}
 use Rattle.matcher_compiler.specs.Names.{number_in}

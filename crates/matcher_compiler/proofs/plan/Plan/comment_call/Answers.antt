@@ -1,4 +1,4 @@
-use Rattle.meta_base.specs.Language.Expression.{comment}
+use Rattle.base_language.specs.Language.Expression.{comment}
 use Rattle.matcher_sets.proofs.Skipping.{comment_is_skipped, skipped_is_rule}
 use Rattle.matcher_compiler.proofs.Skipping.{comment_meant, skipped_laid}
 use Rattle.matcher_compiler.specs.Names.{number_in}

@@ -1,5 +1,5 @@
 use Rattle.std.proofs.Common.{subst}
-use Rattle.meta_base.specs.Language.Expression.{comment}
+use Rattle.base_language.specs.Language.Expression.{comment}
 use Rattle.matcher_program.specs.Programs.{IsSkippedRule}
 use Rattle.matcher_sets.specs.Forms.{grammar_in}
 use Rattle.matcher_compiler.proofs.plan.Plan.comments.Goals as goal

@@ -1,6 +1,6 @@
-use Rattle.meta_base.specs.Language.Matching.{drop_outcome}
-use Rattle.matcher_layout.specs.Laid as lay
-use Rattle.matcher_layout.proofs.StackReads.{discard_performs}
+use Rattle.base_language.specs.Language.Matching.{drop_outcome}
+use Rattle.matcher_code.specs.Laid as lay
+use Rattle.matcher_code.proofs.StackReads.{discard_performs}
 use Rattle.matcher_sets.specs.Forms.{grammar_in}
 use Rattle.matcher_compiler.specs.Names.{number_in}
 use Rattle.matcher_compiler.proofs.Reading.{discard_has}

@@ -1,9 +1,9 @@
 use Rattle.std.proofs.Common.{true}
 use Rattle.matcher_compiler.proofs.Growing.{later_twice}
-use Rattle.matcher_layout.specs.Laid as lay
-use Rattle.matcher_layout.proofs.Ends.{end_performs}
-use Rattle.meta_base.specs.Language.FurthestFailure.{place_of}
-use Rattle.meta_base.specs.Language.Matching.{end_outcome}
+use Rattle.matcher_code.specs.Laid as lay
+use Rattle.matcher_code.proofs.Ends.{end_performs}
+use Rattle.base_language.specs.Language.FurthestFailure.{place_of}
+use Rattle.base_language.specs.Language.Matching.{end_outcome}
 use Rattle.matcher_sets.proofs.Leaves.{end_outcome_of}
 use Rattle.matcher_compiler.proofs.Calling.{end_number, open_row}
 use Rattle.matcher_sets.specs.Modes.{mode_of}

@@ -2,8 +2,8 @@ use Rattle.std.proofs.Common.{◌∙◌, FitsSigned, ap, ap₂, chars, rules, su
 use Rattle.std.proofs.lemmas.Int.{to_z-of_z}
 use Rattle.std.specs.Int.{w32}
 use Rattle.std.specs.Prelude.{OnOk}
-use Rattle.meta_base.specs.Language.Expression.{Choice, Insens, NegPred, NodeTag, Opt, PosPred, Push, PushLiteral, Rep, RepOnce, RestoreOnErr, Seq, Str}
-use Rattle.meta_base.specs.Language.Meaning.{Run}
+use Rattle.base_language.specs.Language.Expression.{Choice, Insens, NegPred, NodeTag, Opt, PosPred, Push, PushLiteral, Rep, RepOnce, RestoreOnErr, Seq, Str}
+use Rattle.base_language.specs.Language.Meaning.{Run}
 use Rattle.matcher_sets.specs.Modes.{mode_of}
 use Rattle.matcher_sets.specs.Forms.{said}
 use Rattle.matcher_compiler.specs.Plans.{LaysAt}

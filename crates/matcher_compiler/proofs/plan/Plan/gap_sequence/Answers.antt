@@ -1,9 +1,9 @@
 use Rattle.std.proofs.Common.{◌∙◌, ◌<◌, arith, subst, sym}
-use Rattle.meta_base.specs.Language.Expression.{Seq}
-use Rattle.meta_base.specs.Language.Meaning.{Run, Skipping}
-use Rattle.matcher_layout.specs.Laid as lay
-use Rattle.matcher_layout.specs.Laid.{HasOutcome, IsPart, skip_set}
-use Rattle.matcher_layout.proofs.Gaps.{gap_of}
+use Rattle.base_language.specs.Language.Expression.{Seq}
+use Rattle.base_language.specs.Language.Meaning.{Run, Skipping}
+use Rattle.matcher_code.specs.Laid as lay
+use Rattle.matcher_code.specs.Laid.{HasOutcome, IsPart, skip_set}
+use Rattle.matcher_code.proofs.Gaps.{gap_of}
 use Rattle.matcher_compiler.proofs.Growing.{later_twice}
 use Rattle.matcher_compiler.proofs.Skipping.{blanks_alone}
 use Rattle.matcher_compiler.specs.Names.{number_in}

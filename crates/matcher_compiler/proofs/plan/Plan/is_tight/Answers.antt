@@ -1,5 +1,5 @@
 use Rattle.std.proofs.Common.{subst, sym}
-use Rattle.matcher_layout.specs.Laid.{IsTight}
+use Rattle.matcher_code.specs.Laid.{IsTight}
 use Rattle.matcher_sets.specs.Modes.{mode_of}
 use Rattle.matcher_sets.specs.Forms.{grammar_in}
 use Rattle.matcher_compiler.specs.Plans.{SkipsAs}

@@ -1,9 +1,9 @@
 use Rattle.std.proofs.Common.{chars, nat_eq, refl}
 use Rattle.matcher_compiler.proofs.Growing.{later_twice}
-use Rattle.matcher_layout.specs.Laid as lay
-use Rattle.matcher_layout.proofs.Leaves.{text_performs}
-use Rattle.meta_base.specs.Language.Matching.{text_outcome}
-use Rattle.meta_base.specs.Language.Meaning.{str}
+use Rattle.matcher_code.specs.Laid as lay
+use Rattle.matcher_code.proofs.Leaves.{text_performs}
+use Rattle.base_language.specs.Language.Matching.{text_outcome}
+use Rattle.base_language.specs.Language.Meaning.{str}
 use Rattle.matcher_compiler.specs.Names.{number_in}
 use Rattle.matcher_sets.specs.Forms.{grammar_in}
 use Rattle.matcher_compiler.proofs.plan.Plan.literal.Goals as goal

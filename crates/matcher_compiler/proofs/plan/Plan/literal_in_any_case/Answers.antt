@@ -1,10 +1,10 @@
 use Rattle.std.proofs.Common.{chars, refl}
 use Rattle.std.specs.Char.{eq_ignore_ascii_case}
 use Rattle.matcher_compiler.proofs.Growing.{later_twice}
-use Rattle.matcher_layout.specs.Laid as lay
-use Rattle.matcher_layout.proofs.AnyCase.{any_case_performs}
-use Rattle.meta_base.specs.Language.Matching.{text_outcome}
-use Rattle.meta_base.specs.Language.Meaning.{insens}
+use Rattle.matcher_code.specs.Laid as lay
+use Rattle.matcher_code.proofs.AnyCase.{any_case_performs}
+use Rattle.base_language.specs.Language.Matching.{text_outcome}
+use Rattle.base_language.specs.Language.Meaning.{insens}
 use Rattle.matcher_compiler.specs.Names.{number_in}
 use Rattle.matcher_sets.specs.Forms.{grammar_in}
 use Rattle.matcher_compiler.proofs.plan.Plan.literal_in_any_case.Goals as goal

@@ -1,6 +1,6 @@
 use Rattle.std.proofs.Common.{◌∙◌, ap}
 use Rattle.matcher_compiler.proofs.Growing.{later_twice}
-use Rattle.matcher_layout.specs.Laid as lay
+use Rattle.matcher_code.specs.Laid as lay
 use Rattle.matcher_code.specs.declared.code.Op.TheVariants as op
 use Rattle.matcher_compiler.proofs.plan.Plan.lookahead.Goals as goal
 

@@ -1,5 +1,5 @@
 use Rattle.std.proofs.Common.{refl, subst, sym}
-use Rattle.matcher_layout.specs.Laid.{GoesTo}
+use Rattle.matcher_code.specs.Laid.{GoesTo}
 use Rattle.matcher_compiler.proofs.Growing.{later_same}
 use Rattle.matcher_compiler.proofs.plan.Plan.miss.Goals as goal
 

@@ -1,6 +1,6 @@
-use Rattle.matcher_layout.specs.Laid as lay
-use Rattle.matcher_layout.proofs.Newlines.{newline_performs}
-use Rattle.meta_base.specs.Language.Matching.{newline_outcome}
+use Rattle.matcher_code.specs.Laid as lay
+use Rattle.matcher_code.proofs.Newlines.{newline_performs}
+use Rattle.base_language.specs.Language.Matching.{newline_outcome}
 use Rattle.matcher_compiler.proofs.Growing.{later_twice}
 use Rattle.matcher_sets.proofs.Leaves.{newline_outcome_of}
 use Rattle.matcher_compiler.specs.Names.{number_in}

@@ -1,6 +1,6 @@
 use Rattle.std.proofs.Common.{◌∙◌, [], false, refl, subst}
-use Rattle.matcher_layout.specs.Laid as lay
-use Rattle.matcher_layout.specs.Laid.{skip_set}
+use Rattle.matcher_code.specs.Laid as lay
+use Rattle.matcher_code.specs.Laid.{skip_set}
 use Rattle.matcher_compiler.proofs.Skipping.{no_comments}
 use Rattle.matcher_sets.proofs.Leaves.{all_as}
 use Rattle.matcher_compiler.specs.Names.{number_in}

@@ -1,7 +1,7 @@
 use Rattle.std.proofs.Common.{◌∙◌, ◌&&◌, ap₂}
 use Rattle.std.specs.Prelude.{not}
-use Rattle.meta_base.specs.Language.Matching.{character_outcome}
-use Rattle.matcher_layout.specs.Laid as lay
+use Rattle.base_language.specs.Language.Matching.{character_outcome}
+use Rattle.matcher_code.specs.Laid as lay
 use Rattle.matcher_sets.proofs.Excluding.{other_matches}
 use Rattle.matcher_compiler.proofs.Growing.{later_twice}
 use Rattle.matcher_sets.proofs.Leaves.{one_as}

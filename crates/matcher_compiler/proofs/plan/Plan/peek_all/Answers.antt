@@ -1,7 +1,7 @@
 use Rattle.std.proofs.Common.{nat_eq}
-use Rattle.meta_base.specs.Language.Matching.{concatenated, text_outcome}
-use Rattle.matcher_layout.specs.Laid as lay
-use Rattle.matcher_layout.proofs.StackReads.{peek_all_performs}
+use Rattle.base_language.specs.Language.Matching.{concatenated, text_outcome}
+use Rattle.matcher_code.specs.Laid as lay
+use Rattle.matcher_code.proofs.StackReads.{peek_all_performs}
 use Rattle.matcher_sets.specs.Forms.{grammar_in}
 use Rattle.matcher_compiler.specs.Names.{number_in}
 use Rattle.matcher_compiler.proofs.Reading.{peek_all_has}

@@ -1,4 +1,4 @@
-use Rattle.matcher_layout.specs.Laid as lay
+use Rattle.matcher_code.specs.Laid as lay
 use Rattle.matcher_sets.proofs.Rules.{made, meant_is}
 use Rattle.matcher_compiler.proofs.Calling.{body_part}
 use Rattle.matcher_sets.specs.Modes.{mode_of}

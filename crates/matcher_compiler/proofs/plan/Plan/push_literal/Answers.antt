@@ -1,8 +1,8 @@
 use Rattle.std.proofs.Common.{chars, refl}
-use Rattle.meta_base.specs.Language.Meaning.{push_literal, with_top}
-use Rattle.meta_base.specs.Language.State.{None', Success}
-use Rattle.matcher_layout.specs.Laid as lay
-use Rattle.matcher_layout.proofs.StackReads.{push_text_performs}
+use Rattle.base_language.specs.Language.Meaning.{push_literal, with_top}
+use Rattle.base_language.specs.Language.State.{None', Success}
+use Rattle.matcher_code.specs.Laid as lay
+use Rattle.matcher_code.proofs.StackReads.{push_text_performs}
 use Rattle.matcher_sets.specs.Forms.{grammar_in}
 use Rattle.matcher_compiler.specs.Names.{number_in}
 use Rattle.matcher_compiler.proofs.Growing.{later_twice}

@@ -1,4 +1,4 @@
-use Rattle.matcher_layout.specs.Laid as lay
+use Rattle.matcher_code.specs.Laid as lay
 use Rattle.matcher_compiler.proofs.plan.Plan.restore.Goals as goal
 
 pub returns-clause-later : goal.returns-clause-later

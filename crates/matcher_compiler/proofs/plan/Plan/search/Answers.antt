@@ -1,7 +1,7 @@
 use Rattle.std.proofs.Common.{map}
-use Rattle.meta_ast.specs.Ast.{text_of}
-use Rattle.meta_base.specs.Language.Expression.{Skip}
-use Rattle.meta_base.specs.Language.Meaning.{Run}
+use Rattle.base_ast.specs.Ast.{text_of}
+use Rattle.base_language.specs.Language.Expression.{Skip}
+use Rattle.base_language.specs.Language.Meaning.{Run}
 use Rattle.matcher_sets.specs.Modes.{mode_of}
 use Rattle.matcher_compiler.proofs.plan.Plan.search.Goals as goal
 

@@ -1,10 +1,10 @@
 use Rattle.std.proofs.Common.{map, refl}
-use Rattle.meta_ast.specs.Ast.{text_of}
-use Rattle.meta_base.specs.Language.Matching.{distance}
-use Rattle.meta_base.specs.Language.Meaning as by
-use Rattle.meta_base.specs.Language.State.{None', Success, moved}
-use Rattle.matcher_layout.specs.Laid as lay
-use Rattle.matcher_layout.proofs.Until.{until_performs}
+use Rattle.base_ast.specs.Ast.{text_of}
+use Rattle.base_language.specs.Language.Matching.{distance}
+use Rattle.base_language.specs.Language.Meaning as by
+use Rattle.base_language.specs.Language.State.{None', Success, moved}
+use Rattle.matcher_code.specs.Laid as lay
+use Rattle.matcher_code.proofs.Until.{until_performs}
 use Rattle.matcher_compiler.proofs.Growing.{later_twice}
 use Rattle.matcher_compiler.specs.Names.{number_in}
 use Rattle.matcher_sets.specs.Forms.{grammar_in}

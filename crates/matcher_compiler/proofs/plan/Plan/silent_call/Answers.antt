@@ -1,5 +1,5 @@
 use Rattle.matcher_compiler.proofs.Growing.{later_twice}
-use Rattle.matcher_layout.specs.Laid as lay
+use Rattle.matcher_code.specs.Laid as lay
 use Rattle.matcher_sets.proofs.Rules.{made, meant_is}
 use Rattle.matcher_compiler.proofs.Calling.{body_point}
 use Rattle.matcher_sets.specs.Modes.{mode_of}

@@ -1,7 +1,7 @@
 use Rattle.std.proofs.Common.{◌∙◌, subst, sym}
-use Rattle.matcher_layout.specs.Laid as lay
-use Rattle.matcher_layout.specs.Laid.{HasOutcome, skip_set}
-use Rattle.meta_base.specs.Language.Meaning.{Skipping}
+use Rattle.matcher_code.specs.Laid as lay
+use Rattle.matcher_code.specs.Laid.{HasOutcome, skip_set}
+use Rattle.base_language.specs.Language.Meaning.{Skipping}
 use Rattle.matcher_sets.proofs.Leaves.{all_as}
 use Rattle.matcher_compiler.proofs.Skipping.{blanks_alone}
 use Rattle.matcher_compiler.specs.Names.{number_in}

@@ -1,6 +1,6 @@
 use Rattle.std.proofs.Common.{subst, sym}
-use Rattle.matcher_layout.specs.Laid as lay
-use Rattle.meta_base.specs.Language.Meaning.{Skipping}
+use Rattle.matcher_code.specs.Laid as lay
+use Rattle.base_language.specs.Language.Meaning.{Skipping}
 use Rattle.matcher_compiler.specs.Names.{number_in}
 use Rattle.matcher_sets.specs.Forms.{grammar_in}
 use Rattle.matcher_compiler.proofs.plan.Plan.skip_both.Goals as goal

@@ -1,10 +1,10 @@
 use Rattle.std.proofs.Common.{FitsSigned, refl, rules}
 use Rattle.std.proofs.lemmas.Int.{to_z-of_z}
 use Rattle.std.specs.Int.{w32}
-use Rattle.meta_base.specs.Language.Matching.{slice_outcome}
-use Rattle.meta_base.specs.Language.Meaning.{slice}
-use Rattle.matcher_layout.specs.Laid as lay
-use Rattle.matcher_layout.proofs.StackReads.{slice_performs}
+use Rattle.base_language.specs.Language.Matching.{slice_outcome}
+use Rattle.base_language.specs.Language.Meaning.{slice}
+use Rattle.matcher_code.specs.Laid as lay
+use Rattle.matcher_code.proofs.StackReads.{slice_performs}
 use Rattle.matcher_sets.specs.Forms.{grammar_in}
 use Rattle.matcher_compiler.specs.Names.{number_in}
 use Rattle.matcher_compiler.proofs.plan.Plan.slice.Goals as goal

@@ -1,5 +1,5 @@
-use Rattle.matcher_layout.specs.Laid as lay
-use Rattle.matcher_layout.specs.Laid.{skip_set}
+use Rattle.matcher_code.specs.Laid as lay
+use Rattle.matcher_code.specs.Laid.{skip_set}
 use Rattle.matcher_compiler.proofs.Growing.{later_twice}
 use Rattle.matcher_sets.proofs.Leaves.{all_as}
 use Rattle.matcher_compiler.specs.Names.{number_in}

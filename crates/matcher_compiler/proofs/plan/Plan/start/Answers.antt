@@ -1,7 +1,7 @@
 use Rattle.std.proofs.Common.{◌==◌, if◌then◌else◌}
-use Rattle.matcher_layout.specs.Laid as lay
-use Rattle.matcher_layout.proofs.Ends.{start_performs}
-use Rattle.meta_base.specs.Language.State.{Failure, None', Success}
+use Rattle.matcher_code.specs.Laid as lay
+use Rattle.matcher_code.proofs.Ends.{start_performs}
+use Rattle.base_language.specs.Language.State.{Failure, None', Success}
 use Rattle.matcher_sets.proofs.Leaves.{start_outcome}
 use Rattle.matcher_compiler.specs.Names.{number_in}
 use Rattle.matcher_sets.specs.Forms.{grammar_in}

@@ -1,5 +1,5 @@
 use Rattle.std.proofs.Common.{map, subst, sym}
-use Rattle.meta_ast.specs.Ast.{text_of}
+use Rattle.base_ast.specs.Ast.{text_of}
 use Rattle.matcher_compiler.proofs.Growing.{later_twice}
 use Rattle.matcher_compiler.specs.Plans.{AreTexts}
 use Rattle.matcher_compiler.proofs.plan.Plan.text_list.Goals as goal

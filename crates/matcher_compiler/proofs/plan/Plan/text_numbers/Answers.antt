@@ -1,7 +1,7 @@
 use Rattle.std.proofs.Common.{◌≡◌, ◌++◌, ◌∷◌, [], ap, arith, chars, get_or, map, subst, take}
 use Rattle.std.proofs.lemmas.Grind.{common_steps}
 use Rattle.std.proofs.lemmas.List.{take_all}
-use Rattle.meta_ast.specs.Ast.{text_of}
+use Rattle.base_ast.specs.Ast.{text_of}
 use Rattle.matcher_compiler.specs.Plans.{AreTexts}
 use Rattle.matcher_compiler.proofs.Growing.{later_same, later_twice}
 use Rattle.matcher_compiler.proofs.Listing.{more_texts, no_texts}

@@ -1,7 +1,7 @@
 use Rattle.std.proofs.Common.{List, map, take}
-use Rattle.meta_ast.specs.Ast.{text_of}
+use Rattle.base_ast.specs.Ast.{text_of}
 use Rattle.matcher_code.specs.declared.code.Code.{Code}
-use Rattle.matcher_layout.specs.Laid as lay
+use Rattle.matcher_code.specs.Laid as lay
 use Rattle.matcher_program.specs.declared.form.Program.{Program}
 use Rattle.matcher_compiler.specs.Plans.{AreTexts, IsLater, Meets}
 use Rattle.matcher_compiler.proofs.plan.Plan.text_numbers.Given as goal

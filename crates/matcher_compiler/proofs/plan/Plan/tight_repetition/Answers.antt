@@ -1,6 +1,6 @@
 use Rattle.std.proofs.Common.{◌<◌, arith, inl, refl}
 use Rattle.matcher_compiler.proofs.Growing.{later_twice}
-use Rattle.matcher_layout.specs.Laid as lay
+use Rattle.matcher_code.specs.Laid as lay
 use Rattle.matcher_compiler.proofs.plan.Plan.tight_repetition.Goals as goal
 
 pub returns-clause-later : goal.returns-clause-later

@@ -1,5 +1,5 @@
-use Rattle.meta_base.specs.Language.Expression.{Rep}
-use Rattle.meta_base.specs.Language.Meaning.{Run}
+use Rattle.base_language.specs.Language.Expression.{Rep}
+use Rattle.base_language.specs.Language.Meaning.{Run}
 use Rattle.matcher_sets.specs.Forms.{said}
 use Rattle.matcher_sets.specs.Modes.{mode_of}
 use Rattle.matcher_compiler.proofs.plan.Plan.tight_turns.Goals as goal

@@ -1,6 +1,6 @@
 use Rattle.std.proofs.Common.{sym}
 use Rattle.matcher_compiler.proofs.Growing.{later_twice}
-use Rattle.matcher_layout.specs.Laid as lay
+use Rattle.matcher_code.specs.Laid as lay
 use Rattle.matcher_sets.proofs.Rules.{made, meant_is}
 use Rattle.matcher_compiler.proofs.Calling.{body_point, call_row, number_is}
 use Rattle.matcher_sets.specs.Modes.{mode_of}

@@ -1,5 +1,5 @@
 use Rattle.matcher_compiler.proofs.Growing.{later_twice}
-use Rattle.matcher_layout.specs.Laid as lay
+use Rattle.matcher_code.specs.Laid as lay
 use Rattle.matcher_compiler.proofs.plan.Plan.tried_choice.Goals as goal
 
 pub returns-clause-later : goal.returns-clause-later

@@ -1,9 +1,9 @@
 use Rattle.std.proofs.Common.{◌<◌, arith, inl}
-use Rattle.matcher_layout.specs.Laid as lay
+use Rattle.matcher_code.specs.Laid as lay
 use Rattle.matcher_compiler.proofs.Growing.{later_twice, part_as}
 use Rattle.matcher_compiler.proofs.Skipping.{tight_between}
-use Rattle.meta_base.specs.Language.Meaning.{Run}
-use Rattle.meta_base.specs.Language.State.{Between}
+use Rattle.base_language.specs.Language.Meaning.{Run}
+use Rattle.base_language.specs.Language.State.{Between}
 use Rattle.matcher_sets.specs.Forms.{grammar_in}
 use Rattle.matcher_compiler.proofs.plan.Plan.turns_between.Goals as goal
 

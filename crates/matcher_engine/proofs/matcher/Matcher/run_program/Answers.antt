@@ -1,8 +1,8 @@
 use Rattle.std.proofs.Common.{◌≡◌, ◌∙◌, ◌+◌, None, Some, ap, arith, chars, refl, sym}
 use Rattle.std.proofs.Math.Logic.{∥∥₁_map}
-use Rattle.meta_base.specs.Language.Expression.{last_place}
+use Rattle.base_language.specs.Language.Expression.{last_place}
 use Rattle.matcher_program.specs.Programs.{grammar_of}
-use Rattle.meta_matcher.specs.Answers.{state_at}
+use Rattle.matcher_interpreter.specs.Answers.{state_at}
 use Rattle.matcher_engine.specs.Matchers.{grammar_in, properties_in}
 use Rattle.matcher_engine.specs.declared.matcher.Preorder.{Preorder}
 use Rattle.matcher_engine.proofs.Known.{unnamed}

@@ -1,5 +1,5 @@
 use Rattle.std.proofs.Common.{sym, arith, drop}
-use Rattle.meta_base.specs.Language.Matching.{concatenated}
+use Rattle.base_language.specs.Language.Matching.{concatenated}
 use Rattle.matcher_machine.specs.Stacks.{bytes_of, length_if, texts_at, texts_in}
 use Rattle.matcher_machine.proofs.Stacking.{ends, goes_on}
 use Rattle.matcher_machine.proofs.stack.TextStack.match_all.Goals as goal

@@ -1,5 +1,5 @@
 use Rattle.std.proofs.Common.{◌≡◌, ◌≤◌, ◌+◌, ◌-◌, drop, length}
-use Rattle.meta_base.specs.Language.Matching.{concatenated}
+use Rattle.base_language.specs.Language.Matching.{concatenated}
 use Rattle.matcher_machine.specs.Stacks.{length_if, texts_at, texts_in}
 use Rattle.matcher_machine.proofs.Stacking.{more}
 use Rattle.matcher_machine.proofs.stack.TextStack.match_all.Given as goal

@@ -1,7 +1,7 @@
 use Rattle.std.proofs.Common.{◌≡◌, ◌∙◌, sym, ap, ap₂, map, length, drop, take, reverse, ◌-◌, Some, w32, FitsSigned, vec_len, rules}
 use Rattle.std.proofs.lemmas.List.{length-map}
 use Rattle.std.proofs.lemmas.Int.{to_z-of_z}
-use Rattle.meta_base.specs.Language.Matching.{concatenated, end_place, place}
+use Rattle.base_language.specs.Language.Matching.{concatenated, end_place, place}
 use Rattle.matcher_machine.specs.Stacks.{bytes_of, length_if, texts_in}
 use Rattle.matcher_machine.proofs.Stacking.{slice_found}
 use Rattle.matcher_machine.proofs.stack.TextStack.match_slice.Goals as goal

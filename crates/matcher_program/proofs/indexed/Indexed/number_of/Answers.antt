@@ -1,6 +1,6 @@
 use Rattle.std.proofs.Common.{◌≡◌, subst, chars, rules}
 use Rattle.std.specs.HashMap.{get_by_text}
-use Rattle.meta_ast.specs.Optimized.{optimized_rules_of}
+use Rattle.base_ast.specs.Optimized.{optimized_rules_of}
 use Rattle.matcher_program.specs.Programs.{IsSkippedRule}
 use Rattle.matcher_program.proofs.indexed.Indexed.number_of.Goals as goal
 

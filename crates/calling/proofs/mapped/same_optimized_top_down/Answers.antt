@@ -1,6 +1,0 @@
-use Rattle.std.proofs.Common.{rules}
-use Rattle.meta_ast.proofs.Unchanged.{unchanged_top_down}
-use Rattle.calling.proofs.mapped.same_optimized_top_down.Goals as goal
-
-pub returns : goal.returns
-returns c = unchanged_top_down _ _ (λ f x y g k. search rules) _ _ _ c.map_top_down.ensures.mapped

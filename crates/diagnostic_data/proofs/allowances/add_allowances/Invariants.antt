@@ -1,9 +1,0 @@
-use Rattle.std.proofs.Common.{◌≡◌, List, All, Any}
-use Rattle.diagnostic_data.specs.Allowances.{IsAllowance}
-use Rattle.meta_spanned.specs.Nodes.{rule_view}
-use Rattle.meta_spanned.specs.Spanned.{SpannedRule}
-use Rattle.diagnostic_data.proofs.allowances.add_allowances.Given as goal
-
-abbrev pub invariant-loop-comment : goal.invariant-loop-comment
-invariant-loop-comment l = (rules : List SpannedRule) → Any (λ other. other ≡ rule_view l.rule) rules → All (IsAllowance l.text rules) l.fn.found.items
-    → All (IsAllowance l.text rules) l.found.items

@@ -1,7 +1,0 @@
-use Rattle.std.proofs.Common.{All}
-use Rattle.diagnostic_data.specs.Allowances.{IsAllowance}
-use Rattle.meta_spanned.specs.Nodes.{rule_views}
-use Rattle.diagnostic_data.proofs.allowances.find_allowances.Given as goal
-
-abbrev pub invariant-loop-rule : goal.invariant-loop-rule
-invariant-loop-rule l = All (IsAllowance l.text (rule_views l.rules)) l.found.items

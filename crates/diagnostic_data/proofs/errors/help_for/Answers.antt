@@ -1,8 +1,0 @@
-use Rattle.diagnostic_data.proofs.Helping.{listed, suggested}
-use Rattle.diagnostic_data.proofs.errors.help_for.Goals as goal
-
-pub returns-in-UndefinedRule : goal.returns-in-UndefinedRule
-returns-in-UndefinedRule c = suggested c.args.code c.help_undefined.result c.in-UndefinedRule.is c.help_undefined.ensures
-
-pub returns-in_default : goal.returns-in_default
-returns-in_default c = listed c.args.code c.listed_help.result c.listed_help.ensures

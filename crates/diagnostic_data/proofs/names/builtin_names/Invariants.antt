@@ -1,8 +1,0 @@
-use Rattle.std.proofs.Common.{◌≡◌, map, take}
-use Rattle.std.specs.Prelude.{flat_map}
-use Rattle.meta_spanned.specs.Nodes.{piece_of, rule_views}
-use Rattle.diagnostic_data.specs.Names.{is_builtin_name, named_at}
-use Rattle.diagnostic_data.proofs.names.builtin_names.Given as goal
-
-abbrev pub invariant-loop-rule : goal.invariant-loop-rule
-invariant-loop-rule l = map piece_of l.found.items ≡ flat_map (named_at is_builtin_name) (rule_views (take l.rule-index l.rules))

@@ -1,4 +1,0 @@
-use Rattle.diagnostic_data.proofs.names.is_keyword.Goals as goal
-
-pub returns : goal.returns
-returns c = rw c.rust_keywords.ensures at c.is_among.ensures

@@ -1,7 +1,0 @@
-use Rattle.std.proofs.Common.{rules, string_bytes}
-use Rattle.diagnostic_data.proofs.Helping.{suggests}
-use Rattle.diagnostic_data.proofs.undefined.did_you_mean.Goals as goal
-
-pub returns : goal.returns
-returns c =
-    suggests c.in_ok-help.help.fix (string_bytes c.in_ok-help.help.message) c.args.start c.args.end c.args.name.now c.in_ok-help.ensures.fix (search rules)

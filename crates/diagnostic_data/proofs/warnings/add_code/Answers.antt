@@ -1,7 +1,0 @@
-use Rattle.diagnostic_data.specs.Reports.{ReportsWarning}
-use Rattle.diagnostic_data.proofs.Zips.{zip_both}
-use Rattle.diagnostic_data.proofs.warnings.add_code.Goals as goal
-
-pub returns : goal.returns
-returns c = λ earlier h.
-    rw c.in_ok-append.ensures.items (zip_both ReportsWarning earlier _ _ _ h c.in_ok-others.ensures)

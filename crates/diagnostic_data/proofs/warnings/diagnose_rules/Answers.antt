@@ -1,4 +1,0 @@
-use Rattle.diagnostic_data.proofs.warnings.diagnose_rules.Goals as goal
-
-pub returns : goal.returns
-returns c = rw c.warning_codes.ensures at c.diagnose_codes.ensures

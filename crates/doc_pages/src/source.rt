@@ -1,0 +1,162 @@
+//! The text of a grammar by rules: their comments, and the names in them.
+use base_language::grammar::Rule;
+use base_language::runtime::{FirstTree, Pairs, first_tree};
+use std::alloc::{AllocError, Global};
+use std::mem;
+
+/// A part of a rule's text.
+#[derive(Clone, Copy)]
+pub enum SourcePart<'i> {
+    /// The name of a rule or a builtin.
+    Name(&'i str),
+    /// Any other text.
+    Other(&'i str),
+}
+
+/// A rule as it is written.
+#[derive(Drop)]
+pub struct RuleSource<'i> {
+    /// The lines of its comment, without `///`.
+    pub comment: Vec<&'i str>,
+    /// Its text, in parts. The first name is its own.
+    pub parts: Vec<SourcePart<'i>>,
+    /// Where it begins in the grammar, in bytes.
+    pub start: usize,
+}
+
+/// A grammar as it is written.
+#[derive(Drop)]
+pub struct GrammarSource<'i> {
+    /// The lines of its comment, without `//!`.
+    pub comment: Vec<&'i str>,
+    /// Its rules, in order.
+    pub rules: Vec<RuleSource<'i>>,
+}
+
+/// A reader of pairs.
+#[derive(Drop)]
+struct SourceReader<'i> {
+    alloc: Global,
+    text: &'i str,
+    /// The source so far.
+    source: GrammarSource<'i>,
+    /// The comment of the next rule.
+    comment: Vec<&'i str>,
+    /// The part of the text that is in the current rule, and in none of its parts yet, in bytes.
+    start: usize,
+    end: usize,
+    /// Whether the current rule has its name already.
+    is_named: bool,
+}
+
+/// Reads the comments and the texts of a grammar's rules. The only error is an allocation failure.
+pub fn read_source<'i>(
+    alloc: Global,
+    pairs: &Pairs<'i, Rule>,
+) -> Result<GrammarSource<'i>, AllocError> {
+    let mut reader = SourceReader {
+        alloc,
+        text: pairs.get_input(),
+        source: GrammarSource {
+            comment: Vec::new(alloc),
+            rules: Vec::new(alloc),
+        },
+        comment: Vec::new(alloc),
+        start: 0,
+        end: 0,
+        is_named: false,
+    };
+    reader.read_all(pairs)?;
+    let SourceReader { source, .. } = reader;
+    Ok(source)
+}
+
+impl<'i> SourceReader<'i> {
+    /// Reads the trees of pairs.
+    fn read_all(&mut self, pairs: &Pairs<'i, Rule>) -> Result<(), AllocError> {
+        let mut waiting = vec![in self.alloc; pairs.trees()]?;
+        while let Some(trees) = waiting.pop() {
+            if let Some(tree) = first_tree(trees) {
+                self.read(tree)?;
+                waiting.push(tree.others)?;
+                waiting.push(tree.inner)?;
+            }
+        }
+        self.finish_rule()
+    }
+
+    /// Reads a tree, without the trees inside it.
+    fn read(&mut self, tree: FirstTree<'_, Rule>) -> Result<(), AllocError> {
+        match tree.rule {
+            Rule::grammar_doc => {
+                let line = self.text_between(tree.start, tree.end);
+                self.source.comment.push(strip_marker(line, "//!"))?;
+            }
+            Rule::line_doc => {
+                let line = self.text_between(tree.start, tree.end);
+                self.comment.push(strip_marker(line, "///"))?;
+            }
+            Rule::grammar_rule => {
+                self.finish_rule()?;
+                self.start = tree.start;
+                self.end = tree.end;
+            }
+            Rule::identifier => self.add_name(tree.start, tree.end)?,
+            _ => {}
+        }
+        Ok(())
+    }
+
+    /// The text between two positions.
+    fn text_between(&self, start: usize, end: usize) -> &'i str {
+        self.text.get(start..end).unwrap_or("")
+    }
+
+    /// Adds the name between two positions, which is that of a rule or of a call, to the current rule.
+    fn add_name(&mut self, start: usize, end: usize) -> Result<(), AllocError> {
+        if !self.is_named {
+            self.is_named = true;
+            let comment = mem::replace(&mut self.comment, Vec::new(self.alloc));
+            self.source.rules.push(RuleSource {
+                comment,
+                parts: Vec::new(self.alloc),
+                start,
+            })?;
+        }
+        self.add_text(start)?;
+        let name = self.text_between(start, end);
+        self.add_part(SourcePart::Name(name))?;
+        self.start = end;
+        Ok(())
+    }
+
+    /// Adds the text up to a position.
+    fn add_text(&mut self, end: usize) -> Result<(), AllocError> {
+        let start = self.start;
+        let text = self.text_between(start, end);
+        self.add_part(SourcePart::Other(text))
+    }
+
+    /// Adds a part to the current rule.
+    fn add_part(&mut self, part: SourcePart<'i>) -> Result<(), AllocError> {
+        if let Some(rule) = self.source.rules.last_mut() {
+            rule.parts.push(part)?;
+        }
+        Ok(())
+    }
+
+    /// Adds the rest of the current rule.
+    fn finish_rule(&mut self) -> Result<(), AllocError> {
+        if self.is_named {
+            self.is_named = false;
+            return self.add_text(self.end);
+        }
+        Ok(())
+    }
+}
+
+/// A comment's line without its marker and one blank after it.
+fn strip_marker<'i>(line: &'i str, marker: &str) -> &'i str {
+    let line = line.strip_prefix(marker).unwrap_or(line);
+    line.strip_prefix(" ").unwrap_or(line).trim_end()
+}

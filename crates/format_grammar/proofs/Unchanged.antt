@@ -1,0 +1,20 @@
+-- A text is its own formatted text where its lines and its end are clean.
+use Rattle.std.proofs.Common.{◌≡◌, refl, ℕ, List, true}
+use Rattle.front_syntax.specs.declared.entries.Entry.{Entry}
+use Rattle.format_grammar.specs.Formatting.{AreTokens, EndsOnce, IsFormatted, start}
+use Rattle.format_grammar.specs.Tokens.{has_clean_lines}
+use Rattle.format_grammar.specs.declared.LineEnds.{LineEnds}
+use Rattle.format_grammar.specs.declared.LineEnds.TheVariants.{LineFeed}
+
+pub its_own : (line_ends : LineEnds) (text : List ℕ) (entries : List Entry) → AreTokens text entries → (line_ends ≡ LineFeed → has_clean_lines text start entries ≡ true) → EndsOnce text → IsFormatted line_ends text text
+its_own line_ends text entries read lines last = record {
+  entries = entries;
+  others = entries;
+  of_text = read;
+  of_formatted = read;
+  tokens = refl;
+  comments = refl;
+  lines = lines;
+  last_line = last;
+  rules = record { same = λ rules. (λ h. h, λ h. h) };
+}

@@ -1,0 +1,53 @@
+-- Tokens and the gaps between them, without their positions.
+use Rattle.std.specs.Prelude.{ℕ, ◌-◌, ◌&&◌, List, [], ◌∷◌, Bool, true, not, length}
+use Rattle.std.specs.List.{slice_range}
+use Rattle.base_language.specs.declared.grammar.Rule.{Rule}
+use Rattle.base_language.specs.declared.grammar.Rule.TheVariants as rule_is
+use Rattle.front_syntax.specs.declared.entries.Entry.{Entry}
+use Rattle.front_syntax.specs.declared.entries.Entry.TheVariants.{Start, End}
+use Rattle.format_grammar.specs.Comments.{trimmed_line, comments_of, has_blank_end}
+
+-- the byte at which a token starts or ends
+abbrev pub place_of : Entry → ℕ
+place_of (Start r i m) = i
+place_of (End i m) = i
+
+-- an entry without its position
+abbrev pub unplaced : Entry → Entry
+unplaced (Start r i m) = Start r 0 m
+unplaced (End i m) = End 0 m
+
+-- the text of a token without children; of a doc comment without the blanks at its end
+abbrev pub token_text : Rule → List ℕ → List ℕ
+token_text rule_is.inner_doc text = trimmed_line text
+token_text _ text = text
+
+-- the text of a token without children, if two neighbouring entries are its start and its end
+abbrev pub text_between : List ℕ → Entry → Entry → List ℕ
+text_between text (Start r i m) (End j n) = token_text r (slice_range text i j)
+text_between text e f = []
+
+-- the comments of the gap between two neighbouring entries, if there is one
+abbrev pub comments_between : List ℕ → Entry → Entry → List ℕ
+comments_between text (Start r i m) (End j n) = []
+comments_between text e f = comments_of (slice_range text (place_of e) (place_of f))
+
+-- the tokens after an entry: their entries without positions, and the texts of those without children
+abbrev pub tokens_after : List ℕ → Entry → List Entry → List (Entry × List ℕ)
+tokens_after text e [] = []
+tokens_after text e (f ∷ es) = (unplaced f, text_between text e f) ∷ tokens_after text f es
+
+-- the comments of each gap after an entry
+abbrev pub comments_after : List ℕ → Entry → List Entry → List (List ℕ)
+comments_after text e [] = comments_of (slice_range text (place_of e) (length text)) ∷ []
+comments_after text e (f ∷ es) = comments_between text e f ∷ comments_after text f es
+
+-- whether no line ends with a blank between two neighbouring entries, or in a doc comment before them
+abbrev pub is_clean_between : List ℕ → Entry → Entry → Bool
+is_clean_between text (Start r i m) (End j n) = true
+is_clean_between text e f = not (has_blank_end (slice_range text (place_of e - 1) (place_of f)))
+
+-- whether no line ends with a blank in all gaps after an entry
+abbrev pub has_clean_lines : List ℕ → Entry → List Entry → Bool
+has_clean_lines text e [] = true
+has_clean_lines text e (f ∷ es) = is_clean_between text e f && has_clean_lines text f es

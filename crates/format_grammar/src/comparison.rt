@@ -1,0 +1,246 @@
+//! Whether two texts have the same tokens and the same comments.
+ghost use Rattle.std.specs.Prelude.{◌≡◌, ◌-◌, IfOk, length, true};
+ghost use Rattle.std.specs.List.{slice_range};
+ghost use Rattle.format_grammar.specs.Comments as comment;
+ghost use Rattle.format_grammar.specs.Formatting.{EndsOnce};
+ghost use Rattle.format_grammar.specs.Tokens as token;
+ghost use Rattle.front_syntax.specs.declared.entries.Entry.TheVariants.{End};
+
+use crate::contents::{comments_of, has_blank_end, is_all_white, trim_lines};
+use base_language::derived::equality_of_rules;
+use base_language::grammar::Rule;
+use front_syntax::entries::Entry;
+use std::alloc::{AllocError, Global};
+
+/// Returns the bytes `start..end`, up to the end of the text.
+fn part(text: &[u8], start: usize, end: usize) -> &[u8]
+    ensures { result.now ≡ slice_range text.entry.now start end }
+{
+    let end = end.min(text.len());
+    if start < end {
+        &text[start..end]
+    } else {
+        &text[..0]
+    }
+}
+
+/// Returns the byte at which a token starts or ends.
+fn place_of(entry: Entry) -> usize
+    ensures { result ≡ token.place_of entry }
+{
+    match entry {
+        Entry::Start { pos, .. } => pos,
+        Entry::End { pos, .. } => pos,
+    }
+}
+
+/// Returns whether two rules are the same.
+fn is_same_rule(rule: Rule, other: Rule) -> bool
+    ensures { result ≡ true → rule ≡ other }
+{
+    equality_of_rules();
+    rule == other
+}
+
+/// Returns whether two entries are equal, but for their positions.
+fn is_same_entry(entry: Entry, other: Entry) -> bool
+    ensures { result ≡ true → token.unplaced entry ≡ token.unplaced other }
+{
+    match (entry, other) {
+        (
+            Entry::Start { rule, partner, .. },
+            Entry::Start {
+                rule: other_rule,
+                partner: other_partner,
+                ..
+            },
+        ) => is_same_rule(rule, other_rule) && partner == other_partner,
+        (
+            Entry::End { partner, .. },
+            Entry::End {
+                partner: other_partner,
+                ..
+            },
+        ) => partner == other_partner,
+        _ => false,
+    }
+}
+
+/// Returns whether two pieces, of tokens without children, are equal: of doc comments without the blanks at
+/// their ends.
+fn is_same_token(
+    alloc: Global,
+    rule: Rule,
+    text: &[u8],
+    other_rule: Rule,
+    other: &[u8],
+) -> Result<bool, AllocError>
+    ensures { IfOk result (λ same. same ≡ true
+        → token.token_text rule text.now ≡ token.token_text other_rule other.now) }
+{
+    if !is_same_rule(rule, other_rule) {
+        return Ok(false);
+    }
+    if text == other {
+        return Ok(true);
+    }
+    match rule {
+        Rule::inner_doc => is_same_line(alloc, text, other),
+        _ => Ok(false),
+    }
+}
+
+/// Returns whether two pieces are the same without the blanks at the ends of their lines.
+fn is_same_line(alloc: Global, text: &[u8], other: &[u8]) -> Result<bool, AllocError>
+    ensures { IfOk result (λ same. same ≡ true
+        → comment.trimmed_line text.now ≡ comment.trimmed_line other.now) }
+{
+    let line = trim_lines(alloc, text)?;
+    let other_line = trim_lines(alloc, other)?;
+    Ok(line.as_slice() == other_line.as_slice())
+}
+
+/// Returns whether two gaps are white space alone.
+#[tactic(auto, using(crate::proofs::WhiteGaps::same_white))]
+fn are_white(gap: &[u8], other: &[u8]) -> bool
+    ensures { result ≡ true → comment.comments_of gap.now ≡ comment.comments_of other.now }
+{
+    is_all_white(gap) && is_all_white(other)
+}
+
+/// Returns whether two gaps have the same comments.
+fn is_same_gap(alloc: Global, gap: &[u8], other: &[u8]) -> Result<bool, AllocError>
+    ensures { IfOk result (λ same. same ≡ true
+        → comment.comments_of gap.now ≡ comment.comments_of other.now) }
+{
+    if gap == other {
+        return Ok(true);
+    }
+    if are_white(gap, other) {
+        return Ok(true);
+    }
+    let comments = comments_of(alloc, gap)?;
+    let other_comments = comments_of(alloc, other)?;
+    Ok(comments.as_slice() == other_comments.as_slice())
+}
+
+/// Returns whether two texts are the same between the entry of a cursor and another one.
+fn is_same_between(
+    alloc: Global,
+    text: &[u8],
+    last: Entry,
+    entry: Entry,
+    other: &[u8],
+    other_last: Entry,
+    other_entry: Entry,
+) -> Result<bool, AllocError>
+    ensures tokens { IfOk result (λ same. same ≡ true
+        → token.text_between text.now last entry ≡ token.text_between other.now other_last other_entry) }
+    ensures comments { IfOk result (λ same. same ≡ true
+        → token.comments_between text.now last entry
+        ≡ token.comments_between other.now other_last other_entry) }
+{
+    match (last, entry, other_last, other_entry) {
+        (
+            Entry::Start { rule, pos, .. },
+            Entry::End { pos: end, .. },
+            Entry::Start {
+                rule: other_rule,
+                pos: other_pos,
+                ..
+            },
+            Entry::End { pos: other_end, .. },
+        ) => is_same_token(
+            alloc,
+            rule,
+            part(text, pos, end),
+            other_rule,
+            part(other, other_pos, other_end),
+        ),
+        (Entry::Start { .. }, Entry::End { .. }, _, _) => Ok(false),
+        (_, _, Entry::Start { .. }, Entry::End { .. }) => Ok(false),
+        _ => is_same_gap(
+            alloc,
+            part(text, place_of(last), place_of(entry)),
+            part(other, place_of(other_last), place_of(other_entry)),
+        ),
+    }
+}
+
+/// Returns whether two texts have the same tokens and the same comments.
+pub fn is_same(
+    alloc: Global,
+    text: &[u8],
+    entries: &[Entry],
+    other: &[u8],
+    others: &[Entry],
+) -> Result<bool, AllocError>
+    ensures tokens { IfOk result (λ same. same ≡ true
+        → token.tokens_after text.now (End 0 0) entries.now
+        ≡ token.tokens_after other.now (End 0 0) others.now) }
+    ensures comments { IfOk result (λ same. same ≡ true
+        → token.comments_after text.now (End 0 0) entries.now
+        ≡ token.comments_after other.now (End 0 0) others.now) }
+{
+    let mut last = Entry::End { pos: 0, partner: 0 };
+    let mut other_last = last;
+    let mut rest = entries;
+    let mut other_rest = others;
+    while let Some((entry, after)) = rest.split_first() {
+        let Some((other_entry, other_after)) = other_rest.split_first() else {
+            return Ok(false);
+        };
+        let is_same = is_same_entry(*entry, *other_entry)
+            && is_same_between(alloc, text, last, *entry, other, other_last, *other_entry)?;
+        if !is_same {
+            return Ok(false);
+        }
+        last = *entry;
+        other_last = *other_entry;
+        rest = after;
+        other_rest = other_after;
+    }
+    if !other_rest.is_empty() {
+        return Ok(false);
+    }
+    let gap = part(text, place_of(last), text.len());
+    is_same_gap(alloc, gap, part(other, place_of(other_last), other.len()))
+}
+
+/// Returns whether no line ends with a blank between two neighbouring entries, or in a doc comment before
+/// them.
+fn is_clean_between(text: &[u8], last: Entry, entry: Entry) -> bool
+    ensures { result ≡ true → token.is_clean_between text.now last entry ≡ true }
+{
+    match (last, entry) {
+        (Entry::Start { .. }, Entry::End { .. }) => true,
+        _ => !has_blank_end(part(text, place_of(last).saturating_sub(1), place_of(entry))),
+    }
+}
+
+/// Returns whether no line ends with a blank in a gap or a doc comment.
+pub fn has_clean_lines(text: &[u8], entries: &[Entry]) -> bool
+    ensures { result ≡ true → token.has_clean_lines text.now (End 0 0) entries.now ≡ true }
+{
+    let mut last = Entry::End { pos: 0, partner: 0 };
+    let mut rest = entries;
+    while let Some((entry, after)) = rest.split_first() {
+        if !is_clean_between(text, last, *entry) {
+            return false;
+        }
+        last = *entry;
+        rest = after;
+    }
+    true
+}
+
+/// Returns whether a text is empty, or ends with one line feed.
+pub fn ends_once(text: &[u8]) -> bool
+    ensures { result ≡ true → EndsOnce text.now }
+{
+    let length = text.len();
+    if length < 2 {
+        return length == 0;
+    }
+    text[length - 1] == b'\n' && text[length - 2] != b'\n'
+}

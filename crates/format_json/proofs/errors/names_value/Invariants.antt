@@ -1,0 +1,8 @@
+use Rattle.std.proofs.Common.{◌≡◌, map, take}
+use Rattle.serde_json.specs.Data.{string}
+use Rattle.serde_json.specs.View.{view}
+use Rattle.format_json.proofs.errors.names_value.Given as goal
+
+-- what is written are the names so far
+abbrev pub invariant-loop-name : goal.invariant-loop-name
+invariant-loop-name l = map view l.values.items ≡ map (λ name. string name.now) (take l.name-index l.names)

@@ -1,0 +1,76 @@
+-- The trees that a text spells for a rule.
+use Rattle.std.specs.Prelude.{◌≡◌, List, [], ◌∷◌, ℕ, chars, ⊤}
+use Rattle.base_language.specs.Language.Expression.{Ident}
+use Rattle.base_language.specs.Language.State.{NonAtomicMode, State, Trees, Outcome, Success, Failure, Classes}
+use Rattle.base_language.specs.Language.Meaning.{Matches}
+use Rattle.base_language.specs.Language.FurthestFailure.{furthest}
+use Rattle.base_language.specs.Pieces.MetaRules.{name_of}
+use Rattle.base_language.specs.declared.grammar.Rule.{Rule}
+use Rattle.base_language.specs.declared.grammar.Rule.TheVariants as rule_is
+use Rattle.front_syntax.specs.declared.entries.Entry.{Entry}
+use Rattle.base_language.specs.Pieces.NamedTrees.{named}
+use Rattle.base_language.specs.Pieces.Pairs.{pairs_text, pairs_trees}
+use Rattle.base_language.specs.Pieces.LineColumn.{line_column}
+use Rattle.base_language.specs.Pieces.PrintedError.{error_line, printed_line}
+use Rattle.base_language.specs.declared.runtime.tokens.Pairs.{Pairs}
+use Rattle.base_language.specs.declared.runtime.errors.Error.{Error}
+use Rattle.base_language.specs.declared.runtime.errors.ErrorVariant.TheVariants.{ParsingError}
+use Rattle.base_language.specs.declared.runtime.errors.InputLocation.TheVariants as at
+use Rattle.base_language.specs.declared.runtime.errors.LineColLocation.TheVariants as in_lines
+use Rattle.base_language.specs.declared.runtime.faults.Fault.{Fault}
+use Rattle.base_language.specs.declared.runtime.faults.Fault.TheVariants as fault_is
+use Rattle.front_syntax.specs.Entries.{entries_of, named_entries}
+use Rattle.front_syntax.specs.MetaGrammar.{meta_grammar}
+
+-- the start of a text, with the empty stack
+abbrev pub start_of : List ℕ → State
+start_of text = record { position = 0; rest = chars text; stack = [] }
+
+-- the rule, called in NonAtomic at the start of the text, has this outcome
+abbrev pub Recognizes : Rule → List ℕ → Classes → Outcome → Type 0
+Recognizes rule text classes o =
+    Matches meta_grammar classes (Ident (name_of rule)) NonAtomicMode (start_of text) o
+
+-- the text spells these trees for the rule, whatever the classes are
+abbrev pub Spells : Rule → List ℕ → Trees → Type 0
+Spells rule text us = (classes : Classes) → (t : State) × Recognizes rule text classes (Success t us)
+
+-- these are the entries of trees that the text spells
+abbrev pub AreTokensOf : Rule → List ℕ → List Entry → Type 0
+AreTokensOf rule text es = (us : Trees) × Spells rule text us × (named_entries es ≡ entries_of 0 us)
+
+-- the pairs are all those that their text spells for the rule
+abbrev pub AreSpelled : Rule → Pairs Rule → Type 0
+AreSpelled rule pairs = Spells rule (pairs_text pairs) (named (pairs_trees pairs))
+
+-- the pairs are all those of a parse of a grammar
+abbrev pub AreOfAGrammar : Pairs Rule → Type 0
+AreOfAGrammar pairs = AreSpelled rule_is.grammar_rules pairs
+
+-- the rule fails, for all classes, and this is the position of the failure
+abbrev pub FailsAt : Rule → List ℕ → ℕ → Type 0
+FailsAt rule text place =
+    (classes : Classes) → (d : Recognizes rule text classes Failure) × (place ≡ furthest d)
+
+-- the errors are one syntax error, at a position of a text
+pub record IsSyntaxError (text : List ℕ) (place : ℕ) (errors : List (Error Rule)) : Type 0 where
+  pub error : Error Rule
+  pub one : errors ≡ error ∷ []
+  pub variant : error.variant ≡ ParsingError
+  pub location : error.location ≡ at.Pos place
+  pub line_col : error.line_col ≡ in_lines.Pos (line_column text place)
+  pub line : error_line error ≡ printed_line text place
+
+abbrev pub IsSyntaxErrorOrMemory : List ℕ → ℕ → Fault → Type 0
+IsSyntaxErrorOrMemory text place (fault_is.Memory e) = ⊤
+IsSyntaxErrorOrMemory text place (fault_is.Grammar errors) = IsSyntaxError text place errors.items
+
+-- one syntax error at the position where the rule fails, unless memory is refused
+pub record IsRefused (rule : Rule) (text : List ℕ) (errors : List (Error Rule)) : Type 0 where
+  pub place : ℕ
+  pub fails : FailsAt rule text place
+  pub says : IsSyntaxError text place errors
+
+abbrev pub ParseRefuses : Rule → List ℕ → Fault → Type 0
+ParseRefuses rule text (fault_is.Memory e) = ⊤
+ParseRefuses rule text (fault_is.Grammar errors) = IsRefused rule text errors.items

@@ -1,0 +1,99 @@
+//! The rules of the meta-grammar, and the trees that a text spells for one of them.
+ghost use Rattle.std.specs.Prelude.{◌≡◌, alloc_error, IfErr, IfOk, MatchResult};
+ghost use Rattle.std.specs.Str.{IsCharBoundary};
+ghost use Rattle.base_language.specs.Pieces.Pairs.{pairs_text};
+ghost use Rattle.front_syntax.specs.Entries.{IsWhole, named_entries};
+ghost use Rattle.front_syntax.specs.ExpectedRules.{AreExpected, ExpectsNothing};
+ghost use Rattle.front_syntax.specs.Parses.{AreSpelled, IsSyntaxError, IsSyntaxErrorOrMemory, ParseRefuses, AreTokensOf};
+
+pub use crate::entries::Entry;
+use crate::expecting::expected_rules;
+use crate::modes::Mode;
+use crate::recognize::Recognizer;
+use crate::trees::from_entries;
+pub use base_language::grammar::Rule;
+use base_language::runtime::{Error, ErrorVariant, Fault, Pairs, Position};
+use std::alloc::{AllocError, Global};
+
+/// The parser of the meta-grammar.
+#[derive(Clone, Copy, Debug, PartialEq, Eq)]
+pub struct PestParser;
+
+impl PestParser {
+    /// Returns the pairs that the text spells for a rule, from its start on, or one error at the position
+    /// of the failure.
+    ///
+    /// The rule is matched by the meaning of expressions over the meta-grammar at position 0, in NonAtomic,
+    /// with the empty stack. A match may stop before the end, except where the rule asks for `EOI`.
+    /// `Rule::EOI` gives one pair from 0 to 0 on the empty text, and fails at 0 elsewhere.
+    ///
+    /// The error is a `ParsingError` at the greatest position, in bytes, at which a rule that gives a
+    /// token, or `EOI`, was called and failed, in a mode other than Atomic and in any branch; at 0 where
+    /// there is none. Any other fault is an allocation failure.
+    pub fn parse(alloc: Global, rule: Rule, text: &str) -> Result<Pairs<'_, Rule>, Fault>
+        ensures text { IfOk result (λ pairs. pairs_text pairs ≡ text.entry.now) }
+        ensures spelled { MatchResult result (AreSpelled rule) (ParseRefuses rule text.entry.now) }
+    {
+        let entries = PestParser::tokens(alloc, rule, text)?;
+        let trees = from_entries(alloc, &entries)?;
+        Ok(Pairs::new(text, trees))
+    }
+
+    /// Returns the trees that the text spells for a rule as one flat list: an entry where a tree starts and
+    /// one where it ends, in order, with the index of the other. Positions are in bytes. The errors are
+    /// those of `parse`.
+    pub fn tokens(alloc: Global, rule: Rule, text: &str) -> Result<Vec<Entry>, Fault>
+        ensures trees { MatchResult result
+            (λ v. AreTokensOf rule text.now v.items) (ParseRefuses rule text.now) }
+        ensures whole { IfOk result (λ v. IsWhole 0 (named_entries v.items)) }
+    {
+        let mut recognizer = Recognizer::new(alloc);
+        let Some(_) = recognizer.recognize(alloc, text, rule, Mode::NonAtomic)? else {
+            return Err(syntax_error(alloc, text, recognizer.furthest));
+        };
+        Ok(recognizer.into_entries())
+    }
+
+    /// Returns the expected set at the position of the error of `parse`, `EOI` included, in the order of the
+    /// meta-grammar (`EOI` first), without repetitions.
+    ///
+    /// A rule is expected there if a call of it that began at that position failed, gives a token, was made
+    /// in a mode other than Atomic and not below a `!`, and is within no other such call. The list is empty
+    /// where `parse` gives pairs, and where all failures at that position were below a `!`.
+    ///
+    /// A text that fails is read twice, and another one once: call this where `parse` refused the text. The
+    /// only error is allocation failure.
+    pub fn expected_set(alloc: Global, rule: Rule, text: &str) -> Result<Vec<Rule>, AllocError>
+        ensures nothing { IfOk result (λ rules. ExpectsNothing rule text.now rules.items) }
+        ensures expected { IfOk result (λ rules. AreExpected rule text.now rules.items) }
+    {
+        let mut recognizer = Recognizer::new(alloc);
+        match recognizer.recognize(alloc, text, rule, Mode::NonAtomic)? {
+            Some(_) => Ok(Vec::new(alloc)),
+            None => expected_rules(alloc, rule, text, recognizer.furthest),
+        }
+    }
+}
+
+/// Returns the fault of a text with one syntax error, at a byte position on a character boundary; or the
+/// allocation failure of it.
+fn syntax_error(alloc: Global, text: &str, place: usize) -> Fault
+    requires { IsCharBoundary text.now place }
+    ensures { IsSyntaxErrorOrMemory text.now place result }
+{
+    match syntax_errors(alloc, text, place) {
+        Ok(errors) => Fault::Grammar(errors),
+        Err(fault) => fault,
+    }
+}
+
+/// Returns a list of one syntax error at a byte position.
+fn syntax_errors(alloc: Global, text: &str, place: usize) -> Result<Vec<Error<Rule>>, Fault>
+    requires { IsCharBoundary text.now place }
+    ensures one { IfOk result (λ errors. IsSyntaxError text.now place errors.items) }
+    ensures memory { IfErr result (λ fault. fault ≡ Fault.Memory alloc_error) }
+{
+    let position = Position::new(text, place).unwrap();
+    let error = Error::new_from_pos(alloc, ErrorVariant::ParsingError, position)?;
+    Ok(vec![in alloc; error]?)
+}

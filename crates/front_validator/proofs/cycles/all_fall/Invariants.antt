@@ -1,0 +1,7 @@
+use Rattle.std.proofs.Common.{◌≡◌, ◌<◌, ℕ, Some, slice_get}
+use Rattle.front_validator.specs.Cycles.{Falls, rank_at}
+use Rattle.front_analysis.specs.declared.kind_table.NodeKind.{NodeKind}
+use Rattle.front_validator.proofs.cycles.all_fall.Given as goal
+
+abbrev pub invariant-loop-node : goal.invariant-loop-node
+invariant-loop-node l = (i : ℕ) → i < l.node → (k : NodeKind) → slice_get l.facts.table.kinds.items i ≡ Some k → Falls l.facts l.order (rank_at l.order i) k

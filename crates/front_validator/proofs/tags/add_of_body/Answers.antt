@@ -1,0 +1,17 @@
+use Rattle.front_spanned.specs.Nodes.{view}
+use Rattle.front_spanned.proofs.Walks.{waiting_on, waits_less, walk_step}
+use Rattle.front_analysis.specs.Names.{grammar_of}
+use Rattle.front_validator.specs.Tags.{of_tag}
+use Rattle.front_validator.proofs.tags.add_of_body.Goals as goal
+
+pub loop-next-smaller : goal.loop-next-smaller
+loop-next-smaller c =
+    waits_less c.loop-next.stack.items c.pop.new.self.items c.push_operands.new.stack.items c.in-Some.next
+    c.in-Some.ensures.items c.in_ok-push_operands.ensures
+
+pub loop-next-preserved : goal.loop-next-preserved
+loop-next-preserved c =
+    walk_step (of_tag (grammar_of c.args.rules.now)) _ _ _ _ _ (view c.in-Some.next.now) c.in_ok-add_of_node.ensures
+    (waiting_on c.loop-next.stack.items c.pop.new.self.items c.push_operands.new.stack.items c.in-Some.next
+    c.in-Some.ensures.items c.in_ok-push_operands.ensures)
+    c.loop-next.invariant

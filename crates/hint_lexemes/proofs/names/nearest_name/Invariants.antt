@@ -1,6 +1,0 @@
-use Rattle.std.specs.Prelude.{Contains, IfSome}
-use Rattle.hint_lexemes.specs.Lexemes.{bytes_of}
-use Rattle.hint_lexemes.proofs.names.nearest_name.Given as goal
-
-abbrev pub invariant-loop-other : goal.invariant-loop-other
-invariant-loop-other l = IfSome l.best (λ found. Contains (bytes_of l.names) found.now)

@@ -1,4 +1,0 @@
-use Rattle.language_features.proofs.formatting.edit_to.Goals as goal
-
-pub returns : goal.returns
-returns c = rw c.shown.ensures at c.edit_at.ensures

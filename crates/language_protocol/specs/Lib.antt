@@ -1,6 +1,0 @@
-pub mod Asked
-pub mod Changes
-pub mod Clients
-pub mod Documents
-pub mod Messages
-pub mod Values

@@ -1,0 +1,4 @@
+pub mod Diagnosing
+pub mod Listing
+pub mod Ends
+pub mod Forms

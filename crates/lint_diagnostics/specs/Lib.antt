@@ -1,0 +1,3 @@
+pub mod Diagnosis
+pub mod Differences
+pub mod Messages

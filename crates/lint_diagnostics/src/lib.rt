@@ -1,0 +1,288 @@
+//! The diagnostics of a grammar's text: errors, or else warnings, and texts on which a rule ends
+//! otherwise as pest runs it than as it is written.
+#![tactic(auto)]
+
+mod comparer;
+mod difference;
+mod samples;
+mod texts;
+
+ghost use Rattle.std.specs.Prelude.{◌≡◌, ℕ, Bool, IfOk, IfSome, List, OnOk, chars, false, string_bytes, true};
+ghost use Rattle.std.specs.List.{AllZip, list_any};
+ghost use Rattle.lint_findings.specs.Codes.{chosen_warnings};
+ghost use Rattle.lint_findings.specs.Reports.{ReportsError, ReportsWarning, is_error};
+ghost use Rattle.lint_diagnostics.specs.Diagnosis.{IsDiagnosis, IsDiagnosisWith, IsFullDiagnosis};
+ghost use Rattle.lint_diagnostics.specs.Diagnosis.{AreTrueNotes, IfSpells, ReportRules, ReportWarnings};
+ghost use Rattle.lint_diagnostics.specs.Diagnosis.{ReportsList};
+ghost use Rattle.lint_diagnostics.specs.Differences.{IsComparer};
+ghost use Rattle.lint_diagnostics.specs.Messages.{ReportsDifference};
+ghost use Rattle.front_spanned.specs.Nodes.{piece_of, rule_views};
+ghost use Rattle.lint_warnings.specs.Lists.{texts_of};
+ghost use Rattle.pest_meta.specs.Spelling.{HasAnswer};
+
+pub use crate::comparer::Comparer;
+pub use crate::difference::{Difference, RuleEnd};
+use base_ast::deep::Deep;
+use base_ast::optimized::release;
+use base_language::grammar::Rule;
+use base_language::runtime::{Error, Fault, Span};
+use front_spanned::ParserRule;
+pub use lint_findings::{ALL_CODES, Code, Diagnostic, Fix, Help, Options, Related, Severity};
+use lint_findings::{
+    diagnose_all_rules, diagnose_errors, diagnose_list, diagnose_rules, leave_out_allowed,
+};
+use lint_patterns::rewritten_lists;
+use pest_meta::parser::{PestParser, common_name};
+use pest_meta::{optimize_with_spans, parse_with_spans};
+use std::alloc::{AllocError, Global};
+
+/// How many warnings of rewritten lists have a note.
+const MOST_NOTES: usize = 10;
+
+/// The most rules of a grammar whose warnings have notes, since these take two more runs of the front end.
+const MOST_RULES: usize = 200;
+
+/// The diagnostics of a text: the errors with which `parse_and_optimize` refuses it, in their order, or else
+/// its warnings, but for those that comments allow. The only error is an allocation failure.
+pub fn diagnose(
+    alloc: Global,
+    text: &str,
+    options: Options<'_>,
+) -> Result<Vec<Diagnostic>, AllocError>
+    ensures diagnosis { IfOk result (λ diagnostics. IsDiagnosis (texts_of options.entry.starts.now) text.now
+        diagnostics.items) }
+    ensures accepted { IfOk result (λ diagnostics.
+        list_any is_error diagnostics.items ≡ false → HasAnswer text.now) }
+{
+    diagnose_with(alloc, text, options.starts, false)
+}
+
+/// The diagnostics of a text, as by `diagnose`, and the warnings that are reported only where all are asked
+/// for.
+pub fn diagnose_all(
+    alloc: Global,
+    text: &str,
+    options: Options<'_>,
+) -> Result<Vec<Diagnostic>, AllocError>
+    ensures diagnosis { IfOk result (λ diagnostics. IsFullDiagnosis (texts_of options.entry.starts.now)
+        text.now diagnostics.items) }
+    ensures accepted { IfOk result (λ diagnostics.
+        list_any is_error diagnostics.items ≡ false → HasAnswer text.now) }
+{
+    diagnose_with(alloc, text, options.starts, true)
+}
+
+/// The diagnostics of a text, with all warnings or not.
+fn diagnose_with(
+    alloc: Global,
+    text: &str,
+    starts: &[&str],
+    has_all: bool,
+) -> Result<Vec<Diagnostic>, AllocError>
+    ensures diagnosis { IfOk result (λ diagnostics. IsDiagnosisWith has_all (texts_of starts.now) text.now
+        diagnostics.items) }
+    ensures accepted { IfOk result (λ diagnostics.
+        list_any is_error diagnostics.items ≡ false → HasAnswer text.now) }
+{
+    match parse_with_spans(alloc, text) {
+        Ok((_, rules)) => diagnose_accepted(alloc, text, rules, starts, has_all),
+        Err(Fault::Grammar(errors)) => diagnose_refused(alloc, text, &errors),
+        Err(Fault::Memory(error)) => Err(error),
+    }
+}
+
+/// The diagnostics of the errors with which a text is refused.
+fn diagnose_refused(
+    alloc: Global,
+    text: &str,
+    errors: &[Error<Rule>],
+) -> Result<Vec<Diagnostic>, AllocError>
+    ensures { IfOk result (λ diagnostics. AllZip ReportsError errors.now diagnostics.items) }
+{
+    let expected = expected_names(alloc, text)?;
+    diagnose_errors(alloc, text, errors, &expected)
+}
+
+/// The expected set of a text's syntax error, by name, in the order of the meta-grammar.
+fn expected_names(alloc: Global, text: &str) -> Result<Vec<&'static str>, AllocError> {
+    let rules = PestParser::expected_set(alloc, Rule::grammar_rules, text)?;
+    let mut names = Vec::new(alloc);
+    for rule in &rules {
+        names.push(common_name(*rule))?;
+    }
+    Ok(names)
+}
+
+/// The warnings of an accepted text, all of them or not. `rules` are those of `parse_with_spans`.
+fn diagnose_accepted(
+    alloc: Global,
+    text: &str,
+    rules: Vec<ParserRule<'_>>,
+    starts: &[&str],
+    has_all: bool,
+) -> Result<Vec<Diagnostic>, AllocError>
+    ensures warnings { IfOk result (λ diagnostics. IfSpells text.now (rule_views rules.entry.items)
+        (ReportWarnings has_all (texts_of starts.now) text.now diagnostics.items)) }
+    ensures answer { OnOk result (IfSpells text.now (rule_views rules.entry.items) (HasAnswer text.now)) }
+{
+    let rules = Deep { value: rules };
+    let diagnostics = warn_of(alloc, text, &rules.value, starts, has_all)?;
+    let left = leave_out_allowed(alloc, text, &rules.value, diagnostics)?;
+    find_answer(alloc, rules.into_inner())?;
+    Ok(left)
+}
+
+/// Optimizes the rules of an accepted text: so it has an answer.
+fn find_answer(alloc: Global, rules: Vec<ParserRule<'_>>) -> Result<(), AllocError>
+    ensures { OnOk result ((text : List ℕ)
+        → IfSpells text (rule_views rules.entry.items) (HasAnswer text)) }
+{
+    match optimize_with_spans(alloc, rules) {
+        Ok(optimized) => {
+            release(optimized);
+            Ok(())
+        }
+        Err(_) => Err(AllocError),
+    }
+}
+
+/// The warnings of rules that a text spells, all of them or not.
+fn warn_of(
+    alloc: Global,
+    text: &str,
+    rules: &[ParserRule<'_>],
+    starts: &[&str],
+    has_all: bool,
+) -> Result<Vec<Diagnostic>, AllocError>
+    ensures { IfOk result (λ diagnostics. ReportRules has_all (texts_of starts.now) text.now
+        (rule_views rules.now) diagnostics.items) }
+{
+    let mut diagnostics = warn_of_codes(alloc, rules, starts, has_all)?;
+    let names = rewritten_lists(alloc, rules)?;
+    let mut others = diagnose_lists(alloc, text, rules, &names)?;
+    diagnostics.append(&mut others)?;
+    Ok(diagnostics)
+}
+
+/// The warnings of rules with these names, in which pest runs a list otherwise than it is written.
+fn diagnose_lists(
+    alloc: Global,
+    text: &str,
+    rules: &[ParserRule<'_>],
+    names: &[Span<'_>],
+) -> Result<Vec<Diagnostic>, AllocError>
+    ensures { IfOk result (λ diagnostics. AllZip (λ name. ReportsList text.now (piece_of name)) names.now
+        diagnostics.items) }
+{
+    if names.is_empty() {
+        return Ok(Vec::new(alloc));
+    }
+    let comparer = comparer_of(alloc, text, rules.len())?;
+    compare_lists(alloc, &comparer, rules, names)
+}
+
+/// The rules of a text in both forms, or in none where there are too many rules.
+fn comparer_of(alloc: Global, text: &str, count: usize) -> Result<Comparer<'_>, AllocError>
+    ensures grammar { IfOk result (λ comparer. comparer.grammar.now ≡ text.entry.now) }
+    ensures forms { IfOk result IsComparer }
+{
+    if count > MOST_RULES {
+        return Ok(Comparer {
+            grammar: text,
+            forms: None,
+        });
+    }
+    Comparer::new(alloc, text)
+}
+
+/// The same warnings, with the rules of the text in both forms.
+fn compare_lists(
+    alloc: Global,
+    comparer: &Comparer<'_>,
+    rules: &[ParserRule<'_>],
+    names: &[Span<'_>],
+) -> Result<Vec<Diagnostic>, AllocError>
+    requires { IsComparer comparer.now }
+    ensures { IfOk result (λ diagnostics.
+        AllZip (λ name. ReportsList comparer.now.grammar.now (piece_of name)) names.now diagnostics.items) }
+{
+    let mut diagnostics = Vec::new(alloc);
+    for name in names {
+        let notes = notes_of(alloc, comparer, rules, *name, diagnostics.len())?;
+        let diagnostic = diagnose_list(alloc, *name, notes)?;
+        diagnostics.push(diagnostic)?;
+    }
+    Ok(diagnostics)
+}
+
+/// The note for the warning of that number, of a rule with this name: a text on which the rule ends otherwise
+/// as pest runs it. None where none is found, and after some warnings.
+fn notes_of(
+    alloc: Global,
+    comparer: &Comparer<'_>,
+    rules: &[ParserRule<'_>],
+    name: Span<'_>,
+    number: usize,
+) -> Result<Vec<Related>, AllocError>
+    requires { IsComparer comparer.now }
+    ensures { IfOk result (λ notes.
+        AreTrueNotes comparer.now.grammar.now (piece_of name.entry) notes.items) }
+{
+    let mut notes = Vec::new(alloc);
+    if number >= MOST_NOTES {
+        return Ok(notes);
+    }
+    let Some(message) = find_difference(alloc, comparer, name.as_str())? else {
+        return Ok(notes);
+    };
+    let (start, end) = body_of(rules, name);
+    notes.push(Related {
+        start,
+        end,
+        message,
+    })?;
+    Ok(notes)
+}
+
+/// The bytes of the body of the rule whose name this is.
+fn body_of(rules: &[ParserRule<'_>], name: Span<'_>) -> (usize, usize) {
+    for rule in rules {
+        if rule.span.start() == name.start() {
+            return (rule.node.span.start(), rule.node.span.end());
+        }
+    }
+    (name.start(), name.end())
+}
+
+/// A message about a text on which the rule of a name ends otherwise as pest runs it, if one is found.
+fn find_difference(
+    alloc: Global,
+    comparer: &Comparer<'_>,
+    rule: &str,
+) -> Result<Option<String>, AllocError>
+    requires { IsComparer comparer.now }
+    ensures { IfOk result (λ found. IfSome found (λ message.
+        ReportsDifference comparer.now.grammar.now (chars rule.now) (string_bytes message))) }
+{
+    match comparer.distinguishing_text(alloc, rule)? {
+        Some(difference) => difference.message(alloc),
+        None => Ok(None),
+    }
+}
+
+/// The warnings of rules but for those of lists.
+fn warn_of_codes(
+    alloc: Global,
+    rules: &[ParserRule<'_>],
+    starts: &[&str],
+    has_all: bool,
+) -> Result<Vec<Diagnostic>, AllocError>
+    ensures { IfOk result (λ diagnostics. AllZip ReportsWarning
+        (chosen_warnings has_all (texts_of starts.now) (rule_views rules.now)) diagnostics.items) }
+{
+    if has_all {
+        diagnose_all_rules(alloc, rules, starts)
+    } else {
+        diagnose_rules(alloc, rules, starts)
+    }
+}

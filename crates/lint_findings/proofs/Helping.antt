@@ -1,0 +1,38 @@
+-- Helps of errors.
+use Rattle.std.proofs.Common.{◌≡◌, ◌∙◌, ◌+◌, ◌<◌, ℕ, List, [], ◌∷◌, ◌++◌, Bor, Err, IfOk, IfSome, None, Ok, Option, Result, Some, ap, ap₂, get_or, inl, inr, length, map, string_bytes, sym, take}
+use Rattle.std.proofs.lemmas.List.{map-append, take_more}
+use Rattle.std.specs.Prelude.{IsSomeAnd, codes}
+use Rattle.lint_findings.specs.Helps.{IsCustomHelp, IsListedHelp, IsSuggestion}
+use Rattle.lint_findings.specs.declared.codes.Code.{Code}
+use Rattle.lint_findings.specs.declared.codes.Code.TheVariants as code
+use Rattle.front_names.specs.Builtins.{name_of}
+use Rattle.front_names.specs.declared.builtin.Builtin.{Builtin}
+use Rattle.lint_hints.specs.Hints.{IsReplacement}
+use Rattle.lint_hints.specs.declared.help.Fix.{Fix}
+use Rattle.lint_hints.specs.declared.help.Help.{Help}
+
+-- a suggestion is a help for an undefined name
+pub suggested : {E : Type 0} (c : Code) (result : Result (Option Help) E) → c ≡ code.UndefinedRule → IfOk result (λ help. IfSome help IsSuggestion) → IfOk result (IsCustomHelp c)
+suggested c (Ok help) e s = inr (e, s)
+suggested c (Err x) e s = tt
+
+-- and one that is listed for its code
+pub listed : {E : Type 0} (c : Code) (result : Result (Option Help) E) → IfOk result (IsListedHelp c) → IfOk result (IsCustomHelp c)
+listed c (Ok help) l = inl l
+listed c (Err x) l = tt
+
+-- the message has the text of the fix
+pub suggests : (fix : Option Fix) (message : List ℕ) (start end : ℕ) (name : List ℕ) → IsSomeAnd fix (IsReplacement start end name) → message ≡ codes "did you mean `" ++ (name ++ codes "`?")
+    → IsSomeAnd fix (λ f. message ≡ codes "did you mean `" ++ (string_bytes f.replacement ++ codes "`?"))
+suggests None message start end name h e = absurd h
+suggests (Some f) message start end name h e = e ∙ ap (λ t. codes "did you mean `" ++ (t ++ codes "`?")) (sym h.written)
+
+-- the name of one builtin more
+pub one_name_more : (bs : List Builtin) (i : ℕ) (d : Builtin) (old new : List (Bor (List ℕ))) (n : Bor (List ℕ)) → i < length bs → new ≡ old ++ n ∷ [] → n.now ≡ name_of (get_or bs i d)
+    → map (λ name. name.now) old ≡ map name_of (take i bs) → map (λ name. name.now) new ≡ map name_of (take (i + 1) bs)
+one_name_more bs i d old new n h e a o =
+    let now : Bor (List ℕ) → List ℕ = λ name. name.now in
+    ap (map now) e
+    ∙ (map-append now old (n ∷ [])
+    ∙ (ap₂ ◌++◌ o (ap (λ t. t ∷ []) a)
+    ∙ sym (ap (map name_of) (take_more bs i d h) ∙ map-append name_of (take i bs) (get_or bs i d ∷ []))))

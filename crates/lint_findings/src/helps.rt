@@ -1,0 +1,187 @@
+//! Helps for codes.
+ghost use Rattle.std.specs.Prelude.{◌≡◌, [], IfOk, MatchOption, true};
+ghost use Rattle.base_language.specs.Language.Builtins.{is_one_of};
+ghost use Rattle.lint_findings.specs.Helps.{IsListedHelp, helps_of};
+ghost use Rattle.lint_findings.specs.declared.codes.Code.TheVariants as code;
+
+use crate::codes::{Code, Severity};
+use lint_hints::Help;
+use lint_warnings::{is_blank_name, is_blank_name_in_any_case};
+use std::alloc::{AllocError, Global};
+
+/// The help for a code about the message of an error or a part of the text, which may be the same as one
+/// before it; none for a syntax error or an undefined name.
+pub(crate) fn listed_help(
+    alloc: Global,
+    code: Code,
+    about: &str,
+    is_repeat: bool,
+) -> Result<Option<Help>, AllocError>
+    ensures { IfOk result (IsListedHelp code) }
+{
+    match help_text(code, about, is_repeat) {
+        None => Ok(None),
+        Some(text) => Ok(Some(Help::new(alloc, text)?)),
+    }
+}
+
+/// The text of such a help.
+fn help_text(code: Code, about: &str, is_repeat: bool) -> Option<&'static str>
+    ensures { MatchOption result (helps_of code ≡ []) (λ text. is_one_of (helps_of code) text.now ≡ true) }
+{
+    match code {
+        Code::Syntax | Code::UndefinedRule => None,
+        Code::EscapeValue => Some("D800 to DFFF and what is above 10FFFF are no characters"),
+        Code::NumberRange => Some(number_text(about)),
+        Code::ZeroRepetition => Some("what takes nothing is written `\"\"`"),
+        Code::ReservedName => Some("take another name: pest has a meaning for this one"),
+        Code::DuplicateRule => {
+            Some("take one of them away, or write both as alternatives: `a = { b | c }`")
+        }
+        Code::LeftRecursion => {
+            Some("write the operand first and repeat the rest: `a = { b ~ (\"+\" ~ b)* }`")
+        }
+        Code::EndlessRepetition => Some(endless_text(about)),
+        Code::UnreachableChoice => {
+            Some("put the alternative that cannot fail last, or take away its `?` or `*`")
+        }
+        Code::TagWithoutToken => Some("tag a rule that is not silent, or take the tag away"),
+        Code::UnusedAllowance => Some("take the comment away"),
+        Code::UncalledRule => Some(uncalled_text(about)),
+        Code::Unreachable => Some(unreachable_text(is_repeat)),
+        Code::ReversedRange => Some("let its bounds change places"),
+        Code::ReversedCount => Some("let its numbers change places"),
+        Code::IdleTest => Some(idle_text(about)),
+        Code::NeverMatches => Some(never_text(about)),
+        Code::BlanksInToken => Some("a rule with `@` before its brace skips none"),
+        Code::ManyCopies => {
+            Some("put a part of it into a rule of its own: then calls alone are copied")
+        }
+        Code::RepeatedAlternative => Some("take it away, or write what was meant"),
+        Code::RewrittenList => {
+            Some("so it matches before a `y` that no `x` follows; write what is meant")
+        }
+        Code::KeywordName => Some(
+            "in Rust it is written `r#name`, which `self`, `Self`, `super` and `crate` can't be",
+        ),
+        Code::BuiltinName => Some(builtin_text(about)),
+        Code::RepeatedBody => Some("let one of them call the other, or take one away"),
+    }
+}
+
+/// The help for a number, by the message of its error.
+fn number_text(message: &str) -> &'static str
+    ensures { is_one_of (helps_of code.NumberRange) result.now ≡ true }
+{
+    if message.ends_with("i32") {
+        "a bound of `PEEK[..]` has 32 bits with its sign"
+    } else {
+        "a count is at most 4294967295; `e*` and `e+` have no greatest count"
+    }
+}
+
+/// The help for an endless repetition, by the message of its error.
+fn endless_text(message: &str) -> &'static str
+    ensures { is_one_of (helps_of code.EndlessRepetition) result.now ≡ true }
+{
+    if is_of_blanks(message) {
+        "it is repeated by itself: match one turn, which takes a character"
+    } else {
+        "each turn of a repetition has to take a character"
+    }
+}
+
+/// The help for a rule of this name that no other calls.
+fn uncalled_text(name: &str) -> &'static str
+    ensures { is_one_of (helps_of code.UncalledRule) result.now ≡ true }
+{
+    if is_blank_name_in_any_case(name) {
+        "what is skipped between expressions has the name in capitals"
+    } else {
+        "where matching starts with it, name it by `--start`"
+    }
+}
+
+/// The help for an alternative that is never taken, which may be the same as one before it.
+fn unreachable_text(is_repeat: bool) -> &'static str
+    ensures { is_one_of (helps_of code.Unreachable) result.now ≡ true }
+{
+    if is_repeat {
+        "it is the same alternative twice: take this one away"
+    } else {
+        "put the longer alternative first"
+    }
+}
+
+/// The help for this test or option of an expression that cannot fail.
+fn idle_text(test: &str) -> &'static str
+    ensures { is_one_of (helps_of code.IdleTest) result.now ≡ true }
+{
+    if test.starts_with('&') {
+        "what `&` tests cannot fail: test one turn, as `&e`, or take it away"
+    } else if test.ends_with("*?") {
+        "no repetition is lazy: write `(!end ~ ANY)*` for what is before an end"
+    } else {
+        "take this `?` away: what it holds may be left out already"
+    }
+}
+
+/// The help for this expression, which never matches.
+fn never_text(expression: &str) -> &'static str
+    ensures { is_one_of (helps_of code.NeverMatches) result.now ≡ true }
+{
+    if expression.starts_with('!') {
+        "what `!` refuses cannot fail"
+    } else {
+        "`ANY*` takes the whole rest of the text: write `(!end ~ ANY)*` for what is before an end"
+    }
+}
+
+/// The help for a rule of this name, which a builtin has, or had in pest 1.
+fn builtin_text(name: &str) -> &'static str
+    ensures { is_one_of (helps_of code.BuiltinName) result.now ≡ true }
+{
+    if is_small(name) {
+        "this is a rule like others: the builtin's name is in capitals since pest 2"
+    } else {
+        "the rule takes the builtin's place"
+    }
+}
+
+/// The help for an allowance of a code that allows nothing.
+pub(crate) fn allowance_help(
+    alloc: Global,
+    allowed: Option<Code>,
+) -> Result<Option<Help>, AllocError>
+    ensures { IfOk result (IsListedHelp code.UnusedAllowance) }
+{
+    Ok(Some(Help::new(alloc, allowance_text(allowed))?))
+}
+
+/// The text of such a help.
+fn allowance_text(allowed: Option<Code>) -> &'static str
+    ensures { is_one_of (helps_of code.UnusedAllowance) result.now ≡ true }
+{
+    match allowed.map(|code| code.severity()) {
+        Some(Severity::Warning) => "take the comment away",
+        Some(Severity::Error) => "an error is mended, and not allowed",
+        None => "name the code of a warning, as `// pest-lint: allow(pest::idle_test)`",
+    }
+}
+
+/// Whether an endless repetition is that of WHITESPACE or COMMENT, with whose name its message begins.
+fn is_of_blanks(message: &str) -> bool {
+    match message.split_once(' ') {
+        Some((name, _)) => is_blank_name(name),
+        None => false,
+    }
+}
+
+/// Whether a name begins with a small letter.
+fn is_small(name: &str) -> bool {
+    name.as_bytes()
+        .first()
+        .copied()
+        .unwrap_or(0)
+        .is_ascii_lowercase()
+}

@@ -1,0 +1,20 @@
+//! Diagnostics of grammars as data, made of errors and of rules.
+#![tactic(auto)]
+
+mod allowances;
+mod codes;
+mod diagnostic;
+mod errors;
+mod helps;
+mod messages;
+mod names;
+mod repeats;
+mod undefined;
+mod warnings;
+
+pub use crate::allowances::{Allowance, leave_out_allowed};
+pub use crate::codes::{ALL_CODES, Code, Severity};
+pub use crate::diagnostic::{Diagnostic, Options};
+pub use crate::errors::diagnose_errors;
+pub use crate::warnings::{diagnose_all_rules, diagnose_list, diagnose_rules};
+pub use lint_hints::{Fix, Help, Related};

@@ -1,0 +1,173 @@
+//! Definitions, and what undefined names may mean.
+ghost use Rattle.std.specs.Prelude.{◌≡◌, IfOk, IfSome, map};
+ghost use Rattle.lint_findings.specs.Helps.{IsSuggestion};
+ghost use Rattle.front_names.specs.Builtins.{builtin_names};
+
+use front_names::{Builtin, CharSet, unicode_property_names};
+use lint_hints::{Help, Related, definitions, nearest_name};
+use std::alloc::{AllocError, Global};
+use std::collections::HashMap;
+
+/// Undefined names for which another is looked for, at most so many in a text.
+const NAMES_LOOKED_UP: usize = 20;
+
+/// The definitions of a text.
+#[derive(Drop)]
+pub(crate) struct Definitions<'t> {
+    /// The bytes of each name's first definition.
+    first: HashMap<&'t str, (usize, usize)>,
+    /// The names in order.
+    names: Vec<&'t str>,
+    /// The names of builtins that are no Unicode properties.
+    builtins: Vec<&'static str>,
+    /// How many undefined names were looked up.
+    count: usize,
+}
+
+impl<'t> Definitions<'t> {
+    /// The definitions of a text.
+    pub(crate) fn new(alloc: Global, text: &'t str) -> Result<Definitions<'t>, AllocError> {
+        let builtins = names_of_builtins(alloc)?;
+        let mut first = HashMap::new(alloc);
+        let mut names = Vec::new(alloc);
+        for (start, end) in &definitions(alloc, text)? {
+            let name = text.get(*start..*end).unwrap_or("");
+            if !first.contains_key(&name) {
+                first.insert(name, (*start, *end))?;
+                names.push(name)?;
+            }
+        }
+        Ok(Definitions {
+            first,
+            names,
+            builtins,
+            count: 0,
+        })
+    }
+
+    /// Adds the first definition of a name, with this message.
+    pub(crate) fn push_definition(
+        &self,
+        alloc: Global,
+        name: &str,
+        message: &str,
+        related: &mut Vec<Related>,
+    ) -> Result<(), AllocError> {
+        if let Some((start, end)) = self.first.get(&name) {
+            related.push(Related::new(alloc, *start, *end, message)?)?;
+        }
+        Ok(())
+    }
+
+    /// A help for an undefined name at the bytes `start..end`: the nearest of the defined ones and the
+    /// builtins.
+    pub(crate) fn help_undefined(
+        &mut self,
+        alloc: Global,
+        name: &str,
+        start: usize,
+        end: usize,
+    ) -> Result<Option<Help>, AllocError>
+        ensures { IfOk result (λ help. IfSome help IsSuggestion) }
+    {
+        if self.count >= NAMES_LOOKED_UP {
+            return Ok(None);
+        }
+        self.count = self.count.saturating_add(1);
+        if let Some(nearest) = nearest_name(alloc, name, &self.names)? {
+            return did_you_mean(alloc, nearest, start, end);
+        }
+        if let Some(known) = known_elsewhere(name) {
+            return did_you_mean(alloc, known, start, end);
+        }
+        if let Some(nearest) = nearest_name(alloc, name, &self.builtins)? {
+            return did_you_mean(alloc, nearest, start, end);
+        }
+        match nearest_name(alloc, name, unicode_property_names())? {
+            Some(nearest) => did_you_mean(alloc, nearest, start, end),
+            None => Ok(None),
+        }
+    }
+}
+
+/// The names of builtins that are no Unicode properties.
+fn names_of_builtins(alloc: Global) -> Result<Vec<&'static str>, AllocError>
+    ensures { IfOk result (λ names. map (λ name. name.now) names.items ≡ builtin_names) }
+{
+    let mut names = Vec::new(alloc);
+    for builtin in Builtin::all() {
+        names.push(builtin.name())?;
+    }
+    Ok(names)
+}
+
+/// The builtin or the string that other notations call by a name.
+fn known_elsewhere(name: &str) -> Option<&'static str> {
+    match builtin_elsewhere(name) {
+        Some(builtin) => Some(builtin.name()),
+        None => property_elsewhere(name),
+    }
+}
+
+/// The builtin that other notations call by a name.
+fn builtin_elsewhere(name: &str) -> Option<Builtin> {
+    match name {
+        "nl" | "NL" | "eol" | "EOL" | "CRLF" | "newline" => Some(Builtin::Newline),
+        "eof" | "EOF" | "end" | "END" => Some(Builtin::Eoi),
+        "bof" | "BOF" | "BOI" | "start" | "START" => Some(Builtin::Soi),
+        _ => set_elsewhere(name).map(Builtin::Set),
+    }
+}
+
+/// The set of characters that other notations call by a name.
+fn set_elsewhere(name: &str) -> Option<CharSet> {
+    match name {
+        "digit" | "Digit" | "DIGIT" | "digits" => Some(CharSet::AsciiDigit),
+        "alpha" | "ALPHA" | "letter" | "ASCII_LETTER" => Some(CharSet::AsciiAlpha),
+        "alnum" | "ALNUM" | "alphanumeric" | "ASCII_ALNUM" => Some(CharSet::AsciiAlphanumeric),
+        "ASCII_ALPHANUM" | "ASCII_ALPHA_NUMERIC" => Some(CharSet::AsciiAlphanumeric),
+        "xdigit" | "HEXDIG" | "hex_digit" | "ASCII_HEX" => Some(CharSet::AsciiHexDigit),
+        "_" | "anychar" | "char" | "dot" | "ANYCHAR" => Some(CharSet::Any),
+        _ => None,
+    }
+}
+
+/// The Unicode property or the string that other notations call by a name.
+fn property_elsewhere(name: &str) -> Option<&'static str> {
+    match name {
+        "Lu" => Some("UPPERCASE_LETTER"),
+        "Ll" => Some("LOWERCASE_LETTER"),
+        "L" => Some("LETTER"),
+        "N" => Some("NUMBER"),
+        "Nd" => Some("DECIMAL_NUMBER"),
+        "P" => Some("PUNCTUATION"),
+        _ => character_of(name),
+    }
+}
+
+/// The string that other notations call by a name.
+fn character_of(name: &str) -> Option<&'static str> {
+    match name {
+        "SP" | "space" | "SPACE" => Some("\" \""),
+        "tab" | "TAB" | "HTAB" => Some("\"\\t\""),
+        "cr" | "CR" => Some("\"\\r\""),
+        "lf" | "LF" => Some("\"\\n\""),
+        "DQUOTE" => Some("\"\\\"\""),
+        "empty" | "EMPTY" | "epsilon" => Some("\"\""),
+        _ => None,
+    }
+}
+
+/// A help that replaces the bytes `start..end` by a name.
+fn did_you_mean(
+    alloc: Global,
+    name: &str,
+    start: usize,
+    end: usize,
+) -> Result<Option<Help>, AllocError>
+    ensures { IfOk result (λ help. IfSome help IsSuggestion) }
+{
+    let message = format!(in alloc; "did you mean `{name}`?")?;
+    let help = Help::replace(alloc, message.as_str(), start, end, name)?;
+    Ok(Some(help))
+}

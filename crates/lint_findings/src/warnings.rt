@@ -1,0 +1,266 @@
+//! Warnings as diagnostics.
+ghost use Rattle.std.specs.Prelude.{◌≡◌, IfOk, OnOk, ◌++◌, List, flat_map, map};
+ghost use Rattle.std.specs.List.{AllZip};
+ghost use Rattle.front_spanned.specs.Nodes.{piece_of, rule_views};
+ghost use Rattle.lint_findings.specs.Codes as spec;
+ghost use Rattle.lint_findings.specs.Codes.{all_warnings_of, severity_of, warnings_of};
+ghost use Rattle.lint_findings.specs.Reports.{ReportsWarning};
+ghost use Rattle.lint_findings.specs.declared.codes.Code.TheVariants as code;
+ghost use Rattle.lint_findings.specs.declared.codes.Severity.TheVariants as severity;
+ghost use Rattle.lint_warnings.specs.Lists.{texts_of};
+
+use crate::codes::{Code, Severity};
+use crate::diagnostic::Diagnostic;
+use crate::helps::listed_help;
+use crate::names::{builtin_names, keyword_names};
+use crate::repeats::repeated_leaves;
+use base_language::runtime::Span;
+use front_spanned::ParserRule;
+use lint_hints::Related;
+use lint_patterns::{many_copies, repeated_alternatives, repeated_bodies};
+use lint_warnings::{
+    Suspect, blanks_in_tokens, reversed_ranges, suspect_spans, uncalled_rules,
+    unreachable_alternatives,
+};
+use std::alloc::{AllocError, Global};
+use std::collections::HashSet;
+
+/// The codes of warnings of rules, in the order in which those of a text are listed.
+static WARNING_CODES: [Code; 9] = [
+    Code::UncalledRule,
+    Code::Unreachable,
+    Code::ReversedRange,
+    Code::ReversedCount,
+    Code::IdleTest,
+    Code::NeverMatches,
+    Code::BlanksInToken,
+    Code::ManyCopies,
+    Code::RepeatedAlternative,
+];
+
+/// The codes of warnings that are reported only where all are asked for.
+static OPTIONAL_CODES: [Code; 3] = [Code::KeywordName, Code::BuiltinName, Code::RepeatedBody];
+
+/// The warnings of rules, code by code; rules of the names `starts` need no call.
+pub fn diagnose_rules(
+    alloc: Global,
+    rules: &[ParserRule<'_>],
+    starts: &[&str],
+) -> Result<Vec<Diagnostic>, AllocError>
+    ensures { IfOk result (λ diagnostics. AllZip ReportsWarning
+        (warnings_of (texts_of starts.now) (rule_views rules.now)) diagnostics.items) }
+{
+    diagnose_codes(alloc, warning_codes(), rules, starts)
+}
+
+/// All warnings of rules, those that are reported only where they are asked for, too.
+pub fn diagnose_all_rules(
+    alloc: Global,
+    rules: &[ParserRule<'_>],
+    starts: &[&str],
+) -> Result<Vec<Diagnostic>, AllocError>
+    ensures { IfOk result (λ diagnostics. AllZip ReportsWarning
+        (all_warnings_of (texts_of starts.now) (rule_views rules.now)) diagnostics.items) }
+{
+    let mut diagnostics = diagnose_rules(alloc, rules, starts)?;
+    let mut others = diagnose_codes(alloc, optional_codes(), rules, starts)?;
+    diagnostics.append(&mut others)?;
+    Ok(diagnostics)
+}
+
+/// The codes of warnings of rules, but for those that are asked for.
+fn warning_codes() -> &'static [Code]
+    ensures { result.now ≡ spec.warning_codes }
+{
+    &WARNING_CODES
+}
+
+/// The codes of warnings that are asked for.
+fn optional_codes() -> &'static [Code]
+    ensures { result.now ≡ spec.optional_codes }
+{
+    &OPTIONAL_CODES
+}
+
+/// The warnings of some codes, code by code.
+fn diagnose_codes(
+    alloc: Global,
+    codes: &[Code],
+    rules: &[ParserRule<'_>],
+    starts: &[&str],
+) -> Result<Vec<Diagnostic>, AllocError>
+    ensures { IfOk result (λ diagnostics. AllZip ReportsWarning
+        (flat_map (spec.warnings_with (texts_of starts.now) (rule_views rules.now)) codes.now)
+        diagnostics.items) }
+{
+    let mut diagnostics = Vec::new(alloc);
+    for code in codes {
+        add_code(alloc, *code, rules, starts, &mut diagnostics)?;
+    }
+    Ok(diagnostics)
+}
+
+/// Adds the warnings of one code.
+fn add_code(
+    alloc: Global,
+    code: Code,
+    rules: &[ParserRule<'_>],
+    starts: &[&str],
+    diagnostics: &mut Vec<Diagnostic>,
+) -> Result<(), AllocError>
+    ensures { OnOk result ((earlier : List spec.Warning)
+        → AllZip ReportsWarning earlier diagnostics.old.items
+        → AllZip ReportsWarning
+        (earlier ++ spec.warnings_with (texts_of starts.now) (rule_views rules.now) code)
+        diagnostics.new.items) }
+{
+    let mut others = diagnose_code(alloc, code, rules, starts)?;
+    diagnostics.append(&mut others)?;
+    Ok(())
+}
+
+/// The warnings of one code; that of an error has none.
+fn diagnose_code(
+    alloc: Global,
+    code: Code,
+    rules: &[ParserRule<'_>],
+    starts: &[&str],
+) -> Result<Vec<Diagnostic>, AllocError>
+    ensures { IfOk result (λ diagnostics. AllZip ReportsWarning
+        (spec.warnings_with (texts_of starts.now) (rule_views rules.now) code) diagnostics.items) }
+{
+    match code.severity() {
+        Severity::Error => Ok(Vec::new(alloc)),
+        Severity::Warning => diagnose_warning(alloc, code, rules, starts),
+    }
+}
+
+/// The warnings of a warning's code.
+fn diagnose_warning(
+    alloc: Global,
+    code: Code,
+    rules: &[ParserRule<'_>],
+    starts: &[&str],
+) -> Result<Vec<Diagnostic>, AllocError>
+    requires { severity_of code ≡ severity.Warning }
+    ensures { IfOk result (λ diagnostics. AllZip ReportsWarning
+        (spec.warnings_with (texts_of starts.now) (rule_views rules.now) code) diagnostics.items) }
+{
+    let spans = spans_of(alloc, code, rules, starts)?;
+    let repeats = repeats_for(alloc, code, rules)?;
+    report_spans(alloc, code, &spans, &repeats)
+}
+
+/// The warning of a rule with this name, in which pest runs a list otherwise than it is written, with notes.
+pub fn diagnose_list(
+    alloc: Global,
+    name: Span<'_>,
+    notes: Vec<Related>,
+) -> Result<Diagnostic, AllocError>
+    ensures warning { IfOk result (ReportsWarning (spec.warning code.RewrittenList (piece_of name.entry))) }
+    ensures notes { IfOk result (λ diagnostic. diagnostic.related ≡ notes) }
+{
+    let mut diagnostic = report_span(alloc, Code::RewrittenList, name, false)?;
+    diagnostic.related = notes;
+    Ok(diagnostic)
+}
+
+/// The bytes at which there is a repeated literal, for the code of warnings that may be at one.
+fn repeats_for(
+    alloc: Global,
+    code: Code,
+    rules: &[ParserRule<'_>],
+) -> Result<HashSet<usize>, AllocError> {
+    match code {
+        Code::Unreachable => repeated_leaves(alloc, rules),
+        _ => Ok(HashSet::new(alloc)),
+    }
+}
+
+/// A warning of a code at each of these spans; `repeats` are the places of repeated alternatives.
+fn report_spans(
+    alloc: Global,
+    code: Code,
+    spans: &[Span<'_>],
+    repeats: &HashSet<usize>,
+) -> Result<Vec<Diagnostic>, AllocError>
+    requires { severity_of code ≡ severity.Warning }
+    ensures { IfOk result (λ diagnostics.
+        AllZip (λ span. ReportsWarning (spec.warning code (piece_of span))) spans.now diagnostics.items) }
+{
+    let mut diagnostics = Vec::new(alloc);
+    for span in spans {
+        let diagnostic = report_span(alloc, code, *span, repeats.contains(&span.start()))?;
+        diagnostics.push(diagnostic)?;
+    }
+    Ok(diagnostics)
+}
+
+/// A warning of a code at a span, which may repeat what is before it.
+fn report_span(
+    alloc: Global,
+    code: Code,
+    span: Span<'_>,
+    is_repeat: bool,
+) -> Result<Diagnostic, AllocError>
+    requires { severity_of code ≡ severity.Warning }
+    ensures { IfOk result (ReportsWarning (spec.warning code (piece_of span.entry))) }
+{
+    let mut diagnostic = Diagnostic::new(alloc, code, span.start(), span.end(), message_of(code))?;
+    diagnostic.help = listed_help(alloc, code, span.as_str(), is_repeat)?;
+    Ok(diagnostic)
+}
+
+/// The spans at which rules have a warning of a code.
+fn spans_of<'i>(
+    alloc: Global,
+    code: Code,
+    rules: &[ParserRule<'i>],
+    starts: &[&str],
+) -> Result<Vec<Span<'i>>, AllocError>
+    ensures { IfOk result (λ spans. map piece_of spans.items
+        ≡ spec.spans_of code (texts_of starts.now) (rule_views rules.now)) }
+{
+    match code {
+        Code::UncalledRule => uncalled_rules(alloc, rules, starts),
+        Code::Unreachable => unreachable_alternatives(alloc, rules),
+        Code::ReversedRange => reversed_ranges(alloc, rules),
+        Code::ReversedCount => suspect_spans(alloc, Suspect::ReversedCount, rules),
+        Code::IdleTest => suspect_spans(alloc, Suspect::IdleTest, rules),
+        Code::NeverMatches => suspect_spans(alloc, Suspect::Unmatchable, rules),
+        Code::BlanksInToken => blanks_in_tokens(alloc, rules),
+        Code::ManyCopies => many_copies(alloc, rules),
+        Code::RepeatedAlternative => repeated_alternatives(alloc, rules),
+        Code::KeywordName => keyword_names(alloc, rules),
+        Code::BuiltinName => builtin_names(alloc, rules),
+        Code::RepeatedBody => repeated_bodies(alloc, rules),
+        _ => Ok(Vec::new(alloc)),
+    }
+}
+
+/// The message of a warning.
+pub(crate) fn message_of(code: Code) -> &'static str
+    ensures { result.now ≡ spec.message_of code }
+{
+    match code {
+        Code::UnusedAllowance => "this allows nothing in the rule below",
+        Code::UncalledRule => "no other rule calls this one",
+        Code::Unreachable => {
+            "this alternative is never taken: one before it begins all that it matches"
+        }
+        Code::ReversedRange => "this range matches nothing: its first character is above its last",
+        Code::ReversedCount => "the first number is above the last, which alone counts",
+        Code::IdleTest => "this changes nothing, since what it holds cannot fail",
+        Code::NeverMatches => "this never matches",
+        Code::BlanksInToken => "blanks are skipped between these characters",
+        Code::ManyCopies => "the optimizer makes 10,000 copies or more of what this repeats",
+        Code::RepeatedAlternative => {
+            "this alternative is never taken: it is the same as one before it"
+        }
+        Code::RewrittenList => "pest runs a list `(x ~ y)* ~ x` of this rule as `x ~ (y ~ x)*`",
+        Code::KeywordName => "Rust keeps this name for itself",
+        Code::BuiltinName => "this name is that of a builtin",
+        Code::RepeatedBody => "a rule before this one has the same type and body",
+        _ => "",
+    }
+}

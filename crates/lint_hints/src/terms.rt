@@ -1,0 +1,275 @@
+//! Hints in bodies: missing operators, operands and closing brackets.
+use crate::help::{Fix, Remedy};
+use crate::literals::{after_character, inner_of, range_of_strings, say_literal};
+use crate::mistakes::{LiteralMistake, Mistake, SignMistake, TermMistake};
+use crate::signs::say_sign;
+use front_names::Builtin;
+use lint_lexemes::{Lexeme, LexemeClass, Site, ends_term, is_sign};
+use std::alloc::{AllocError, Global};
+
+/// A remedy without a fix.
+pub(crate) fn say_term(mistake: TermMistake) -> Option<Remedy> {
+    Some(Remedy {
+        mistake: Mistake::Term(mistake),
+        fix: None,
+    })
+}
+
+/// A remedy that replaces the bytes `start..end`.
+fn fix_term(
+    alloc: Global,
+    mistake: TermMistake,
+    start: usize,
+    end: usize,
+    replacement: &str,
+) -> Result<Option<Remedy>, AllocError> {
+    let fix = Fix::new(alloc, start, end, replacement)?;
+    Ok(Some(Remedy {
+        mistake: Mistake::Term(mistake),
+        fix: Some(fix),
+    }))
+}
+
+/// The remedy of an expression where none may begin.
+pub(crate) fn at_term(alloc: Global, site: &Site<'_>) -> Result<Option<Remedy>, AllocError> {
+    let before = site.previous_lexeme(1);
+    if is_sign(before, b'.') && is_sign(site.previous_lexeme(2), b'.') {
+        return range_of_strings(alloc, site, site.previous_lexeme(3), site.here());
+    }
+    if is_sign(before, b'^') {
+        return Ok(say_term(TermMistake::Caret));
+    }
+    if let Some(remedy) = after_name(alloc, site)? {
+        return Ok(Some(remedy));
+    }
+    if is_prefix(site, before, "i") {
+        return fix_term(alloc, TermMistake::AnyCase, before.start, before.end, "^");
+    }
+    if let Some(mistake) = word_mistake(site) {
+        return Ok(say_term(mistake));
+    }
+    if let Some(remedy) = after_character(alloc, site)? {
+        return Ok(Some(remedy));
+    }
+    if site.here().class == LexemeClass::OpenText {
+        return Ok(say_literal(LiteralMistake::OpenString));
+    }
+    if !ends_term(before) {
+        return Ok(None);
+    }
+    lost_tilde(alloc, site, before)
+}
+
+/// The mistake that a word or a string around the error shows.
+fn word_mistake(site: &Site<'_>) -> Option<TermMistake> {
+    let before = site.previous_lexeme(1);
+    if before.class == LexemeClass::Text && inner_of(site, before).contains('\n') {
+        return Some(TermMistake::LostQuote);
+    }
+    if is_prefix(site, before, "r") {
+        return Some(TermMistake::RawString);
+    }
+    match word_of(site, site.here()) {
+        None => word_of(site, before),
+        mistake => mistake,
+    }
+}
+
+/// Whether this name is right before a string, as in other notations.
+fn is_prefix(site: &Site<'_>, before: Lexeme, name: &str) -> bool {
+    let here = site.here();
+    here.class == LexemeClass::Text && before.end == here.start && site.text_of(before) == name
+}
+
+/// The mistake of a word that other notations have for an operator.
+fn word_of(site: &Site<'_>, lexeme: Lexeme) -> Option<TermMistake> {
+    match site.text_of(lexeme) {
+        "or" | "and" | "not" | "OR" | "AND" | "NOT" => Some(TermMistake::Word),
+        "except" | "but" | "without" => Some(TermMistake::Except),
+        "to" => Some(TermMistake::WordRange),
+        _ => None,
+    }
+}
+
+/// The remedy of two expressions with no operator between them.
+fn lost_tilde(
+    alloc: Global,
+    site: &Site<'_>,
+    before: Lexeme,
+) -> Result<Option<Remedy>, AllocError> {
+    let here = site.here();
+    if is_apart(site, before) {
+        return Ok(say_term(TermMistake::Plus));
+    }
+    if before.class == LexemeClass::Name && before.end == here.start && is_sign(here, b'(') {
+        return Ok(say_term(TermMistake::Arguments));
+    }
+    let tilde = if before.end == here.start {
+        " ~ "
+    } else {
+        " ~"
+    };
+    fix_term(alloc, TermMistake::LostTilde, before.end, before.end, tilde)
+}
+
+/// Whether a postfix operator has blanks on both sides, as a binary one has.
+fn is_apart(site: &Site<'_>, before: Lexeme) -> bool {
+    let is_operator = is_sign(before, b'+') || is_sign(before, b'*') || is_sign(before, b'?');
+    is_operator && site.previous_lexeme(2).end < before.start && before.end < site.here().start
+}
+
+/// The remedy where the name before the error says what was meant: a tag, a modifier, or a builtin that takes
+/// parentheses or none.
+fn after_name(alloc: Global, site: &Site<'_>) -> Result<Option<Remedy>, AllocError> {
+    let before = site.previous_lexeme(1);
+    if before.class != LexemeClass::Name {
+        return Ok(None);
+    }
+    if is_sign(site.previous_lexeme(2), b'#') {
+        return fix_term(alloc, TermMistake::TagSign, before.end, before.end, " =");
+    }
+    let is_first = is_sign(site.previous_lexeme(2), b'{') && is_sign(site.previous_lexeme(3), b'=');
+    let is_called = is_sign(site.here(), b'(');
+    match site.text_of(before) {
+        "_" if is_first => late_modifier(alloc, site, before, "_{"),
+        "push" if is_called => {
+            fix_term(
+                alloc,
+                TermMistake::SmallPush,
+                before.start,
+                before.end,
+                "PUSH",
+            )
+        }
+        name => Ok(after_builtin(name, is_called)),
+    }
+}
+
+/// The remedy of a builtin of this name that is called with parentheses or without.
+fn after_builtin(name: &str, is_called: bool) -> Option<Remedy> {
+    match name {
+        "PUSH" if !is_called => say_term(TermMistake::Push),
+        "PUSH_LITERAL" if !is_called => say_term(TermMistake::PushLiteral),
+        _ if is_called => called_builtin(Builtin::from_name(name)?),
+        _ => None,
+    }
+}
+
+/// The remedy of a builtin that is called with parentheses.
+fn called_builtin(builtin: Builtin) -> Option<Remedy> {
+    match builtin {
+        Builtin::Peek => say_term(TermMistake::Peek),
+        Builtin::Pop | Builtin::Drop | Builtin::PeekAll | Builtin::PopAll => {
+            say_term(TermMistake::Pop)
+        }
+        Builtin::Set(_) | Builtin::Soi | Builtin::Eoi | Builtin::Newline => None,
+    }
+}
+
+/// The remedy of a modifier after the brace, which begins at the lexeme before it.
+pub(crate) fn late_modifier(
+    alloc: Global,
+    site: &Site<'_>,
+    sign: Lexeme,
+    replacement: &str,
+) -> Result<Option<Remedy>, AllocError> {
+    let brace = site.open.last().copied().unwrap_or(sign);
+    fix_term(
+        alloc,
+        TermMistake::LateModifier,
+        brace.start,
+        sign.end,
+        replacement,
+    )
+}
+
+/// The remedy of a name in a body.
+pub(crate) fn at_name(
+    alloc: Global,
+    site: &Site<'_>,
+    here: Lexeme,
+) -> Result<Option<Remedy>, AllocError> {
+    if has_dots(site) {
+        return range_of_strings(alloc, site, here, site.next_lexeme(3));
+    }
+    let before = site.previous_lexeme(1);
+    if site.text_of(here) == "i" && before.class == LexemeClass::Text && before.end == here.start {
+        let text = format!(in alloc; "^{}", site.text_of(before))?;
+        return fix_term(
+            alloc,
+            TermMistake::AnyCase,
+            before.start,
+            here.end,
+            text.as_str(),
+        );
+    }
+    if is_sign(before, b'(') && site.text_of(site.previous_lexeme(2)) == "PUSH_LITERAL" {
+        return Ok(say_term(TermMistake::PushLiteral));
+    }
+    if site.text_of(here).starts_with("PUSH") && !ends_term(before) {
+        return Ok(say_term(TermMistake::PushPrefix));
+    }
+    at_term(alloc, site)
+}
+
+/// Whether two dots are after the error.
+fn has_dots(site: &Site<'_>) -> bool {
+    is_sign(site.next_lexeme(1), b'.') && is_sign(site.next_lexeme(2), b'.')
+}
+
+/// The remedy of a number in a body: a bound of a range, or a count without braces.
+pub(crate) fn at_digits(
+    alloc: Global,
+    site: &Site<'_>,
+    here: Lexeme,
+) -> Result<Option<Remedy>, AllocError> {
+    let before = site.previous_lexeme(1);
+    if has_dots(site) {
+        return range_of_strings(alloc, site, here, site.next_lexeme(3));
+    }
+    if is_sign(before, b'^') {
+        return Ok(say_term(TermMistake::Caret));
+    }
+    if is_sign(before, b'*') && ends_term(site.previous_lexeme(2)) {
+        let text = format!(in alloc; "{{{}}}", site.text_of(here))?;
+        return fix_term(
+            alloc,
+            TermMistake::EarlyCount,
+            before.start,
+            here.end,
+            text.as_str(),
+        );
+    }
+    Ok(say_term(TermMistake::EarlyCount))
+}
+
+/// The remedy of an error in the braces of a count: another sign between two numbers, or no count at all.
+pub(crate) fn in_count(alloc: Global, site: &Site<'_>) -> Result<Option<Remedy>, AllocError> {
+    let before = site.previous_lexeme(1);
+    let after = site.next_lexeme(if has_other_dot(site) { 2 } else { 1 });
+    let is_between = matches!(site.text_of(site.here()), "." | "-" | ":" | ";");
+    if is_between && before.class == LexemeClass::Digits && after.class == LexemeClass::Digits {
+        return fix_term(alloc, TermMistake::CountSign, before.end, after.start, ", ");
+    }
+    Ok(say_term(TermMistake::Count))
+}
+
+/// Whether two dots are at the error.
+fn has_other_dot(site: &Site<'_>) -> bool {
+    is_sign(site.here(), b'.') && is_sign(site.next_lexeme(1), b'.')
+}
+
+/// The remedy at the end of the text, where brackets are open.
+pub(crate) fn at_end(alloc: Global, site: &Site<'_>) -> Result<Option<Remedy>, AllocError> {
+    let last = site.previous_lexeme(1);
+    if last.class == LexemeClass::OpenText {
+        return Ok(say_literal(LiteralMistake::OpenString));
+    }
+    if site.is_within(b'(') {
+        return Ok(say_sign(SignMistake::OpenParenthesis));
+    }
+    if site.is_within(b'{') && site.open.len() == 1 && ends_term(last) {
+        return fix_term(alloc, TermMistake::LastRule, last.end, last.end, " }");
+    }
+    Ok(None)
+}

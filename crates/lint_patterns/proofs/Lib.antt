@@ -1,0 +1,15 @@
+pub mod Changed
+pub mod Empty
+pub mod Finding
+pub mod Meanings
+pub mod Optional
+pub mod Passed
+pub mod Passing
+pub mod Walks
+pub mod Known
+pub mod Repeated
+pub mod SameBodies
+pub mod AlternativeStacks
+pub mod Unique
+pub mod CopyStacks
+pub mod Written

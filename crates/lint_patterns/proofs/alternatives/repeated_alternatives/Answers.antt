@@ -1,0 +1,12 @@
+use Rattle.std.proofs.Common.{false}
+use Rattle.lint_patterns.specs.Duplicates.{repeated_in}
+use Rattle.front_spanned.proofs.Walks.{rule_step, all_rules}
+use Rattle.lint_patterns.proofs.alternatives.repeated_alternatives.Goals as goal
+
+pub loop-rule-preserved : goal.loop-rule-preserved
+loop-rule-preserved c =
+    rule_step (λ r. repeated_in false r.body) c.args.rules.now c.loop-rule.rule-index c.rule-item.result _ _ c.loop-rule-test.true c.rule-item.is
+    c.in_ok-add_of_body.ensures c.loop-rule.invariant
+
+pub returns : goal.returns
+returns c = all_rules (λ r. repeated_in false r.body) c.args.rules.now c.loop-rule.rule-index _ c.loop-rule-test.false c.loop-rule.invariant

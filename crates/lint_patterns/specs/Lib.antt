@@ -1,0 +1,12 @@
+pub mod ListLaws
+pub mod Rewritten
+pub mod Stacks
+pub mod Bodies
+pub mod BodyKeys
+pub mod Duplicates
+pub mod Keys
+pub mod DuplicateLaws
+pub mod DuplicateLists
+pub mod Copies
+pub mod CopyLaws
+pub mod CopyLists

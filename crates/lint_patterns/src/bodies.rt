@@ -1,0 +1,79 @@
+//! Repeated bodies.
+ghost use Rattle.std.specs.Prelude.{◌≡◌, ◌++◌, ◌∷◌, [], IfOk, OnOk, List, map};
+ghost use Rattle.lint_patterns.specs.Bodies as spec;
+ghost use Rattle.lint_patterns.specs.BodyKeys.{KnowsBodies, type_key};
+ghost use Rattle.front_spanned.specs.Nodes.{piece_of, rule_view, rule_views, type_of};
+ghost use Rattle.front_spanned.specs.Spanned.{SpannedRule};
+
+use crate::alternatives::is_plain;
+use crate::keys::key_of;
+use base_ast::ast::RuleType;
+use base_language::runtime::Span;
+use front_spanned::ParserRule;
+use std::alloc::{AllocError, Global};
+use std::collections::HashSet;
+
+/// The spans of the names of rules with the type and the body of a rule before them, but for bodies that are
+/// literals, calls or large. The only error is an allocation failure. The time is linear in the rules.
+pub fn repeated_bodies<'i>(
+    alloc: Global,
+    rules: &[ParserRule<'i>],
+) -> Result<Vec<Span<'i>>, AllocError>
+    ensures { IfOk result (λ found.
+        map piece_of found.items ≡ spec.repeated_bodies (rule_views rules.now)) }
+{
+    let mut seen = HashSet::new(alloc);
+    let mut found = Vec::new(alloc);
+    for rule in rules {
+        add_where_same(alloc, rule, &mut seen, &mut found)?;
+    }
+    Ok(found)
+}
+
+/// Adds the span of the name of a rule whose key is there, and else adds its key.
+fn add_where_same<'i>(
+    alloc: Global,
+    rule: &ParserRule<'i>,
+    seen: &mut HashSet<Vec<u32>>,
+    found: &mut Vec<Span<'i>>,
+) -> Result<(), AllocError>
+    ensures spans { OnOk result ((earlier : List SpannedRule) → KnowsBodies earlier seen.old
+        → map piece_of found.new.items
+        ≡ map piece_of found.old.items ++ spec.span_if_same earlier (rule_view rule.now)) }
+    ensures known { OnOk result ((earlier : List SpannedRule) → KnowsBodies earlier seen.old
+        → KnowsBodies (earlier ++ rule_view rule.now ∷ []) seen.new) }
+{
+    if is_plain(&rule.node) {
+        return Ok(());
+    }
+    if let Some(body) = key_of(alloc, &rule.node)? {
+        let key = with_type(body, rule.ty)?;
+        let is_new = seen.insert(key)?;
+        if !is_new {
+            found.push(rule.span)?;
+        }
+    }
+    Ok(())
+}
+
+/// A body's key with the number of a type.
+fn with_type(body: Vec<u32>, ty: RuleType) -> Result<Vec<u32>, AllocError>
+    ensures { IfOk result (λ key. key.items ≡ body.items ++ type_key (type_of ty) ∷ []) }
+{
+    let mut key = body;
+    key.push(type_number(ty))?;
+    Ok(key)
+}
+
+/// The number of a type.
+fn type_number(ty: RuleType) -> u32
+    ensures { result ≡ type_key (type_of ty) }
+{
+    match ty {
+        RuleType::Normal => 0,
+        RuleType::Silent => 1,
+        RuleType::Atomic => 2,
+        RuleType::CompoundAtomic => 3,
+        RuleType::NonAtomic => 4,
+    }
+}

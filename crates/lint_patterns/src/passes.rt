@@ -1,0 +1,65 @@
+//! Bodies before the listing.
+ghost use Rattle.std.specs.Prelude.{◌≡◌, IfOk};
+ghost use Rattle.base_ast.specs.Ast.{expression_of, rule_of_code, rule_type_of};
+ghost use Rattle.lint_patterns.specs.Rewritten.{IsPassed, IsRotatedRule};
+ghost use Rattle.front_spanned.specs.Erasure.{rule_without_spans};
+ghost use Rattle.front_spanned.specs.Nodes.{rule_view};
+
+use base_ast::ast::Rule;
+use base_ast::deep::Deep;
+use base_language::runtime::Fault;
+use front_optimizer::{concatenate, factor, rotate, unroll};
+use front_spanned::{ParserRule, erase_spans};
+use std::alloc::{AllocError, Global};
+
+/// A rule without spans, as the first pass leaves it.
+pub(crate) fn rotated_rule(alloc: Global, rule: &ParserRule<'_>) -> Result<Deep<Rule>, AllocError>
+    ensures { IfOk result (λ rotated. IsRotatedRule (rule_view rule.now) (rule_of_code rotated.value)) }
+{
+    let plain = plain_rule(alloc, rule)?;
+    match rotate(alloc, plain.into_inner()) {
+        Ok(rule) => Ok(Deep { value: rule }),
+        Err(_) => Err(AllocError),
+    }
+}
+
+/// A copy of a rule without spans.
+fn plain_rule(alloc: Global, rule: &ParserRule<'_>) -> Result<Deep<Rule>, AllocError>
+    ensures { IfOk result (λ plain. rule_of_code plain.value ≡ rule_without_spans (rule_view rule.now)) }
+{
+    let copy = Deep {
+        value: rule.clone()?,
+    };
+    let mut rules = Deep {
+        value: Vec::new(alloc),
+    };
+    rules.push(copy)?;
+    let mut plain = Deep {
+        value: erase_spans(alloc, rules.into_inner())?,
+    };
+    match plain.value.pop() {
+        Some(rule) => Ok(Deep { value: rule }),
+        None => Err(AllocError),
+    }
+}
+
+/// A rule as the passes from `unroll` to `factor` leave it.
+pub(crate) fn passed_rule(alloc: Global, rule: Deep<Rule>) -> Result<Deep<Rule>, AllocError>
+    ensures { IfOk result (λ passed. IsPassed (rule_type_of rule.value.ty)
+        (expression_of rule.value.expr) (expression_of passed.value.expr)) }
+{
+    match run_passes(alloc, rule.into_inner()) {
+        Ok(rule) => Ok(Deep { value: rule }),
+        Err(_) => Err(AllocError),
+    }
+}
+
+/// Runs the passes from `unroll` to `factor`.
+fn run_passes(alloc: Global, rule: Rule) -> Result<Rule, Fault>
+    ensures { IfOk result (λ passed. IsPassed (rule_type_of rule.ty) (expression_of rule.expr)
+        (expression_of passed.expr)) }
+{
+    let rule = unroll(alloc, rule)?;
+    let rule = concatenate(alloc, rule)?;
+    factor(alloc, rule)
+}

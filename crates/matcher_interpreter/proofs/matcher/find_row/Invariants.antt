@@ -1,0 +1,13 @@
+use Rattle.std.proofs.Common.{◌≡◌, None, chars, drop, ◌≤◌, length}
+use Rattle.base_language.specs.Language.Expression.{rule_of}
+use Rattle.matcher_program.specs.Programs.{grammar_of}
+use Rattle.matcher_interpreter.proofs.matcher.find_row.Given as goal
+
+abbrev pub invariant-loop-below : goal.invariant-loop-below
+invariant-loop-below l = record {
+  within : l.below ≤ length l.rows;
+  none : rule_of (drop l.below (grammar_of l.rows)) (chars l.name) ≡ None;
+}
+
+abbrev pub decreases-loop-below : goal.decreases-loop-below
+decreases-loop-below l = l.below

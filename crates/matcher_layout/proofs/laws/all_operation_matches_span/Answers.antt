@@ -1,5 +1,0 @@
-use Rattle.matcher_layout.proofs.Sets.{all_performs}
-use Rattle.matcher_layout.proofs.laws.all_operation_matches_span.Goals as goal
-
-pub returns : goal.returns
-returns c = λ code set ranges is number fail l n w h. all_performs code set ranges is number fail l n w h

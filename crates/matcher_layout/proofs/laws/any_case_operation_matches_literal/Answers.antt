@@ -1,5 +1,0 @@
-use Rattle.matcher_layout.proofs.AnyCase.{any_case_performs}
-use Rattle.matcher_layout.proofs.laws.any_case_operation_matches_literal.Goals as goal
-
-pub returns : goal.returns
-returns c = any_case_performs

@@ -1,5 +1,0 @@
-use Rattle.matcher_layout.proofs.Characters.{choice_of_sets}
-use Rattle.matcher_layout.proofs.laws.choice_matches_union.Goals as goal
-
-pub returns : goal.returns
-returns c = λ g classes m a b f h x y. choice_of_sets g classes m a b f h x y

@@ -1,5 +1,0 @@
-use Rattle.matcher_layout.proofs.Ends.{bare_end_performs}
-use Rattle.matcher_layout.proofs.laws.end_operation_matches_end.Goals as goal
-
-pub returns : goal.returns
-returns c = λ code number fail l n w h. bare_end_performs code number fail l n w h

@@ -1,5 +1,0 @@
-use Rattle.matcher_layout.proofs.Characters.{difference_of_sets}
-use Rattle.matcher_layout.proofs.laws.negation_matches_difference.Goals as goal
-
-pub returns : goal.returns
-returns c = λ g classes m a b f h tight x y. difference_of_sets g classes m a b f h tight x y

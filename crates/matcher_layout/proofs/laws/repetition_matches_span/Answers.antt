@@ -1,5 +1,0 @@
-use Rattle.matcher_layout.proofs.Characters.{span_of_set}
-use Rattle.matcher_layout.proofs.laws.repetition_matches_span.Goals as goal
-
-pub returns : goal.returns
-returns c = λ g classes m e f tight one. span_of_set g classes m e f tight one

@@ -1,5 +1,0 @@
-use Rattle.matcher_layout.proofs.Ends.{start_performs}
-use Rattle.matcher_layout.proofs.laws.start_operation_matches_start.Goals as goal
-
-pub returns : goal.returns
-returns c = λ code number fail l n w h. start_performs code number fail l n w h

@@ -1,5 +1,0 @@
-use Rattle.matcher_layout.proofs.Newlines.{newline_performs}
-use Rattle.matcher_layout.proofs.laws.text_operations_match_newline.Goals as goal
-
-pub returns : goal.returns
-returns c = newline_performs

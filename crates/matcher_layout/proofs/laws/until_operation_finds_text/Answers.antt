@@ -1,5 +1,0 @@
-use Rattle.matcher_layout.proofs.Until.{until_performs}
-use Rattle.matcher_layout.proofs.laws.until_operation_finds_text.Goals as goal
-
-pub returns : goal.returns
-returns c = until_performs

@@ -1,5 +1,0 @@
-pub mod Endings
-pub mod Laid
-pub mod Reached
-pub mod Sizes
-pub mod Results

@@ -1,4 +1,0 @@
-//! Which code does which task of a grammar, and that it does it.
-#![tactic(auto)]
-
-pub mod laws;

@@ -1,4 +1,0 @@
-pub mod Entries
-pub mod Trees
-pub mod Matches
-pub mod Parses

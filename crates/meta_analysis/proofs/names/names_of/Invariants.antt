@@ -1,6 +1,0 @@
-use Rattle.std.proofs.Common.{take}
-use Rattle.meta_analysis.specs.NameMaps.{KnowsRules}
-use Rattle.meta_analysis.proofs.names.names_of.Given as goal
-
-abbrev pub invariant-loop-place : goal.invariant-loop-place
-invariant-loop-place l = KnowsRules (take l.place l.rules) (record { places = l.places })

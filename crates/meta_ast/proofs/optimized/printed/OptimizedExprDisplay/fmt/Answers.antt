@@ -1,7 +1,0 @@
-use Rattle.std.proofs.Common.{sym}
-use Rattle.std.proofs.Output.{has_written_of_eq}
-use Rattle.meta_ast.proofs.WrittenBytes.{encodes-printed_optimized}
-use Rattle.meta_ast.proofs.optimized.printed.OptimizedExprDisplay.fmt.Goals as goal
-
-pub returns-clause-writes : goal.returns-clause-writes
-returns-clause-writes g c plain ok = has_written_of_eq _ _ _ _ _ (sym (encodes-printed_optimized c.args.self.now)) (c.fmt_printed.ensures plain ok)

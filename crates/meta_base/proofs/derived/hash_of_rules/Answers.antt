@@ -1,7 +1,0 @@
-use Rattle.std.proofs.Common.{ap}
-use Rattle.std.specs.Hash as fed
-use Rattle.meta_base.proofs.derived.hash_of_rules.Goals as goal
-use Rattle.meta_base.proofs.Comparisons.{rule_at}
-
-pub returns : goal.returns
-returns c = λ r i h. ap fed.usize (rule_at r i h)

@@ -1,5 +1,0 @@
-use Rattle.meta_base.proofs.FailuresStand.{stands_at}
-use Rattle.meta_base.proofs.laws.failures_are_on_characters.Goals as goal
-
-pub returns : goal.returns
-returns c = λ text g classes k s o d h. stands_at text d h

@@ -1,5 +1,0 @@
-use Rattle.meta_base.proofs.ExpectedOnce.{one_expected}
-use Rattle.meta_base.proofs.laws.one_list_of_what_is_expected.Goals as goal
-
-pub returns : goal.returns
-returns c = λ g classes e m s o p d f. one_expected g classes d f

@@ -1,5 +1,0 @@
-use Rattle.meta_base.proofs.laws.one_place_of_failure.Goals as goal
-use Rattle.meta_base.proofs.FailurePlaces.{one_place}
-
-pub returns : goal.returns
-returns c = λ g classes e m s o d f. one_place g classes d f

@@ -1,5 +1,0 @@
-use Rattle.meta_base.proofs.laws.pass_is_a_chain.Goals as goal
-use Rattle.meta_base.proofs.PassesAreChains.{pass}
-
-pub returns : goal.returns
-returns c = λ g h i d e. pass d e

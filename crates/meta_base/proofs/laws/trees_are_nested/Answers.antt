@@ -1,5 +1,0 @@
-use Rattle.meta_base.proofs.TreesAreNested.{fits}
-use Rattle.meta_base.proofs.laws.trees_are_nested.Goals as goal
-
-pub returns : goal.returns
-returns c = λ text g classes k s o d h. fits text d h

@@ -1,5 +1,0 @@
-use Rattle.meta_base.proofs.CannotFailIsNullable.{nullable_of}
-use Rattle.meta_base.proofs.laws.what_cannot_fail_is_nullable.Goals as goal
-
-pub returns : goal.returns
-returns c = λ g e d. nullable_of g d

@@ -1,9 +1,0 @@
-use Rattle.meta_base.proofs.Surveys.{start_is_landmark}
-use Rattle.meta_base.proofs.runtime.surveys.Survey.new.Goals as goal
-
-pub invariant_of-result : goal.invariant_of-result
-invariant_of-result c = record {
-  begins = start_is_landmark c.args.text.now c.utf8.text;
-  marked = c.in_ok-landmarks.ensures;
-  known_right = λ x is. absurd (cc);
-}

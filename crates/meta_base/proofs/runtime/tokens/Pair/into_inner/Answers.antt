@@ -1,8 +1,0 @@
-use Rattle.std.proofs.Common.{arith}
-use Rattle.meta_base.proofs.PairLemmas.{AreNested-wider}
-use Rattle.meta_base.proofs.runtime.tokens.Pair.into_inner.Goals as goal
-
-pub invariant_of-result : goal.invariant_of-result
-invariant_of-result g c =
-    let pair = c.args.self in
-    record { nested = AreNested-wider _ _ _ _ _ _ pair.nested (omega arith) pair.ends_at_character.0 }

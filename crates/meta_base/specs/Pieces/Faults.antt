@@ -1,9 +1,0 @@
--- Which fault it is.
-use Rattle.std.specs.Prelude.{⊤}
-use Rattle.meta_base.specs.declared.runtime.faults.Fault.{Fault}
-use Rattle.meta_base.specs.declared.runtime.faults.Fault.TheVariants.{Memory, Grammar}
-
--- memory was refused
-abbrev pub IsMemory : Fault → Type 0
-IsMemory (Memory e) = ⊤
-IsMemory (Grammar errors) = ⊥

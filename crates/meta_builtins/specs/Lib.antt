@@ -1,2 +1,0 @@
-pub mod Builtins
-pub mod CharSets

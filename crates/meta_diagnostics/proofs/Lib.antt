@@ -1,2 +1,0 @@
-pub mod Diagnosing
-pub mod Listing

@@ -1,6 +1,0 @@
-use Rattle.std.proofs.Common.{◌≡◌}
-use Rattle.meta_diagram.specs.Marks.{marks_of}
-use Rattle.meta_diagram.proofs.drawing.draw_columns.Given as goal
-
-abbrev pub invariant-loop-child : goal.invariant-loop-child
-invariant-loop-child l = marks_of l.markup.tokens.items ≡ marks_of l.fn.markup.tokens.items

@@ -1,6 +1,0 @@
-use Rattle.std.specs.Prelude.{chars}
-use Rattle.meta_differences.proofs.Forms.{shown_by}
-use Rattle.meta_differences.proofs.comparer.Comparer.distinguishing_text.Goals as goal
-
-pub returns : goal.returns
-returns c = shown_by c.args.self.now.grammar.now (chars c.args.rule.now) c.in-Some.forms c.first_difference.result (rw c.in-Some.is at c.requires) c.first_difference.ensures

@@ -1,9 +1,0 @@
-use Rattle.std.proofs.Common.{◌≡◌, ℕ, length}
-use Rattle.meta_doc.specs.Links.{AreCallersBelow}
-use Rattle.meta_doc.proofs.callers.no_callers.Given as goal
-
-abbrev pub invariant-loop-rule : goal.invariant-loop-rule
-invariant-loop-rule l = record {
-  each : length l.callers.items ≡ l._rule;
-  below : (n : ℕ) → AreCallersBelow n l.callers.items;
-}

@@ -1,5 +1,0 @@
-use Rattle.std.proofs.Common.{◌≡◌, ◌+◌, ◌++◌, map}
-use Rattle.meta_duplicates.proofs.keys.push_characters.Given as goal
-
-abbrev pub invariant-loop-character : goal.invariant-loop-character
-invariant-loop-character l = l.key.items ≡ l.fn.key.items ++ map (λ c. c + 1) l.yielded

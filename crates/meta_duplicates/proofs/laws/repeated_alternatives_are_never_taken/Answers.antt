@@ -1,7 +1,0 @@
-use Rattle.meta_duplicates.proofs.Repeated.{fails_too}
-use Rattle.meta_spanned.specs.Erasure.{without_spans}
-use Rattle.meta_warnings.proofs.Failing.{fails_alone}
-use Rattle.meta_duplicates.proofs.laws.repeated_alternatives_are_never_taken.Goals as goal
-
-pub returns : goal.returns
-returns c = λ earlier x h g classes m s k. fails_alone g classes m (without_spans x) s (fails_too g classes m s earlier (without_spans x) h k)

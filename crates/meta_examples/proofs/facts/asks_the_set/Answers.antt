@@ -1,5 +1,0 @@
-use Rattle.meta_examples.proofs.facts.asks_the_set.Goals as goal
-use Rattle.meta_examples.proofs.WhatPartsDo.{asks_the_set}
-
-pub returns : goal.returns
-returns c = λ classes. asks_the_set classes

@@ -1,5 +1,0 @@
-use Rattle.meta_examples.proofs.facts.blank_is_taken.Goals as goal
-use Rattle.meta_examples.proofs.WhatTheyDo.{taken}
-
-pub returns : goal.returns
-returns c = taken

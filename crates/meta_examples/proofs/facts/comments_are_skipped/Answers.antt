@@ -1,5 +1,0 @@
-use Rattle.meta_examples.proofs.facts.comments_are_skipped.Goals as goal
-use Rattle.meta_examples.proofs.WhatTheyDo.{comments_are_skipped}
-
-pub returns : goal.returns
-returns c = λ classes. comments_are_skipped classes

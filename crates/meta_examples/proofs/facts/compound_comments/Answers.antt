@@ -1,5 +1,0 @@
-use Rattle.meta_examples.proofs.facts.compound_comments.Goals as goal
-use Rattle.meta_examples.proofs.WhatPartsDo.{compound_comments}
-
-pub returns : goal.returns
-returns c = λ classes. compound_comments classes

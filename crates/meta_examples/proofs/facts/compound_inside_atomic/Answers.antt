@@ -1,5 +1,0 @@
-use Rattle.meta_examples.proofs.facts.compound_inside_atomic.Goals as goal
-use Rattle.meta_examples.proofs.WhatPartsDo.{compound_inside_atomic}
-
-pub returns : goal.returns
-returns c = λ classes. compound_inside_atomic classes

@@ -1,5 +1,0 @@
-use Rattle.meta_examples.proofs.facts.counts_by_mode.Goals as goal
-use Rattle.meta_examples.proofs.WhatCounts.{counts_by_mode}
-
-pub returns : goal.returns
-returns c = λ classes. counts_by_mode classes

@@ -1,5 +1,0 @@
-use Rattle.meta_examples.proofs.facts.counts_under_predicate.Goals as goal
-use Rattle.meta_examples.proofs.WhatCounts.{counts_under_predicate}
-
-pub returns : goal.returns
-returns c = λ classes. counts_under_predicate classes

@@ -1,5 +1,0 @@
-use Rattle.meta_examples.proofs.facts.counts_when_given_up.Goals as goal
-use Rattle.meta_examples.proofs.WhatCounts.{counts_when_given_up}
-
-pub returns : goal.returns
-returns c = λ classes. counts_when_given_up classes

@@ -1,5 +1,0 @@
-use Rattle.meta_examples.proofs.facts.empties_the_stack.Goals as goal
-use Rattle.meta_examples.proofs.WhatTheyDo.{empties_the_stack}
-
-pub returns : goal.returns
-returns c = λ classes. empties_the_stack classes

@@ -1,5 +1,0 @@
-use Rattle.meta_examples.proofs.facts.expects_all.Goals as goal
-use Rattle.meta_examples.proofs.WhatIsExpected.{expects_all}
-
-pub returns : goal.returns
-returns c = λ classes. expects_all classes

@@ -1,5 +1,0 @@
-use Rattle.meta_examples.proofs.facts.expects_the_outer.Goals as goal
-use Rattle.meta_examples.proofs.WhatIsExpected.{expects_the_outer}
-
-pub returns : goal.returns
-returns c = λ classes. expects_the_outer classes

@@ -1,5 +1,0 @@
-use Rattle.meta_examples.proofs.facts.failures_lose.Goals as goal
-use Rattle.meta_examples.proofs.LooseOnes.{failures_lose}
-
-pub returns : goal.returns
-returns c = λ classes. failures_lose classes

@@ -1,5 +1,0 @@
-use Rattle.meta_examples.proofs.facts.goes_on_from_what_is_left.Goals as goal
-use Rattle.meta_examples.proofs.LooseOnes.{goes_on}
-
-pub returns : goal.returns
-returns c = λ classes. goes_on classes

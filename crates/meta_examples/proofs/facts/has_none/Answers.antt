@@ -1,5 +1,0 @@
-use Rattle.meta_examples.proofs.facts.has_none.Goals as goal
-use Rattle.meta_examples.proofs.WhatTheyDo.{none_at_all}
-
-pub returns : goal.returns
-returns c = none_at_all

@@ -1,5 +1,0 @@
-use Rattle.meta_examples.proofs.facts.hex_digits.Goals as goal
-use Rattle.meta_examples.proofs.WhatPartsDo.{hex_digits}
-
-pub returns : goal.returns
-returns c = λ classes. hex_digits classes

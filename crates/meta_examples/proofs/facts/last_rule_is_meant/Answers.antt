@@ -1,5 +1,0 @@
-use Rattle.meta_examples.proofs.facts.last_rule_is_meant.Goals as goal
-use Rattle.meta_examples.proofs.WhatTheyDo.{last_rule_is_meant}
-
-pub returns : goal.returns
-returns c = λ classes. last_rule_is_meant classes

@@ -1,5 +1,0 @@
-use Rattle.meta_examples.proofs.facts.later_turns_fail.Goals as goal
-use Rattle.meta_examples.proofs.WhatPartsDo.{later_turns_fail}
-
-pub returns : goal.returns
-returns c = λ classes. later_turns_fail classes

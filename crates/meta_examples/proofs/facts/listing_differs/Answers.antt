@@ -1,5 +1,0 @@
-use Rattle.meta_examples.proofs.facts.listing_differs.Goals as goal
-use Rattle.meta_examples.proofs.WhatTheyDo.{differs}
-
-pub returns : goal.returns
-returns c = differs

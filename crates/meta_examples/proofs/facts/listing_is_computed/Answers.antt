@@ -1,5 +1,0 @@
-use Rattle.meta_examples.proofs.facts.listing_is_computed.Goals as goal
-use Rattle.meta_examples.proofs.HowTheyAreRewritten.{listing_is_computed}
-
-pub returns : goal.returns
-returns c = listing_is_computed

@@ -1,5 +1,0 @@
-use Rattle.meta_examples.proofs.facts.literal_pushes.Goals as goal
-use Rattle.meta_examples.proofs.WhatTagsDo.{literal_pushes}
-
-pub returns : goal.returns
-returns c = λ classes. literal_pushes classes

@@ -1,5 +1,0 @@
-use Rattle.meta_examples.proofs.facts.loud_blanks.Goals as goal
-use Rattle.meta_examples.proofs.WhatTheyDo.{blanks_of_loud}
-
-pub returns : goal.returns
-returns c = λ classes. blanks_of_loud classes

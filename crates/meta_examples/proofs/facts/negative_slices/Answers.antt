@@ -1,5 +1,0 @@
-use Rattle.meta_examples.proofs.facts.negative_slices.Goals as goal
-use Rattle.meta_examples.proofs.WhatTheyDo.{negative_slices}
-
-pub returns : goal.returns
-returns c = λ classes. negative_slices classes

@@ -1,5 +1,0 @@
-use Rattle.meta_examples.proofs.facts.non_atomic_inside.Goals as goal
-use Rattle.meta_examples.proofs.WhatTheyDo.{non_atomic_inside}
-
-pub returns : goal.returns
-returns c = λ classes. non_atomic_inside classes

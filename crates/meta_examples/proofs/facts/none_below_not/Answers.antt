@@ -1,5 +1,0 @@
-use Rattle.meta_examples.proofs.facts.none_below_not.Goals as goal
-use Rattle.meta_examples.proofs.WhatIsExpected.{none_below_not}
-
-pub returns : goal.returns
-returns c = λ classes. none_below_not classes

@@ -1,5 +1,0 @@
-use Rattle.meta_examples.proofs.facts.none_in_atomic.Goals as goal
-use Rattle.meta_examples.proofs.WhatIsExpected.{none_in_atomic}
-
-pub returns : goal.returns
-returns c = λ classes. none_in_atomic classes

@@ -1,5 +1,0 @@
-use Rattle.meta_examples.proofs.facts.options.Goals as goal
-use Rattle.meta_examples.proofs.WhatPartsDo.{options}
-
-pub returns : goal.returns
-returns c = λ classes. options classes

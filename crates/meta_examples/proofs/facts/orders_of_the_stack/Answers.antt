@@ -1,5 +1,0 @@
-use Rattle.meta_examples.proofs.facts.orders_of_the_stack.Goals as goal
-use Rattle.meta_examples.proofs.WhatTheyDo.{orders_of_the_stack}
-
-pub returns : goal.returns
-returns c = λ classes. orders_of_the_stack classes

@@ -1,5 +1,0 @@
-use Rattle.meta_examples.proofs.facts.other_readings.Goals as goal
-use Rattle.meta_examples.proofs.WhatTheyDo.{other_readings}
-
-pub returns : goal.returns
-returns c = λ classes. other_readings classes

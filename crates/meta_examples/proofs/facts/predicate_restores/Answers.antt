@@ -1,5 +1,0 @@
-use Rattle.meta_examples.proofs.facts.predicate_restores.Goals as goal
-use Rattle.meta_examples.proofs.WhatTheyDo.{predicate_restores}
-
-pub returns : goal.returns
-returns c = λ classes. predicate_restores classes

@@ -1,5 +1,0 @@
-use Rattle.meta_examples.proofs.facts.ranges_that_fail.Goals as goal
-use Rattle.meta_examples.proofs.WhatTheyDo.{ranges_that_fail}
-
-pub returns : goal.returns
-returns c = λ classes. ranges_that_fail classes

@@ -1,5 +1,0 @@
-use Rattle.meta_examples.proofs.facts.reads_empty_stack.Goals as goal
-use Rattle.meta_examples.proofs.WhatTheyDo.{reads_empty_stack}
-
-pub returns : goal.returns
-returns c = λ classes. reads_empty_stack classes

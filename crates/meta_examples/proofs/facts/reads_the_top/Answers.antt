@@ -1,5 +1,0 @@
-use Rattle.meta_examples.proofs.facts.reads_the_top.Goals as goal
-use Rattle.meta_examples.proofs.WhatTheyDo.{reads_the_top}
-
-pub returns : goal.returns
-returns c = λ classes. reads_the_top classes

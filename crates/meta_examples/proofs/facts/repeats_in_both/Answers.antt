@@ -1,5 +1,0 @@
-use Rattle.meta_examples.proofs.facts.repeats_in_both.Goals as goal
-use Rattle.meta_examples.proofs.LooseOnes.{repeats_in_both}
-
-pub returns : goal.returns
-returns c = λ classes. repeats_in_both classes

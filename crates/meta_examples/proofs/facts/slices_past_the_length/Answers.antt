@@ -1,5 +1,0 @@
-use Rattle.meta_examples.proofs.facts.slices_past_the_length.Goals as goal
-use Rattle.meta_examples.proofs.WhatTheyDo.{slices_past_the_length}
-
-pub returns : goal.returns
-returns c = λ classes. slices_past_the_length classes

@@ -1,5 +1,0 @@
-use Rattle.meta_examples.proofs.facts.tags_mean_nothing.Goals as goal
-use Rattle.meta_examples.proofs.WhatTagsDo.{tags_mean_nothing}
-
-pub returns : goal.returns
-returns c = λ classes. tags_mean_nothing classes

@@ -1,5 +1,0 @@
-use Rattle.meta_examples.proofs.facts.tokens_of_atomic_rules.Goals as goal
-use Rattle.meta_examples.proofs.WhatTheyDo.{tokens_of_atomic_rules}
-
-pub returns : goal.returns
-returns c = λ classes. tokens_of_atomic_rules classes

@@ -1,5 +1,0 @@
-use Rattle.meta_examples.proofs.facts.two_copies.Goals as goal
-use Rattle.meta_examples.proofs.WhatPartsDo.{two_copies}
-
-pub returns : goal.returns
-returns c = λ classes. two_copies classes

@@ -1,5 +1,0 @@
-use Rattle.meta_examples.proofs.facts.undefined_names.Goals as goal
-use Rattle.meta_examples.proofs.WhatTheyDo.{undefined_names}
-
-pub returns : goal.returns
-returns c = λ classes. undefined_names classes

@@ -1,5 +1,0 @@
-use Rattle.meta_lists.proofs.Passing.{all_passes}
-use Rattle.meta_lists.proofs.laws.passes_are_all.Goals as goal
-
-pub returns : goal.returns
-returns c = λ g y e a b rotates free h bare. all_passes g y e a b rotates free h bare

@@ -1,8 +1,0 @@
-use Rattle.std.proofs.Common.{take}
-use Rattle.meta_lists.specs.Rewritten.{is_optional_name}
-use Rattle.meta_spanned.specs.Nodes.{rule_views}
-use Rattle.meta_warnings.specs.Lists.{HasNames}
-use Rattle.meta_lists.proofs.names.optional_names.Given as goal
-
-abbrev pub invariant-loop-rule : goal.invariant-loop-rule
-invariant-loop-rule l = HasNames (is_optional_name (rule_views (take l.rule-index l.rules))) l.names

@@ -1,3 +1,0 @@
-pub mod Laws
-pub mod Rewritten
-pub mod Stacks

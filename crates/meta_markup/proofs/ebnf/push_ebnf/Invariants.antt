@@ -1,7 +1,0 @@
-use Rattle.std.proofs.Common.{◌≡◌, ◌++◌, string_bytes, take}
-use Rattle.meta_markup.specs.Ebnf.{ebnf_bytes}
-use Rattle.meta_markup.proofs.ebnf.push_ebnf.Given as goal
-
-abbrev pub invariant-loop-token : goal.invariant-loop-token
-invariant-loop-token l =
-    string_bytes l.page ≡ string_bytes l.fn.page ++ ebnf_bytes (take l.token-index l.tokens)

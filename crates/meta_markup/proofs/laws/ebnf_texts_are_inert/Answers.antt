@@ -1,5 +1,0 @@
-use Rattle.meta_markup.proofs.Inert.{comments_inert, strings_plain}
-use Rattle.meta_markup.proofs.laws.ebnf_texts_are_inert.Goals as goal
-
-pub returns : goal.returns
-returns c = record { strings = strings_plain; comments = comments_inert }

@@ -1,5 +1,0 @@
-use Rattle.meta_markup.proofs.Inert.{escaped_inert}
-use Rattle.meta_markup.proofs.laws.escaped_texts_are_inert.Goals as goal
-
-pub returns : goal.returns
-returns c = escaped_inert

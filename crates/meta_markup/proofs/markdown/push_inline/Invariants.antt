@@ -1,8 +1,0 @@
-use Rattle.std.proofs.Common.{◌≡◌, ◌++◌, encode_utf8_all, string_bytes}
-use Rattle.std.specs.List.{flat_map}
-use Rattle.meta_markup.specs.Markdown.{inline_character}
-use Rattle.meta_markup.proofs.markdown.push_inline.Given as goal
-
-abbrev pub invariant-loop-character : goal.invariant-loop-character
-invariant-loop-character l =
-    string_bytes l.page ≡ string_bytes l.fn.page ++ encode_utf8_all (flat_map inline_character l.yielded)

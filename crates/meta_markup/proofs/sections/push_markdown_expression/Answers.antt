@@ -1,6 +1,0 @@
-use Rattle.meta_markup.proofs.Escaping.{three_more}
-use Rattle.meta_markup.proofs.sections.push_markdown_expression.Goals as goal
-
-pub returns : goal.returns
-returns c =
-    three_more _ _ _ _ _ _ _ c.in_ok-push_str.ensures.bytes c.in_ok-push_printed.ensures c.in_ok-push_str-2.ensures.bytes

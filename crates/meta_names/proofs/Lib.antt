@@ -1,5 +1,0 @@
-pub mod InText
-pub mod Names
-pub mod Places
-pub mod Trees
-pub mod Characters

@@ -1,6 +1,0 @@
-use Rattle.std.proofs.Common.{◌∙◌}
-use Rattle.meta_names.proofs.Names.{is_one_of-map}
-use Rattle.meta_names.proofs.tables.is_among.Goals as goal
-
-pub returns : goal.returns
-returns c = c.contains.ensures.value ∙ is_one_of-map c.args.names.now c.args.name.now

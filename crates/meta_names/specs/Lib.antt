@@ -1,4 +1,0 @@
-pub mod Names
-pub mod NameSets
-pub mod GrammarNames
-pub mod Standing

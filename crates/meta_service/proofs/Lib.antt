@@ -1,5 +1,0 @@
-mod Announcing
-mod Answering
-mod Handling
-mod Opening
-mod Phases

@@ -1,5 +1,0 @@
-use Rattle.std.proofs.Common.{sym}
-use Rattle.meta_service.proofs.server.Server.publish.Goals as goal
-
-pub returns-in_ok-publish-in-Some : goal.returns-in_ok-publish-in-Some
-returns-in_ok-publish-in-Some c = record { document = c.in-Some.document.now; is_open = sym c.in-Some.ensures; published = c.in_ok-publish-in-Some.ensures }

@@ -1,5 +1,0 @@
-use Rattle.meta_stack_domain.proofs.laws.certain.Goals as goal
-use Rattle.meta_stack_domain.proofs.Certain.{certain}
-
-pub returns : goal.returns
-returns c = certain

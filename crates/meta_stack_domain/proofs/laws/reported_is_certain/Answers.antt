@@ -1,5 +1,0 @@
-use Rattle.meta_stack_domain.proofs.laws.reported_is_certain.Goals as goal
-use Rattle.meta_stack_domain.proofs.Routes.{reported_is_certain}
-
-pub returns : goal.returns
-returns c = reported_is_certain

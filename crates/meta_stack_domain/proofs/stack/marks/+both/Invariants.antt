@@ -1,4 +1,0 @@
-use Rattle.meta_stack_domain.proofs.stack.marks.+both.Given as goal
-
-abbrev pub decreases-both : goal.decreases-both
-decreases-both l = l.count

@@ -1,4 +1,0 @@
-use Rattle.meta_stack_domain.proofs.stack.marks.+same.Given as goal
-
-abbrev pub decreases-same : goal.decreases-same
-decreases-same l = l.count

@@ -1,6 +1,0 @@
-use Rattle.std.proofs.Common.{true}
-use Rattle.meta_stack_loops.specs.Leading.{AreLed}
-use Rattle.meta_stack_loops.proofs.groups.reached_by.Given as goal
-
-abbrev pub invariant-loop-place : goal.invariant-loop-place
-invariant-loop-place l = AreLed l.nodes l.roots true l.fn.leaders l.reached.items

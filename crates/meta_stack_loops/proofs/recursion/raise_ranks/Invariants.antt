@@ -1,9 +1,0 @@
-use Rattle.std.proofs.Common.{◌≡◌, length}
-use Rattle.meta_stack_loops.proofs.RankLemmas.{AreRaisedTo}
-use Rattle.meta_stack_loops.proofs.recursion.raise_ranks.Given as goal
-
-abbrev pub invariant-loop-place : goal.invariant-loop-place
-invariant-loop-place l = record {
-  alike : length l.found.items ≡ l.place;
-  each : AreRaisedTo l.place l.ranks l.flags l.found.items;
-}

@@ -1,9 +1,0 @@
-use Rattle.std.proofs.Common.{◌≡◌, length}
-use Rattle.meta_stack_loops.proofs.Silence.{AreToldTo}
-use Rattle.meta_stack_loops.proofs.reportable.with_loops.Given as goal
-
-abbrev pub invariant-loop-place : goal.invariant-loop-place
-invariant-loop-place l = record {
-  many : length l.flags.items ≡ l.place;
-  told : AreToldTo l.nodes l.still l.flags.items l.place;
-}

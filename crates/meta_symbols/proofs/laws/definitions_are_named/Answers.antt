@@ -1,5 +1,0 @@
-use Rattle.meta_symbols.proofs.Names.{names_named}
-use Rattle.meta_symbols.proofs.laws.definitions_are_named.Goals as goal
-
-pub returns : goal.returns
-returns c = names_named

@@ -1,5 +1,0 @@
-use Rattle.meta_symbols.proofs.Names.{occurrences_named}
-use Rattle.meta_symbols.proofs.laws.occurrences_are_named.Goals as goal
-
-pub returns : goal.returns
-returns c = occurrences_named

@@ -1,5 +1,0 @@
-pub mod Names
-pub mod Wrapped
-pub mod Frames
-pub mod Tags
-pub mod Spliced

@@ -1,5 +1,0 @@
-use Rattle.meta_validator.proofs.laws.one_list_of_findings.Goals as goal
-use Rattle.meta_validator.proofs.OneFindingList.{one_list_of_errors}
-
-pub returns : goal.returns
-returns c = one_list_of_errors

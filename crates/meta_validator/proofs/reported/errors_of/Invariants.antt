@@ -1,7 +1,0 @@
-use Rattle.std.proofs.Common.{take}
-use Rattle.meta_base.specs.Pieces.Saying.{AreErrorsFor}
-use Rattle.meta_validator.specs.Reporting.{findings_of}
-use Rattle.meta_validator.proofs.reported.errors_of.Given as goal
-
-abbrev pub invariant-loop-place : goal.invariant-loop-place
-invariant-loop-place l = AreErrorsFor (findings_of (take l.place l.found)) l.errors.items

@@ -1,5 +1,0 @@
-use Rattle.meta_warnings.proofs.Called.{called_to, called_from}
-use Rattle.meta_warnings.proofs.laws.called_rules_are_called.Goals as goal
-
-pub returns : goal.returns
-returns c = λ rules n. (called_to rules n, called_from rules n)

@@ -1,8 +1,0 @@
-use Rattle.std.proofs.Common.{◌≡◌, Bool, drop}
-use Rattle.meta_base.specs.Language.Text.{Text}
-use Rattle.meta_spanned.specs.Nodes.{rule_views}
-use Rattle.meta_warnings.specs.Rules.{after_first}
-use Rattle.meta_warnings.proofs.rules.first_judged.Given as goal
-
-abbrev pub invariant-loop-i : goal.invariant-loop-i
-invariant-loop-i l = (f : Text → Bool) → after_first f (rule_views (drop l.i l.rules)) ≡ after_first f (rule_views l.rules)

@@ -1,8 +1,0 @@
-use Rattle.std.proofs.Common.{◌≡◌, map, take}
-use Rattle.std.specs.Prelude.{flat_map}
-use Rattle.meta_spanned.specs.Nodes.{piece_of, rule_views}
-use Rattle.meta_warnings.specs.Suspects.{suspects_in}
-use Rattle.meta_warnings.proofs.suspects.suspect_spans.Given as goal
-
-abbrev pub invariant-loop-rule : goal.invariant-loop-rule
-invariant-loop-rule l = map piece_of l.found.items ≡ flat_map (λ r. suspects_in l.reason r.body) (rule_views (take l.rule-index l.rules))

@@ -1,0 +1,74 @@
+-- The outcome of a rule, by the answers of the matcher.
+use Rattle.std.proofs.Common.{◌≡◌, ◌∙◌, ap, ap₂, sym, ℕ, List}
+use Rattle.std.specs.Borrow.{Bor}
+use Rattle.base_ast.specs.Optimized.{optimized_rules_of}
+use Rattle.base_ast.specs.declared.optimized.OptimizedRule.{OptimizedRule}
+use Rattle.base_language.specs.Language.Expression.{Grammar}
+use Rattle.base_language.specs.Language.Expected.{expected, expected_at}
+use Rattle.base_language.specs.Language.State.{Trees}
+use Rattle.base_language.specs.Language.Text.{Text}
+use Rattle.base_language.proofs.ExpectedOnce.{one_list}
+use Rattle.matcher_program.specs.Programs.{Fits}
+use Rattle.matcher_program.specs.Refusals.{IsReason}
+use Rattle.matcher_program.specs.declared.compile.Unfit.{Unfit}
+use Rattle.matcher_program.specs.declared.compile.Unfit.TheVariants as no
+use Rattle.matcher_program.specs.declared.form.Property.{Property}
+use Rattle.matcher_support.specs.Sets.{has_set, is_in_property}
+use Rattle.matcher_interpreter.specs.Answers.{AreExpectedAt, FailsAt, IsMatched, IsStopped}
+use Rattle.matcher_interpreter.specs.Written.{seen}
+use Rattle.matcher_interpreter.specs.declared.matcher.Found.{Found}
+use Rattle.front_syntax.specs.Entries.{entries_of}
+use Rattle.matcher_interpreter.specs.ExpectedNames.{each_once, name_texts}
+use Rattle.matcher_interpreter.specs.declared.machine.Stop.{Stop}
+use Rattle.matcher_interpreter.specs.declared.machine.Stop.TheVariants as stop
+use Rattle.pest_meta_c.specs.Numbers.{failure_numbers, match_numbers}
+use Rattle.pest_meta_c.specs.MatchOutcomes.{HasMatched, IsFailureOutcome, IsOutcomeBy, IsRunOutcome, stopped_outcome, unfit_outcome}
+use Rattle.pest_meta_c.specs.declared.matching.outcome.MatchOutcome.{MatchOutcome}
+use Rattle.pest_meta_c.specs.declared.matching.outcome.MatchOutcome.TheVariants as is
+
+-- the end of the match, and its tokens
+pub matched : (g : Grammar) (ps : List Property) (rule : Text) (text : List ℕ) (it : Found) (numbers : List ℕ)
+    → Fits ps is_in_property → IsMatched g ps rule text it → ((trees : Trees) → seen it.entries.items ≡ entries_of 0 trees → numbers ≡ match_numbers g it.end trees) → HasMatched g rule text numbers
+matched g ps rule text it numbers fits m w =
+    let found = m.found is_in_property fits in
+    record { end_ = found.0; trees = m.trees; matches = found.2; numbered = w m.trees m.entries ∙ ap (λ n. match_numbers g n m.trees) (sym found.1) }
+
+-- the position of the failure, and the rules that are expected there
+pub failed : (g : Grammar) (ps : List Property) (rule : Text) (text : List ℕ) (steps place : ℕ) (names : List (Bor (List ℕ))) (o : MatchOutcome)
+    → Fits ps is_in_property → FailsAt g ps rule text place → AreExpectedAt g ps rule text place names → IsFailureOutcome g place (name_texts names) o → IsRunOutcome g rule text steps o
+failed g ps rule text steps place names (is.Matched numbers) fits f a t = absurd t
+failed g ps rule text steps place names (is.Failed numbers) fits f a t =
+    let fails = f is_in_property fits in
+    let found = a is_in_property fits in
+    let same : name_texts names ≡ each_once (expected fails.0) = found.2 ∙ ap each_once (one_list g is_in_property place found.1 fails.0 ∙ ap (λ n. expected_at n fails.0) fails.1) in
+    record { fails = fails.0; numbered = t ∙ ap₂ (λ n ns. failure_numbers g n ns) fails.1 same }
+failed g ps rule text steps place names is.NoRules fits f a t = absurd t
+failed g ps rule text steps place names is.Unfit fits f a t = absurd t
+failed g ps rule text steps place names is.NoRule fits f a t = absurd t
+failed g ps rule text steps place names is.OutOfSteps fits f a t = absurd t
+failed g ps rule text steps place names is.EmptyStack fits f a t = absurd t
+failed g ps rule text steps place names is.Memory fits f a t = tt
+
+-- a run that was stopped
+pub stopped : (g : Grammar) (ps : List Property) (rule : Text) (text : List ℕ) (steps : ℕ) (why : Stop) → Fits ps is_in_property → IsStopped g ps rule text steps why → IsRunOutcome g rule text steps (stopped_outcome why)
+stopped g ps rule text steps stop.Memory fits h = tt
+stopped g ps rule text steps stop.OutOfSteps fits h = λ o found. h is_in_property fits o found
+stopped g ps rule text steps stop.EmptyStack fits h = λ o found. h is_in_property fits o found
+
+-- rules that can't be run
+pub unfit : (g : Grammar) (rule : Text) (text : List ℕ) (steps : ℕ) (why : Unfit) → IsReason has_set g why → IsRunOutcome g rule text steps (unfit_outcome why)
+unfit g rule text steps no.Memory h = tt
+unfit g rule text steps (no.UnknownName name) h = (no.UnknownName name, tt, h)
+unfit g rule text steps (no.Bound bound) h = (no.Bound bound, tt, h)
+
+-- the rules that are read
+pub of_rules : (Are : List OptimizedRule → Type 0) (Unread : Type 0) (rules : List OptimizedRule) (rule : Text) (text : List ℕ) (steps : ℕ) (o : MatchOutcome)
+    → Are rules → IsRunOutcome (optimized_rules_of rules) rule text steps o → IsOutcomeBy Are Unread rule text steps o
+of_rules Are Unread rules rule text steps (is.Matched numbers) r h = record { rules = rules; read = r; holds = h }
+of_rules Are Unread rules rule text steps (is.Failed numbers) r h = record { rules = rules; read = r; holds = h }
+of_rules Are Unread rules rule text steps is.NoRules r h = absurd h
+of_rules Are Unread rules rule text steps is.Unfit r h = record { rules = rules; read = r; holds = h }
+of_rules Are Unread rules rule text steps is.NoRule r h = record { rules = rules; read = r; holds = h }
+of_rules Are Unread rules rule text steps is.OutOfSteps r h = record { rules = rules; read = r; holds = h }
+of_rules Are Unread rules rule text steps is.EmptyStack r h = record { rules = rules; read = r; holds = h }
+of_rules Are Unread rules rule text steps is.Memory r h = tt

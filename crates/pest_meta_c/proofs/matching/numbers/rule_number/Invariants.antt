@@ -1,0 +1,13 @@
+use Rattle.std.proofs.Common.{◌≡◌, None, chars, drop, ◌≤◌, length}
+use Rattle.base_ast.specs.Optimized.{optimized_rules_of}
+use Rattle.base_language.specs.Language.Expression.{last_place}
+use Rattle.pest_meta_c.proofs.matching.numbers.rule_number.Given as goal
+
+abbrev pub invariant-loop-below : goal.invariant-loop-below
+invariant-loop-below l = record {
+  within : l.below ≤ length l.rules;
+  none : last_place (drop l.below (optimized_rules_of l.rules)) (chars l.name) ≡ None;
+}
+
+abbrev pub decreases-loop-below : goal.decreases-loop-below
+decreases-loop-below l = l.below

@@ -1,0 +1,4 @@
+pub mod Escaping
+pub mod LineParts
+pub mod Parts
+pub mod Adding

@@ -1,0 +1,5 @@
+pub mod Escapes
+pub mod Lines
+pub mod Messages
+pub mod Statuses
+pub mod Arguments

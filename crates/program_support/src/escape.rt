@@ -1,0 +1,74 @@
+//! Texts in messages: no character of theirs can change how a terminal shows the rest.
+ghost use Rattle.std.specs.Prelude.{◌≡◌, ◌++◌, IfOk, OnOk, encode_utf8_all, string_bytes};
+ghost use Rattle.std.specs.Char.Escape.{escape_unicode};
+ghost use Rattle.program_support.specs.Escapes.{escaped_bytes, escaped_lines, is_hidden, is_hidden_in_lines, shown_character};
+
+use std::alloc::{AllocError, Global};
+
+/// Returns a text with each hidden character as an escape, as `\u{1b}`.
+pub fn escape(alloc: Global, text: &str) -> Result<String, AllocError>
+    ensures { IfOk result (λ escaped. string_bytes escaped ≡ escaped_bytes text.now) }
+{
+    let mut escaped = String::new(alloc);
+    for character in text.chars() {
+        push_shown(character, is_hidden(character), &mut escaped)?;
+    }
+    Ok(escaped)
+}
+
+/// Returns a text with each hidden character as an escape, but for tabs and line feeds.
+pub fn escape_lines(alloc: Global, text: &str) -> Result<String, AllocError>
+    ensures { IfOk result (λ escaped. string_bytes escaped ≡ escaped_lines text.now) }
+{
+    let mut escaped = String::new(alloc);
+    for character in text.chars() {
+        push_shown(character, is_hidden_in_lines(character), &mut escaped)?;
+    }
+    Ok(escaped)
+}
+
+/// Returns whether a character is shown as an escape: a control character, or one that is invisible or turns
+/// the direction of a line.
+pub fn is_hidden(character: char) -> bool
+    ensures { result ≡ is_hidden character }
+{
+    match character {
+        '\u{0}'..='\u{1f}' | '\u{7f}'..='\u{9f}' => true,
+        '\u{ad}' | '\u{61c}' | '\u{200b}'..='\u{200f}' | '\u{2028}'..='\u{202e}' => true,
+        '\u{2060}'..='\u{206f}' | '\u{feff}' => true,
+        _ => false,
+    }
+}
+
+/// Returns whether a character is hidden, and neither a tab nor a line feed.
+fn is_hidden_in_lines(character: char) -> bool
+    ensures { result ≡ is_hidden_in_lines character }
+{
+    match character {
+        '\t' | '\n' => false,
+        _ => is_hidden(character),
+    }
+}
+
+/// Appends a character, or its escape.
+fn push_shown(character: char, is_escaped: bool, text: &mut String) -> Result<(), AllocError>
+    ensures { OnOk result (string_bytes text.new
+        ≡ string_bytes text.old ++ encode_utf8_all (shown_character is_escaped character)) }
+{
+    if is_escaped {
+        push_escape(character, text)
+    } else {
+        text.push(character)
+    }
+}
+
+/// Appends the escape of a character.
+fn push_escape(character: char, text: &mut String) -> Result<(), AllocError>
+    ensures { OnOk result (string_bytes text.new
+        ≡ string_bytes text.old ++ encode_utf8_all (escape_unicode character)) }
+{
+    for sign in character.escape_unicode() {
+        text.push(sign)?;
+    }
+    Ok(())
+}

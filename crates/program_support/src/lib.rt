@@ -1,0 +1,12 @@
+//! Parts of all programs: arguments, exit statuses, inputs, output, replaced files, escaped messages, the
+//! version.
+#![tactic(auto)]
+
+pub mod arguments;
+pub mod escape;
+pub mod input;
+pub mod messages;
+pub mod output;
+pub mod replacement;
+pub mod status;
+pub mod version;

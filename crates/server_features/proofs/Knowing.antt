@@ -1,0 +1,83 @@
+-- Facts of rules.
+use Rattle.std.proofs.Common.{◌≡◌, ◌∙◌, ℕ, List, IsUtf8, Option, Some, None, arith, chars, false, get_or, inl, refl, slice_get, subst, sym}
+use Rattle.std.proofs.lemmas.Option.{slice_get-get_or, slice_get_within, unwrap_or-slice_get}
+use Rattle.std.specs.Bool.{Decides}
+use Rattle.std.specs.HashMap.{get_by_text}
+use Rattle.front_analysis.proofs.Resolved.{Named, absent, named, resolved}
+use Rattle.front_analysis.proofs.Roots.{nullable_nodes}
+use Rattle.front_analysis.specs.Names.{grammar_of}
+use Rattle.front_analysis.specs.declared.analysis.Analysis.{Analysis}
+use Rattle.base_language.specs.Language.Expression.{rule_of}
+use Rattle.base_language.specs.Language.WellFormed.{IsNullable}
+use Rattle.base_language.specs.Pieces.NamedTrees.{named as named_trees}
+use Rattle.base_language.specs.Pieces.Pairs.{pairs_text, pairs_trees}
+use Rattle.base_language.specs.declared.grammar.Rule.{Rule}
+use Rattle.base_language.specs.declared.grammar.Rule.TheVariants as rule_is
+use Rattle.base_language.specs.declared.runtime.faults.Fault as code
+use Rattle.base_language.specs.declared.runtime.faults.Fault.TheVariants as fault_is
+use Rattle.base_language.specs.declared.runtime.tokens.Pairs.{Pairs}
+use Rattle.front_reader.specs.Refusals.{AreReadAs, IsReadRefusal, first_flaw_of}
+use Rattle.front_spanned.specs.Erasure.{without_spans}
+use Rattle.front_spanned.specs.Nodes.{rule_views, view}
+use Rattle.front_spanned.specs.declared.node.ParserRule.{ParserRule}
+use Rattle.front_syntax.specs.Parses.{AreOfAGrammar, ParseRefuses}
+use Rattle.pest_meta.proofs.Spelled.{fails_so, flawed, flawed_give_none, trees_once}
+use Rattle.pest_meta.specs.Spelling.{AreFlawed, HasTrees, SpellsGrammar}
+use Rattle.server_features.specs.Facts.{AreFacts, AreFactsBy, AreFactsIn, SpellsNoneUnlessMemory, root_of}
+use Rattle.server_features.specs.declared.facts.RuleFacts.{RuleFacts}
+
+-- a name without a root means no rule
+pub no_root : (analysis : Analysis) (name : List ℕ) → IsUtf8 name → root_of analysis name ≡ None → AreFactsBy analysis name None
+no_root analysis name utf8 none h = go _ (h.resolved.known name utf8) (resolved analysis.grammar.rules.now (chars name))
+  where
+    go : (o : Option ℕ) → get_by_text analysis.grammar.names.places name ≡ o → Named analysis.grammar.rules.now (chars name) o → rule_of (grammar_of analysis.grammar.rules.now) (chars name) ≡ None
+    go None e (absent f) = f
+    go (Some r) e (named rule at f) =
+        let within = slice_get_within analysis.grammar.rules.now r rule at in
+        let some = slice_get-get_or analysis.grammar.table.roots.items r 0 (omega (arith, within, h.resolved.tabled.roots.alike)) in
+        absurd (let e2 : root_of analysis name ≡ slice_get analysis.grammar.table.roots.items r = rw e refl in cc)
+
+-- the flag of a root tells whether the rule is nullable
+pub root_known : (analysis : Analysis) (name : List ℕ) (root : ℕ) (facts : RuleFacts) → IsUtf8 name → root_of analysis name ≡ Some root
+    → facts.is_nullable ≡ get_or analysis.facts.nullable.items root false → AreFactsBy analysis name (Some facts)
+root_known analysis name root facts utf8 some flag h = go _ (h.resolved.known name utf8) (resolved analysis.grammar.rules.now (chars name))
+  where
+    go : (o : Option ℕ) → get_by_text analysis.grammar.names.places name ≡ o → Named analysis.grammar.rules.now (chars name) o → AreFactsIn (grammar_of analysis.grammar.rules.now) name (Some facts)
+    go None e (absent f) = absurd (let e2 : root_of analysis name ≡ None = rw e refl in cc)
+    go (Some r) e (named rule at f) =
+        let here : slice_get analysis.grammar.table.roots.items r ≡ Some root = (let e2 : root_of analysis name ≡ slice_get analysis.grammar.table.roots.items r = rw e refl in sym e2 ∙ some) in
+        let node = h.resolved.tabled.roots.lie r root rule at here in
+        let flags = analysis.facts.nullable.items in (
+          _,
+          f,
+          subst (λ b. Decides b (IsNullable (grammar_of analysis.grammar.rules.now) (without_spans (view rule.node))))
+              (unwrap_or-slice_get flags root false ∙ sym flag)
+              (nullable_nodes analysis.grammar.rules.now analysis.facts.table flags h.facts.tabled h.facts.nullable root (view rule.node) node),
+        )
+
+-- the rules that are read
+pub facts_read : (text name : List ℕ) (pairs : Pairs Rule) (rules : List ParserRule) (facts : Option RuleFacts) → pairs_text pairs ≡ text → AreOfAGrammar pairs
+    → first_flaw_of pairs ≡ None → AreReadAs pairs (rule_views rules) → AreFactsIn (grammar_of rules) name facts → AreFacts text name facts
+facts_read text name pairs rules facts t of_grammar flawless reads h =
+    let spells : SpellsGrammar (pairs_text pairs) (grammar_of rules) = record {
+      trees = named_trees (pairs_trees pairs);
+      of_text = of_grammar;
+      give = record { flawless = flawless; read = rule_views rules; reads = reads; same = refl };
+    } in
+    inl (grammar_of rules, subst (λ v. SpellsGrammar v (grammar_of rules)) t spells, h)
+
+-- what is refused before anything is read spells no rules
+pub parse_refused : (text : List ℕ) (fault : code.Fault) → ParseRefuses rule_is.grammar_rules text fault → SpellsNoneUnlessMemory text fault
+parse_refused text (fault_is.Memory e) h = tt
+parse_refused text (fault_is.Grammar errors) h = λ rules s. fails_so text h.place s.trees h.fails s.of_text
+
+-- nor what has a flaw
+pub read_refused : (text : List ℕ) (pairs : Pairs Rule) (fault : code.Fault) → pairs_text pairs ≡ text → AreOfAGrammar pairs
+    → IsReadRefusal (first_flaw_of pairs) fault → SpellsNoneUnlessMemory text fault
+read_refused text pairs (fault_is.Memory e) t h k = tt
+read_refused text pairs (fault_is.Grammar errors) t h k = λ rules s.
+    let trees = named_trees (pairs_trees pairs) in
+    let flaw : AreFlawed (pairs_text pairs) trees errors.items = flawed (pairs_text pairs) trees errors.items (first_flaw_of pairs) refl k in
+    let there = subst (λ v. AreFlawed v trees errors.items) t flaw in
+    let same = trees_once text trees s.trees (subst (λ v. HasTrees v trees) t h) s.of_text in
+    flawed_give_none text s.trees errors.items rules (subst (λ us. AreFlawed text us errors.items) same there) s.give

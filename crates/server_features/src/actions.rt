@@ -1,0 +1,157 @@
+//! Code actions: the remedies of diagnostics.
+ghost use Rattle.std.specs.Prelude.{◌≡◌, ◌++◌, ◌∷◌, [], IfOk, List, OnOk, map};
+ghost use Rattle.server_features.specs.Actions as spec;
+ghost use Rattle.server_features.specs.Actions.{AddsAction, AreActions, AreActionsAt, AreActionsOf, IsActionFor};
+ghost use Rattle.serde_json.specs.Data.{Data};
+ghost use Rattle.serde_json.specs.View.{view};
+
+use crate::diagnostics::{diagnostic_value, extent_of};
+use crate::formatting::do_touch;
+use crate::remedies::{Remedy, remedy_of};
+use lint_diagnostics::{Diagnostic, Options, diagnose};
+use serde_json::{Value, json};
+use server_protocol::messages::{Answer, ErrorCode};
+use server_protocol::params::lists_at;
+use server_protocol::values::workspace_edit_value;
+use server_requests::context::Context;
+use server_requests::locations::edit_at;
+use server_symbols::Extent;
+use std::alloc::{AllocError, Global};
+
+/// The most remedies that are answered at once.
+const MOST_ACTIONS: usize = 20;
+
+/// Returns the remedies of the diagnostics that a range touches, at most 20.
+pub fn code_actions(
+    alloc: Global,
+    context: &Context<'_>,
+    params: &Value,
+) -> Result<Answer, AllocError>
+    ensures { IfOk result (AreActions context.now (view params.now)) }
+{
+    let Some(extent) = context.extent(params) else {
+        return Ok(Answer::Error(ErrorCode::InvalidParams, "no range"));
+    };
+    if !is_asked_for(params) {
+        return Ok(Answer::Result(Value::Array(Vec::new(alloc))));
+    }
+    Ok(Answer::Result(actions_at(alloc, context, extent)?))
+}
+
+/// Whether quick fixes are asked for.
+fn is_asked_for(params: &Value) -> bool
+    ensures { result ≡ spec.is_asked_for (view params.now) }
+{
+    params.pointer("/context/only").is_none() || lists_at(params, "/context/only", "quickfix")
+}
+
+/// Returns the remedies of the diagnostics that an extent touches, as a value.
+fn actions_at(alloc: Global, context: &Context<'_>, extent: Extent) -> Result<Value, AllocError>
+    ensures { IfOk result (λ v. AreActionsAt context.now extent (view v)) }
+{
+    let diagnostics = diagnose(alloc, context.text, Options { starts: &[] })?;
+    let actions = actions_of(alloc, context, extent, &diagnostics)?;
+    Ok(Value::Array(actions))
+}
+
+/// Returns the remedies of those of some diagnostics that an extent touches, at most 20.
+fn actions_of(
+    alloc: Global,
+    context: &Context<'_>,
+    extent: Extent,
+    diagnostics: &[Diagnostic],
+) -> Result<Vec<Value>, AllocError>
+    ensures { IfOk result (λ actions.
+        AreActionsOf context.now extent 20 diagnostics.now (map view actions.items)) }
+{
+    let mut actions = Vec::new(alloc);
+    let mut rest = diagnostics;
+    while let Some((diagnostic, after)) = rest.split_first() {
+        if actions.len() >= MOST_ACTIONS {
+            return Ok(actions);
+        }
+        push_touched(alloc, context, extent, diagnostic, &mut actions)?;
+        rest = after;
+    }
+    Ok(actions)
+}
+
+/// Adds the remedy of a diagnostic, where an extent touches it.
+fn push_touched(
+    alloc: Global,
+    context: &Context<'_>,
+    extent: Extent,
+    diagnostic: &Diagnostic,
+    actions: &mut Vec<Value>,
+) -> Result<(), AllocError>
+    ensures { OnOk result (AddsAction context.now extent diagnostic.now
+        (map view actions.old.items) (map view actions.new.items)) }
+{
+    if !do_touch(extent, extent_of(diagnostic.start, diagnostic.end)) {
+        return Ok(());
+    }
+    push_action(alloc, context, diagnostic, actions)
+}
+
+/// Adds the remedy of a diagnostic, where it has one.
+fn push_action(
+    alloc: Global,
+    context: &Context<'_>,
+    diagnostic: &Diagnostic,
+    actions: &mut Vec<Value>,
+) -> Result<(), AllocError>
+    ensures { OnOk result ((values : List Data) × IsActionFor context.now diagnostic.now values
+        × (map view actions.new.items ≡ map view actions.old.items ++ values)) }
+{
+    if let Some(remedy) = remedy_of(alloc, context, diagnostic)? {
+        push_remedy(alloc, context, diagnostic, &remedy, actions)?;
+    }
+    Ok(())
+}
+
+/// Adds the remedy of a diagnostic.
+fn push_remedy(
+    alloc: Global,
+    context: &Context<'_>,
+    diagnostic: &Diagnostic,
+    remedy: &Remedy,
+    actions: &mut Vec<Value>,
+) -> Result<(), AllocError>
+    ensures { OnOk result (map view actions.new.items ≡ map view actions.old.items
+        ++ spec.action_data context.now diagnostic.now remedy.now ∷ []) }
+{
+    let action = action_value(alloc, context, diagnostic, remedy)?;
+    actions.push(action)?;
+    Ok(())
+}
+
+/// Returns a remedy as a value.
+fn action_value(
+    alloc: Global,
+    context: &Context<'_>,
+    diagnostic: &Diagnostic,
+    remedy: &Remedy,
+) -> Result<Value, AllocError>
+    ensures { IfOk result (λ v. view v ≡ spec.action_data context.now diagnostic.now remedy.now) }
+{
+    let edit = remedy_value(alloc, context, remedy)?;
+    let has_related = context.client.has_related;
+    let value = diagnostic_value(alloc, &context.index, context.uri, has_related, diagnostic)?;
+    json!(in alloc; {
+        "title": &remedy.title,
+        "kind": "quickfix",
+        "isPreferred": true,
+        "diagnostics": [value],
+        "edit": edit,
+    })
+}
+
+/// Returns the edit of a remedy as a value.
+fn remedy_value(alloc: Global, context: &Context<'_>, remedy: &Remedy) -> Result<Value, AllocError>
+    ensures { IfOk result (λ v. view v ≡ spec.remedy_data context.now remedy.now) }
+{
+    let mut edits = Vec::new(alloc);
+    let edit = edit_at(alloc, context, remedy.extent, remedy.replacement.as_str())?;
+    edits.push(edit)?;
+    workspace_edit_value(alloc, context.uri, edits)
+}

@@ -1,0 +1,222 @@
+//! Facts about rules: whether one may match nothing, and its first set.
+ghost use Rattle.std.specs.Prelude.{◌≡◌, IfErr, IfOk, false, slice_index_or};
+ghost use Rattle.server_features.specs.Facts as spec;
+ghost use Rattle.server_features.specs.Facts.{AreFacts, AreFactsBy, SpellsNoneUnlessMemory};
+
+use base_ast::deep::Deep;
+use base_language::grammar::Rule;
+use base_language::runtime::Fault;
+use front_analysis::{Analysis, Joint, Node, Shape, UnaryOperator, analyze};
+use front_names::Builtin;
+use front_spanned::ParserExpr;
+use pest_meta::parser::{consume_rules_with_spans, parse};
+use std::alloc::{AllocError, Global};
+
+/// The most expressions of a first set that are listed.
+const MOST_FIRST: usize = 20;
+
+/// Facts about a rule.
+#[derive(Drop)]
+pub struct RuleFacts {
+    /// Whether it may match without taking a character.
+    pub is_nullable: bool,
+    /// The expressions that can begin it, with commas, at most 20.
+    pub first: String,
+}
+
+/// Returns what is known of the rule of a name; nothing where the text is no grammar, or there is no such
+/// rule.
+pub fn rule_facts(alloc: Global, text: &str, name: &str) -> Result<Option<RuleFacts>, AllocError>
+    ensures { IfOk result (AreFacts text.now name.now) }
+{
+    match facts_in(alloc, text, name) {
+        Ok(facts) => Ok(facts),
+        Err(Fault::Grammar(_)) => Ok(None),
+        Err(Fault::Memory(error)) => Err(error),
+    }
+}
+
+/// Returns what is known of the rule of a name in a grammar.
+fn facts_in(alloc: Global, text: &str, name: &str) -> Result<Option<RuleFacts>, Fault>
+    ensures known { IfOk result (AreFacts text.now name.now) }
+    ensures refused { IfErr result (SpellsNoneUnlessMemory text.now) }
+{
+    let pairs = parse(alloc, Rule::grammar_rules, text)?;
+    let rules = consume_rules_with_spans(alloc, pairs)?;
+    let rules = Deep { value: rules };
+    let analysis = analyze(alloc, &rules.value)?;
+    Ok(facts_by(alloc, &analysis, name)?)
+}
+
+/// Returns what is known of the rule of a name, by an analysis.
+fn facts_by(
+    alloc: Global,
+    analysis: &Analysis<'_, '_>,
+    name: &str,
+) -> Result<Option<RuleFacts>, AllocError>
+    ensures { IfOk result (AreFactsBy analysis.now name.now) }
+{
+    let Some(root) = root_of(analysis, name) else {
+        return Ok(None);
+    };
+    let first = first_set(alloc, analysis, root)?;
+    Ok(Some(RuleFacts {
+        is_nullable: is_nullable(analysis, root),
+        first,
+    }))
+}
+
+/// Returns the number of the body of the rule of a name.
+fn root_of(analysis: &Analysis<'_, '_>, name: &str) -> Option<usize>
+    ensures { result ≡ spec.root_of analysis.now name.now }
+{
+    let rule = analysis.grammar.names.place_of(name)?;
+    analysis.grammar.table.roots.get(rule).copied()
+}
+
+/// Whether a node may match without taking a character.
+fn is_nullable(analysis: &Analysis<'_, '_>, node: usize) -> bool
+    ensures { result ≡ slice_index_or analysis.now.facts.nullable.items node false }
+{
+    analysis.facts.nullable.get(node).copied().unwrap_or(false)
+}
+
+/// Returns the expressions that can begin a node, by a depth-first search of the nodes at its start.
+fn first_set(
+    alloc: Global,
+    analysis: &Analysis<'_, '_>,
+    root: usize,
+) -> Result<String, AllocError> {
+    let count = analysis.grammar.table.nodes.len();
+    let mut is_visited = vec![in alloc; false; count]?;
+    let mut stack = vec![in alloc; root]?;
+    let mut first = FirstSet::new(alloc);
+    for _ in 0..count.saturating_mul(2) {
+        let Some(number) = stack.pop() else {
+            break;
+        };
+        let Some(flag) = is_visited.get_mut(number) else {
+            continue;
+        };
+        if *flag {
+            continue;
+        }
+        *flag = true;
+        if let Some(node) = analysis.grammar.table.nodes.get(number) {
+            visit(analysis, *node, &mut stack, &mut first)?;
+        }
+    }
+    Ok(first.text)
+}
+
+/// The expressions of a first set, so far.
+#[derive(Drop)]
+struct FirstSet {
+    text: String,
+    count: usize,
+}
+
+impl FirstSet {
+    /// Returns an empty set.
+    fn new(alloc: Global) -> FirstSet {
+        FirstSet {
+            text: String::new(alloc),
+            count: 0,
+        }
+    }
+
+    /// Adds an expression.
+    fn push(&mut self, expression: &str) -> Result<(), AllocError> {
+        if self.count > MOST_FIRST {
+            return Ok(());
+        }
+        if self.count > 0 {
+            self.text.push_str(", ")?;
+        }
+        if self.count == MOST_FIRST {
+            self.text.push_str("..")?;
+        } else {
+            write!(self.text, "`{expression}`")?;
+        }
+        self.count += 1;
+        Ok(())
+    }
+}
+
+/// Adds what is at the start of a node: its operands to the stack, or itself to the first set.
+fn visit(
+    analysis: &Analysis<'_, '_>,
+    node: Node<'_, '_>,
+    stack: &mut Vec<usize>,
+    first: &mut FirstSet,
+) -> Result<(), AllocError> {
+    match node.shape {
+        Shape::Leaf => visit_leaf(analysis, node, stack, first),
+        Shape::One(UnaryOperator::PosPred, _) | Shape::One(UnaryOperator::NegPred, _) => Ok(()),
+        Shape::One(_, inner) => {
+            stack.push(inner)?;
+            Ok(())
+        }
+        Shape::Two(Joint::Choice, left, right) => {
+            stack.push(right)?;
+            stack.push(left)?;
+            Ok(())
+        }
+        Shape::Two(Joint::Sequence, left, right) => {
+            if is_nullable(analysis, left) {
+                stack.push(right)?;
+            }
+            stack.push(left)?;
+            Ok(())
+        }
+    }
+}
+
+/// Adds a leaf to the first set, or the body of the rule that it calls to the stack.
+fn visit_leaf(
+    analysis: &Analysis<'_, '_>,
+    node: Node<'_, '_>,
+    stack: &mut Vec<usize>,
+    first: &mut FirstSet,
+) -> Result<(), AllocError> {
+    match node.expr {
+        ParserExpr::PushLiteral(_) => Ok(()),
+        ParserExpr::Ident(name) => match root_of(analysis, name.as_str()) {
+            Some(root) => {
+                stack.push(root)?;
+                Ok(())
+            }
+            None => push_builtin(name.as_str(), first),
+        },
+        _ => push_literal(node.span.as_str(), first),
+    }
+}
+
+/// Adds a builtin, if it may take a character.
+fn push_builtin(name: &str, first: &mut FirstSet) -> Result<(), AllocError> {
+    match Builtin::from_name(name) {
+        Some(builtin) if takes_nothing(builtin) => Ok(()),
+        _ => first.push(name),
+    }
+}
+
+/// Whether a builtin never takes a character.
+fn takes_nothing(builtin: Builtin) -> bool {
+    match builtin {
+        Builtin::Soi | Builtin::Eoi | Builtin::Drop => true,
+        Builtin::Set(_)
+        | Builtin::Newline
+        | Builtin::Peek
+        | Builtin::Pop
+        | Builtin::PeekAll
+        | Builtin::PopAll => false,
+    }
+}
+
+/// Adds a literal, if it is not empty.
+fn push_literal(text: &str, first: &mut FirstSet) -> Result<(), AllocError> {
+    if text.trim_start_matches('^') == "\"\"" {
+        return Ok(());
+    }
+    first.push(text.trim())
+}

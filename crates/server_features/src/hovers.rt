@@ -1,0 +1,251 @@
+//! Hovers.
+ghost use Rattle.std.specs.Prelude.{◌≡◌, ◌++◌, IfOk, string_bytes};
+ghost use Rattle.server_features.specs.Hovers as spec;
+ghost use Rattle.server_features.specs.Hovers.{HasDefinition, IsBuiltinText, IsHover, IsTextOf};
+ghost use Rattle.serde_json.specs.View.{view};
+
+use crate::facts::rule_facts;
+use base_ast::optimized::{OptimizedRule, release};
+use base_language::runtime::Fault;
+use front_names::is_builtin;
+use pest_meta::parse_and_optimize;
+use serde_json::{Value, json};
+use server_protocol::client::Client;
+use server_protocol::messages::Answer;
+use server_requests::builtins::builtin_doc;
+use server_requests::context::Context;
+use server_requests::locations::range_at;
+use server_requests::symbols::modifier_name;
+use server_symbols::{Definition, Extent, TokenClass};
+use std::alloc::{AllocError, Global};
+
+/// Returns what is known of the name at a position.
+pub fn hover(alloc: Global, context: &Context<'_>, params: &Value) -> Result<Answer, AllocError>
+    ensures { IfOk result (IsHover context.now (view params.now)) }
+{
+    let Some(name) = context.name(params) else {
+        return Ok(Answer::Result(Value::Null));
+    };
+    let text = text_of(alloc, context, name.text)?;
+    let value = hover_of(alloc, context, name.extent, text.as_str())?;
+    Ok(Answer::Result(value))
+}
+
+/// Returns a hover, or null where there is no text.
+fn hover_of(
+    alloc: Global,
+    context: &Context<'_>,
+    extent: Extent,
+    text: &str,
+) -> Result<Value, AllocError>
+    ensures { IfOk result (λ v. view v ≡ spec.hover_of context.now extent text.now) }
+{
+    if text.is_empty() {
+        Ok(Value::Null)
+    } else {
+        hover_value(alloc, context, extent, text)
+    }
+}
+
+/// Returns a hover as a value.
+fn hover_value(
+    alloc: Global,
+    context: &Context<'_>,
+    extent: Extent,
+    text: &str,
+) -> Result<Value, AllocError>
+    ensures { IfOk result (λ v. view v ≡ spec.hover_data context.now extent text.now) }
+{
+    let range = range_at(alloc, context, extent)?;
+    json!(in alloc; {
+        "contents": { "kind": kind_for(context.client), "value": text },
+        "range": range,
+    })
+}
+
+/// Returns the protocol's name of the kind of text that a client is sent.
+fn kind_for(client: Client) -> &'static str
+    ensures { result.now ≡ spec.kind_for client }
+{
+    if client.has_markdown {
+        "markdown"
+    } else {
+        "plaintext"
+    }
+}
+
+/// Returns what is known of a name: of the rule, or else of the builtin; nothing of another name.
+fn text_of(alloc: Global, context: &Context<'_>, name: &str) -> Result<String, AllocError>
+    ensures { IfOk result (λ text. IsTextOf context.now name.now (string_bytes text)) }
+{
+    match rule_named(context, &context.definitions, name) {
+        Some(definition) => rule_text(alloc, context, definition),
+        None => builtin_text(alloc, name),
+    }
+}
+
+/// Returns the first of some definitions that has a name.
+fn rule_named(context: &Context<'_>, definitions: &[Definition], name: &str) -> Option<Definition>
+    ensures { result ≡ spec.rule_named context.now name.now definitions.now }
+{
+    let mut rest = definitions;
+    while let Some((definition, after)) = rest.split_first() {
+        if context.part(definition.name) == name {
+            return Some(*definition);
+        }
+        rest = after;
+    }
+    None
+}
+
+/// Returns what a builtin matches, or nothing of another name.
+fn builtin_text(alloc: Global, name: &str) -> Result<String, AllocError>
+    ensures { IfOk result (λ text. IsBuiltinText name.now (string_bytes text)) }
+{
+    match builtin_doc(name) {
+        Some(doc) => meaning_text(alloc, name, doc),
+        None => property_text(alloc, name),
+    }
+}
+
+/// Returns what a builtin matches, in a sentence.
+fn meaning_text(alloc: Global, name: &str, doc: &str) -> Result<String, AllocError>
+    ensures { IfOk result (λ text. string_bytes text ≡ spec.meaning_of name.now doc.now) }
+{
+    let mut text = String::from_str(alloc, "`")?;
+    text.push_str(name)?;
+    text.push_str("` matches ")?;
+    text.push_str(doc)?;
+    text.push_str(".")?;
+    Ok(text)
+}
+
+/// Returns what the name of a Unicode property matches, or nothing of another name.
+fn property_text(alloc: Global, name: &str) -> Result<String, AllocError>
+    ensures { IfOk result (λ text. string_bytes text ≡ spec.property_text name.now) }
+{
+    if is_builtin(name) {
+        format!(in alloc; "`{name}` matches a character with this Unicode property.")
+    } else {
+        Ok(String::new(alloc))
+    }
+}
+
+/// Returns what is known of a rule: its doc comment, its definition, and notes.
+fn rule_text(
+    alloc: Global,
+    context: &Context<'_>,
+    definition: Definition,
+) -> Result<String, AllocError>
+    ensures { IfOk result (λ text. HasDefinition context.now definition (string_bytes text)) }
+{
+    let doc = doc_text(alloc, context, definition)?;
+    let code = definition_text(context, definition);
+    let notes = notes_text(alloc, context, definition)?;
+    framed_code(alloc, doc.as_str(), code, notes.as_str())
+}
+
+/// Returns a definition from its name on.
+fn definition_text<'d>(context: &Context<'d>, definition: Definition) -> &'d str
+    ensures { result.now ≡ spec.definition_text context.now definition }
+{
+    context.part(Extent {
+        start: definition.name.start,
+        end: definition.whole.end,
+    })
+}
+
+/// Returns a part of a grammar, as code, between two texts.
+fn framed_code(alloc: Global, before: &str, code: &str, after: &str) -> Result<String, AllocError>
+    ensures { IfOk result (λ text.
+        string_bytes text ≡ spec.framed before.now code.now after.now) }
+{
+    let mut text = String::from_str(alloc, before)?;
+    text.push_str("```pest\n")?;
+    text.push_str(code)?;
+    text.push_str("\n```")?;
+    text.push_str(after)?;
+    Ok(text)
+}
+
+/// Returns notes about a rule: its modifier, what is known of it, and its optimized form.
+fn notes_text(
+    alloc: Global,
+    context: &Context<'_>,
+    definition: Definition,
+) -> Result<String, AllocError> {
+    let mut text = String::new(alloc);
+    let modifier = modifier_name(definition.modifier);
+    if !modifier.is_empty() {
+        write!(text, "\n\nThe rule is {modifier}.")?;
+    }
+    push_facts(alloc, context, definition, &mut text)?;
+    push_optimized(alloc, context, definition, &mut text)?;
+    Ok(text)
+}
+
+/// Adds whether a rule may match nothing, and what can begin it.
+fn push_facts(
+    alloc: Global,
+    context: &Context<'_>,
+    definition: Definition,
+    text: &mut String,
+) -> Result<(), AllocError> {
+    let Some(facts) = rule_facts(alloc, context.text, context.part(definition.name))? else {
+        return Ok(());
+    };
+    text.push_str(if facts.is_nullable {
+        "\n\nIt may match nothing."
+    } else {
+        "\n\nIt takes at least one character."
+    })?;
+    if !facts.first.is_empty() {
+        write!(text, "\n\nIt begins with {}.", facts.first)?;
+    }
+    Ok(())
+}
+
+/// Returns the doc comment of a definition, without its slashes.
+fn doc_text(
+    alloc: Global,
+    context: &Context<'_>,
+    definition: Definition,
+) -> Result<String, AllocError> {
+    let mut text = String::new(alloc);
+    for token in &context.tokens {
+        let is_before = token.start >= definition.whole.start && token.end <= definition.name.start;
+        if is_before && token.class == TokenClass::Doc {
+            let line = context.part(token.extent());
+            text.push_str(line.strip_prefix("///").unwrap_or(line).trim())?;
+            text.push_str("\n")?;
+        }
+    }
+    Ok(text)
+}
+
+/// Adds the optimized form of a rule, where the grammar is accepted.
+fn push_optimized(
+    alloc: Global,
+    context: &Context<'_>,
+    definition: Definition,
+    text: &mut String,
+) -> Result<(), AllocError> {
+    match parse_and_optimize(alloc, context.text) {
+        Ok((_, rules)) => {
+            let outcome = push_form(&rules, context.part(definition.name), text);
+            release(rules);
+            outcome
+        }
+        Err(Fault::Grammar(_)) => Ok(()),
+        Err(Fault::Memory(error)) => Err(error),
+    }
+}
+
+/// Adds the optimized form of the rule of a name.
+fn push_form(rules: &[OptimizedRule], name: &str, text: &mut String) -> Result<(), AllocError> {
+    let Some(rule) = rules.iter().find(|rule| rule.name.as_str() == name) else {
+        return Ok(());
+    };
+    write!(text, "\n\nOptimized:\n```pest\n{}\n```", rule.expr)?;
+    Ok(())
+}

@@ -1,0 +1,3 @@
+mod Zips
+pub mod Counting
+pub mod Sequences

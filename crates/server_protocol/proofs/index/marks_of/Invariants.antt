@@ -1,0 +1,11 @@
+use Rattle.std.proofs.Common.{◌≤◌, ◌*◌, length}
+use Rattle.server_protocol.specs.Index.{AreMarks, IsMark}
+use Rattle.server_protocol.proofs.index.marks_of.Given as goal
+
+abbrev pub invariant-loop-count : goal.invariant-loop-count
+invariant-loop-count l = record {
+  mark : IsMark l.encoding l.text l.mark;
+  before : l.mark.offset ≤ l.count * 128;
+  within : l.mark.offset ≤ length l.text;
+  marks : AreMarks l.encoding l.text l.marks.items;
+}

@@ -1,0 +1,11 @@
+pub mod Asked
+pub mod Changes
+pub mod Clients
+pub mod Documents
+pub mod Messages
+pub mod Values
+pub mod TextChanges
+pub mod Index
+pub mod Laws
+pub mod Positions
+pub mod Shown

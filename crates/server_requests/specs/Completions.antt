@@ -1,0 +1,62 @@
+-- Completions.
+use Rattle.std.specs.Prelude.{◌≡◌, ℕ, List, [], ◌∷◌, ◌++◌, Bool, true, false, codes, map}
+use Rattle.serde_json.specs.Data.{Data, array, member, no_members, number, object, string, unsigned}
+use Rattle.serde_json.specs.View.{items_of, view}
+use Rattle.server_protocol.specs.declared.messages.Answer.{Answer}
+use Rattle.server_protocol.specs.declared.messages.Answer.TheVariants as answer
+use Rattle.base_language.specs.Language.Builtins.{builtins, property_names}
+use Rattle.front_names.specs.Builtins.{entry_of, name_of}
+use Rattle.front_names.specs.declared.builtin.Builtin.{Builtin}
+use Rattle.server_requests.specs.BuiltinDocs.{doc_of}
+use Rattle.server_requests.specs.Shown.{shown}
+use Rattle.server_requests.specs.declared.completions.CallForm.{CallForm}
+use Rattle.server_requests.specs.declared.context.Context.{Context}
+use Rattle.server_symbols.specs.declared.outline.Definition.{Definition}
+
+-- a label, and the protocol's number of its kind
+abbrev pub label_item : ℕ → List ℕ → Data
+label_item kind label = object (member (codes "kind") (number (unsigned kind))
+    (member (codes "label") (string label) no_members))
+
+-- a constant, and what it is
+abbrev pub constant_item : List ℕ × List ℕ → Data
+constant_item entry = object (member (codes "detail") (string entry.1)
+    (member (codes "kind") (number (unsigned 21)) (member (codes "label") (string entry.0) no_members)))
+
+abbrev pub builtin_item : Builtin → Data
+builtin_item b = constant_item (name_of b, doc_of b)
+
+abbrev pub rule_item : Context → Definition → Data
+rule_item context definition = label_item 3 (shown context.text.now definition.name)
+
+abbrev pub property_item : List ℕ → Data
+property_item name = constant_item (name, codes "a character with this Unicode property")
+
+-- the forms with arguments, each with its snippet
+abbrev pub call_forms : List (List ℕ × List ℕ)
+call_forms =
+    (codes "PUSH", codes "PUSH(${1:expression})")
+    ∷ (codes "PUSH_LITERAL", codes "PUSH_LITERAL(\"${1:text}\")")
+    ∷ (codes "PEEK", codes "PEEK[${1:start}..${2:end}]")
+    ∷ []
+
+abbrev pub form_of : CallForm → List ℕ × List ℕ
+form_of form = (form.label.now, form.snippet.now)
+
+-- a form, as a snippet or not
+abbrev pub form_item : Bool → List ℕ × List ℕ → Data
+form_item true form = object (member (codes "insertText") (string form.1)
+    (member (codes "insertTextFormat") (number (unsigned 2))
+    (member (codes "kind") (number (unsigned 14)) (member (codes "label") (string form.0) no_members))))
+form_item false form = label_item 14 form.0
+
+-- the rules of a document, builtins, and the forms with arguments
+abbrev pub items_in : Context → List Builtin → List Data
+items_in context bs = ((map (rule_item context) context.definitions.items ++ map builtin_item bs)
+    ++ map property_item property_names) ++ map (form_item context.client.has_snippets) call_forms
+
+-- these, with the builtins of the language's list
+abbrev pub AreCompletions : Context → Answer → Type 0
+AreCompletions context (answer.Result v) = (bs : List Builtin) × (map entry_of bs ≡ builtins)
+    × (view v ≡ array (items_of (items_in context bs)))
+AreCompletions context (answer.Error code reason) = ⊥

@@ -1,0 +1,84 @@
+//! Prints the trees of matches in preorder, and why there are none.
+use crate::tags::PAIRS;
+use base_language::runtime::Position;
+use matcher_engine::matcher::Matcher;
+use matcher_support::unicode_properties::UnicodeProperties;
+use pest_meta::optimizer::release;
+use pest_meta::parse_and_optimize;
+use std::alloc::{AllocError, Global};
+use std::io;
+
+/// How many rules stand before the pairs in a grammar that the matcher does not compile.
+const OTHER_RULES: usize = 4096;
+
+/// Prints the rule of each tree, its positions in bytes, and the number of trees up to its last descendant,
+/// or why there is no match in so many steps at most.
+fn print_trees(
+    rt: &HostRuntime,
+    matcher: &Matcher,
+    rule: &str,
+    text: &str,
+    steps: u64,
+) -> io::Result<()> {
+    let Some(start) = Position::new(text, 0) else {
+        return eprintln!(rt; "no start of the text");
+    };
+    match matcher.parse_preorder(rt.alloc(), rule, start, steps) {
+        Ok(found) => {
+            for tree in &found.trees {
+                let name = matcher.rule_name(tree.row).unwrap_or("?");
+                println!(rt; "{name}: {} to {}, {}", tree.start, tree.end, tree.after)?;
+            }
+            println!(rt; "end: {}, furthest failure: {}", found.end, found.furthest)
+        }
+        Err(refusal) => println!(rt; "{refusal:?}"),
+    }
+}
+
+/// Returns a matcher of a grammar's optimized rules.
+fn matcher_of(alloc: Global, grammar: &str) -> Option<Matcher> {
+    let (_builtins, rules) = parse_and_optimize(alloc, grammar).ok()?;
+    let matcher = Matcher::new(alloc, &rules, &UnicodeProperties);
+    release(rules);
+    matcher.ok()
+}
+
+/// Returns the grammar of pairs behind many other rules. The only error is an allocation failure.
+fn with_other_rules(alloc: Global) -> Result<String, AllocError> {
+    let mut grammar = String::new(alloc);
+    for number in 0..OTHER_RULES {
+        let rule = format!(in alloc; "other{number} = {{ \"x\" }}\n")?;
+        grammar.push_str(rule.as_str())?;
+    }
+    grammar.push_str(PAIRS)?;
+    Ok(grammar)
+}
+
+/// Prints trees of a grammar of pairs, and a refusal for each reason.
+fn print_pairs(rt: &HostRuntime, grammar: &str) -> io::Result<()> {
+    let Some(matcher) = matcher_of(rt.alloc(), grammar) else {
+        return eprintln!(rt; "the grammar of pairs gives no matcher");
+    };
+    print_trees(rt, &matcher, "pair", "left=-7", 1_000_000)?;
+    print_trees(rt, &matcher, "pair", "left=?", 1_000_000)?;
+    print_trees(rt, &matcher, "pair", "left=-7", 1)?;
+    print_trees(rt, &matcher, "list", "left=-7", 1_000_000)
+}
+
+/// Prints what a rule answers that takes a text from the empty stack.
+fn print_empty_stack(rt: &HostRuntime) -> io::Result<()> {
+    match matcher_of(rt.alloc(), "taken = { POP }") {
+        Some(matcher) => print_trees(rt, &matcher, "taken", "x", 1_000_000),
+        None => eprintln!(rt; "the grammar of the stack gives no matcher"),
+    }
+}
+
+/// Prints trees and refusals of a matcher that is compiled, and of one that is interpreted.
+pub fn print_examples(rt: &HostRuntime) -> io::Result<()> {
+    print_pairs(rt, PAIRS)?;
+    print_empty_stack(rt)?;
+    match with_other_rules(rt.alloc()) {
+        Ok(grammar) => print_pairs(rt, grammar.as_str()),
+        Err(_) => eprintln!(rt; "out of memory"),
+    }
+}

@@ -1,0 +1,55 @@
+//! The matcher, and its trees as text.
+ghost use Rattle.std.specs.Prelude.{IfErr, IfOk, chars, string_bytes, ◌≡◌};
+ghost use Rattle.matcher_program.specs.Programs.{Fits, grammar_of};
+ghost use Rattle.matcher_support.specs.Shown.{shown};
+ghost use Rattle.base_ast.specs.Optimized.{optimized_rules_of};
+ghost use Rattle.base_language.specs.Language.State.{Trees};
+ghost use Rattle.matcher_interpreter.specs.Answers.{IsMatched, IsRefused, IsSoundMatcher};
+ghost use Rattle.matcher_interpreter.specs.Written.{seen};
+ghost use Rattle.front_syntax.specs.Entries.{entries_of};
+
+use base_ast::optimized::OptimizedRule;
+use matcher_interpreter::entries::Entry;
+use matcher_interpreter::matcher::{Found, Matcher, Refusal};
+use matcher_program::compile::Unfit;
+use matcher_program::properties::Properties;
+use std::alloc::{AllocError, Global};
+
+/// Returns a matcher for rules.
+pub fn matcher_of<P: Properties>(
+    alloc: Global,
+    rules: &[OptimizedRule],
+    properties: &P,
+) -> Result<Matcher, Unfit>
+    ensures sound { IfOk result IsSoundMatcher }
+    ensures means { IfOk result (λ matcher.
+        grammar_of matcher.program.rows.items ≡ optimized_rules_of rules.now) }
+    ensures fits { IfOk result (λ matcher. Fits matcher.program.properties.items P.classes) }
+{
+    Matcher::new(alloc, rules, properties)
+}
+
+/// Matches a text by a rule, with at most so many steps.
+pub fn match_text<'a>(
+    matcher: &'a Matcher,
+    alloc: Global,
+    rule: &'a str,
+    text: &'a str,
+    steps: u64,
+) -> Result<Found<'a>, Refusal<'a>>
+    requires sound { IsSoundMatcher matcher.now }
+    ensures matched { IfOk result (λ found. IsMatched (grammar_of matcher.entry.now.program.rows.items)
+        matcher.entry.now.program.properties.items (chars rule.entry.now) text.entry.now found) }
+    ensures refused { IfErr result (IsRefused (grammar_of matcher.entry.now.program.rows.items)
+        matcher.entry.now.program.properties.items (chars rule.entry.now) text.entry.now steps) }
+{
+    matcher.parse(alloc, rule, text, steps)
+}
+
+/// Returns token trees as lines.
+pub fn tree_text(alloc: Global, text: &str, entries: &[Entry<'_>]) -> Result<String, AllocError>
+    ensures { IfOk result (λ lines. (trees : Trees) → seen entries.now ≡ entries_of 0 trees
+        → string_bytes lines ≡ shown text.now 0 trees) }
+{
+    matcher_support::shown::tree_text(alloc, text, entries)
+}

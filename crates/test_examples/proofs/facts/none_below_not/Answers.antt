@@ -1,0 +1,5 @@
+use Rattle.test_examples.proofs.facts.none_below_not.Goals as goal
+use Rattle.test_examples.proofs.WhatIsExpected.{none_below_not}
+
+pub returns : goal.returns
+returns c = λ classes. none_below_not classes

@@ -1,0 +1,5 @@
+use Rattle.test_examples.proofs.facts.tags_mean_nothing.Goals as goal
+use Rattle.test_examples.proofs.WhatTagsDo.{tags_mean_nothing}
+
+pub returns : goal.returns
+returns c = λ classes. tags_mean_nothing classes

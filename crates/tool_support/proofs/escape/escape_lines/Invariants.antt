@@ -1,8 +1,0 @@
-use Rattle.std.proofs.Common.{◌≡◌, encode_utf8_all, string_bytes}
-use Rattle.std.specs.List.{flat_map}
-use Rattle.tool_support.specs.Escapes.{is_hidden_in_lines, shown_character}
-use Rattle.tool_support.proofs.escape.escape_lines.Given as goal
-
-abbrev pub invariant-loop-character : goal.invariant-loop-character
-invariant-loop-character l =
-    string_bytes l.escaped ≡ encode_utf8_all (flat_map (λ c. shown_character (is_hidden_in_lines c) c) l.yielded)

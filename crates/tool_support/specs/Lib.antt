@@ -1,4 +1,0 @@
-pub mod Escapes
-pub mod Lines
-pub mod Messages
-pub mod Statuses
