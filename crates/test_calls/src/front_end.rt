@@ -2,6 +2,7 @@
 ghost use Rattle.std.specs.Prelude.{IfErr, IfOk, IsErrAnd, [], ◌≡◌};
 ghost use Rattle.base_ast.specs.Ast.{rules_of};
 ghost use Rattle.base_ast.specs.Optimized.{optimized_rules_of};
+ghost use Rattle.base_language.specs.Language.CharacterBounds.{HasCharacterBounds};
 ghost use Rattle.base_language.specs.Language.KnownNames.{HasKnownNames};
 ghost use Rattle.base_language.specs.Language.WellFormed.{HasReadableCounts, IsPlain};
 ghost use Rattle.base_language.specs.Pieces.NamedTrees.{named};
@@ -44,6 +45,8 @@ pub fn parse_and_optimize<'i>(
     ensures outcomes { IfOk result (λ answer. OfSpelled grammar.entry.now
         (λ rules. HasOutcomesOf rules (optimized_rules_of answer.1.items))) }
     ensures known_names { IfOk result (λ answer. HasKnownNames (optimized_rules_of answer.1.items)) }
+    ensures character_bounds { IfOk result
+        (λ answer. HasCharacterBounds (optimized_rules_of answer.1.items)) }
     ensures ends { IfOk result (λ answer. OfSpelled grammar.entry.now
         (λ rules. IsPlain rules → EndsFromEverywhere rules)) }
     ensures answer_ends { IfOk result (λ answer. OfSpelled grammar.entry.now
