@@ -4,7 +4,7 @@ pub mod Trees
 pub mod Reaching
 pub mod Forward
 pub mod Leaves
-pub mod Sets
+pub mod CharacterSets
 pub mod Branching
 pub mod Ends
 pub mod Existence

@@ -20,7 +20,7 @@ use Rattle.base_language.specs.Language.Text.{Text}
 use Rattle.matcher_code.specs.Reading.{is_covered}
 use Rattle.matcher_code.specs.Laid.{span_of}
 use Rattle.matcher_code.proofs.Characters.{span_of_set}
-use Rattle.matcher_code.proofs.Sets.{below}
+use Rattle.matcher_code.proofs.CharacterSets.{below}
 use Rattle.matcher_program.specs.declared.form.Form.{Form}
 use Rattle.matcher_program.specs.declared.form.Program.{Program}
 use Rattle.matcher_sets.specs.declared.modes.Atomicity.{Atomicity}

@@ -20,7 +20,7 @@ use Rattle.matcher_code.specs.Sets.{IsSetOf}
 use Rattle.matcher_code.specs.Laid.{HasOutcome, Performs, at_label, skip_set, span_of}
 use Rattle.matcher_code.specs.Reached.{Comes, IsAt}
 use Rattle.matcher_code.proofs.Characters.{choice_of_sets}
-use Rattle.matcher_code.proofs.Sets.{all_performs, below, one_performs}
+use Rattle.matcher_code.proofs.CharacterSets.{all_performs, below, one_performs}
 use Rattle.matcher_program.specs.declared.form.Class.{Class}
 use Rattle.matcher_program.specs.declared.form.Class.TheVariants as class
 use Rattle.matcher_program.specs.declared.form.Form.{Form}

@@ -18,7 +18,7 @@ use Rattle.matcher_code.specs.Reading.{is_covered}
 use Rattle.matcher_code.specs.Sets.{IsSetOf}
 use Rattle.matcher_code.specs.Laid.{Performs, at_label, span_of}
 use Rattle.matcher_code.specs.Reached.{Comes}
-use Rattle.matcher_code.proofs.Sets.{all_performs, below}
+use Rattle.matcher_code.proofs.CharacterSets.{all_performs, below}
 use Rattle.matcher_sets.proofs.Leaves.{rest_scalars}
 
 pub any-append : (ts us : List Text) (v : Text) → any_begins (ts ++ us) v ≡ (any_begins ts v || any_begins us v)

@@ -1,4 +1,4 @@
-use Rattle.matcher_code.proofs.Sets.{all_performs}
+use Rattle.matcher_code.proofs.CharacterSets.{all_performs}
 use Rattle.matcher_code.proofs.laws.all_operation_matches_span.Goals as goal
 
 pub returns : goal.returns

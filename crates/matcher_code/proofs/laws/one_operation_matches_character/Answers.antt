@@ -1,4 +1,4 @@
-use Rattle.matcher_code.proofs.Sets.{one_performs}
+use Rattle.matcher_code.proofs.CharacterSets.{one_performs}
 use Rattle.matcher_code.proofs.laws.one_operation_matches_character.Goals as goal
 
 pub returns : goal.returns
