@@ -2,7 +2,7 @@ use Rattle.std.proofs.Common.{◌∙◌, ◌++◌, ap₂, sym}
 use Rattle.std.proofs.lemmas.List.{append_assoc}
 use Rattle.std.proofs.lemmas.Result.{IfOk-weaker}
 use Rattle.front_names.specs.Messages.{prefix, suffix}
-use Rattle.front_names.proofs.Message.about.Goals as goal
+use Rattle.front_names.proofs.messages.Message.about.Goals as goal
 
 pub returns : goal.returns
 returns c =
