@@ -1,7 +1,7 @@
 -- Code actions.
 use Rattle.std.specs.Prelude.{◌≡◌, ◌-◌, ◌==◌, ◌++◌, ◌||◌, ℕ, List, [], ◌∷◌, Bool, true, MatchBool, None, Option, Some, codes, is_none, length, string_bytes}
 use Rattle.lint_findings.specs.declared.diagnostic.Diagnostic.{Diagnostic}
-use Rattle.server_features.specs.Diagnostics.{lint_findings, extent_of}
+use Rattle.server_features.specs.Diagnostics.{diagnostic_data, extent_of}
 use Rattle.server_features.specs.Formatting.{do_touch}
 use Rattle.server_features.specs.Remedies.{IsRemedyBy}
 use Rattle.server_features.specs.declared.remedies.Remedy.{Remedy}
@@ -31,7 +31,7 @@ remedy_data context remedy = workspace_edit_data context.uri.now
 
 -- a diagnostic in a document, as it is published
 abbrev pub reported_data : Context → Diagnostic → Data
-reported_data context diagnostic = lint_findings context.client.has_related context.client.encoding
+reported_data context diagnostic = diagnostic_data context.client.has_related context.client.encoding
     context.text.now context.uri.now diagnostic
 
 -- the action of a diagnostic's remedy

@@ -68,9 +68,9 @@ plain_data encoding text diagnostic =
 
 -- a diagnostic of a text, whose document has this URI, with other parts of the text where these are asked
 -- for
-abbrev pub lint_findings : Bool → Encoding → List ℕ → List ℕ → Diagnostic → Data
-lint_findings false encoding text uri diagnostic = plain_data encoding text diagnostic
-lint_findings true encoding text uri diagnostic = object (first_members encoding text diagnostic
+abbrev pub diagnostic_data : Bool → Encoding → List ℕ → List ℕ → Diagnostic → Data
+diagnostic_data false encoding text uri diagnostic = plain_data encoding text diagnostic
+diagnostic_data true encoding text uri diagnostic = object (first_members encoding text diagnostic
     (member (codes "relatedInformation")
     (array (items_of (map (related_data encoding text uri) diagnostic.related.items)))
     (last_members diagnostic)))
@@ -93,5 +93,5 @@ pub record Publishes (client : Client) (uri : List ℕ) (document : Document) (b
   pub diagnostics : List Diagnostic
   pub of_text : IsDiagnosis [] (string_bytes document.text) diagnostics
   pub message : IsPublication uri document.version (array (items_of
-      (map (lint_findings client.has_related client.encoding (string_bytes document.text) uri)
+      (map (diagnostic_data client.has_related client.encoding (string_bytes document.text) uri)
       diagnostics))) body

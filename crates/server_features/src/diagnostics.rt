@@ -81,7 +81,7 @@ fn diagnostic_values(
     has_related: bool,
     diagnostics: &[Diagnostic],
 ) -> Result<Value, AllocError>
-    ensures { IfOk result (λ v. view v ≡ array (items_of (map (spec.lint_findings has_related
+    ensures { IfOk result (λ v. view v ≡ array (items_of (map (spec.diagnostic_data has_related
         (index_encoding index.now) (index_text index.now) uri.now) diagnostics.now))) }
 {
     let mut values = Vec::new(alloc);
@@ -103,7 +103,7 @@ fn push_diagnostic(
     values: &mut Vec<Value>,
 ) -> Result<(), AllocError>
     ensures { OnOk result (map view values.new.items ≡ map view values.old.items
-        ++ spec.lint_findings has_related (index_encoding index.now) (index_text index.now) uri.now
+        ++ spec.diagnostic_data has_related (index_encoding index.now) (index_text index.now) uri.now
         diagnostic.now ∷ []) }
 {
     let value = diagnostic_value(alloc, index, uri, has_related, diagnostic)?;
@@ -120,7 +120,7 @@ pub fn diagnostic_value(
     has_related: bool,
     diagnostic: &Diagnostic,
 ) -> Result<Value, AllocError>
-    ensures { IfOk result (λ v. view v ≡ spec.lint_findings has_related
+    ensures { IfOk result (λ v. view v ≡ spec.diagnostic_data has_related
         (index_encoding index.now) (index_text index.now) uri.now diagnostic.now) }
 {
     if has_related {
@@ -157,7 +157,7 @@ fn related_diagnostic(
     uri: &str,
     diagnostic: &Diagnostic,
 ) -> Result<Value, AllocError>
-    ensures { IfOk result (λ v. view v ≡ spec.lint_findings true
+    ensures { IfOk result (λ v. view v ≡ spec.diagnostic_data true
         (index_encoding index.now) (index_text index.now) uri.now diagnostic.now) }
 {
     let range = range_value(alloc, index, extent_of(diagnostic.start, diagnostic.end))?;
