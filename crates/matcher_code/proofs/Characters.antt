@@ -1,5 +1,5 @@
 -- Expressions that match one character of a set, and as many as there are.
-use Rattle.std.proofs.Common.{◌≡◌, refl, sym, ◌∙◌, ap, subst, ℕ, suc, ◌+◌, List, [], ◌∷◌, Bool, true, false, ◌&&◌, ◌||◌, Some, arith, add-zero, take, drop, if◌then◌else◌}
+use Rattle.std.proofs.Common.{◌≡◌, refl, sym, ◌∙◌, ap, subst, ℕ, zero, suc, ◌+◌, ◌≤◌, List, [], ◌∷◌, Bool, true, false, ◌&&◌, ◌||◌, Some, arith, add-zero, length, take, drop, if◌then◌else◌}
 use Rattle.std.specs.Prelude.{not}
 use Rattle.std.specs.List.{sum_by}
 use Rattle.std.specs.Char.{len_utf8}
@@ -11,7 +11,7 @@ use Rattle.base_language.specs.Language.State.{Classes, Mode, None', Outcome, St
 use Rattle.base_language.specs.Language.Matching.{character_outcome, starts_in}
 use Rattle.base_language.specs.Language.Meaning as by
 use Rattle.base_language.specs.Language.Meaning.{Does, Run, Skipping, Task, Turns, body_mode, gives_token, seen_from, with_token}
-use Rattle.matcher_code.specs.Laid.{HasOutcome, IsTight, skip_set, span_of}
+use Rattle.matcher_code.specs.Laid.{HasOutcome, IsTight, TakesSome, skip_set, span_of}
 
 -- a state by its parts
 abbrev here : ℕ → Text → List Text → State
@@ -27,6 +27,52 @@ moved_on n p c cs ts =
     let b = sum_by-cons len_utf8 c [] in
     let e : p + sum_by len_utf8 (c ∷ take n cs) ≡ (p + sum_by len_utf8 (c ∷ [])) + sum_by len_utf8 (take n cs) = omega (arith, a, b) in
     ap (λ q. here q (drop n cs) ts) e
+
+none_left : (n p : ℕ) (ts : List Text) → moved n (here p [] ts) ≡ here p [] ts
+none_left zero p ts = moved_none p [] ts
+none_left (suc n) p ts = ap (λ q. here q [] ts) (add-zero p)
+
+-- taking characters in two parts
+moved_add : (j i p : ℕ) (cs : Text) (ts : List Text) → moved (j + i) (here p cs ts) ≡ moved i (moved j (here p cs ts))
+moved_add zero i p cs ts =
+    let e : 0 + i ≡ i = omega arith in
+    ap (λ n. moved n (here p cs ts)) e ∙ ap (moved i) (sym (moved_none p cs ts))
+moved_add (suc j) i p [] ts = none_left (suc j + i) p ts ∙ sym (ap (moved i) (none_left (suc j) p ts) ∙ none_left i p ts)
+moved_add (suc j) i p (c ∷ cs) ts =
+    let e : suc j + i ≡ suc (j + i) = omega arith in
+    ap (λ n. moved n (here p (c ∷ cs) ts)) e ∙ (moved_on (j + i) p c cs ts ∙ (moved_add j i (p + size_of (c ∷ [])) cs ts ∙ sym (ap (moved i) (moved_on j p c cs ts))))
+
+-- the characters of a set from the start on
+span_none : (f : ℕ → Bool) (cs : Text) → starts_in f cs ≡ false → span_of f cs ≡ 0
+span_none f [] e = refl
+span_none f (c ∷ cs) e = rw e refl
+
+pub starts_span : (f : ℕ → Bool) (cs : Text) → starts_in f cs ≡ true → 1 ≤ span_of f cs
+starts_span f [] e = cc
+starts_span f (c ∷ cs) e = rw e (omega arith)
+
+pub span_within : (f : ℕ → Bool) (cs : Text) → span_of f cs ≤ length cs
+span_within f [] = omega arith
+span_within f (c ∷ cs) = go (f c) (span_within f cs)
+  where
+    go : (b : Bool) → span_of f cs ≤ length cs → (if b then suc (span_of f cs) else 0) ≤ suc (length cs)
+    go true h = omega (arith, h)
+    go false h = omega arith
+
+span_split : (f : ℕ → Bool) (j : ℕ) (cs : Text) → j ≤ span_of f cs → span_of f cs ≡ j + span_of f (drop j cs)
+span_split f zero cs w = let e : span_of f (drop 0 cs) ≡ span_of f cs = refl in omega (arith, e)
+span_split f (suc j) [] w = absurd (omega (arith, w))
+span_split f (suc j) (c ∷ cs) w = go (f c) w (span_split f j cs)
+  where
+    go : (b : Bool) → suc j ≤ (if b then suc (span_of f cs) else 0) → (j ≤ span_of f cs → span_of f cs ≡ j + span_of f (drop j cs))
+        → (if b then suc (span_of f cs) else 0) ≡ suc j + span_of f (drop j cs)
+    go true w ih = omega (arith, ih (omega (arith, w)))
+    go false w ih = absurd (omega (arith, w))
+
+shorter : (j : ℕ) (cs : Text) → j ≤ length cs → length (drop j cs) + j ≡ length cs
+shorter zero cs w = omega arith
+shorter (suc j) [] w = absurd (omega (arith, w))
+shorter (suc j) (c ∷ cs) w = omega (arith, shorter j cs (omega (arith, w)))
 
 either_starts : (f h : ℕ → Bool) (t : Text) → starts_in (λ c. f c || h c) t ≡ (starts_in f t || starts_in h t)
 either_starts f h [] = refl
@@ -84,35 +130,62 @@ module _ (g : Grammar) (classes : Classes) where
       → HasOutcome g classes (Run (body_mode r m) r.body) (character_outcome f) (λ s. 0) → HasOutcome g classes (Run m (Ident x)) (character_outcome f) (λ s. 0)
   silent_call_of_set m x r f h e d s = silently m x s r (moved 1 s) (starts_in f s.rest) h e (d s)
 
-  module _ (m : Mode) (e : Expression) (f : ℕ → Bool) (tight : IsTight g classes m) (one : HasOutcome g classes (Run m e) (character_outcome f) (λ s. 0)) where
-    turns : (p : ℕ) (cs : Text) (ts : List Text) → Quiet (Turns m e) (here p cs ts) (Success (moved (span_of f cs) (here p cs ts)) None')
-    turns p [] ts =
-        let k = tight (here p [] ts) in
-        let x = one (here p [] ts) in
-        subst (λ y. Quiet (Turns m e) (here p [] ts) (Success y None')) (sym (moved_none p [] ts)) (by.turn_none k.0 x.0, omega (arith, k.1, x.1))
-    turns p (c ∷ u) ts = go (f c) (one (here p (c ∷ u) ts)) (turns (p + size_of (c ∷ [])) u ts)
-      where
-        go : (b : Bool) → Quiet (Run m e) (here p (c ∷ u) ts) (either (moved 1 (here p (c ∷ u) ts)) b)
-            → Quiet (Turns m e) (moved 1 (here p (c ∷ u) ts)) (Success (moved (span_of f u) (moved 1 (here p (c ∷ u) ts))) None')
-            → Quiet (Turns m e) (here p (c ∷ u) ts) (Success (moved (if b then suc (span_of f u) else 0) (here p (c ∷ u) ts)) None')
-        go true x ih =
-            let k = tight (here p (c ∷ u) ts) in
-            subst (λ y. Quiet (Turns m e) (here p (c ∷ u) ts) (Success y None')) (sym (moved_on (span_of f u) p c u ts)) (by.turn k.0 x.0 ih.0, omega (arith, k.1, x.1, ih.1))
-        go false x ih =
-            let k = tight (here p (c ∷ u) ts) in
-            subst (λ y. Quiet (Turns m e) (here p (c ∷ u) ts) (Success y None')) (sym (moved_none p (c ∷ u) ts)) (by.turn_none k.0 x.0, omega (arith, k.1, x.1))
+  -- an expression that takes one or more characters of a set
+  some_of_one : (k : Task) (f : ℕ → Bool) → HasOutcome g classes k (character_outcome f) (λ s. 0) → (s : State) → TakesSome g classes k s f
+  some_of_one k f one s = let x = one s in record { more = 0; found = x.0; quiet = x.1; within = starts_span f s.rest }
 
-    whole : (p : ℕ) (cs : Text) (ts : List Text) → Quiet (Run m (Rep e)) (here p cs ts) (Success (moved (span_of f cs) (here p cs ts)) None')
-    whole p [] ts =
-        let x = one (here p [] ts) in
-        subst (λ y. Quiet (Run m (Rep e)) (here p [] ts) (Success y None')) (sym (moved_none p [] ts)) (by.rep_none x.0, x.1)
-    whole p (c ∷ u) ts = go (f c) (one (here p (c ∷ u) ts)) (turns (p + size_of (c ∷ [])) u ts)
-      where
-        go : (b : Bool) → Quiet (Run m e) (here p (c ∷ u) ts) (either (moved 1 (here p (c ∷ u) ts)) b)
-            → Quiet (Turns m e) (moved 1 (here p (c ∷ u) ts)) (Success (moved (span_of f u) (moved 1 (here p (c ∷ u) ts))) None')
-            → Quiet (Run m (Rep e)) (here p (c ∷ u) ts) (Success (moved (if b then suc (span_of f u) else 0) (here p (c ∷ u) ts)) None')
-        go true x ih = subst (λ y. Quiet (Run m (Rep e)) (here p (c ∷ u) ts) (Success y None')) (sym (moved_on (span_of f u) p c u ts)) (by.rep x.0 ih.0, omega (arith, x.1, ih.1))
-        go false x ih = subst (λ y. Quiet (Run m (Rep e)) (here p (c ∷ u) ts) (Success y None')) (sym (moved_none p (c ∷ u) ts)) (by.rep_none x.0, x.1)
+  pub silent_call_of_some : (m : Mode) (x : Text) (r : Rule) (f : ℕ → Bool) → rule_of g x ≡ Some r → gives_token r.type_of m ≡ false
+      → ((s : State) → TakesSome g classes (Run (body_mode r m) r.body) s f) → (s : State) → TakesSome g classes (Run m (Ident x)) s f
+  silent_call_of_some m x r f h e d s =
+      let y = d s in
+      let z = silently m x s r (moved (suc y.more) s) (starts_in f s.rest) h e (y.found, y.quiet) in
+      record { more = y.more; found = z.0; quiet = z.1; within = y.within }
 
-    pub span_of_set : HasOutcome g classes (Run m (Rep e)) (skip_set f) (λ s. 0)
-    span_of_set s = whole s.position s.rest s.stack
+  module _ (m : Mode) (e : Expression) (f : ℕ → Bool) (tight : IsTight g classes m) (some : (s : State) → TakesSome g classes (Run m e) s f) where
+    -- what is found where `j` characters of the set are taken, and then all that follow
+    on_from : (k : Task) (s : State) (j : ℕ) → j ≤ span_of f s.rest
+        → Quiet k s (Success (moved (span_of f (moved j s).rest) (moved j s)) None') → Quiet k s (Success (moved (span_of f s.rest) s) None')
+    on_from k s j w x =
+        subst (λ n. Quiet k s (Success (moved n s) None')) (sym (span_split f j s.rest w))
+        (subst (λ y. Quiet k s (Success y None')) (sym (moved_add j (span_of f (drop j s.rest)) s.position s.rest s.stack)) x)
+
+    -- where no character of the set is next
+    none_from : (k : Task) (s : State) → starts_in f s.rest ≡ false → Quiet k s (Success s None') → Quiet k s (Success (moved (span_of f s.rest) s) None')
+    none_from k s q x =
+        subst (λ n. Quiet k s (Success (moved n s) None')) (sym (span_none f s.rest q))
+        (subst (λ y. Quiet k s (Success y None')) (sym (moved_none s.position s.rest s.stack)) x)
+
+    turn_on : (s : State) (b : Bool) → starts_in f s.rest ≡ b → TakesSome g classes (Run m e) s f
+        → ((t : State) → suc (length t.rest) ≤ length s.rest → Quiet (Turns m e) t (Success (moved (span_of f t.rest) t) None'))
+        → Quiet (Turns m e) s (Success (moved (span_of f s.rest) s) None')
+    turn_on s false q x ih =
+        let k = tight s in
+        let d = subst (λ z. Quiet (Run m e) s (if z then Success (moved (suc x.more) s) None' else Failure)) q (x.found, x.quiet) in
+        none_from (Turns m e) s q (by.turn_none k.0 d.0, omega (arith, k.1, d.1))
+    turn_on s true q x ih =
+        let k = tight s in
+        let d = subst (λ z. Quiet (Run m e) s (if z then Success (moved (suc x.more) s) None' else Failure)) q (x.found, x.quiet) in
+        let j = x.within q in
+        let l = span_within f s.rest in
+        let h = ih (moved (suc x.more) s) (omega (arith, shorter (suc x.more) s.rest (omega (arith, j, l)))) in
+        on_from (Turns m e) s (suc x.more) j (by.turn k.0 d.0 h.0, omega (arith, k.1, d.1, h.1))
+
+    turns : (n : ℕ) (s : State) → length s.rest ≤ n → Quiet (Turns m e) s (Success (moved (span_of f s.rest) s) None')
+    turns zero s w = turn_on s (starts_in f s.rest) refl (some s) (λ t v. absurd (omega (arith, w, v)))
+    turns (suc n) s w = turn_on s (starts_in f s.rest) refl (some s) (λ t v. turns n t (omega (arith, w, v)))
+
+    pub span_of_some : HasOutcome g classes (Run m (Rep e)) (skip_set f) (λ s. 0)
+    span_of_some s = go (starts_in f s.rest) refl (some s)
+      where
+        go : (b : Bool) → starts_in f s.rest ≡ b → TakesSome g classes (Run m e) s f → Quiet (Run m (Rep e)) s (Success (moved (span_of f s.rest) s) None')
+        go false q x =
+            let d = subst (λ z. Quiet (Run m e) s (if z then Success (moved (suc x.more) s) None' else Failure)) q (x.found, x.quiet) in
+            none_from (Run m (Rep e)) s q (by.rep_none d.0, d.1)
+        go true q x =
+            let d = subst (λ z. Quiet (Run m e) s (if z then Success (moved (suc x.more) s) None' else Failure)) q (x.found, x.quiet) in
+            let ih = turns (length (moved (suc x.more) s).rest) (moved (suc x.more) s) (omega arith) in
+            on_from (Run m (Rep e)) s (suc x.more) (x.within q) (by.rep d.0 ih.0, omega (arith, d.1, ih.1))
+
+  pub span_of_set : (m : Mode) (e : Expression) (f : ℕ → Bool) → IsTight g classes m → HasOutcome g classes (Run m e) (character_outcome f) (λ s. 0)
+      → HasOutcome g classes (Run m (Rep e)) (skip_set f) (λ s. 0)
+  span_of_set m e f tight one = span_of_some m e f tight (some_of_one (Run m e) f one)

@@ -5,7 +5,6 @@ use Rattle.std.proofs.lemmas.List.{length-map}
 use Rattle.base_ast.specs.Ast.{rule_type_of, text_of}
 use Rattle.base_language.specs.Language.Expression.{Atomic, CompoundAtomic, Grammar, Ident, NonAtomic, Normal, Rep, Rule, RuleType, Silent, comment, rule_of, whitespace}
 use Rattle.base_language.specs.Language.FurthestFailure.{furthest, is_eoi, place_of}
-use Rattle.base_language.specs.Language.Matching.{character_outcome}
 use Rattle.base_language.specs.Language.Meaning as by
 use Rattle.base_language.specs.Language.Meaning.{Does, Run, Skipping, body_mode, gives_token, inherited, mode_in, seen_from, with_token}
 use Rattle.base_language.specs.Language.State.{AtomicMode, Between, Classes, CompoundAtomicMode, Failure, Mode, NonAtomicMode, None', Outcome, State, Success, Tree, moved}
@@ -13,8 +12,8 @@ use Rattle.base_language.specs.Language.Text.{Text}
 use Rattle.base_language.proofs.Basics.{same_some}
 use Rattle.matcher_code.specs.declared.code.Code.{Code}
 use Rattle.matcher_code.specs.Laid as lay
-use Rattle.matcher_code.specs.Laid.{FailsOutside, HasOutcome, IsPart, IsPoint, IsTight, skip_set, span_of}
-use Rattle.matcher_code.proofs.Characters.{silent_call_of_set, span_of_set}
+use Rattle.matcher_code.specs.Laid.{FailsOutside, HasOutcome, IsPart, IsPoint, IsTight, TakesSome, skip_set, span_of}
+use Rattle.matcher_code.proofs.Characters.{silent_call_of_some, span_of_some}
 use Rattle.matcher_program.specs.declared.form.Program.{Program}
 use Rattle.matcher_program.specs.declared.form.Row.{Row}
 use Rattle.matcher_program.specs.Programs.{IsRuleOf, IsSkippedRule, name_at, names_of, rule_of_row}
@@ -23,7 +22,7 @@ use Rattle.matcher_compiler.specs.declared.plan.Skips.TheVariants as skips
 use Rattle.matcher_sets.specs.declared.modes.Atomicity.TheVariants as mode
 use Rattle.matcher_sets.specs.declared.heads.Head.{Head}
 use Rattle.matcher_sets.specs.Modes.{mode_of}
-use Rattle.matcher_sets.specs.Differences.{MatchesOne}
+use Rattle.matcher_sets.specs.Differences.{BeginsWith}
 use Rattle.matcher_sets.specs.Forms.{IsSoundProgram, grammar_in, no_rule, said}
 use Rattle.matcher_compiler.specs.Plans.{FailsWithout, IsBlankSet, SkipsAs, blanks, one_comment}
 use Rattle.matcher_sets.proofs.Skipping.{IsSkipName, comment_is_no_end, does_between, rule_is_skipped, same_mode, same_tokens, skipped_named, white_is_no_end}
@@ -62,16 +61,17 @@ tight_between g classes s = (by.between, refl)
 -- the characters that the body of the rule matches are blanks
 pub blanks_any : (p : Program) (i : ℕ) (row : Row) (classes : Classes) (set : ℕ → Bool) → IsSoundProgram p → p.whitespace ≡ Some i
     → (within : i < length p.rows.items) → (is : row ≡ get_or p.rows.items i row) → rule_type_of row.kind ≡ Silent
-    → MatchesOne p classes row.body set → HasOutcome (grammar_in p) classes (Run Between blanks) (skip_set set) (λ s. 0)
+    → BeginsWith p classes row.body set → HasOutcome (grammar_in p) classes (Run Between blanks) (skip_set set) (λ s. 0)
 blanks_any p i row classes set sound white within is silent matches =
     let r = made p i row within is in
     let w = subst (IsSkippedRule (grammar_in p) whitespace) white sound.whitespace_is in
     let meant : rule_of (grammar_in p) whitespace ≡ Some r = w.meant no_rule ∙ ap Some (same p i row within is no_rule) in
     let k = blank_mode (bytes_eq r.name whitespace || bytes_eq r.name comment) in
     let m : mode_of k.0 ≡ body_mode r Between = k.1 ∙ ap (λ y. mode_in y (bytes_eq r.name whitespace || bytes_eq r.name comment) Between) (sym silent) in
-    let z = subst (λ z. HasOutcome (grammar_in p) classes (Run z (said p row.body)) (character_outcome set) (λ s. 0)) m (matches k.0) in
-    span_of_set (grammar_in p) classes Between (Ident whitespace) set (tight_between (grammar_in p) classes)
-    (silent_call_of_set (grammar_in p) classes Between whitespace r set meant (ap (λ t. by.gives_token t Between) silent) z)
+    let z : (s : State) → TakesSome (grammar_in p) classes (Run (body_mode r Between) (said p row.body)) s set
+        = λ s. subst (λ z. TakesSome (grammar_in p) classes (Run z (said p row.body)) s set) m (matches k.0 s) in
+    span_of_some (grammar_in p) classes Between (Ident whitespace) set (tight_between (grammar_in p) classes)
+    (silent_call_of_some (grammar_in p) classes Between whitespace r set meant (ap (λ t. by.gives_token t Between) silent) z)
 
 -- without a rule of that name there are no blanks
 span_none : (cs : Text) → span_of (λ c. false) cs ≡ 0

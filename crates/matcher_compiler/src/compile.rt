@@ -18,7 +18,7 @@ use base_ast::ast::RuleType;
 use matcher_code::code::{Code, Op, Ranges};
 use matcher_code::sets::add_set;
 use matcher_program::form::{Form, Program, Row};
-use matcher_sets::difference::choice_ranges;
+use matcher_sets::difference::first_ranges;
 use matcher_sets::learning::rule_heads;
 use matcher_sets::modes::Atomicity;
 use matcher_sets::sizes::body_sizes;
@@ -71,8 +71,8 @@ fn fresh_plan<'p>(
     })
 }
 
-/// Returns the ranges of the characters that the body of the silent rule `WHITESPACE` matches, if it matches
-/// single characters.
+/// Returns the ranges of the characters that blanks are made of, if the body of the silent rule `WHITESPACE` is
+/// a choice of single characters and newlines.
 fn body_ranges(
     alloc: Global,
     program: &Program,
@@ -88,15 +88,15 @@ fn body_ranges(
     requires body { body.now ≡ row.now.body }
     ensures { IfOk result (λ made. IfSome made (λ ranges. AreBlanks program.now ranges.items)) }
 {
-    let made = choice_ranges(alloc, program, body)?;
+    let made = first_ranges(alloc, program, body)?;
     match made {
         Some(ranges) => Ok(Some(ranges)),
         None => Ok(None),
     }
 }
 
-/// Returns the ranges of the characters that the rule `WHITESPACE` matches, if it is silent, and matches
-/// single characters.
+/// Returns the ranges of the characters that blanks are made of, if the rule `WHITESPACE` is silent, and
+/// matches single characters and newlines.
 fn silent_ranges(
     alloc: Global,
     program: &Program,
@@ -116,7 +116,7 @@ fn silent_ranges(
 }
 
 /// Returns the ranges of blanks, which are none without a rule `WHITESPACE`, or `None` if that rule is not a
-/// silent one of single characters.
+/// silent one of single characters and newlines.
 fn blank_ranges(alloc: Global, program: &Program) -> Result<Option<Ranges>, NotCompiled>
     requires sound { IsSoundProgram program.now }
     ensures { IfOk result (λ made. IfSome made (λ ranges. AreBlanks program.now ranges.items)) }

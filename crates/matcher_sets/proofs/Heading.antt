@@ -23,7 +23,7 @@ use Rattle.matcher_program.specs.declared.form.Row.{Row}
 use Rattle.matcher_program.specs.Programs.{Fits}
 use Rattle.matcher_sets.specs.declared.heads.Head.{Head}
 use Rattle.matcher_sets.specs.declared.modes.Atomicity.{Atomicity}
-use Rattle.matcher_sets.specs.Differences.{AddsFirsts, is_success}
+use Rattle.matcher_sets.specs.Differences.{AddsFirsts}
 use Rattle.matcher_sets.specs.Forms.{IsSoundProgram, grammar_in, said}
 use Rattle.matcher_sets.specs.Heads.{AreHeadsIn, HasFront, HasHead, IsCall, IsGapHead, IsJoin, TakesNothing}
 use Rattle.matcher_sets.specs.Modes.{mode_of}
@@ -216,12 +216,8 @@ pub firsts_take : (p : Program) (f : Form) (m : Atomicity) (ranges : List (ℕ �
 firsts_take p f m ranges h classes fits s miss =
     let x = h classes fits in
     let y = x.holds m s in
-    go y.outcome y.found y.quiet (y.told ∙ misses_starts ranges x.characters x.adds s.rest miss)
-  where
-    go : (o : Outcome) (d : Does (grammar_in p) classes (Run (mode_of m) (said p f)) s o) → furthest d ≡ 0 → is_success o ≡ false
-        → (d' : Does (grammar_in p) classes (Run (mode_of m) (said p f)) s Failure) × (furthest d' ≡ 0)
-    go Failure d q e = (d, q)
-    go (Success t us) d q e = cc
+    subst (λ b. (d : Does (grammar_in p) classes (Run (mode_of m) (said p f)) s (if b then Success (moved (suc y.more) s) None' else Failure)) × (furthest d ≡ 0))
+    (misses_starts ranges x.characters x.adds s.rest miss) (y.found, y.quiet)
 
 -- where a form never succeeds without taking something
 pub fails_outside : (p : Program) (m : Mode) (e : Expression) (h : Head) → HasHead p m e h → h.empty ≡ false → (classes : Classes) → Fits p.properties.items classes

@@ -1,4 +1,4 @@
--- Ranges of forms that match one character, or that tell whether one of some is next.
+-- Ranges of forms that match one character, or that take some where one of these is next.
 use Rattle.std.specs.Prelude.{◌≡◌, ◌⊎◌, ℕ, suc, Bool, true, false, List, nat_le, if◌then◌else◌}
 use Rattle.base_language.specs.Language.Expression.{Grammar}
 use Rattle.base_language.specs.Language.FurthestFailure.{furthest}
@@ -7,7 +7,7 @@ use Rattle.base_language.specs.Language.Meaning.{Does, Run, Task}
 use Rattle.base_language.specs.Language.State.{Classes, Failure, None', Outcome, State, Success}
 use Rattle.matcher_code.specs.Sets.{IsSetOf}
 use Rattle.matcher_code.specs.declared.code.Code.{Code}
-use Rattle.matcher_code.specs.Laid.{HasOutcome}
+use Rattle.matcher_code.specs.Laid.{HasOutcome, TakesSome}
 use Rattle.matcher_program.specs.declared.form.Form.{Form}
 use Rattle.matcher_program.specs.declared.form.Program.{Program}
 use Rattle.matcher_program.specs.Programs.{Fits, is_set}
@@ -42,18 +42,7 @@ pub record HasSet (code : Code) (set : ℕ) (characters : ℕ → Bool) : Type 0
   pub is : IsSetOf code set ranges
   pub covers : Covers ranges characters
 
-abbrev pub is_success : Outcome → Bool
-is_success Failure = false
-is_success (Success t us) = true
-
--- the task succeeds, or fails, and no failure is recorded
-pub record Decides (g : Grammar) (classes : Classes) (k : Task) (s : State) (b : Bool) : Type 0 where
-  pub outcome : Outcome
-  pub found : Does g classes k s outcome
-  pub quiet : furthest found ≡ 0
-  pub told : is_success outcome ≡ b
-
--- a form matches one character of a set; or it succeeds where one is next, and there alone; or it fails
+-- a form matches one character of a set; or it takes some where one is next, and fails elsewhere; or it fails
 -- there, and else matches nothing
 abbrev pub MatchesOne : Program → Classes → Form → (ℕ → Bool) → Type 0
 MatchesOne p classes f set = (m : Atomicity)
@@ -61,7 +50,7 @@ MatchesOne p classes f set = (m : Atomicity)
 
 abbrev pub BeginsWith : Program → Classes → Form → (ℕ → Bool) → Type 0
 BeginsWith p classes f set = (m : Atomicity) (s : State)
-    → Decides (grammar_in p) classes (Run (mode_of m) (said p f)) s (starts_in set s.rest)
+    → TakesSome (grammar_in p) classes (Run (mode_of m) (said p f)) s set
 
 abbrev pub RefusesOne : Program → Classes → Form → (ℕ → Bool) → Type 0
 RefusesOne p classes f set = (m : Atomicity) → HasOutcome (grammar_in p) classes

@@ -209,8 +209,8 @@ fn push_newline(ranges: &mut Ranges) -> Result<bool, AllocError>
     Ok(true)
 }
 
-/// Appends the ranges of the characters with which a form begins, if one such tells that it succeeds. Returns
-/// whether it does.
+/// Appends the ranges of the characters of which a form takes one or more where one is next, if it fails
+/// elsewhere. Returns whether it does.
 pub(crate) fn push_firsts(
     alloc: Global,
     program: &Program,
@@ -227,9 +227,14 @@ pub(crate) fn push_firsts(
     }
 }
 
-/// Returns the ranges of the characters of which one tells that a form succeeds, or `None` if there are no
-/// such.
-fn first_ranges(alloc: Global, program: &Program, form: &Form) -> Result<Option<Ranges>, AllocError>
+/// Returns the ranges of the characters of which a form takes one or more where one is next, if it is a choice of
+/// sets of characters and of newlines, which fails elsewhere, or `None` if it is another form, or the ranges are
+/// too many.
+pub fn first_ranges(
+    alloc: Global,
+    program: &Program,
+    form: &Form,
+) -> Result<Option<Ranges>, AllocError>
     requires bound { IsBoundIn program.now form.now }
     ensures { IfOk result (λ made. IfSome made (λ ranges. HasFirsts program.now form.now ranges.items)) }
 {

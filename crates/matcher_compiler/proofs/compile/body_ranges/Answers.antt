@@ -1,12 +1,12 @@
 use Rattle.std.proofs.Common.{subst, sym}
-use Rattle.matcher_sets.specs.Differences.{MatchesOne}
+use Rattle.matcher_sets.specs.Differences.{BeginsWith}
 use Rattle.matcher_sets.specs.Forms.{IsBoundIn}
 use Rattle.matcher_sets.proofs.Rules.{row_bound}
 use Rattle.matcher_compiler.proofs.Skipping.{blanks_any}
 use Rattle.matcher_compiler.proofs.compile.body_ranges.Goals as goal
 
-pub choice_ranges-requires : goal.choice_ranges-requires
-choice_ranges-requires c =
+pub first_ranges-requires : goal.first_ranges-requires
+first_ranges-requires c =
     let p = c.args.program.now in
     record { bound = subst (λ f. IsBoundIn p f) (sym c.requires.body) (row_bound p c.args.number c.args.row.now c.requires.within c.requires.is c.requires.sound) }
 
@@ -20,5 +20,5 @@ returns-in-Some c = λ classes fits.
       characters = x.characters;
       covers = x.covers;
       takes = blanks_any p c.args.number row classes x.characters c.requires.sound c.requires.white c.requires.within c.requires.is c.requires.kind
-          (subst (λ f. MatchesOne p classes f x.characters) c.requires.body x.holds);
+          (subst (λ f. BeginsWith p classes f x.characters) c.requires.body x.holds);
     }
