@@ -116,6 +116,7 @@ parsers! {
     json json "../../../out/bench/grammars/json.pest"
     json_comments json "../../../out/bench/grammars/json_comments.pest"
     json_characters json "../../../out/bench/grammars/json_characters.pest"
+    json_newlines json "../../../out/bench/grammars/json_newlines.pest"
     toml toml "../../../out/bench/grammars/toml.pest"
     csv file "../../../out/bench/grammars/csv.pest"
     lua chunk "../../../out/bench/grammars/lua.pest"
