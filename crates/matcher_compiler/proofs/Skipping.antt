@@ -69,7 +69,7 @@ blanks_any p i row classes set sound white within is silent matches =
     let k = blank_mode (bytes_eq r.name whitespace || bytes_eq r.name comment) in
     let m : mode_of k.0 ≡ body_mode r Between = k.1 ∙ ap (λ y. mode_in y (bytes_eq r.name whitespace || bytes_eq r.name comment) Between) (sym silent) in
     let z : (s : State) → TakesSome (grammar_in p) classes (Run (body_mode r Between) (said p row.body)) s set
-        = λ s. subst (λ z. TakesSome (grammar_in p) classes (Run z (said p row.body)) s set) m (matches k.0 s) in
+    = λ s. subst (λ z. TakesSome (grammar_in p) classes (Run z (said p row.body)) s set) m (matches k.0 s) in
     span_of_some (grammar_in p) classes Between (Ident whitespace) set (tight_between (grammar_in p) classes)
     (silent_call_of_some (grammar_in p) classes Between whitespace r set meant (ap (λ t. by.gives_token t Between) silent) z)
 

@@ -71,8 +71,8 @@ fn fresh_plan<'p>(
     })
 }
 
-/// Returns the ranges of the characters that blanks are made of, if the body of the silent rule `WHITESPACE` is
-/// a choice of single characters and newlines.
+/// Returns the ranges of the characters that blanks are made of, if the body of the silent rule `WHITESPACE`
+/// is a choice of single characters and newlines.
 fn body_ranges(
     alloc: Global,
     program: &Program,

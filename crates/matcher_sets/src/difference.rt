@@ -227,9 +227,9 @@ pub(crate) fn push_firsts(
     }
 }
 
-/// Returns the ranges of the characters of which a form takes one or more where one is next, if it is a choice of
-/// sets of characters and of newlines, which fails elsewhere, or `None` if it is another form, or the ranges are
-/// too many.
+/// Returns the ranges of the characters of which a form takes one or more where one is next, if it is a
+/// choice of sets of characters and of newlines, which fails elsewhere, or `None` if it is another form, or
+/// the ranges are too many.
 pub fn first_ranges(
     alloc: Global,
     program: &Program,
