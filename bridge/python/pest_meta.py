@@ -59,6 +59,8 @@ _FORMAT = 1
 _ANSWERED, _REFUSED, _MEMORY, _NO_TEXT, _NO_ROOM = range(5)
 _UNFIT, _NO_RULE, _OUT_OF_STEPS, _EMPTY_STACK = range(6, 10)
 _MOST_STEPS = 2**64 - 1
+# The steps that each byte of a text is allowed where no limit is given, and the bytes by which each counts for longer.
+_STEPS_PER_BYTE = _MORE_BYTES = 1_000
 # How many operands the nodes of a form have (docs/FORMAT.md).
 _OPERANDS = {
     **dict.fromkeys(["str", "insens", "range", "ident", "peek_slice", "skip", "push_literal"], 0),
@@ -307,13 +309,19 @@ class Matcher:
         """The names of the rules, in the order of the grammar."""
         self._rules = _fill("pest_meta_prepare", json.dumps(rules))[1]
 
-    def parse(self, rule: str, text: str, steps: int = _MOST_STEPS) -> Match:
-        """Matches a text by the rule of a name, from the text's start on, in so many steps at most.
+    def parse(self, rule: str, text: str, steps: Optional[int] = None) -> Match:
+        """Matches a text by the rule of a name, from the text's start on.
+
+        The match takes so many steps at most, and so does the search for the rules that are expected where it fails;
+        with None 1,000 for each byte of the text and 1,000,000 more. A limit of 2**64 - 1 is none.
 
         Raises MatchError where the rule does not match, ValueError where no rule has the name, and RunError where
-        the run is stopped. A rule that does not end in EOI may match a part of the text: see Match.end.
+        the run is stopped, also where the rule fails and only the search takes more. A rule that does not end in EOI
+        may match a part of the text: see Match.end.
         """
         source = text.encode()
+        if steps is None:
+            steps = min(_STEPS_PER_BYTE * (len(source) + _MORE_BYTES), _MOST_STEPS)
         status, numbers = self._run(rule.encode(), source, steps)
         if status == _ANSWERED:
             return Match(numbers[0], self._trees(numbers[1:], source))

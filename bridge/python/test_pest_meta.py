@@ -205,6 +205,14 @@ class Matching(unittest.TestCase):
         with self.assertRaisesRegex(RunError, "more than 10 steps"):
             Matcher(LISTS).parse("list", "[a,b,c,d,e,f]", steps=10)
 
+    def test_a_failure_takes_no_exponential_time(self):
+        ambiguous = Matcher('s = { a ~ EOI } a = { "x" ~ a ~ "y" | "x" ~ a ~ "z" | "x" }')
+        with self.assertRaisesRegex(RunError, "s takes more than 1060000 steps"):
+            ambiguous.parse("s", "x" * 60)
+        self.assertEqual(ambiguous.parse("a", "x" * 20_000).end, 1)
+        with self.assertRaises(MatchError):
+            ambiguous.parse("s", "x" * 10, steps=2**64 - 1)
+
     def test_long_and_deep_texts(self):
         matcher = Matcher('a = { "(" ~ a ~ ")" | "x"* }')
         depth = 20_000

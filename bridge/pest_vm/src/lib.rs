@@ -23,14 +23,15 @@
 //! |---|---|
 //! | an error has the rules that failed, and those that matched below a `!` | the rules that would have let the run get further; `negatives` is empty |
 //! | `PEEK` or `POP` on the empty stack panics | an error at the start of the text |
+//! | a rule takes any time, unless `pest::set_call_limit` was called | an error at the start of the text after 1,000 steps a byte and 1,000,000 more, also where the rule fails and the search for the expected rules takes more |
 //! | the listener is called at each call of a rule | at each token of a match, in the order of their starts |
 //! | a builtin can be parsed as a rule | another name than a rule's panics, as an undefined rule does there |
 //! | pairs of later versions have tags | pairs have none |
 //!
 //! # Limits
 //!
-//! The library compiles the rules at each call of [`Vm::parse`], which takes longer than a short text. A rule that matches the empty text for ever runs for ever, as in the original. pest's parser state makes the
-//! pairs, and takes stack by the depth of the trees.
+//! The library compiles the rules at each call of [`Vm::parse`], which takes longer than a short text. pest's parser
+//! state makes the pairs, and takes stack by the depth of the trees.
 #![forbid(unsafe_code)]
 #![warn(missing_docs, rust_2018_idioms, unused_qualifications)]
 // The signatures are those of the original, and the errors pest's.
@@ -56,6 +57,12 @@ pub struct Vm {
 
 type State<'a> = Box<ParserState<'a, &'a str>>;
 
+/// The steps that each byte of a text is allowed.
+const STEPS_PER_BYTE: u64 = 1_000;
+
+/// The bytes by which every text counts for longer.
+const MORE_BYTES: u64 = 1_000;
+
 impl Vm {
     /// Makes a machine of optimized rules.
     pub fn new(rules: Vec<OptimizedRule>) -> Vm {
@@ -71,13 +78,15 @@ impl Vm {
     /// Runs a rule from the start of a text. Returns its pairs, or an error at the furthest position of a failure,
     /// with the rules expected there.
     ///
-    /// A rule that has no outcome, since `PEEK` or `POP` meets the empty stack, is an error at the start.
+    /// A rule that has no outcome, since `PEEK` or `POP` meets the empty stack, is an error at the start, and so is
+    /// one that takes more steps than a text of this length is allowed.
     ///
     /// # Panics
     /// Where no rule has the name, where the rules call a name that is neither a rule nor a builtin, and where
     /// memory is refused.
     pub fn parse<'a>(&'a self, rule: &'a str, input: &'a str) -> Result<Pairs<'a, &'a str>, Error<&'a str>> {
-        match self.program.run(rule, input, u64::MAX) {
+        let steps = (input.len() as u64).saturating_add(MORE_BYTES).saturating_mul(STEPS_PER_BYTE);
+        match self.program.run(rule, input, steps) {
             Ok((_, tokens)) => {
                 pest::state(input, |state| self.replayed(state, input, &tokens, 0..tokens.len()))
             }
@@ -88,7 +97,9 @@ impl Vm {
                 Err(error_at(input, pos, ErrorVariant::ParsingError { positives, negatives: Vec::new() }))
             }
             Err(Unmatched::EmptyStack) => Err(custom(input, "PEEK or POP was called on the empty stack")),
-            Err(Unmatched::OutOfSteps) => Err(custom(input, "the rule takes too many steps")),
+            Err(Unmatched::OutOfSteps) => {
+                Err(custom(input, &format!("the rule takes more than {steps} steps")))
+            }
             Err(Unmatched::NoRule) => panic!("undefined rule {rule}"),
             Err(Unmatched::Unfit) => {
                 panic!("the rules call an undefined rule, or have a range of no characters")

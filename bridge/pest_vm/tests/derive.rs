@@ -240,6 +240,16 @@ fn a_rule_without_an_outcome_is_an_error() {
 }
 
 #[test]
+fn a_failure_takes_no_exponential_time() {
+    let vm = machine("s = { a ~ EOI } a = { \"x\" ~ a ~ \"y\" | \"x\" ~ a ~ \"z\" | \"x\" }");
+    let text = "x".repeat(60);
+    let error = vm.parse("s", &text).unwrap_err();
+    assert_eq!(error.location, InputLocation::Pos(0));
+    assert_eq!(error.variant.message(), "the rule takes more than 1060000 steps");
+    assert_eq!(vm.parse("a", &text).unwrap().as_str(), "x");
+}
+
+#[test]
 #[should_panic(expected = "undefined rule none")]
 fn an_unknown_rule_panics() {
     let _ = machine("a = { \"x\" }").parse("none", "x");
