@@ -1,33 +1,24 @@
 //! Reads a grammar and prints its rules.
 #![tactic(auto)]
 
-ghost use Rattle.std.specs.Prelude.{◌≡◌, ◌≤◌, ◌↔◌, IfNone, IfSome, IsUtf8};
+ghost use Rattle.std.specs.Prelude.{◌≡◌, ◌≢◌, ◌≤◌, ◌⊎◌, ◌↔◌, IfNone, IfOk, IfSome, IsUtf8};
 ghost use Rattle.std.specs.Process.{exit_status};
+ghost use Rattle.clap.specs.Values.{kind_of};
+ghost use Rattle.clap.specs.declared.error.kind.ErrorKind.TheVariants.{DisplayHelp, DisplayVersion};
 ghost use Rattle.pest_meta.specs.Spelling.{HasAnswer, HasRefusal};
 
+mod arguments;
 mod checks;
 
+use arguments::command;
 use checks::run;
+use program_support::escape::escape_lines;
+use program_support::input::read_input;
 use program_support::output::Output;
-use std::io::Read;
+use program_support::status::Status;
+use std::alloc::AllocError;
+use std::env;
 use std::process::ExitCode;
-use std::{env, fs};
-
-/// Reads the grammar's bytes from the file that the one argument names, or from standard input without one.
-/// Returns `None` if they can't be read, or if there is a second argument.
-fn input(rt: &HostRuntime) -> Option<Vec<u8>> {
-    let mut args = env::args(rt).ok()?;
-    args.next();
-    match (args.next(), args.next()) {
-        (None, _) => {
-            let mut bytes = Vec::new(rt.alloc());
-            rt.stdin().read_to_end(&mut bytes).ok()?;
-            Some(bytes)
-        }
-        (Some(path), None) => fs::read(rt, path.as_str()).ok(),
-        (Some(_), Some(_)) => None,
-    }
-}
 
 /// Runs the program on its input with the process's own output, and returns the status.
 fn check(rt: &HostRuntime, grammar: Option<&[u8]>) -> ExitCode
@@ -43,7 +34,47 @@ fn check(rt: &HostRuntime, grammar: Option<&[u8]>) -> ExitCode
     ExitCode::from(exit.status)
 }
 
+/// Prints help, the version or what is wrong with a command line, and returns the status.
+fn print_usage(rt: &HostRuntime, error: &clap::Error) -> Result<Status, AllocError>
+    ensures wrong { IfOk result (λ status. kind_of error.now ≢ DisplayHelp
+        → kind_of error.now ≢ DisplayVersion → status ≡ Status.Unreadable) }
+    ensures asked { IfOk result (λ status. status ≡ Status.Done
+        → (kind_of error.now ≡ DisplayHelp) ⊎ (kind_of error.now ≡ DisplayVersion)) }
+{
+    let alloc = rt.alloc();
+    let usage = format!(in alloc; "{error}")?;
+    let shown = escape_lines(alloc, usage.as_str())?;
+    if error.use_stderr() {
+        let _ = rt.eprint(shown.as_str());
+        Ok(Status::Unreadable)
+    } else {
+        let _ = rt.print(shown.as_str());
+        Ok(Status::Done)
+    }
+}
+
+/// Runs the program for the words of the command line, and returns the status.
+fn answer(rt: &HostRuntime) -> Result<ExitCode, clap::Error> {
+    let alloc = rt.alloc();
+    let Ok(words) = env::args(rt) else {
+        return Ok(check(rt, None));
+    };
+    let words: Vec<String> = words.collect(alloc)?;
+    match command(alloc)?.try_get_matches_from(words.as_slice()) {
+        Ok(matches) => {
+            let grammar = read_input(rt, matches.get_str("FILE").unwrap_or("-")).ok();
+            Ok(check(rt, grammar.as_ref().map(|bytes| bytes.as_slice())))
+        }
+        Err(error) => Ok(ExitCode::from(print_usage(rt, &error)?.code())),
+    }
+}
+
 fn main(rt: HostRuntime) -> ExitCode {
-    let grammar = input(&rt);
-    check(&rt, grammar.as_ref().map(|bytes| bytes.as_slice()))
+    match answer(&rt) {
+        Ok(status) => status,
+        Err(_) => {
+            let _ = rt.eprintln("out of memory");
+            ExitCode::from(Status::OutOfMemory.code())
+        }
+    }
 }
