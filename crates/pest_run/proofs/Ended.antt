@@ -29,6 +29,10 @@ use Rattle.pest_run.specs.declared.outcomes.Outcome.TheVariants as is
 pub apart : (n a b : ℕ) → n ≡ a → n ≡ b → a + 1 ≤ b → ⊥
 apart n a b e f h = omega (arith, e, f, h)
 
+either : (n k : ℕ) → (n ≡ 1) ⊎ (n ≡ 2) → n ≡ k → k ≢ 1 → k ≢ 2 → ⊥
+either n k (inl z) e f h = f (sym e ∙ z)
+either n k (inr z) e f h = h (sym e ∙ z)
+
 pub neither : (n k : ℕ) → (n ≡ 0) ⊎ (n ≡ 4) → n ≡ k → k ≢ 0 → k ≢ 4 → ⊥
 neither n k (inl z) e f h = f (sym e ∙ z)
 neither n k (inr z) e f h = h (sym e ∙ z)
@@ -57,64 +61,65 @@ matched form_is.Written grammar rule text format rules lines a i =
 matched form_is.Optimized grammar rule text format rules lines a i = record { rules = rules; matched = a; shows = i }
 
 -- where the status is 0, trees were printed
-pub prints : {X E : Type 0} (o : Outcome) (grammar rule text : List ℕ) (format : Format) (form : RuleForm) (rules : Grammar) (limit : ℕ) (told : Result X E) (same : Type 0) (status : ℕ)
+pub prints : {X E : Type 0} (o : Outcome) (name grammar rule text : List ℕ) (format : Format) (form : RuleForm) (rules : Grammar) (limit : ℕ) (told : Result X E) (same : Type 0) (status : ℕ)
     (old_out new_out old new : Option (List ℕ)) → AreRun form grammar rules → IsOutcome rules rule text format limit o
-    → EndsAs o same status told old_out new_out old new → status ≡ 0 → PrintsTrees form grammar rule text format old_out new_out
-prints (is.Shown lines note) grammar rule text format form rules limit told same status old_out new_out old new a i e zero =
+    → EndsAs name o same status told old_out new_out old new → status ≡ 0 → PrintsTrees form grammar rule text format old_out new_out
+prints (is.Shown lines note) name grammar rule text format form rules limit told same status old_out new_out old new a i e zero =
     let m = matched form grammar rule text format rules (string_bytes lines) a i.0 in
     record { rules = m.rules; matched = m.matched; lines = string_bytes lines; shows = m.shows; gained = e.1 zero }
-prints (is.Failed report) grammar rule text format form rules limit told same status old_out new_out old new a i e zero = absurd (apart status 0 1 zero e.0 (omega arith))
-prints (is.NoRule said) grammar rule text format form rules limit told same status old_out new_out old new a i e zero = absurd (apart status 0 1 zero e.0 (omega arith))
-prints (is.OutOfSteps said) grammar rule text format form rules limit told same status old_out new_out old new a i e zero = absurd (apart status 0 5 zero e.0 (omega arith))
-prints is.EmptyStack grammar rule text format form rules limit told same status old_out new_out old new a i e zero = absurd (apart status 0 5 zero e.0 (omega arith))
-prints is.UnknownName grammar rule text format form rules limit told same status old_out new_out old new a i e zero = absurd (apart status 0 5 zero e.0 (omega arith))
-prints is.Bound grammar rule text format form rules limit told same status old_out new_out old new a i e zero = absurd (apart status 0 5 zero e.0 (omega arith))
-prints is.Memory grammar rule text format form rules limit told same status old_out new_out old new a i e zero = absurd (apart status 0 2 zero e (omega arith))
+prints (is.Failed report) name grammar rule text format form rules limit told same status old_out new_out old new a i e zero = absurd (either status 0 e.0 zero (omega arith) (omega arith))
+prints (is.NoRule said) name grammar rule text format form rules limit told same status old_out new_out old new a i e zero = absurd (apart status 0 1 zero e.0 (omega arith))
+prints (is.OutOfSteps said) name grammar rule text format form rules limit told same status old_out new_out old new a i e zero = absurd (apart status 0 5 zero e.0 (omega arith))
+prints is.EmptyStack name grammar rule text format form rules limit told same status old_out new_out old new a i e zero = absurd (apart status 0 5 zero e.0 (omega arith))
+prints is.UnknownName name grammar rule text format form rules limit told same status old_out new_out old new a i e zero = absurd (apart status 0 5 zero e.0 (omega arith))
+prints is.Bound name grammar rule text format form rules limit told same status old_out new_out old new a i e zero = absurd (apart status 0 5 zero e.0 (omega arith))
+prints is.Memory name grammar rule text format form rules limit told same status old_out new_out old new a i e zero = absurd (apart status 0 2 zero e (omega arith))
 
 -- and the note on their end was written
-pub notes : {X E : Type 0} (o : Outcome) (grammar rule text : List ℕ) (format : Format) (form : RuleForm) (rules : Grammar) (limit : ℕ) (told : Result X E) (same : Type 0) (status : ℕ)
+pub notes : {X E : Type 0} (o : Outcome) (name grammar rule text : List ℕ) (format : Format) (form : RuleForm) (rules : Grammar) (limit : ℕ) (told : Result X E) (same : Type 0) (status : ℕ)
     (old_out new_out old new : Option (List ℕ)) → AreRun form grammar rules → IsOutcome rules rule text format limit o
-    → EndsAs o same status told old_out new_out old new → status ≡ 0 → NotesEnd form grammar rule text format limit same told old new
-notes (is.Shown lines note) grammar rule text format form rules limit told same status old_out new_out old new a i e zero =
+    → EndsAs name o same status told old_out new_out old new → status ≡ 0 → NotesEnd form grammar rule text format limit same told old new
+notes (is.Shown lines note) name grammar rule text format form rules limit told same status old_out new_out old new a i e zero =
     record { rules = rules; are = a; note = option_map string_bytes note; noted = i.1; line = e.2 zero }
-notes (is.Failed report) grammar rule text format form rules limit told same status old_out new_out old new a i e zero = absurd (apart status 0 1 zero e.0 (omega arith))
-notes (is.NoRule said) grammar rule text format form rules limit told same status old_out new_out old new a i e zero = absurd (apart status 0 1 zero e.0 (omega arith))
-notes (is.OutOfSteps said) grammar rule text format form rules limit told same status old_out new_out old new a i e zero = absurd (apart status 0 5 zero e.0 (omega arith))
-notes is.EmptyStack grammar rule text format form rules limit told same status old_out new_out old new a i e zero = absurd (apart status 0 5 zero e.0 (omega arith))
-notes is.UnknownName grammar rule text format form rules limit told same status old_out new_out old new a i e zero = absurd (apart status 0 5 zero e.0 (omega arith))
-notes is.Bound grammar rule text format form rules limit told same status old_out new_out old new a i e zero = absurd (apart status 0 5 zero e.0 (omega arith))
-notes is.Memory grammar rule text format form rules limit told same status old_out new_out old new a i e zero = absurd (apart status 0 2 zero e (omega arith))
+notes (is.Failed report) name grammar rule text format form rules limit told same status old_out new_out old new a i e zero = absurd (either status 0 e.0 zero (omega arith) (omega arith))
+notes (is.NoRule said) name grammar rule text format form rules limit told same status old_out new_out old new a i e zero = absurd (apart status 0 1 zero e.0 (omega arith))
+notes (is.OutOfSteps said) name grammar rule text format form rules limit told same status old_out new_out old new a i e zero = absurd (apart status 0 5 zero e.0 (omega arith))
+notes is.EmptyStack name grammar rule text format form rules limit told same status old_out new_out old new a i e zero = absurd (apart status 0 5 zero e.0 (omega arith))
+notes is.UnknownName name grammar rule text format form rules limit told same status old_out new_out old new a i e zero = absurd (apart status 0 5 zero e.0 (omega arith))
+notes is.Bound name grammar rule text format form rules limit told same status old_out new_out old new a i e zero = absurd (apart status 0 5 zero e.0 (omega arith))
+notes is.Memory name grammar rule text format form rules limit told same status old_out new_out old new a i e zero = absurd (apart status 0 2 zero e (omega arith))
 
 -- where it is 1, a reason was told
-pub tells : {X E : Type 0} (o : Outcome) (grammar rule text : List ℕ) (format : Format) (form : RuleForm) (rules : Grammar) (limit : ℕ) (told : Result X E) (same : Type 0) (status : ℕ)
+pub tells : {X E : Type 0} (o : Outcome) (name grammar rule text : List ℕ) (format : Format) (form : RuleForm) (rules : Grammar) (limit : ℕ) (told : Result X E) (same : Type 0) (status : ℕ)
     (old_out new_out old new : Option (List ℕ)) → AreRun form grammar rules → IsOutcome rules rule text format limit o
-    → EndsAs o same status told old_out new_out old new → status ≡ 1 → ReportsReason form grammar rule text limit told old new
-tells (is.Shown lines _) grammar rule text format form rules limit told same status old_out new_out old new a i e one = absurd (neither status 1 e.0 one (omega arith) (omega arith))
-tells (is.Failed report) grammar rule text format form rules limit told same status old_out new_out old new a i e one =
-    record { message = string_bytes report; reason = no_match rules (string_bytes report) a i; line = e.1 }
-tells (is.NoRule said) grammar rule text format form rules limit told same status old_out new_out old new a i e one =
+    → EndsAs name o same status told old_out new_out old new → status ≡ 1 → ReportsReason form grammar rule name text limit told old new
+tells (is.Shown lines _) name grammar rule text format form rules limit told same status old_out new_out old new a i e one = absurd (neither status 1 e.0 one (omega arith) (omega arith))
+tells (is.Failed report) name grammar rule text format form rules limit told same status old_out new_out old new a i e one =
+    let written = e.1 one in
+    record { message = written.named; reason = no_match rules (string_bytes report) written.named a i written.names; line = written.line }
+tells (is.NoRule said) name grammar rule text format form rules limit told same status old_out new_out old new a i e one =
     let P : List ℕ → Type 0 = λ t. WritesLine t told old new in
     record { message = no_rule_text rules rule; reason = no_rule rules a i.0; line = subst P i.1 e.1 }
-tells (is.OutOfSteps said) grammar rule text format form rules limit told same status old_out new_out old new a i e one = absurd (apart status 1 5 one e.0 (omega arith))
-tells is.EmptyStack grammar rule text format form rules limit told same status old_out new_out old new a i e one = absurd (apart status 1 5 one e.0 (omega arith))
-tells is.UnknownName grammar rule text format form rules limit told same status old_out new_out old new a i e one = absurd (apart status 1 5 one e.0 (omega arith))
-tells is.Bound grammar rule text format form rules limit told same status old_out new_out old new a i e one = absurd (apart status 1 5 one e.0 (omega arith))
-tells is.Memory grammar rule text format form rules limit told same status old_out new_out old new a i e one = absurd (apart status 1 2 one e (omega arith))
+tells (is.OutOfSteps said) name grammar rule text format form rules limit told same status old_out new_out old new a i e one = absurd (apart status 1 5 one e.0 (omega arith))
+tells is.EmptyStack name grammar rule text format form rules limit told same status old_out new_out old new a i e one = absurd (apart status 1 5 one e.0 (omega arith))
+tells is.UnknownName name grammar rule text format form rules limit told same status old_out new_out old new a i e one = absurd (apart status 1 5 one e.0 (omega arith))
+tells is.Bound name grammar rule text format form rules limit told same status old_out new_out old new a i e one = absurd (apart status 1 5 one e.0 (omega arith))
+tells is.Memory name grammar rule text format form rules limit told same status old_out new_out old new a i e one = absurd (apart status 1 2 one e (omega arith))
 
 -- where it is 5, why the matcher was stopped was told
-pub stops : {X E : Type 0} (o : Outcome) (grammar rule text : List ℕ) (format : Format) (form : RuleForm) (rules : Grammar) (limit : ℕ) (told : Result X E) (same : Type 0) (status : ℕ)
+pub stops : {X E : Type 0} (o : Outcome) (name grammar rule text : List ℕ) (format : Format) (form : RuleForm) (rules : Grammar) (limit : ℕ) (told : Result X E) (same : Type 0) (status : ℕ)
     (old_out new_out old new : Option (List ℕ)) → AreRun form grammar rules → IsOutcome rules rule text format limit o
-    → EndsAs o same status told old_out new_out old new → status ≡ 5 → ReportsStop form grammar rule text limit told old new
-stops (is.Shown lines _) grammar rule text format form rules limit told same status old_out new_out old new a i e five = absurd (neither status 5 e.0 five (omega arith) (omega arith))
-stops (is.Failed report) grammar rule text format form rules limit told same status old_out new_out old new a i e five = absurd (apart status 1 5 e.0 five (omega arith))
-stops (is.NoRule said) grammar rule text format form rules limit told same status old_out new_out old new a i e five = absurd (apart status 1 5 e.0 five (omega arith))
-stops (is.OutOfSteps said) grammar rule text format form rules limit told same status old_out new_out old new a i e five =
+    → EndsAs name o same status told old_out new_out old new → status ≡ 5 → ReportsStop form grammar rule text limit told old new
+stops (is.Shown lines _) name grammar rule text format form rules limit told same status old_out new_out old new a i e five = absurd (neither status 5 e.0 five (omega arith) (omega arith))
+stops (is.Failed report) name grammar rule text format form rules limit told same status old_out new_out old new a i e five = absurd (either status 5 e.0 five (omega arith) (omega arith))
+stops (is.NoRule said) name grammar rule text format form rules limit told same status old_out new_out old new a i e five = absurd (apart status 1 5 e.0 five (omega arith))
+stops (is.OutOfSteps said) name grammar rule text format form rules limit told same status old_out new_out old new a i e five =
     let P : List ℕ → Type 0 = λ t. WritesLine t told old new in
     record { rules = rules; are = a; message = steps_text limit; stop = too_many_steps i.0; line = subst P i.1 e.1 }
-stops is.EmptyStack grammar rule text format form rules limit told same status old_out new_out old new a i e five = record { rules = rules; are = a; message = codes "PEEK or POP found nothing on the stack"; stop = empty_stack i; line = e.1 }
-stops is.UnknownName grammar rule text format form rules limit told same status old_out new_out old new a i e five = record { rules = rules; are = a; message = codes "the grammar calls a rule that is not known"; stop = unknown_name i; line = e.1 }
-stops is.Bound grammar rule text format form rules limit told same status old_out new_out old new a i e five = record { rules = rules; are = a; message = codes "a range of the grammar has a bound that is no character"; stop = wide_bound i; line = e.1 }
-stops is.Memory grammar rule text format form rules limit told same status old_out new_out old new a i e five = absurd (apart status 2 5 e five (omega arith))
+stops is.EmptyStack name grammar rule text format form rules limit told same status old_out new_out old new a i e five = record { rules = rules; are = a; message = codes "PEEK or POP found nothing on the stack"; stop = empty_stack i; line = e.1 }
+stops is.UnknownName name grammar rule text format form rules limit told same status old_out new_out old new a i e five = record { rules = rules; are = a; message = codes "the grammar calls a rule that is not known"; stop = unknown_name i; line = e.1 }
+stops is.Bound name grammar rule text format form rules limit told same status old_out new_out old new a i e five = record { rules = rules; are = a; message = codes "a range of the grammar has a bound that is no character"; stop = wide_bound i; line = e.1 }
+stops is.Memory name grammar rule text format form rules limit told same status old_out new_out old new a i e five = absurd (apart status 2 5 e five (omega arith))
 
 -- where there is a text, the outcome was a refusal, and the text reports it
 pub refusal : {X Y E : Type 0} (grammar : List ℕ) (outcome : Result X Fault) (answer : Result X Report) (message : String Global) (told : Result Y E) (old new : Option (List ℕ))
@@ -128,9 +133,9 @@ refusal grammar (Err (fault_is.Grammar errors)) answer message told old new r a 
     record { errors = errors.items; refused = r; line = subst P said line }
 
 -- a refusal is a reason
-pub refusal_is_reason : {X E : Type 0} (form : RuleForm) (grammar rule text : List ℕ) (limit : ℕ) (told : Result X E) (old new : Option (List ℕ))
-    → ReportsRefusal grammar told old new → ReportsReason form grammar rule text limit told old new
-refusal_is_reason form grammar rule text limit told old new r =
+pub refusal_is_reason : {X E : Type 0} (form : RuleForm) (grammar rule name text : List ℕ) (limit : ℕ) (told : Result X E) (old new : Option (List ℕ))
+    → ReportsRefusal grammar told old new → ReportsReason form grammar rule name text limit told old new
+refusal_is_reason form grammar rule name text limit told old new r =
     record { message = escaped_lines (report_text r.errors); reason = refused r.errors r.refused; line = r.line }
 
 -- where there is a value, the outcome was that value

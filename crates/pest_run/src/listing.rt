@@ -90,7 +90,7 @@ pub fn list_rules<W: Write, E: Write>(
         Ok(rules) => {
             let outcome = list_outcome(alloc, &rules);
             release(rules);
-            print_outcome(outcome, out, err)
+            print_outcome(alloc, "", outcome, out, err)
         }
         Err(Report::Memory) => exit_with(err, "out of memory", Status::OutOfMemory),
         Err(Report::Text(report)) => report_refusal(alloc, report.as_str(), err),

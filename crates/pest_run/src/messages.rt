@@ -3,7 +3,7 @@ ghost use Rattle.std.specs.Prelude.{◌≡◌, ◌++◌, IfOk, OnOk, string_byte
 ghost use Rattle.std.specs.Str.{IsCharBoundary};
 ghost use Rattle.matcher_interpreter.specs.ExpectedNames.{name_texts};
 ghost use Rattle.base_ast.specs.Optimized.{optimized_rules_of};
-ghost use Rattle.pest_run.specs.Messages.{end_text, expected_text, is_more, known, names_text, no_rule_text, note_between, place_text, steps_text, suggestion, unfound, unfound_text, unread_text};
+ghost use Rattle.pest_run.specs.Messages.{NamesFile, end_text, expected_text, is_more, known, known_text, names_text, no_rule_text, note_between, place_text, steps_text, suggestion, unfound, unfound_text, unread_text};
 ghost use Rattle.pest_run.specs.Outcomes.{names_of};
 
 use crate::expected::Expected;
@@ -64,6 +64,20 @@ pub fn unread_message(alloc: Global, name: &str, why: &str) -> Result<String, Al
     Ok(message)
 }
 
+/// Returns a report with a file's name before the position that it shows. The only error is an allocation
+/// failure.
+pub fn name_file(alloc: Global, name: &str, report: &str) -> Result<String, AllocError>
+    ensures { IfOk result (λ named. NamesFile name.now report.now (string_bytes named)) }
+{
+    match report.split_once("--> ") {
+        Some((margin, place)) => {
+            let name = escape(alloc, name)?;
+            format!(in alloc; "{margin}--> {name}:{place}")
+        }
+        None => String::from_str(alloc, report),
+    }
+}
+
 /// Returns the message that a match was stopped after so many steps. The only error is an allocation failure.
 pub fn steps_message(alloc: Global, steps: u64) -> Result<String, AllocError>
     ensures { IfOk result (λ message. string_bytes message ≡ steps_text steps) }
@@ -78,14 +92,28 @@ pub fn is_more(rest: &str) -> bool
     !(rest.is_empty() || rest == "\n" || rest == "\r\n")
 }
 
-/// Returns the message on expected names, in pest's words if they are known. The only error is an allocation
+/// The message where no name is expected.
+const NONE_EXPECTED: &str =
+    "no rule is expected here: what failed gives no token, or stands below a `!`";
+
+/// Returns the message on expected names, in pest's words if there are any. The only error is an allocation
 /// failure.
 pub fn expected_message(alloc: Global, names: &Expected<'_>) -> Result<String, AllocError>
     ensures { IfOk result (λ message. string_bytes message ≡ names_text (names_of names.now)) }
 {
     match names {
-        Expected::Names(names) => failure_message(alloc, names),
+        Expected::Names(names) => known_message(alloc, names),
         Expected::Unfound(steps) => unfound_message(alloc, *steps),
+    }
+}
+
+/// Returns the message that these names are expected. The only error is an allocation failure.
+fn known_message(alloc: Global, names: &[&str]) -> Result<String, AllocError>
+    ensures { IfOk result (λ message. string_bytes message ≡ known_text (name_texts names.now)) }
+{
+    match names {
+        [] => String::from_str(alloc, NONE_EXPECTED),
+        [_, ..] => failure_message(alloc, names),
     }
 }
 

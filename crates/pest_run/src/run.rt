@@ -7,7 +7,7 @@ ghost use Rattle.pest_run.specs.Steps.{step_limit};
 ghost use Rattle.pest_run.specs.Written.{AreRun, IsReadable, NotesEnd, PrintsTrees, ReportsReason, ReportsStop, ReportsUnread, WritesLine};
 
 use crate::arguments::{Request, RuleForm, step_limit};
-use crate::ends::{RunExit, exit_after_write, exit_with, report_refusal};
+use crate::ends::{RunExit, exit_after_write, exit_with, report_failure, report_refusal};
 use crate::outcomes::{Outcome, outcome_of};
 use crate::sources::{Source, text_of, unreadable};
 use base_ast::optimized::{OptimizedRule, release};
@@ -45,7 +45,7 @@ pub fn run_files<W: Write, E: Write>(
         (step_limit request.entry.steps (length text.now.bytes.items)) (err.new ≡ err.old) result.write_result
         (E.contents err.old.writer) (E.contents err.new.writer) }
     ensures reason { result.status ≡ 1
-        → ReportsReason request.entry.form grammar.now.bytes.items request.entry.rule.now
+        → ReportsReason request.entry.form grammar.now.bytes.items request.entry.rule.now text.now.name.now
         text.now.bytes.items (step_limit request.entry.steps (length text.now.bytes.items))
         result.write_result (E.contents err.old.writer) (E.contents err.new.writer) }
     ensures tells_memory { result.status ≡ 2
@@ -70,12 +70,12 @@ pub fn run_files<W: Write, E: Write>(
     let Some(input) = text_of(text) else {
         return unreadable(alloc, text, err);
     };
-    run(alloc, rules, input, request, out, err)
+    run(alloc, rules, text.name, input, request, out, err)
 }
 
-/// Matches a text by the requested rule of a grammar, and prints the trees to `out` (0). As text, a note on
-/// `err` says where the match ends, if more than a line's end of the text is left, and what is expected at
-/// the furthest failure, if that is no earlier.
+/// Matches the text of a file of that name by the requested rule of a grammar, and prints the trees to `out`
+/// (0). As text, a note on `err` says where the match ends, if more than a line's end of the text is left,
+/// and what is expected at the furthest failure, if that is no earlier.
 ///
 /// Otherwise one text with a line break at its end goes to `err`: the report of a grammar that is refused,
 /// that the grammar has no such rule, or the furthest position at which the rule fails with the expected set
@@ -84,6 +84,7 @@ pub fn run_files<W: Write, E: Write>(
 pub fn run<W: Write, E: Write>(
     alloc: Global,
     grammar: &str,
+    name: &str,
     text: &str,
     request: Request<'_>,
     out: &mut Output<W>,
@@ -101,7 +102,7 @@ pub fn run<W: Write, E: Write>(
         (step_limit request.entry.steps (length text.now)) (err.new ≡ err.old) result.write_result
         (E.contents err.old.writer) (E.contents err.new.writer) }
     ensures reason { result.status ≡ 1
-        → ReportsReason request.entry.form grammar.now request.entry.rule.now text.now
+        → ReportsReason request.entry.form grammar.now request.entry.rule.now name.now text.now
         (step_limit request.entry.steps (length text.now)) result.write_result
         (E.contents err.old.writer) (E.contents err.new.writer) }
     ensures tells_memory { result.status ≡ 2
@@ -122,7 +123,7 @@ pub fn run<W: Write, E: Write>(
             let steps = step_limit(request.steps, text.len());
             let outcome = outcome_of(alloc, &rules, request.rule, text, request.format, steps);
             release(rules);
-            print_outcome(outcome, out, err)
+            print_outcome(alloc, name, outcome, out, err)
         }
         Err(Report::Memory) => exit_with(err, "out of memory", Status::OutOfMemory),
         Err(Report::Text(report)) => report_refusal(alloc, report.as_str(), err),
@@ -143,14 +144,17 @@ pub fn read_rules(alloc: Global, grammar: &str, form: RuleForm) -> Result<Vec<Op
     }
 }
 
-/// Prints the lines of an outcome, or reports why there are none.
+/// Prints the lines of an outcome, or reports why there are none: with the name of a text's file, if a rule
+/// fails on it.
 pub fn print_outcome<W: Write, E: Write>(
+    alloc: Global,
+    name: &str,
     outcome: Outcome,
     out: &mut Output<W>,
     err: &mut Output<E>,
 ) -> RunExit
     ensures known { IsStatus result.status }
-    ensures ends { EndsAs outcome (err.new ≡ err.old) result.status result.write_result
+    ensures ends { EndsAs name.now outcome (err.new ≡ err.old) result.status result.write_result
         (W.contents out.old.writer) (W.contents out.new.writer)
         (E.contents err.old.writer) (E.contents err.new.writer) }
     ensures unprinted { result.status ≢ 0 → result.status ≢ 4 → out.new ≡ out.old }
@@ -170,7 +174,7 @@ pub fn print_outcome<W: Write, E: Write>(
             let written = out.write_text(lines.as_str());
             exit_after_write(err, written, note)
         }
-        Outcome::Failed(report) => exit_with(err, report.as_str(), Status::Found),
+        Outcome::Failed(report) => report_failure(alloc, name, report.as_str(), err),
         Outcome::NoRule(message) => exit_with(err, message.as_str(), Status::Found),
         Outcome::OutOfSteps(message) => exit_with(err, message.as_str(), Status::Stopped),
         Outcome::EmptyStack => exit_with(

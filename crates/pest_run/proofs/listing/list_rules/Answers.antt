@@ -1,4 +1,4 @@
-use Rattle.std.proofs.Common.{◌∙◌, ℕ, List, Err, ap, arith, subst}
+use Rattle.std.proofs.Common.{◌∙◌, ℕ, List, [], Err, ap, arith, subst}
 use Rattle.base_ast.specs.Optimized.{optimized_rules_of}
 use Rattle.program_support.specs.Escapes.{escaped_lines}
 use Rattle.pest_run.specs.Written.{WritesLine}
@@ -12,25 +12,25 @@ returns-in-Ok-clause-listed g c =
     let reported = c.unwrap_or_report in
     let written = value parsed.result reported.result _ _ parsed.ensures.rules reported.ensures.value reported.ensures.report c.in-Ok.is in
     let comes = rw c.deref.ensures.value at c.list_outcome-outcome.ensures in
-    lists c.args.grammar.now (optimized_rules_of c.in-Ok.rules.items) c.print_outcome.result.write_result _ c.print_outcome.result.status _ _ _ _
+    lists c.args.grammar.now [] (optimized_rules_of c.in-Ok.rules.items) c.print_outcome.result.write_result _ c.print_outcome.result.status _ _ _ _
     c.list_outcome-outcome.result written comes c.print_outcome.ensures.ends
 
 pub returns-in-Ok-clause-silent : goal.returns-in-Ok-clause-silent
 returns-in-Ok-clause-silent g c =
     let comes = rw c.deref.ensures.value at c.list_outcome-outcome.ensures in
-    silent c.args.grammar.now (optimized_rules_of c.in-Ok.rules.items) c.print_outcome.result.write_result _ c.print_outcome.result.status _ _ _ _
+    silent c.args.grammar.now [] (optimized_rules_of c.in-Ok.rules.items) c.print_outcome.result.write_result _ c.print_outcome.result.status _ _ _ _
     c.list_outcome-outcome.result comes c.print_outcome.ensures.ends
 
 pub returns-in-Ok-clause-unstopped : goal.returns-in-Ok-clause-unstopped
 returns-in-Ok-clause-unstopped g c =
     let comes = rw c.deref.ensures.value at c.list_outcome-outcome.ensures in
-    λ five. only c.args.grammar.now (optimized_rules_of c.in-Ok.rules.items) c.print_outcome.result.write_result _ c.print_outcome.result.status _ _ _ _
+    λ five. only c.args.grammar.now [] (optimized_rules_of c.in-Ok.rules.items) c.print_outcome.result.write_result _ c.print_outcome.result.status _ _ _ _
     c.list_outcome-outcome.result 5 comes c.print_outcome.ensures.ends five (omega arith) (omega arith) (omega arith)
 
 pub returns-in-Ok-clause-reason : goal.returns-in-Ok-clause-reason
 returns-in-Ok-clause-reason g c =
     let comes = rw c.deref.ensures.value at c.list_outcome-outcome.ensures in
-    λ one. absurd (only c.args.grammar.now (optimized_rules_of c.in-Ok.rules.items) c.print_outcome.result.write_result _ c.print_outcome.result.status _ _ _ _
+    λ one. absurd (only c.args.grammar.now [] (optimized_rules_of c.in-Ok.rules.items) c.print_outcome.result.write_result _ c.print_outcome.result.status _ _ _ _
     c.list_outcome-outcome.result 1 comes c.print_outcome.ensures.ends one (omega arith) (omega arith) (omega arith))
 
 pub returns-in-Err-Text-clause-reason : goal.returns-in-Err-Text-clause-reason
