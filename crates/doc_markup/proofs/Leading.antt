@@ -55,11 +55,11 @@ section_begins names text r before after =
     let a = markup_bytes names after in
     let rest = id ++ (codes "</h2>\n" ++ (b ++ (expression_bytes r ++ (a ++ codes "</section>\n")))) in record {
       before = text;
-      after = codes "\n<h2>" ++ rest;
-      is = ap (λ t. text ++ t) (from_third (codes "<section id=\"" ++ id) (codes "\">\n<h2>") id (codes "</h2>\n") b (expression_bytes r) a (codes "</section>\n")
-          ∙ append_assoc (codes "<section id=\"" ++ id) (codes "\">\n<h2>") rest
-          ∙ ap (λ t. codes "<section id=\"" ++ id ++ t) (append_assoc (codes "\">") (codes "\n<h2>") rest))
-          ∙ after_text text (codes "<section id=\"") id (codes "\">") (codes "\n<h2>" ++ rest);
+      after = codes "\n<a class=\"back\" href=\"#all-rules\">all rules</a>\n<h2>" ++ rest;
+      is = ap (λ t. text ++ t) (from_third (codes "<section id=\"" ++ id) (codes "\">\n<a class=\"back\" href=\"#all-rules\">all rules</a>\n<h2>") id (codes "</h2>\n") b (expression_bytes r) a (codes "</section>\n")
+          ∙ append_assoc (codes "<section id=\"" ++ id) (codes "\">\n<a class=\"back\" href=\"#all-rules\">all rules</a>\n<h2>") rest
+          ∙ ap (λ t. codes "<section id=\"" ++ id ++ t) (append_assoc (codes "\">") (codes "\n<a class=\"back\" href=\"#all-rules\">all rules</a>\n<h2>") rest))
+          ∙ after_text text (codes "<section id=\"") id (codes "\">") (codes "\n<a class=\"back\" href=\"#all-rules\">all rules</a>\n<h2>" ++ rest);
     }
 
 -- each rule has its section
@@ -90,7 +90,7 @@ same_length names rules are =
 leads : (title : List ℕ) (rules : Grammar) (page : List ℕ) (p : IsPage title rules page) (name : Bor (List ℕ)) (rule : Rule)
     → chars name.now ≡ rule.name → Contains rules rule → LeadsToSection page (link_bytes (Some name))
 leads title rules page p name rule same h =
-    let found = before_and_after _ _ (page_start title p.names p.introduction) foot
+    let found = before_and_after _ _ (page_start title p.names p.introduction p.index) foot
     (has_section p.names rules p.sections rule p.are_sections h) in
     record {
       id = escaped_text rule.name;

@@ -2,6 +2,7 @@
 use Rattle.std.specs.Prelude.{◌≡◌, ℕ, List, [], ◌∷◌, ◌++◌, codes, encode_utf8_all, length, map}
 use Rattle.std.specs.Borrow.{Bor}
 use Rattle.std.specs.List.{range_with_len}
+use Rattle.std.specs.List.Sorted.{IsPermutation}
 use Rattle.std.specs.Str.{chars}
 use Rattle.base_language.specs.Language.Text.{Text}
 use Rattle.base_language.specs.Language.Expression.{Grammar, Rule}
@@ -28,10 +29,11 @@ printed_bytes r = encode_utf8_all (printed r.body)
 abbrev pub definition_bytes : Rule → List EbnfToken → List ℕ
 definition_bytes r body = plain_text r.name ++ codes " ::= " ++ ebnf_bytes body ++ codes "\n"
 
--- the heading of a section, and an expression
+-- the heading of a section, with a link to the index, and an expression
 abbrev pub heading_bytes : Text → List ℕ
 heading_bytes name =
-    codes "<section id=\"" ++ escaped_text name ++ codes "\">\n<h2>" ++ escaped_text name ++ codes "</h2>\n"
+    codes "<section id=\"" ++ escaped_text name
+    ++ codes "\">\n<a class=\"back\" href=\"#all-rules\">all rules</a>\n<h2>" ++ escaped_text name ++ codes "</h2>\n"
 
 abbrev pub expression_bytes : Rule → List ℕ
 expression_bytes r =
@@ -64,10 +66,13 @@ module _ (names : List (Bor (List ℕ))) where
 abbrev pub style_start : List ℕ → List ℕ
 style_start title = head ++ escaped_bytes title ++ style ++ diagram_style ++ body
 
-abbrev pub page_start : List ℕ → List (Bor (List ℕ)) → List Markup → List ℕ
-page_start title names introduction =
+abbrev pub index_bytes : List (Bor (List ℕ)) → List Markup → List ℕ
+index_bytes names index = codes "<nav id=\"all-rules\">" ++ markup_bytes names index ++ codes "</nav>\n"
+
+abbrev pub page_start : List ℕ → List (Bor (List ℕ)) → (introduction index : List Markup) → List ℕ
+page_start title names introduction index =
     style_start title ++ escaped_bytes title ++ codes "</h1>\n" ++ markup_bytes names introduction
-    ++ codes "<main>\n"
+    ++ index_bytes names index ++ codes "<main>\n"
 
 abbrev pub markdown_start : List ℕ → List (Bor (List ℕ)) → List MarkdownToken → List ℕ
 markdown_start title names introduction =
@@ -94,15 +99,22 @@ pub data AreDefinitions : Grammar → List ℕ → Type 0 where
       → AreDefinitions rules bytes
       → AreDefinitions (rules ++ r ∷ []) (bytes ++ definition_bytes r body)
 
--- a page of rules, which first links to each of them
+-- links to so many rules: to each in order, and to each once more
+abbrev pub AreIndexLinks : ℕ → List ℕ → Type 0
+AreIndexLinks count links = (others : List ℕ) × IsPermutation (range_with_len 0 count) others
+    × (links ≡ range_with_len 0 count ++ others)
+
+-- a page of rules, whose index links to each of them
 pub record IsPage (title : List ℕ) (rules : Grammar) (page : List ℕ) : Type 0 where
   pub names : List (Bor (List ℕ))
   pub are_names : AreNames rules names
   pub introduction : List Markup
-  pub listed : links_of introduction ≡ range_with_len 0 (length rules)
+  pub unlinked : links_of introduction ≡ []
+  pub index : List Markup
+  pub listed : AreIndexLinks (length rules) (links_of index)
   pub sections : List ℕ
   pub are_sections : AreSections names rules sections
-  pub whole : page ≡ page_start title names introduction ++ sections ++ foot
+  pub whole : page ≡ page_start title names introduction index ++ sections ++ foot
 
 pub record IsMarkdownPage (title : List ℕ) (rules : Grammar) (page : List ℕ) : Type 0 where
   pub names : List (Bor (List ℕ))

@@ -4,7 +4,7 @@ ghost use Rattle.base_ast.specs.Ast.{expression_of, rule_of_code};
 ghost use Rattle.base_ast.specs.Printing.{printed};
 ghost use Rattle.doc_markup.specs.Markdown.{code_bytes};
 ghost use Rattle.std.specs.Str.{chars};
-ghost use Rattle.doc_markup.specs.Pages.{definition_bytes, expression_bytes, heading_bytes, markdown_expression, markdown_heading, markdown_section, markdown_start, page_start, section_bytes, style_start};
+ghost use Rattle.doc_markup.specs.Pages.{definition_bytes, expression_bytes, heading_bytes, index_bytes, markdown_expression, markdown_heading, markdown_section, markdown_start, page_start, section_bytes, style_start};
 
 use crate::ebnf::{EbnfToken, push_ebnf, push_plain};
 use crate::escape::push_escaped;
@@ -28,21 +28,36 @@ pub struct MarkdownContents<'t> {
     pub after: Vec<MarkdownToken<'t>>,
 }
 
-/// Returns a page of HTML up to its first section, where the rules have these names.
+/// Returns a page of HTML up to its first section, where the rules have these names. Each section links to
+/// the index.
 pub fn start_page(
     alloc: Global,
     title: &str,
     introduction: &[Markup<'_>],
+    index: &[Markup<'_>],
     names: &[&str],
 ) -> Result<String, AllocError>
-    ensures { IfOk result (λ page. string_bytes page ≡ page_start title.now names.now introduction.now) }
+    ensures { IfOk result (λ page. string_bytes page
+        ≡ page_start title.now names.now introduction.now index.now) }
 {
     let mut page = page_with_style(alloc, title)?;
     push_escaped(title, &mut page)?;
     page.push_str("</h1>\n")?;
     push_markup(introduction, names, &mut page)?;
+    push_index(index, names, &mut page)?;
     page.push_str("<main>\n")?;
     Ok(page)
+}
+
+/// Appends the index of a page. No rule has its id, since names of rules have no `-`.
+fn push_index(index: &[Markup<'_>], names: &[&str], page: &mut String) -> Result<(), AllocError>
+    ensures { OnOk result (string_bytes page.new
+        ≡ string_bytes page.old ++ index_bytes names.now index.now) }
+{
+    page.push_str("<nav id=\"all-rules\">")?;
+    push_markup(index, names, page)?;
+    page.push_str("</nav>\n")?;
+    Ok(())
 }
 
 /// A page of HTML up to its heading.
@@ -77,13 +92,13 @@ pub fn push_section(
     Ok(())
 }
 
-/// Appends the heading of a rule's section, by which links find it.
+/// Appends the heading of a rule's section, by which links find it, and its link to the index.
 fn push_heading(name: &str, page: &mut String) -> Result<(), AllocError>
     ensures { OnOk result (string_bytes page.new ≡ string_bytes page.old ++ heading_bytes (chars name.now)) }
 {
     page.push_str("<section id=\"")?;
     push_escaped(name, page)?;
-    page.push_str("\">\n<h2>")?;
+    page.push_str("\">\n<a class=\"back\" href=\"#all-rules\">all rules</a>\n<h2>")?;
     push_escaped(name, page)?;
     page.push_str("</h2>\n")?;
     Ok(())

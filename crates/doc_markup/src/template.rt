@@ -29,6 +29,7 @@ pre { padding: .6rem .8rem; border: 1px solid var(--line); border-radius: 6px; o
 code { font: 13px/1.45 ui-monospace, monospace; } details code { white-space: pre-wrap; }\n\
 dl { display: grid; grid-template-columns: max-content 1fr; gap: .2rem 1rem; margin: .5rem 0 1rem; }\n\
 dt { color: var(--faint); } dd { margin: 0; } summary { color: var(--faint); }\n\
+.back { float: right; margin: 1.7rem 0 0 1rem; font-size: .875rem; }\n\
 .scroll { overflow-x: auto; margin: .5rem 0; }\n";
 
 /// The style of diagrams.

@@ -1,10 +1,11 @@
 //! Pages of HTML, and single diagrams.
-ghost use Rattle.std.specs.Prelude.{◌≡◌, ◌++◌, IfOk, MatchOption, OnOk, length, string_bytes};
+ghost use Rattle.std.specs.Prelude.{◌≡◌, ◌++◌, [], IfOk, MatchOption, OnOk, length, map, string_bytes};
 ghost use Rattle.std.specs.HashMap.{get_by_text};
 ghost use Rattle.std.specs.List.{range_with_len};
+ghost use Rattle.std.specs.List.Sorted.{IsPermutation};
 ghost use Rattle.base_ast.specs.Ast.{rule_of_code, rules_of};
 ghost use Rattle.doc_markup.specs.Links.{AreLinksWithin, links_of};
-ghost use Rattle.doc_markup.specs.Pages.{AreNames, IsPage};
+ghost use Rattle.doc_markup.specs.Pages.{AreIndexLinks, AreNames, IsPage};
 ghost use Rattle.doc_pages.specs.Documents.{EndsWithSections, HasNoRule, HasNoneNamed, IsAskedFor, IsDiagramOf, IsDiagramOfRule, IsOneNamed};
 ghost use Rattle.doc_pages.specs.Modifiers.{meaning};
 ghost use Rattle.doc_pages.specs.Links.{diagram_links, other_rule, part_links, source_links};
@@ -30,7 +31,8 @@ pub fn html_page(alloc: Global, title: &str, doc: &GrammarDoc<'_>) -> Result<Str
 {
     let names = doc.names(alloc)?;
     let introduction = introduce(alloc, doc)?;
-    let mut page = start_page(alloc, title, &introduction.tokens, &names)?;
+    let index = list_rules(alloc, &names)?;
+    let mut page = start_page(alloc, title, &introduction.tokens, &index.tokens, &names)?;
     push_sections(alloc, doc, &names, &mut page)?;
     page.push_str(foot())?;
     Ok(page)
@@ -110,19 +112,29 @@ fn push_sections(
     Ok(())
 }
 
-/// The comment of a grammar, and the list of its rules.
+/// The comment of a grammar.
 fn introduce<'i>(alloc: Global, doc: &GrammarDoc<'i>) -> Result<MarkupBuilder<'i>, AllocError>
-    ensures { IfOk result (λ markup. links_of markup.tokens.items
-        ≡ range_with_len 0 (length doc.now.rules.value.items)) }
+    ensures { IfOk result (λ markup. links_of markup.tokens.items ≡ []) }
 {
     let mut markup = MarkupBuilder::new(alloc);
     push_comment(&mut markup, &doc.source.comment)?;
-    markup.start(Tag::Nav)?;
+    Ok(markup)
+}
+
+/// The index of rules of these names: a list in order, and one by name.
+fn list_rules<'t>(alloc: Global, names: &[&str]) -> Result<MarkupBuilder<'t>, AllocError>
+    ensures { IfOk result (λ markup. AreIndexLinks (length names.now) (links_of markup.tokens.items)) }
+{
+    let by_name = sort_by_name(alloc, names)?;
+    let mut markup = MarkupBuilder::new(alloc);
     markup.element(Tag::H2, "Rules")?;
     markup.start(Tag::Ul)?;
-    push_rule_items(&mut markup, doc.rules.value.len())?;
-    markup.close(Tag::Ul)?;
-    markup.close_line(Tag::Nav)?;
+    push_rule_items(&mut markup, names.len())?;
+    markup.close_line(Tag::Ul)?;
+    markup.element(Tag::H2, "Rules by name")?;
+    markup.start(Tag::Ul)?;
+    push_sorted_items(&mut markup, &by_name)?;
+    markup.close_line(Tag::Ul)?;
     Ok(markup)
 }
 
@@ -134,6 +146,35 @@ fn push_rule_items(markup: &mut MarkupBuilder<'_>, count: usize) -> Result<(), A
     for number in 0..count {
         markup.start(Tag::Li)?;
         markup.rule_link(number)?;
+        markup.close_line(Tag::Li)?;
+    }
+    Ok(())
+}
+
+/// The names with their places, sorted.
+fn sort_by_name<'n>(alloc: Global, names: &[&'n str]) -> Result<Vec<(&'n str, usize)>, AllocError>
+    ensures { IfOk result (λ sorted. IsPermutation (range_with_len 0 (length names.now))
+        (map (λ rule. rule.1) sorted.items)) }
+{
+    let mut sorted = Vec::new(alloc);
+    for (number, name) in names.iter().enumerate() {
+        sorted.push((*name, number))?;
+    }
+    sorted.sort()?;
+    Ok(sorted)
+}
+
+/// Adds items that link to the rules of these numbers.
+fn push_sorted_items(
+    markup: &mut MarkupBuilder<'_>,
+    sorted: &[(&str, usize)],
+) -> Result<(), AllocError>
+    ensures { OnOk result (links_of markup.new.tokens.items
+        ≡ links_of markup.old.tokens.items ++ map (λ rule. rule.1) sorted.now) }
+{
+    for rule in sorted {
+        markup.start(Tag::Li)?;
+        markup.rule_link(rule.1)?;
         markup.close_line(Tag::Li)?;
     }
     Ok(())
