@@ -6,6 +6,7 @@ ghost use Rattle.serde_json.specs.View.{view};
 
 use serde_json::Value;
 use server_features::actions::code_actions;
+use server_features::diagnoses::Diagnoses;
 use server_features::formatting::{format_document, format_range};
 use server_features::hovers::hover;
 use server_protocol::messages::Answer;
@@ -131,10 +132,11 @@ fn request_among(names: &[MethodName], method: &str) -> Option<RequestMethod>
     None
 }
 
-/// Answers a request about a document.
+/// Answers a request about a document, by what is kept of documents.
 pub(crate) fn answer_in(
     alloc: Global,
     context: &Context<'_>,
+    diagnoses: &Diagnoses,
     request: RequestMethod,
     params: &Value,
 ) -> Result<Answer, AllocError>
@@ -149,11 +151,11 @@ pub(crate) fn answer_in(
         RequestMethod::DocumentHighlight => highlights(alloc, context, params),
         RequestMethod::PrepareRename => prepare_rename(alloc, context, params),
         RequestMethod::Rename => rename_rule(alloc, context, params),
-        RequestMethod::Hover => hover(alloc, context, params),
+        RequestMethod::Hover => hover(alloc, context, diagnoses, params),
         RequestMethod::Completion => completions(alloc, context),
         RequestMethod::Formatting => format_document(alloc, context),
         RequestMethod::RangeFormatting => format_range(alloc, context, params),
-        RequestMethod::CodeAction => code_actions(alloc, context, params),
+        RequestMethod::CodeAction => code_actions(alloc, context, diagnoses, params),
         RequestMethod::SemanticTokens => semantic_tokens(alloc, context),
     }
 }

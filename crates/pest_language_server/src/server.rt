@@ -17,6 +17,7 @@ use crate::capabilities::initialize_result;
 use crate::replies::{OUT_OF_MEMORY, Reply, refusal, refuse_unread, respond};
 use crate::requests::{RequestMethod, answer_in, request_of};
 use serde_json::Value;
+use server_features::diagnoses::{Diagnoses, Diagnosis};
 use server_features::diagnostics::{publish, publish_none};
 use server_protocol::apply_changes;
 use server_protocol::client::{Client, client_of};
@@ -47,12 +48,13 @@ enum Notice {
     Close,
 }
 
-/// A server: its session, and the open documents.
+/// A server: its session, the open documents, and their diagnoses.
 #[derive(Drop)]
 pub struct Server {
     phase: Phase,
     client: Client,
     documents: Documents,
+    diagnoses: Diagnoses,
 }
 
 impl Server {
@@ -64,6 +66,7 @@ impl Server {
             phase: Phase::New,
             client: Client::default(),
             documents: Documents::new(alloc),
+            diagnoses: Diagnoses::new(alloc),
         }
     }
 
@@ -278,6 +281,7 @@ impl Server {
             AnnouncesClosing uri.now self.new (string_bytes body))) }
     {
         self.documents.remove(uri);
+        self.diagnoses.remove(uri);
         Ok(Some(publish_none(alloc, uri)?))
     }
 
@@ -298,15 +302,24 @@ impl Server {
         self.publish(alloc, uri)
     }
 
-    /// Returns the notification of a document's diagnostics, if it is open.
-    fn publish(&self, alloc: Global, uri: &str) -> Result<Option<String>, AllocError>
-        ensures { IfOk result (λ sent. IfSome sent (λ body.
-            PublishesAt self.now uri.now (string_bytes body))) }
+    /// Returns the notification of a document's diagnostics, if it is open. A text whose diagnosis is kept is
+    /// not diagnosed again, and one for whose diagnosis there is no memory is diagnosed when it is asked for.
+    fn publish(&mut self, alloc: Global, uri: &str) -> Result<Option<String>, AllocError>
+        ensures session { SameSession self.old self.new }
+        ensures documents { self.new.documents ≡ self.old.documents }
+        ensures sent { IfOk result (λ sent. IfSome sent (λ body.
+            PublishesAt self.old uri.now (string_bytes body))) }
     {
-        match self.documents.get(uri) {
-            Some(document) => Ok(Some(publish(alloc, self.client, uri, document)?)),
-            None => Ok(None),
+        let Some(document) = self.documents.get(uri) else {
+            return Ok(None);
+        };
+        if let Some(diagnosis) = self.diagnoses.get(uri, document.text.as_str()) {
+            return Ok(Some(publish(alloc, self.client, uri, document, diagnosis)?));
         }
+        let diagnosis = Diagnosis::new(alloc, document.text.as_str())?;
+        let body = publish(alloc, self.client, uri, document, &diagnosis)?;
+        let _ = self.diagnoses.put(alloc, uri, diagnosis);
+        Ok(Some(body))
     }
 
     /// Answers a request.
@@ -392,7 +405,7 @@ impl Server {
     {
         let context = Context::of_params(alloc, self.client, &self.documents, params)?;
         match &context {
-            Some(context) => answer_in(alloc, context, request, params),
+            Some(context) => answer_in(alloc, context, &self.diagnoses, request, params),
             None => Ok(Answer::Error(ErrorCode::InvalidParams, "no such document is open")),
         }
     }

@@ -69,7 +69,7 @@ AreActionsOf context extent room (diagnostic ∷ diagnostics) values =
 -- the first 20 actions of the diagnostics of a document's text
 pub record AreActionsAt (context : Context) (extent : Extent) (v : Data) : Type 0 where
   pub diagnostics : List Diagnostic
-  pub of_text : IsDiagnosis [] context.text.now diagnostics
+  pub of_text : ∥ IsDiagnosis [] context.text.now diagnostics ∥₁
   pub values : List Data
   pub actions : AreActionsOf context extent 20 diagnostics values
   pub value : v ≡ array (items_of values)

@@ -91,7 +91,7 @@ IsPublication uri version diagnostics body = IsMessage (notification_data
 -- information where the client has that
 pub record Publishes (client : Client) (uri : List ℕ) (document : Document) (body : List ℕ) : Type 0 where
   pub diagnostics : List Diagnostic
-  pub of_text : IsDiagnosis [] (string_bytes document.text) diagnostics
+  pub of_text : ∥ IsDiagnosis [] (string_bytes document.text) diagnostics ∥₁
   pub message : IsPublication uri document.version (array (items_of
       (map (diagnostic_data client.has_related client.encoding (string_bytes document.text) uri)
       diagnostics))) body

@@ -1,4 +1,5 @@
 pub mod Actions
+pub mod Diagnoses
 pub mod Diagnostics
 pub mod Facts
 pub mod Formatting

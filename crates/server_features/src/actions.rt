@@ -1,14 +1,15 @@
 //! Code actions: the remedies of diagnostics.
-ghost use Rattle.std.specs.Prelude.{◌≡◌, ◌++◌, ◌∷◌, [], IfOk, List, OnOk, map};
+ghost use Rattle.std.specs.Prelude.{◌≡◌, ◌++◌, ◌∷◌, [], IfOk, List, OnOk, map, string_bytes};
 ghost use Rattle.server_features.specs.Actions as spec;
 ghost use Rattle.server_features.specs.Actions.{AddsAction, AreActions, AreActionsAt, AreActionsOf, IsActionFor};
 ghost use Rattle.serde_json.specs.Data.{Data};
 ghost use Rattle.serde_json.specs.View.{view};
 
+use crate::diagnoses::{Diagnoses, Diagnosis};
 use crate::diagnostics::{diagnostic_value, extent_of};
 use crate::formatting::do_touch;
 use crate::remedies::{Remedy, remedy_of};
-use lint_diagnostics::{Diagnostic, Options, diagnose};
+use lint_diagnostics::Diagnostic;
 use serde_json::{Value, json};
 use server_protocol::messages::{Answer, ErrorCode};
 use server_protocol::params::lists_at;
@@ -21,10 +22,12 @@ use std::alloc::{AllocError, Global};
 /// The most remedies that are answered at once.
 const MOST_ACTIONS: usize = 20;
 
-/// Returns the remedies of the diagnostics that a range touches, at most 20.
+/// Returns the remedies of the diagnostics that a range touches, at most 20. The text is diagnosed where its
+/// diagnosis is not among those that are kept.
 pub fn code_actions(
     alloc: Global,
     context: &Context<'_>,
+    diagnoses: &Diagnoses,
     params: &Value,
 ) -> Result<Answer, AllocError>
     ensures { IfOk result (AreActions context.now (view params.now)) }
@@ -35,7 +38,7 @@ pub fn code_actions(
     if !is_asked_for(params) {
         return Ok(Answer::Result(Value::Array(Vec::new(alloc))));
     }
-    Ok(Answer::Result(actions_at(alloc, context, extent)?))
+    Ok(Answer::Result(actions_at(alloc, context, diagnoses, extent)?))
 }
 
 /// Whether quick fixes are asked for.
@@ -46,11 +49,36 @@ fn is_asked_for(params: &Value) -> bool
 }
 
 /// Returns the remedies of the diagnostics that an extent touches, as a value.
-fn actions_at(alloc: Global, context: &Context<'_>, extent: Extent) -> Result<Value, AllocError>
+fn actions_at(
+    alloc: Global,
+    context: &Context<'_>,
+    diagnoses: &Diagnoses,
+    extent: Extent,
+) -> Result<Value, AllocError>
     ensures { IfOk result (λ v. AreActionsAt context.now extent (view v)) }
 {
-    let diagnostics = diagnose(alloc, context.text, Options { starts: &[] })?;
-    let actions = actions_of(alloc, context, extent, &diagnostics)?;
+    match diagnoses.get(context.uri, context.text) {
+        Some(diagnosis) => actions_by(alloc, context, extent, diagnosis),
+        None => actions_by(
+            alloc,
+            context,
+            extent,
+            &Diagnosis::new(alloc, context.text)?,
+        ),
+    }
+}
+
+/// Returns the remedies of those diagnostics of a document's text that an extent touches, as a value.
+fn actions_by(
+    alloc: Global,
+    context: &Context<'_>,
+    extent: Extent,
+    diagnosis: &Diagnosis,
+) -> Result<Value, AllocError>
+    requires { string_bytes diagnosis.now.text ≡ context.now.text.now }
+    ensures { IfOk result (λ v. AreActionsAt context.now extent (view v)) }
+{
+    let actions = actions_of(alloc, context, extent, &diagnosis.diagnostics)?;
     Ok(Value::Array(actions))
 }
 

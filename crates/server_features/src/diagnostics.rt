@@ -6,7 +6,8 @@ ghost use Rattle.server_features.specs.Diagnostics.{IsPublication, Publishes};
 ghost use Rattle.serde_json.specs.Data.{array, no_items};
 ghost use Rattle.serde_json.specs.View.{items_of, view};
 
-use lint_diagnostics::{Code, Diagnostic, Help, Options, Related, Severity, diagnose};
+use crate::diagnoses::Diagnosis;
+use lint_diagnostics::{Code, Diagnostic, Help, Related, Severity};
 use serde_json::{Value, json};
 use server_protocol::PositionIndex;
 use server_protocol::client::Client;
@@ -16,19 +17,20 @@ use server_protocol::values::{location_value, range_value};
 use server_symbols::Extent;
 use std::alloc::{AllocError, Global};
 
-/// Returns the notification of a document's diagnostics.
+/// Returns the notification of a document's diagnostics, those of its text.
 pub fn publish(
     alloc: Global,
     client: Client,
     uri: &str,
     document: &Document,
+    diagnosis: &Diagnosis,
 ) -> Result<String, AllocError>
+    requires { string_bytes diagnosis.now.text ≡ string_bytes document.now.text }
     ensures { IfOk result (λ body. Publishes client uri.now document.now (string_bytes body)) }
 {
-    let text = document.text.as_str();
-    let diagnostics = diagnose(alloc, text, Options { starts: &[] })?;
-    let index = PositionIndex::new(alloc, text, client.encoding)?;
-    let values = diagnostic_values(alloc, &index, uri, client.has_related, &diagnostics)?;
+    let index = PositionIndex::new(alloc, document.text.as_str(), client.encoding)?;
+    let has_related = client.has_related;
+    let values = diagnostic_values(alloc, &index, uri, has_related, &diagnosis.diagnostics)?;
     publication(alloc, uri, document.version, values)
 }
 

@@ -1,14 +1,17 @@
-//! Facts about rules: whether one may match nothing, and its first set.
+//! What is known of a rule: whether it may match nothing, its first set, and its optimized form.
 ghost use Rattle.std.specs.Prelude.{◌≡◌, IfErr, IfOk, false, slice_index_or};
+ghost use Rattle.front_analysis.specs.Names.{grammar_of};
 ghost use Rattle.server_features.specs.Facts as spec;
-ghost use Rattle.server_features.specs.Facts.{AreFacts, AreFactsBy, SpellsNoneUnlessMemory};
+ghost use Rattle.server_features.specs.Facts.{AreFacts, AreFactsBy, AreFactsIn, SpellsNoneUnlessMemory};
 
 use base_ast::deep::Deep;
+use base_ast::optimized::{OptimizedRule, release};
 use base_language::grammar::Rule;
 use base_language::runtime::Fault;
 use front_analysis::{Analysis, Joint, Node, Shape, UnaryOperator, analyze};
 use front_names::Builtin;
-use front_spanned::ParserExpr;
+use front_spanned::{ParserExpr, ParserRule};
+use pest_meta::optimize_with_spans;
 use pest_meta::parser::{consume_rules_with_spans, parse};
 use std::alloc::{AllocError, Global};
 
@@ -24,28 +27,90 @@ pub struct RuleFacts {
     pub first: String,
 }
 
-/// Returns what is known of the rule of a name; nothing where the text is no grammar, or there is no such
-/// rule.
-pub fn rule_facts(alloc: Global, text: &str, name: &str) -> Result<Option<RuleFacts>, AllocError>
-    ensures { IfOk result (AreFacts text.now name.now) }
+/// What is known of a rule.
+#[derive(Drop)]
+pub struct RuleNotes {
+    /// Its facts; none where the text is no grammar, or there is no such rule.
+    pub facts: Option<RuleFacts>,
+    /// Its body in the optimized rules, where the text is accepted.
+    pub optimized: Option<String>,
+}
+
+/// Returns what is known of the rule of a name. `is_accepted` tells whether the text is accepted.
+pub fn rule_notes(
+    alloc: Global,
+    text: &str,
+    name: &str,
+    is_accepted: bool,
+) -> Result<RuleNotes, AllocError>
+    ensures { IfOk result (λ notes. AreFacts text.now name.now notes.facts) }
 {
-    match facts_in(alloc, text, name) {
-        Ok(facts) => Ok(facts),
-        Err(Fault::Grammar(_)) => Ok(None),
+    match notes_in(alloc, text, name, is_accepted) {
+        Ok(notes) => Ok(notes),
+        Err(Fault::Grammar(_)) => Ok(RuleNotes {
+            facts: None,
+            optimized: None,
+        }),
         Err(Fault::Memory(error)) => Err(error),
     }
 }
 
 /// Returns what is known of the rule of a name in a grammar.
-fn facts_in(alloc: Global, text: &str, name: &str) -> Result<Option<RuleFacts>, Fault>
-    ensures known { IfOk result (AreFacts text.now name.now) }
+fn notes_in(alloc: Global, text: &str, name: &str, is_accepted: bool) -> Result<RuleNotes, Fault>
+    ensures known { IfOk result (λ notes. AreFacts text.now name.now notes.facts) }
     ensures refused { IfErr result (SpellsNoneUnlessMemory text.now) }
 {
     let pairs = parse(alloc, Rule::grammar_rules, text)?;
     let rules = consume_rules_with_spans(alloc, pairs)?;
     let rules = Deep { value: rules };
-    let analysis = analyze(alloc, &rules.value)?;
-    Ok(facts_by(alloc, &analysis, name)?)
+    let facts = facts_of(alloc, &rules.value, name)?;
+    let optimized = optimized_body(alloc, rules, name, is_accepted)?;
+    Ok(RuleNotes { facts, optimized })
+}
+
+/// Returns the facts of the rule of a name among rules.
+fn facts_of(
+    alloc: Global,
+    rules: &[ParserRule<'_>],
+    name: &str,
+) -> Result<Option<RuleFacts>, AllocError>
+    ensures { IfOk result (AreFactsIn (grammar_of rules.now) name.now) }
+{
+    let analysis = analyze(alloc, rules)?;
+    facts_by(alloc, &analysis, name)
+}
+
+/// Returns the optimized body of the rule of a name, where the rules are those of an accepted text.
+fn optimized_body(
+    alloc: Global,
+    rules: Deep<Vec<ParserRule<'_>>>,
+    name: &str,
+    is_accepted: bool,
+) -> Result<Option<String>, AllocError> {
+    if !is_accepted {
+        return Ok(None);
+    }
+    match optimize_with_spans(alloc, rules.into_inner()) {
+        Ok(optimized) => {
+            let body = printed_body(alloc, &optimized, name);
+            release(optimized);
+            body
+        }
+        // No other fault can be.
+        Err(_) => Err(AllocError),
+    }
+}
+
+/// Returns the body of the rule of a name, as it is printed.
+fn printed_body(
+    alloc: Global,
+    rules: &[OptimizedRule],
+    name: &str,
+) -> Result<Option<String>, AllocError> {
+    match rules.iter().find(|rule| rule.name.as_str() == name) {
+        Some(rule) => Ok(Some(rule.expr.to_string(alloc)?)),
+        None => Ok(None),
+    }
 }
 
 /// Returns what is known of the rule of a name, by an analysis.

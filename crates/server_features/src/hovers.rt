@@ -4,11 +4,9 @@ ghost use Rattle.server_features.specs.Hovers as spec;
 ghost use Rattle.server_features.specs.Hovers.{HasDefinition, IsBuiltinText, IsHover, IsTextOf};
 ghost use Rattle.serde_json.specs.View.{view};
 
-use crate::facts::rule_facts;
-use base_ast::optimized::{OptimizedRule, release};
-use base_language::runtime::Fault;
+use crate::diagnoses::Diagnoses;
+use crate::facts::{RuleFacts, rule_notes};
 use front_names::is_builtin;
-use pest_meta::parse_and_optimize;
 use serde_json::{Value, json};
 use server_protocol::client::Client;
 use server_protocol::messages::Answer;
@@ -19,16 +17,31 @@ use server_requests::symbols::modifier_name;
 use server_symbols::{Definition, Extent, TokenClass};
 use std::alloc::{AllocError, Global};
 
-/// Returns what is known of the name at a position.
-pub fn hover(alloc: Global, context: &Context<'_>, params: &Value) -> Result<Answer, AllocError>
+/// Returns what is known of the name at a position. The optimized form of a rule is shown where the diagnosis
+/// that is kept of the text has no error.
+pub fn hover(
+    alloc: Global,
+    context: &Context<'_>,
+    diagnoses: &Diagnoses,
+    params: &Value,
+) -> Result<Answer, AllocError>
     ensures { IfOk result (IsHover context.now (view params.now)) }
 {
     let Some(name) = context.name(params) else {
         return Ok(Answer::Result(Value::Null));
     };
-    let text = text_of(alloc, context, name.text)?;
+    let is_accepted = is_accepted(context, diagnoses);
+    let text = text_of(alloc, context, name.text, is_accepted)?;
     let value = hover_of(alloc, context, name.extent, text.as_str())?;
     Ok(Answer::Result(value))
+}
+
+/// Whether the diagnosis that is kept of a document's text has no error.
+fn is_accepted(context: &Context<'_>, diagnoses: &Diagnoses) -> bool {
+    match diagnoses.get(context.uri, context.text) {
+        Some(diagnosis) => !diagnosis.is_refused(),
+        None => false,
+    }
 }
 
 /// Returns a hover, or null where there is no text.
@@ -75,11 +88,16 @@ fn kind_for(client: Client) -> &'static str
 }
 
 /// Returns what is known of a name: of the rule, or else of the builtin; nothing of another name.
-fn text_of(alloc: Global, context: &Context<'_>, name: &str) -> Result<String, AllocError>
+fn text_of(
+    alloc: Global,
+    context: &Context<'_>,
+    name: &str,
+    is_accepted: bool,
+) -> Result<String, AllocError>
     ensures { IfOk result (λ text. IsTextOf context.now name.now (string_bytes text)) }
 {
     match rule_named(context, &context.definitions, name) {
-        Some(definition) => rule_text(alloc, context, definition),
+        Some(definition) => rule_text(alloc, context, definition, is_accepted),
         None => builtin_text(alloc, name),
     }
 }
@@ -136,12 +154,13 @@ fn rule_text(
     alloc: Global,
     context: &Context<'_>,
     definition: Definition,
+    is_accepted: bool,
 ) -> Result<String, AllocError>
     ensures { IfOk result (λ text. HasDefinition context.now definition (string_bytes text)) }
 {
     let doc = doc_text(alloc, context, definition)?;
     let code = definition_text(context, definition);
-    let notes = notes_text(alloc, context, definition)?;
+    let notes = notes_text(alloc, context, definition, is_accepted)?;
     framed_code(alloc, doc.as_str(), code, notes.as_str())
 }
 
@@ -173,27 +192,26 @@ fn notes_text(
     alloc: Global,
     context: &Context<'_>,
     definition: Definition,
+    is_accepted: bool,
 ) -> Result<String, AllocError> {
     let mut text = String::new(alloc);
     let modifier = modifier_name(definition.modifier);
     if !modifier.is_empty() {
         write!(text, "\n\nThe rule is {modifier}.")?;
     }
-    push_facts(alloc, context, definition, &mut text)?;
-    push_optimized(alloc, context, definition, &mut text)?;
+    let name = context.part(definition.name);
+    let notes = rule_notes(alloc, context.text, name, is_accepted)?;
+    if let Some(facts) = &notes.facts {
+        push_facts(facts, &mut text)?;
+    }
+    if let Some(body) = &notes.optimized {
+        write!(text, "\n\nOptimized:\n```pest\n{body}\n```")?;
+    }
     Ok(text)
 }
 
 /// Adds whether a rule may match nothing, and what can begin it.
-fn push_facts(
-    alloc: Global,
-    context: &Context<'_>,
-    definition: Definition,
-    text: &mut String,
-) -> Result<(), AllocError> {
-    let Some(facts) = rule_facts(alloc, context.text, context.part(definition.name))? else {
-        return Ok(());
-    };
+fn push_facts(facts: &RuleFacts, text: &mut String) -> Result<(), AllocError> {
     text.push_str(if facts.is_nullable {
         "\n\nIt may match nothing."
     } else {
@@ -221,31 +239,4 @@ fn doc_text(
         }
     }
     Ok(text)
-}
-
-/// Adds the optimized form of a rule, where the grammar is accepted.
-fn push_optimized(
-    alloc: Global,
-    context: &Context<'_>,
-    definition: Definition,
-    text: &mut String,
-) -> Result<(), AllocError> {
-    match parse_and_optimize(alloc, context.text) {
-        Ok((_, rules)) => {
-            let outcome = push_form(&rules, context.part(definition.name), text);
-            release(rules);
-            outcome
-        }
-        Err(Fault::Grammar(_)) => Ok(()),
-        Err(Fault::Memory(error)) => Err(error),
-    }
-}
-
-/// Adds the optimized form of the rule of a name.
-fn push_form(rules: &[OptimizedRule], name: &str, text: &mut String) -> Result<(), AllocError> {
-    let Some(rule) = rules.iter().find(|rule| rule.name.as_str() == name) else {
-        return Ok(());
-    };
-    write!(text, "\n\nOptimized:\n```pest\n{}\n```", rule.expr)?;
-    Ok(())
 }

@@ -2,6 +2,7 @@
 #![tactic(auto)]
 
 pub mod actions;
+pub mod diagnoses;
 pub mod diagnostics;
 mod facts;
 pub mod formatting;

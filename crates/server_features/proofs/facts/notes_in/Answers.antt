@@ -1,9 +1,9 @@
-use Rattle.std.proofs.Common.{◌∙◌, subst}
+use Rattle.std.proofs.Common.{subst}
 use Rattle.std.proofs.lemmas.Result.{err_from_is_err_and}
 use Rattle.front_analysis.specs.Names.{grammar_of}
 use Rattle.server_features.proofs.Knowing.{facts_read, parse_refused, read_refused}
 use Rattle.server_features.specs.Facts.{AreFactsIn}
-use Rattle.server_features.proofs.facts.facts_in.Goals as goal
+use Rattle.server_features.proofs.facts.notes_in.Goals as goal
 
 pub returns-in_err-pairs-clause-refused : goal.returns-in_err-pairs-clause-refused
 returns-in_err-pairs-clause-refused c =
@@ -18,7 +18,6 @@ returns-in_err-rules-clause-refused c =
 
 pub returns-clause-known : goal.returns-clause-known
 returns-clause-known c =
-    let same = c.in_ok-analysis.ensures.rules ∙ c.deref.ensures.value in
-    facts_read c.args.text.now c.args.name.now c.in_ok-pairs.pairs c.in_ok-rules.rules.items c.in_ok-facts_by.field-0 c.in_ok-pairs.ensures.text
+    facts_read c.args.text.now c.args.name.now c.in_ok-pairs.pairs c.in_ok-rules.rules.items c.in_ok-facts.facts c.in_ok-pairs.ensures.text
     c.in_ok-pairs.ensures.spelled c.in_ok-rules.ensures.flawless c.in_ok-rules.ensures.rules
-    (subst (λ rules. AreFactsIn (grammar_of rules) c.args.name.now c.in_ok-facts_by.field-0) same (c.in_ok-facts_by.ensures c.in_ok-analysis.ensures.right))
+    (subst (λ rules. AreFactsIn (grammar_of rules) c.args.name.now c.in_ok-facts.facts) c.deref.ensures.value c.in_ok-facts.ensures)
