@@ -1,4 +1,4 @@
-//! Optimized rules run on texts by the proved matcher, for the crate pest_vm. No part of the original's interface.
+//! Optimized rules run on texts by the proved matcher, for the crates pest_vm and kingorewa_pest. No part of the original's interface.
 #![forbid(unsafe_code)]
 
 use crate::optimizer::OptimizedRule;
@@ -58,7 +58,7 @@ impl Program {
     /// Where the library has no memory.
     pub fn new(rules: &[OptimizedRule]) -> Program {
         let names = rules.iter().map(|rule| rule.name.clone()).collect();
-        Program { rules: answers::prepared(&optimizer::json_of(rules)), names }
+        Program { rules: prepared(rules), names }
     }
 
     /// Returns the name of the rule of an index.
@@ -71,28 +71,46 @@ impl Program {
     /// # Panics
     /// Where the library has no memory.
     pub fn run(&self, rule: &str, text: &str, steps: u64) -> Result<(usize, Vec<Token>), Unmatched> {
-        let mut numbers = vec![0; 64 + text.len()];
-        let mut needed = 0;
-        let mut status = library::match_prepared(&self.rules, rule, text, steps, &mut numbers, &mut needed);
-        if status == 4 {
-            numbers = vec![0; needed];
-            status = library::match_prepared(&self.rules, rule, text, steps, &mut numbers, &mut needed);
+        let numbers = numbers(&self.rules, rule, text, steps)?;
+        Ok((numbers[0], numbers[1..].chunks_exact(3).map(token).collect()))
+    }
+}
+
+/// Returns rules in the binary form in which the library reads them.
+///
+/// # Panics
+/// Where the library has no memory.
+pub fn prepared(rules: &[OptimizedRule]) -> Vec<u8> {
+    answers::prepared(&optimizer::json_of(rules))
+}
+
+/// Runs a rule, of rules in binary form, from the start of a text. Returns the position after the match, and three
+/// numbers for each token, as the library writes them.
+///
+/// # Panics
+/// Where the library has no memory, and where the bytes are no rules in binary form.
+pub fn numbers(rules: &[u8], rule: &str, text: &str, steps: u64) -> Result<Vec<usize>, Unmatched> {
+    let mut numbers = vec![0; 64 + text.len()];
+    let mut needed = 0;
+    let mut status = library::match_prepared(rules, rule, text, steps, &mut numbers, &mut needed);
+    if status == 4 {
+        numbers = vec![0; needed];
+        status = library::match_prepared(rules, rule, text, steps, &mut numbers, &mut needed);
+    }
+    numbers.truncate(needed);
+    match status {
+        0 => Ok(numbers),
+        1 => {
+            let expected = numbers[1..].iter().map(|number| number - 1).collect();
+            Err(Unmatched::Failed { pos: numbers[0], expected })
         }
-        let numbers = &numbers[..needed];
-        match status {
-            0 => Ok((numbers[0], numbers[1..].chunks_exact(3).map(token).collect())),
-            1 => {
-                let expected = numbers[1..].iter().map(|number| number - 1).collect();
-                Err(Unmatched::Failed { pos: numbers[0], expected })
-            }
-            2 => panic!("pest_meta: there is no memory for this text"),
-            6 => Err(Unmatched::Unfit),
-            7 => Err(Unmatched::NoRule),
-            8 => Err(Unmatched::OutOfSteps),
-            9 => Err(Unmatched::EmptyStack),
-            _ => panic!(
-                "pest_meta: the library answered with status {status}, which is none for rules and a text"
-            ),
+        2 => panic!("pest_meta: there is no memory for this text"),
+        6 => Err(Unmatched::Unfit),
+        7 => Err(Unmatched::NoRule),
+        8 => Err(Unmatched::OutOfSteps),
+        9 => Err(Unmatched::EmptyStack),
+        _ => {
+            panic!("pest_meta: the library answered with status {status}, which is none for rules and a text")
         }
     }
 }
