@@ -1,0 +1,255 @@
+//! Errors of parsers, and errors that a program reports in the same form.
+
+use std::borrow::Cow;
+use std::fmt;
+
+use crate::{Position, RuleType, Span};
+
+/// An error at a position or a span of a text.
+#[derive(Clone, Debug, Eq, Hash, PartialEq)]
+pub struct Error<R> {
+    /// What is wrong.
+    pub variant: ErrorVariant<R>,
+    /// Where in the text, in bytes.
+    pub location: InputLocation,
+    /// Where in the text, as lines and columns.
+    pub line_col: LineColLocation,
+    path: Option<String>,
+    line: String,
+    /// The last line, if a span has several.
+    last_line: Option<String>,
+}
+
+/// What is wrong.
+#[derive(Clone, Debug, Eq, Hash, PartialEq)]
+pub enum ErrorVariant<R> {
+    /// A parser's failure.
+    ParsingError {
+        /// The rules that were expected.
+        positives: Vec<R>,
+        /// The rules that were not expected. The proved matcher tells none.
+        negatives: Vec<R>,
+    },
+    /// Another error.
+    CustomError {
+        /// Its message.
+        message: String,
+    },
+}
+
+/// A place in a text, in bytes.
+#[derive(Clone, Debug, Eq, Hash, PartialEq)]
+pub enum InputLocation {
+    /// A position.
+    Pos(usize),
+    /// The start and the end of a span.
+    Span((usize, usize)),
+}
+
+/// A place in a text, as lines and columns from 1.
+#[derive(Clone, Debug, Eq, Hash, PartialEq)]
+pub enum LineColLocation {
+    /// A position.
+    Pos((usize, usize)),
+    /// The start and the end of a span.
+    Span((usize, usize), (usize, usize)),
+}
+
+impl From<Position<'_>> for LineColLocation {
+    fn from(pos: Position<'_>) -> Self {
+        LineColLocation::Pos(pos.line_col())
+    }
+}
+
+impl From<Span<'_>> for LineColLocation {
+    fn from(span: Span<'_>) -> Self {
+        LineColLocation::Span(span.start_pos().line_col(), span.end_pos().line_col())
+    }
+}
+
+impl<R: RuleType> Error<R> {
+    /// Makes an error at a position.
+    pub fn new_from_pos(variant: ErrorVariant<R>, pos: Position<'_>) -> Error<R> {
+        let line = match pos.is_at_line_break() {
+            true => with_visible_breaks(pos.line_of()),
+            false => without_breaks(pos.line_of()),
+        };
+        Error {
+            variant,
+            location: InputLocation::Pos(pos.pos()),
+            line_col: LineColLocation::from(pos),
+            path: None,
+            line,
+            last_line: None,
+        }
+    }
+
+    /// Makes an error at a span.
+    pub fn new_from_span(variant: ErrorVariant<R>, span: Span<'_>) -> Error<R> {
+        let text = span.as_str();
+        let has_break_at_bound = text.starts_with(['\n', '\r']) || ends_with_break(text);
+        let mut lines = span.lines();
+        let first = lines.next().unwrap_or_default();
+        let last = lines.last();
+        let (line, last_line) = match has_break_at_bound {
+            true => (with_visible_breaks(first), last.map(str::to_owned)),
+            false => (without_breaks(first), last.map(with_visible_breaks)),
+        };
+        Error {
+            variant,
+            location: InputLocation::Span((span.start(), span.end())),
+            line_col: LineColLocation::Span(span.start_pos().line_col(), shown_end(span.end_pos())),
+            path: None,
+            line,
+            last_line,
+        }
+    }
+
+    /// Gives the error the path of a file, which is printed before the place.
+    pub fn with_path(self, path: &str) -> Error<R> {
+        Error { path: Some(path.to_owned()), ..self }
+    }
+
+    /// Returns the path of [`Error::with_path`].
+    pub fn path(&self) -> Option<&str> {
+        self.path.as_deref()
+    }
+
+    /// Returns the line of the error, as it is printed.
+    pub fn line(&self) -> &str {
+        &self.line
+    }
+
+    /// Makes the error of a parser one with a message, in which rules have the names that `f` gives them.
+    pub fn renamed_rules<F>(self, f: F) -> Error<R>
+    where
+        F: FnMut(&R) -> String,
+    {
+        let variant = match self.variant {
+            ErrorVariant::ParsingError { positives, negatives } => {
+                ErrorVariant::CustomError { message: parser_message(&positives, &negatives, f) }
+            }
+            custom => custom,
+        };
+        Error { variant, ..self }
+    }
+
+    /// The marks below the line.
+    fn marks(&self) -> String {
+        let (start, end) = match self.line_col {
+            LineColLocation::Pos((_, column)) => (column, None),
+            // A span that ends in another line may end at a column before that where it starts.
+            LineColLocation::Span((_, start), (_, end)) if start > end => (end - 1, Some(start + 1)),
+            LineColLocation::Span((_, start), (_, end)) => (start, Some(end)),
+        };
+        let blank = |character| if character == '\t' { '\t' } else { ' ' };
+        let mut marks: String = self.line.chars().take(start.saturating_sub(1)).map(blank).collect();
+        match end.map(|end| end - start) {
+            None => marks.push_str("^---"),
+            Some(0 | 1) => marks.push('^'),
+            Some(width) => {
+                marks.push('^');
+                marks.extend((2..width).map(|_| '-'));
+                marks.push('^');
+            }
+        }
+        marks
+    }
+}
+
+/// The line and the column that are shown for the end of a span: after a line break, the place of the break.
+fn shown_end(end: Position<'_>) -> (usize, usize) {
+    match end.line_col() {
+        (_, 1) => {
+            let (line, column) = end.character_before().line_col();
+            (line, column + 1)
+        }
+        place => place,
+    }
+}
+
+/// Whether a text ends with a line break that is not its first character.
+fn ends_with_break(text: &str) -> bool {
+    let mut characters = text.chars();
+    characters.next();
+    matches!(characters.next_back(), Some('\n' | '\r'))
+}
+
+fn without_breaks(line: &str) -> String {
+    line.replace(['\r', '\n'], "")
+}
+
+fn with_visible_breaks(line: &str) -> String {
+    line.replace('\r', "␍").replace('\n', "␊")
+}
+
+/// What a parser's error says.
+fn parser_message<R>(positives: &[R], negatives: &[R], mut f: impl FnMut(&R) -> String) -> String {
+    let mut names = |rules: &[R]| enumeration(rules.iter().map(&mut f).collect());
+    match (negatives.is_empty(), positives.is_empty()) {
+        (true, true) => "unknown parsing error".to_owned(),
+        (true, false) => format!("expected {}", names(positives)),
+        (false, true) => format!("unexpected {}", names(negatives)),
+        (false, false) => {
+            let unexpected = names(negatives);
+            format!("unexpected {unexpected}; expected {}", names(positives))
+        }
+    }
+}
+
+/// Names in one text: `a`, `a or b`, `a, b, or c`.
+fn enumeration(mut names: Vec<String>) -> String {
+    let last = names.pop().unwrap_or_default();
+    match &names[..] {
+        [] => last,
+        [first] => format!("{first} or {last}"),
+        _ => format!("{}, or {last}", names.join(", ")),
+    }
+}
+
+impl<R: RuleType> ErrorVariant<R> {
+    /// Returns the message: of a parser's failure, the rules that were expected.
+    pub fn message(&self) -> Cow<'_, str> {
+        match self {
+            ErrorVariant::CustomError { message } => Cow::Borrowed(message),
+            ErrorVariant::ParsingError { positives, negatives } => {
+                Cow::Owned(parser_message(positives, negatives, |rule| format!("{rule:?}")))
+            }
+        }
+    }
+}
+
+/// Prints the place, the line with marks below it, and the message.
+impl<R: RuleType> fmt::Display for Error<R> {
+    fn fmt(&self, f: &mut fmt::Formatter<'_>) -> fmt::Result {
+        let ((start, column), end) = match self.line_col {
+            LineColLocation::Pos(start) => (start, start.0),
+            LineColLocation::Span(start, end) => (start, end.0),
+        };
+        let width = start.max(end).to_string().len();
+        let margin = " ".repeat(width);
+        let path = self.path.as_ref().map(|path| format!("{path}:")).unwrap_or_default();
+        writeln!(f, "{margin}--> {path}{start}:{column}\n{margin} |")?;
+        writeln!(f, "{start:width$} | {}", self.line)?;
+        if let Some(last_line) = &self.last_line {
+            if end.saturating_sub(start) > 1 {
+                writeln!(f, "{margin} | ...")?;
+            }
+            writeln!(f, "{end:width$} | {last_line}")?;
+        }
+        write!(f, "{margin} | {}\n{margin} |\n{margin} = {}", self.marks(), self.variant.message())
+    }
+}
+
+impl<R: RuleType> fmt::Display for ErrorVariant<R> {
+    fn fmt(&self, f: &mut fmt::Formatter<'_>) -> fmt::Result {
+        match self {
+            ErrorVariant::ParsingError { .. } => write!(f, "parsing error: {}", self.message()),
+            ErrorVariant::CustomError { message } => f.write_str(message),
+        }
+    }
+}
+
+impl<R: RuleType> std::error::Error for Error<R> {}
+
+impl<R: RuleType> std::error::Error for ErrorVariant<R> {}
