@@ -1,0 +1,98 @@
+//! The code of a parser.
+
+use pest_meta::matching;
+use proc_macro2::{Ident, Literal, Span, TokenStream};
+use quote::{format_ident, quote};
+use syn::DeriveInput;
+
+use crate::grammar::{self, Grammar};
+
+/// The enum `Rule` of a struct's grammar, and the struct as a parser for it.
+pub(crate) fn parser(input: &DeriveInput) -> syn::Result<TokenStream> {
+    let grammar = grammar::of_attributes(input)?;
+    let mut variants = Vec::new();
+    for rule in &grammar.rules {
+        variants.push(variant(&rule.name)?);
+    }
+    let is_open = input.attrs.iter().any(|attribute| attribute.path.is_ident("non_exhaustive"));
+    let rules = rule_enum(&grammar, &variants, is_open);
+    let parser = parser_impl(input, &grammar, &variants);
+    let files = grammar.files.iter().map(|file| file.display().to_string());
+    // The compiler reads the files as well, so that the crate is built again when one has changed.
+    Ok(quote! {
+        #(const _: &str = ::core::include_str!(#files);)*
+        #rules
+        #parser
+    })
+}
+
+/// The name of a rule as one of a variant, which may be a keyword.
+fn variant(name: &str) -> syn::Result<Ident> {
+    match name {
+        "_" | "crate" | "self" | "super" | "Self" => {
+            Err(syn::Error::new(Span::call_site(), format!("grammar error\n\n{name} is a rust keyword")))
+        }
+        _ => Ok(format_ident!("r#{}", name)),
+    }
+}
+
+fn rule_enum(grammar: &Grammar, variants: &[Ident], is_open: bool) -> TokenStream {
+    let docs = &grammar.docs;
+    let open = is_open.then(|| quote!(#[non_exhaustive]));
+    let end = grammar.uses_eoi.then(|| {
+        quote!(
+            #[doc = "End-of-input"]
+            EOI,
+        )
+    });
+    let rules = grammar.rules.iter().zip(variants).map(|(rule, variant)| {
+        let docs = grammar.rule_docs.iter().find(|(name, _)| *name == rule.name);
+        let docs = docs.into_iter().flat_map(|(_, docs)| docs);
+        quote!(#(#[doc = #docs])* #variant,)
+    });
+    quote! {
+        #(#[doc = #docs])*
+        #[allow(dead_code, non_camel_case_types, clippy::upper_case_acronyms)]
+        #[derive(Clone, Copy, Debug, Eq, Hash, Ord, PartialEq, PartialOrd)]
+        #open
+        pub enum Rule {
+            #end
+            #(#rules)*
+        }
+
+        #[allow(dead_code)]
+        impl Rule {
+            /// The rules of the grammar, in its order.
+            pub fn all_rules() -> &'static [Rule] {
+                &[#(Rule::#variants),*]
+            }
+        }
+    }
+}
+
+fn parser_impl(input: &DeriveInput, grammar: &Grammar, variants: &[Ident]) -> TokenStream {
+    let name = &input.ident;
+    let (impl_generics, type_generics, where_clause) = input.generics.split_for_impl();
+    let code = Literal::byte_string(&matching::prepared(&grammar.rules));
+    let end = grammar.uses_eoi.then(|| format_ident!("EOI"));
+    let rules: Vec<&Ident> = variants.iter().chain(&end).collect();
+    let names = grammar.rules.iter().map(|rule| &rule.name[..]).chain(grammar.uses_eoi.then_some("EOI"));
+    quote! {
+        #[allow(clippy::all)]
+        impl #impl_generics ::pest::Parser<Rule> for #name #type_generics #where_clause {
+            fn parse<'i>(
+                rule: Rule,
+                input: &'i str,
+            ) -> ::core::result::Result<::pest::iterators::Pairs<'i, Rule>, ::pest::error::Error<Rule>> {
+                const RULES: &[Rule] = &[#(Rule::#rules),*];
+                static GRAMMAR: ::pest::machine::Grammar<Rule> = ::pest::machine::Grammar {
+                    code: #code,
+                    rules: RULES,
+                    names: &[#(#names),*],
+                    rule: |index| RULES[index as usize],
+                };
+                ::pest::machine::parse(&GRAMMAR, rule, input)
+            }
+        }
+    }
+}
