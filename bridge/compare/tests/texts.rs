@@ -1,0 +1,139 @@
+//! The answers of parsers on texts that are put together from pieces.
+use original::{Answer, Failure};
+
+/// How many texts each grammar gets.
+const TEXTS: usize = 2000;
+
+/// Numbers that look as if they came by chance: a linear congruential generator.
+struct Numbers(u64);
+
+impl Numbers {
+    fn below(&mut self, end: usize) -> usize {
+        self.0 = self.0.wrapping_mul(6364136223846793005).wrapping_add(1442695040888963407);
+        (self.0 >> 33) as usize % end
+    }
+}
+
+/// A text of the pieces: mostly pieces by chance, and sometimes a sample with a piece in it.
+fn text_of(numbers: &mut Numbers, pieces: &[&str], samples: &[&str]) -> String {
+    if numbers.below(3) > 0 {
+        return (0..numbers.below(12)).map(|_| pieces[numbers.below(pieces.len())]).collect();
+    }
+    let mut text = samples[numbers.below(samples.len())].to_owned();
+    let at = numbers.below(text.len() + 1);
+    if text.is_char_boundary(at) {
+        text.insert_str(at, pieces[numbers.below(pieces.len())]);
+    }
+    text
+}
+
+/// How many failures agree, and in what the others differ.
+#[derive(Debug, Default)]
+struct Agreement {
+    matched: usize,
+    failed: usize,
+    /// Failures with the same printed text.
+    same: usize,
+    /// Failures whose printed texts differ by the negatives alone, which are never told here.
+    without_negatives: usize,
+    /// Others: some expected rules are told by one alone. An example of each number of both.
+    other_names: Vec<String>,
+}
+
+impl Agreement {
+    fn add_failure(&mut self, text: &str, here: here::Failure, original: Failure) {
+        assert_eq!((here.pos, here.line_col), (original.pos, original.line_col), "{text:?}");
+        assert_eq!(here.negatives, [""; 0], "{text:?}");
+        self.failed += 1;
+        if here.printed == original.printed {
+            assert_eq!(here.positives, original.positives, "{text:?}");
+            self.same += 1;
+        } else if here.positives == original.positives {
+            self.without_negatives += 1;
+        } else {
+            let names =
+                |failure: [&Vec<String>; 2]| format!("{} not {}", failure[0].join(" "), failure[1].join(" "));
+            let original = names([&original.positives, &original.negatives]);
+            self.other_names.push(format!(
+                "{text:?} at {}: {} / {original}",
+                here.pos,
+                here.positives.join(" ")
+            ));
+        }
+    }
+}
+
+/// All lines of what is printed for an error but the last, which has the names of rules.
+fn place(printed: &str) -> &str {
+    printed.rsplit_once('\n').map_or("", |(place, _)| place)
+}
+
+#[test]
+fn parsers_answer_the_same() {
+    for (here, original) in here::GRAMMARS.iter().zip(&original::GRAMMARS) {
+        let (mut numbers, mut agreement) = (Numbers(1), Agreement::default());
+        for number in 0..TEXTS {
+            let text = match original.samples.get(number) {
+                Some(sample) => (*sample).to_owned(),
+                None => text_of(&mut numbers, original.pieces, original.samples),
+            };
+            match ((here.parse)(&text), (original.parse)(&text)) {
+                (here::Answer::Pairs(here), Answer::Pairs(original)) => {
+                    assert_eq!(here, original, "{text:?}");
+                    agreement.matched += 1;
+                }
+                (here::Answer::Failure(here), Answer::Failure(original)) => {
+                    assert_eq!(place(&here.printed), place(&original.printed), "{text:?}");
+                    agreement.add_failure(&text, here, original);
+                }
+                (here, original) => panic!("{text:?}: {here:?}, and original {original:?}"),
+            }
+        }
+        let Agreement { matched, failed, same, without_negatives, other_names } = &agreement;
+        println!(
+            "{}: {matched} match; of {failed} failures {same} are printed the same, {without_negatives} lack \
+             negatives, {} have other names",
+            original.name,
+            other_names.len()
+        );
+        other_names.iter().take(5).for_each(|example| println!("  {example}"));
+        assert!(*matched > TEXTS / 20 && *failed > TEXTS / 20, "{agreement:?}");
+        assert!(original.samples.iter().all(|sample| matches!((here.parse)(sample), here::Answer::Pairs(_))));
+    }
+}
+
+#[test]
+fn positions_and_spans_answer_the_same() {
+    let (mut numbers, pieces) = (Numbers(1), ["a", "\n", "\r", "\r\n", "\t", "ä", "\u{1f600}", " ", "bc"]);
+    let texts =
+        (0..300).map(|_| (0..numbers.below(7)).map(|_| pieces[numbers.below(pieces.len())]).collect());
+    let lines = (0..12).map(|line| format!("{line}\n")).collect();
+    for text in texts.chain([lines]).collect::<Vec<String>>() {
+        for (here, original) in here::places::told(&text).iter().zip(original::places::told(&text)) {
+            assert_eq!(*here, original, "{text:?}");
+        }
+    }
+}
+
+#[test]
+fn operators_group_the_same() {
+    let mut numbers = Numbers(1);
+    for _ in 0..TEXTS {
+        let mut text = String::new();
+        let only_infix = numbers.below(2) == 0;
+        for at in 0..=numbers.below(8) {
+            text += if at > 0 { ["+", "-", "*", "^"][numbers.below(4)] } else { "" };
+            text += if only_infix { "" } else { ["", "", "~", "~~"][numbers.below(4)] };
+            text += &at.to_string();
+            text += if only_infix { "" } else { ["", "", "!", "!!"][numbers.below(4)] };
+        }
+        let levels = [(); 4].map(|()| (numbers.below(5), numbers.below(2) == 0));
+        let (sign, mark) = (numbers.below(5), numbers.below(5));
+        let here = here::chains::grouped(&text, &levels, sign, mark);
+        assert_eq!(
+            here,
+            original::chains::grouped(&text, &levels, sign, mark),
+            "{text} {levels:?} {sign} {mark}"
+        );
+    }
+}
