@@ -13,8 +13,8 @@ pub(crate) enum Failure {
     Other(&'static str),
 }
 
-/// Runs the rule of a name, of optimized rules in binary form, from the start of a text. Returns the nodes of the
-/// match.
+/// Runs the rule of a name, of optimized rules in binary form, from the start of a text, in 1,000 steps a byte and
+/// 1,000,000 more at most. Returns the nodes of the match.
 ///
 /// # Panics
 /// Where there is no memory for the text, or where these are no rules that have that one.
@@ -22,7 +22,7 @@ pub(crate) fn run(code: &[u8], rule: &str, text: &str) -> Result<Vec<Node>, Fail
     if u32::try_from(text.len()).is_err() {
         return Err(Failure::Other("texts of 4 GiB and more are not parsed"));
     }
-    match matching::numbers(code, rule, text, u64::MAX) {
+    match matching::numbers(code, rule, text, matching::most_steps(text)) {
         Ok(numbers) => Ok(nodes(&numbers[1..])),
         Err(Unmatched::Failed { pos, expected }) => {
             let expected = expected.into_iter().map(|index| index as u32).collect();

@@ -1,4 +1,5 @@
-//! Optimized rules run on texts by the proved matcher, for the crates pest_vm and kingorewa_pest. No part of the original's interface.
+//! Optimized rules run on texts by the proved matcher, for the crates pest_vm and kingorewa_pest. No part of the
+//! original's interface.
 #![forbid(unsafe_code)]
 
 use crate::optimizer::OptimizedRule;
@@ -74,6 +75,11 @@ impl Program {
         let numbers = numbers(&self.rules, rule, text, steps)?;
         Ok((numbers[0], numbers[1..].chunks_exact(3).map(token).collect()))
     }
+}
+
+/// The most steps that a run on a text may take, if its caller names no limit: 1,000 a byte, and 1,000,000 more.
+pub fn most_steps(text: &str) -> u64 {
+    (text.len() as u64).saturating_add(1_000).saturating_mul(1_000)
 }
 
 /// Returns rules in the binary form in which the library reads them.

@@ -43,7 +43,7 @@ use std::panic::{RefUnwindSafe, UnwindSafe};
 use pest::error::{Error, ErrorVariant};
 use pest::iterators::Pairs;
 use pest::{ParseResult, ParserState, Position};
-use pest_meta::matching::{Program, Token, Unmatched};
+use pest_meta::matching::{most_steps, Program, Token, Unmatched};
 use pest_meta::optimizer::OptimizedRule;
 
 /// A function that is called with the name of a rule and a position, and answers whether to stop.
@@ -56,12 +56,6 @@ pub struct Vm {
 }
 
 type State<'a> = Box<ParserState<'a, &'a str>>;
-
-/// The steps that each byte of a text is allowed.
-const STEPS_PER_BYTE: u64 = 1_000;
-
-/// The bytes by which every text counts for longer.
-const MORE_BYTES: u64 = 1_000;
 
 impl Vm {
     /// Makes a machine of optimized rules.
@@ -85,7 +79,7 @@ impl Vm {
     /// Where no rule has the name, where the rules call a name that is neither a rule nor a builtin, and where
     /// memory is refused.
     pub fn parse<'a>(&'a self, rule: &'a str, input: &'a str) -> Result<Pairs<'a, &'a str>, Error<&'a str>> {
-        let steps = (input.len() as u64).saturating_add(MORE_BYTES).saturating_mul(STEPS_PER_BYTE);
+        let steps = most_steps(input);
         match self.program.run(rule, input, steps) {
             Ok((_, tokens)) => {
                 pest::state(input, |state| self.replayed(state, input, &tokens, 0..tokens.len()))
