@@ -17,7 +17,7 @@ use crate::plan::Plan;
 use crate::points::{NotCompiled, Place};
 use matcher_code::code::{Op, Ranges};
 use matcher_program::form::{Form, Program};
-use matcher_sets::difference::{MOST_RANGES, choice_ranges, outside_ranges};
+use matcher_sets::difference::{choice_ranges, outside_ranges};
 use std::alloc::Global;
 
 /// The label of `Fail`.
@@ -89,9 +89,6 @@ impl<'p> Plan<'p> {
             → Meets p self.new code laid
             → HasSet code set (λ c. not (is_covered others.now.items c) && is_covered ranges.items c)) }
     {
-        if others.len() > MOST_RANGES {
-            return Err(NotCompiled::Unsupported);
-        }
         let rest = outside_ranges(alloc, ranges, others)?;
         let set = self.set(rest)?;
         Ok(set)

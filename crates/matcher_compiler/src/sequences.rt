@@ -16,7 +16,7 @@ use crate::points::{NotCompiled, Part, Place};
 use crate::spans::span_ranges;
 use matcher_code::code::Op;
 use matcher_program::form::{Form, Program};
-use matcher_sets::difference::{choice_ranges, refused_ranges};
+use matcher_sets::difference::{MOST_RANGES, choice_ranges, refused_ranges};
 use matcher_sets::heads::{Head, Heads};
 use std::alloc::Global;
 
@@ -142,7 +142,8 @@ impl<'p> Plan<'p> {
         Ok(())
     }
 
-    /// Plans two expressions, one right after the other, by the character that both match or by parts.
+    /// Plans two expressions, one right after the other, by the character that both match, or by parts if the
+    /// first one does not refuse characters or refuses too many.
     fn plain_both(
         &mut self,
         alloc: Global,
@@ -164,6 +165,9 @@ impl<'p> Plan<'p> {
             Some(others) => others,
             None => return self.both(program, first, second, at, own),
         };
+        if others.len() > MOST_RANGES {
+            return self.both(program, first, second, at, own);
+        }
         let made = choice_ranges(alloc, program, second)?;
         match made {
             Some(ranges) => {

@@ -11,6 +11,14 @@ use std::io;
 /// How many rules stand before the pairs in a grammar that the matcher does not compile.
 const OTHER_RULES: usize = 4096;
 
+/// A grammar of rules that refuse the characters of many ranges. `nested` ends soon on a long text only if the
+/// grammar is compiled, since calls are remembered then.
+const MANY_RANGES: &str = "sign = @{ !XID_START ~ ANY }
+signs = @{ (!LETTER ~ ANY)* }
+word = { (!LETTER ~ ANY)* ~ \"x\" }
+nested = { inner ~ EOI }
+inner = { \"x\" ~ inner ~ \"y\" | \"x\" ~ inner ~ \"z\" | \"x\" }";
+
 /// Prints the rule of each tree, its positions in bytes, and the number of trees up to its last descendant,
 /// or why there is no match in so many steps at most.
 fn print_trees(
@@ -73,10 +81,29 @@ fn print_empty_stack(rt: &HostRuntime) -> io::Result<()> {
     }
 }
 
+/// Prints trees and refusals of rules that refuse the characters of many ranges.
+fn print_many_ranges(rt: &HostRuntime) -> io::Result<()> {
+    let Some(matcher) = matcher_of(rt.alloc(), MANY_RANGES) else {
+        return eprintln!(rt; "the grammar of many ranges gives no matcher");
+    };
+    print_trees(rt, &matcher, "sign", "1", 1_000_000)?;
+    print_trees(rt, &matcher, "sign", "x", 1_000_000)?;
+    print_trees(rt, &matcher, "signs", "1+漢", 1_000_000)?;
+    print_trees(rt, &matcher, "word", "1+x", 1_000_000)?;
+    print_trees(
+        rt,
+        &matcher,
+        "nested",
+        "xxxxxxxxxxxxxxxxxxxxxxxxxxxxxx",
+        1_000_000,
+    )
+}
+
 /// Prints trees and refusals of a matcher that is compiled, and of one that is interpreted.
 pub fn print_examples(rt: &HostRuntime) -> io::Result<()> {
     print_pairs(rt, PAIRS)?;
     print_empty_stack(rt)?;
+    print_many_ranges(rt)?;
     match with_other_rules(rt.alloc()) {
         Ok(grammar) => print_pairs(rt, grammar.as_str()),
         Err(_) => eprintln!(rt; "out of memory"),
