@@ -6,7 +6,8 @@ use Rattle.base_ast.specs.Ast.{text_of}
 use Rattle.base_language.specs.Language.Expression.{Grammar, Rule, last_place, rule_of}
 use Rattle.base_language.specs.Language.Text.{Text}
 use Rattle.matcher_program.specs.declared.form.Row.{Row}
-use Rattle.matcher_program.specs.Programs.{IsRuleOf, grammar_of, names_of, rule_of_row}
+use Rattle.matcher_program.specs.Programs.{IsRuleOf, grammar_of, name_at, names_of, rule_of_row}
+use Rattle.matcher_compiler.specs.Names.{IsLast}
 
 last_found : (g : Grammar) (i : ℕ) (d : Rule) (n : Text) → i < length g → last_place (drop (suc i) g) n ≡ None → bytes_eq (get_or g i d).name n ≡ true → last_place g n ≡ Some i
 last_found [] i d n l u h = absurd (omega (arith, l))
@@ -45,6 +46,11 @@ module _ (rows : List Row) (below next : ℕ) (row : Row) (n : Text) (e : next +
 
   pub that_name : bytes_eq (text_of row.name) n ≡ true → last_place (grammar_of rows) n ≡ Some next
   that_name h = last_found (grammar_of rows) next (rule_of_row (names_of rows) row) n within after (ap (λ r. bytes_eq r.name n) at_next ∙ h)
+
+  pub that_row : text_of row.name ≡ n → IsLast rows next
+  that_row h =
+      let named : name_at (names_of rows) next ≡ n = get_or-map (λ r. text_of r.name) rows next row [] l ∙ (ap (λ r. text_of r.name) (sym is) ∙ h) in
+      ap (last_place (grammar_of rows)) named ∙ that_name ((bytes_eq-Decides (text_of row.name) n).1 h)
 
 -- what the place of a name says of the rule of the name
 pub record IsPlaceOf (g : Grammar) (n : Text) (i : ℕ) : Type 0 where

@@ -337,7 +337,11 @@ pub fn compile(alloc: Global, program: &Program) -> Result<Code, NotCompiled>
     requires sound { IsSoundProgram program.now }
     ensures { IfOk result (IsCodeOf program.now) }
 {
-    if program.rows.len() > MOST_RULES || !has_own_names(program) {
+    if program.rows.len() > MOST_RULES {
+        return Err(NotCompiled::Unsupported);
+    }
+    let has_own = has_own_names(alloc, program)?;
+    if !has_own {
         return Err(NotCompiled::Unsupported);
     }
     let mut plan = first_plan(alloc, program)?;
