@@ -1,5 +1,5 @@
 -- The tagged trees that a match by wrapped rules shows.
-use Rattle.std.specs.Prelude.{◌≡◌, ◌<◌, ◌^◌, ℕ, All, Contains, length, Option, Some, None, []}
+use Rattle.std.specs.Prelude.{◌≡◌, ◌<◌, ◌^◌, ℕ, All, length, Option, Some, None, []}
 use Rattle.base_language.specs.Language.Text.{Text}
 use Rattle.base_language.specs.Language.Expression.{Grammar, Rule}
 use Rattle.base_language.specs.Language.State.{Classes, State, Trees, None', Tree, Outcome, Success, Failure}
@@ -26,10 +26,6 @@ with_trees vs (Success t us) = Success t vs
 -- no rule's name is one of a wrapper
 abbrev pub HasNoMark : Rule → Type 0
 HasNoMark r = tag_in r.name ≡ None
-
--- the name of a rule is one of a wrapper
-abbrev pub IsMarked : Grammar → Text → Type 0
-IsMarked g n = (r : Rule) × Contains g r × (r.name ≡ n) × (tag_in n ≡ None → ⊥)
 
 -- rules whose tags can be wrapped
 pub record CanWrap (g : Grammar) : Type 0 where

@@ -1,13 +1,12 @@
 //! Rules whose tags have become calls of wrappers, rules that give one tree more, which ends where the tagged
 //! expression ends.
-ghost use Rattle.std.specs.Prelude.{◌≡◌, ◌<◌, ◌^◌, [], ⊤, All, IfNone, IfOk, IfSome, chars, length};
+ghost use Rattle.std.specs.Prelude.{◌≡◌, ◌<◌, ◌^◌, [], ⊤, IfOk, chars, length};
 ghost use Rattle.base_language.specs.Language.Expression.{Expression, Grammar};
 ghost use Rattle.base_ast.specs.Optimized.{optimized_expression_of, optimized_rule_of, optimized_rules_of};
 ghost use Rattle.matcher_pairs.specs.Frames.{IsWrapped, made_of, size_of, waits_of, with_operand, wrapped_of};
-ghost use Rattle.matcher_pairs.specs.Spliced.{HasNoMark, IsMarked};
 ghost use Rattle.matcher_pairs.specs.Wrapped.{with_wrapper, wrapped_grammar, wrapped_rules};
 
-use crate::tags::names::{find_tag, name_wrapper};
+use crate::tags::names::name_wrapper;
 use base_ast::ast::RuleType;
 use base_ast::deep::{Deep, Release};
 use base_ast::optimized::{OptimizedExpr, OptimizedRule, PlainSign, Sign};
@@ -209,20 +208,4 @@ pub fn wrap_rules(
     let _count = wrappers.value.len();
     wrappers.value.append(&mut done.value)?;
     Ok(wrappers)
-}
-
-/// Returns a name with a `#`, which might be a wrapper's, if a rule has one.
-pub fn find_marked(rules: &[OptimizedRule]) -> Option<&str>
-    ensures none { IfNone result (All HasNoMark (optimized_rules_of rules.entry.now)) }
-    ensures marked { IfSome result
-        (λ name. IsMarked (optimized_rules_of rules.entry.now) (chars name.now)) }
-{
-    for rule in rules {
-        let name = rule.name.as_str();
-        match find_tag(name) {
-            Some(_) => return Some(name),
-            None => {}
-        }
-    }
-    None
 }
