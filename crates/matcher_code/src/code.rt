@@ -42,11 +42,6 @@ pub enum Op {
         next: u32,
         fail: u32,
     },
-    /// Takes so many bytes, or all remaining ones.
-    Take {
-        count: u32,
-        next: u32,
-    },
     /// Takes all characters of a set from here on.
     All {
         set: u32,
@@ -66,12 +61,6 @@ pub enum Op {
         next: u32,
         fail: u32,
     },
-    /// Checks whether a text begins here.
-    IsText {
-        text: u32,
-        next: u32,
-        fail: u32,
-    },
     /// Takes a text, ignoring the case of ASCII letters.
     AnyCase {
         text: u32,
@@ -85,9 +74,8 @@ pub enum Op {
         list: u32,
         next: u32,
     },
-    /// Pushes a slot with the state so many bytes before here, which a later failure restores.
+    /// Pushes a slot with the state here, which a later failure restores.
     Try {
-        back: u32,
         next: u32,
         fail: u32,
     },
@@ -101,11 +89,6 @@ pub enum Op {
     },
     /// Records a failure of a call that counts here.
     Note {
-        next: u32,
-    },
-    /// Goes back by so many bytes.
-    GoBack {
-        count: u32,
         next: u32,
     },
     /// Checks whether this is the start of the text.
@@ -125,10 +108,6 @@ pub enum Op {
     },
     /// Closes the tree that was opened last, without descendants.
     Close {
-        next: u32,
-    },
-    /// Removes the tree that was opened last.
-    Undo {
         next: u32,
     },
     /// Pops the last slot, and pushes the text from its position to here on the stack.

@@ -255,12 +255,11 @@ fn is_same(one: Op, other: Op) -> bool
         Op::Back => matches!(other, Op::Back),
         Op::Halt => matches!(other, Op::Halt),
         Op::Lose => matches!(other, Op::Lose),
-        Op::Try { back, next, fail } => match other {
+        Op::Try { next, fail } => match other {
             Op::Try {
-                back: back2,
                 next: next2,
                 fail: fail2,
-            } => back == back2 && next == next2 && fail == fail2,
+            } => next == next2 && fail == fail2,
             _ => false,
         },
         Op::Commit { next } => match other {

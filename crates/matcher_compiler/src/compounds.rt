@@ -40,7 +40,6 @@ impl<'p> Plan<'p> {
         self.operation(
             at.label,
             Op::Try {
-                back: 0,
                 next: own,
                 fail: missed,
             },
@@ -149,7 +148,6 @@ impl<'p> Plan<'p> {
         self.operation(
             at.label,
             Op::Try {
-                back: 0,
                 next: start,
                 fail: at.way,
             },
@@ -370,7 +368,6 @@ impl<'p> Plan<'p> {
         self.operation(
             start,
             Op::Try {
-                back: 0,
                 next: first,
                 fail: at.next,
             },
@@ -378,7 +375,6 @@ impl<'p> Plan<'p> {
         self.operation(
             own,
             Op::Try {
-                back: 0,
                 next: gap,
                 fail: at.next,
             },

@@ -376,7 +376,6 @@ impl<'p> Plan<'p> {
         self.operation(
             at.label,
             Op::Try {
-                back: 0,
                 next: start,
                 fail: at.way,
             },

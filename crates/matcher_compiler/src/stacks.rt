@@ -31,7 +31,6 @@ impl<'p> Plan<'p> {
         self.operation(
             at.label,
             Op::Try {
-                back: 0,
                 next: own,
                 fail: at.way,
             },

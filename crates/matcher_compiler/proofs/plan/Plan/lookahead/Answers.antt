@@ -11,12 +11,12 @@ pub returns-clause-positive : goal.returns-clause-positive
 returns-clause-positive c = λ found missed classes fits code laid m.
     let m2 = (c.in_ok-point.ensures.later c.args.program.now c.requires.bound).met code laid m in
     let m1 = (c.in_ok-operation-2.ensures.later c.args.program.now).met code laid m2 in
-    lay.pos_pred _ _ (c.in_ok-operation.ensures.met c.args.program.now code laid m1 ∙ ap (λ w. op.Try 0 c.args.own w) missed)
+    lay.pos_pred _ _ (c.in_ok-operation.ensures.met c.args.program.now code laid m1 ∙ ap (λ w. op.Try c.args.own w) missed)
     (c.in_ok-point.ensures.has c.args.program.now code laid m) (c.in_ok-operation-2.ensures.met c.args.program.now code laid m2 ∙ ap op.Ahead found)
 
 pub returns-clause-negative : goal.returns-clause-negative
 returns-clause-negative c = λ found missed classes fits code laid m.
     let m2 = (c.in_ok-point.ensures.later c.args.program.now c.requires.bound).met code laid m in
     let m1 = (c.in_ok-operation-2.ensures.later c.args.program.now).met code laid m2 in
-    lay.neg_pred _ _ (c.in_ok-operation.ensures.met c.args.program.now code laid m1 ∙ ap (λ w. op.Try 0 c.args.own w) missed)
+    lay.neg_pred _ _ (c.in_ok-operation.ensures.met c.args.program.now code laid m1 ∙ ap (λ w. op.Try c.args.own w) missed)
     (c.in_ok-point.ensures.has c.args.program.now code laid m) (c.in_ok-operation-2.ensures.met c.args.program.now code laid m2 ∙ ap op.Ahead found)
