@@ -17,3 +17,4 @@ pub mod Stacks
 pub mod Between
 pub mod StackReads
 pub mod Gaps
+pub mod Searching

@@ -1,5 +1,7 @@
 //! Operations, and programs of them.
 
+use crate::ranges::RangeList;
+
 /// An operation at a position of a text. An operation has the numbers of the next operations: `next` for
 /// success, `fail` for failure.
 #[derive(Clone, Copy, Debug)]
@@ -157,9 +159,6 @@ pub enum Op {
     Lose,
 }
 
-/// The character ranges of a set above ASCII, both ends among them.
-pub type Ranges = Vec<(u32, u32)>;
-
 /// A program: its operations, and the lists that these refer to by numbers.
 #[derive(Drop)]
 pub struct Code {
@@ -168,7 +167,7 @@ pub struct Code {
     /// character that does; or more than 4, if the set's ranges decide.
     pub rows: Vec<u8>,
     /// The ranges of the set of each row.
-    pub ranges: Vec<Ranges>,
+    pub ranges: Vec<RangeList>,
     /// Tables of 257 numbers of operations, for each byte and for the end.
     pub tables: Vec<u32>,
     pub texts: Vec<Vec<u8>>,

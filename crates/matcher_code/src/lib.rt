@@ -4,6 +4,7 @@
 
 pub mod code;
 pub mod laws;
+pub mod ranges;
 pub mod reading;
 pub mod sets;
 pub mod state;

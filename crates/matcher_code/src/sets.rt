@@ -3,7 +3,8 @@ ghost use Rattle.std.specs.Prelude.{◌≡◌, ◌<◌, ◌^◌, ◌&&◌, ℕ, 
 ghost use Rattle.base_language.specs.Language.Builtins.{is_between};
 ghost use Rattle.matcher_code.specs.Sets.{IsAligned, IsRowOf, IsSetOf, KeepsSets};
 
-use crate::code::{Code, Ranges};
+use crate::code::Code;
+use crate::ranges::{RangeList, Ranges};
 use std::alloc::{AllocError, Global};
 
 /// Sets the flags of the bytes of ASCII in a range, both ends included.
@@ -46,7 +47,7 @@ pub fn add_set(code: &mut Code, ranges: Ranges) -> Result<u32, AllocError>
 {
     let row = row_of(*code.rows.allocator(), ranges.as_slice())?;
     let set = code.ranges.len() as u32;
-    code.ranges.push(ranges)?;
+    code.ranges.push(RangeList::new(ranges))?;
     if code.rows.extend_from_slice(&row).is_err() {
         let _ = code.ranges.pop();
         return Err(AllocError);

@@ -13,7 +13,8 @@ ghost use Rattle.matcher_compiler.specs.Plans.{EntersAt, FailsWithout, IsLater, 
 use crate::forms::FAIL;
 use crate::plan::Plan;
 use crate::points::{NotCompiled, Place};
-use matcher_code::code::{Op, Ranges};
+use matcher_code::code::Op;
+use matcher_code::ranges::Ranges;
 use matcher_program::form::{Form, Program};
 use matcher_sets::heads::{Head, Heads, head_of};
 use matcher_sets::modes::Atomicity;

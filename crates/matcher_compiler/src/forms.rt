@@ -15,7 +15,8 @@ ghost use Rattle.matcher_compiler.specs.Plans.{IsLater, IsTightIn, LaysAt, Meets
 
 use crate::plan::Plan;
 use crate::points::{NotCompiled, Place};
-use matcher_code::code::{Op, Ranges};
+use matcher_code::code::Op;
+use matcher_code::ranges::Ranges;
 use matcher_program::form::{Form, Program};
 use matcher_sets::difference::{choice_ranges, outside_ranges};
 use std::alloc::Global;

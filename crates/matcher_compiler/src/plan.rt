@@ -4,7 +4,8 @@ ghost use Rattle.matcher_compiler.specs.Sets.{AreKnownIn};
 
 use crate::points::{Demand, NotCompiled, Part, Place, Point};
 use crate::sets::{KnownSet, known_set};
-use matcher_code::code::{Code, Op, Ranges};
+use matcher_code::code::{Code, Op};
+use matcher_code::ranges::Ranges;
 use matcher_code::sets::add_set;
 use matcher_sets::modes::Atomicity;
 use matcher_sets::sizes::Sizes;

@@ -3,7 +3,7 @@ ghost use Rattle.std.specs.Prelude.{◌≡◌, IfSome, true};
 ghost use Rattle.matcher_code.specs.declared.code.Code.{Code};
 ghost use Rattle.matcher_compiler.specs.Sets.{AreKnownIn, IsKnownIn};
 
-use matcher_code::code::Ranges;
+use matcher_code::ranges::Ranges;
 
 /// A set of the characters in some ranges, and its number.
 #[derive(Drop)]

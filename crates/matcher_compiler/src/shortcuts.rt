@@ -10,7 +10,8 @@ ghost use Rattle.matcher_compiler.specs.Plans.{FailsBefore, IsLater, IsTightIn, 
 use crate::forms::FAIL;
 use crate::plan::Plan;
 use crate::points::{Demand, NotCompiled, Part, Place};
-use matcher_code::code::{Op, Ranges};
+use matcher_code::code::Op;
+use matcher_code::ranges::Ranges;
 use matcher_program::form::{Form, Program};
 use matcher_sets::difference::{MOST_RANGES, choice_ranges, outside_ranges};
 use matcher_sets::heads::{Heads, head_of};

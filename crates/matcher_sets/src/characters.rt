@@ -9,7 +9,7 @@ ghost use Rattle.matcher_sets.specs.Forms.{IsBoundIn, IsSoundProgram, grammar_in
 
 use crate::difference::choice_ranges;
 use base_ast::ast::RuleType;
-use matcher_code::code::Ranges;
+use matcher_code::ranges::Ranges;
 use matcher_program::form::{Form, Program, Row};
 use std::alloc::{AllocError, Global};
 

@@ -11,7 +11,7 @@ ghost use Rattle.matcher_sets.specs.Forms.{IsBoundIn};
 
 use crate::ranges::{push_range, ranges_of};
 use crate::texts::is_single;
-use matcher_code::code::Ranges;
+use matcher_code::ranges::Ranges;
 use matcher_program::form::{Form, Program};
 use std::alloc::{AllocError, Global};
 

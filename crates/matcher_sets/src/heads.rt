@@ -16,7 +16,7 @@ use crate::difference::{MOST_RANGES, push_firsts};
 use crate::modes::{Atomicity, body_mode, gives_token, is_seen_from};
 use crate::ranges::{first_character, push_range};
 use base_ast::ast::RuleType;
-use matcher_code::code::Ranges;
+use matcher_code::ranges::Ranges;
 use matcher_program::form::{Form, Program, Row};
 use std::alloc::{AllocError, Global};
 

@@ -5,7 +5,7 @@ ghost use Rattle.base_language.specs.Language.Matching.{starts_in};
 ghost use Rattle.matcher_program.specs.Programs.{characters_of, is_one, is_set, set_of};
 ghost use Rattle.matcher_sets.specs.Ranges.{Adds, Covers};
 
-use matcher_code::code::Ranges;
+use matcher_code::ranges::Ranges;
 use matcher_program::form::{Class, Form};
 use std::alloc::{AllocError, Global};
 

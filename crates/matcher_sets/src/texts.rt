@@ -7,7 +7,7 @@ ghost use Rattle.matcher_code.specs.Reading.{is_covered};
 ghost use Rattle.matcher_code.specs.Laid.{StartIn};
 
 use crate::ranges::{first_character, push_first, push_range};
-use matcher_code::code::Ranges;
+use matcher_code::ranges::Ranges;
 use std::alloc::{AllocError, Global};
 
 /// Returns whether a text is one character.

@@ -1,4 +1,4 @@
-use Rattle.std.proofs.Common.{rules, arith, ◌≡◌, ◌++◌, ◌∷◌, [], ◌*◌, length}
+use Rattle.std.proofs.Common.{rules, arith, ap, ◌∙◌, ◌≡◌, ◌++◌, ◌∷◌, [], ◌*◌, length}
 use Rattle.std.proofs.lemmas.Grind.{common_steps}
 use Rattle.matcher_code.specs.declared.code.Code.{Code}
 use Rattle.matcher_code.specs.Sets.{IsRowOf}
@@ -8,7 +8,7 @@ use Rattle.matcher_code.proofs.sets.add_set.Goals as goal
 pub returns-clause-means : goal.returns-clause-means
 returns-clause-means c =
     let rows : c.extend_from_slice.new.self.items ≡ c.args.code.now.rows.items ++ c.in_ok-row.row.items = grind (arith, common_steps) in
-    let sets : c.push.new.self.items ≡ c.args.code.now.ranges.items ++ c.args.ranges ∷ [] = grind (arith, common_steps) in
+    let sets : c.push.new.self.items ≡ c.args.code.now.ranges.items ++ c.new.result ∷ [] = grind (arith, common_steps) in
     let number : c.len-set.result ≡ length c.args.code.now.ranges.items = grind (arith, common_steps) in
     let long : length c.args.code.now.rows.items ≡ c.len-set.result * 256 = grind (arith, common_steps) in
     let told : IsRowOf c.args.ranges.items c.in_ok-row.row.items = search rules in
@@ -21,4 +21,4 @@ returns-clause-means c =
       lists = c.args.code.now.lists;
     } in
     set_added new c.args.code.now.rows.items c.in_ok-row.row.items c.args.ranges.items c.len-set.result rows long told
-    (last_mapped (λ v. v.items) c.args.code.now.ranges.items c.push.new.self.items c.args.ranges c.len-set.result sets number)
+    (last_mapped (λ t. t.ranges.items) c.args.code.now.ranges.items c.push.new.self.items c.new.result c.len-set.result sets number ∙ ap (λ r. r.items) c.new.ensures)
