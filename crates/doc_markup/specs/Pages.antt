@@ -33,7 +33,8 @@ definition_bytes r body = plain_text r.name ++ codes " ::= " ++ ebnf_bytes body 
 abbrev pub heading_bytes : Text → List ℕ
 heading_bytes name =
     codes "<section id=\"" ++ escaped_text name
-    ++ codes "\">\n<a class=\"back\" href=\"#all-rules\">all rules</a>\n<h2>" ++ escaped_text name ++ codes "</h2>\n"
+    ++ codes "\">\n<a class=\"back\" href=\"#all-rules\">all rules</a>\n<h2>" ++ escaped_text name
+    ++ codes "</h2>\n"
 
 abbrev pub expression_bytes : Rule → List ℕ
 expression_bytes r =

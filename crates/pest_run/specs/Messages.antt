@@ -24,7 +24,8 @@ pub data NamesFile (name report : List ℕ) : List ℕ → Type 0 where
   placed : (margin place : List ℕ) → ((k : ℕ) → k < length margin → LacksTextAt (codes "--> ") report k)
       → report ≡ margin ++ (codes "--> " ++ place)
       → NamesFile name report (margin ++ (codes "--> " ++ (escaped_bytes name ++ (codes ":" ++ place))))
-  unplaced : ((margin place : List ℕ) → report ≢ margin ++ (codes "--> " ++ place)) → NamesFile name report report
+  unplaced : ((margin place : List ℕ) → report ≢ margin ++ (codes "--> " ++ place))
+      → NamesFile name report report
 
 -- that a match was stopped after so many steps
 abbrev pub steps_text : ℕ → List ℕ

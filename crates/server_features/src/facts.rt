@@ -1,4 +1,4 @@
-//! What is known of a rule: whether it may match nothing, its first set, and its optimized form.
+//! Facts about a rule: whether it may match nothing, its first set, and its optimized form.
 ghost use Rattle.std.specs.Prelude.{◌≡◌, IfErr, IfOk, false, slice_index_or};
 ghost use Rattle.front_analysis.specs.Names.{grammar_of};
 ghost use Rattle.server_features.specs.Facts as spec;
@@ -27,7 +27,7 @@ pub struct RuleFacts {
     pub first: String,
 }
 
-/// What is known of a rule.
+/// Facts about a rule, and its optimized form.
 #[derive(Drop)]
 pub struct RuleNotes {
     /// Its facts; none where the text is no grammar, or there is no such rule.
