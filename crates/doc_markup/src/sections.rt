@@ -28,7 +28,7 @@ pub struct MarkdownContents<'t> {
     pub after: Vec<MarkdownToken<'t>>,
 }
 
-/// Returns a page of HTML up to its first section, where the rules have these names. Each section links to
+/// Returns a page of HTML up to its first section, where the rules have these names. All sections link to
 /// the index.
 pub fn start_page(
     alloc: Global,
