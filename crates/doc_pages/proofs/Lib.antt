@@ -1,5 +1,6 @@
 pub mod Asking
 pub mod Gaining
+pub mod Indexing
 pub mod Linking
 pub mod Waiting
 pub mod Warned
