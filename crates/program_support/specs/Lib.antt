@@ -1,4 +1,5 @@
 pub mod Escapes
+pub mod Excerpts
 pub mod Lines
 pub mod Messages
 pub mod Statuses

@@ -1,29 +1,50 @@
 -- Messages of errors.
-use Rattle.std.specs.Prelude.{◌≡◌, ◌≢◌, ◌<◌, ◌⊎◌, ℕ, List, ◌∷◌, ◌++◌, codes, length, slice_index}
+use Rattle.std.specs.Prelude.{◌≡◌, ℕ, List, ◌++◌, codes, decimal}
 use Rattle.std.specs.List.{AllZip, concat}
-use Rattle.std.specs.Str.Pattern.{LacksTextAt}
+use Rattle.base_language.specs.Pieces.PrintedError.{error_text, message_of, start_of}
+use Rattle.base_language.specs.declared.grammar.Rule.{Rule}
+use Rattle.base_language.specs.declared.runtime.errors.Error.{Error}
+use Rattle.program_support.specs.Escapes.{escaped_lines}
+use Rattle.program_support.specs.Excerpts.{IsExcerpt, margin}
 
--- a text without line feeds
-abbrev pub IsOneLine : List ℕ → Type 0
-IsOneLine text = (k : ℕ) → k < length text → slice_index text k ≢ 10
+-- a line and a column in the file of a name, and lines below
+abbrev pub placed_lines : List ℕ → ℕ × ℕ → List ℕ → List ℕ
+placed_lines name start lines = margin start.0 ++ (codes "--> " ++ (name ++ (codes ":" ++ (decimal start.0
+    ++ (codes ":" ++ (decimal start.1 ++ (codes "\n" ++ lines)))))))
 
--- a text without its last line, or all of it where it is one line
-abbrev pub IsWithoutLastLine : List ℕ → List ℕ → Type 0
-IsWithoutLastLine text before = ((line : List ℕ) × IsOneLine line × (text ≡ before ++ (10 ∷ line)))
-    ⊎ (IsOneLine text × (before ≡ text))
+-- a line and a column, lines below, and a message
+abbrev pub error_lines : ℕ × ℕ → List ℕ → List ℕ → List ℕ
+error_lines start lines message = margin start.0 ++ (codes "--> " ++ (decimal start.0 ++ (codes ":"
+    ++ (decimal start.1 ++ (codes "\n" ++ (lines ++ (margin start.0 ++ (codes " |\n" ++ (margin start.0
+    ++ (codes " = " ++ message))))))))))
 
--- a printed error without its last two lines, and with the name of its file after the first arrow
+-- of a printed error: the name of its file, the place at which it begins, and an excerpt of its line
 pub record IsPlaced (name printed placed : List ℕ) : Type 0 where
-  pub margin : List ℕ
-  pub rest : List ℕ
+  pub error : Error Rule
   pub lines : List ℕ
+  pub prints : printed ≡ error_text error
+  pub excerpt : IsExcerpt error lines
+  pub whole : placed ≡ placed_lines name (start_of error.line_col) lines
+
+-- an error as it is shown: the place, an excerpt of its line, and its message, with escapes of hidden
+-- characters
+pub record ShowsError (error : Error Rule) (shown : List ℕ) : Type 0 where
+  pub lines : List ℕ
+  pub excerpt : IsExcerpt error lines
+  pub whole : shown ≡ error_lines (start_of error.line_col) lines (escaped_lines (message_of error.variant))
+
+-- an error after an empty line
+pub record ShowsNext (error : Error Rule) (part : List ℕ) : Type 0 where
   pub shown : List ℕ
-  pub first : (k : ℕ) → k < length margin → LacksTextAt (codes "--> ") printed k
-  pub split : printed ≡ margin ++ (codes "--> " ++ rest)
-  pub cut : IsWithoutLastLine rest lines
-  pub cut_again : IsWithoutLastLine lines shown
-  pub whole : placed ≡ margin ++ (codes "--> " ++ (name ++ (codes ":" ++ (shown ++ codes "\n"))))
+  pub shows : ShowsError error shown
+  pub whole : part ≡ codes "\n\n" ++ shown
 
 -- a text of parts, one for each element of a list
 abbrev pub ArePartsOf : {X : Type 0} → (X → List ℕ → Type 0) → List X → List ℕ → Type 0
 ArePartsOf P xs text = (parts : List (List ℕ)) × AllZip P xs parts × (text ≡ concat parts)
+
+-- a report: `grammar error`, and the errors, each after an empty line
+pub record IsReport (errors : List (Error Rule)) (report : List ℕ) : Type 0 where
+  pub parts : List ℕ
+  pub each : ArePartsOf ShowsNext errors parts
+  pub whole : report ≡ codes "grammar error" ++ parts

@@ -34,14 +34,15 @@ pub fn is_hidden(character: char) -> bool
 {
     match character {
         '\u{0}'..='\u{1f}' | '\u{7f}'..='\u{9f}' => true,
-        '\u{ad}' | '\u{61c}' | '\u{200b}'..='\u{200f}' | '\u{2028}'..='\u{202e}' => true,
-        '\u{2060}'..='\u{206f}' | '\u{feff}' => true,
+        '\u{ad}' | '\u{61c}' | '\u{180e}' | '\u{200b}'..='\u{200f}' => true,
+        '\u{2028}'..='\u{202e}' | '\u{2060}'..='\u{206f}' => true,
+        '\u{feff}' | '\u{fff9}'..='\u{fffb}' => true,
         _ => false,
     }
 }
 
 /// Returns whether a character is hidden, and neither a tab nor a line feed.
-fn is_hidden_in_lines(character: char) -> bool
+pub(crate) fn is_hidden_in_lines(character: char) -> bool
     ensures { result ≡ is_hidden_in_lines character }
 {
     match character {

@@ -4,7 +4,9 @@
 
 pub mod arguments;
 pub mod escape;
+pub mod excerpt;
 pub mod input;
+pub mod json;
 pub mod messages;
 pub mod output;
 pub mod replacement;

@@ -1,12 +1,13 @@
 //! Messages of the programs, and where an error of a grammar is.
 ghost use Rattle.std.specs.Prelude.{◌≡◌, ◌++◌, IfOk, codes, string_bytes};
-ghost use Rattle.base_language.specs.Pieces.PrintedError.{error_text};
-ghost use Rattle.program_support.specs.Escapes.{escaped_bytes};
-ghost use Rattle.program_support.specs.Messages.{IsPlaced, IsWithoutLastLine};
+ghost use Rattle.base_language.specs.Pieces.PrintedError.{error_text, message_of};
+ghost use Rattle.program_support.specs.Escapes.{escaped_bytes, escaped_lines};
+ghost use Rattle.program_support.specs.Messages.{ArePartsOf, IsPlaced, IsReport, ShowsError, ShowsNext, error_lines, placed_lines};
 
-use crate::escape::escape;
+use crate::escape::{escape, escape_lines};
+use crate::excerpt::{margin_of, show_line, start_of};
 use base_language::grammar::Rule;
-use base_language::runtime::Error;
+use base_language::runtime::{Error, ErrorVariant};
 use std::alloc::{AllocError, Global};
 
 /// Returns the message that a file can't be read, and why.
@@ -40,22 +41,87 @@ pub fn is_not_utf8(alloc: Global, name: &str) -> Result<String, AllocError>
 pub fn place_error(alloc: Global, name: &str, error: &Error<Rule>) -> Result<String, AllocError>
     ensures { IfOk result (λ placed. IsPlaced name.now (error_text error.now) (string_bytes placed)) }
 {
-    let printed = format!(in alloc; "{error}")?;
-    match printed.as_str().split_once("--> ") {
-        Some((margin, rest)) => {
-            let shown = without_last_line(without_last_line(rest));
-            format!(in alloc; "{margin}--> {name}:{shown}\n")
-        }
-        None => unreachable!(),
-    }
+    let start = start_of(&error.line_col);
+    let lines = show_line(alloc, error)?;
+    let text = lines.as_str();
+    place_lines(alloc, name, start, text)
 }
 
-/// Returns a text up to its last line end.
-fn without_last_line(text: &str) -> &str
-    ensures { IsWithoutLastLine text.entry.now result.now }
+/// Returns a line and a column in the file of a name, and lines below.
+fn place_lines(
+    alloc: Global,
+    name: &str,
+    start: (usize, usize),
+    lines: &str,
+) -> Result<String, AllocError>
+    ensures { IfOk result (λ placed. string_bytes placed ≡ placed_lines name.now start lines.now) }
 {
-    match text.rsplit_once('\n') {
-        Some((before, _)) => before,
-        None => text,
+    let (line, column) = start;
+    let margin = margin_of(alloc, line)?;
+    format!(in alloc; "{margin}--> {name}:{line}:{column}\n{lines}")
+}
+
+/// Returns the report of a grammar's errors: `grammar error`, and each error after an empty line, without a
+/// last line feed. The text is that of printed errors, but hidden characters are escapes, lines of more than
+/// 160 columns are cut, and marks are below what they mark.
+pub fn show_report(alloc: Global, errors: &[Error<Rule>]) -> Result<String, AllocError>
+    ensures { IfOk result (λ report. IsReport errors.now (string_bytes report)) }
+{
+    let parts = show_errors(alloc, errors)?;
+    format!(in alloc; "grammar error{parts}")
+}
+
+/// Returns each error after an empty line.
+fn show_errors(alloc: Global, errors: &[Error<Rule>]) -> Result<String, AllocError>
+    ensures { IfOk result (λ parts. ArePartsOf ShowsNext errors.now (string_bytes parts)) }
+{
+    let mut parts = String::new(alloc);
+    for error in errors {
+        let part = show_next(alloc, error)?;
+        parts.push_str(part.as_str())?;
     }
+    Ok(parts)
+}
+
+/// Returns an error after an empty line.
+fn show_next(alloc: Global, error: &Error<Rule>) -> Result<String, AllocError>
+    ensures { IfOk result (λ part. ShowsNext error.now (string_bytes part)) }
+{
+    let shown = show_error(alloc, error)?;
+    format!(in alloc; "\n\n{shown}")
+}
+
+/// Returns the place of an error, its line with a mark, and its message, without a last line feed.
+pub fn show_error(alloc: Global, error: &Error<Rule>) -> Result<String, AllocError>
+    ensures { IfOk result (λ shown. ShowsError error.now (string_bytes shown)) }
+{
+    let start = start_of(&error.line_col);
+    let lines = show_line(alloc, error)?;
+    let message = show_message(alloc, &error.variant)?;
+    let text = lines.as_str();
+    let said = message.as_str();
+    error_lines(alloc, start, text, said)
+}
+
+/// Returns a line and a column, lines below, and a message.
+fn error_lines(
+    alloc: Global,
+    start: (usize, usize),
+    lines: &str,
+    message: &str,
+) -> Result<String, AllocError>
+    ensures { IfOk result (λ shown. string_bytes shown ≡ error_lines start lines.now message.now) }
+{
+    let (line, column) = start;
+    let margin = margin_of(alloc, line)?;
+    format!(in alloc; "{margin}--> {line}:{column}\n{lines}{margin} |\n{margin} = {message}")
+}
+
+/// Returns the message of an error, with escapes of hidden characters.
+fn show_message(alloc: Global, variant: &ErrorVariant) -> Result<String, AllocError>
+    ensures { IfOk result (λ message.
+        string_bytes message ≡ escaped_lines (message_of variant.now)) }
+{
+    let message = format!(in alloc; "{variant}")?;
+    escape_lines(alloc, message.as_str())
 }
