@@ -1,11 +1,11 @@
 -- What holds at locations that are found holds at those of the text.
 use Rattle.std.proofs.Common.{◌≡◌, ◌∙◌, ◌++◌, Bool, List, ℕ, Err, IfOk, Ok, Result, ap, append_assoc, codes, false, string_bytes, subst, sym}
 use Rattle.serde_json.specs.Data.{Data}
-use Rattle.serde_json.specs.Written.{compact_text, has_float}
+use Rattle.serde_json.specs.Written.{has_float}
 use Rattle.lint_findings.specs.Codes.{code_name, severity_name}
 use Rattle.lint_findings.specs.declared.diagnostic.Diagnostic.{Diagnostic}
 use Rattle.lint_output.specs.Annotations.{located_command, message_text, place_text, property}
-use Rattle.lint_output.specs.Json.{line_data, located_line, related_data}
+use Rattle.lint_output.specs.Json.{json_line, line_data, located_line, related_data}
 use Rattle.lint_output.specs.Locations.{location_at}
 use Rattle.lint_output.specs.Prints.{IsAnnotation, IsBlock, IsPlacedBlock, block, heading, top_lines}
 use Rattle.lint_output.specs.declared.lines.Location.{Location}
@@ -19,11 +19,11 @@ placed_twice (Err e) P R first last start end_ h same then = tt
 
 -- a line of JSON
 pub line_text : {X E : Type 0} (result : Result X E) (bytes : X → List ℕ) (P : Type 0) (name text : List ℕ) (d : Diagnostic) (related value : Data) (first last : Location) → value ≡ located_line name d related first last
-    → (P → related ≡ related_data text d.related.items) → (P → first ≡ location_at text d.start) → (P → last ≡ location_at text d.end) → IfOk result (λ x. has_float value ≡ false → bytes x ≡ compact_text value ++ codes "\n")
-    → IfOk result (λ x. P → bytes x ≡ compact_text (line_data name text d) ++ codes "\n")
+    → (P → related ≡ related_data text d.related.items) → (P → first ≡ location_at text d.start) → (P → last ≡ location_at text d.end) → IfOk result (λ x. has_float value ≡ false → bytes x ≡ json_line value)
+    → IfOk result (λ x. P → bytes x ≡ json_line (line_data name text d))
 line_text (Ok x) bytes P name text d related value first last e parts start end_ h = λ p.
     let same : value ≡ line_data name text d = e ∙ ap (λ r. located_line name d r first last) (parts p) ∙ ap (λ l. located_line name d (related_data text d.related.items) l last) (start p) ∙ ap (λ l. located_line name d (related_data text d.related.items) (location_at text d.start) l) (end_ p) in
-    h (ap has_float same ∙ line_without_floats name text d) ∙ ap (λ v. compact_text v ++ codes "\n") same
+    h (ap has_float same ∙ line_without_floats name text d) ∙ ap json_line same
 line_text (Err e) bytes P name text d related value first last same parts start end_ h = tt
 
 -- a block

@@ -1,7 +1,8 @@
 -- Diagnostics as JSON values.
-use Rattle.std.specs.Prelude.{ℕ, List, None, Option, Some, codes, map, string_bytes}
+use Rattle.std.specs.Prelude.{ℕ, List, ◌++◌, None, Option, Some, codes, map, string_bytes}
 use Rattle.serde_json.specs.Data.{Data, Members, array, member, no_members, null, object, string}
 use Rattle.serde_json.specs.View.{items_of}
+use Rattle.serde_json.specs.Written.{compact_text}
 use Rattle.lint_findings.specs.Codes.{code_name, severity_name}
 use Rattle.lint_findings.specs.declared.diagnostic.Diagnostic.{Diagnostic}
 use Rattle.lint_hints.specs.declared.help.Fix.{Fix}
@@ -10,6 +11,11 @@ use Rattle.lint_hints.specs.declared.help.Related.{Related}
 use Rattle.lint_output.specs.Locations.{location_at}
 use Rattle.lint_output.specs.Sarif.{size_data}
 use Rattle.lint_output.specs.declared.lines.Location.{Location}
+use Rattle.program_support.specs.Escapes.{escaped_json}
+
+-- a value as a line, with escapes of hidden characters
+abbrev pub json_line : Data → List ℕ
+json_line d = escaped_json (compact_text d) ++ codes "\n"
 
 -- another part of the text that matters, at a location
 abbrev pub part_data : Related → Location → Data

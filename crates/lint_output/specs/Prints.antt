@@ -1,18 +1,17 @@
 -- The bytes by which a diagnostic is printed.
-use Rattle.std.specs.Prelude.{◌≡◌, ℕ, List, [], ◌∷◌, ◌++◌, Bool, codes, decimal, if◌then◌else◌, length, string_bytes}
-use Rattle.std.specs.List.{repeat}
-use Rattle.serde_json.specs.Written.{compact_text}
+use Rattle.std.specs.Prelude.{◌≡◌, ℕ, List, [], ◌∷◌, ◌++◌, Bool, codes, decimal, if◌then◌else◌, string_bytes}
 use Rattle.lint_findings.specs.Codes.{code_name, severity_name}
 use Rattle.lint_findings.specs.declared.codes.Severity.{Severity}
 use Rattle.lint_findings.specs.declared.codes.Severity.TheVariants as severity
 use Rattle.lint_findings.specs.declared.diagnostic.Diagnostic.{Diagnostic}
 use Rattle.lint_output.specs.Annotations.{command}
-use Rattle.lint_output.specs.Json.{line_data}
+use Rattle.lint_output.specs.Json.{json_line, line_data}
 use Rattle.lint_output.specs.Locations.{location_at}
 use Rattle.lint_output.specs.Visible.{visible}
 use Rattle.lint_output.specs.declared.Style.{Style}
 use Rattle.lint_output.specs.declared.Style.TheVariants as style
 use Rattle.lint_output.specs.declared.lines.Location.{Location}
+use Rattle.program_support.specs.Excerpts.{margin}
 
 -- a severity's name, in its colour where that is asked for
 abbrev pub heading : Bool → Severity → List ℕ
@@ -26,10 +25,6 @@ abbrev pub IsBlock : Bool → Diagnostic → List ℕ → Type 0
 IsBlock colour d bytes = (rest : List ℕ)
     × (bytes ≡ heading colour d.severity
     ++ (codes "[" ++ (code_name d.code ++ (codes "]: " ++ (rest ++ codes "\n")))))
-
--- as many blanks as a number has digits
-abbrev pub margin : ℕ → List ℕ
-margin number = repeat (length (decimal number)) (codes " ")
 
 -- a file, line and column, after an arrow
 abbrev pub place_line : List ℕ → Location → List ℕ
@@ -67,5 +62,5 @@ IsPrinted style.Github d bytes = IsAnnotation d bytes
 -- a diagnostic of a file's text is printed by exactly these bytes, or by a block
 abbrev pub IsExact : Style → List ℕ → List ℕ → Diagnostic → List ℕ → Type 0
 IsExact (style.Text colour) name text d bytes = IsPlacedBlock colour name d (location_at text d.start) bytes
-IsExact style.Json name text d bytes = bytes ≡ compact_text (line_data name text d) ++ codes "\n"
+IsExact style.Json name text d bytes = bytes ≡ json_line (line_data name text d)
 IsExact style.Github name text d bytes = bytes ≡ command name text d

@@ -1,13 +1,8 @@
 -- Texts as they are shown.
-use Rattle.std.specs.Prelude.{ℕ, ◌+◌, ◌==◌, ◌||◌, Bool, List, [], ◌∷◌, codes, encode_utf8_all, if◌then◌else◌, nat_lt}
+use Rattle.std.specs.Prelude.{ℕ, ◌+◌, ◌==◌, List, [], ◌∷◌, codes, encode_utf8_all, if◌then◌else◌, nat_lt}
 use Rattle.std.specs.List.{flat_map}
 use Rattle.std.specs.Str.{chars}
-use Rattle.program_support.specs.Escapes.{is_between}
-
--- a control character past ASCII, or one that is invisible or turns the direction of a line
-abbrev pub is_hidden : ℕ → Bool
-is_hidden c = is_between 0x80 0x9f c || is_between 0x200b 0x200f c || is_between 0x2028 0x202e c
-    || is_between 0x2066 0x2069 c || c == 0xfeff
+use Rattle.program_support.specs.Escapes.{is_hidden}
 
 -- a character, or a picture of one that might change how the others are shown
 abbrev pub picture : ℕ → ℕ

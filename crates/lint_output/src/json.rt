@@ -1,9 +1,9 @@
 //! Lines of JSON.
-ghost use Rattle.std.specs.Prelude.{◌≡◌, ◌++◌, IfOk, codes, false, map, string_bytes};
+ghost use Rattle.std.specs.Prelude.{◌≡◌, IfOk, false, map, string_bytes};
 ghost use Rattle.serde_json.specs.Data.{array, string};
 ghost use Rattle.serde_json.specs.View.{items_of, members_view, view};
-ghost use Rattle.serde_json.specs.Written.{compact_text, has_float};
-ghost use Rattle.lint_output.specs.Json.{fix_data, help_data, last_members, later_members, line_data, located_line};
+ghost use Rattle.serde_json.specs.Written.{has_float};
+ghost use Rattle.lint_output.specs.Json.{fix_data, help_data, json_line, last_members, later_members, line_data, located_line};
 ghost use Rattle.lint_output.specs.Json.{mended_data, part_data, related_data};
 ghost use Rattle.lint_output.specs.Locations.{IsIndexOf};
 ghost use Rattle.lint_output.specs.Prints.{IsLine};
@@ -12,6 +12,7 @@ use crate::Origin;
 use crate::lines::Location;
 use crate::objects::{put_size, put_text};
 use lint_findings::{Diagnostic, Fix, Help, Related};
+use program_support::json::escape_json;
 use serde_json::{Map, Value, json, put};
 use std::alloc::{AllocError, Global};
 
@@ -24,7 +25,7 @@ pub fn to_json_line(
     ensures shape { IfOk result (λ line. IsLine (string_bytes line)) }
     ensures text { IfOk result (λ line. IsIndexOf origin.entry.text.now origin.entry.lines.now
         → string_bytes line
-        ≡ compact_text (line_data origin.entry.name.now origin.entry.text.now diagnostic.now) ++ codes "\n") }
+        ≡ json_line (line_data origin.entry.name.now origin.entry.text.now diagnostic.now)) }
 {
     let related = related_value(alloc, origin, &diagnostic.related)?;
     let first = origin.lines.locate(origin.text, diagnostic.start);
@@ -33,13 +34,14 @@ pub fn to_json_line(
     to_line(alloc, &value)
 }
 
-/// A value as a line of JSON.
+/// A value as a line of JSON, with escapes of hidden characters.
 pub(crate) fn to_line(alloc: Global, value: &Value) -> Result<String, AllocError>
     ensures shape { IfOk result (λ line. IsLine (string_bytes line)) }
     ensures text { IfOk result (λ line. has_float (view value.now) ≡ false
-        → string_bytes line ≡ compact_text (view value.now) ++ codes "\n") }
+        → string_bytes line ≡ json_line (view value.now)) }
 {
-    let mut line = value.to_string(alloc)?;
+    let text = value.to_string(alloc)?;
+    let mut line = escape_json(alloc, text.as_str())?;
     line.push_str("\n")?;
     Ok(line)
 }

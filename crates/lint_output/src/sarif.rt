@@ -1,7 +1,8 @@
 //! Logs of SARIF 2.1.0.
-ghost use Rattle.std.specs.Prelude.{◌≡◌, ◌++◌, IfOk, codes, false, string_bytes};
+ghost use Rattle.std.specs.Prelude.{◌≡◌, IfOk, false, string_bytes};
 ghost use Rattle.serde_json.specs.View.{items_view, view};
-ghost use Rattle.serde_json.specs.Written.{compact_text, items_have_float};
+ghost use Rattle.serde_json.specs.Written.{items_have_float};
+ghost use Rattle.lint_output.specs.Json.{json_line};
 ghost use Rattle.lint_output.specs.Locations.{IsIndexOf};
 ghost use Rattle.lint_output.specs.Sarif.{located_data, log_data, place_data, region_data, result_data, run_data};
 
@@ -80,7 +81,7 @@ fn region_value(
 /// A log with these results, and a line feed.
 pub fn sarif_log(alloc: Global, results: Vec<Value>) -> Result<String, AllocError>
     ensures { IfOk result (λ text. items_have_float (items_view results.items) ≡ false
-        → string_bytes text ≡ compact_text (log_data (items_view results.items)) ++ codes "\n") }
+        → string_bytes text ≡ json_line (log_data (items_view results.items))) }
 {
     let log = log_value(alloc, results)?;
     to_line(alloc, &log)

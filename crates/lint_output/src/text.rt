@@ -5,10 +5,11 @@ ghost use Rattle.lint_output.specs.Prints as spec;
 ghost use Rattle.lint_output.specs.Prints.{IsBlock, IsPlacedBlock, block, heading};
 
 use crate::Origin;
-use crate::excerpts::{excerpt_at, margin_of, part, push_excerpt};
+use crate::excerpts::push_excerpt;
 use crate::lines::Location;
 use crate::visible::{push_visible, to_visible};
 use lint_findings::{Diagnostic, Fix, Help, Related, Severity};
+use program_support::excerpt::{dots, margin_of, part, window_at};
 use std::alloc::{AllocError, Global};
 
 /// A diagnostic as text: severity, code and message; file, line and column; the line with a mark; the other
@@ -158,10 +159,23 @@ fn help_heading(has_colour: bool) -> &'static str {
 /// Adds the line of a fix as it is after it.
 fn push_fix(origin: Origin<'_>, fix: &Fix, out: &mut String) -> Result<(), AllocError> {
     let location = origin.lines.locate(origin.text, fix.start);
-    let excerpt = excerpt_at(origin.text, location.line_start, fix.start);
+    let before = window_at(origin.text, location.line_start, fix.start);
+    let after = window_at(origin.text, location.line_start, fix.end);
     write!(out, "{} + ", location.line)?;
-    push_visible(part(origin.text, excerpt.start, fix.start), out)?;
-    push_visible(fix.replacement.as_str(), out)?;
-    push_visible(part(origin.text, fix.end, excerpt.end), out)?;
+    out.push_str(dots(before.is_cut_before))?;
+    push_visible(part(origin.text, before.start, fix.start), out)?;
+    push_replacement(fix.replacement.as_str(), out)?;
+    push_visible(part(origin.text, fix.end, after.end), out)?;
+    out.push_str(dots(after.is_cut_after))?;
     out.push('\n')
+}
+
+/// Adds a replacement: of more than 160 bytes, the first columns.
+fn push_replacement(text: &str, out: &mut String) -> Result<(), AllocError> {
+    if text.len() <= 160 {
+        return push_visible(text, out);
+    }
+    let window = window_at(text, 0, 0);
+    push_visible(part(text, 0, window.end), out)?;
+    out.push_str(dots(window.is_cut_after))
 }

@@ -3,6 +3,7 @@ ghost use Rattle.std.specs.Prelude.{◌≡◌, ◌++◌, ◌+◌, ◌<◌, IfOk,
 ghost use Rattle.lint_output.specs.Visible as spec;
 ghost use Rattle.lint_output.specs.Visible.{shown, visible};
 
+use program_support::escape::is_hidden;
 use std::alloc::{AllocError, Global};
 use unicode_width::UnicodeWidthChar;
 
@@ -61,11 +62,7 @@ fn picture(c: char) -> char
     match c {
         '\0'..='\x1f' => control_picture(c),
         '\x7f' => '\u{2421}',
-        '\u{80}'..='\u{9f}' => '\u{fffd}',
-        '\u{200b}'..='\u{200f}' => '\u{fffd}',
-        '\u{2028}'..='\u{202e}' => '\u{fffd}',
-        '\u{2066}'..='\u{2069}' => '\u{fffd}',
-        '\u{feff}' => '\u{fffd}',
+        _ if is_hidden(c) => '\u{fffd}',
         _ => c,
     }
 }

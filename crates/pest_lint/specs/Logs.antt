@@ -1,11 +1,11 @@
 -- The log that the program writes of files.
-use Rattle.std.specs.Prelude.{◌≡◌, ℕ, List, [], ◌∷◌, ◌++◌, Option, codes, map, max, string_bytes}
+use Rattle.std.specs.Prelude.{◌≡◌, ℕ, List, [], ◌∷◌, ◌++◌, Option, map, max, string_bytes}
 use Rattle.std.specs.List.{AllZip}
 use Rattle.std.specs.Io.KnownBytes.{Appends}
 use Rattle.serde_json.specs.Data.{Data}
 use Rattle.serde_json.specs.View.{items_of}
-use Rattle.serde_json.specs.Written.{compact_text}
 use Rattle.lint_findings.specs.declared.diagnostic.Diagnostic.{Diagnostic}
+use Rattle.lint_output.specs.Json.{json_line}
 use Rattle.lint_output.specs.Sarif.{log_data, result_data}
 use Rattle.lint_diagnostics.specs.Diagnosis.{IsDiagnosisWith}
 use Rattle.pest_lint.specs.Shows.{Asked, GainsAll, IsReadable, status_of}
@@ -49,7 +49,7 @@ pub record GainsLog (asked : Asked) (sources : List Source) (status : ℕ) (old 
     : Type 0 where
   pub results : List Data
   pub logged : AreLogged asked sources status results
-  pub gained : Appends old new (compact_text (log_data (items_of results)) ++ codes "\n")
+  pub gained : Appends old new (json_line (log_data (items_of results)))
 
 -- a writer gained all of that
 abbrev pub GainsIn : Format → Asked → List Source → ℕ → Option (List ℕ) → Option (List ℕ) → Type 0

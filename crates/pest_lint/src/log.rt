@@ -1,9 +1,10 @@
 //! One log of all files, as SARIF.
-ghost use Rattle.std.specs.Prelude.{◌≡◌, ◌≢◌, ◌≤◌, ◌++◌, All, List, OnOk, codes, false, map, true};
+ghost use Rattle.std.specs.Prelude.{◌≡◌, ◌≢◌, ◌≤◌, ◌++◌, All, List, OnOk, false, map, true};
 ghost use Rattle.std.specs.Io.KnownBytes.{Appends};
 ghost use Rattle.serde_json.specs.Data.{Data};
 ghost use Rattle.serde_json.specs.View.{items_view, view};
-ghost use Rattle.serde_json.specs.Written.{compact_text, items_have_float};
+ghost use Rattle.serde_json.specs.Written.{items_have_float};
+ghost use Rattle.lint_output.specs.Json.{json_line};
 ghost use Rattle.lint_output.specs.Sarif.{log_data, result_data};
 ghost use Rattle.pest_lint.specs.Logs.{GainsLog, Logs};
 ghost use Rattle.pest_lint.specs.Shows.{IsClean, asked_of};
@@ -106,7 +107,7 @@ fn print_log<W: Write>(alloc: Global, results: Vec<Value>, out: &mut Output<W>) 
     ensures done { result ≢ 2 → result ≢ 4 → result ≡ 0 }
     ensures logs { result ≡ 0 → items_have_float (items_view results.items) ≡ false
         → Appends (W.contents out.old.writer) (W.contents out.new.writer)
-        (compact_text (log_data (items_view results.items)) ++ codes "\n") }
+        (json_line (log_data (items_view results.items))) }
     ensures taken { result ≢ 4 → out.new.refused ≡ out.old.refused }
     ensures refused_write { result ≡ 4 → out.new.refused ≡ true }
 {
