@@ -17,14 +17,11 @@ struct Run {
     added: usize,
 }
 
-/// Returns the lines of a text, without their line feeds.
+/// Returns the lines of a text with their line feeds; the last one may have none.
 fn lines_of<'t>(alloc: Global, text: &'t str) -> Result<Vec<&'t str>, AllocError> {
     let mut lines: Vec<&'t str> = Vec::new(alloc);
-    for line in text.split('\n') {
+    for line in text.split_inclusive('\n') {
         lines.push(line)?;
-    }
-    if text.is_empty() || text.ends_with('\n') {
-        lines.pop();
     }
     Ok(lines)
 }
@@ -129,8 +126,8 @@ fn print_changes(alloc: Global, name: &str, old: &str, new: &str) -> Result<Stri
     let new_lines = lines_of(alloc, new)?;
     let runs = runs_of(alloc, &old_lines, &new_lines)?;
     let mut printer = Printer {
-        old: Side::new(&old_lines, old),
-        new: Side::new(&new_lines, new),
+        old: Side::new(&old_lines),
+        new: Side::new(&new_lines),
         out: format!(in alloc; "--- {name}\n+++ {name}\n")?,
     };
     let mut next = 0usize;
@@ -160,16 +157,11 @@ fn find_hunk_end(runs: &[Run], first: usize) -> usize {
 struct Side<'t> {
     lines: &'t [&'t str],
     next: usize,
-    has_last_line_feed: bool,
 }
 
 impl<'t> Side<'t> {
-    fn new(lines: &'t [&'t str], text: &str) -> Side<'t> {
-        Side {
-            lines,
-            next: 0,
-            has_last_line_feed: text.is_empty() || text.ends_with('\n'),
-        }
+    fn new(lines: &'t [&'t str]) -> Side<'t> {
+        Side { lines, next: 0 }
     }
 
     /// Counts the lines that remain after so many more.
@@ -194,17 +186,16 @@ impl<'t> Side<'t> {
         self.next = self.next.saturating_add(count);
     }
 
-    /// Prints so many lines, each after a mark.
+    /// Prints so many lines, each after a mark. One without a line feed is followed by a note that says so.
     fn print(&mut self, out: &mut String, mark: char, count: usize) -> Result<(), AllocError> {
         for _ in 0..count {
             if let Some(line) = self.lines.get(self.next) {
                 out.push(mark)?;
                 out.push_str(line)?;
-                out.push('\n')?;
-                self.next = self.next.saturating_add(1);
-                if self.next == self.lines.len() && !self.has_last_line_feed {
-                    out.push_str("\\ No newline at end of file\n")?;
+                if !line.ends_with('\n') {
+                    out.push_str("\n\\ No newline at end of file\n")?;
                 }
+                self.next = self.next.saturating_add(1);
             }
         }
         Ok(())
