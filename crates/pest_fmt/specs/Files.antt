@@ -1,6 +1,6 @@
 -- The statuses of the files of a command line.
-use Rattle.std.specs.Prelude.{◌≡◌, ◌≢◌, ◌⊎◌, ℕ, List, [], ◌∷◌, ◌++◌, IsUtf8, codes, max}
-use Rattle.std.specs.Borrow.{Bor}
+use Rattle.std.specs.Prelude.{◌≡◌, ◌≢◌, ◌⊎◌, ℕ, List, [], ◌∷◌, ◌++◌, IsUtf8, String, codes, max, string_bytes}
+use Rattle.std.specs.declared.alloc.Global.{Global}
 use Rattle.format_grammar.specs.Formatting.{IsFormatted}
 use Rattle.format_grammar.specs.declared.LineEnds.{LineEnds}
 use Rattle.pest_fmt.specs.Processing.{IsReplacement}
@@ -42,18 +42,18 @@ IsOfName line_ends asked name status =
     (target : Target) × IsTargetFor asked name target × IsOfFile line_ends target status
 
 -- the status of the files of these names, in order: the highest of theirs
-pub data AreOfNames (line_ends : LineEnds) (asked : Target) : List (Bor (List ℕ)) → Status → Type 0 where
+pub data AreOfNames (line_ends : LineEnds) (asked : Target) : List (String Global) → Status → Type 0 where
   none : AreOfNames line_ends asked [] Done
-  more : {names : List (Bor (List ℕ))} {so_far : Status} (name : Bor (List ℕ)) (one status : Status)
-      → AreOfNames line_ends asked names so_far → IsOfName line_ends asked name.now one
+  more : {names : List (String Global)} {so_far : Status} (name : String Global) (one status : Status)
+      → AreOfNames line_ends asked names so_far → IsOfName line_ends asked (string_bytes name) one
       → status_code status ≡ max (status_code so_far) (status_code one)
       → AreOfNames line_ends asked (names ++ name ∷ []) status
 
 -- the status of all files, or of those up to one that can't be written
-pub record IsOfRun (line_ends : LineEnds) (asked : Target) (names : List (Bor (List ℕ))) (status : Status)
+pub record IsOfRun (line_ends : LineEnds) (asked : Target) (names : List (String Global)) (status : Status)
     : Type 0 where
-  pub done : List (Bor (List ℕ))
-  pub left : List (Bor (List ℕ))
+  pub done : List (String Global)
+  pub left : List (String Global)
   pub whole : names ≡ done ++ left
   pub are : AreOfNames line_ends asked done status
   pub ended : (left ≡ []) ⊎ (status_code status ≡ 4)

@@ -92,7 +92,8 @@ fn line_ends_argument<'a>(alloc: Global) -> Arg<'a>
 fn files_argument<'a>(alloc: Global) -> Arg<'a>
     ensures { HasForm (positionals (codes "FILE")) result }
 {
-    let help = "A grammar; - or none is standard input, which goes to standard output";
+    let help =
+        "A grammar, a folder of grammars (*.pest), or - for standard input, to standard output; none is -";
     positional(alloc, "FILE", help)
         .action(ArgAction::Append)
         .num_args(1..)

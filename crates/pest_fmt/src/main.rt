@@ -7,10 +7,12 @@ mod messages;
 mod outcomes;
 mod processing;
 mod run;
+mod sources;
 
 use arguments::{command, delivery_of, options_of};
 use program_support::status::Status;
 use run::format_files;
+use sources::find_files;
 use std::env;
 use std::io::{IsTerminal, Write};
 use std::process::ExitCode;
@@ -38,7 +40,14 @@ fn answer(rt: &HostRuntime) -> Result<Status, clap::Error> {
     };
     let names = matches.get_strs("FILE").unwrap_or(&["-"]);
     let delivery = delivery_of(&matches, rt.stdout().is_terminal());
-    Ok(format_files(rt, names, delivery, options_of(&matches))?)
+    let mut files = Vec::new(alloc);
+    let are_read = find_files(rt, names, &mut files)?;
+    let status = format_files(rt, &files, delivery, options_of(&matches))?;
+    Ok(if are_read {
+        status
+    } else {
+        status.worse(Status::Unreadable)
+    })
 }
 
 fn main(rt: HostRuntime) -> ExitCode {

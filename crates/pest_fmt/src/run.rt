@@ -19,7 +19,7 @@ use std::io::Write;
 /// can say what the files have, nor what becomes of them.
 pub fn format_files(
     rt: &HostRuntime,
-    names: &[&str],
+    names: &[String],
     delivery: Delivery,
     options: Options,
 ) -> Result<Status, AllocError>
@@ -29,6 +29,7 @@ pub fn format_files(
 {
     let mut status = Status::Done;
     for name in names {
+        let name = name.as_str();
         let delivery = delivery.for_name(name);
         let one = format_file(rt, name, delivery, options)?;
         status = status.worse(one);

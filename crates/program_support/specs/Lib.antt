@@ -1,5 +1,6 @@
 pub mod Escapes
 pub mod Excerpts
+pub mod Folders
 pub mod Lines
 pub mod Messages
 pub mod Statuses

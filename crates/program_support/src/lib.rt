@@ -1,10 +1,11 @@
-//! Parts of all programs: arguments, exit statuses, inputs, output, replaced files, escaped messages, the
-//! version.
+//! Parts of all programs: arguments, exit statuses, inputs, folders, output, replaced files, escaped messages,
+//! the version.
 #![tactic(auto)]
 
 pub mod arguments;
 pub mod escape;
 pub mod excerpt;
+pub mod folders;
 pub mod input;
 pub mod json;
 pub mod messages;
