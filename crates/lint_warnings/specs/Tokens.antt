@@ -1,10 +1,10 @@
 -- Repetitions of characters between which blanks are skipped.
-use Rattle.std.specs.Prelude.{ℕ, List, [], ◌∷◌, Option, Some, None, Bool, true, false, not, ◌&&◌, ◌||◌, if◌then◌else◌, nat_lt, bytes_eq, flat_map}
+use Rattle.std.specs.Prelude.{ℕ, zero, suc, List, [], ◌∷◌, Option, Some, None, Bool, true, false, not, ◌&&◌, ◌||◌, if◌then◌else◌, nat_lt, bytes_eq, flat_map, take}
 use Rattle.std.specs.List.{list_all, list_any}
 use Rattle.base_language.specs.Language.Text.{Text}
 use Rattle.base_language.specs.Language.Builtins.{Builtin, builtin_of, is_one_of}
 use Rattle.base_language.specs.Language.Builtins as builtin
-use Rattle.base_language.specs.Language.Expression.{Expression, Str, Insens, Range, Ident}
+use Rattle.base_language.specs.Language.Expression.{Expression, RuleType, NonAtomic, Str, Insens, Range, Ident}
 use Rattle.front_names.specs.CharSets.{set_name}
 use Rattle.front_names.specs.declared.char_set.CharSet.TheVariants.{Any, Ascii}
 use Rattle.front_spanned.specs.Spanned.{Span, Spanned, SpannedRule, Leaf, One, Two, Choice, Rep, RepOnce, RepExact, RepMin, RepMax, RepMinMax, span_of}
@@ -69,15 +69,17 @@ is_part f x = is_class_node f x || is_letter_or_choice x
 abbrev pub is_class : (Text → Bool) → Spanned → Bool
 is_class f x = list_all (is_part f) (preorder x) && list_any (is_class_node f) (preorder x)
 
--- the names of rules that are classes, by builtins and ranges alone
-abbrev pub no_names : Text → Bool
-no_names n = false
+-- the name of a rule that is a class; `f`: the names of rules that are known to be
+abbrev pub class_at : (Text → Bool) → SpannedRule → List Text
+class_at f r = if is_class f r.body then r.name ∷ [] else []
 
-abbrev pub class_at : SpannedRule → List Text
-class_at r = if is_class no_names r.body then r.name ∷ [] else []
+abbrev pub is_class_by : (Text → Bool) → List SpannedRule → Text → Bool
+is_class_by f rules n = is_one_of (flat_map (class_at f) rules) n
 
-abbrev pub class_names : List SpannedRule → List Text
-class_names rules = flat_map class_at rules
+-- a rule of the name is a class by a chain of fewer than `k` calls
+unfoldable pub is_class_rule : ℕ → List SpannedRule → Text → Bool
+is_class_rule zero rules n = false
+is_class_rule (suc k) rules n = is_class_by (is_class_rule k rules) rules n
 
 -- a repetition of a class; `f`: the names of such rules
 abbrev pub is_class_if_some : (Text → Bool) → Option Spanned → Bool
@@ -94,16 +96,25 @@ repetition_at f x = if repeats_class f x then span_of x ∷ [] else []
 abbrev pub repetitions_in : (Text → Bool) → Spanned → List Span
 repetitions_in f body = flat_map (repetition_at f) (preorder body)
 
--- such spans in a rule, where blanks are skipped between its parts; `f`: the names that are called so
+-- its author marked the rule as one that skips blanks
+abbrev pub is_marked : RuleType → Bool
+is_marked NonAtomic = true
+is_marked _ = false
+
+-- blanks are skipped between its parts without such a mark; `f`: the names that are called so
+abbrev pub skips_unasked : (Text → Bool) → SpannedRule → Bool
+skips_unasked f r = not (is_marked r.type_of) && skips f r
+
+-- the first such span in such a rule
 abbrev pub loose_in_rule : (Text → Bool) → (Text → Bool) → SpannedRule → List Span
-loose_in_rule f g r = if skips f r then repetitions_in g r.body else []
+loose_in_rule f g r = if skips_unasked f r then take 1 (repetitions_in g r.body) else []
 
 -- a rule for blanks is defined
 abbrev pub defines_blanks : List SpannedRule → Bool
 defines_blanks rules = list_any (λ r. needs_no_call r.name) rules
 
--- the spans of repetitions of characters between which blanks are skipped
+-- the spans of repetitions of characters between which blanks are skipped, one of a rule
 abbrev pub blanks_in_tokens : List SpannedRule → List Span
 blanks_in_tokens rules = if defines_blanks rules
-    then flat_map (loose_in_rule (is_reached 32 (roots rules) rules) (is_one_of (class_names rules))) rules
+    then flat_map (loose_in_rule (is_reached 32 (roots rules) rules) (is_class_rule 8 rules)) rules
     else []

@@ -1,26 +1,30 @@
 //! Repetitions of characters between which blanks are skipped.
-ghost use Rattle.std.specs.Prelude.{◌≡◌, ◌++◌, Bool, IfOk, OnOk, List, Some, flat_map, map, option_map};
+ghost use Rattle.std.specs.Prelude.{◌≡◌, ◌++◌, ◌||◌, Bool, IfOk, OnOk, List, ℕ, Some, flat_map, map, option_map, take};
 ghost use Rattle.front_names.specs.Builtins.{meaning_of};
-ghost use Rattle.std.specs.Str.{chars};
+ghost use Rattle.std.specs.Str.{IsUtf8, chars};
 ghost use Rattle.base_ast.specs.Ast.{text_of};
-ghost use Rattle.base_language.specs.Language.Builtins.{builtin_of};
+ghost use Rattle.base_language.specs.Language.Builtins.{builtin_of, is_one_of};
 ghost use Rattle.base_language.specs.Language.Text.{Text};
-ghost use Rattle.front_spanned.specs.Nodes.{piece_of, rule_view, rule_views, view};
-ghost use Rattle.lint_warnings.specs.Lists.{HasNames, texts_of};
+ghost use Rattle.front_spanned.specs.Nodes.{piece_of, rule_view, rule_views, type_of, view};
+ghost use Rattle.lint_warnings.specs.Lists.{HasNames, has_name};
 ghost use Rattle.lint_warnings.specs.Tokens as spec;
 
-use crate::rules::{is_named, names_of, needs_no_call};
+use crate::rules::{add_name, is_named, needs_no_call};
 use crate::skipping::{is_among, reached_names, roots_of, skips};
+use base_ast::ast::RuleType;
 use base_language::runtime::Span;
 use front_names::{Builtin, CharSet, is_builtin};
 use front_spanned::{ParserExpr, ParserNode, ParserRule, push_operands};
 use std::alloc::{AllocError, Global};
 use std::collections::HashSet;
 
+/// Calls in a chain that are followed to a class of characters, at most.
+const LONGEST_CLASS: usize = 8;
+
 /// The spans of repetitions of characters between which blanks are skipped, as `ASCII_DIGIT+` in a rule
-/// without `@` where `WHITESPACE` is defined: it takes `1 2`. They are in the order of the text. Only rules
-/// to which a chain of at most 32 calls leads from a start are looked at. The only error is an allocation
-/// failure. The time is linear in the rules.
+/// without `@` where `WHITESPACE` is defined: it takes `1 2`. They are in the order of the text, the first of
+/// each rule. Only rules to which a chain of at most 32 calls leads from a start are looked at, and none that
+/// `!` marks. The only error is an allocation failure. The time is linear in the rules.
 pub fn blanks_in_tokens<'i>(
     alloc: Global,
     rules: &[ParserRule<'i>],
@@ -33,8 +37,7 @@ pub fn blanks_in_tokens<'i>(
     }
     let roots = roots_of(alloc, &*rules)?;
     let called = reached_names(alloc, &*rules, &roots)?;
-    let listed = class_names(alloc, &*rules)?;
-    let classes = names_of(alloc, &listed)?;
+    let classes = class_rules(alloc, &*rules)?;
     loose_among(alloc, rules, &called, &classes)
 }
 
@@ -50,35 +53,49 @@ fn defines_blanks(rules: &[ParserRule<'_>]) -> bool
     false
 }
 
-/// The names of rules that are classes of characters.
-fn class_names<'n, 'i>(
+/// The names of rules that are classes of characters, by a chain of fewer than `LONGEST_CLASS` calls.
+fn class_rules<'n, 'i>(
     alloc: Global,
     rules: &'n [ParserRule<'i>],
-) -> Result<Vec<&'n str>, AllocError>
-    ensures { IfOk result (λ names.
-        texts_of names.items ≡ spec.class_names (rule_views rules.entry.now)) }
+) -> Result<HashSet<&'n str>, AllocError>
+    ensures { IfOk result (HasNames (spec.is_class_rule 8 (rule_views rules.entry.now))) }
 {
-    let none = names_of(alloc, &[])?;
-    let mut names = Vec::new(alloc);
-    for rule in rules {
-        add_class(alloc, rule, &none, &mut names)?;
+    let mut names = HashSet::new(alloc);
+    for _calls in 0..LONGEST_CLASS {
+        names = class_names(alloc, rules, &names)?;
     }
     Ok(names)
 }
 
-/// Adds the name of a rule that is a class of characters; of such rules none is known.
+/// The names of rules that are classes of characters, where those of these names are known to be.
+fn class_names<'n, 'i>(
+    alloc: Global,
+    rules: &'n [ParserRule<'i>],
+    known: &HashSet<&str>,
+) -> Result<HashSet<&'n str>, AllocError>
+    ensures { IfOk result (λ names. (f : Text → Bool) → HasNames f known.now
+        → HasNames (spec.is_class_by f (rule_views rules.entry.now)) names) }
+{
+    let mut names = HashSet::new(alloc);
+    for rule in rules {
+        add_class(alloc, rule, known, &mut names)?;
+    }
+    Ok(names)
+}
+
+/// Adds the name of a rule that is a class of characters.
 fn add_class<'n, 'i>(
     alloc: Global,
     rule: &'n ParserRule<'i>,
-    none: &HashSet<&str>,
-    names: &mut Vec<&'n str>,
+    known: &HashSet<&str>,
+    names: &mut HashSet<&'n str>,
 ) -> Result<(), AllocError>
-    requires { HasNames spec.no_names none.now }
-    ensures { OnOk result (texts_of names.new.items
-        ≡ texts_of names.old.items ++ spec.class_at (rule_view rule.entry.now)) }
+    ensures { OnOk result ((f : Text → Bool) → HasNames f known.now → (name : List ℕ) → IsUtf8 name
+        → has_name names.new name
+        ≡ (has_name names.old name || is_one_of (spec.class_at f (rule_view rule.entry.now)) (chars name))) }
 {
-    if is_class(alloc, &rule.node, none)? {
-        names.push(rule.name.as_str())?;
+    if is_class(alloc, &rule.node, known)? {
+        add_name(rule.name.as_str(), names)?;
     }
     Ok(())
 }
@@ -101,7 +118,7 @@ fn loose_among<'i>(
     Ok(found)
 }
 
-/// Adds the spans of repetitions of classes in a rule, where it skips blanks.
+/// Adds the span of the first repetition of a class in a rule, where it skips blanks and is not marked so.
 fn add_of_rule<'i>(
     alloc: Global,
     rule: &ParserRule<'i>,
@@ -113,29 +130,60 @@ fn add_of_rule<'i>(
         → map piece_of found.new.items
         ≡ map piece_of found.old.items ++ spec.loose_in_rule f g (rule_view rule.now)) }
 {
-    if skips(rule, called) {
-        add_of_body(alloc, &rule.node, classes, found)?;
+    if skips_unasked(rule, called) {
+        let spans = repetitions_in(alloc, &rule.node, classes)?;
+        push_first(&spans, found)?;
     }
     Ok(())
 }
 
-/// Adds the spans of repetitions of classes in a body.
-fn add_of_body<'i>(
+/// Adds the first of some spans, if there is one.
+fn push_first<'i>(spans: &[Span<'i>], found: &mut Vec<Span<'i>>) -> Result<(), AllocError>
+    ensures { OnOk result (map piece_of found.new.items
+        ≡ map piece_of found.old.items ++ take 1 (map piece_of spans.now)) }
+{
+    match spans.first() {
+        Some(first) => found.push(*first)?,
+        None => {}
+    }
+    Ok(())
+}
+
+/// Whether blanks are skipped between the parts of a rule, as by `skips`, and no `!` marks it so.
+fn skips_unasked(rule: &ParserRule<'_>, called: &HashSet<&str>) -> bool
+    ensures { (f : Text → Bool) → HasNames f called.now → result ≡ spec.skips_unasked f (rule_view rule.now) }
+{
+    !is_marked(rule.ty) && skips(rule, called)
+}
+
+/// Whether a type is that of rules which `!` marks.
+fn is_marked(ty: RuleType) -> bool
+    ensures { result ≡ spec.is_marked (type_of ty) }
+{
+    match ty {
+        RuleType::NonAtomic => true,
+        RuleType::Normal | RuleType::Silent => false,
+        RuleType::Atomic | RuleType::CompoundAtomic => false,
+    }
+}
+
+/// The spans of repetitions of classes in a body.
+fn repetitions_in<'i>(
     alloc: Global,
     body: &ParserNode<'i>,
     classes: &HashSet<&str>,
-    found: &mut Vec<Span<'i>>,
-) -> Result<(), AllocError>
-    ensures { OnOk result ((f : Text → Bool) → HasNames f classes.now → map piece_of found.new.items
-        ≡ map piece_of found.old.items ++ spec.repetitions_in f (view body.now)) }
+) -> Result<Vec<Span<'i>>, AllocError>
+    ensures { IfOk result (λ found. (f : Text → Bool) → HasNames f classes.now
+        → map piece_of found.items ≡ spec.repetitions_in f (view body.now)) }
 {
+    let mut found = Vec::new(alloc);
     let mut stack = Vec::new(alloc);
     stack.push(body)?;
     while let Some(next) = stack.pop() {
-        add_where_class(alloc, next, classes, found)?;
+        add_where_class(alloc, next, classes, &mut found)?;
         push_operands(next, &mut stack)?;
     }
-    Ok(())
+    Ok(found)
 }
 
 /// Adds the span of a node that repeats a class.

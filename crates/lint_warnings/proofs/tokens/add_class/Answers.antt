@@ -1,10 +1,13 @@
 use Rattle.std.proofs.Common.{◌∙◌, ap, sym, chars}
-use Rattle.lint_warnings.specs.Lists.{texts_of}
-use Rattle.lint_warnings.specs.Tokens.{no_names}
-use Rattle.lint_warnings.proofs.Reached.{name_pushed}
+use Rattle.front_spanned.specs.Nodes.{rule_view}
+use Rattle.lint_warnings.specs.Lists.{has_name}
+use Rattle.lint_warnings.proofs.Reached.{name_if, name_unless}
 use Rattle.lint_warnings.proofs.tokens.add_class.Goals as goal
 
-pub returns-in_ok-push : goal.returns-in_ok-push
-returns-in_ok-push c =
-    ap texts_of c.in_ok-push.ensures.items
-    ∙ name_pushed c.args.names.now.items c.as_str.result _ _ (ap chars c.as_str.ensures.value) (sym (c.in_ok-is_class.ensures no_names c.requires) ∙ c.if-branch.true)
+pub returns-in_ok-add_name : goal.returns-in_ok-add_name
+returns-in_ok-add_name c = λ f known name u.
+    name_if (has_name c.args.names.now name) (chars c.as_str.result.now) (rule_view c.args.rule.now).name (chars name) _ _ (ap chars c.as_str.ensures.value) (sym (c.in_ok-is_class.ensures f known) ∙ c.if-branch.true) (c.in_ok-add_name.ensures name u)
+
+pub returns-else-branch : goal.returns-else-branch
+returns-else-branch c = λ f known name u.
+    name_unless (has_name c.args.names.now name) (rule_view c.args.rule.now).name (chars name) _ (sym (c.in_ok-is_class.ensures f known) ∙ c.if-branch.false)

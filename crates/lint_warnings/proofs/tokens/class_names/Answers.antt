@@ -1,11 +1,18 @@
-use Rattle.front_spanned.proofs.Walks.{rule_step, all_rules}
-use Rattle.lint_warnings.specs.Tokens.{class_at}
+use Rattle.std.proofs.Common.{List, chars, subst}
+use Rattle.std.proofs.lemmas.List.{take_all}
+use Rattle.front_spanned.specs.Nodes.{rule_views}
+use Rattle.front_spanned.specs.declared.node.ParserRule.{ParserRule}
+use Rattle.lint_warnings.specs.Lists.{HasNames}
+use Rattle.lint_warnings.specs.Tokens.{is_class_by}
+use Rattle.lint_warnings.proofs.Reached.{class_step}
 use Rattle.lint_warnings.proofs.tokens.class_names.Goals as goal
 
 pub loop-rule-preserved : goal.loop-rule-preserved
-loop-rule-preserved c =
-    rule_step class_at c.args.rules.now c.loop-rule.rule-index c.rule-item.result _ _ c.loop-rule-test.true c.rule-item.is
-    c.in_ok-add_class.ensures c.loop-rule.invariant
+loop-rule-preserved c = λ f known name u.
+    class_step f c.args.rules.now c.loop-rule.rule-index c.rule-item.result (chars name) _ _ c.loop-rule-test.true c.rule-item.is
+    (c.in_ok-add_class.ensures f known name u) (c.loop-rule.invariant f known name u)
 
 pub returns : goal.returns
-returns c = all_rules class_at c.args.rules.now c.loop-rule.rule-index _ c.loop-rule-test.false c.loop-rule.invariant
+returns c = λ f known.
+    let P : List ParserRule → Type 0 = λ rules. HasNames (is_class_by f (rule_views rules)) c.loop-rule.names in
+    subst P (take_all c.loop-rule.rule-index c.args.rules.now c.loop-rule-test.false) (c.loop-rule.invariant f known)

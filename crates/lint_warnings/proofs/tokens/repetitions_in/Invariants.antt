@@ -5,12 +5,12 @@ use Rattle.front_spanned.specs.Nodes.{piece_of, view}
 use Rattle.front_spanned.specs.Walk.{waiting}
 use Rattle.lint_warnings.specs.Lists.{HasNames}
 use Rattle.lint_warnings.specs.Tokens.{repetition_at, repetitions_in}
-use Rattle.lint_warnings.proofs.tokens.add_of_body.Given as goal
+use Rattle.lint_warnings.proofs.tokens.repetitions_in.Given as goal
 
 abbrev pub invariant-loop-next : goal.invariant-loop-next
 invariant-loop-next l = (f : Text → Bool) → HasNames f l.classes
     → map piece_of l.found.items ++ flat_map (repetition_at f) (waiting l.stack.items)
-    ≡ map piece_of l.fn.found.items ++ repetitions_in f (view l.fn.body)
+    ≡ repetitions_in f (view l.fn.body)
 
 abbrev pub decreases-loop-next : goal.decreases-loop-next
 decreases-loop-next l = length (waiting l.stack.items)

@@ -1,7 +1,7 @@
 use Rattle.front_spanned.specs.Nodes.{view}
 use Rattle.front_spanned.proofs.Walks.{waiting_on, waits_less, walk_step}
 use Rattle.lint_warnings.specs.Tokens.{repetition_at}
-use Rattle.lint_warnings.proofs.tokens.add_of_body.Goals as goal
+use Rattle.lint_warnings.proofs.tokens.repetitions_in.Goals as goal
 
 pub loop-next-smaller : goal.loop-next-smaller
 loop-next-smaller c =
