@@ -1,4 +1,5 @@
 pub mod Called
+pub mod Choosing
 pub mod Classes
 pub mod Failing
 pub mod Known

@@ -85,12 +85,24 @@ unreachable_after earlier (x ∷ xs) =
 abbrev pub unreachable_at : Spanned → List Span
 unreachable_at x = unreachable_after [] (alternatives x)
 
-abbrev pub unreachable_in_parts : Spanned → List Span
-unreachable_in_parts x = flat_map unreachable_at (parts x)
+-- the same as a list of one list, where there are some
+abbrev pub if_some : List Span → List (List Span)
+if_some [] = []
+if_some (s ∷ ss) = (s ∷ ss) ∷ []
+
+abbrev pub choice_at : Spanned → List (List Span)
+choice_at x = if_some (unreachable_at x)
+
+abbrev pub choices_in_parts : Spanned → List (List Span)
+choices_in_parts x = flat_map choice_at (parts x)
 
 -- of a body, and of the nodes in it that are no alternatives of a choice around them
-abbrev pub unreachable_in : Spanned → List Span
-unreachable_in body = unreachable_at body ++ flat_map unreachable_in_parts (preorder body)
+abbrev pub choices_in : Spanned → List (List Span)
+choices_in body = choice_at body ++ flat_map choices_in_parts (preorder body)
+
+-- the spans of such alternatives, choice by choice
+abbrev pub unreachable_choices : List SpannedRule → List (List Span)
+unreachable_choices rules = flat_map (λ r. choices_in r.body) rules
 
 abbrev pub unreachable_alternatives : List SpannedRule → List Span
-unreachable_alternatives rules = flat_map (λ r. unreachable_in r.body) rules
+unreachable_alternatives rules = flat_map (λ spans. spans) (unreachable_choices rules)

@@ -1,4 +1,5 @@
 pub mod Choices
+pub mod Groups
 pub mod Laws
 pub mod Lists
 pub mod Ranges

@@ -8,8 +8,10 @@ ghost use Rattle.front_spanned.specs.Spanned.{Span as Piece, Spanned};
 ghost use Rattle.front_spanned.specs.Walk.{preorder, waiting};
 ghost use Rattle.lint_warnings.specs.Choices as spec;
 ghost use Rattle.lint_warnings.specs.Choices.{alternatives, beginning_of, first_call_of};
+ghost use Rattle.lint_warnings.specs.Groups.{pieces_of};
 ghost use Rattle.lint_warnings.specs.Lists.{CollectsUnreachable, HasNames, Knows, left_over};
 
+use crate::beginners::beginner_of;
 use crate::literals::{Literals, beginning, call, first_call, literal};
 use crate::nodes::{Operands, operands_of, push_both};
 use crate::rules::add_name;
@@ -18,19 +20,56 @@ use front_spanned::{ParserNode, ParserRule, push_operands};
 use std::alloc::{AllocError, Global};
 use std::collections::HashSet;
 
-/// The spans of alternatives that are never taken, since one before them in their choice is a literal or a
-/// call with which all that they match begins, as `"ab"` and `"a" ~ b` after `"a"`, and `a` and `a ~ b` after
-/// `a`: rule by rule, and in a body choice by choice. A choice inside a choice is part of it. The only error
-/// is an allocation failure.
-///
-/// For each alternative there is a look-up for each length that a literal of its choice has, so the time is
-/// at most the text's length times the square root of that.
+/// A choice with alternatives that are never taken.
+#[derive(Drop)]
+pub struct UnreachableChoice<'i> {
+    /// The spans of these alternatives, in order.
+    pub spans: Vec<Span<'i>>,
+    /// The bytes of the alternative that begins the first of them.
+    pub begun_by: Option<(usize, usize)>,
+}
+
+/// The spans of alternatives that are never taken, as by `unreachable_choices`, one after another.
 pub fn unreachable_alternatives<'i>(
     alloc: Global,
     rules: &[ParserRule<'i>],
 ) -> Result<Vec<Span<'i>>, AllocError>
     ensures { IfOk result (λ found.
         map piece_of found.items ≡ spec.unreachable_alternatives (rule_views rules.now)) }
+{
+    let choices = unreachable_choices(alloc, rules)?;
+    let mut found = Vec::new(alloc);
+    for choice in &choices {
+        add_spans(choice, &mut found)?;
+    }
+    Ok(found)
+}
+
+/// Adds the spans of a choice.
+fn add_spans<'i>(
+    choice: &UnreachableChoice<'i>,
+    found: &mut Vec<Span<'i>>,
+) -> Result<(), AllocError>
+    ensures { OnOk result (map piece_of found.new.items
+        ≡ map piece_of found.old.items ++ pieces_of choice.now) }
+{
+    found.extend_from_slice(choice.spans.as_slice())?;
+    Ok(())
+}
+
+/// The choices with alternatives that are never taken, since one before them in their choice is a literal or
+/// a call with which all that they match begins, as `"ab"` and `"a" ~ b` after `"a"`, and `a` and `a ~ b`
+/// after `a`: rule by rule, and in a body choice by choice. A choice inside a choice is part of it. The only
+/// error is an allocation failure.
+///
+/// For each alternative there is a look-up for each length that a literal of its choice has, so the time is
+/// at most the text's length times the square root of that.
+pub fn unreachable_choices<'i>(
+    alloc: Global,
+    rules: &[ParserRule<'i>],
+) -> Result<Vec<UnreachableChoice<'i>>, AllocError>
+    ensures { IfOk result (λ found.
+        map pieces_of found.items ≡ spec.unreachable_choices (rule_views rules.now)) }
 {
     let mut found = Vec::new(alloc);
     for rule in rules {
@@ -39,14 +78,14 @@ pub fn unreachable_alternatives<'i>(
     Ok(found)
 }
 
-/// Adds the spans in a body: of the choice that it is, and of those that it contains.
+/// Adds what there is of a body: of the choice that it is, and of those that it contains.
 fn add_of_body<'i>(
     alloc: Global,
     body: &ParserNode<'i>,
-    found: &mut Vec<Span<'i>>,
+    found: &mut Vec<UnreachableChoice<'i>>,
 ) -> Result<(), AllocError>
-    ensures { OnOk result (map piece_of found.new.items
-        ≡ map piece_of found.old.items ++ spec.unreachable_in (view body.now)) }
+    ensures { OnOk result (map pieces_of found.new.items
+        ≡ map pieces_of found.old.items ++ spec.choices_in (view body.now)) }
 {
     add_of_choice(alloc, body, found)?;
     let mut stack = Vec::new(alloc);
@@ -58,14 +97,14 @@ fn add_of_body<'i>(
     Ok(())
 }
 
-/// Adds the spans in the choices that the operands of a node are, where it is no choice itself.
+/// Adds what there is of the choices that the operands of a node are, where it is no choice itself.
 fn add_of_parts<'i>(
     alloc: Global,
     node: &ParserNode<'i>,
-    found: &mut Vec<Span<'i>>,
+    found: &mut Vec<UnreachableChoice<'i>>,
 ) -> Result<(), AllocError>
-    ensures { OnOk result (map piece_of found.new.items
-        ≡ map piece_of found.old.items ++ spec.unreachable_in_parts (view node.now)) }
+    ensures { OnOk result (map pieces_of found.new.items
+        ≡ map pieces_of found.old.items ++ spec.choices_in_parts (view node.now)) }
 {
     match operands_of(node) {
         Operands::None | Operands::Choice(_, _) => Ok(()),
@@ -77,23 +116,37 @@ fn add_of_parts<'i>(
     }
 }
 
-/// Adds the spans in a choice.
+/// Adds a choice, where alternatives of it are never taken.
 fn add_of_choice<'i>(
     alloc: Global,
     whole: &ParserNode<'i>,
-    found: &mut Vec<Span<'i>>,
+    found: &mut Vec<UnreachableChoice<'i>>,
 ) -> Result<(), AllocError>
-    ensures { OnOk result (map piece_of found.new.items
-        ≡ map piece_of found.old.items ++ spec.unreachable_at (view whole.now)) }
+    ensures { OnOk result (map pieces_of found.new.items
+        ≡ map pieces_of found.old.items ++ spec.choice_at (view whole.now)) }
 {
+    let spans = unreachable_of(alloc, whole)?;
+    if spans.as_slice().is_empty() {
+        return Ok(());
+    }
+    let begun_by = beginner_of(alloc, whole, spans[0].start())?;
+    found.push(UnreachableChoice { spans, begun_by })?;
+    Ok(())
+}
+
+/// The spans of the alternatives of a choice that are never taken.
+fn unreachable_of<'i>(alloc: Global, whole: &ParserNode<'i>) -> Result<Vec<Span<'i>>, AllocError>
+    ensures { IfOk result (λ found. map piece_of found.items ≡ spec.unreachable_at (view whole.now)) }
+{
+    let mut found = Vec::new(alloc);
     let mut literals = Literals::new(alloc);
     let mut calls = HashSet::new(alloc);
     let mut stack = Vec::new(alloc);
     stack.push(whole)?;
     while let Some(next) = stack.pop() {
-        take_alternative(next, &mut stack, &mut literals, &mut calls, found)?;
+        take_alternative(next, &mut stack, &mut literals, &mut calls, &mut found)?;
     }
-    Ok(())
+    Ok(found)
 }
 
 /// Pushes both sides of a choice on a stack, the left one on top; any other node is the next alternative.

@@ -2,6 +2,7 @@
 //! that match nothing.
 #![tactic(auto)]
 
+mod beginners;
 mod choices;
 pub mod laws;
 mod literals;
@@ -12,7 +13,7 @@ mod skipping;
 mod suspects;
 mod tokens;
 
-pub use crate::choices::unreachable_alternatives;
+pub use crate::choices::{UnreachableChoice, unreachable_alternatives, unreachable_choices};
 pub use crate::ranges::reversed_ranges;
 pub use crate::rules::{is_blank_name, is_blank_name_in_any_case, uncalled_rules};
 pub use crate::suspects::{Suspect, suspect_spans};

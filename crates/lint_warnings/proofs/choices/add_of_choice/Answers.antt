@@ -1,23 +1,20 @@
-use Rattle.std.proofs.Common.{ap, length, ◌∙◌, arith, rules, []}
-use Rattle.front_spanned.specs.Walk.{waiting}
-use Rattle.front_spanned.proofs.Walks.{waiting_push}
-use Rattle.std.proofs.lemmas.List.{length-append}
-use Rattle.lint_warnings.specs.Lists.{left_over}
-use Rattle.lint_warnings.proofs.Steps.{left_over_push, spans_along}
+use Rattle.std.proofs.Common.{◌∙◌, ◌==◌, ◌++◌, append-nil, ap, length, map, sym}
+use Rattle.std.proofs.lemmas.List.{map-append}
+use Rattle.front_spanned.specs.Nodes.{view}
+use Rattle.lint_warnings.specs.Choices.{unreachable_at}
+use Rattle.lint_warnings.specs.Groups.{pieces_of}
+use Rattle.lint_warnings.proofs.Choosing.{none_grouped, some_grouped}
 use Rattle.lint_warnings.proofs.choices.add_of_choice.Goals as goal
 
-pub loop-next-smaller : goal.loop-next-smaller
-loop-next-smaller c =
-    let next = c.in-Some.next in
-    let rest = c.pop.new.self.items in
-    let e = ap (λ l. length (waiting l)) c.in-Some.ensures.items ∙ (ap length (waiting_push rest next) ∙ length-append _ (waiting rest)) in
-    let k = c.in_ok-take_alternative.ensures.less in
-    omega arith
+pub returns-then-is_empty : goal.returns-then-is_empty
+returns-then-is_empty c =
+    let old = map pieces_of c.args.found.now.items in
+    let none = none_grouped c.in_ok-spans.spans.items (unreachable_at (view c.args.whole.now)) c.in_ok-spans.ensures (ap (λ l. length l == 0) (sym c.as_slice.ensures.value) ∙ (sym c.is_empty.ensures ∙ c.if-is_empty.true)) in
+    sym (ap (λ l. old ++ l) none ∙ append-nil old)
 
-pub loop-next-preserved : goal.loop-next-preserved
-loop-next-preserved c =
-    let before = c.loop-next.invariant in
-    c.in_ok-take_alternative.ensures.collected _ before.0 (spans_along _ before.0 _ _ _ _ _ (ap left_over c.in-Some.ensures.items ∙ left_over_push c.pop.new.self.items c.in-Some.next) before.1)
-
-pub loop-next-init : goal.loop-next-init
-loop-next-init c = ([], record { knows = search rules; names = search rules; spans = search rules })
+pub returns : goal.returns
+returns c =
+    let old = map pieces_of c.args.found.now.items in
+    let some = some_grouped c.in_ok-spans.spans.items (unreachable_at (view c.args.whole.now)) c.in_ok-spans.ensures (ap (λ l. length l == 0) (sym c.as_slice.ensures.value) ∙ (sym c.is_empty.ensures ∙ c.if-is_empty.false)) in
+    ap (map pieces_of) c.in_ok-push.ensures.items
+    ∙ (map-append pieces_of c.args.found.now.items _ ∙ ap (λ l. old ++ l) (sym some))

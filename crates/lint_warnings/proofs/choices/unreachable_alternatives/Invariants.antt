@@ -1,8 +1,8 @@
 use Rattle.std.proofs.Common.{◌≡◌, map, take}
 use Rattle.std.specs.Prelude.{flat_map}
-use Rattle.front_spanned.specs.Nodes.{piece_of, rule_views}
-use Rattle.lint_warnings.specs.Choices.{unreachable_in}
+use Rattle.front_spanned.specs.Nodes.{piece_of}
+use Rattle.lint_warnings.specs.Groups.{pieces_of}
 use Rattle.lint_warnings.proofs.choices.unreachable_alternatives.Given as goal
 
-abbrev pub invariant-loop-rule : goal.invariant-loop-rule
-invariant-loop-rule l = map piece_of l.found.items ≡ flat_map (λ r. unreachable_in r.body) (rule_views (take l.rule-index l.rules))
+abbrev pub invariant-loop-choice : goal.invariant-loop-choice
+invariant-loop-choice l = map piece_of l.found.items ≡ flat_map pieces_of (take l.choice-index l.choice-items)
