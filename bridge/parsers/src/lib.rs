@@ -1,6 +1,6 @@
 //! Parsers of some grammars, and what they answer as values that name no crate.
 //!
-//! The grammars are those of the tests of the crate pest_vm, and of ../programs.
+//! The grammars are those of the tests of the crate pest_vm, of ../programs and of this folder.
 pub mod chains;
 pub mod places;
 
@@ -185,8 +185,16 @@ grammar!(
     ["", "1\n", "1,2,3\n4.5,-6\r\n"]
 );
 
+grammar!(
+    statements,
+    "statements.pest",
+    file,
+    ["a", "=", ";", "end", "stop", "1", " ", "a=1;", "b = c;", "endless", "=end"],
+    ["a=1;", "a = b; c = 2; end", "x=y;stop"]
+);
+
 /// All grammars.
-pub const GRAMMARS: [Grammar; 7] = [
+pub const GRAMMARS: [Grammar; 8] = [
     lists::GRAMMAR,
     sums::GRAMMAR,
     quotes::GRAMMAR,
@@ -194,4 +202,5 @@ pub const GRAMMARS: [Grammar; 7] = [
     json::GRAMMAR,
     calculator::GRAMMAR,
     csv::GRAMMAR,
+    statements::GRAMMAR,
 ];

@@ -96,7 +96,8 @@ pub fn prepared(rules: &[OptimizedRule]) -> Vec<u8> {
 /// # Panics
 /// Where the library has no memory, and where the bytes are no rules in binary form.
 pub fn numbers(rules: &[u8], rule: &str, text: &str, steps: u64) -> Result<Vec<usize>, Unmatched> {
-    let mut numbers = vec![0; 64 + text.len()];
+    // Where this is too small, the rule is run twice. JSON has some 1 to 3 numbers for a byte.
+    let mut numbers = vec![0; 64 + 4 * text.len()];
     let mut needed = 0;
     let mut status = library::match_prepared(rules, rule, text, steps, &mut numbers, &mut needed);
     if status == 4 {
