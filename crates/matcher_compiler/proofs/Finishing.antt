@@ -152,4 +152,4 @@ pub len_kept : {a b : Code} → KeepsData a b → (set : ℕ) (bs : List ℕ) �
 len_kept k set [] = refl
 len_kept k set (x ∷ xs) = ap₂ (λ rows ranges.
     let f = get_or rows.items (set * 256 + x) 0 in
-    if nat_lt 4 f then wide_len (get_or (map (λ v. v.items) ranges.items) set []) (x ∷ xs) else f) k.rows k.ranges
+    if nat_lt 4 f then wide_len (get_or (map (λ v. v.ranges.items) ranges.items) set []) (x ∷ xs) else f) k.rows k.ranges

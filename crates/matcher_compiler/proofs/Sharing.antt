@@ -27,7 +27,7 @@ same_ranges (x ∷ xs) (y ∷ ys) e =
 -- a program with the same rows and ranges
 pub same_sets : (old new : Code) → new.rows.items ≡ old.rows.items → new.ranges.items ≡ old.ranges.items → KeepsSets old new
 same_sets old new e f set b bs h k =
-    ap₂ (λ rows ranges. if nat_lt 4 (get_or rows (set * 256 + b) 0) then wide_len (get_or (map (λ v. v.items) ranges) set []) (b ∷ bs) else get_or rows (set * 256 + b) 0) e f
+    ap₂ (λ rows ranges. if nat_lt 4 (get_or rows (set * 256 + b) 0) then wide_len (get_or (map (λ v. v.ranges.items) ranges) set []) (b ∷ bs) else get_or rows (set * 256 + b) 0) e f
 
 -- a program with more sets
 known_on : (old new : Code) → length old.ranges.items ≤ length new.ranges.items → KeepsSets old new → (x : KnownSet)

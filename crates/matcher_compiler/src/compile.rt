@@ -5,6 +5,7 @@ ghost use Rattle.base_language.specs.Language.Expression.{Silent};
 ghost use Rattle.matcher_code.specs.Sets.{IsAligned};
 ghost use Rattle.matcher_program.specs.declared.form.Program.{Program};
 ghost use Rattle.matcher_compiler.specs.Compiled.{AreMet, HasEnds, HasEntries, IsCodeOf, IsEmpty};
+ghost use Rattle.matcher_compiler.specs.Names.{HasOwnNames};
 ghost use Rattle.matcher_compiler.specs.declared.plan.Skips.TheVariants as skips;
 ghost use Rattle.matcher_compiler.specs.Plans.{AreBlanks, IsLater, IsReady, Meets, laid_point};
 ghost use Rattle.matcher_sets.specs.Forms.{IsSoundProgram};
@@ -332,6 +333,18 @@ fn finish(alloc: Global, plan: Plan<'_>) -> Result<Code, NotCompiled>
     Ok(code)
 }
 
+/// Refuses rules of which two have one name. The only other error is an allocation failure.
+fn refuse_same_names(alloc: Global, program: &Program) -> Result<(), NotCompiled>
+    ensures { OnOk result (HasOwnNames program.now) }
+{
+    let has_own = has_own_names(alloc, program)?;
+    if has_own {
+        Ok(())
+    } else {
+        Err(NotCompiled::Unsupported)
+    }
+}
+
 /// Makes a program for rules. Errors: rules that have an expression of a kind that is not compiled, or are
 /// more than 4096; and an allocation failure.
 pub fn compile(alloc: Global, program: &Program) -> Result<Code, NotCompiled>
@@ -341,10 +354,7 @@ pub fn compile(alloc: Global, program: &Program) -> Result<Code, NotCompiled>
     if program.rows.len() > MOST_RULES {
         return Err(NotCompiled::Unsupported);
     }
-    let has_own = has_own_names(alloc, program)?;
-    if !has_own {
-        return Err(NotCompiled::Unsupported);
-    }
+    refuse_same_names(alloc, program)?;
     let mut plan = first_plan(alloc, program)?;
     plan_ends(&mut plan)?;
     plan_entries(program, &mut plan)?;
