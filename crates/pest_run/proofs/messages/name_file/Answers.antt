@@ -11,7 +11,7 @@ returns-in_ok-name-in-Some c =
     let place = c.in-Some.place.now in
     let N : List ℕ → Type 0 = λ t. NamesFile c.args.name.now c.args.report.now t in
     IfOk-weaker c.format.result _ _
-    (λ named written. subst N (sym (written ∙ ap (λ t. margin ++ (codes "--> " ++ (t ++ (codes ":" ++ place)))) c.in_ok-name.ensures))
+    (λ named written. subst N (sym (written ∙ ap (λ t. margin ++ (codes "--> " ++ (t ++ (codes ":" ++ place)))) c.in_ok-name-in-Some.ensures))
     (placed margin place (λ k l. found.2.0 k (omega (arith, l, found.6)))
     (split_text_parts (codes "--> ") c.args.report.now (Some (c.in-Some.margin, c.in-Some.place)) found)))
     c.format.ensures.ok
