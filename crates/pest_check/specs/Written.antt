@@ -6,9 +6,9 @@ use Rattle.base_language.specs.declared.grammar.Rule.{Rule}
 use Rattle.base_language.specs.declared.runtime.errors.Error.{Error}
 use Rattle.base_ast.specs.Optimized.{optimized_rules_of}
 use Rattle.base_ast.specs.declared.optimized.OptimizedRule.{OptimizedRule}
-use Rattle.pest_meta.specs.Reports.{report_text}
 use Rattle.pest_meta.specs.Spelling.{IsAnswer, IsRefusedWith}
 use Rattle.front_roundtrip.specs.ReadsBack.{grammar_text}
+use Rattle.program_support.specs.Messages.{IsReport}
 
 -- there is an answer for the text, and the writer's contents grew by its rules, a line each
 pub record PrintsAnswer (text : List ℕ) (old new : Option (List ℕ)) : Type 0 where
@@ -21,9 +21,16 @@ pub record PrintsAnswer (text : List ℕ) (old new : Option (List ℕ)) : Type 0
 abbrev pub WritesLine : {X E : Type 0} → List ℕ → Result X E → Option (List ℕ) → Option (List ℕ) → Type 0
 WritesLine message written old new = OnOk written (Appends old new (message ++ 10 ∷ []))
 
+-- a report of errors is the line
+pub record WritesReport {X E : Type 0} (errors : List (Error Rule)) (written : Result X E)
+    (old new : Option (List ℕ)) : Type 0 where
+  pub report : List ℕ
+  pub shows : IsReport errors report
+  pub line : WritesLine report written old new
+
 -- there is a reason to refuse the text, and its report is the line
 pub record ReportsRefusal {X E : Type 0} (text : List ℕ) (written : Result X E)
     (old new : Option (List ℕ)) : Type 0 where
   pub errors : List (Error Rule)
   pub reason : IsRefusedWith text errors
-  pub line : WritesLine (report_text errors) written old new
+  pub tells : WritesReport errors written old new

@@ -3,15 +3,18 @@ ghost use Rattle.std.specs.Prelude.{◌≡◌, ◌≢◌, ◌≤◌, ◌⊎◌, 
 ghost use Rattle.std.specs.Io.KnownBytes.{Appends};
 ghost use Rattle.base_ast.specs.Ast.{rule_type_of};
 ghost use Rattle.base_ast.specs.Optimized.{optimized_rules_of};
-ghost use Rattle.pest_check.specs.Written.{PrintsAnswer, ReportsRefusal, WritesLine};
+ghost use Rattle.pest_check.specs.Written.{PrintsAnswer, ReportsRefusal, WritesLine, WritesReport};
 ghost use Rattle.pest_meta.specs.Spelling.{HasAnswer};
 ghost use Rattle.front_roundtrip.specs.ReadsBack.{grammar_text, modifier};
 ghost use Rattle.program_support.specs.Statuses.{status_code};
 
 use base_ast::optimized::release;
+use base_language::grammar::Rule;
+use base_language::runtime::{Error, Fault};
 use pest_meta::ast::RuleType;
 use pest_meta::optimizer::OptimizedRule;
-use pest_meta::{Report, parse_and_optimize, unwrap_or_report};
+use pest_meta::parse_and_optimize;
+use program_support::messages::show_report;
 use program_support::output::{Output, RefusedWrite};
 use program_support::status::Status;
 use std::alloc::{AllocError, Global};
@@ -73,10 +76,27 @@ pub fn run<W: Write, E: Write>(
     let Ok(grammar) = str::from_utf8(bytes) else {
         return exit_with(err, "cannot read", Status::Unreadable);
     };
-    match unwrap_or_report(alloc, parse_and_optimize(alloc, grammar)) {
+    match parse_and_optimize(alloc, grammar) {
         Ok((_, rules)) => print_rules(alloc, rules, out, err),
-        Err(Report::Memory) => exit_with(err, "out of memory", Status::OutOfMemory),
-        Err(Report::Text(text)) => exit_with(err, text.as_str(), Status::Found),
+        Err(Fault::Memory(_)) => exit_with(err, "out of memory", Status::OutOfMemory),
+        Err(Fault::Grammar(errors)) => report_errors(alloc, &errors, err),
+    }
+}
+
+/// Ends a run on a text that is refused with these errors, after their report.
+fn report_errors<E: Write>(alloc: Global, errors: &[Error<Rule>], err: &mut Output<E>) -> Exit
+    ensures known { (result.status ≡ 1) ⊎ (result.status ≡ 2) }
+    ensures refused { result.status ≡ 1 → WritesReport errors.now result.write_result
+        (E.contents err.old.writer) (E.contents err.new.writer) }
+    ensures tells_memory { result.status ≡ 2
+        → WritesLine (codes "out of memory") result.write_result
+        (E.contents err.old.writer) (E.contents err.new.writer) }
+    ensures told { IsOk result.write_result → err.new.refused ≡ err.old.refused }
+    ensures refused_line { IsErr result.write_result → err.new.refused ≡ true }
+{
+    match show_report(alloc, errors) {
+        Ok(report) => exit_with(err, report.as_str(), Status::Found),
+        Err(_) => exit_with(err, "out of memory", Status::OutOfMemory),
     }
 }
 
