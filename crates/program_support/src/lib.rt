@@ -1,5 +1,5 @@
-//! Parts of all programs: arguments, exit statuses, inputs, folders, output, replaced files, escaped messages,
-//! the version.
+//! Parts of all programs: arguments, exit statuses, inputs, folders, output, replaced files, escaped
+//! messages, the version.
 #![tactic(auto)]
 
 pub mod arguments;
