@@ -24,9 +24,10 @@ AreTokens text entries = AreTokensOf grammar_rules text entries
 abbrev pub SameTokens : List ℕ → List Entry → List ℕ → List Entry → Type 0
 SameTokens text entries other others = tokens_after text start entries ≡ tokens_after other start others
 
--- two texts have equal comments between every two tokens
+-- two texts have equal comments between every two tokens, infix operators left out
 abbrev pub SameComments : List ℕ → List Entry → List ℕ → List Entry → Type 0
-SameComments text entries other others = comments_after text start entries ≡ comments_after other start others
+SameComments text entries other others =
+    comments_after text [] start entries ≡ comments_after other [] start others
 
 -- the last line of a text ends with a line feed, and is not empty
 abbrev pub HasLastLine : List ℕ → Type 0

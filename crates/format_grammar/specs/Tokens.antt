@@ -1,5 +1,5 @@
 -- Tokens and the gaps between them, without their positions.
-use Rattle.std.specs.Prelude.{ℕ, ◌-◌, ◌&&◌, List, [], ◌∷◌, Bool, true, not, length}
+use Rattle.std.specs.Prelude.{ℕ, ◌-◌, ◌&&◌, List, [], ◌∷◌, ◌++◌, Bool, true, false, not, if◌then◌else◌, length}
 use Rattle.std.specs.List.{slice_range}
 use Rattle.base_language.specs.declared.grammar.Rule.{Rule}
 use Rattle.base_language.specs.declared.grammar.Rule.TheVariants as rule_is
@@ -37,10 +37,26 @@ abbrev pub tokens_after : List ℕ → Entry → List Entry → List (Entry × L
 tokens_after text e [] = []
 tokens_after text e (f ∷ es) = (unplaced f, text_between text e f) ∷ tokens_after text f es
 
--- the comments of each gap after an entry
-abbrev pub comments_after : List ℕ → Entry → List Entry → List (List ℕ)
-comments_after text e [] = comments_of (slice_range text (place_of e) (length text)) ∷ []
-comments_after text e (f ∷ es) = comments_between text e f ∷ comments_after text f es
+-- an infix operator or the leading bar
+abbrev pub is_operator : Rule → Bool
+is_operator rule_is.choice_operator = true
+is_operator rule_is.sequence_operator = true
+is_operator _ = false
+
+-- whether no token begins between the gap of two neighbouring entries and the next gap, but for an infix
+-- operator: a token with children ends after the comments there; a leading bar follows a start
+abbrev pub leads_on : Entry → Entry → Bool
+leads_on (Start r i m) f = is_operator r
+leads_on (End i m) (Start r j n) = is_operator r
+leads_on (End i m) (End j n) = true
+
+-- the comments after an entry, those of gaps that lead on with those of the next one, since an operator may
+-- change its side; these are before the first of them
+abbrev pub comments_after : List ℕ → List ℕ → Entry → List Entry → List (List ℕ)
+comments_after text before e [] = (before ++ comments_of (slice_range text (place_of e) (length text))) ∷ []
+comments_after text before e (f ∷ es) = if leads_on e f
+    then comments_after text (before ++ comments_between text e f) f es
+    else (before ++ comments_between text e f) ∷ comments_after text [] f es
 
 -- whether no line ends with a blank between two neighbouring entries, or in a doc comment before them
 abbrev pub is_clean_between : List ℕ → Entry → Entry → Bool

@@ -1,6 +1,8 @@
 //! Builds the pieces of a grammar from its tokens.
-use crate::gaps::{Comment, Gap, find_line_feed, scan_gap, trim_end};
-use crate::pieces::{Item, ItemKind, Piece, Separator};
+use crate::forms::{ExpressionForm, find_forms};
+use crate::gaps::{Comment, Gap, find_line_feed, has_line_end, scan_gap, trim_end};
+use crate::operators::{count_moved, move_comments, stay_after};
+use crate::pieces::{Fill, Item, ItemKind, Piece, Separator};
 use base_language::grammar::Rule;
 use front_syntax::entries::Entry;
 use std::alloc::{AllocError, Global};
@@ -8,8 +10,7 @@ use std::alloc::{AllocError, Global};
 /// An expression that is not yet complete.
 #[derive(Clone, Copy)]
 struct OpenExpression {
-    /// Whether this is a choice, whose alternatives are groups of their own.
-    is_choice: bool,
+    form: ExpressionForm,
     /// Whether one of its alternatives is open.
     in_alternative: bool,
     /// Whether nothing of the expression was read.
@@ -41,37 +42,26 @@ pub struct Builder<'t> {
     next: usize,
 }
 
-/// Returns which expressions are choices, by the numbers of their entries.
-fn find_choices(alloc: Global, entries: &[Entry]) -> Result<Vec<bool>, AllocError> {
-    let mut choices = vec![in alloc; false; entries.len()]?;
-    let mut around: Vec<usize> = Vec::new(alloc);
-    for i in 0..entries.len() {
-        match entries[i] {
-            Entry::Start {
-                rule: Rule::expression,
-                ..
-            } => around.push(i)?,
-            Entry::Start {
-                rule: Rule::choice_operator,
-                ..
-            } => mark_last(&around, &mut choices),
-            Entry::Start { .. } => {}
-            Entry::End { partner, .. } => {
-                if around.last().copied() == Some(partner) {
-                    around.pop();
-                }
-            }
-        }
-    }
-    Ok(choices)
+/// A token.
+#[derive(Clone, Copy)]
+struct Token {
+    rule: Rule,
+    /// Its first byte.
+    pos: usize,
+    /// The byte after it.
+    end: usize,
+    /// The number of its last entry.
+    last: usize,
+    /// The byte of the entry after that.
+    next: usize,
 }
 
-/// Marks the innermost expression as a choice.
-fn mark_last(around: &[usize], choices: &mut [bool]) {
-    if let Some(last) = around.last() {
-        if let Some(choice) = choices.get_mut(*last) {
-            *choice = true;
-        }
+/// Returns the byte of the entry of a number, or this byte.
+fn position_of(entries: &[Entry], i: usize, pos: usize) -> usize {
+    match entries.get(i) {
+        Some(Entry::Start { pos, .. }) => *pos,
+        Some(Entry::End { pos, .. }) => *pos,
+        None => pos,
     }
 }
 
@@ -81,7 +71,7 @@ pub fn build<'t>(
     text: &'t str,
     entries: &[Entry],
 ) -> Result<Builder<'t>, AllocError> {
-    let choices = find_choices(alloc, entries)?;
+    let forms = find_forms(alloc, text, entries)?;
     let mut builder = Builder {
         text,
         pieces: Vec::new(alloc),
@@ -102,12 +92,19 @@ pub fn build<'t>(
         }
         match entries[i] {
             Entry::Start { rule, pos, partner } => {
-                let end = match entries.get(partner) {
-                    Some(Entry::End { pos, .. }) => *pos,
-                    _ => pos,
+                let end = position_of(entries, partner, pos);
+                let token = Token {
+                    rule,
+                    pos,
+                    end,
+                    last: partner,
+                    next: position_of(entries, partner.saturating_add(1), end),
                 };
-                let is_choice = choices.get(i).copied().unwrap_or(false);
-                builder.start(alloc, rule, pos, end, partner, is_choice)?;
+                builder.start(
+                    alloc,
+                    token,
+                    forms.get(i).copied().unwrap_or(ExpressionForm::Sequence),
+                )?;
             }
             Entry::End { partner, .. } => {
                 if let Some(
@@ -126,30 +123,28 @@ pub fn build<'t>(
 }
 
 impl<'t> Builder<'t> {
-    /// Reads the start of a token that is the bytes `pos..end` and whose last entry has the number `partner`.
+    /// Reads the start of a token; `form` is that of an expression.
     fn start(
         &mut self,
         alloc: Global,
-        rule: Rule,
-        pos: usize,
-        end: usize,
-        partner: usize,
-        is_choice: bool,
+        token: Token,
+        form: ExpressionForm,
     ) -> Result<(), AllocError> {
+        let Token { rule, pos, end, .. } = token;
         match rule {
             Rule::grammar_rule => self.item(alloc, pos, ItemKind::Rule),
             Rule::EOI => self.outer_gap(alloc, pos),
             Rule::grammar_doc => {
                 self.item(alloc, pos, ItemKind::GrammarDoc)?;
-                self.doc(pos, end, partner)
+                self.doc(pos, end, token.last)
             }
             Rule::line_doc => {
                 self.set_kind(ItemKind::RuleDoc);
-                self.doc(pos, end, partner)
+                self.doc(pos, end, token.last)
             }
             Rule::expression => {
                 self.expressions.push(OpenExpression {
-                    is_choice,
+                    form,
                     in_alternative: false,
                     is_fresh: true,
                 })?;
@@ -160,7 +155,7 @@ impl<'t> Builder<'t> {
                 Ok(())
             }
             Rule::string | Rule::character => {
-                self.next = partner;
+                self.next = token.last;
                 self.text(alloc, pos, end, Separator::Nothing)
             }
             Rule::_push | Rule::_push_literal | Rule::peek_slice | Rule::insensitive_string => {
@@ -170,6 +165,8 @@ impl<'t> Builder<'t> {
                 self.has_two_counts = true;
                 Ok(())
             }
+            Rule::choice_operator => self.bar(alloc, token),
+            Rule::sequence_operator => self.operator(alloc, token, Fill::BesideShort),
             _ => self.leaf(alloc, rule, pos, end),
         }
     }
@@ -191,16 +188,6 @@ impl<'t> Builder<'t> {
             }
             Rule::opening_paren => self.open_parenthesis(alloc, pos, end),
             Rule::closing_paren => self.close_parenthesis(alloc, pos, end),
-            Rule::choice_operator => self.bar(alloc, pos, end),
-            Rule::sequence_operator => {
-                let line = Separator::Line {
-                    is_blank: true,
-                    is_operator: true,
-                };
-                self.text(alloc, pos, end, line)?;
-                self.after = Separator::Blank;
-                Ok(())
-            }
             Rule::assignment_operator => {
                 self.text(alloc, pos, end, Separator::Blank)?;
                 self.after = Separator::Blank;
@@ -313,11 +300,18 @@ impl<'t> Builder<'t> {
             Separator::Line {
                 is_blank,
                 is_operator,
-            } => self.pieces.push(Piece::Line {
-                is_blank,
-                is_operator,
-            })?,
+            } => self.line(is_blank, is_operator, Fill::Never)?,
         }
+        Ok(())
+    }
+
+    /// Writes a possible line end.
+    fn line(&mut self, is_blank: bool, is_operator: bool, fill: Fill) -> Result<(), AllocError> {
+        self.pieces.push(Piece::Line {
+            is_blank,
+            is_operator,
+            fill,
+        })?;
         Ok(())
     }
 
@@ -461,10 +455,7 @@ impl<'t> Builder<'t> {
     fn close_body(&mut self, alloc: Global, pos: usize, end: usize) -> Result<(), AllocError> {
         self.gap(alloc, pos, Separator::Nothing)?;
         self.pieces.push(Piece::Dedent)?;
-        self.pieces.push(Piece::Line {
-            is_blank: true,
-            is_operator: false,
-        })?;
+        self.line(true, false, Fill::Never)?;
         self.pieces.push(Piece::Text { start: pos, end })?;
         self.pieces.push(Piece::Close)?;
         self.cursor = end;
@@ -511,10 +502,7 @@ impl<'t> Builder<'t> {
         }
         self.gap(alloc, pos, Separator::Nothing)?;
         self.pieces.push(Piece::Dedent)?;
-        self.pieces.push(Piece::Line {
-            is_blank: false,
-            is_operator: false,
-        })?;
+        self.line(false, false, Fill::Never)?;
         self.pieces.push(Piece::Text { start: pos, end })?;
         self.pieces.push(Piece::Close)?;
         self.cursor = end;
@@ -522,21 +510,60 @@ impl<'t> Builder<'t> {
     }
 
     /// Writes a bar, before the first alternative or between two.
-    fn bar(&mut self, alloc: Global, pos: usize, end: usize) -> Result<(), AllocError> {
+    fn bar(&mut self, alloc: Global, token: Token) -> Result<(), AllocError> {
         self.close_alternative()?;
-        let is_first = match self.expressions.last_mut() {
+        let (form, is_first) = match self.expressions.last_mut() {
             Some(around) => {
                 let is_fresh = around.is_fresh;
                 around.is_fresh = false;
-                is_fresh
+                (around.form, is_fresh)
             }
-            None => false,
+            None => (ExpressionForm::Choice, false),
         };
+        if !is_first {
+            let fill = match form {
+                ExpressionForm::Words => Fill::WhereItFits,
+                _ => Fill::Never,
+            };
+            return self.operator(alloc, token, fill);
+        }
         let line = Separator::Line {
-            is_blank: !is_first,
+            is_blank: false,
             is_operator: true,
         };
-        self.text(alloc, pos, end, line)?;
+        self.text(alloc, token.pos, token.end, line)?;
+        self.after = Separator::Blank;
+        Ok(())
+    }
+
+    /// Writes an infix operator, and before it the comments that are on the line of the operand before, or on
+    /// their own. A line end of the text beside a `~` stays one in a broken group.
+    fn operator(&mut self, alloc: Global, token: Token, fill: Fill) -> Result<(), AllocError> {
+        let bytes = self.text.as_bytes();
+        let mut before = scan_gap(alloc, bytes, self.cursor, token.pos)?;
+        let after = scan_gap(alloc, bytes, token.end, token.next)?;
+        let fill = match fill {
+            Fill::BesideShort if has_line_end(&before) || has_line_end(&after) => Fill::Never,
+            _ => fill,
+        };
+        self.cursor = if stay_after(&before, &after) {
+            token.end
+        } else {
+            let moved = count_moved(&before, &after);
+            move_comments(&mut before, &after, moved)?;
+            after
+                .comments
+                .get(moved)
+                .map_or(token.next, |comment| comment.start)
+        };
+        if !before.comments.is_empty() {
+            self.comments(&before)?;
+        }
+        self.line(true, true, fill)?;
+        self.pieces.push(Piece::Text {
+            start: token.pos,
+            end: token.end,
+        })?;
         self.after = Separator::Blank;
         Ok(())
     }
@@ -545,7 +572,7 @@ impl<'t> Builder<'t> {
     fn start_term(&mut self) {
         if let Some(around) = self.expressions.last_mut() {
             around.is_fresh = false;
-            if around.is_choice && !around.in_alternative {
+            if around.form != ExpressionForm::Sequence && !around.in_alternative {
                 around.in_alternative = true;
                 self.starting = self.starting.saturating_add(1);
             }

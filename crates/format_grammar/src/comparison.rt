@@ -1,5 +1,5 @@
 //! Whether two texts have the same tokens and the same comments.
-ghost use Rattle.std.specs.Prelude.{◌≡◌, ◌-◌, IfOk, length, true};
+ghost use Rattle.std.specs.Prelude.{◌≡◌, ◌-◌, [], ◌++◌, IfOk, OnOk, false, length, true};
 ghost use Rattle.std.specs.List.{slice_range};
 ghost use Rattle.format_grammar.specs.Comments as comment;
 ghost use Rattle.format_grammar.specs.Formatting.{EndsOnce};
@@ -124,8 +124,9 @@ fn is_same_gap(alloc: Global, gap: &[u8], other: &[u8]) -> Result<bool, AllocErr
     Ok(comments.as_slice() == other_comments.as_slice())
 }
 
-/// Returns whether two texts are the same between the entry of a cursor and another one.
-fn is_same_between(
+/// Returns whether two neighbouring entries of each text, the last ones and those after them, have the same
+/// text between them, if they are the start and the end of a token without children.
+fn is_same_leaf(
     alloc: Global,
     text: &[u8],
     last: Entry,
@@ -134,11 +135,8 @@ fn is_same_between(
     other_last: Entry,
     other_entry: Entry,
 ) -> Result<bool, AllocError>
-    ensures tokens { IfOk result (λ same. same ≡ true
+    ensures { IfOk result (λ same. same ≡ true
         → token.text_between text.now last entry ≡ token.text_between other.now other_last other_entry) }
-    ensures comments { IfOk result (λ same. same ≡ true
-        → token.comments_between text.now last entry
-        ≡ token.comments_between other.now other_last other_entry) }
 {
     match (last, entry, other_last, other_entry) {
         (
@@ -159,12 +157,90 @@ fn is_same_between(
         ),
         (Entry::Start { .. }, Entry::End { .. }, _, _) => Ok(false),
         (_, _, Entry::Start { .. }, Entry::End { .. }) => Ok(false),
-        _ => is_same_gap(
-            alloc,
-            part(text, place_of(last), place_of(entry)),
-            part(other, place_of(other_last), place_of(other_entry)),
-        ),
+        _ => Ok(true),
     }
+}
+
+/// Returns the gap between two neighbouring entries; an empty one if they are the start and the end of a
+/// token without children.
+fn gap_between(text: &[u8], last: Entry, entry: Entry) -> &[u8]
+    ensures { comment.comments_of result.now ≡ token.comments_between text.entry.now last entry }
+{
+    match (last, entry) {
+        (Entry::Start { .. }, Entry::End { .. }) => &text[..0],
+        _ => part(text, place_of(last), place_of(entry)),
+    }
+}
+
+/// Returns whether a rule is an infix operator, or the leading bar.
+fn is_operator(rule: Rule) -> bool
+    ensures { result ≡ token.is_operator rule }
+{
+    matches!(rule, Rule::choice_operator | Rule::sequence_operator)
+}
+
+/// Returns whether no token begins between the gap of two neighbouring entries and the next gap, but for an
+/// infix operator.
+fn leads_on(last: Entry, entry: Entry) -> bool
+    ensures { result ≡ token.leads_on last entry }
+{
+    match (last, entry) {
+        (Entry::Start { rule, .. }, _) => is_operator(rule),
+        (Entry::End { .. }, Entry::Start { rule, .. }) => is_operator(rule),
+        (Entry::End { .. }, Entry::End { .. }) => true,
+    }
+}
+
+/// The comments of two texts in the gaps that lead on to the next one.
+#[derive(Drop)]
+struct Leading {
+    comments: Vec<u8>,
+    others: Vec<u8>,
+}
+
+impl Leading {
+    /// Returns whether the comments of two gaps, with those kept before them, are the same. If the gaps lead
+    /// on, all are kept for the next ones.
+    fn is_same(
+        &mut self,
+        alloc: Global,
+        gap: &[u8],
+        other: &[u8],
+        leads_on: bool,
+    ) -> Result<bool, AllocError>
+        ensures kept { IfOk result (λ same. leads_on ≡ true
+            → (self.new.comments.items ≡ self.old.comments.items ++ comment.comments_of gap.now)
+            × (self.new.others.items ≡ self.old.others.items ++ comment.comments_of other.now)) }
+        ensures same { IfOk result (λ same. same ≡ true → leads_on ≡ false
+            → self.old.comments.items ++ comment.comments_of gap.now
+            ≡ self.old.others.items ++ comment.comments_of other.now) }
+        ensures used { IfOk result (λ same. same ≡ true → leads_on ≡ false
+            → (self.new.comments.items ≡ []) × (self.new.others.items ≡ [])) }
+    {
+        if !leads_on && self.comments.is_empty() && self.others.is_empty() {
+            return is_same_gap(alloc, gap, other);
+        }
+        add_comments(alloc, gap, &mut self.comments)?;
+        add_comments(alloc, other, &mut self.others)?;
+        if leads_on {
+            return Ok(true);
+        }
+        let is_same = self.comments.as_slice() == self.others.as_slice();
+        self.comments.clear();
+        self.others.clear();
+        Ok(is_same)
+    }
+}
+
+/// Adds the comments of a gap.
+fn add_comments(alloc: Global, gap: &[u8], comments: &mut Vec<u8>) -> Result<(), AllocError>
+    ensures { OnOk result (comments.new.items ≡ comments.old.items ++ comment.comments_of gap.now) }
+{
+    if is_all_white(gap) {
+        return Ok(());
+    }
+    let added = comments_of(alloc, gap)?;
+    comments.extend_from_slice(&added)
 }
 
 /// Returns whether two texts have the same tokens and the same comments.
@@ -179,19 +255,28 @@ pub fn is_same(
         → token.tokens_after text.now (End 0 0) entries.now
         ≡ token.tokens_after other.now (End 0 0) others.now) }
     ensures comments { IfOk result (λ same. same ≡ true
-        → token.comments_after text.now (End 0 0) entries.now
-        ≡ token.comments_after other.now (End 0 0) others.now) }
+        → token.comments_after text.now [] (End 0 0) entries.now
+        ≡ token.comments_after other.now [] (End 0 0) others.now) }
 {
     let mut last = Entry::End { pos: 0, partner: 0 };
     let mut other_last = last;
     let mut rest = entries;
     let mut other_rest = others;
+    let mut leading = Leading {
+        comments: Vec::new(alloc),
+        others: Vec::new(alloc),
+    };
     while let Some((entry, after)) = rest.split_first() {
         let Some((other_entry, other_after)) = other_rest.split_first() else {
             return Ok(false);
         };
-        let is_same = is_same_entry(*entry, *other_entry)
-            && is_same_between(alloc, text, last, *entry, other, other_last, *other_entry)?;
+        let gap = gap_between(text, last, *entry);
+        let other_gap = gap_between(other, other_last, *other_entry);
+        let leads = leads_on(last, *entry);
+        let is_same = leads == leads_on(other_last, *other_entry)
+            && is_same_entry(*entry, *other_entry)
+            && is_same_leaf(alloc, text, last, *entry, other, other_last, *other_entry)?
+            && leading.is_same(alloc, gap, other_gap, leads)?;
         if !is_same {
             return Ok(false);
         }
@@ -204,7 +289,8 @@ pub fn is_same(
         return Ok(false);
     }
     let gap = part(text, place_of(last), text.len());
-    is_same_gap(alloc, gap, part(other, place_of(other_last), other.len()))
+    let other_gap = part(other, place_of(other_last), other.len());
+    leading.is_same(alloc, gap, other_gap, false)
 }
 
 /// Returns whether no line ends with a blank between two neighbouring entries, or in a doc comment before

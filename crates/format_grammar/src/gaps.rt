@@ -201,6 +201,16 @@ fn count_once(alloc: Global, text: GapText<'_>, counts: &mut Vec<usize>) -> Resu
     Ok(())
 }
 
+/// Returns whether a line ends in a gap, outside of block comments.
+pub fn has_line_end(gap: &Gap) -> bool {
+    for comment in &gap.comments {
+        if comment.is_line || comment.line_ends > 0 {
+            return true;
+        }
+    }
+    gap.line_ends > 0
+}
+
 impl Gap {
     /// Adds a comment.
     fn add(&mut self, start: usize, end: usize, is_line: bool) -> Result<(), AllocError>

@@ -1,5 +1,5 @@
 //! Printing: which groups fit on their lines, and the text of the pieces.
-use crate::pieces::{Item, Piece, PrintedItem};
+use crate::pieces::{Fill, Item, Piece, PrintedItem};
 use crate::spacing::space_items;
 use std::alloc::{AllocError, Global};
 
@@ -14,7 +14,23 @@ struct Measures {
     closing: Vec<usize>,
     /// The number of columns before the next possible line end from a piece on, or before the next comment.
     next_line: Vec<usize>,
+    /// The number of the piece that ends the operand after a possible line end or the start of a group: the
+    /// next possible line end of this group, or the comments that end the line.
+    operand_end: Vec<usize>,
 }
+
+/// A group that is not yet complete.
+#[derive(Clone, Copy)]
+struct OpenGroup {
+    is_broken: bool,
+    /// Whether the operand that is printed is short.
+    is_short: bool,
+    /// The number of line ends before that operand.
+    line: usize,
+}
+
+/// The greatest number of columns of a short operand.
+const SHORT: usize = 5;
 
 /// Returns the number of columns of the word of a piece.
 fn columns_of_word(text: &str, piece: Piece) -> usize {
@@ -59,11 +75,13 @@ fn measure(alloc: Global, text: &str, pieces: &[Piece]) -> Result<Measures, Allo
     columns.push(all)?;
     line_ends.push(ends)?;
     let next_line = find_next_lines(alloc, pieces, &columns)?;
+    let operand_end = find_operand_ends(alloc, pieces)?;
     Ok(Measures {
         columns,
         line_ends,
         closing,
         next_line,
+        operand_end,
     })
 }
 
@@ -101,6 +119,30 @@ fn find_next_lines(
     Ok(next_line)
 }
 
+/// Computes the number of the piece that ends the operand after each possible line end and each start of a
+/// group.
+fn find_operand_ends(alloc: Global, pieces: &[Piece]) -> Result<Vec<usize>, AllocError> {
+    let mut ends = vec![in alloc; pieces.len(); pieces.len()]?;
+    let mut around: Vec<usize> = Vec::new(alloc);
+    let mut next = pieces.len();
+    for i in (0..pieces.len()).rev() {
+        if let Some(end) = ends.get_mut(i) {
+            *end = next;
+        }
+        match pieces[i] {
+            Piece::Close => around.push(next)?,
+            Piece::Open => next = around.pop().unwrap_or(next),
+            Piece::Line { .. } | Piece::LineEnd { .. } => next = i,
+            Piece::Comment { .. } | Piece::CommentLineEnd | Piece::Blank
+                if next == i.saturating_add(1) => {
+                next = i;
+            }
+            _ => {}
+        }
+    }
+    Ok(ends)
+}
+
 /// Returns whether a comment is the piece of a number.
 fn is_comment(pieces: &[Piece], i: usize) -> bool {
     matches!(pieces.get(i), Some(Piece::Comment { .. }))
@@ -127,6 +169,17 @@ impl Measures {
     fn columns_of_group(&self, first: usize) -> usize {
         at(&self.next_line, at(&self.closing, first)).saturating_sub(at(&self.columns, first))
     }
+
+    /// Returns the number of columns of the operand after a piece, a possible line end or the start of a
+    /// group, with the operator before it and the blanks around that.
+    fn columns_of_operand(&self, i: usize) -> usize {
+        at(&self.columns, at(&self.operand_end, i)).saturating_sub(at(&self.columns, i))
+    }
+
+    /// Returns whether the operand after a piece is in one line.
+    fn is_in_one_line(&self, i: usize) -> bool {
+        !self.has_line_end(i, at(&self.operand_end, i))
+    }
 }
 
 /// The style of printed pieces.
@@ -148,13 +201,14 @@ struct Printer<'t> {
     /// The number of steps of indentation.
     depth: usize,
     column: usize,
+    /// The number of line ends that were written in this item.
+    lines: usize,
     /// The number of line ends to write before the next word.
     line_ends: usize,
     /// The number of columns before the next word, after line ends.
     start_column: usize,
     has_blank: bool,
-    /// For each open group, whether it is broken.
-    groups: Vec<bool>,
+    groups: Vec<OpenGroup>,
 }
 
 impl<'t> Printer<'t> {
@@ -185,6 +239,7 @@ impl<'t> Printer<'t> {
         for _ in 0..self.line_ends {
             self.out.push_str(self.style.line_end)?;
         }
+        self.lines = self.lines.saturating_add(self.line_ends);
         Ok(())
     }
 
@@ -216,23 +271,35 @@ impl<'t> Printer<'t> {
     /// Starts the group that begins with the piece of a number.
     fn open(&mut self, measures: &Measures, i: usize) -> Result<(), AllocError> {
         let is_inner = match self.groups.last() {
-            Some(is_broken) => *is_broken,
+            Some(around) => around.is_broken,
             None => true,
         };
         let end = at(&measures.closing, i);
         let columns = self
             .next_column()
             .saturating_add(measures.columns_of_group(i));
-        self.groups.push(
-            is_inner && (measures.has_line_end(i, end) || columns > self.style.width),
-        )?;
+        let is_broken = is_inner && (measures.has_line_end(i, end) || columns > self.style.width);
+        self.groups.push(OpenGroup {
+            is_broken,
+            is_short: measures.columns_of_operand(i) <= SHORT,
+            line: self.lines.saturating_add(self.line_ends),
+        })?;
         Ok(())
     }
 
     /// Prints a possible line end, by the group around it.
-    fn line(&mut self, is_blank: bool, is_operator: bool) {
-        let is_broken = self.groups.last().copied().unwrap_or(false);
-        if is_broken {
+    fn line(
+        &mut self,
+        measures: &Measures,
+        i: usize,
+        is_blank: bool,
+        is_operator: bool,
+        fill: Fill,
+    ) {
+        let operator = if is_operator { 2usize } else { 0 };
+        let lead = operator.saturating_add(usize::from(is_blank));
+        let is_short = measures.columns_of_operand(i).saturating_sub(lead) <= SHORT;
+        if self.is_line_end(measures, i, is_short, fill) {
             let back = if is_operator {
                 self.style.indent / 2
             } else {
@@ -242,6 +309,32 @@ impl<'t> Printer<'t> {
         } else if is_blank {
             self.has_blank = true;
         }
+        let line = self.lines.saturating_add(self.line_ends);
+        if let Some(group) = self.groups.last_mut() {
+            group.is_short = is_short;
+            group.line = line;
+        }
+    }
+
+    /// Returns whether a line ends at a possible line end. The group has to be broken. In it a line end is
+    /// left out between two operands of one line each, if the second, which may be short, fits on the line.
+    fn is_line_end(&self, measures: &Measures, i: usize, is_short: bool, fill: Fill) -> bool {
+        let Some(group) = self.groups.last() else {
+            return false;
+        };
+        let is_left_out = match fill {
+            Fill::Never => false,
+            Fill::BesideShort => is_short || group.is_short,
+            Fill::WhereItFits => true,
+        };
+        let has_room = self.line_ends == 0
+            && self.lines == group.line
+            && measures.is_in_one_line(i)
+            && self
+                .next_column()
+                .saturating_add(measures.columns_of_operand(i))
+                <= self.style.width;
+        group.is_broken && !(is_left_out && has_room)
     }
 
     /// Prints a piece.
@@ -256,7 +349,8 @@ impl<'t> Printer<'t> {
             Piece::Line {
                 is_blank,
                 is_operator,
-            } => self.line(is_blank, is_operator),
+                fill,
+            } => self.line(measures, i, is_blank, is_operator, fill),
             Piece::LineEnd { has_empty_line } => {
                 self.end_line(if has_empty_line { 2 } else { 1 }, self.indentation());
             }
@@ -300,6 +394,7 @@ impl<'t> Printer<'t> {
         next: usize,
     ) -> Result<PrintedItem, AllocError> {
         self.column = 0;
+        self.lines = 0;
         self.line_ends = 0;
         self.has_blank = false;
         let start = self.out.len();
@@ -333,6 +428,7 @@ pub fn print(
         style,
         depth: 0,
         column: 0,
+        lines: 0,
         line_ends: 0,
         start_column: 0,
         has_blank: false,

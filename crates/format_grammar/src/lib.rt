@@ -13,9 +13,11 @@ ghost use Rattle.format_grammar.specs.declared.LineEnds.TheVariants.{LineFeed};
 mod builder;
 mod comparison;
 mod contents;
+mod forms;
 mod gaps;
 pub mod laws;
 mod layout;
+mod operators;
 mod pieces;
 mod spacing;
 
@@ -72,8 +74,9 @@ pub enum Formatted {
 }
 
 /// Returns the formatted text of a grammar. This text has equal tokens and equal comments, each between the
-/// same two tokens; only blanks at the ends of lines of comments are removed. Where lines end with line
-/// feeds, no line outside of literals ends with a blank. The text is empty, or ends with one line feed.
+/// same two tokens other than infix operators; only blanks at the ends of lines of comments are removed.
+/// Where lines end with line feeds, no line outside of literals ends with a blank. The text is empty, or ends
+/// with one line feed.
 ///
 /// All texts that `PestParser::parse` takes for `grammar_rules` are formatted, also with undefined names. A
 /// text that it refuses is refused with an equal error. Any other fault is an allocation failure.

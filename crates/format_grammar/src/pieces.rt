@@ -6,18 +6,30 @@ ghost use Rattle.format_grammar.specs.Separators.{has_blank, has_operator, rank}
 #[derive(Clone, Copy)]
 pub enum Piece {
     /// Bytes of the text, as they are.
-    Text { start: usize, end: usize },
+    Text {
+        start: usize,
+        end: usize,
+    },
     /// Bytes of a line of a comment.
-    Comment { start: usize, end: usize },
+    Comment {
+        start: usize,
+        end: usize,
+    },
     /// A word that has no token of its own.
     Word(&'static str),
     /// A blank between two pieces of one line.
     Blank,
-    /// A possible line end: a line end if its group is broken, and else a blank or nothing. The next piece is
-    /// an operator, which is two columns before its operand, or an operand.
-    Line { is_blank: bool, is_operator: bool },
+    /// A possible line end: a line end if its group is broken and it is not left out, and else a blank or
+    /// nothing. The next piece is an operator, which is two columns before its operand, or an operand.
+    Line {
+        is_blank: bool,
+        is_operator: bool,
+        fill: Fill,
+    },
     /// A line end, or one and an empty line. All groups around it are broken.
-    LineEnd { has_empty_line: bool },
+    LineEnd {
+        has_empty_line: bool,
+    },
     /// A line end within a comment.
     CommentLineEnd,
     /// A group starts: its lines are broken all, or none.
@@ -28,6 +40,16 @@ pub enum Piece {
     Indent,
     /// Lines are indented by one step less.
     Dedent,
+}
+
+/// When a line end of a broken group is left out.
+#[derive(Clone, Copy)]
+pub enum Fill {
+    Never,
+    /// Where the operand before or after it is short, and the latter fits on the line.
+    BesideShort,
+    /// Where the operand after it fits on the line.
+    WhereItFits,
 }
 
 /// The kind of an item of a grammar.

@@ -1,4 +1,4 @@
-use Rattle.std.proofs.Common.{◌≡◌, length}
+use Rattle.std.proofs.Common.{◌≡◌, [], length}
 use Rattle.front_syntax.specs.declared.entries.Entry.TheVariants.{End}
 use Rattle.format_grammar.specs.Tokens.{tokens_after, comments_after}
 use Rattle.format_grammar.proofs.comparison.is_same.Given as goal
@@ -7,8 +7,9 @@ abbrev pub invariant-loop-entry : goal.invariant-loop-entry
 invariant-loop-entry l = record {
   tokens : tokens_after l.text l.last l.rest ≡ tokens_after l.other l.other_last l.other_rest
       → tokens_after l.text (End 0 0) l.entries ≡ tokens_after l.other (End 0 0) l.others;
-  comments : comments_after l.text l.last l.rest ≡ comments_after l.other l.other_last l.other_rest
-      → comments_after l.text (End 0 0) l.entries ≡ comments_after l.other (End 0 0) l.others;
+  comments : comments_after l.text l.leading.comments.items l.last l.rest
+      ≡ comments_after l.other l.leading.others.items l.other_last l.other_rest
+      → comments_after l.text [] (End 0 0) l.entries ≡ comments_after l.other [] (End 0 0) l.others;
 }
 
 abbrev pub decreases-loop-entry : goal.decreases-loop-entry
