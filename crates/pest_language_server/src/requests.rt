@@ -152,7 +152,7 @@ pub(crate) fn answer_in(
         RequestMethod::PrepareRename => prepare_rename(alloc, context, params),
         RequestMethod::Rename => rename_rule(alloc, context, params),
         RequestMethod::Hover => hover(alloc, context, diagnoses, params),
-        RequestMethod::Completion => completions(alloc, context),
+        RequestMethod::Completion => completions(alloc, context, params),
         RequestMethod::Formatting => format_document(alloc, context),
         RequestMethod::RangeFormatting => format_range(alloc, context, params),
         RequestMethod::CodeAction => code_actions(alloc, context, diagnoses, params),

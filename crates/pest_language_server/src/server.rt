@@ -17,7 +17,7 @@ use crate::capabilities::initialize_result;
 use crate::replies::{OUT_OF_MEMORY, Reply, refusal, refuse_unread, respond};
 use crate::requests::{RequestMethod, answer_in, request_of};
 use serde_json::Value;
-use server_features::diagnoses::{Diagnoses, Diagnosis};
+use server_features::diagnoses::Diagnoses;
 use server_features::diagnostics::{publish, publish_none};
 use server_protocol::apply_changes;
 use server_protocol::client::{Client, client_of};
@@ -302,24 +302,21 @@ impl Server {
         self.publish(alloc, uri)
     }
 
-    /// Returns the notification of a document's diagnostics, if it is open. A text whose diagnosis is kept is
-    /// not diagnosed again, and one for whose diagnosis there is no memory is diagnosed when it is asked for.
+    /// Returns the notification of a document's diagnostics, if it is open.
     fn publish(&mut self, alloc: Global, uri: &str) -> Result<Option<String>, AllocError>
         ensures session { SameSession self.old self.new }
         ensures documents { self.new.documents ≡ self.old.documents }
         ensures sent { IfOk result (λ sent. IfSome sent (λ body.
             PublishesAt self.old uri.now (string_bytes body))) }
     {
-        let Some(document) = self.documents.get(uri) else {
-            return Ok(None);
-        };
-        if let Some(diagnosis) = self.diagnoses.get(uri, document.text.as_str()) {
-            return Ok(Some(publish(alloc, self.client, uri, document, diagnosis)?));
+        match self.documents.get(uri) {
+            Some(document) => {
+                let diagnoses = &mut self.diagnoses;
+                let body = publish(alloc, self.client, uri, document, diagnoses)?;
+                Ok(Some(body))
+            }
+            None => Ok(None),
         }
-        let diagnosis = Diagnosis::new(alloc, document.text.as_str())?;
-        let body = publish(alloc, self.client, uri, document, &diagnosis)?;
-        let _ = self.diagnoses.put(alloc, uri, diagnosis);
-        Ok(Some(body))
     }
 
     /// Answers a request.

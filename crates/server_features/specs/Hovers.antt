@@ -1,5 +1,5 @@
 -- Hovers.
-use Rattle.std.specs.Prelude.{◌≡◌, ◌⊎◌, ◌++◌, ℕ, List, [], ◌∷◌, MatchOption, Option, bytes_eq, codes, false, find, if◌then◌else◌}
+use Rattle.std.specs.Prelude.{◌≡◌, ◌==◌, ◌⊎◌, ◌++◌, ℕ, List, [], ◌∷◌, Bool, true, false, MatchOption, Option, bytes_eq, chars, codes, encode_utf8_all, filter, find, not, if◌then◌else◌}
 use Rattle.server_protocol.specs.declared.client.Client.{Client}
 use Rattle.server_protocol.specs.declared.messages.Answer.{Answer}
 use Rattle.server_protocol.specs.declared.messages.Answer.TheVariants as answer
@@ -18,22 +18,42 @@ use Rattle.server_symbols.specs.declared.tokens.Extent.{Extent}
 use Rattle.serde_json.specs.Data.{Data, member, no_members, null, object, string}
 use Rattle.serde_json.specs.View.{view}
 
--- the meaning of a builtin, in a sentence
-abbrev pub meaning_of : List ℕ → List ℕ → List ℕ
-meaning_of name doc = codes "`" ++ name ++ codes "` matches " ++ doc ++ codes "."
+-- a piece of a grammar, marked as code where the text is Markdown
+abbrev pub marked : Bool → List ℕ → List ℕ
+marked true code = codes "`" ++ code ++ codes "`"
+marked false code = code
 
-abbrev pub property_text : List ℕ → List ℕ
-property_text name = if is_builtin name
-    then codes "`" ++ name ++ codes "` matches a character with this Unicode property." else []
+-- a text without the marks of code
+abbrev pub unmarked : List ℕ → List ℕ
+unmarked text = encode_utf8_all (filter (λ c. not (c == 96)) (chars text))
+
+abbrev pub marked_doc : Bool → List ℕ → List ℕ
+marked_doc true doc = doc
+marked_doc false doc = unmarked doc
+
+-- the meaning of a builtin, in a sentence
+abbrev pub meaning_of : Bool → List ℕ → List ℕ → List ℕ
+meaning_of has_markdown name doc =
+    marked has_markdown name ++ codes " matches " ++ marked_doc has_markdown doc ++ codes "."
+
+abbrev pub property_text : Bool → List ℕ → List ℕ
+property_text has_markdown name = if is_builtin name
+    then marked has_markdown name ++ codes " matches a character with this Unicode property." else []
 
 -- a text says what the builtin of a name matches; nothing of a name that is no builtin
-abbrev pub IsBuiltinText : List ℕ → List ℕ → Type 0
-IsBuiltinText name text = ((doc : List ℕ) × IsDocOf name doc × (text ≡ meaning_of name doc))
-    ⊎ ((is_one_of builtin_names name ≡ false) × (text ≡ property_text name))
+abbrev pub IsBuiltinText : Bool → List ℕ → List ℕ → Type 0
+IsBuiltinText has_markdown name text =
+    ((doc : List ℕ) × IsDocOf name doc × (text ≡ meaning_of has_markdown name doc))
+    ⊎ ((is_one_of builtin_names name ≡ false) × (text ≡ property_text has_markdown name))
 
--- a part of a grammar, as code, between two texts
-abbrev pub framed : List ℕ → List ℕ → List ℕ → List ℕ
-framed before code after = before ++ codes "```pest\n" ++ code ++ codes "\n```" ++ after
+-- lines of a grammar, marked as code where the text is Markdown
+abbrev pub block : Bool → List ℕ → List ℕ
+block true code = codes "```pest\n" ++ code ++ codes "\n```"
+block false code = code
+
+-- lines of a grammar between two texts
+abbrev pub framed : Bool → List ℕ → List ℕ → List ℕ → List ℕ
+framed has_markdown before code after = before ++ block has_markdown code ++ after
 
 -- a definition from its name on
 abbrev pub definition_text : Context → Definition → List ℕ
@@ -43,7 +63,7 @@ definition_text context definition =
 -- a text has a definition as code, with notes before and after it
 abbrev pub HasDefinition : Context → Definition → List ℕ → Type 0
 HasDefinition context definition text = (before : List ℕ) × (after : List ℕ)
-    × (text ≡ framed before (definition_text context definition) after)
+    × (text ≡ framed context.client.has_markdown before (definition_text context definition) after)
 
 -- the first rule of a name
 abbrev pub rule_named : Context → List ℕ → List Definition → Option Definition
@@ -53,7 +73,7 @@ rule_named context name definitions =
 -- a text has the definition of the rule of a name, or what the name matches
 abbrev pub IsTextOf : Context → List ℕ → List ℕ → Type 0
 IsTextOf context name text = MatchOption (rule_named context name context.definitions.items)
-    (IsBuiltinText name text) (λ definition. HasDefinition context definition text)
+    (IsBuiltinText context.client.has_markdown name text) (λ definition. HasDefinition context definition text)
 
 abbrev pub kind_for : Client → List ℕ
 kind_for client = if client.has_markdown then codes "markdown" else codes "plaintext"

@@ -6,7 +6,7 @@ ghost use Rattle.server_features.specs.Diagnostics.{IsPublication, Publishes};
 ghost use Rattle.serde_json.specs.Data.{array, no_items};
 ghost use Rattle.serde_json.specs.View.{items_of, view};
 
-use crate::diagnoses::Diagnosis;
+use crate::diagnoses::{Diagnoses, Diagnosis};
 use lint_diagnostics::{Code, Diagnostic, Help, Related, Severity};
 use serde_json::{Value, json};
 use server_protocol::PositionIndex;
@@ -17,8 +17,28 @@ use server_protocol::values::{location_value, range_value};
 use server_symbols::Extent;
 use std::alloc::{AllocError, Global};
 
-/// Returns the notification of a document's diagnostics, those of its text.
+/// Returns the notification of a document's diagnostics, those of its text. A text whose diagnosis is kept is
+/// not diagnosed again, and a new diagnosis is kept if there is memory for that.
 pub fn publish(
+    alloc: Global,
+    client: Client,
+    uri: &str,
+    document: &Document,
+    diagnoses: &mut Diagnoses,
+) -> Result<String, AllocError>
+    ensures { IfOk result (λ body. Publishes client uri.now document.now (string_bytes body)) }
+{
+    if let Some(diagnosis) = diagnoses.get(uri, document.text.as_str()) {
+        return publish_diagnosis(alloc, client, uri, document, diagnosis);
+    }
+    let diagnosis = Diagnosis::new(alloc, document.text.as_str())?;
+    let body = publish_diagnosis(alloc, client, uri, document, &diagnosis)?;
+    let _ = diagnoses.put(alloc, uri, diagnosis);
+    Ok(body)
+}
+
+/// Returns the notification of the diagnostics of a document's text.
+fn publish_diagnosis(
     alloc: Global,
     client: Client,
     uri: &str,

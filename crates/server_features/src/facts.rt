@@ -4,6 +4,7 @@ ghost use Rattle.front_analysis.specs.Names.{grammar_of};
 ghost use Rattle.server_features.specs.Facts as spec;
 ghost use Rattle.server_features.specs.Facts.{AreFacts, AreFactsBy, AreFactsIn, SpellsNoneUnlessMemory};
 
+use base_ast::ast::Expr;
 use base_ast::deep::Deep;
 use base_ast::optimized::{OptimizedRule, release};
 use base_language::grammar::Rule;
@@ -23,8 +24,17 @@ const MOST_FIRST: usize = 20;
 pub struct RuleFacts {
     /// Whether it may match without taking a character.
     pub is_nullable: bool,
-    /// The expressions that can begin it, with commas, at most 20.
-    pub first: String,
+    /// What can begin it.
+    pub first: FirstSet,
+}
+
+/// What can begin a rule.
+#[derive(Drop)]
+pub struct FirstSet {
+    /// The first characters of literals, ranges and builtins, as they are printed, each once, at most 20.
+    pub labels: Vec<String>,
+    /// Whether there are more.
+    pub has_more: bool,
 }
 
 /// Facts about a rule, and its optimized form.
@@ -146,12 +156,12 @@ fn is_nullable(analysis: &Analysis<'_, '_>, node: usize) -> bool
     analysis.facts.nullable.get(node).copied().unwrap_or(false)
 }
 
-/// Returns the expressions that can begin a node, by a depth-first search of the nodes at its start.
+/// Returns what can begin a node, by a depth-first search of the nodes at its start.
 fn first_set(
     alloc: Global,
     analysis: &Analysis<'_, '_>,
     root: usize,
-) -> Result<String, AllocError> {
+) -> Result<FirstSet, AllocError> {
     let count = analysis.grammar.table.nodes.len();
     let mut is_visited = vec![in alloc; false; count]?;
     let mut stack = vec![in alloc; root]?;
@@ -168,55 +178,45 @@ fn first_set(
         }
         *flag = true;
         if let Some(node) = analysis.grammar.table.nodes.get(number) {
-            visit(analysis, *node, &mut stack, &mut first)?;
+            visit(alloc, analysis, *node, &mut stack, &mut first)?;
         }
     }
-    Ok(first.text)
-}
-
-/// The expressions of a first set, so far.
-#[derive(Drop)]
-struct FirstSet {
-    text: String,
-    count: usize,
+    Ok(first)
 }
 
 impl FirstSet {
     /// Returns an empty set.
     fn new(alloc: Global) -> FirstSet {
         FirstSet {
-            text: String::new(alloc),
-            count: 0,
+            labels: Vec::new(alloc),
+            has_more: false,
         }
     }
 
-    /// Adds an expression.
-    fn push(&mut self, expression: &str) -> Result<(), AllocError> {
-        if self.count > MOST_FIRST {
+    /// Adds an expression as it is printed, unless it is there.
+    fn push(&mut self, label: String) -> Result<(), AllocError> {
+        if self.labels.contains(&label) {
             return Ok(());
         }
-        if self.count > 0 {
-            self.text.push_str(", ")?;
+        if self.labels.len() >= MOST_FIRST {
+            self.has_more = true;
+            return Ok(());
         }
-        if self.count == MOST_FIRST {
-            self.text.push_str("..")?;
-        } else {
-            write!(self.text, "`{expression}`")?;
-        }
-        self.count += 1;
+        self.labels.push(label)?;
         Ok(())
     }
 }
 
 /// Adds what is at the start of a node: its operands to the stack, or itself to the first set.
 fn visit(
+    alloc: Global,
     analysis: &Analysis<'_, '_>,
     node: Node<'_, '_>,
     stack: &mut Vec<usize>,
     first: &mut FirstSet,
 ) -> Result<(), AllocError> {
     match node.shape {
-        Shape::Leaf => visit_leaf(analysis, node, stack, first),
+        Shape::Leaf => visit_leaf(alloc, analysis, node, stack, first),
         Shape::One(UnaryOperator::PosPred, _) | Shape::One(UnaryOperator::NegPred, _) => Ok(()),
         Shape::One(_, inner) => {
             stack.push(inner)?;
@@ -239,6 +239,7 @@ fn visit(
 
 /// Adds a leaf to the first set, or the body of the rule that it calls to the stack.
 fn visit_leaf(
+    alloc: Global,
     analysis: &Analysis<'_, '_>,
     node: Node<'_, '_>,
     stack: &mut Vec<usize>,
@@ -251,17 +252,19 @@ fn visit_leaf(
                 stack.push(root)?;
                 Ok(())
             }
-            None => push_builtin(name.as_str(), first),
+            None => push_builtin(alloc, name.as_str(), first),
         },
-        _ => push_literal(node.span.as_str(), first),
+        ParserExpr::Str(text) => push_character(alloc, text.as_str(), false, first),
+        ParserExpr::Insens(text) => push_character(alloc, text.as_str(), true, first),
+        _ => first.push(String::from_str(alloc, node.span.as_str().trim())?),
     }
 }
 
 /// Adds a builtin, if it may take a character.
-fn push_builtin(name: &str, first: &mut FirstSet) -> Result<(), AllocError> {
+fn push_builtin(alloc: Global, name: &str, first: &mut FirstSet) -> Result<(), AllocError> {
     match Builtin::from_name(name) {
         Some(builtin) if takes_nothing(builtin) => Ok(()),
-        _ => first.push(name),
+        _ => first.push(String::from_str(alloc, name)?),
     }
 }
 
@@ -278,10 +281,22 @@ fn takes_nothing(builtin: Builtin) -> bool {
     }
 }
 
-/// Adds a literal, if it is not empty.
-fn push_literal(text: &str, first: &mut FirstSet) -> Result<(), AllocError> {
-    if text.trim_start_matches('^') == "\"\"" {
+/// Adds the first character of a literal, if it is not empty, as a literal.
+fn push_character(
+    alloc: Global,
+    text: &str,
+    has_any_case: bool,
+    first: &mut FirstSet,
+) -> Result<(), AllocError> {
+    let Some(character) = text.chars().next() else {
         return Ok(());
-    }
-    first.push(text.trim())
+    };
+    let mut literal = String::new(alloc);
+    literal.push(character)?;
+    let literal = if has_any_case {
+        Expr::Insens(literal)
+    } else {
+        Expr::Str(literal)
+    };
+    first.push(literal.to_string(alloc)?)
 }

@@ -1,11 +1,11 @@
 //! Hovers.
-ghost use Rattle.std.specs.Prelude.{◌≡◌, ◌++◌, IfOk, string_bytes};
+ghost use Rattle.std.specs.Prelude.{◌≡◌, ◌++◌, IfOk, OnOk, string_bytes};
 ghost use Rattle.server_features.specs.Hovers as spec;
 ghost use Rattle.server_features.specs.Hovers.{HasDefinition, IsBuiltinText, IsHover, IsTextOf};
 ghost use Rattle.serde_json.specs.View.{view};
 
 use crate::diagnoses::Diagnoses;
-use crate::facts::{RuleFacts, rule_notes};
+use crate::facts::{FirstSet, RuleFacts, rule_notes};
 use front_names::is_builtin;
 use serde_json::{Value, json};
 use server_protocol::client::Client;
@@ -98,7 +98,7 @@ fn text_of(
 {
     match rule_named(context, &context.definitions, name) {
         Some(definition) => rule_text(alloc, context, definition, is_accepted),
-        None => builtin_text(alloc, name),
+        None => builtin_text(alloc, context.client.has_markdown, name),
     }
 }
 
@@ -117,36 +117,76 @@ fn rule_named(context: &Context<'_>, definitions: &[Definition], name: &str) -> 
 }
 
 /// Returns what a builtin matches, or nothing of another name.
-fn builtin_text(alloc: Global, name: &str) -> Result<String, AllocError>
-    ensures { IfOk result (λ text. IsBuiltinText name.now (string_bytes text)) }
+fn builtin_text(alloc: Global, has_markdown: bool, name: &str) -> Result<String, AllocError>
+    ensures { IfOk result (λ text. IsBuiltinText has_markdown name.now (string_bytes text)) }
 {
     match builtin_doc(name) {
-        Some(doc) => meaning_text(alloc, name, doc),
-        None => property_text(alloc, name),
+        Some(doc) => meaning_text(alloc, has_markdown, name, doc),
+        None => property_text(alloc, has_markdown, name),
     }
 }
 
 /// Returns what a builtin matches, in a sentence.
-fn meaning_text(alloc: Global, name: &str, doc: &str) -> Result<String, AllocError>
-    ensures { IfOk result (λ text. string_bytes text ≡ spec.meaning_of name.now doc.now) }
+fn meaning_text(
+    alloc: Global,
+    has_markdown: bool,
+    name: &str,
+    doc: &str,
+) -> Result<String, AllocError>
+    ensures { IfOk result (λ text. string_bytes text ≡ spec.meaning_of has_markdown name.now doc.now) }
 {
-    let mut text = String::from_str(alloc, "`")?;
-    text.push_str(name)?;
-    text.push_str("` matches ")?;
-    text.push_str(doc)?;
+    let doc = marked_doc(alloc, has_markdown, doc)?;
+    let mut text = String::new(alloc);
+    push_code(has_markdown, name, &mut text)?;
+    text.push_str(" matches ")?;
+    text.push_str(doc.as_str())?;
     text.push_str(".")?;
     Ok(text)
 }
 
-/// Returns what the name of a Unicode property matches, or nothing of another name.
-fn property_text(alloc: Global, name: &str) -> Result<String, AllocError>
-    ensures { IfOk result (λ text. string_bytes text ≡ spec.property_text name.now) }
+/// Returns a text in which code is marked: as it is, or without the marks.
+fn marked_doc(alloc: Global, has_markdown: bool, doc: &str) -> Result<String, AllocError>
+    ensures { IfOk result (λ text. string_bytes text ≡ spec.marked_doc has_markdown doc.now) }
 {
-    if is_builtin(name) {
-        format!(in alloc; "`{name}` matches a character with this Unicode property.")
+    if has_markdown {
+        String::from_str(alloc, doc)
     } else {
-        Ok(String::new(alloc))
+        unmarked(alloc, doc)
     }
+}
+
+/// Returns a text without the marks of code in it.
+fn unmarked(alloc: Global, text: &str) -> Result<String, AllocError>
+    ensures { IfOk result (λ plain. string_bytes plain ≡ spec.unmarked text.now) }
+{
+    text.chars()
+        .filter(|character| *character != '`')
+        .collect(alloc)
+}
+
+/// Adds a piece of a grammar, marked as code or not.
+fn push_code(has_markdown: bool, code: &str, text: &mut String) -> Result<(), AllocError>
+    ensures { OnOk result
+        (string_bytes text.new ≡ string_bytes text.old ++ spec.marked has_markdown code.now) }
+{
+    if !has_markdown {
+        return text.push_str(code);
+    }
+    text.push_str("`")?;
+    text.push_str(code)?;
+    text.push_str("`")
+}
+
+/// Returns what the name of a Unicode property matches, or nothing of another name.
+fn property_text(alloc: Global, has_markdown: bool, name: &str) -> Result<String, AllocError>
+    ensures { IfOk result (λ text. string_bytes text ≡ spec.property_text has_markdown name.now) }
+{
+    let mut text = String::new(alloc);
+    if is_builtin(name) {
+        push_code(has_markdown, name, &mut text)?;
+        text.push_str(" matches a character with this Unicode property.")?;
+    }
+    Ok(text)
 }
 
 /// Returns what is known of a rule: its doc comment, its definition, and notes.
@@ -161,7 +201,8 @@ fn rule_text(
     let doc = doc_text(alloc, context, definition)?;
     let code = definition_text(context, definition);
     let notes = notes_text(alloc, context, definition, is_accepted)?;
-    framed_code(alloc, doc.as_str(), code, notes.as_str())
+    let has_markdown = context.client.has_markdown;
+    framed_code(alloc, has_markdown, doc.as_str(), code, notes.as_str())
 }
 
 /// Returns a definition from its name on.
@@ -175,16 +216,33 @@ fn definition_text<'d>(context: &Context<'d>, definition: Definition) -> &'d str
 }
 
 /// Returns a part of a grammar, as code, between two texts.
-fn framed_code(alloc: Global, before: &str, code: &str, after: &str) -> Result<String, AllocError>
+fn framed_code(
+    alloc: Global,
+    has_markdown: bool,
+    before: &str,
+    code: &str,
+    after: &str,
+) -> Result<String, AllocError>
     ensures { IfOk result (λ text.
-        string_bytes text ≡ spec.framed before.now code.now after.now) }
+        string_bytes text ≡ spec.framed has_markdown before.now code.now after.now) }
 {
     let mut text = String::from_str(alloc, before)?;
-    text.push_str("```pest\n")?;
-    text.push_str(code)?;
-    text.push_str("\n```")?;
+    push_block(has_markdown, code, &mut text)?;
     text.push_str(after)?;
     Ok(text)
+}
+
+/// Adds lines of a grammar, marked as code or not.
+fn push_block(has_markdown: bool, code: &str, text: &mut String) -> Result<(), AllocError>
+    ensures { OnOk result
+        (string_bytes text.new ≡ string_bytes text.old ++ spec.block has_markdown code.now) }
+{
+    if !has_markdown {
+        return text.push_str(code);
+    }
+    text.push_str("```pest\n")?;
+    text.push_str(code)?;
+    text.push_str("\n```")
 }
 
 /// Returns notes about a rule: its modifier, what is known of it, and its optimized form.
@@ -201,26 +259,51 @@ fn notes_text(
     }
     let name = context.part(definition.name);
     let notes = rule_notes(alloc, context.text, name, is_accepted)?;
+    let has_markdown = context.client.has_markdown;
     if let Some(facts) = &notes.facts {
-        push_facts(facts, &mut text)?;
+        push_facts(has_markdown, facts, &mut text)?;
     }
     if let Some(body) = &notes.optimized {
-        write!(text, "\n\nOptimized:\n```pest\n{body}\n```")?;
+        text.push_str("\n\nOptimized:\n")?;
+        push_block(has_markdown, body.as_str(), &mut text)?;
     }
     Ok(text)
 }
 
 /// Adds whether a rule may match nothing, and what can begin it.
-fn push_facts(facts: &RuleFacts, text: &mut String) -> Result<(), AllocError> {
+fn push_facts(has_markdown: bool, facts: &RuleFacts, text: &mut String) -> Result<(), AllocError> {
     text.push_str(if facts.is_nullable {
         "\n\nIt may match nothing."
     } else {
         "\n\nIt takes at least one character."
     })?;
-    if !facts.first.is_empty() {
-        write!(text, "\n\nIt begins with {}.", facts.first)?;
+    push_first(has_markdown, &facts.first, text)
+}
+
+/// Adds what can begin a rule.
+fn push_first(has_markdown: bool, first: &FirstSet, text: &mut String) -> Result<(), AllocError> {
+    let mut separator = "\n\nIt begins with ";
+    for label in &first.labels {
+        text.push_str(separator)?;
+        push_label(has_markdown, label.as_str(), text)?;
+        separator = ", ";
+    }
+    if first.has_more {
+        text.push_str(", ..")?;
+    }
+    if !first.labels.is_empty() {
+        text.push_str(".")?;
     }
     Ok(())
+}
+
+/// Adds what can begin a rule, marked as code or not. In Markdown the mark is doubled around one that has it.
+fn push_label(has_markdown: bool, label: &str, text: &mut String) -> Result<(), AllocError> {
+    if has_markdown && label.contains('`') {
+        write!(text, "`` {label} ``")
+    } else {
+        push_code(has_markdown, label, text)
+    }
 }
 
 /// Returns the doc comment of a definition, without its slashes.

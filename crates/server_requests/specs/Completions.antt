@@ -1,17 +1,24 @@
 -- Completions.
-use Rattle.std.specs.Prelude.{◌≡◌, ℕ, List, [], ◌∷◌, ◌++◌, Bool, true, false, codes, map}
-use Rattle.serde_json.specs.Data.{Data, array, member, no_members, number, object, string, unsigned}
+use Rattle.std.specs.List.{list_any}
+use Rattle.std.specs.Prelude.{◌≡◌, ◌&&◌, ℕ, List, [], ◌∷◌, ◌++◌, Bool, true, false, MatchBool, None, codes, drop, map, nat_le, nat_lt, take}
+use Rattle.serde_json.specs.Data.{Data, array, member, no_items, no_members, number, object, string, unsigned}
 use Rattle.serde_json.specs.View.{items_of, view}
 use Rattle.server_protocol.specs.declared.messages.Answer.{Answer}
+use Rattle.server_protocol.specs.Asked.{asked_position}
 use Rattle.server_protocol.specs.declared.messages.Answer.TheVariants as answer
+use Rattle.server_protocol.specs.declared.messages.ErrorCode.TheVariants.{InvalidParams}
 use Rattle.base_language.specs.Language.Builtins.{builtins, property_names}
 use Rattle.front_names.specs.Builtins.{entry_of, name_of}
 use Rattle.front_names.specs.declared.builtin.Builtin.{Builtin}
 use Rattle.server_requests.specs.BuiltinDocs.{doc_of}
+use Rattle.server_requests.specs.Names.{IsAskedOffset}
 use Rattle.server_requests.specs.Shown.{shown}
 use Rattle.server_requests.specs.declared.completions.CallForm.{CallForm}
 use Rattle.server_requests.specs.declared.context.Context.{Context}
+use Rattle.server_symbols.specs.Lexemes.{AreTokens}
+use Rattle.server_symbols.specs.Occurrences.{is_name}
 use Rattle.server_symbols.specs.declared.outline.Definition.{Definition}
+use Rattle.server_symbols.specs.declared.tokens.Token.{Token}
 
 -- a label, and the protocol's number of its kind
 abbrev pub label_item : ℕ → List ℕ → Data
@@ -56,7 +63,28 @@ items_in context bs = ((map (rule_item context) context.definitions.items ++ map
     ++ map property_item property_names) ++ map (form_item context.client.has_snippets) call_forms
 
 -- these, with the builtins of the language's list
-abbrev pub AreCompletions : Context → Answer → Type 0
-AreCompletions context (answer.Result v) = (bs : List Builtin) × (map entry_of bs ≡ builtins)
-    × (view v ≡ array (items_of (items_in context bs)))
-AreCompletions context (answer.Error code reason) = ⊥
+abbrev pub AreItems : Context → Data → Type 0
+AreItems context v = (bs : List Builtin) × (map entry_of bs ≡ builtins)
+    × (v ≡ array (items_of (items_in context bs)))
+
+-- a text with a letter put before a byte
+abbrev pub with_letter : List ℕ → ℕ → List ℕ
+with_letter text k = take k text ++ codes "a" ++ drop k text
+
+-- whether a token is a name that has a byte
+abbrev pub is_name_over : ℕ → Token → Bool
+is_name_over k token = is_name token.class && nat_le token.start k && nat_lt k token.end
+
+-- what can be written before a byte: these where a letter that is put there is one of a name, and else
+-- nothing
+pub record AreCompletionsAt (context : Context) (k : ℕ) (v : Data) : Type 0 where
+  pub tokens : List Token
+  pub lexed : AreTokens (with_letter context.text.now k) tokens
+  pub items : MatchBool (list_any (is_name_over k) tokens) (AreItems context v) (v ≡ array no_items)
+
+-- what can be written at the position in parameters
+abbrev pub AreCompletions : Context → Data → Answer → Type 0
+AreCompletions context params (answer.Result v) = (offset : ℕ) × IsAskedOffset context params offset
+    × AreCompletionsAt context offset (view v)
+AreCompletions context params (answer.Error code reason) =
+    (asked_position params ≡ None) × (code ≡ InvalidParams)

@@ -1,15 +1,17 @@
 //! Completions.
-ghost use Rattle.std.specs.Prelude.{◌≡◌, ◌++◌, ◌∷◌, [], IfOk, OnOk, map};
+ghost use Rattle.std.specs.List.{list_any};
+ghost use Rattle.std.specs.Prelude.{◌≡◌, ◌++◌, ◌∷◌, [], IfOk, OnOk, map, string_bytes};
+ghost use Rattle.std.specs.Str.{IsCharBoundary};
 ghost use Rattle.server_requests.specs.Completions as spec;
-ghost use Rattle.server_requests.specs.Completions.{AreCompletions};
+ghost use Rattle.server_requests.specs.Completions.{AreCompletions, AreCompletionsAt, AreItems};
 ghost use Rattle.serde_json.specs.View.{view};
 
 use crate::builtins::describe;
-use crate::context::Context;
+use crate::context::{Context, is_name};
 use front_names::{Builtin, unicode_property_names};
 use serde_json::{Value, json};
-use server_protocol::messages::Answer;
-use server_symbols::Definition;
+use server_protocol::messages::{Answer, ErrorCode};
+use server_symbols::{Definition, Token, tokens_of};
 use std::alloc::{AllocError, Global};
 
 /// The protocol's numbers of a function, a constant and a keyword.
@@ -49,12 +51,66 @@ fn call_forms() -> &'static [CallForm]
     &FORMS
 }
 
-/// Returns what can be written in a document: its rules, builtins, and forms with arguments.
-pub fn completions(alloc: Global, context: &Context<'_>) -> Result<Answer, AllocError>
-    ensures { IfOk result (AreCompletions context.now) }
+/// Returns what can be written at a position: the document's rules, builtins, and forms with arguments;
+/// nothing where no name can be written, as in a comment or a literal.
+pub fn completions(
+    alloc: Global,
+    context: &Context<'_>,
+    params: &Value,
+) -> Result<Answer, AllocError>
+    ensures { IfOk result (AreCompletions context.now (view params.now)) }
+{
+    let Some(offset) = context.offset(params) else {
+        return Ok(Answer::Error(ErrorCode::InvalidParams, "no position"));
+    };
+    Ok(Answer::Result(completions_at(alloc, context, offset)?))
+}
+
+/// Returns what can be written at an offset, as a value. A name can be where a letter would be one of a name.
+fn completions_at(alloc: Global, context: &Context<'_>, offset: usize) -> Result<Value, AllocError>
+    requires { IsCharBoundary context.now.text.now offset }
+    ensures { IfOk result (λ v. AreCompletionsAt context.now offset (view v)) }
+{
+    let typed = with_letter(alloc, context.text, offset)?;
+    let tokens = tokens_of(alloc, typed.as_str())?;
+    if has_name_over(&tokens, offset) {
+        all_completions(alloc, context)
+    } else {
+        Ok(Value::Array(Vec::new(alloc)))
+    }
+}
+
+/// Returns what can be written where a name can be, as a value.
+fn all_completions(alloc: Global, context: &Context<'_>) -> Result<Value, AllocError>
+    ensures { IfOk result (λ v. AreItems context.now (view v)) }
 {
     let items = items_in(alloc, context, Builtin::all())?;
-    Ok(Answer::Result(Value::Array(items)))
+    Ok(Value::Array(items))
+}
+
+/// Returns a text with a letter put at an offset.
+fn with_letter(alloc: Global, text: &str, offset: usize) -> Result<String, AllocError>
+    requires { IsCharBoundary text.now offset }
+    ensures { IfOk result (λ typed. string_bytes typed ≡ spec.with_letter text.now offset) }
+{
+    let mut typed = String::from_str(alloc, &text[..offset])?;
+    typed.push_str("a")?;
+    typed.push_str(&text[offset..])?;
+    Ok(typed)
+}
+
+/// Whether a byte is in a name.
+fn has_name_over(tokens: &[Token], offset: usize) -> bool
+    ensures { result ≡ list_any (spec.is_name_over offset) tokens.now }
+{
+    tokens.iter().any(|token| is_name_over(offset, *token))
+}
+
+/// Whether a token is a name that has a byte.
+fn is_name_over(offset: usize, token: Token) -> bool
+    ensures { result ≡ spec.is_name_over offset token }
+{
+    is_name(token.class) && token.start <= offset && offset < token.end
 }
 
 /// Returns what can be written in a document, of builtins these, each as a value.

@@ -199,7 +199,7 @@ fn is_name_around(offset: usize, token: Token) -> bool
 }
 
 /// Whether a class is that of names.
-fn is_name(class: TokenClass) -> bool
+pub(crate) fn is_name(class: TokenClass) -> bool
     ensures { result ≡ spec.is_name class }
 {
     matches!(class, TokenClass::Name)

@@ -2,7 +2,7 @@ use Rattle.std.proofs.Common.{◌≡◌, ◌∙◌, ap, map, rules}
 use Rattle.serde_json.specs.Data.{array}
 use Rattle.serde_json.specs.View.{items_of, view}
 use Rattle.serde_json.specs.declared.value.Value.{Array, the_lemmas}
-use Rattle.server_requests.proofs.completions.completions.Goals as goal
+use Rattle.server_requests.proofs.completions.all_completions.Goals as goal
 
 pub returns : goal.returns
 returns c =
