@@ -141,3 +141,18 @@ fn operators_group_the_same() {
         );
     }
 }
+
+/// The parsers of the original and its printing call themselves within each list.
+#[test]
+fn depth_takes_no_stack() {
+    assert_eq!(here::depth::printed(50), original::depth::printed(50));
+    let (printed, tokens) = here::depth::printed(100_000);
+    assert_eq!((printed.matches("list(").count(), tokens), (100_000, 200_000));
+}
+
+#[test]
+fn the_end_is_a_rule() {
+    for text in ["", "1"] {
+        assert_eq!(here::chains::end(text), original::chains::end(text));
+    }
+}

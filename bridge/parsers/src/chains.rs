@@ -34,6 +34,14 @@ pub fn grouped(text: &str, levels: &Levels, sign: usize, mark: usize) -> Vec<Str
     grouped
 }
 
+/// What is printed for a text by the rule `EOI`.
+pub fn end(text: &str) -> String {
+    match Chain::parse(Rule::EOI, text) {
+        Ok(pairs) => pairs.to_string(),
+        Err(error) => error.to_string(),
+    }
+}
+
 fn by_pratt<'i>(
     pairs: impl Iterator<Item = Pair<'i, Rule>>,
     levels: &Levels,

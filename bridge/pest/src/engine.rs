@@ -34,6 +34,14 @@ pub(crate) fn run(code: &[u8], rule: &str, text: &str) -> Result<Vec<Node>, Fail
     }
 }
 
+/// Runs `EOI`, of an index, from the start of a text. The library runs rules of the grammar alone.
+pub(crate) fn run_end(rule: u32, text: &str) -> Result<Vec<Node>, Failure> {
+    match text.is_empty() {
+        true => Ok(vec![Node { rule, start: 0, end: 0, after: 1 }]),
+        false => Err(Failure::Failed { pos: 0, expected: vec![rule] }),
+    }
+}
+
 /// The nodes of tokens, which are three numbers for each start and each end: the rule's number or 0, the position,
 /// and the index of the token at the other end.
 fn nodes(numbers: &[usize]) -> Vec<Node> {

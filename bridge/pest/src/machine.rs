@@ -26,7 +26,11 @@ pub fn parse<'i, R: RuleType>(
     text: &'i str,
 ) -> Result<Pairs<'i, R>, Error<R>> {
     let index = grammar.rules.iter().position(|it| *it == rule).expect("the rule is one of the grammar");
-    match engine::run(grammar.code, grammar.names[index], text) {
+    let found = match grammar.names[index] {
+        "EOI" => engine::run_end(index as u32, text),
+        name => engine::run(grammar.code, name, text),
+    };
+    match found {
         Ok(nodes) => {
             let tree = Tree::new(text, nodes, grammar.rule);
             let len = tree.len();
