@@ -73,7 +73,8 @@ rule_named context name definitions =
 -- a text has the definition of the rule of a name, or what the name matches
 abbrev pub IsTextOf : Context → List ℕ → List ℕ → Type 0
 IsTextOf context name text = MatchOption (rule_named context name context.definitions.items)
-    (IsBuiltinText context.client.has_markdown name text) (λ definition. HasDefinition context definition text)
+    (IsBuiltinText context.client.has_markdown name text)
+    (λ definition. HasDefinition context definition text)
 
 abbrev pub kind_for : Client → List ℕ
 kind_for client = if client.has_markdown then codes "markdown" else codes "plaintext"

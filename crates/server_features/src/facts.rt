@@ -24,11 +24,11 @@ const MOST_FIRST: usize = 20;
 pub struct RuleFacts {
     /// Whether it may match without taking a character.
     pub is_nullable: bool,
-    /// What can begin it.
+    /// The beginnings of its matches.
     pub first: FirstSet,
 }
 
-/// What can begin a rule.
+/// The beginnings of a rule's matches.
 #[derive(Drop)]
 pub struct FirstSet {
     /// The first characters of literals, ranges and builtins, as they are printed, each once, at most 20.

@@ -82,7 +82,7 @@ pub record AreCompletionsAt (context : Context) (k : ℕ) (v : Data) : Type 0 wh
   pub lexed : AreTokens (with_letter context.text.now k) tokens
   pub items : MatchBool (list_any (is_name_over k) tokens) (AreItems context v) (v ≡ array no_items)
 
--- what can be written at the position in parameters
+-- so it is at the position in parameters
 abbrev pub AreCompletions : Context → Data → Answer → Type 0
 AreCompletions context params (answer.Result v) = (offset : ℕ) × IsAskedOffset context params offset
     × AreCompletionsAt context offset (view v)
