@@ -85,7 +85,7 @@ unreachable_after earlier (x ∷ xs) =
 abbrev pub unreachable_at : Spanned → List Span
 unreachable_at x = unreachable_after [] (alternatives x)
 
--- the same as a list of one list, where there are some
+-- as a list of one list, where there are some
 abbrev pub if_some : List Span → List (List Span)
 if_some [] = []
 if_some (s ∷ ss) = (s ∷ ss) ∷ []

@@ -75,7 +75,7 @@ with_letter text k = take k text ++ codes "a" ++ drop k text
 abbrev pub is_name_over : ℕ → Token → Bool
 is_name_over k token = is_name token.class && nat_le token.start k && nat_lt k token.end
 
--- what can be written before a byte: these where a letter that is put there is one of a name, and else
+-- the completions before a byte: these where a letter that is put there is one of a name, and else
 -- nothing
 pub record AreCompletionsAt (context : Context) (k : ℕ) (v : Data) : Type 0 where
   pub tokens : List Token
