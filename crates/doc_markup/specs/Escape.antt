@@ -9,10 +9,10 @@ use Rattle.base_language.specs.Language.Builtins.{is_between}
 abbrev pub is_hidden : ℕ → Bool
 is_hidden c = is_between 0 8 c || (is_between 11 31 c || is_between 0x7f 0x9f c)
 
--- a character that changes the direction of a line, ends it, or is a mark of the byte order
+-- a character that changes the direction of a line, ends it, is a mark of the byte order, or is none of XML
 abbrev pub is_format : ℕ → Bool
 is_format c = c == 0x61c || (is_between 0x200e 0x200f c || (is_between 0x2028 0x202e c
-    || (is_between 0x2066 0x206f c || c == 0xfeff)))
+    || (is_between 0x2066 0x206f c || (c == 0xfeff || is_between 0xfffe 0xffff c))))
 
 -- a character as it is shown: U+FFFD for one that is not
 abbrev pub visible : ℕ → ℕ

@@ -37,7 +37,7 @@ pub(crate) fn visible(character: char) -> char
     match character {
         '\u{0}'..='\u{8}' | '\u{b}'..='\u{1f}' | '\u{7f}'..='\u{9f}' => '\u{fffd}',
         '\u{61c}' | '\u{200e}' | '\u{200f}' | '\u{2028}'..='\u{202e}' => '\u{fffd}',
-        '\u{2066}'..='\u{206f}' | '\u{feff}' => '\u{fffd}',
+        '\u{2066}'..='\u{206f}' | '\u{feff}' | '\u{fffe}' | '\u{ffff}' => '\u{fffd}',
         _ => character,
     }
 }
