@@ -7,5 +7,5 @@ pub returns : goal.returns
 returns c = IfOk-weaker c.respond.result _ _ (λ reply h. record {
   phase = c.answer-outcome.ensures.phase;
   documents = c.answer-outcome.ensures.documents;
-  message = IsOneMessage-weaker _ _ reply (IsResponse-weaker _ _ _ (λ a e. asked_by _ c.args.method.now _ _ a c.params_of-params.ensures (holds_of _ c.answer-outcome.result a c.answer-outcome.ensures.answer e))) h;
+  message = IsOneMessage-weaker _ _ reply (IsResponse-weaker _ _ _ (λ a e. asked_by c.args.self.now c.args.method.now _ _ a c.params_of-params.ensures (holds_of _ c.answer-outcome.result a c.answer-outcome.ensures.answer e))) h;
 }) c.respond.ensures
