@@ -81,6 +81,11 @@ pub enum Op {
         next: u32,
         fail: u32,
     },
+    /// Pushes a slot as `Try`, whose end takes back the names that were expected since.
+    Not {
+        next: u32,
+        fail: u32,
+    },
     /// Pops the last slot, and keeps the state.
     Commit {
         next: u32,
@@ -91,6 +96,11 @@ pub enum Op {
     },
     /// Records a failure of a call that counts here.
     Note {
+        next: u32,
+    },
+    /// Records a failure of a call of a rule here, which is expected.
+    Miss {
+        row: u32,
         next: u32,
     },
     /// Checks whether this is the start of the text.

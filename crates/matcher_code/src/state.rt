@@ -1,4 +1,4 @@
-//! Trees.
+//! Trees, and what a failure records.
 
 /// A tree, followed by its descendants. `start` and `end` are positions in bytes, and `after` is the number
 /// of trees up to its last descendant.
@@ -8,4 +8,15 @@ pub struct TreeNode {
     pub start: usize,
     pub end: usize,
     pub after: usize,
+}
+
+/// What the end of a continuation frame's part records.
+#[derive(Clone, Copy, Debug)]
+pub enum Failing {
+    /// Nothing.
+    Plain,
+    /// The failure of a call that counts: its rule is expected in place of the rules that were called within.
+    Counted,
+    /// Nothing is expected below a `!`, whether its part fails or not.
+    Negated,
 }

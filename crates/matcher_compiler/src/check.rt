@@ -262,6 +262,20 @@ fn is_same(one: Op, other: Op) -> bool
             } => next == next2 && fail == fail2,
             _ => false,
         },
+        Op::Not { next, fail } => match other {
+            Op::Not {
+                next: next2,
+                fail: fail2,
+            } => next == next2 && fail == fail2,
+            _ => false,
+        },
+        Op::Miss { row, next } => match other {
+            Op::Miss {
+                row: row2,
+                next: next2,
+            } => row == row2 && next == next2,
+            _ => false,
+        },
         Op::Commit { next } => match other {
             Op::Commit { next: next2 } => next == next2,
             _ => false,

@@ -345,9 +345,26 @@ fn refuse_same_names(alloc: Global, program: &Program) -> Result<(), NotCompiled
     }
 }
 
+/// Makes a program as `compile`, which calls each rule whose failure is recorded, so that a run finds the
+/// names that are expected.
+pub fn compile_for_names(alloc: Global, program: &Program) -> Result<Code, NotCompiled>
+    requires sound { IsSoundProgram program.now }
+    ensures { IfOk result (IsCodeOf program.now) }
+{
+    compile_with(alloc, program, true)
+}
+
 /// Makes a program for rules. Errors: rules that have an expression of a kind that is not compiled, or are
 /// more than 4096; and an allocation failure.
 pub fn compile(alloc: Global, program: &Program) -> Result<Code, NotCompiled>
+    requires sound { IsSoundProgram program.now }
+    ensures { IfOk result (IsCodeOf program.now) }
+{
+    compile_with(alloc, program, false)
+}
+
+/// Makes a program, with calls of all rules whose failures are recorded or without those that a test spares.
+fn compile_with(alloc: Global, program: &Program, calls_all: bool) -> Result<Code, NotCompiled>
     requires sound { IsSoundProgram program.now }
     ensures { IfOk result (IsCodeOf program.now) }
 {
@@ -358,7 +375,7 @@ pub fn compile(alloc: Global, program: &Program) -> Result<Code, NotCompiled>
     let mut plan = first_plan(alloc, program)?;
     plan_ends(&mut plan)?;
     plan_entries(program, &mut plan)?;
-    let heads = rule_heads(alloc, program)?;
+    let heads = rule_heads(alloc, program, calls_all)?;
     plan.plan(alloc, program, &heads)?;
     let code = finish(alloc, plan)?;
     Ok(code)

@@ -26,6 +26,7 @@ impl<'p> Plan<'p> {
         own: u32,
         found: u32,
         missed: u32,
+        is_negative: bool,
     ) -> Result<(), NotCompiled>
         requires bound { IsBoundIn program.now body.now }
         ensures later { OnOk result (IsLater program.now self.old self.new) }
@@ -37,13 +38,18 @@ impl<'p> Plan<'p> {
             (Run (mode_of at.mode) (NegPred (said program.now body.entry.now))) at) }
     {
         let last = own.saturating_add(1);
-        self.operation(
-            at.label,
+        let begin = if is_negative {
+            Op::Not {
+                next: own,
+                fail: missed,
+            }
+        } else {
             Op::Try {
                 next: own,
                 fail: missed,
-            },
-        )?;
+            }
+        };
+        self.operation(at.label, begin)?;
         self.operation(last, Op::Ahead { next: found })?;
         self.point(
             Part::Form(body),

@@ -278,7 +278,7 @@ impl<'p> Plan<'p> {
         )?;
         self.operation(own, Op::Open { row, next: close })?;
         self.operation(close, Op::Close { next: at.next })?;
-        self.operation(note, Op::Note { next: at.way })?;
+        self.operation(note, Op::Miss { row, next: at.way })?;
         Ok(())
     }
 }

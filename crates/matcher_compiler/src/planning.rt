@@ -153,7 +153,7 @@ impl<'p> Plan<'p> {
         ensures lays { OnOk result (LaysAt program.now self.new (Run (mode_of at.mode)
             (PosPred (said program.now body.entry.now))) at) }
     {
-        self.lookahead(program, body, at, own, at.next, at.way)?;
+        self.lookahead(program, body, at, own, at.next, at.way, false)?;
         Ok(())
     }
 
@@ -170,7 +170,7 @@ impl<'p> Plan<'p> {
         ensures lays { OnOk result (LaysAt program.now self.new (Run (mode_of at.mode)
             (NegPred (said program.now body.entry.now))) at) }
     {
-        self.lookahead(program, body, at, own, at.way, at.next)?;
+        self.lookahead(program, body, at, own, at.way, at.next, true)?;
         Ok(())
     }
 

@@ -11,7 +11,7 @@ use base_ast::optimized::OptimizedRule;
 use base_language::runtime::{Position, Span};
 use matcher_code::code::Code;
 use matcher_code::state::TreeNode;
-use matcher_compiler::compile::compile;
+use matcher_compiler::compile::{compile, compile_for_names};
 use matcher_compiler::names::last_index;
 use matcher_compiler::points::NotCompiled;
 use matcher_interpreter::machine::Stop;
@@ -226,6 +226,45 @@ impl Matcher {
             Some(answer) => answer,
             None => self.interpreter.parse_from(alloc, rule, start, steps),
         }
+    }
+
+    /// Returns the names that are expected at a position, by the program.
+    pub fn names_by_program<'a>(
+        &'a self,
+        alloc: Global,
+        rule: &'a str,
+        start: Position<'a>,
+        place: usize,
+        steps: u64,
+    ) -> Option<Result<Vec<&'a str>, Refusal<'a>>> {
+        let rows = self.interpreter.program.rows.as_slice();
+        let Some(number) = last_index(rows, rule) else {
+            return Some(Err(Refusal::UnknownRule(rule)));
+        };
+        let code = match compile_for_names(alloc, &self.interpreter.program) {
+            Ok(code) => code,
+            Err(NotCompiled::Unsupported) => return None,
+            Err(NotCompiled::Memory) => return Some(Err(Refusal::Stopped(Stop::Memory))),
+        };
+        let mut machine = Machine::new(alloc);
+        machine.asked = place;
+        let most = steps.saturating_mul(OPERATIONS);
+        let text = whole_text(start);
+        match machine.run_with_memory(alloc, &code, text, number as u32 + 3, start.pos(), most) {
+            Ok(RunEnd::Found(_)) | Ok(RunEnd::Failed) => {}
+            Ok(RunEnd::OutOfSteps) => return Some(Err(Refusal::Stopped(Stop::OutOfSteps))),
+            Ok(RunEnd::Stuck) => return Some(Err(Refusal::Stopped(Stop::EmptyStack))),
+            Err(_) => return Some(Err(Refusal::Stopped(Stop::Memory))),
+        }
+        let mut names = Vec::new(alloc);
+        for row in &machine.names {
+            if let Some(name) = name_of(rows, *row) {
+                if names.push(name).is_err() {
+                    return Some(Err(Refusal::Stopped(Stop::Memory)));
+                }
+            }
+        }
+        Some(Ok(names))
     }
 
     /// Returns the names that are expected at `place`, in bytes, without duplicates, in the order in which

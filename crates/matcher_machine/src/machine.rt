@@ -17,6 +17,9 @@ pub struct Machine {
     pub stack: TextStack,
     /// The furthest position, in bytes, at which a call that counts has failed.
     pub furthest: usize,
+    /// The position at which names are asked for, and the rows of the rules that are expected there.
+    pub asked: usize,
+    pub names: Vec<u32>,
     ghost held: { AreHeld (length stack.pushed.items) (reverse slots.items) } by { AreHeld-prop _ _ },
 }
 
@@ -81,6 +84,8 @@ impl Machine {
             trees: Vec::new(alloc),
             stack: TextStack::new(alloc),
             furthest: 0,
+            asked: usize::MAX,
+            names: Vec::new(alloc),
         }
     }
 }

@@ -40,6 +40,8 @@ pub struct Heads {
     pub(crate) atomic: Vec<Option<Head>>,
     pub(crate) compound_atomic: Vec<Option<Head>>,
     pub(crate) gap: Option<Head>,
+    /// Whether a call whose failure is recorded has no head.
+    pub calls_all: bool,
 }
 
 /// Returns a head with the characters of two, or `None` if they are too many.
@@ -245,6 +247,9 @@ fn row_head(
 {
     let inner = body_mode(row.kind, row.blank, mode);
     let counts = is_counted(row.kind, mode);
+    if counts && heads.calls_all {
+        return Ok(None);
+    }
     let known = heads_in(heads, inner);
     match rule_head(known, rule) {
         Some(body) => called_head(alloc, body, counts),

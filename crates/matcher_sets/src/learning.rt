@@ -159,7 +159,7 @@ fn none_known(alloc: Global, rules: usize) -> Result<Vec<Option<Head>>, AllocErr
 
 /// Returns the heads of the bodies of rules, as far as three rounds find them. The only error is an
 /// allocation failure.
-pub fn rule_heads(alloc: Global, program: &Program) -> Result<Heads, AllocError>
+pub fn rule_heads(alloc: Global, program: &Program, calls_all: bool) -> Result<Heads, AllocError>
     requires sound { IsSoundProgram program.now }
     ensures { IfOk result (AreHeads program.now) }
 {
@@ -172,6 +172,7 @@ pub fn rule_heads(alloc: Global, program: &Program) -> Result<Heads, AllocError>
         atomic,
         compound_atomic,
         gap: None,
+        calls_all,
     };
     'rounds: for _ in 0..ROUNDS {
         learn_all(alloc, program, &mut heads)?;
