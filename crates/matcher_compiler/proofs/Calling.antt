@@ -14,12 +14,12 @@ use Rattle.matcher_code.specs.Laid.{IsPart, IsPoint, at_label}
 use Rattle.matcher_program.specs.declared.form.Program.{Program}
 use Rattle.matcher_program.specs.declared.form.Row.{Row}
 use Rattle.matcher_program.specs.Programs.{name_at, names_of, rule_of_row}
-use Rattle.matcher_compiler.specs.Names.{HasOwnNames, number_in, or_end}
+use Rattle.matcher_compiler.specs.Names.{IsLast, number_in, or_end}
 use Rattle.matcher_sets.specs.Forms.{IsSoundProgram, grammar_in, no_rule, said}
 use Rattle.matcher_sets.proofs.Rules.{in_mode, made, named, same}
 use Rattle.matcher_compiler.specs.Plans.{body_in}
 
-no_place : (g : Grammar) (n : Text) → rule_of g n ≡ None → last_place g n ≡ None
+pub no_place : (g : Grammar) (n : Text) → rule_of g n ≡ None → last_place g n ≡ None
 no_place [] n h = refl
 no_place (r ∷ g) n h = go (no_place g n) (rule_of g n) refl (bytes_eq r.name n) refl
   where
@@ -30,6 +30,9 @@ no_place (r ∷ g) n h = go (no_place g n) (rule_of g n) refl (bytes_eq r.name n
 
 pub open_row : (code : Code) (l : ℕ) {a b close : ℕ} → a ≡ b → at_label code l ≡ op.Open a close → at_label code l ≡ op.Open b close
 open_row code l {close = close} e h = h ∙ ap (λ k. op.Open k close) e
+
+pub miss_row : (code : Code) (l : ℕ) {a b next : ℕ} → a ≡ b → at_label code l ≡ op.Miss a next → at_label code l ≡ op.Miss b next
+miss_row code l {next = next} e h = h ∙ ap (λ k. op.Miss k next) e
 
 pub call_row : (code : Code) (l : ℕ) {first a b next fail : ℕ} {counts : Bool} → a ≡ b → at_label code l ≡ op.Call first a next fail counts
     → at_label code l ≡ op.Call first b next fail counts
@@ -46,10 +49,10 @@ module _ (p : Program) (rule : ℕ) (row : Row) (within : rule < length p.rows.i
   pub body_said : body_in p rule ≡ said p row.body
   body_said = ap (λ r. r.body) (same p rule row within is no_rule)
 
-  pub number_is : HasOwnNames p → number_in (grammar_in p) (made p rule row within is).name ≡ rule
-  number_is own =
+  pub number_is : IsLast p.rows.items rule → number_in (grammar_in p) (made p rule row within is).name ≡ rule
+  number_is last =
       ap (λ n. number_in (grammar_in p) n) (sym (named p rule row within is))
-      ∙ ap (λ o. or_end o (is_eoi (name_at (names_of p.rows.items) rule)) (length (grammar_in p))) (own rule within)
+      ∙ ap (λ o. or_end o (is_eoi (name_at (names_of p.rows.items) rule)) (length (grammar_in p))) last
 
   pub body_point : IsSoundProgram p → (laid : List lay.Point) (m inner : Mode) (first last : ℕ)
       → inner ≡ mode_in (rule_type_of row.kind) row.blank m → IsPoint laid (Run inner (body_in p rule)) first last 0

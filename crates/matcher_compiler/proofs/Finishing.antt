@@ -1,5 +1,5 @@
 -- The program of a plan.
-use Rattle.std.proofs.Common.{◌≡◌, refl, sym, ◌∙◌, ap, ap₂, subst, ℕ, zero, suc, ◌+◌, ◌*◌, ◌<◌, inl, inr, List, [], ◌∷◌, get_or, length, map, arith}
+use Rattle.std.proofs.Common.{◌≡◌, refl, sym, ◌∙◌, ap, ap₂, subst, ℕ, zero, suc, Bool, ◌+◌, ◌*◌, ◌<◌, inl, inr, List, [], ◌∷◌, get_or, length, map, arith}
 use Rattle.std.specs.Prelude.{if◌then◌else◌, nat_lt}
 use Rattle.std.proofs.lemmas.Bool.{cases_lt}
 use Rattle.std.proofs.lemmas.List.{get_or-map, length-map}
@@ -20,6 +20,7 @@ use Rattle.matcher_compiler.specs.declared.points.Part.TheVariants as part
 use Rattle.matcher_compiler.specs.declared.points.Point.{Point}
 use Rattle.matcher_compiler.specs.Compiled.{AreMet, HasEnds, HasEntries, IsCodeOf, IsEmpty}
 use Rattle.matcher_sets.specs.Modes.{mode_of}
+use Rattle.matcher_compiler.specs.Exact.{is_exact}
 use Rattle.matcher_compiler.specs.Names.{number_in}
 use Rattle.matcher_sets.specs.Forms.{grammar_in}
 use Rattle.matcher_compiler.specs.Plans.{AreBound, IsLater, IsMet, IsPointOf, KeepsData, LaysPoint, Meets, body_in, laid_point, task_in}
@@ -54,17 +55,17 @@ abbrev some_point : Point
 some_point = record { part = part.Gap; at = record { mode = mode.Atomic; label = 0; next = 0; way = 0; rank = 0; around = 0 } }
 
 -- the same point
-laid_as : (p : Program) (classes : Classes) (code : Code) (laid : List lay.Point) (x : Point) (k : Task) (l n w rank : ℕ)
+laid_as : (exact : Bool) (p : Program) (classes : Classes) (code : Code) (laid : List lay.Point) (x : Point) (k : Task) (l n w rank : ℕ)
     → laid_point p x ≡ record { task = k; label = l; next = n; way = w; rank = rank }
-    → Lays (grammar_in p) classes code (number_in (grammar_in p)) laid x.at.rank (task_in p x.part (mode_of x.at.mode)) x.at.label x.at.next x.at.way
-    → Lays (grammar_in p) classes code (number_in (grammar_in p)) laid rank k l n w
-laid_as p classes code laid x k l n w rank e y =
-    let P : lay.Point → Type 0 = λ q. Lays (grammar_in p) classes code (number_in (grammar_in p)) laid q.rank q.task q.label q.next q.way in
+    → Lays exact (grammar_in p) classes code (number_in (grammar_in p)) laid x.at.rank (task_in p x.part (mode_of x.at.mode)) x.at.label x.at.next x.at.way
+    → Lays exact (grammar_in p) classes code (number_in (grammar_in p)) laid rank k l n w
+laid_as exact p classes code laid x k l n w rank e y =
+    let P : lay.Point → Type 0 = λ q. Lays exact (grammar_in p) classes code (number_in (grammar_in p)) laid q.rank q.task q.label q.next q.way in
     subst P e y
 
 pub code_of : (p : Program) (plan : Plan) (code : Code) → HasEnds code → Meets p plan code (map (laid_point p) plan.points.items)
     → ((i : ℕ) (d : Point) → i < length plan.points.items → LaysPoint p plan (get_or plan.points.items i d))
-    → HasEntries p plan (length p.rows.items) → IsCodeOf p code
+    → HasEntries p plan (length p.rows.items) → IsCodeOf (is_exact code) p code
 code_of p plan code ends m lays entries = record {
   ends = ends;
   points = map (laid_point p) plan.points.items;
@@ -72,7 +73,7 @@ code_of p plan code ends m lays entries = record {
       let h : x.place < length plan.points.items = omega (arith, length-map plan.points.items (laid_point p), x.within) in
       let y = get_or plan.points.items x.place some_point in
       let e = get_or-map (laid_point p) plan.points.items x.place some_point no_point h in
-      laid_as p classes code (map (laid_point p) plan.points.items) y k l n w x.rank (sym e ∙ x.is)
+      laid_as (is_exact code) p classes code (map (laid_point p) plan.points.items) y k l n w x.rank (sym e ∙ x.is)
       (lays x.place some_point h classes fits code (map (laid_point p) plan.points.items) m);
   entries = λ i h. entries code (map (laid_point p) plan.points.items) m i h;
 }

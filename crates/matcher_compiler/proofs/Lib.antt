@@ -8,3 +8,6 @@ pub mod Shortening
 pub mod Sharing
 pub mod Spanning
 pub mod Reading
+pub mod Noting
+pub mod Relaxing
+pub mod Numbering

@@ -58,7 +58,7 @@ pub record IsPlaceOf (g : Grammar) (n : Text) (i : ℕ) : Type 0 where
   pub meant : (d : Rule) → rule_of g n ≡ Some (get_or g i d)
   pub named : (d : Rule) → (get_or g i d).name ≡ n
 
-abbrev Says : Grammar → Text → Option ℕ → Type 0
+abbrev pub Says : Grammar → Text → Option ℕ → Type 0
 Says g n None = rule_of g n ≡ None
 Says g n (Some i) = IsPlaceOf g n i
 
@@ -74,7 +74,7 @@ more_says r g n (Some k) h =
     record { within = omega (arith, h.within); meant = λ d. rw (h.meant d) refl; named = λ d. h.named d }
 more_says r g n None h = first_says r g n h (bytes_eq r.name n) refl
 
-places_say : (g : Grammar) (n : Text) → Says g n (last_place g n)
+pub places_say : (g : Grammar) (n : Text) → Says g n (last_place g n)
 places_say [] n = refl
 places_say (r ∷ g) n = more_says r g n (last_place g n) (places_say g n)
 
@@ -84,3 +84,22 @@ place_of_last g n i e = subst (Says g n) e (places_say g n)
 pub meant_of : (g : Grammar) (n : Text) (i : ℕ) → last_place g n ≡ Some i → IsRuleOf g n i
 meant_of g n i e =
     let x = place_of_last g n i e in record { within = x.within; meant = x.meant; named = x.named }
+
+-- a rule of a name has a row
+pub rule_within : (rows : List Row) (n : Text) (i : ℕ) → IsRuleOf (grammar_of rows) n i → i < length rows
+rule_within rows n i h = omega (arith, h.within, length-map rows (rule_of_row (names_of rows)))
+
+-- the last row of the name of a row
+module _ (rows : List Row) (rule last : ℕ) (d : Row) (e : last_place (grammar_of rows) (name_at (names_of rows) rule) ≡ Some last) where
+  pub last_within : last < length rows
+  last_within = rule_within rows (name_at (names_of rows) rule) last (meant_of (grammar_of rows) (name_at (names_of rows) rule) last e)
+
+  pub last_named : name_at (names_of rows) last ≡ name_at (names_of rows) rule
+  last_named =
+      let f = rule_of_row (names_of rows) in
+      let x = place_of_last (grammar_of rows) (name_at (names_of rows) rule) last e in
+      get_or-map (λ r. text_of r.name) rows last d [] last_within
+      ∙ (ap (λ r. r.name) (sym (get_or-map f rows last d (f d) last_within)) ∙ x.named (f d))
+
+  pub last_is : IsLast rows last
+  last_is = ap (last_place (grammar_of rows)) last_named ∙ e

@@ -9,6 +9,7 @@ use Rattle.base_language.specs.Language.Meaning as by
 use Rattle.base_language.specs.Language.Meaning.{Does, Run, seen_from}
 use Rattle.base_language.specs.Language.State.{Classes, Outcome, State}
 use Rattle.base_language.specs.Language.Text.{Text}
+use Rattle.matcher_code.specs.Failures.{in_silence}
 use Rattle.matcher_code.specs.Laid.{HasOrLacks, HasOutcome, MayHave}
 use Rattle.matcher_program.specs.declared.form.Program.{Program}
 use Rattle.matcher_sets.specs.declared.modes.Atomicity.{Atomicity}
@@ -58,7 +59,7 @@ module _ (p : Program) (classes : Classes) where
       go : (x : Option Outcome) → f s ≡ x → HasOrLacks (grammar_in p) classes (Run (mode_of m) (Ident n)) s x
       go (Some o) k =
           let z : (seen_from (mode_of m) && is_eoi n) ≡ false = ap (λ y. seen_from (mode_of m) && y) q ∙ and-false (seen_from (mode_of m)) in
-          (by.other u (says ∙ k), unseen (seen_from (mode_of m) && is_eoi n) s o z)
+          (by.other u (says ∙ k), λ place. unseen (seen_from (mode_of m) && is_eoi n) n place s o z)
       go None k = lacks k
 
   pub peek_has : (m : Atomicity) → rule_of (grammar_in p) (codes "PEEK") ≡ None
@@ -70,19 +71,19 @@ module _ (p : Program) (classes : Classes) where
   pop_has m u = may_have m (codes "POP") Pop (λ s. pop_outcome s.stack s) u pop_builtin refl (λ s. refl)
 
   pub discard_has : (m : Atomicity) → rule_of (grammar_in p) (codes "DROP") ≡ None
-      → HasOutcome (grammar_in p) classes (Run (mode_of m) (Ident (codes "DROP"))) (λ s. drop_outcome s.stack s) (λ s. 0)
+      → HasOutcome (grammar_in p) classes (Run (mode_of m) (Ident (codes "DROP"))) (λ s. drop_outcome s.stack s) in_silence
   discard_has m u =
       quiet p classes m (codes "DROP") (λ s. drop_outcome s.stack s) refl
       (builtin_outcome_of p classes m (codes "DROP") Drop (λ s. drop_outcome s.stack s) u drop_builtin (λ s. refl))
 
   pub peek_all_has : (m : Atomicity) → rule_of (grammar_in p) (codes "PEEK_ALL") ≡ None
-      → HasOutcome (grammar_in p) classes (Run (mode_of m) (Ident (codes "PEEK_ALL"))) (λ s. text_outcome nat_eq (concatenated s.stack) s) (λ s. 0)
+      → HasOutcome (grammar_in p) classes (Run (mode_of m) (Ident (codes "PEEK_ALL"))) (λ s. text_outcome nat_eq (concatenated s.stack) s) in_silence
   peek_all_has m u =
       quiet p classes m (codes "PEEK_ALL") (λ s. text_outcome nat_eq (concatenated s.stack) s) refl
       (builtin_outcome_of p classes m (codes "PEEK_ALL") PeekAll (λ s. text_outcome nat_eq (concatenated s.stack) s) u peek_all_builtin (λ s. refl))
 
   pub pop_all_has : (m : Atomicity) → rule_of (grammar_in p) (codes "POP_ALL") ≡ None
-      → HasOutcome (grammar_in p) classes (Run (mode_of m) (Ident (codes "POP_ALL"))) (λ s. with_stack [] (text_outcome nat_eq (concatenated s.stack) s)) (λ s. 0)
+      → HasOutcome (grammar_in p) classes (Run (mode_of m) (Ident (codes "POP_ALL"))) (λ s. with_stack [] (text_outcome nat_eq (concatenated s.stack) s)) in_silence
   pop_all_has m u =
       quiet p classes m (codes "POP_ALL") (λ s. with_stack [] (text_outcome nat_eq (concatenated s.stack) s)) refl
       (builtin_outcome_of p classes m (codes "POP_ALL") PopAll (λ s. with_stack [] (text_outcome nat_eq (concatenated s.stack) s)) u pop_all_builtin (λ s. refl))

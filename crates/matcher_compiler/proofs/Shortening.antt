@@ -1,17 +1,17 @@
 -- Characters that forms take alone.
-use Rattle.std.proofs.Common.{◌≡◌, refl, sym, ◌∙◌, ap, subst, ℕ, ◌<◌, ◌&&◌, List, [], ◌∷◌, Bool, true, false, arith, if◌then◌else◌}
+use Rattle.std.proofs.Common.{◌≡◌, refl, sym, ◌∙◌, ap, ap₂, subst, ℕ, ◌<◌, ◌&&◌, List, [], ◌∷◌, Bool, true, false, arith, if◌then◌else◌}
 use Rattle.std.specs.Prelude.{Err, IfOk, IfSome, None, Ok, Option, Result, Some, not}
 use Rattle.std.specs.declared.alloc.Global.{Global}
 use Rattle.std.specs.declared.vec.Vec.{Vec}
 use Rattle.base_language.specs.Language.Expression.{Choice, Expression, NegPred, Opt, Seq}
-use Rattle.base_language.specs.Language.FurthestFailure.{furthest, place_of}
+use Rattle.base_language.specs.Language.FurthestFailure.{place_of}
 use Rattle.base_language.specs.Language.Matching.{starts_in}
 use Rattle.base_language.specs.Language.Meaning as by
 use Rattle.base_language.specs.Language.Meaning.{Does, Run, Task}
 use Rattle.base_language.specs.Language.State.{Failure, Mode, None', Success, moved}
 use Rattle.base_language.specs.Language.Text.{Text}
 use Rattle.matcher_code.specs.Reading.{is_covered}
-use Rattle.matcher_code.specs.Laid.{Hits, Misses}
+use Rattle.matcher_code.specs.Laid.{Hits, IsSilent, Misses}
 use Rattle.matcher_code.proofs.Characters.{not_and_then}
 use Rattle.matcher_program.specs.declared.form.Form.{Form}
 use Rattle.matcher_program.specs.declared.form.Program.{Program}
@@ -23,6 +23,7 @@ use Rattle.matcher_sets.specs.Heads.{HasHead}
 use Rattle.matcher_sets.specs.Modes.{mode_of}
 use Rattle.matcher_sets.specs.Ranges.{Covers}
 use Rattle.matcher_sets.proofs.Heading.{fails_outside}
+use Rattle.matcher_sets.proofs.Recording.{three_silent, two_silent}
 use Rattle.matcher_compiler.specs.Plans.{FailsBefore, IsTightIn, TakesOneIn}
 
 no_first : (a b : Bool) → (not a && b) ≡ true → a ≡ false
@@ -44,14 +45,14 @@ pub fails_before : (p : Program) (m : Atomicity) (form : Form) (h : Head) (range
 fails_before p m form h ranges rest has q n covers classes fits s hit = go s.rest refl hit
   where
     go : (u : Text) → s.rest ≡ u → Hits rest u
-        → Hits ranges s.rest × ((d : Does (grammar_in p) classes (Run (mode_of m) (said p form)) s Failure) × (furthest d ≡ 0))
+        → Hits ranges s.rest × ((d : Does (grammar_in p) classes (Run (mode_of m) (said p form)) s Failure) × IsSilent d)
     go [] e z = absurd z
     go (c ∷ cs) e z =
         let both : (not (is_covered h.ranges.items c) && is_covered ranges c) ≡ true = sym (covers c z.0) ∙ z.1 in
         let free : is_covered h.ranges.items c ≡ false = no_first (is_covered h.ranges.items c) (is_covered ranges c) both in
         let taken : is_covered ranges c ≡ true = second (is_covered h.ranges.items c) (is_covered ranges c) both in
         let x = fails_outside p (mode_of m) (said p form) h has q classes fits s (misses_of h.ranges.items c cs s.rest e z.0 free) in
-        (subst (Hits ranges) (sym e) (z.0, taken), (x.0, x.1 ∙ ap (λ b. place_of b s Failure) n))
+        (subst (Hits ranges) (sym e) (z.0, taken), (x.0, λ place. ap₂ (λ i ns. record { furthest = i; names = ns }) (x.1 ∙ ap (λ b. place_of b s Failure) n) (x.2 n place)))
 
 -- a form takes a character of its ranges
 ranges_take : (p : Program) (m : Atomicity) (form : Form) (ranges : List (ℕ × ℕ)) → HasRanges p form ranges
@@ -59,12 +60,12 @@ ranges_take : (p : Program) (m : Atomicity) (form : Form) (ranges : List (ℕ ×
 ranges_take p m form ranges y classes fits s hit = go s.rest refl hit
   where
     go : (u : Text) → s.rest ≡ u → Hits ranges u
-        → (d : Does (grammar_in p) classes (Run (mode_of m) (said p form)) s (Success (moved 1 s) None')) × (furthest d ≡ 0)
+        → (d : Does (grammar_in p) classes (Run (mode_of m) (said p form)) s (Success (moved 1 s) None')) × IsSilent d
     go [] e z = absurd z
     go (c ∷ cs) e z =
         let w = y classes fits in
         let k : starts_in w.characters s.rest ≡ true = ap (starts_in w.characters) e ∙ (sym (w.covers c z.0) ∙ z.1) in
-        subst (λ b. (d : Does (grammar_in p) classes (Run (mode_of m) (said p form)) s (if b then Success (moved 1 s) None' else Failure)) × (furthest d ≡ 0)) k (w.holds m s)
+        subst (λ b. (d : Does (grammar_in p) classes (Run (mode_of m) (said p form)) s (if b then Success (moved 1 s) None' else Failure)) × IsSilent d) k (w.holds m s)
 
 -- so it does where it comes behind a refusal of another, or behind an option, and as a second alternative
 refusal_takes : (p : Program) (m : Atomicity) (a b : Expression) (ranges rest : List (ℕ × ℕ)) → IsTightIn p m
@@ -81,7 +82,7 @@ option_takes p m a b ranges rest tight takes fails classes fits s hit =
     let x = fails classes fits s hit in
     let k = tight classes s in
     let y = takes classes fits s x.0 in
-    (by.seq (by.opt_none x.1.0) k.0 y.0, omega (arith, x.1.1, k.1, y.1))
+    (by.seq (by.opt_none x.1.0) k.0 y.0, three_silent x.1.1 k.1 y.1)
 
 second_takes : (p : Program) (m : Atomicity) (a b : Expression) (ranges rest : List (ℕ × ℕ))
     → TakesOneIn p (Run (mode_of m) b) ranges → FailsBefore p (Run (mode_of m) a) ranges rest
@@ -89,7 +90,7 @@ second_takes : (p : Program) (m : Atomicity) (a b : Expression) (ranges rest : L
 second_takes p m a b ranges rest takes fails classes fits s hit =
     let x = fails classes fits s hit in
     let y = takes classes fits s x.0 in
-    (by.right x.1.0 y.0, omega (arith, x.1.1, y.1))
+    (by.right x.1.0 y.0, two_silent x.1.1 y.1)
 
 if_taken : {E : Type 0} (p : Program) (k q : Task) (ranges : List (ℕ × ℕ)) (r : Result (Option (Vec (ℕ × ℕ) Global)) E)
     → ((rest : List (ℕ × ℕ)) → FailsBefore p k ranges rest → TakesOneIn p q rest)

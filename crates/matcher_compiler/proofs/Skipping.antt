@@ -4,15 +4,16 @@ use Rattle.std.specs.Prelude.{Err, IfOk, IfSome, Ok, Option, Result, max}
 use Rattle.std.proofs.lemmas.List.{length-map}
 use Rattle.base_ast.specs.Ast.{rule_type_of, text_of}
 use Rattle.base_language.specs.Language.Expression.{Atomic, CompoundAtomic, Grammar, Ident, NonAtomic, Normal, Rep, Rule, RuleType, Silent, comment, rule_of, whitespace}
-use Rattle.base_language.specs.Language.FurthestFailure.{furthest, is_eoi, place_of}
+use Rattle.base_language.specs.Language.FurthestFailure.{is_eoi, place_of}
 use Rattle.base_language.specs.Language.Meaning as by
 use Rattle.base_language.specs.Language.Meaning.{Does, Run, Skipping, body_mode, gives_token, inherited, mode_in, seen_from, with_token}
 use Rattle.base_language.specs.Language.State.{AtomicMode, Between, Classes, CompoundAtomicMode, Failure, Mode, NonAtomicMode, None', Outcome, State, Success, Tree, moved}
 use Rattle.base_language.specs.Language.Text.{Text}
 use Rattle.base_language.proofs.Basics.{same_some}
+use Rattle.matcher_code.specs.Failures.{both, in_silence, no_failure}
 use Rattle.matcher_code.specs.declared.code.Code.{Code}
 use Rattle.matcher_code.specs.Laid as lay
-use Rattle.matcher_code.specs.Laid.{FailsOutside, HasOutcome, IsPart, IsPoint, IsTight, TakesSome, skip_set, span_of}
+use Rattle.matcher_code.specs.Laid.{FailsOutside, HasOutcome, IsPart, IsPoint, IsSilent, IsTight, TakesSome, skip_set, span_of}
 use Rattle.matcher_code.proofs.Characters.{silent_call_of_some, span_of_some}
 use Rattle.matcher_program.specs.declared.form.Program.{Program}
 use Rattle.matcher_program.specs.declared.form.Row.{Row}
@@ -26,20 +27,22 @@ use Rattle.matcher_sets.specs.Differences.{BeginsWith}
 use Rattle.matcher_sets.specs.Forms.{IsSoundProgram, grammar_in, no_rule, said}
 use Rattle.matcher_compiler.specs.Plans.{FailsWithout, IsBlankSet, SkipsAs, blanks, one_comment}
 use Rattle.matcher_sets.proofs.Skipping.{IsSkipName, comment_is_no_end, does_between, rule_is_skipped, same_mode, same_tokens, skipped_named, white_is_no_end}
+use Rattle.matcher_sets.proofs.Leaves.{other_failures}
 use Rattle.matcher_sets.proofs.Rules.{made, same}
 
 -- neither name is a rule's
 pub tight_nowhere : (g : Grammar) (classes : Classes) → rule_of g whitespace ≡ None → rule_of g comment ≡ None → IsTight g classes NonAtomicMode
 tight_nowhere g classes w m s = (
   by.skips (by.seq (by.rep_none (by.other w refl)) by.between (by.rep_none (by.seq_first (by.other m refl)))),
-  ap₂ (λ a b. max (if a then s.position else 0) (max 0 (if b then s.position else 0))) white_is_no_end comment_is_no_end,
+  λ place. ap₂ (λ a b. both (other_failures a whitespace place s Failure) (both no_failure (other_failures b comment place s Failure)))
+      white_is_no_end comment_is_no_end,
 )
 
 pub tight_atomic : (g : Grammar) (classes : Classes) → IsTight g classes AtomicMode
-tight_atomic g classes s = (by.atomic, refl)
+tight_atomic g classes s = (by.atomic, λ place. refl)
 
 pub tight_compound : (g : Grammar) (classes : Classes) → IsTight g classes CompoundAtomicMode
-tight_compound g classes s = (by.compound_atomic, refl)
+tight_compound g classes s = (by.compound_atomic, λ place. refl)
 
 -- the mode in which a silent rule of the skipping runs
 blank_mode : (b : Bool) → (m : code.Atomicity) × (mode_of m ≡ inherited b Between)
@@ -48,20 +51,20 @@ blank_mode false = (mode.NonAtomic, refl)
 
 -- as many blanks as there are, where there are no comments
 pub blanks_alone : (g : Grammar) (classes : Classes) (set : ℕ → Bool) → rule_of g comment ≡ None
-    → HasOutcome g classes (Run Between blanks) (skip_set set) (λ s. 0) → HasOutcome g classes (Skipping NonAtomicMode) (skip_set set) (λ s. 0)
+    → HasOutcome g classes (Run Between blanks) (skip_set set) in_silence → HasOutcome g classes (Skipping NonAtomicMode) (skip_set set) in_silence
 blanks_alone g classes set m has s =
     let x = has s in (
       by.skips (by.seq x.0 by.between (by.rep_none (by.seq_first (by.other m refl)))),
-      ap₂ (λ a b. max a (max 0 (if b then (moved (span_of set s.rest) s).position else 0))) x.1 comment_is_no_end,
+      λ place. ap₂ (λ a b. both a (both no_failure (other_failures b comment place (moved (span_of set s.rest) s) Failure))) (x.1 place) comment_is_no_end,
     )
 
 pub tight_between : (g : Grammar) (classes : Classes) → IsTight g classes Between
-tight_between g classes s = (by.between, refl)
+tight_between g classes s = (by.between, λ place. refl)
 
 -- the characters that the body of the rule matches are blanks
 pub blanks_any : (p : Program) (i : ℕ) (row : Row) (classes : Classes) (set : ℕ → Bool) → IsSoundProgram p → p.whitespace ≡ Some i
     → (within : i < length p.rows.items) → (is : row ≡ get_or p.rows.items i row) → rule_type_of row.kind ≡ Silent
-    → BeginsWith p classes row.body set → HasOutcome (grammar_in p) classes (Run Between blanks) (skip_set set) (λ s. 0)
+    → BeginsWith p classes row.body set → HasOutcome (grammar_in p) classes (Run Between blanks) (skip_set set) in_silence
 blanks_any p i row classes set sound white within is silent matches =
     let r = made p i row within is in
     let w = subst (IsSkippedRule (grammar_in p) whitespace) white sound.whitespace_is in
@@ -85,11 +88,11 @@ moved_none s = go s.position s.rest s.stack
     go q [] ts = ap (λ n. record { position = n; rest = []; stack = ts }) (add-zero q)
     go q (c ∷ cs) ts = ap (λ n. record { position = n; rest = c ∷ cs; stack = ts }) (add-zero q)
 
-pub no_blanks : (g : Grammar) (classes : Classes) → rule_of g whitespace ≡ None → HasOutcome g classes (Run Between blanks) (skip_set (λ c. false)) (λ s. 0)
+pub no_blanks : (g : Grammar) (classes : Classes) → rule_of g whitespace ≡ None → HasOutcome g classes (Run Between blanks) (skip_set (λ c. false)) in_silence
 no_blanks g classes w s =
     let e : moved (span_of (λ c. false) s.rest) s ≡ s = ap (λ n. moved n s) (span_none s.rest) ∙ moved_none s in
-    subst (λ t. (d : Does g classes (Run Between blanks) s (Success t None')) × (furthest d ≡ 0)) (sym e)
-    (by.rep_none (by.other w refl), ap (λ a. if a then s.position else 0) white_is_no_end)
+    subst (λ t. (d : Does g classes (Run Between blanks) s (Success t None')) × IsSilent d) (sym e)
+    (by.rep_none (by.other w refl), λ place. ap (λ a. other_failures a whitespace place s Failure) white_is_no_end)
 
 -- blanks, with comments or without
 pub skips_ready : (p : Program) (sets : Code) (set : ℕ) (b : Bool) → (b ≡ false → rule_of (grammar_in p) comment ≡ None) → IsBlankSet p sets set
@@ -98,10 +101,10 @@ skips_ready p sets set true none is = is
 skips_ready p sets set false none is = (none refl, is)
 
 module _ (g : Grammar) (classes : Classes) (x : Text) (r : Rule) (h : rule_of g x ≡ Some r) (b : (bytes_eq r.name whitespace || bytes_eq r.name comment) ≡ true) where
-  module _ (code : Code) (number : Text → ℕ) (points : List lay.Point) where
-    pub laid_between : {rank l n w : ℕ} → lay.Lays g classes code number points rank (Run NonAtomicMode (Ident x)) l n w → lay.Lays g classes code number points rank (Run Between (Ident x)) l n w
-    laid_between (lay.leaf f place has performs) =
-        lay.leaf f place (λ s. let y = has s in let z = does_between g classes x r h b s (f s) y.0 in (z.0, z.1 ∙ y.1)) performs
+  module _ (exact : Bool) (code : Code) (number : Text → ℕ) (points : List lay.Point) where
+    pub laid_between : {rank l n w : ℕ} → lay.Lays exact g classes code number points rank (Run NonAtomicMode (Ident x)) l n w → lay.Lays exact g classes code number points rank (Run Between (Ident x)) l n w
+    laid_between (lay.leaf f failures has performs) =
+        lay.leaf f failures (λ s. let y = has s in let z = does_between g classes x r h b s (f s) y.0 in (z.0, λ place. z.1 place ∙ y.1 place)) performs
     laid_between (lay.read f free has performs) = absurd (taken (sym h ∙ free))
       where
         taken : Some r ≡ None → ⊥
@@ -121,20 +124,20 @@ module _ (g : Grammar) (classes : Classes) (x : Text) (r : Rule) (h : rule_of g 
 
 -- without a rule of that name there are no comments
 pub no_comments : (g : Grammar) (classes : Classes) → rule_of g comment ≡ None
-    → HasOutcome g classes (Run Between (Rep one_comment)) (skip_set (λ c. false)) (λ s. 0)
+    → HasOutcome g classes (Run Between (Rep one_comment)) (skip_set (λ c. false)) in_silence
 no_comments g classes m s =
     let e : moved (span_of (λ c. false) s.rest) s ≡ s = ap (λ n. moved n s) (span_none s.rest) ∙ moved_none s in
-    subst (λ t. (d : Does g classes (Run Between (Rep one_comment)) s (Success t None')) × (furthest d ≡ 0)) (sym e)
-    (by.rep_none (by.seq_first (by.other m refl)), ap (λ a. if a then s.position else 0) comment_is_no_end)
+    subst (λ t. (d : Does g classes (Run Between (Rep one_comment)) s (Success t None')) × IsSilent d) (sym e)
+    (by.rep_none (by.seq_first (by.other m refl)), λ place. ap (λ a. other_failures a comment place s Failure) comment_is_no_end)
 
 -- a rule that is called in the implicit skipping
 module _ (p : Program) (x : Text) (i : ℕ) (meant : IsRuleOf (grammar_in p) x i) (blank : IsSkipName x) where
-  pub skipped_laid : (classes : Classes) (code : Code) (number : Text → ℕ) (points : List lay.Point) {rank l n w : ℕ}
-      → lay.Lays (grammar_in p) classes code number points rank (Run NonAtomicMode (Ident (name_at (names_of p.rows.items) i))) l n w
-      → lay.Lays (grammar_in p) classes code number points rank (Run Between (Ident x)) l n w
-  skipped_laid classes code number points {rank = rank} {l = l} {n = n} {w = w} y =
-      laid_between (grammar_in p) classes x (get_or (grammar_in p) i no_rule) (meant.meant no_rule) (rule_is_skipped p x i meant blank) code number points
-      (subst (λ z. lay.Lays (grammar_in p) classes code number points rank (Run NonAtomicMode (Ident z)) l n w) (skipped_named p x i meant) y)
+  pub skipped_laid : (exact : Bool) (classes : Classes) (code : Code) (number : Text → ℕ) (points : List lay.Point) {rank l n w : ℕ}
+      → lay.Lays exact (grammar_in p) classes code number points rank (Run NonAtomicMode (Ident (name_at (names_of p.rows.items) i))) l n w
+      → lay.Lays exact (grammar_in p) classes code number points rank (Run Between (Ident x)) l n w
+  skipped_laid exact classes code number points {rank = rank} {l = l} {n = n} {w = w} y =
+      laid_between (grammar_in p) classes x (get_or (grammar_in p) i no_rule) (meant.meant no_rule) (rule_is_skipped p x i meant blank) exact code number points
+      (subst (λ z. lay.Lays exact (grammar_in p) classes code number points rank (Run NonAtomicMode (Ident z)) l n w) (skipped_named p x i meant) y)
 
 -- two facts of a value give a third
 pub both_on_some : {X E : Type 0} {P Q R : X → Type 0} (r : Result (Option X) E) → ((x : X) → P x → Q x → R x)
@@ -145,7 +148,7 @@ both_on_some (Err e) f p q = tt
 
 -- where a comment cannot begin, there is none with blanks behind it
 pub comment_fails : (p : Program) (h : Head) → FailsWithout p (Run Between (Ident comment)) h → FailsWithout p (Run Between one_comment) h
-comment_fails p h fails classes fits s miss = let y = fails classes fits s miss in (by.seq_first y.0, y.1)
+comment_fails p h fails classes fits s miss = let y = fails classes fits s miss in (by.seq_first y.0, y.1, y.2)
 
 -- the rules `COMMENT` and `WHITESPACE` of a program
 pub comment_meant : (p : Program) (i : ℕ) → IsSoundProgram p → p.comment ≡ Some i → IsRuleOf (grammar_in p) comment i

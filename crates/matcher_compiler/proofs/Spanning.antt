@@ -11,14 +11,13 @@ use Rattle.std.specs.declared.string.String.{String}
 use Rattle.std.specs.declared.vec.Vec.{Vec}
 use Rattle.base_ast.specs.Ast.{text_of}
 use Rattle.base_language.specs.Language.Expression.{Expression, Rep, Seq, Skip}
-use Rattle.base_language.specs.Language.FurthestFailure.{furthest}
 use Rattle.base_language.specs.Language.Matching.{any_begins, begins, distance}
 use Rattle.base_language.specs.Language.Meaning as by
 use Rattle.base_language.specs.Language.Meaning.{Does, Run, Task}
 use Rattle.base_language.specs.Language.State.{Mode, None', Success, moved}
 use Rattle.base_language.specs.Language.Text.{Text}
 use Rattle.matcher_code.specs.Reading.{is_covered}
-use Rattle.matcher_code.specs.Laid.{span_of}
+use Rattle.matcher_code.specs.Laid.{IsSilent, span_of}
 use Rattle.matcher_code.proofs.Characters.{span_of_set}
 use Rattle.matcher_code.proofs.CharacterSets.{below}
 use Rattle.matcher_program.specs.declared.form.Form.{Form}
@@ -88,8 +87,37 @@ module _ (texts : List (String Global)) (others : List (ℕ × ℕ))
   searched_span all rest whole covers p m classes fits = record {
     characters = λ c. not (any_begins (map text_of texts) (c ∷ []));
     covers = λ c l. covers c l ∙ (ap₂ (λ a b. not a && b) (sym (same c [] l)) (whole c l) ∙ and-true (not (any_begins (map text_of texts) (c ∷ []))));
-    takes = λ s. subst (λ n. (d : Does (grammar_in p) classes (Run m (Skip (map text_of texts))) s (Success (moved n s) None')) × (furthest d ≡ 0)) (distance_of s.rest) (by.skip, refl);
+    takes = λ s. subst (λ n. (d : Does (grammar_in p) classes (Run m (Skip (map text_of texts))) s (Success (moved n s) None')) × IsSilent d) (distance_of s.rest) (by.skip, λ place. refl);
   }
+
+or_true : (b : Bool) → (b || true) ≡ true
+or_true true = refl
+or_true false = refl
+
+-- a search for an empty text takes nothing
+begins_empty : (t u : Text) → begins nat_eq t [] ≡ true → begins nat_eq t u ≡ true
+begins_empty [] u h = refl
+begins_empty (x ∷ t) u h = cc
+
+any_empty : (ts : List Text) (u : Text) → any_begins ts [] ≡ true → any_begins ts u ≡ true
+any_empty [] u h = cc
+any_empty (t ∷ ts) u h = go (begins nat_eq t []) refl h
+  where
+    go : (b : Bool) → begins nat_eq t [] ≡ b → (b || any_begins ts []) ≡ true → (begins nat_eq t u || any_begins ts u) ≡ true
+    go true e k = ap (λ b. b || any_begins ts u) (begins_empty t u e)
+    go false e k = ap (λ b. begins nat_eq t u || b) (any_empty ts u k) ∙ or_true (begins nat_eq t u)
+
+no_distance : (ts : List Text) → any_begins ts [] ≡ true → (cs : Text) → distance ts cs ≡ span_of (λ c. false) cs
+no_distance ts h [] = refl
+no_distance ts h (c ∷ cs) = ap (λ b. if b then 0 else suc (distance ts cs)) (any_empty ts (c ∷ cs) h)
+
+pub nothing_searched : (ts : List Text) (ranges : List (ℕ × ℕ)) → any_begins ts [] ≡ true → ranges ≡ [] → (p : Program) (m : Mode)
+    → TakesSpanIn p (Run m (Skip ts)) ranges
+nothing_searched ts ranges h e p m classes fits = record {
+  characters = λ c. false;
+  covers = λ c l. ap (λ rs. is_covered rs c) e;
+  takes = λ s. subst (λ n. (d : Does (grammar_in p) classes (Run m (Skip ts)) s (Success (moved n s) None')) × IsSilent d) (no_distance ts h s.rest) (by.skip, λ place. refl);
+}
 
 -- so it is in a program and a mode
 pub search_in : {E : Type 0} (p : Program) (m : Mode) (texts : List (String Global)) (r : Result (Option (Vec (ℕ × ℕ) Global)) E)

@@ -1,5 +1,5 @@
 -- Programs of operations that are those of rules.
-use Rattle.std.specs.Prelude.{◌≡◌, ◌<◌, ◌+◌, ℕ, List, [], get_or, length, map}
+use Rattle.std.specs.Prelude.{◌≡◌, ◌<◌, ◌+◌, ℕ, Bool, List, [], get_or, length, map}
 use Rattle.base_language.specs.Language.Expression.{Ident}
 use Rattle.base_language.specs.Language.Meaning.{Run}
 use Rattle.base_language.specs.Language.State.{Classes, NonAtomicMode}
@@ -38,11 +38,12 @@ HasEntries p plan n = (code : Code) (laid : List lay.Point) → Meets p plan cod
     → IsPoint laid (Run NonAtomicMode (Ident (name_at (names_of p.rows.items) i))) (i + 3) 1 2
 
 -- the program has code for the body of each rule in each mode in which it is called, and a call of each rule
--- from outside begins at the label after three more than its index
-pub record IsCodeOf (p : Program) (code : Code) : Type 0 where
+-- from outside begins at the label after three more than its index; exact code records each name that is
+-- expected
+pub record IsCodeOf (exact : Bool) (p : Program) (code : Code) : Type 0 where
   pub ends : HasEnds code
   pub points : List lay.Point
   pub laid : (classes : Classes) → Fits p.properties.items classes
-      → AreLaid (grammar_in p) classes code (number_in (grammar_in p)) points
+      → AreLaid exact (grammar_in p) classes code (number_in (grammar_in p)) points
   pub entries : (i : ℕ) → i < length p.rows.items
       → IsPoint points (Run NonAtomicMode (Ident (name_at (names_of p.rows.items) i))) (i + 3) 1 2

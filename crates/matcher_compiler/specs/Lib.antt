@@ -2,3 +2,4 @@ pub mod Names
 pub mod Sets
 pub mod Plans
 pub mod Compiled
+pub mod Exact

@@ -1,9 +1,8 @@
 -- Numbers of rules by their names.
-use Rattle.std.specs.Prelude.{◌≡◌, ◌<◌, ℕ, suc, List, Bool, true, false, Option, Some, None, length}
+use Rattle.std.specs.Prelude.{◌≡◌, ◌<◌, ◌⊎◌, ℕ, suc, List, [], ◌∷◌, ⊤, Bool, true, false, Option, Some, None, get_or, length}
 use Rattle.base_language.specs.Language.Text.{Text}
 use Rattle.base_language.specs.Language.Expression.{Grammar, last_place}
 use Rattle.base_language.specs.Language.FurthestFailure.{is_eoi}
-use Rattle.matcher_program.specs.declared.form.Program.{Program}
 use Rattle.matcher_program.specs.declared.form.Row.{Row}
 use Rattle.matcher_program.specs.Programs.{grammar_of, name_at, names_of}
 
@@ -22,6 +21,16 @@ number_in g n = or_end (last_place g n) (is_eoi n) (length g)
 abbrev pub IsLast : List Row → ℕ → Type 0
 IsLast rows i = last_place (grammar_of rows) (name_at (names_of rows) i) ≡ Some i
 
--- no two rules have one name
-abbrev pub HasOwnNames : Program → Type 0
-HasOwnNames p = (i : ℕ) → i < length p.rows.items → IsLast p.rows.items i
+-- for each row the index of the last row of its name
+pub record AreLast (rows : List Row) (lasts : List ℕ) : Type 0 where
+  pub long : length lasts ≡ length rows
+  pub last : (i : ℕ) → i < length rows
+      → last_place (grammar_of rows) (name_at (names_of rows) i) ≡ Some (get_or lasts i 0)
+
+-- a rule has the name, or else it is `EOI`
+abbrev pub HasNumber : Grammar → Text → Type 0
+HasNumber g n = ((i : ℕ) × (last_place g n ≡ Some i)) ⊎ ((last_place g n ≡ None) × (is_eoi n ≡ true))
+
+abbrev pub HaveNumbers : Grammar → List Text → Type 0
+HaveNumbers g [] = ⊤
+HaveNumbers g (n ∷ ns) = HasNumber g n × HaveNumbers g ns

@@ -5,15 +5,15 @@ use Rattle.base_language.specs.Language.Meaning.{Does, Run, Skipping, Task, once
 use Rattle.base_language.specs.Language.State as language
 use Rattle.base_language.specs.Language.Text.{Text}
 use Rattle.base_language.specs.Language.State.{Between, Classes, Failure, NonAtomicMode, State}
-use Rattle.base_language.specs.Language.FurthestFailure.{furthest}
 use Rattle.matcher_code.specs.declared.code.Code.{Code}
 use Rattle.matcher_code.specs.declared.code.Op.TheVariants as op
+use Rattle.matcher_code.specs.Failures.{in_silence}
 use Rattle.matcher_code.specs.Reading.{char_len, text_of}
 use Rattle.matcher_code.specs.Sets.{IsSetOf}
 use Rattle.matcher_program.specs.declared.form.Program.{Program}
 use Rattle.matcher_program.specs.Programs.{Fits, name_at, names_of}
 use Rattle.matcher_code.specs.Laid as lay
-use Rattle.matcher_code.specs.Laid.{Branches, Continues, Enters, FailsOutside, HasOutcome, HasTable, Hits, IsEnd, IsPart, IsPoint, IsTight, Lays, TakesNone, TakesOne, at_label, skip_set}
+use Rattle.matcher_code.specs.Laid.{Branches, Continues, Enters, FailsOutside, HasOutcome, HasTable, Hits, IsEnd, IsPart, IsPoint, IsSilent, IsTight, Lays, TakesNone, TakesOne, at_label, skip_set}
 use Rattle.matcher_compiler.specs.declared.plan.Plan.{Plan}
 use Rattle.matcher_compiler.specs.declared.plan.Skips.{Skips}
 use Rattle.matcher_compiler.specs.declared.plan.Skips.TheVariants as skips
@@ -27,6 +27,7 @@ use Rattle.matcher_compiler.specs.declared.points.Part.TheVariants as part
 use Rattle.matcher_compiler.specs.declared.points.Place.{Place}
 use Rattle.matcher_compiler.specs.declared.points.Point.{Point}
 use Rattle.matcher_sets.specs.Modes.{mode_of}
+use Rattle.matcher_compiler.specs.Exact.{IsAllowed, is_exact}
 use Rattle.matcher_compiler.specs.Names.{number_in}
 use Rattle.matcher_sets.specs.Forms.{IsBoundIn, grammar_in, no_rule, said}
 use Rattle.matcher_sets.specs.Ranges.{Covers}
@@ -106,7 +107,7 @@ IsMet p code laid (demand.Operation l o) = at_label code l ≡ o
 IsMet p code laid (demand.Body i m first last point) =
     IsPoint laid (Run (mode_of m) (body_in p i)) first last 0
 IsMet p code laid (demand.GoesOn l) = IsEnd code l → ⊥
-IsMet p code laid (demand.Branch b) = HasBranch code b
+IsMet p code laid (demand.Branch b) = HasBranch code b × IsAllowed code b.noted
 
 -- the program has the points, what is demanded, the sets, the texts and the lists of a plan
 pub record Meets (p : Program) (plan : Plan) (code : Code) (laid : List lay.Point) : Type 0 where
@@ -131,7 +132,7 @@ pub record AreTexts (code : Code) (numbers : List ℕ) (ts : List Text) : Type 0
 pub record TakesSpan (p : Program) (classes : Classes) (k : Task) (ranges : List (ℕ × ℕ)) : Type 0 where
   pub characters : ℕ → Bool
   pub covers : Covers ranges characters
-  pub takes : HasOutcome (grammar_in p) classes k (skip_set characters) (λ s. 0)
+  pub takes : HasOutcome (grammar_in p) classes k (skip_set characters) in_silence
 
 abbrev pub TakesSpanIn : Program → Task → List (ℕ × ℕ) → Type 0
 TakesSpanIn p k ranges = (classes : Classes) → Fits p.properties.items classes → TakesSpan p classes k ranges
@@ -180,13 +181,14 @@ pub record IsLater (p : Program) (old new : Plan) : Type 0 where
 abbrev pub LaysAt : Program → Plan → Task → Place → Type 0
 LaysAt p plan k at = (classes : Classes) → Fits p.properties.items classes
     → (code : Code) (laid : List lay.Point) → Meets p plan code laid
-    → Lays (grammar_in p) classes code (number_in (grammar_in p)) laid at.rank k at.label at.next at.way
+    → Lays (is_exact code) (grammar_in p) classes code (number_in (grammar_in p)) laid at.rank k
+    at.label at.next at.way
 
 -- so it goes on from the place to the task at a label
 abbrev pub EntersAt : Program → Plan → Task → Place → ℕ → Type 0
 EntersAt p plan k at first = (classes : Classes) → Fits p.properties.items classes
     → (code : Code) (laid : List lay.Point) → Meets p plan code laid
-    → Enters (grammar_in p) classes code k at.label first at.way
+    → Enters (is_exact code) (grammar_in p) classes code k at.label first at.way
 
 -- where no character of a head is next, the task fails, and records a failure there or none
 abbrev pub FailsWithout : Program → Task → Head → Type 0
@@ -202,7 +204,7 @@ TakesNoneIn p k h = (classes : Classes) → Fits p.properties.items classes
 abbrev pub BranchesAt : Program → Plan → Task → Place → (first second : ℕ) → Type 0
 BranchesAt p plan k at first second = (classes : Classes) → Fits p.properties.items classes
     → (code : Code) (laid : List lay.Point) → Meets p plan code laid
-    → HasTable (grammar_in p) classes code k at.label first second at.next at.way
+    → HasTable (is_exact code) (grammar_in p) classes code k at.label first second at.next at.way
 
 -- where a character of the ranges is next, the task takes it alone, and records no failure
 abbrev pub TakesOneIn : Program → Task → List (ℕ × ℕ) → Type 0
@@ -213,13 +215,13 @@ TakesOneIn p k ranges = (classes : Classes) → Fits p.properties.items classes
 abbrev pub FailsBefore : Program → Task → List (ℕ × ℕ) → List (ℕ × ℕ) → Type 0
 FailsBefore p k ranges rest = (classes : Classes) → Fits p.properties.items classes → (s : State)
     → Hits rest s.rest
-    → Hits ranges s.rest × ((d : Does (grammar_in p) classes k s Failure) × (furthest d ≡ 0))
+    → Hits ranges s.rest × ((d : Does (grammar_in p) classes k s Failure) × IsSilent d)
 
 -- so it goes on from the place to a point that does the task
 pub record IsEntered (g : Grammar) (classes : Classes) (code : Code) (laid : List lay.Point) (k : Task)
     (at : Place) : Type 0 where
   pub first : ℕ
-  pub entered : Enters g classes code k at.label first at.way
+  pub entered : Enters (is_exact code) g classes code k at.label first at.way
   pub point : IsPart laid at.rank k first at.next at.way
 
 abbrev pub BeginsAt : Program → Plan → Task → Place → Type 0
@@ -248,6 +250,6 @@ HasParts p plan first second at = (code : Code) (laid : List lay.Point) → Meet
 abbrev pub HasTurns : Program → Plan → Expression → Place → ℕ → Type 0
 HasTurns p plan e at start = (classes : Classes) (code : Code) (laid : List lay.Point)
     → Meets p plan code laid
-    → Enters (grammar_in p) classes code (Run (mode_of at.mode) e) at.label start at.next
-    → Lays (grammar_in p) classes code (number_in (grammar_in p)) laid at.rank (Run (mode_of at.mode) (Rep e))
-    at.label at.next at.way
+    → Enters (is_exact code) (grammar_in p) classes code (Run (mode_of at.mode) e) at.label start at.next
+    → Lays (is_exact code) (grammar_in p) classes code (number_in (grammar_in p)) laid at.rank
+    (Run (mode_of at.mode) (Rep e)) at.label at.next at.way

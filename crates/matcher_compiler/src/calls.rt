@@ -1,5 +1,5 @@
 //! Calls of rules.
-ghost use Rattle.std.specs.Prelude.{◌≡◌, ◌<◌, ◌≤◌, IfOk, List, OnOk, false, get_or, length, true};
+ghost use Rattle.std.specs.Prelude.{◌≡◌, ◌<◌, ◌^◌, IfOk, List, OnOk, false, get_or, length, true};
 ghost use Rattle.base_ast.specs.Ast.{rule_type_of};
 ghost use Rattle.base_language.specs.Language.Expression.{Ident};
 ghost use Rattle.base_language.specs.Language.Meaning.{Run, gives_token};
@@ -9,7 +9,7 @@ ghost use Rattle.matcher_code.specs.Laid.{IsPoint};
 ghost use Rattle.matcher_program.specs.Programs.{IsRuleOf, name_at, names_of};
 ghost use Rattle.matcher_program.specs.declared.form.Program.{Program};
 ghost use Rattle.matcher_sets.specs.Modes.{mode_of};
-ghost use Rattle.matcher_compiler.specs.Names.{HasOwnNames};
+ghost use Rattle.matcher_compiler.specs.Names.{AreLast, IsLast};
 ghost use Rattle.matcher_sets.specs.Forms.{IsSoundProgram, grammar_in};
 ghost use Rattle.matcher_compiler.specs.Plans.{IsLater, LaysAt, Meets, body_in};
 
@@ -141,8 +141,8 @@ impl<'p> Plan<'p> {
         at: Place,
     ) -> Result<(), NotCompiled>
         requires sound { IsSoundProgram program.now }
-        requires own { HasOwnNames program.now }
-        requires few { length program.now.rows.items ≤ 4096 }
+        requires last { IsLast program.now.rows.items rule }
+        requires few { length program.now.rows.items < 2 ^ 28 }
         requires within { rule < length program.now.rows.items }
         requires meant { IsRuleOf (grammar_in program.now)
             (name_at (names_of program.now.rows.items) rule) rule }
@@ -293,31 +293,40 @@ impl<'p> Plan<'p> {
         }
     }
 
-    /// Plans a call of a rule.
-    pub(crate) fn call(
-        &mut self,
-        program: &Program,
-        rule: usize,
-        at: Place,
-    ) -> Result<(), NotCompiled>
+    /// Plans a call of a rule that is the last one of its name.
+    fn last_call(&mut self, program: &Program, rule: usize, at: Place) -> Result<(), NotCompiled>
         requires sound { IsSoundProgram program.now }
-        requires own { HasOwnNames program.now }
-        requires few { length program.now.rows.items ≤ 4096 }
-        requires meant { IsRuleOf (grammar_in program.now)
-            (name_at (names_of program.now.rows.items) rule) rule }
+        requires last { IsLast program.now.rows.items rule }
+        requires few { length program.now.rows.items < 2 ^ 28 }
+        requires within { rule < length program.now.rows.items }
         ensures later { OnOk result (IsLater program.now self.old self.new) }
         ensures lays { OnOk result (LaysAt program.now self.new
             (Run (mode_of at.mode) (Ident (name_at (names_of program.now.rows.items) rule))) at) }
     {
-        match program.rows.get(rule) {
-            Some(row) => {
-                if gives_token(row.kind, at.mode) {
-                    self.token_call(program, rule, row, at)
-                } else {
-                    self.quiet_call(program, rule, row, at)
-                }
-            }
-            None => Err(NotCompiled::Unsupported),
+        let row = &program.rows[rule];
+        if gives_token(row.kind, at.mode) {
+            self.token_call(program, rule, row, at)
+        } else {
+            self.quiet_call(program, rule, row, at)
         }
+    }
+
+    /// Plans a call of the last rule of a name, which is that of the rule of a number.
+    pub(crate) fn call(
+        &mut self,
+        program: &Program,
+        lasts: &[usize],
+        rule: usize,
+        at: Place,
+    ) -> Result<(), NotCompiled>
+        requires sound { IsSoundProgram program.now }
+        requires lasts { AreLast program.now.rows.items lasts.now }
+        requires few { length program.now.rows.items < 2 ^ 28 }
+        requires within { rule < length program.now.rows.items }
+        ensures later { OnOk result (IsLater program.now self.old self.new) }
+        ensures lays { OnOk result (LaysAt program.now self.new
+            (Run (mode_of at.mode) (Ident (name_at (names_of program.now.rows.items) rule))) at) }
+    {
+        self.last_call(program, lasts[rule], at)
     }
 }

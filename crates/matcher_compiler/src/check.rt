@@ -5,9 +5,10 @@ ghost use Rattle.matcher_code.specs.Laid.{IsEnd, IsPoint, at_label};
 ghost use Rattle.matcher_program.specs.declared.form.Program.{Program};
 ghost use Rattle.matcher_compiler.specs.Compiled.{AreMet, HasEnds};
 ghost use Rattle.matcher_sets.specs.Modes.{mode_of};
-ghost use Rattle.matcher_compiler.specs.Plans.{IsMet, body_in, laid_point};
+ghost use Rattle.matcher_compiler.specs.Exact.{IsAllowed, is_exact, is_note};
+ghost use Rattle.matcher_compiler.specs.Plans.{HasBranch, IsMet, body_in, laid_point};
 
-use crate::points::{Demand, Part, Point};
+use crate::points::{Branch, Demand, Part, Point};
 use crate::tables::has_branch;
 use matcher_code::code::{Code, Op};
 use matcher_sets::modes::Atomicity;
@@ -365,8 +366,41 @@ fn has_body(
     true
 }
 
-/// Returns whether a program has what is demanded.
-fn meets(code: &Code, points: &[Point<'_>], demand: Demand) -> bool
+/// Returns whether an operation records a failure without a name.
+fn is_note(op: Op) -> bool
+    ensures { result ≡ is_note op }
+{
+    matches!(op, Op::Note { next: _ })
+}
+
+/// Returns whether no operation of a program records a failure without a name.
+pub(crate) fn is_exact(code: &Code) -> bool
+    ensures { result ≡ is_exact code.now }
+{
+    for op in &code.ops {
+        if is_note(*op) {
+            return false;
+        }
+    }
+    true
+}
+
+/// Returns whether a table has the labels of a choice, and leads over no noted failure in exact code.
+/// `exact`: whether the code is so.
+fn has_table(code: &Code, exact: bool, branch: Branch) -> bool
+    requires { exact ≡ is_exact code.now }
+    ensures branches { result ≡ true → HasBranch code.now branch }
+    ensures allowed { result ≡ true → IsAllowed code.now branch.noted }
+{
+    if exact && branch.noted {
+        return false;
+    }
+    has_branch(code, branch)
+}
+
+/// Returns whether a program has what is demanded. `exact`: whether it is exact.
+fn meets(code: &Code, exact: bool, points: &[Point<'_>], demand: Demand) -> bool
+    requires { exact ≡ is_exact code.now }
     ensures { result ≡ true → (p : Program) → IsMet p code.now (map (laid_point p) points.now) demand }
 {
     match demand {
@@ -379,7 +413,7 @@ fn meets(code: &Code, points: &[Point<'_>], demand: Demand) -> bool
             point,
         } => has_body(points, point, rule, mode, first, last),
         Demand::GoesOn { label } => goes_on(code, label),
-        Demand::Branch(branch) => has_branch(code, branch),
+        Demand::Branch(branch) => has_table(code, exact, branch),
     }
 }
 
@@ -387,8 +421,9 @@ fn meets(code: &Code, points: &[Point<'_>], demand: Demand) -> bool
 pub(crate) fn meets_all(code: &Code, points: &[Point<'_>], demands: &[Demand]) -> bool
     ensures { result ≡ true → AreMet code.now points.now demands.now }
 {
+    let exact = is_exact(code);
     for demand in demands {
-        if !meets(code, points, *demand) {
+        if !meets(code, exact, points, *demand) {
             return false;
         }
     }

@@ -1,17 +1,17 @@
 //! The compiler.
-ghost use Rattle.std.specs.Prelude.{◌≡◌, ◌<◌, ◌≤◌, IfOk, IfSome, None, OnOk, Some, [], false, get_or, if◌then◌else◌, length, map, true};
+ghost use Rattle.std.specs.Prelude.{◌≡◌, ◌<◌, ◌^◌, IfOk, IfSome, None, OnOk, Some, [], false, get_or, if◌then◌else◌, length, map, true};
 ghost use Rattle.base_ast.specs.Ast.{rule_type_of};
 ghost use Rattle.base_language.specs.Language.Expression.{Silent};
 ghost use Rattle.matcher_code.specs.Sets.{IsAligned};
 ghost use Rattle.matcher_program.specs.declared.form.Program.{Program};
 ghost use Rattle.matcher_compiler.specs.Compiled.{AreMet, HasEnds, HasEntries, IsCodeOf, IsEmpty};
-ghost use Rattle.matcher_compiler.specs.Names.{HasOwnNames};
+ghost use Rattle.matcher_compiler.specs.Exact.{is_exact};
 ghost use Rattle.matcher_compiler.specs.declared.plan.Skips.TheVariants as skips;
 ghost use Rattle.matcher_compiler.specs.Plans.{AreBlanks, IsLater, IsReady, Meets, laid_point};
 ghost use Rattle.matcher_sets.specs.Forms.{IsSoundProgram};
 
-use crate::check::{has_ends, meets_all};
-use crate::names::has_own_names;
+use crate::check::{has_ends, is_exact, meets_all};
+use crate::names::last_rows;
 use crate::plan::{Plan, Skips};
 use crate::points::{Demand, NO_CALL, NotCompiled, Part, Place, Point, TOP_RANK};
 use crate::tables::{write_tables, zeros};
@@ -26,8 +26,8 @@ use matcher_sets::modes::Atomicity;
 use matcher_sets::sizes::body_sizes;
 use std::alloc::Global;
 
-/// The largest number of rules.
-const MOST_RULES: usize = 4096;
+/// The number from which on there are too many rules.
+const TOO_MANY_RULES: usize = 1 << 28;
 
 /// Returns a program of nothing.
 fn empty_code(alloc: Global) -> Code
@@ -233,7 +233,7 @@ fn plan_ends(plan: &mut Plan<'_>) -> Result<(), NotCompiled>
 
 /// Plans a call of each rule from outside.
 fn plan_entries(program: &Program, plan: &mut Plan<'_>) -> Result<(), NotCompiled>
-    requires few { length program.now.rows.items ≤ 4096 }
+    requires few { length program.now.rows.items < 2 ^ 28 }
     ensures later { OnOk result (IsLater program.now plan.old plan.new) }
     ensures has { OnOk result (HasEntries program.now plan.new (length program.now.rows.items)) }
 {
@@ -333,50 +333,44 @@ fn finish(alloc: Global, plan: Plan<'_>) -> Result<Code, NotCompiled>
     Ok(code)
 }
 
-/// Refuses rules of which two have one name. The only other error is an allocation failure.
-fn refuse_same_names(alloc: Global, program: &Program) -> Result<(), NotCompiled>
-    ensures { OnOk result (HasOwnNames program.now) }
+/// Makes a program for rules. Errors: rules that need more labels than `u32` has numbers; and an allocation
+/// failure.
+pub fn compile(alloc: Global, program: &Program) -> Result<Code, NotCompiled>
+    requires sound { IsSoundProgram program.now }
+    ensures { IfOk result (IsCodeOf false program.now) }
 {
-    let has_own = has_own_names(alloc, program)?;
-    if has_own {
-        Ok(())
+    let code = compile_with(alloc, program, false)?;
+    Ok(code)
+}
+
+/// Makes a program as `compile`, which calls each rule whose failure is recorded, so that its runs find the
+/// names that are expected.
+pub fn compile_for_names(alloc: Global, program: &Program) -> Result<Code, NotCompiled>
+    requires sound { IsSoundProgram program.now }
+    ensures { IfOk result (IsCodeOf true program.now) }
+{
+    let code = compile_with(alloc, program, true)?;
+    if is_exact(&code) {
+        Ok(code)
     } else {
         Err(NotCompiled::Unsupported)
     }
 }
 
-/// Makes a program as `compile`, which calls each rule whose failure is recorded, so that a run finds the
-/// names that are expected.
-pub fn compile_for_names(alloc: Global, program: &Program) -> Result<Code, NotCompiled>
-    requires sound { IsSoundProgram program.now }
-    ensures { IfOk result (IsCodeOf program.now) }
-{
-    compile_with(alloc, program, true)
-}
-
-/// Makes a program for rules. Errors: rules that have an expression of a kind that is not compiled, or are
-/// more than 4096; and an allocation failure.
-pub fn compile(alloc: Global, program: &Program) -> Result<Code, NotCompiled>
-    requires sound { IsSoundProgram program.now }
-    ensures { IfOk result (IsCodeOf program.now) }
-{
-    compile_with(alloc, program, false)
-}
-
-/// Makes a program, with calls of all rules whose failures are recorded or without those that a test spares.
+/// Makes a program, with calls of all rules whose failures are recorded, or without those that a test spares.
 fn compile_with(alloc: Global, program: &Program, calls_all: bool) -> Result<Code, NotCompiled>
     requires sound { IsSoundProgram program.now }
-    ensures { IfOk result (IsCodeOf program.now) }
+    ensures { IfOk result (λ code. IsCodeOf (is_exact code) program.now code) }
 {
-    if program.rows.len() > MOST_RULES {
+    if program.rows.len() >= TOO_MANY_RULES {
         return Err(NotCompiled::Unsupported);
     }
-    refuse_same_names(alloc, program)?;
+    let lasts = last_rows(alloc, program)?;
     let mut plan = first_plan(alloc, program)?;
     plan_ends(&mut plan)?;
     plan_entries(program, &mut plan)?;
     let heads = rule_heads(alloc, program, calls_all)?;
-    plan.plan(alloc, program, &heads)?;
+    plan.plan(alloc, program, &heads, &lasts)?;
     let code = finish(alloc, plan)?;
     Ok(code)
 }

@@ -3,6 +3,7 @@ ghost use Rattle.std.specs.Prelude.{◌≡◌, ◌<◌, None, OnOk, Some};
 ghost use Rattle.base_language.specs.Language.Expression.{Choice, Expression, NegPred, Opt, PosPred, Rep, Seq};
 ghost use Rattle.base_language.specs.Language.Meaning.{Run, Skipping};
 ghost use Rattle.base_language.specs.Language.State.{NonAtomicMode};
+ghost use Rattle.matcher_code.specs.declared.code.Op.TheVariants as op;
 ghost use Rattle.matcher_sets.specs.Modes.{mode_of};
 ghost use Rattle.matcher_sets.specs.Forms.{IsBoundIn, IsSoundProgram, said};
 ghost use Rattle.matcher_sets.specs.Heads.{AreHeads};
@@ -17,38 +18,27 @@ use matcher_sets::heads::Heads;
 use std::alloc::Global;
 
 impl<'p> Plan<'p> {
-    /// Plans a lookahead: where its body matches, the run goes on at `found`, and else at `missed`.
+    /// Plans a lookahead: it begins with an operation that pushes a slot, and where its body matches, the run
+    /// goes on at `found`.
     pub(crate) fn lookahead(
         &mut self,
         program: &Program,
         body: &'p Form,
         at: Place,
         own: u32,
+        begin: Op,
         found: u32,
-        missed: u32,
-        is_negative: bool,
     ) -> Result<(), NotCompiled>
         requires bound { IsBoundIn program.now body.now }
         ensures later { OnOk result (IsLater program.now self.old self.new) }
-        ensures positive { OnOk result (found ≡ at.next → missed ≡ at.way
+        ensures positive { OnOk result (begin ≡ op.Try own at.way → found ≡ at.next
             → LaysAt program.now self.new
             (Run (mode_of at.mode) (PosPred (said program.now body.entry.now))) at) }
-        ensures negative { OnOk result (found ≡ at.way → missed ≡ at.next
+        ensures negative { OnOk result (begin ≡ op.Not own at.next → found ≡ at.way
             → LaysAt program.now self.new
             (Run (mode_of at.mode) (NegPred (said program.now body.entry.now))) at) }
     {
         let last = own.saturating_add(1);
-        let begin = if is_negative {
-            Op::Not {
-                next: own,
-                fail: missed,
-            }
-        } else {
-            Op::Try {
-                next: own,
-                fail: missed,
-            }
-        };
         self.operation(at.label, begin)?;
         self.operation(last, Op::Ahead { next: found })?;
         self.point(

@@ -1,5 +1,5 @@
 //! Plans of expressions without operands.
-ghost use Rattle.std.specs.Prelude.{◌≡◌, ◌≤◌, ◌&&◌, ℕ, IfOk, List, None, OnOk, chars, codes, length, not, true};
+ghost use Rattle.std.specs.Prelude.{◌≡◌, ◌<◌, ◌^◌, ◌&&◌, ℕ, IfOk, List, None, OnOk, chars, codes, length, not, true};
 ghost use Rattle.base_language.specs.Language.Expression.{Ident, Insens, Seq, Str, rule_of};
 ghost use Rattle.base_language.specs.Language.Meaning.{Run, seen_from};
 ghost use Rattle.base_language.specs.Language.State.{AtomicMode};
@@ -26,7 +26,7 @@ pub(crate) const FAIL: u32 = 0;
 
 /// Returns the number of the rows, which is that of `EOI`.
 fn end_row(program: &Program) -> u32
-    requires { length program.now.rows.items ≤ 4096 }
+    requires { length program.now.rows.items < 2 ^ 28 }
     ensures { result ≡ length program.now.rows.items }
 {
     program.rows.len() as u32
@@ -261,7 +261,7 @@ impl<'p> Plan<'p> {
     pub(crate) fn end(&mut self, program: &Program, at: Place, own: u32) -> Result<(), NotCompiled>
         requires bound { rule_of (grammar_in program.now) (codes "EOI") ≡ None }
         requires seen { seen_from (mode_of at.mode) ≡ true }
-        requires few { length program.now.rows.items ≤ 4096 }
+        requires few { length program.now.rows.items < 2 ^ 28 }
         ensures later { OnOk result (IsLater program.now self.old self.new) }
         ensures lays { OnOk result
             (LaysAt program.now self.new (Run (mode_of at.mode) (Ident (codes "EOI"))) at) }

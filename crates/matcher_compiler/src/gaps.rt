@@ -1,12 +1,12 @@
 //! The implicit skipping.
-ghost use Rattle.std.specs.Prelude.{◌≡◌, ◌≤◌, IfOk, IfSome, None, OnOk, false, length};
+ghost use Rattle.std.specs.Prelude.{◌≡◌, ◌<◌, ◌^◌, IfOk, IfSome, None, OnOk, false, length};
 ghost use Rattle.base_language.specs.Language.Expression.{Expression, Ident, Rep, comment, rule_of, whitespace};
 ghost use Rattle.base_language.specs.Language.Meaning.{Run, Skipping, skipped};
 ghost use Rattle.base_language.specs.Language.State.{Between, NonAtomicMode};
 ghost use Rattle.matcher_program.specs.declared.form.Program.{Program};
 ghost use Rattle.matcher_program.specs.Programs.{IsRuleOf, name_at, names_of};
 ghost use Rattle.matcher_sets.specs.Modes.{mode_of};
-ghost use Rattle.matcher_compiler.specs.Names.{HasOwnNames};
+ghost use Rattle.matcher_compiler.specs.Names.{AreLast};
 ghost use Rattle.matcher_sets.specs.Forms.{IsSoundProgram, grammar_in};
 ghost use Rattle.matcher_sets.specs.Heads.{AreHeads, HasHead};
 ghost use Rattle.matcher_compiler.specs.Plans.{FailsWithout, IsBlankSet, IsBoundPart, IsLater, IsReady, IsTightIn, LaysAt, blanks, one_comment, task_in};
@@ -283,10 +283,15 @@ impl<'p> Plan<'p> {
     }
 
     /// Plans a call of `WHITESPACE`, which is as one in NonAtomic.
-    pub(crate) fn blank_call(&mut self, program: &Program, at: Place) -> Result<(), NotCompiled>
+    pub(crate) fn blank_call(
+        &mut self,
+        program: &Program,
+        lasts: &[usize],
+        at: Place,
+    ) -> Result<(), NotCompiled>
         requires sound { IsSoundProgram program.now }
-        requires names { HasOwnNames program.now }
-        requires few { length program.now.rows.items ≤ 4096 }
+        requires lasts { AreLast program.now.rows.items lasts.now }
+        requires few { length program.now.rows.items < 2 ^ 28 }
         ensures later { OnOk result (IsLater program.now self.old self.new) }
         ensures lays { OnOk result (LaysAt program.now self.new (Run Between (Ident whitespace)) at) }
     {
@@ -298,7 +303,7 @@ impl<'p> Plan<'p> {
             mode: Atomicity::NonAtomic,
             ..at
         };
-        self.call(program, rule, place)?;
+        self.call(program, lasts, rule, place)?;
         Ok(())
     }
 
@@ -412,10 +417,15 @@ impl<'p> Plan<'p> {
     }
 
     /// Plans a call of `COMMENT`, which is as one in NonAtomic.
-    pub(crate) fn comment_call(&mut self, program: &Program, at: Place) -> Result<(), NotCompiled>
+    pub(crate) fn comment_call(
+        &mut self,
+        program: &Program,
+        lasts: &[usize],
+        at: Place,
+    ) -> Result<(), NotCompiled>
         requires sound { IsSoundProgram program.now }
-        requires names { HasOwnNames program.now }
-        requires few { length program.now.rows.items ≤ 4096 }
+        requires lasts { AreLast program.now.rows.items lasts.now }
+        requires few { length program.now.rows.items < 2 ^ 28 }
         ensures later { OnOk result (IsLater program.now self.old self.new) }
         ensures lays { OnOk result (LaysAt program.now self.new (Run Between (Ident comment)) at) }
     {
@@ -427,7 +437,7 @@ impl<'p> Plan<'p> {
             mode: Atomicity::NonAtomic,
             ..at
         };
-        self.call(program, rule, place)?;
+        self.call(program, lasts, rule, place)?;
         Ok(())
     }
 }

@@ -1,8 +1,12 @@
 //! Names of rules.
-ghost use Rattle.std.specs.Prelude.{◌≡◌, IfOk, chars, true};
-ghost use Rattle.base_language.specs.Language.Expression.{last_place};
+ghost use Rattle.std.specs.Prelude.{◌≡◌, ℕ, IfOk, chars};
+ghost use Rattle.base_language.specs.Language.Expected.{expected_at};
+ghost use Rattle.base_language.specs.Language.Expression.{Grammar, last_place};
+ghost use Rattle.base_language.specs.Language.Meaning.{Does, Task};
+ghost use Rattle.base_language.specs.Language.State.{Classes, Outcome, State};
+ghost use Rattle.base_language.specs.Language.Text.{Text};
 ghost use Rattle.matcher_program.specs.Programs.{grammar_of};
-ghost use Rattle.matcher_compiler.specs.Names.{HasOwnNames};
+ghost use Rattle.matcher_compiler.specs.Names.{AreLast, HasNumber, HaveNumbers, number_in};
 
 use matcher_program::form::{Program, Row};
 use matcher_program::texts::same;
@@ -23,21 +27,34 @@ pub fn last_index(rows: &[Row], name: &str) -> Option<usize>
     None
 }
 
-/// Returns whether no two rules have one name. The only error is an allocation failure.
-pub(crate) fn has_own_names(alloc: Global, program: &Program) -> Result<bool, AllocError>
-    ensures { IfOk result (λ own. own ≡ true → HasOwnNames program.now) }
+/// Returns for each row the index of the last row of its name. The only error is an allocation failure.
+pub(crate) fn last_rows(alloc: Global, program: &Program) -> Result<Vec<usize>, AllocError>
+    ensures { IfOk result (λ lasts. AreLast program.now.rows.items lasts.items) }
 {
     let rows = program.rows.as_slice();
+    let mut lasts = Vec::new(alloc);
+    lasts.resize(rows.len(), 0)?;
     let mut later: HashMap<String, usize> = HashMap::new(alloc);
     let mut below = rows.len();
     while below > 0 {
         below -= 1;
         let name = rows[below].name.as_str();
-        if later.contains_key(name) {
-            return Ok(false);
+        match later.get(name) {
+            Some(last) => lasts[below] = *last,
+            None => {
+                let key = String::from_str(alloc, name)?;
+                later.insert(key, below)?;
+                lasts[below] = below;
+            }
         }
-        let key = String::from_str(alloc, name)?;
-        later.insert(key, below)?;
     }
-    Ok(true)
+    Ok(lasts)
 }
+
+/// Each name that failures record is that of a rule, or `EOI`, and such names have numbers of their own.
+pub fn expected_names_have_own_numbers()
+    ensures numbers { (g : Grammar) (classes : Classes) (k : Task) (s : State) (o : Outcome) (place : ℕ)
+        → (d : Does g classes k s o) → HaveNumbers g (expected_at place d) }
+    ensures own { (g : Grammar) (n m : Text) → HasNumber g n → HasNumber g m
+        → number_in g n ≡ number_in g m → n ≡ m }
+{}

@@ -1,10 +1,10 @@
 //! The loop over points.
-ghost use Rattle.std.specs.Prelude.{◌≡◌, ◌<◌, ◌≤◌, ℕ, OnOk, chars, get_or, length};
+ghost use Rattle.std.specs.Prelude.{◌≡◌, ◌<◌, ◌^◌, ℕ, OnOk, chars, get_or, length};
 ghost use Rattle.base_language.specs.Language.Expression.{Choice, NegPred, NodeTag, PosPred, Rep, RepOnce, RestoreOnErr};
 ghost use Rattle.base_language.specs.Language.Meaning.{Run, once_or_more};
 ghost use Rattle.matcher_program.specs.declared.form.Form.TheVariants as form;
 ghost use Rattle.matcher_sets.specs.Modes.{mode_of};
-ghost use Rattle.matcher_compiler.specs.Names.{HasOwnNames};
+ghost use Rattle.matcher_compiler.specs.Names.{AreLast};
 ghost use Rattle.matcher_sets.specs.Forms.{IsBoundIn, IsSoundProgram, said};
 ghost use Rattle.matcher_sets.specs.Heads.{AreHeads};
 ghost use Rattle.matcher_compiler.specs.Plans.{AreBound, IsBoundPart, IsLater, IsReady, IsTightIn, LaysAt, LaysPoint, task_in};
@@ -13,6 +13,7 @@ ghost use Rattle.matcher_compiler.specs.declared.points.Point.{Point};
 use crate::plan::Plan;
 use crate::points::{NotCompiled, Part, Place, Point};
 use crate::spans::repeated_ranges;
+use matcher_code::code::Op;
 use matcher_program::form::{Form, Program};
 use matcher_sets::difference::choice_ranges;
 use matcher_sets::heads::Heads;
@@ -32,7 +33,7 @@ impl<'p> Plan<'p> {
     /// Plans the end of a text.
     fn end_of_text(&mut self, program: &Program, at: Place, own: u32) -> Result<(), NotCompiled>
         requires bound { IsBoundIn program.now form.End }
-        requires few { length program.now.rows.items ≤ 4096 }
+        requires few { length program.now.rows.items < 2 ^ 28 }
         ensures later { OnOk result (IsLater program.now self.old self.new) }
         ensures lays { OnOk result
             (LaysAt program.now self.new (Run (mode_of at.mode) (said program.now form.End)) at) }
@@ -153,7 +154,11 @@ impl<'p> Plan<'p> {
         ensures lays { OnOk result (LaysAt program.now self.new (Run (mode_of at.mode)
             (PosPred (said program.now body.entry.now))) at) }
     {
-        self.lookahead(program, body, at, own, at.next, at.way, false)?;
+        let begin = Op::Try {
+            next: own,
+            fail: at.way,
+        };
+        self.lookahead(program, body, at, own, begin, at.next)?;
         Ok(())
     }
 
@@ -170,7 +175,11 @@ impl<'p> Plan<'p> {
         ensures lays { OnOk result (LaysAt program.now self.new (Run (mode_of at.mode)
             (NegPred (said program.now body.entry.now))) at) }
     {
-        self.lookahead(program, body, at, own, at.way, at.next, true)?;
+        let begin = Op::Not {
+            next: own,
+            fail: at.next,
+        };
+        self.lookahead(program, body, at, own, begin, at.way)?;
         Ok(())
     }
 
@@ -227,14 +236,15 @@ impl<'p> Plan<'p> {
         alloc: Global,
         program: &Program,
         heads: &Heads,
+        lasts: &[usize],
         form: &'p Form,
         at: Place,
         own: u32,
     ) -> Result<(), NotCompiled>
         requires sound { IsSoundProgram program.now }
         requires heads { AreHeads program.now heads.now }
-        requires names { HasOwnNames program.now }
-        requires few { length program.now.rows.items ≤ 4096 }
+        requires lasts { AreLast program.now.rows.items lasts.now }
+        requires few { length program.now.rows.items < 2 ^ 28 }
         requires ready { IsReady program.now self.old }
         requires bound { IsBoundIn program.now form.now }
         ensures later { OnOk result (IsLater program.now self.old self.new) }
@@ -250,7 +260,7 @@ impl<'p> Plan<'p> {
             Form::Start => self.start(program, at),
             Form::End => self.end_of_text(program, at, own),
             Form::Newline => self.newline(alloc, program, at, own),
-            Form::Call(rule) => self.call(program, *rule, at),
+            Form::Call(rule) => self.call(program, lasts, *rule, at),
             Form::PosPred(body) => self.ahead(program, body, at, own),
             Form::NegPred(body) => self.not_ahead(program, body, at, own),
             Form::Seq(first, second) => { self.two(alloc, program, heads, first, second, at, own) }
@@ -280,14 +290,15 @@ impl<'p> Plan<'p> {
         alloc: Global,
         program: &'p Program,
         heads: &Heads,
+        lasts: &[usize],
         point: Point<'p>,
         number: usize,
         own: u32,
     ) -> Result<(), NotCompiled>
         requires sound { IsSoundProgram program.now }
         requires heads { AreHeads program.now heads.now }
-        requires names { HasOwnNames program.now }
-        requires few { length program.now.rows.items ≤ 4096 }
+        requires lasts { AreLast program.now.rows.items lasts.now }
+        requires few { length program.now.rows.items < 2 ^ 28 }
         requires ready { IsReady program.now self.old }
         requires bound { IsBoundPart program.now point.part }
         ensures later { OnOk result (IsLater program.entry.now self.old self.new) }
@@ -296,7 +307,7 @@ impl<'p> Plan<'p> {
     {
         let at = point.at;
         match point.part {
-            Part::Form(form) => self.form(alloc, program, heads, form, at, own),
+            Part::Form(form) => self.form(alloc, program, heads, lasts, form, at, own),
             Part::OnceOrMore(body) => { self.once_and_turns(program, body, at, own) }
             Part::Repetition(body) => self.turns(alloc, program, heads, body, at, own),
             Part::Body(rule) => match program.rows.get(rule) {
@@ -305,18 +316,18 @@ impl<'p> Plan<'p> {
                         around: (number & 0xffff_ffff) as u32,
                         ..at
                     };
-                    self.form(alloc, program, heads, &row.body, inside, own)
+                    self.form(alloc, program, heads, lasts, &row.body, inside, own)
                 }
                 None => Err(NotCompiled::Unsupported),
             },
-            Part::Rule(rule) => self.call(program, rule, at),
+            Part::Rule(rule) => self.call(program, lasts, rule, at),
             Part::Gap => self.gap(program, at),
             Part::Skipped => self.plan_skipping(alloc, program, heads, at, own),
             Part::Blanks => self.blanks(alloc, program, heads, at, own),
-            Part::BlankCall => self.blank_call(program, at),
+            Part::BlankCall => self.blank_call(program, lasts, at),
             Part::Comments => self.comments(alloc, program, heads, at, own),
             Part::Comment => self.comment(program, at, own),
-            Part::CommentCall => self.comment_call(program, at),
+            Part::CommentCall => self.comment_call(program, lasts, at),
             Part::Stay => self.stay_between(program, at),
         }
     }
@@ -327,11 +338,12 @@ impl<'p> Plan<'p> {
         alloc: Global,
         program: &'p Program,
         heads: &Heads,
+        lasts: &[usize],
     ) -> Result<(), NotCompiled>
         requires sound { IsSoundProgram program.now }
         requires heads { AreHeads program.now heads.now }
-        requires names { HasOwnNames program.now }
-        requires few { length program.now.rows.items ≤ 4096 }
+        requires lasts { AreLast program.now.rows.items lasts.now }
+        requires few { length program.now.rows.items < 2 ^ 28 }
         requires ready { IsReady program.now self.old }
         requires bound { AreBound program.now self.old }
         ensures later { OnOk result (IsLater program.entry.now self.old self.new) }
@@ -348,6 +360,7 @@ impl<'p> Plan<'p> {
                 alloc,
                 program,
                 heads,
+                lasts,
                 point,
                 number,
                 own_labels(rules, number),

@@ -102,7 +102,7 @@ pub enum Demand {
 #[derive(Debug, Drop)]
 pub enum NotCompiled {
     Memory,
-    /// The rules have an expression of a kind that is not compiled, or are too many.
+    /// The rules need more labels, sets or texts than `u32` has numbers.
     Unsupported,
 }
 

@@ -17,7 +17,7 @@ use matcher_sets::texts::first_characters;
 use std::alloc::Global;
 
 impl<'p> Plan<'p> {
-    /// Plans a search for the first of some texts that are not empty.
+    /// Plans a search for the first of some texts. Where one of them is empty, it takes nothing.
     fn search_texts(
         &mut self,
         alloc: Global,
@@ -32,7 +32,10 @@ impl<'p> Plan<'p> {
         let made = first_characters(alloc, texts)?;
         match made {
             Some(ranges) => self.search_from(alloc, program, texts, ranges, at),
-            None => Err(NotCompiled::Unsupported),
+            None => {
+                self.span(Vec::new(alloc), at)?;
+                Ok(())
+            }
         }
     }
 

@@ -5,13 +5,13 @@ use Rattle.std.proofs.lemmas.Bool.{and_parts}
 use Rattle.std.specs.declared.vec.Vec.{Vec}
 use Rattle.std.specs.declared.alloc.Global.{Global}
 use Rattle.base_language.specs.Language.Expression.{Choice, Expression, Grammar, NegPred, Seq, rule_of}
-use Rattle.base_language.specs.Language.FurthestFailure.{furthest}
 use Rattle.base_language.specs.Language.Matching.{begins, character_outcome, newline_outcome, starts_in}
 use Rattle.base_language.specs.Language.Meaning as by
 use Rattle.base_language.specs.Language.Meaning.{Does, Run, Task}
 use Rattle.base_language.specs.Language.State.{Classes, Failure, Mode, None', Outcome, State, Success, moved}
 use Rattle.base_language.specs.Language.Text.{Text}
-use Rattle.matcher_code.specs.Laid.{HasOutcome, IsTight, TakesSome, span_of}
+use Rattle.matcher_code.specs.Laid.{HasOutcome, IsSilent, IsTight, TakesSome, span_of}
+use Rattle.matcher_code.specs.Failures.{in_silence}
 use Rattle.matcher_code.proofs.Characters.{choice_of_sets, starts_span}
 use Rattle.matcher_program.specs.declared.form.Form.{Form}
 use Rattle.matcher_program.specs.declared.form.Form.TheVariants as form
@@ -22,6 +22,7 @@ use Rattle.matcher_sets.specs.Ranges.{Adds}
 use Rattle.matcher_sets.specs.Forms.{IsBoundIn, grammar_in, said}
 use Rattle.matcher_sets.proofs.Choosing.{IsJoined}
 use Rattle.matcher_sets.proofs.Leaves.{newline_outcome_of}
+use Rattle.matcher_sets.proofs.Recording.{negated_silent, three_silent, two_silent}
 
 -- a newline takes its characters where one of them is next
 abbrev line : ℕ → Bool
@@ -93,11 +94,11 @@ span_right f h (c ∷ cs) = go (f c) (h c) (span_right f h cs)
 module _ (g : Grammar) (classes : Classes) where
   -- the outcome of what takes so many characters more than one, or fails
   abbrev TakesOrFails : Task → State → ℕ → Bool → Type 0
-  TakesOrFails k s more b = (d : Does g classes k s (if b then Success (moved (suc more) s) None' else Failure)) × (furthest d ≡ 0)
+  TakesOrFails k s more b = (d : Does g classes k s (if b then Success (moved (suc more) s) None' else Failure)) × IsSilent d
 
   right_takes : (m : Mode) (a b : Expression) (s : State) (i j : ℕ) (q : Bool) → TakesOrFails (Run m a) s i false → TakesOrFails (Run m b) s j q
       → TakesOrFails (Run m (Choice a b)) s j q
-  right_takes m a b s i j q u v = (by.right u.0 v.0, omega (arith, u.1, v.1))
+  right_takes m a b s i j q u v = (by.right u.0 v.0, two_silent u.1 v.1)
 
   choice_takes : (m : Mode) (a b : Expression) (s : State) (f h : ℕ → Bool) → TakesSome g classes (Run m a) s f → TakesSome g classes (Run m b) s h
       → TakesSome g classes (Run m (Choice a b)) s (λ c. f c || h c)
@@ -115,33 +116,33 @@ module _ (g : Grammar) (classes : Classes) where
           record { more = y.more; found = w.0; quiet = w.1; within = λ z. let l = span_right f h s.rest in let k = y.within (i ∙ (sym t ∙ z)) in omega (arith, l, k) }
 
   refuses : (m : Mode) (a : Expression) (s : State) (f : ℕ → Bool) → TakesSome g classes (Run m a) s f
-      → (d : Does g classes (Run m (NegPred a)) s (if starts_in f s.rest then Failure else Success s None')) × (furthest d ≡ 0)
+      → (d : Does g classes (Run m (NegPred a)) s (if starts_in f s.rest then Failure else Success s None')) × IsSilent d
   refuses m a s f x = go (starts_in f s.rest) (x.found, x.quiet)
     where
-      go : (b : Bool) → TakesOrFails (Run m a) s x.more b → (d : Does g classes (Run m (NegPred a)) s (if b then Failure else Success s None')) × (furthest d ≡ 0)
-      go true u = (by.neg_pred u.0, u.1)
-      go false u = (by.neg_pred u.0, u.1)
+      go : (b : Bool) → TakesOrFails (Run m a) s x.more b → (d : Does g classes (Run m (NegPred a)) s (if b then Failure else Success s None')) × IsSilent d
+      go true u = (by.neg_pred u.0, negated_silent u.1)
+      go false u = (by.neg_pred u.0, negated_silent u.1)
 
   not_and_then : (m : Mode) (a b : Expression) (s t : State) (p q : Bool) → IsTight g classes m
-      → ((d : Does g classes (Run m a) s (if p then Failure else Success s None')) × (furthest d ≡ 0))
-      → ((d : Does g classes (Run m b) s (if q then Success t None' else Failure)) × (furthest d ≡ 0))
-      → (d : Does g classes (Run m (Seq a b)) s (if (not p && q) then Success t None' else Failure)) × (furthest d ≡ 0)
+      → ((d : Does g classes (Run m a) s (if p then Failure else Success s None')) × IsSilent d)
+      → ((d : Does g classes (Run m b) s (if q then Success t None' else Failure)) × IsSilent d)
+      → (d : Does g classes (Run m (Seq a b)) s (if (not p && q) then Success t None' else Failure)) × IsSilent d
   not_and_then m a b s t true q tight x y = (by.seq_first x.0, x.1)
-  not_and_then m a b s t false true tight x y = (by.seq x.0 (tight s).0 y.0, omega (arith, x.1, (tight s).1, y.1))
-  not_and_then m a b s t false false tight x y = (by.seq_second x.0 (tight s).0 y.0, omega (arith, x.1, (tight s).1, y.1))
+  not_and_then m a b s t false true tight x y = (by.seq x.0 (tight s).0 y.0, three_silent x.1 (tight s).1 y.1)
+  not_and_then m a b s t false false tight x y = (by.seq_second x.0 (tight s).0 y.0, three_silent x.1 (tight s).1 y.1)
 
   pub other_matches : (m : Mode) (a b : Expression) (f h : ℕ → Bool) → IsTight g classes m
-      → HasOutcome g classes (Run m a) (λ s. if starts_in f s.rest then Failure else Success s None') (λ s. 0)
-      → HasOutcome g classes (Run m b) (character_outcome h) (λ s. 0)
-      → HasOutcome g classes (Run m (Seq a b)) (character_outcome (λ c. not (f c) && h c)) (λ s. 0)
+      → HasOutcome g classes (Run m a) (λ s. if starts_in f s.rest then Failure else Success s None') in_silence
+      → HasOutcome g classes (Run m b) (character_outcome h) in_silence
+      → HasOutcome g classes (Run m (Seq a b)) (character_outcome (λ c. not (f c) && h c)) in_silence
   other_matches m a b f h tight x y s =
-      subst (λ p. (d : Does g classes (Run m (Seq a b)) s (if p then Success (moved 1 s) None' else Failure)) × (furthest d ≡ 0)) (sym (other_starts f h s.rest))
+      subst (λ p. (d : Does g classes (Run m (Seq a b)) s (if p then Success (moved 1 s) None' else Failure)) × IsSilent d) (sym (other_starts f h s.rest))
       (not_and_then m a b s (moved 1 s) (starts_in f s.rest) (starts_in h s.rest) tight (x s) (y s))
 
 module _ (p : Program) (classes : Classes) where
   pub matches_joined : IsJoined p (MatchesOne p classes)
   matches_joined f left right h k e x y = λ m.
-      subst (λ z. HasOutcome (grammar_in p) classes (Run (mode_of m) z) (character_outcome (λ c. h c || k c)) (λ s. 0)) (sym e)
+      subst (λ z. HasOutcome (grammar_in p) classes (Run (mode_of m) z) (character_outcome (λ c. h c || k c)) in_silence) (sym e)
       (choice_of_sets (grammar_in p) classes (mode_of m) (said p left) (said p right) h k (x m) (y m))
 
   pub begins_joined : IsJoined p (BeginsWith p classes)
@@ -158,12 +159,12 @@ module _ (p : Program) (classes : Classes) where
   pub newline_begins : rule_of (grammar_in p) (codes "NEWLINE") ≡ None → BeginsWith p classes form.Newline line
   newline_begins u m s =
       let y = newline_outcome_of p classes m u s in
-      let w = subst (λ o. (d : Does (grammar_in p) classes (Run (mode_of m) (said p form.Newline)) s o) × (furthest d ≡ 0)) (newline_takes s.rest s) y in
+      let w = subst (λ o. (d : Does (grammar_in p) classes (Run (mode_of m) (said p form.Newline)) s o) × IsSilent d) (newline_takes s.rest s) y in
       record { more = newline_more s.rest; found = w.0; quiet = w.1; within = newline_within s.rest }
 
   pub refuses_one : (f body : Form) (set : ℕ → Bool) → said p f ≡ NegPred (said p body) → BeginsWith p classes body set → RefusesOne p classes f set
   refuses_one f body set e x = λ m s.
-      subst (λ z. (d : Does (grammar_in p) classes (Run (mode_of m) z) s (if starts_in set s.rest then Failure else Success s None')) × (furthest d ≡ 0)) (sym e)
+      subst (λ z. (d : Does (grammar_in p) classes (Run (mode_of m) z) s (if starts_in set s.rest then Failure else Success s None')) × IsSilent d) (sym e)
       (refuses (grammar_in p) classes (mode_of m) (said p body) s set (x m s))
 
 -- what was added

@@ -9,6 +9,7 @@ use Rattle.std.proofs.lemmas.List.{get_or-set_other, get_or-set_same}
 use Rattle.base_ast.specs.Ast.{rule_type_of}
 use Rattle.base_language.specs.Language.Builtins.{is_between}
 use Rattle.base_language.specs.Language.Expression.{Choice, Expression, Grammar, Ident, Insens, NegPred, NodeTag, Opt, Rep, RepOnce, RestoreOnErr, Rule, Seq, Str, rule_of}
+use Rattle.base_language.specs.Language.Expected.{told}
 use Rattle.base_language.specs.Language.FurthestFailure.{furthest, place_of}
 use Rattle.base_language.specs.Language.Matching.{begins, starts_in}
 use Rattle.base_language.specs.Language.Meaning as by
@@ -16,7 +17,7 @@ use Rattle.base_language.specs.Language.Meaning.{Does, Run, Skipping, body_mode,
 use Rattle.base_language.specs.Language.State.{Classes, Failure, Mode, NonAtomicMode, None', Outcome, State, Success, moved}
 use Rattle.base_language.specs.Language.Text.{Text}
 use Rattle.matcher_code.specs.Reading.{is_covered}
-use Rattle.matcher_code.specs.Laid.{FailsOutside, IsTight, Misses, TakesNone}
+use Rattle.matcher_code.specs.Laid.{FailsOutside, IsTight, Misses, NamesNone, TakesNone}
 use Rattle.matcher_program.specs.declared.form.Form.{Form}
 use Rattle.matcher_program.specs.declared.form.Program.{Program}
 use Rattle.matcher_program.specs.declared.form.Row.{Row}
@@ -29,12 +30,9 @@ use Rattle.matcher_sets.specs.Heads.{AreHeadsIn, HasFront, HasHead, IsCall, IsGa
 use Rattle.matcher_sets.specs.Modes.{mode_of}
 use Rattle.matcher_sets.specs.Ranges.{Adds}
 use Rattle.matcher_sets.proofs.Ranging.{between_same, covered-append, or_none}
+use Rattle.matcher_sets.proofs.Recording.{neither, silent_names, silent_place, three_unnamed, two_unnamed}
 use Rattle.matcher_sets.proofs.Rules.{in_mode, made}
 use Rattle.matcher_sets.proofs.Starting.{same_self}
-
-neither : (a b : Bool) → (a || b) ≡ false → (a ≡ false) × (b ≡ false)
-neither true b h = cc
-neither false b h = (refl, h)
 
 pub misses_parts : (xs ys : List (ℕ × ℕ)) (cs : Text) → Misses (xs ++ ys) cs → Misses xs cs × Misses ys cs
 misses_parts xs ys [] h = (tt, tt)
@@ -60,12 +58,12 @@ beside_none a k b e h = omega (arith, e, h)
 -- an expression takes nothing, and neither does the skipping behind it
 abbrev pub HaveTaken : Grammar → Classes → Mode → Expression → State → Bool → Type 0
 HaveTaken g classes m a s n = (d : Does g classes (Run m a) s (Success s None'))
-    × ((k : Does g classes (Skipping m) s (Success s None')) × (max (furthest d) (furthest k) ≡ place_of n s Failure))
+    × ((k : Does g classes (Skipping m) s (Success s None')) × (max (furthest d) (furthest k) ≡ place_of n s Failure) × NamesNone n d × NamesNone n k)
 
 module _ (g : Grammar) (classes : Classes) (m : Mode) where
   module _ (a b : Expression) where
     pub left_takes : (xs : List (ℕ × ℕ)) (n : Bool) → TakesNothing g classes (Run m a) xs true n → TakesNothing g classes (Run m (Choice a b)) xs true n
-    left_takes xs n x s h = let u = x s h in (by.left u.0, u.1)
+    left_takes xs n x s h = let u = x s h in (by.left u.0, u.1, u.2)
 
     pub either_takes : (xs ys : List (ℕ × ℕ)) (n e k : Bool) → TakesNothing g classes (Run m a) xs false n → TakesNothing g classes (Run m b) ys e k
         → TakesNothing g classes (Run m (Choice a b)) (xs ++ ys) e (n || k)
@@ -73,17 +71,17 @@ module _ (g : Grammar) (classes : Classes) (m : Mode) where
         let i = misses_parts xs ys s.rest h in
         let u = x s i.0 in
         let v = y s i.1 in
-        (by.right u.0 v.0, ap₂ (λ p q. max p q) u.1 v.1 ∙ greater_place n k s.position)
+        (by.right u.0 v.0, ap₂ (λ p q. max p q) u.1 v.1 ∙ greater_place n k s.position, two_unnamed n k u.2 v.2)
 
     pub first_fails : (xs : List (ℕ × ℕ)) (n : Bool) → TakesNothing g classes (Run m a) xs false n → TakesNothing g classes (Run m (Seq a b)) xs false n
-    first_fails xs n x s h = let u = x s h in (by.seq_first u.0, u.1)
+    first_fails xs n x s h = let u = x s h in (by.seq_first u.0, u.1, u.2)
 
     pub tight_takes : (xs : List (ℕ × ℕ)) (n : Bool) → IsTight g classes m → TakesNothing g classes (Run m a) xs true n
         → (s : State) → Misses xs s.rest → HaveTaken g classes m a s n
     tight_takes xs n tight x s h =
         let u = x s h in
         let t = tight s in
-        (u.0, (t.0, beside_none (furthest u.0) (furthest t.0) (place_of n s Failure) u.1 t.1))
+        (u.0, (t.0, beside_none (furthest u.0) (furthest t.0) (place_of n s Failure) u.1 (silent_place t.0 t.1), u.2, silent_names t.0 t.1 n))
 
     pub skipping_takes : (xs ys : List (ℕ × ℕ)) (n k : Bool) → TakesNothing g classes (Run m a) xs true n → TakesNothing g classes (Skipping m) ys true k
         → (s : State) → Misses (xs ++ ys) s.rest → HaveTaken g classes m a s (n || k)
@@ -91,7 +89,15 @@ module _ (g : Grammar) (classes : Classes) (m : Mode) where
         let i = misses_parts xs ys s.rest h in
         let u = x s i.0 in
         let v = y s i.1 in
-        (u.0, (v.0, ap₂ (λ p q. max p q) u.1 v.1 ∙ greater_place n k s.position))
+        (
+          u.0,
+          (
+            v.0,
+            ap₂ (λ p q. max p q) u.1 v.1 ∙ greater_place n k s.position,
+            λ e. u.2 (neither n k e).0,
+            λ e. v.2 (neither n k e).1,
+          ),
+        )
 
     pub both_take : (xs ys : List (ℕ × ℕ)) (n e k : Bool) → ((s : State) → Misses xs s.rest → HaveTaken g classes m a s n) → TakesNothing g classes (Run m b) ys e k
         → TakesNothing g classes (Run m (Seq a b)) (xs ++ ys) e (n || k)
@@ -100,38 +106,50 @@ module _ (g : Grammar) (classes : Classes) (m : Mode) where
         let u = x s i.0 in
         let t = u.1 in
         let v = y s i.1 in
-        (by.seq u.0 t.0 v.0, first_parts (furthest u.0) (furthest t.0) (furthest v.0) ∙ (ap₂ (λ p q. max p q) t.1 v.1 ∙ greater_place n k s.position))
+        (
+          by.seq u.0 t.0 v.0,
+          first_parts (furthest u.0) (furthest t.0) (furthest v.0) ∙ (ap₂ (λ p q. max p q) t.1 v.1 ∙ greater_place n k s.position),
+          three_unnamed n k t.2 t.3 v.2,
+        )
     both_take xs ys n false k x y s h =
         let i = misses_parts xs ys s.rest h in
         let u = x s i.0 in
         let t = u.1 in
         let v = y s i.1 in
-        (by.seq_second u.0 t.0 v.0, first_parts (furthest u.0) (furthest t.0) (furthest v.0) ∙ (ap₂ (λ p q. max p q) t.1 v.1 ∙ greater_place n k s.position))
+        (
+          by.seq_second u.0 t.0 v.0,
+          first_parts (furthest u.0) (furthest t.0) (furthest v.0) ∙ (ap₂ (λ p q. max p q) t.1 v.1 ∙ greater_place n k s.position),
+          three_unnamed n k t.2 t.3 v.2,
+        )
 
   pub option_takes : (a : Expression) (xs : List (ℕ × ℕ)) (e n : Bool) → TakesNothing g classes (Run m a) xs e n → TakesNothing g classes (Run m (Opt a)) xs true n
-  option_takes a xs true n x s h = let u = x s h in (by.opt u.0, u.1)
-  option_takes a xs false n x s h = let u = x s h in (by.opt_none u.0, u.1)
+  option_takes a xs true n x s h = let u = x s h in (by.opt u.0, u.1, u.2)
+  option_takes a xs false n x s h = let u = x s h in (by.opt_none u.0, u.1, u.2)
 
   pub repetition_takes : (a : Expression) (xs : List (ℕ × ℕ)) (n : Bool) → TakesNothing g classes (Run m a) xs false n → TakesNothing g classes (Run m (Rep a)) xs true n
-  repetition_takes a xs n x s h = let u = x s h in (by.rep_none u.0, u.1)
+  repetition_takes a xs n x s h = let u = x s h in (by.rep_none u.0, u.1, u.2)
 
   pub negation_takes : (a : Expression) (xs : List (ℕ × ℕ)) (n : Bool) → TakesNothing g classes (Run m a) xs false n → TakesNothing g classes (Run m (NegPred a)) xs true n
-  negation_takes a xs n x s h = let u = x s h in (by.neg_pred u.0, u.1)
+  negation_takes a xs n x s h = let u = x s h in (by.neg_pred u.0, u.1, λ e place. refl)
 
   pub tag_takes : (a : Expression) (t : Text) (xs : List (ℕ × ℕ)) (e n : Bool) → TakesNothing g classes (Run m a) xs e n → TakesNothing g classes (Run m (NodeTag a t)) xs e n
-  tag_takes a t xs e n x s h = let u = x s h in (by.tag u.0, u.1)
+  tag_takes a t xs e n x s h = let u = x s h in (by.tag u.0, u.1, u.2)
 
   pub restore_takes : (a : Expression) (xs : List (ℕ × ℕ)) (e n : Bool) → TakesNothing g classes (Run m a) xs e n → TakesNothing g classes (Run m (RestoreOnErr a)) xs e n
-  restore_takes a xs e n x s h = let u = x s h in (by.restore u.0, u.1)
+  restore_takes a xs e n x s h = let u = x s h in (by.restore u.0, u.1, u.2)
 
   pub once_takes : (a : Expression) (xs : List (ℕ × ℕ)) (n : Bool) → TakesNothing g classes (Run m a) xs false n → TakesNothing g classes (Run m (RepOnce a)) xs false n
-  once_takes a xs n x s h = let u = x s h in (by.rep_once (by.seq_first u.0), u.1)
+  once_takes a xs n x s h = let u = x s h in (by.rep_once (by.seq_first u.0), u.1, u.2)
 
   pub call_takes : (x : Text) (r : Rule) (xs : List (ℕ × ℕ)) (n counts : Bool) → rule_of g x ≡ Some r → counts ≡ (seen_from m && gives_token r.type_of m)
       → TakesNothing g classes (Run (body_mode r m) r.body) xs false n → TakesNothing g classes (Run m (Ident x)) xs false (counts || n)
   call_takes x r xs n counts e c y s h =
       let u = y s h in
-      (by.call e u.0, ap₂ (λ p q. max p q) (ap (λ b. place_of b s Failure) (sym c)) u.1 ∙ greater_place counts n s.position)
+      (
+        by.call e u.0,
+        ap₂ (λ p q. max p q) (ap (λ b. place_of b s Failure) (sym c)) u.1 ∙ greater_place counts n s.position,
+        λ z place. let q = neither counts n z in ap₂ (λ b w. told b x place s Failure w) (sym c ∙ q.0) (u.2 q.1 place),
+      )
 
   -- a literal, by its first character
   begins_not : (t : Text) (c : ℕ) (cs : Text) → ((d : ℕ) → starts_in (λ e. nat_eq e d) t ≡ nat_eq c d) → Misses ((c, c) ∷ []) cs → begins nat_eq t cs ≡ false
@@ -144,8 +162,8 @@ module _ (g : Grammar) (classes : Classes) (m : Mode) where
       → (xs : List (ℕ × ℕ)) → Adds [] xs (is_between c c) → TakesNothing g classes (Run m (Str t)) xs false false
   literal_takes t c first xs adds s h =
       let k : begins nat_eq t s.rest ≡ false = begins_not t c s.rest first (one s.rest h) in
-      let P : Bool → Type 0 = λ b. (d : Does g classes (Run m (Str t)) s (if b then Success (moved (length t) s) None' else Failure)) × (furthest d ≡ 0) in
-      subst P k (by.str, refl)
+      let P : Bool → Type 0 = λ b. (d : Does g classes (Run m (Str t)) s (if b then Success (moved (length t) s) None' else Failure)) × (furthest d ≡ 0) × NamesNone false d in
+      subst P k (by.str, refl, λ e place. refl)
     where
       one : (cs : Text) → Misses xs cs → Misses ((c, c) ∷ []) cs
       one [] h = tt
@@ -182,8 +200,8 @@ pub any_case_takes : (g : Grammar) (classes : Classes) (m : Mode) (t : Text) (c 
     → (xs ys : List (ℕ × ℕ)) → Adds [] xs (is_between (to_ascii_lowercase c) (to_ascii_lowercase c)) → Adds xs ys (is_between (to_ascii_uppercase c) (to_ascii_uppercase c))
     → TakesNothing g classes (Run m (Insens t)) ys false false
 any_case_takes g classes m t c first xs ys low high s miss =
-    let P : Bool → Type 0 = λ b. (d : Does g classes (Run m (Insens t)) s (if b then Success (moved (length t) s) None' else Failure)) × (furthest d ≡ 0) in
-    subst P (begins_none t s.rest first miss) (by.insens, refl)
+    let P : Bool → Type 0 = λ b. (d : Does g classes (Run m (Insens t)) s (if b then Success (moved (length t) s) None' else Failure)) × (furthest d ≡ 0) × NamesNone false d in
+    subst P (begins_none t s.rest first miss) (by.insens, refl, λ e place. refl)
   where
     outside : (d : ℕ) → d < 1114112 → is_covered ys d ≡ false → eq_ignore_ascii_case c d ≡ false
     outside d l free = go (eq_ignore_ascii_case c d) refl
@@ -216,8 +234,8 @@ pub firsts_take : (p : Program) (f : Form) (m : Atomicity) (ranges : List (ℕ �
 firsts_take p f m ranges h classes fits s miss =
     let x = h classes fits in
     let y = x.holds m s in
-    subst (λ b. (d : Does (grammar_in p) classes (Run (mode_of m) (said p f)) s (if b then Success (moved (suc y.more) s) None' else Failure)) × (furthest d ≡ 0))
-    (misses_starts ranges x.characters x.adds s.rest miss) (y.found, y.quiet)
+    subst (λ b. (d : Does (grammar_in p) classes (Run (mode_of m) (said p f)) s (if b then Success (moved (suc y.more) s) None' else Failure)) × (furthest d ≡ 0) × NamesNone false d)
+    (misses_starts ranges x.characters x.adds s.rest miss) (y.found, silent_place y.found y.quiet, silent_names y.found y.quiet false)
 
 -- where a form never succeeds without taking something
 pub fails_outside : (p : Program) (m : Mode) (e : Expression) (h : Head) → HasHead p m e h → h.empty ≡ false → (classes : Classes) → Fits p.properties.items classes

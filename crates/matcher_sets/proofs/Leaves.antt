@@ -7,7 +7,8 @@ use Rattle.std.proofs.lemmas.Str.{scalars-chars}
 use Rattle.base_ast.specs.Ast.{text_of}
 use Rattle.base_language.specs.Language.Builtins.{Builtin, Eoi, Newline, One, Soi, builtin_of, builtins}
 use Rattle.base_language.specs.Language.Expression.{Grammar, Ident, rule_of}
-use Rattle.base_language.specs.Language.FurthestFailure.{furthest, is_eoi, place_of}
+use Rattle.base_language.specs.Language.Expected.{told}
+use Rattle.base_language.specs.Language.FurthestFailure.{is_eoi, place_of}
 use Rattle.base_language.specs.Language.Matching.{begins, builtin_outcome, character_outcome, end_outcome, newline_outcome, other_outcome, starts_in, text_outcome}
 use Rattle.base_language.specs.Language.Meaning as by
 use Rattle.base_language.specs.Language.Meaning.{Does, Run, seen_from}
@@ -17,7 +18,8 @@ use Rattle.matcher_code.specs.declared.code.Code.{Code}
 use Rattle.matcher_code.specs.declared.code.Op.TheVariants as op
 use Rattle.matcher_code.specs.Reading.{is_covered}
 use Rattle.matcher_code.specs.Sets.{IsSetOf}
-use Rattle.matcher_code.specs.Laid.{HasOutcome, Performs, at_label, skip_set, span_of}
+use Rattle.matcher_code.specs.Laid.{HasOutcome, IsSilent, Performs, at_label, skip_set, span_of}
+use Rattle.matcher_code.specs.Failures.{Failures, end_failures, in_silence, no_failure}
 use Rattle.matcher_code.specs.Reached.{Comes, IsAt}
 use Rattle.matcher_code.proofs.Characters.{choice_of_sets}
 use Rattle.matcher_code.proofs.CharacterSets.{all_performs, below, one_performs}
@@ -49,15 +51,15 @@ module _ (ranges : List (ℕ × ℕ)) (set : ℕ → Bool) (covers : Covers rang
   rest_scalars text s at h = ap scalars h.rest ∙ scalars-chars (drop at text) h.valid
 
   module _ (code : Code) (number : Text → ℕ) (fail : at_label code 0 ≡ op.Fail) (i : ℕ) (is : IsSetOf code i ranges) where
-    pub one_as : (l n w : ℕ) → at_label code l ≡ op.One i n w → Performs code number l n w (character_outcome set) (λ s. 0)
+    pub one_as : (l n w : ℕ) → at_label code l ≡ op.One i n w → Performs code number l n w (character_outcome set) in_silence
     one_as l n w h text s c at safe =
-        subst (λ o. Comes code text number l n w o 0 1 8 c)
+        subst (λ o. Comes code text number l n w o no_failure 1 8 c)
         (ap (λ b. if b then Success (moved 1 s) None' else Failure) (covered_head s.rest (rest_scalars text s c.at at)))
         (one_performs code i ranges is number fail l n w h text s c at safe)
 
-    pub all_as : (l n w : ℕ) → at_label code l ≡ op.All i n → Performs code number l n w (skip_set set) (λ s. 0)
+    pub all_as : (l n w : ℕ) → at_label code l ≡ op.All i n → Performs code number l n w (skip_set set) in_silence
     all_as l n w h text s c at safe =
-        subst (λ o. Comes code text number l n w o 0 1 8 c)
+        subst (λ o. Comes code text number l n w o no_failure 1 8 c)
         (ap (λ k. Success (moved k s) None') (covered_span s.rest (rest_scalars text s c.at at)))
         (all_performs code i ranges is number fail l n w h text s c at safe)
 
@@ -107,9 +109,13 @@ pub eoi_builtin : builtin_of (codes "EOI") ≡ Some Eoi
 unfolding builtins
 eoi_builtin = refl
 
-pub unseen : (b : Bool) (s : State) (o : Outcome) → b ≡ false → place_of b s o ≡ 0
-unseen b s (Success t us) e = refl
-unseen b s Failure e = rw e refl
+-- the failures of a name that is no rule's, which counts or not
+abbrev pub other_failures : Bool → Text → ℕ → State → Outcome → Failures
+other_failures b n place s o = record { furthest = place_of b s o; names = told b n place s o [] }
+
+pub unseen : (b : Bool) (n : Text) (place : ℕ) (s : State) (o : Outcome) → b ≡ false → other_failures b n place s o ≡ no_failure
+unseen b n place s (Success t us) e = refl
+unseen b n place s Failure e = ap (λ x. other_failures x n place s Failure) e
 
 one_is_set : (f : Form) → is_one f ≡ true → is_set f ≡ true
 one_is_set (form.Choice' p a q b) h = cc
@@ -130,24 +136,24 @@ module _ (p : Program) (classes : Classes) where
 
   pub builtin_outcome_of : (m : Atomicity) (n : Text) (b : Builtin) (f : State → Outcome) → rule_of g n ≡ None → builtin_of n ≡ Some b
       → ((s : State) → builtin_outcome classes (mode_of m) b s ≡ Some (f s))
-      → HasOutcome g classes (Run (mode_of m) (Ident n)) f (λ s. place_of (seen_from (mode_of m) && is_eoi n) s (f s))
-  builtin_outcome_of m n b f u h e s = (by.other u (by_builtin classes m n b s h ∙ e s), refl)
+      → HasOutcome g classes (Run (mode_of m) (Ident n)) f (λ place s. other_failures (seen_from (mode_of m) && is_eoi n) n place s (f s))
+  builtin_outcome_of m n b f u h e s = (by.other u (by_builtin classes m n b s h ∙ e s), λ place. refl)
 
   -- an outcome without a failure that is recorded
   pub quiet : (m : Atomicity) (n : Text) (f : State → Outcome) → is_eoi n ≡ false
-      → HasOutcome g classes (Run (mode_of m) (Ident n)) f (λ s. place_of (seen_from (mode_of m) && is_eoi n) s (f s))
-      → HasOutcome g classes (Run (mode_of m) (Ident n)) f (λ s. 0)
+      → HasOutcome g classes (Run (mode_of m) (Ident n)) f (λ place s. other_failures (seen_from (mode_of m) && is_eoi n) n place s (f s))
+      → HasOutcome g classes (Run (mode_of m) (Ident n)) f in_silence
   quiet m n f e h s =
       let x = h s in
       let z : (seen_from (mode_of m) && is_eoi n) ≡ false = ap (λ b. seen_from (mode_of m) && b) e ∙ and-false (seen_from (mode_of m)) in
-      (x.0, x.1 ∙ unseen (seen_from (mode_of m) && is_eoi n) s (f s) z)
+      (x.0, λ place. x.1 place ∙ unseen (seen_from (mode_of m) && is_eoi n) n place s (f s) z)
 
   -- the form of a set matches one character of it
   pub set_outcome : (m : Atomicity) (f : Form) → is_set f ≡ true → IsBoundIn p f
-      → HasOutcome g classes (Run (mode_of m) (said p f)) (character_outcome (characters_of f)) (λ s. 0)
+      → HasOutcome g classes (Run (mode_of m) (said p f)) (character_outcome (characters_of f)) in_silence
   set_outcome m (form.Str t) h b = λ s.
-      subst (λ o. (d : Does g classes (Run (mode_of m) (said p (form.Str t))) s o) × (furthest d ≡ 0)) (of_one_character (text_of t) s h) (by.str, refl)
-  set_outcome m (form.Range a c) h b = λ s. (by.range, refl)
+      subst (λ o. (d : Does g classes (Run (mode_of m) (said p (form.Str t))) s o) × IsSilent d) (of_one_character (text_of t) s h) (by.str, λ place. refl)
+  set_outcome m (form.Range a c) h b = λ s. (by.range, λ place. refl)
   set_outcome m (form.One k) h b =
       quiet m (class_name k) (character_outcome (set_of k)) (class_is_no_end k)
       (builtin_outcome_of m (class_name k) (One (set_of k)) (character_outcome (set_of k)) b (class_builtin k) (λ s. refl))
@@ -181,33 +187,33 @@ module _ (p : Program) (classes : Classes) where
   set_outcome m (form.PeekSlice i j) h b = cc
 
   pub start_outcome : (m : Atomicity) → rule_of g (codes "SOI") ≡ None
-      → HasOutcome g classes (Run (mode_of m) (Ident (codes "SOI"))) (λ s. if s.position == 0 then Success s None' else Failure) (λ s. 0)
+      → HasOutcome g classes (Run (mode_of m) (Ident (codes "SOI"))) (λ s. if s.position == 0 then Success s None' else Failure) in_silence
   start_outcome m u =
       quiet m (codes "SOI") (λ s. if s.position == 0 then Success s None' else Failure) refl
       (builtin_outcome_of m (codes "SOI") Soi (λ s. if s.position == 0 then Success s None' else Failure) u soi_builtin (λ s. refl))
 
   pub newline_outcome_of : (m : Atomicity) → rule_of g (codes "NEWLINE") ≡ None
-      → HasOutcome g classes (Run (mode_of m) (Ident (codes "NEWLINE"))) newline_outcome (λ s. 0)
+      → HasOutcome g classes (Run (mode_of m) (Ident (codes "NEWLINE"))) newline_outcome in_silence
   newline_outcome_of m u =
       quiet m (codes "NEWLINE") newline_outcome refl (builtin_outcome_of m (codes "NEWLINE") Newline newline_outcome u newline_builtin (λ s. refl))
 
   any_end : (m : Atomicity) → rule_of g (codes "EOI") ≡ None
       → HasOutcome g classes (Run (mode_of m) (Ident (codes "EOI"))) (λ s. end_outcome (mode_of m) s.rest s)
-      (λ s. place_of (seen_from (mode_of m) && is_eoi (codes "EOI")) s (end_outcome (mode_of m) s.rest s))
+      (λ place s. other_failures (seen_from (mode_of m) && is_eoi (codes "EOI")) (codes "EOI") place s (end_outcome (mode_of m) s.rest s))
   any_end m u = builtin_outcome_of m (codes "EOI") Eoi (λ s. end_outcome (mode_of m) s.rest s) u eoi_builtin (λ s. refl)
 
   pub bare_end_outcome : (m : Atomicity) → rule_of g (codes "EOI") ≡ None → mode_of m ≡ AtomicMode
-      → HasOutcome g classes (Run (mode_of m) (Ident (codes "EOI"))) (λ s. end_outcome AtomicMode s.rest s) (λ s. 0)
+      → HasOutcome g classes (Run (mode_of m) (Ident (codes "EOI"))) (λ s. end_outcome AtomicMode s.rest s) in_silence
   bare_end_outcome m u e s =
       let x = any_end m u s in
       let z : (seen_from (mode_of m) && is_eoi (codes "EOI")) ≡ false = ap (λ k. seen_from k && true) e in
-      subst (λ k. (d : Does g classes (Run (mode_of m) (Ident (codes "EOI"))) s (end_outcome k s.rest s)) × (furthest d ≡ 0)) e
-      (x.0, x.1 ∙ unseen (seen_from (mode_of m) && is_eoi (codes "EOI")) s (end_outcome (mode_of m) s.rest s) z)
+      subst (λ k. (d : Does g classes (Run (mode_of m) (Ident (codes "EOI"))) s (end_outcome k s.rest s)) × IsSilent d) e
+      (x.0, λ place. x.1 place ∙ unseen (seen_from (mode_of m) && is_eoi (codes "EOI")) (codes "EOI") place s (end_outcome (mode_of m) s.rest s) z)
 
   pub end_outcome_of : (m : Atomicity) → rule_of g (codes "EOI") ≡ None → seen_from (mode_of m) ≡ true
       → HasOutcome g classes (Run (mode_of m) (Ident (codes "EOI"))) (λ s. end_outcome (mode_of m) s.rest s)
-      (λ s. place_of true s (end_outcome (mode_of m) s.rest s))
+      (λ place s. end_failures place s (end_outcome (mode_of m) s.rest s))
   end_outcome_of m u e s =
       let x = any_end m u s in
       let z : (seen_from (mode_of m) && is_eoi (codes "EOI")) ≡ true = ap (λ b. b && true) e in
-      (x.0, x.1 ∙ ap (λ b. place_of b s (end_outcome (mode_of m) s.rest s)) z)
+      (x.0, λ place. x.1 place ∙ ap (λ b. other_failures b (codes "EOI") place s (end_outcome (mode_of m) s.rest s)) z)

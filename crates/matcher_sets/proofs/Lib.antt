@@ -10,3 +10,4 @@ pub mod Heading
 pub mod Rules
 pub mod Skipping
 pub mod Silent
+pub mod Recording

@@ -12,6 +12,7 @@ use Rattle.base_ast.specs.Ast.{text_of}
 use Rattle.base_language.specs.Language.Matching.{any_begins, begins, distance, starts_in}
 use Rattle.base_language.specs.Language.State.{None', Success, moved}
 use Rattle.base_language.specs.Language.Text.{Text}
+use Rattle.matcher_code.specs.Failures.{in_silence}
 use Rattle.matcher_code.specs.declared.code.Code.{Code}
 use Rattle.matcher_code.specs.declared.code.Op.TheVariants as op
 use Rattle.matcher_code.specs.Reading.{is_covered}
@@ -50,22 +51,3 @@ one_text_more texts i t c u old new l here one e f =
   where
     map_append : (xs : List (String Global)) (x : String Global) → map text_of (xs ++ x ∷ []) ≡ map text_of xs ++ text_of x ∷ []
     map_append xs x = simp map-append
-
-module _ (ranges : List (ℕ × ℕ)) (ts : List Text) (covers : (c : ℕ) (u : Text) → c < 1114112 → is_covered ranges c ≡ not (any_begins ts (c ∷ u))) where
-  goes : (a b : Bool) (n d : ℕ) → a ≡ not b → n ≡ d → (if a then suc n else 0) ≡ (if b then 0 else suc d)
-  goes a true n d e f = ap (λ x. if x then suc n else 0) e
-  goes a false n d e f = ap (λ x. if x then suc n else 0) e ∙ ap suc f
-
-  span_is_distance : (cs : Text) → scalars cs ≡ true → span_of (is_covered ranges) cs ≡ distance ts cs
-  span_is_distance [] u = refl
-  span_is_distance (c ∷ cs) u =
-      let k = and_parts (scalar c) (scalars cs) u in
-      goes (is_covered ranges c) (any_begins ts (c ∷ cs)) (span_of (is_covered ranges) cs) (distance ts cs) (covers c cs (below c k.0)) (span_is_distance cs k.1)
-
-  -- the operation `All` of the other characters goes on to the first of these
-  pub search_as : (code : Code) (number : Text → ℕ) → at_label code 0 ≡ op.Fail → (i : ℕ) → IsSetOf code i ranges → (l n w : ℕ) → at_label code l ≡ op.All i n
-      → Performs code number l n w (λ s. Success (moved (distance ts s.rest) s) None') (λ s. 0)
-  search_as code number fail i is l n w h text s c at safe =
-      subst (λ o. Comes code text number l n w o 0 1 8 c)
-      (ap (λ k. Success (moved k s) None') (span_is_distance s.rest (rest_scalars ranges (is_covered ranges) (λ x k. refl) text s c.at at)))
-      (all_performs code i ranges is number fail l n w h text s c at safe)

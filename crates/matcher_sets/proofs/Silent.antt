@@ -4,6 +4,7 @@ use Rattle.base_ast.specs.Ast.{rule_type_of}
 use Rattle.base_language.specs.Language.Expression.{Silent, comment, whitespace}
 use Rattle.base_language.specs.Language.Matching.{character_outcome}
 use Rattle.base_language.specs.Language.Meaning.{Run, body_mode, gives_token, inherited, mode_in}
+use Rattle.matcher_code.specs.Failures.{in_silence}
 use Rattle.matcher_code.specs.Laid.{HasOutcome}
 use Rattle.matcher_code.proofs.Characters.{silent_call_of_set}
 use Rattle.matcher_program.specs.declared.form.Form.TheVariants as form
@@ -39,5 +40,5 @@ call_has p rule row within is meant silent ranges has classes fits =
           let e : mode_of k.0 ≡ body_mode r (mode_of m) = k.1 ∙ ap (λ t. mode_in t blank (mode_of m)) (sym silent) in
           silent_call_of_set (grammar_in p) classes (mode_of m) (name_at (names_of p.rows.items) rule) r x.characters (meant_is p rule row within is meant)
           (ap (λ t. gives_token t (mode_of m)) silent)
-          (subst (λ z. HasOutcome (grammar_in p) classes (Run z (said p row.body)) (character_outcome x.characters) (λ s. 0)) e (x.holds k.0));
+          (subst (λ z. HasOutcome (grammar_in p) classes (Run z (said p row.body)) (character_outcome x.characters) in_silence) e (x.holds k.0));
     }

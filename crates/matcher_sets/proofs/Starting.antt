@@ -1,5 +1,5 @@
 -- The first characters of texts.
-use Rattle.std.proofs.Common.{◌≡◌, refl, sym, ◌∙◌, ap, ap₂, ℕ, suc, ◌+◌, ◌<◌, List, [], ◌∷◌, ◌++◌, Bool, true, false, ◌||◌, arith, get_or, length, map, nat_eq, take}
+use Rattle.std.proofs.Common.{◌≡◌, refl, sym, ◌∙◌, ap, ap₂, ℕ, zero, suc, ◌+◌, ◌<◌, List, [], ◌∷◌, ◌++◌, Bool, true, false, ◌||◌, arith, get_or, length, map, nat_eq, take}
 use Rattle.std.proofs.Math.Seq.{take-suc}
 use Rattle.std.proofs.lemmas.Bool.{and_parts}
 use Rattle.std.proofs.lemmas.List.{map-append}
@@ -66,3 +66,21 @@ more_starts texts i t old new c l here h first adds =
         or_true : (b : Bool) → (b || true) ≡ true
         or_true true = refl
         or_true false = refl
+
+-- a text without a first character is empty, and each input begins with it
+none_first : (t : Text) → ((d : ℕ) → starts_in (λ e. nat_eq e d) t ≡ false) → begins nat_eq t [] ≡ true
+none_first [] h = refl
+none_first (x ∷ t) h = let z : true ≡ false = sym (same_self x) ∙ h x in cc
+
+pub some_empty : (texts : List (String Global)) (i : ℕ) (t : String Global) → i < length texts → get_or texts i t ≡ t
+    → ((d : ℕ) → starts_in (λ e. nat_eq e d) (ast.text_of t) ≡ false) → any_begins (map ast.text_of texts) [] ≡ true
+some_empty [] i t l here h = absurd (omega (arith, l))
+some_empty (s ∷ texts) zero t l here h =
+    ap (λ x. begins nat_eq (ast.text_of x) [] || any_begins (map ast.text_of texts) []) here
+    ∙ ap (λ b. b || any_begins (map ast.text_of texts) []) (none_first (ast.text_of t) h)
+some_empty (s ∷ texts) (suc i) t l here h =
+    ap (λ b. begins nat_eq (ast.text_of s) [] || b) (some_empty texts i t (omega (arith, l)) here h) ∙ or_true (begins nat_eq (ast.text_of s) [])
+  where
+    or_true : (b : Bool) → (b || true) ≡ true
+    or_true true = refl
+    or_true false = refl

@@ -1,10 +1,10 @@
 -- Ranges of forms that match one character, or that take some where one of these is next.
 use Rattle.std.specs.Prelude.{◌≡◌, ◌⊎◌, ℕ, suc, Bool, true, false, List, nat_le, if◌then◌else◌}
 use Rattle.base_language.specs.Language.Expression.{Grammar}
-use Rattle.base_language.specs.Language.FurthestFailure.{furthest}
 use Rattle.base_language.specs.Language.Matching.{character_outcome, starts_in}
 use Rattle.base_language.specs.Language.Meaning.{Does, Run, Task}
 use Rattle.base_language.specs.Language.State.{Classes, Failure, None', Outcome, State, Success}
+use Rattle.matcher_code.specs.Failures.{in_silence}
 use Rattle.matcher_code.specs.Sets.{IsSetOf}
 use Rattle.matcher_code.specs.declared.code.Code.{Code}
 use Rattle.matcher_code.specs.Laid.{HasOutcome, TakesSome}
@@ -46,7 +46,7 @@ pub record HasSet (code : Code) (set : ℕ) (characters : ℕ → Bool) : Type 0
 -- there, and else matches nothing
 abbrev pub MatchesOne : Program → Classes → Form → (ℕ → Bool) → Type 0
 MatchesOne p classes f set = (m : Atomicity)
-    → HasOutcome (grammar_in p) classes (Run (mode_of m) (said p f)) (character_outcome set) (λ s. 0)
+    → HasOutcome (grammar_in p) classes (Run (mode_of m) (said p f)) (character_outcome set) in_silence
 
 abbrev pub BeginsWith : Program → Classes → Form → (ℕ → Bool) → Type 0
 BeginsWith p classes f set = (m : Atomicity) (s : State)
@@ -54,7 +54,7 @@ BeginsWith p classes f set = (m : Atomicity) (s : State)
 
 abbrev pub RefusesOne : Program → Classes → Form → (ℕ → Bool) → Type 0
 RefusesOne p classes f set = (m : Atomicity) → HasOutcome (grammar_in p) classes
-    (Run (mode_of m) (said p f)) (λ s. if starts_in set s.rest then Failure else Success s None') (λ s. 0)
+    (Run (mode_of m) (said p f)) (λ s. if starts_in set s.rest then Failure else Success s None') in_silence
 
 -- some set has the characters of the ranges, or those that are added to ranges
 pub record ByRanges (P : (ℕ → Bool) → Type 0) (ranges : List (ℕ × ℕ)) : Type 0 where

@@ -1,5 +1,5 @@
 //! First characters of texts.
-ghost use Rattle.std.specs.Prelude.{◌≡◌, ◌<◌, ◌∷◌, ◌==◌, ℕ, IfOk, IfSome, chars, length, map, true};
+ghost use Rattle.std.specs.Prelude.{◌≡◌, ◌<◌, ◌∷◌, ◌==◌, ℕ, [], IfNone, IfOk, IfSome, chars, length, map, true};
 ghost use Rattle.base_ast.specs.Ast.{text_of};
 ghost use Rattle.base_language.specs.Language.Matching.{any_begins};
 ghost use Rattle.base_language.specs.Language.Text.{Text};
@@ -47,8 +47,9 @@ pub fn all_characters(alloc: Global) -> Result<Ranges, AllocError>
 
 /// Returns the ranges of the first characters of texts, or `None` if one of them is empty.
 pub fn first_characters(alloc: Global, texts: &Vec<String>) -> Result<Option<Ranges>, AllocError>
-    ensures { IfOk result (λ made. IfSome made (λ ranges.
+    ensures starts { IfOk result (λ made. IfSome made (λ ranges.
         StartIn ranges.items (map text_of texts.now.items))) }
+    ensures empty { IfOk result (λ made. IfNone made (any_begins (map text_of texts.now.items) [] ≡ true)) }
 {
     let mut ranges = Vec::new(alloc);
     for text in texts {

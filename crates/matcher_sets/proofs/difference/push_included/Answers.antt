@@ -2,6 +2,7 @@ use Rattle.std.proofs.Common.{◌≡◌, ◌∙◌, ◌++◌, ◌||◌, ap, arit
 use Rattle.std.proofs.lemmas.Grind.{common_steps}
 use Rattle.base_language.specs.Language.Matching.{character_outcome}
 use Rattle.base_language.specs.Language.Meaning.{Run}
+use Rattle.matcher_code.specs.Failures.{in_silence}
 use Rattle.matcher_code.specs.Reading.{is_covered}
 use Rattle.matcher_code.specs.Laid.{HasOutcome}
 use Rattle.matcher_program.specs.Programs.{characters_of}
@@ -23,7 +24,7 @@ returns-in_ok-extend_from_slice-in-Some c = λ h classes fits.
     record {
       characters = characters_of set;
       holds = λ m.
-          subst (λ y. HasOutcome (grammar_in p) classes (Run (mode_of m) y) (character_outcome (characters_of set)) (λ s. 0)) (sym x.same) (set_outcome p classes m set x.one x.bound);
+          subst (λ y. HasOutcome (grammar_in p) classes (Run (mode_of m) y) (character_outcome (characters_of set)) in_silence) (sym x.same) (set_outcome p classes m set x.one x.bound);
       adds = λ y l.
           ap (λ rs. is_covered rs y) e ∙ (covered-append c.args.ranges.now.items c.deref.result.now y
           ∙ ap (λ b. is_covered c.args.ranges.now.items y || b) (ap (λ rs. is_covered rs y) c.deref.ensures.value ∙ c.in_ok-more-in-Some.ensures y l));

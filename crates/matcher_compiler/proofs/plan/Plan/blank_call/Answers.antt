@@ -1,17 +1,19 @@
 use Rattle.base_language.specs.Language.Expression.{whitespace}
 use Rattle.matcher_sets.proofs.Skipping.{skipped_is_rule, white_is_skipped}
 use Rattle.matcher_compiler.proofs.Skipping.{skipped_laid, white_meant}
+use Rattle.matcher_compiler.proofs.Naming.{rule_within}
+use Rattle.matcher_compiler.specs.Exact.{is_exact}
 use Rattle.matcher_compiler.specs.Names.{number_in}
 use Rattle.matcher_sets.specs.Forms.{grammar_in}
 use Rattle.matcher_compiler.proofs.plan.Plan.blank_call.Goals as goal
 
-pub call-requires-clause-meant : goal.call-requires-clause-meant
-call-requires-clause-meant c =
+pub call-requires-clause-within : goal.call-requires-clause-within
+call-requires-clause-within c =
     let p = c.args.program.now in
-    skipped_is_rule p whitespace c.in-Some.rule (white_meant p c.in-Some.rule c.requires.sound c.in-Some.is)
+    rule_within p.rows.items _ c.in-Some.rule (skipped_is_rule p whitespace c.in-Some.rule (white_meant p c.in-Some.rule c.requires.sound c.in-Some.is))
 
 pub returns-clause-lays : goal.returns-clause-lays
 returns-clause-lays c = λ classes fits code laid m.
     let p = c.args.program.now in
-    skipped_laid p whitespace c.in-Some.rule (white_meant p c.in-Some.rule c.requires.sound c.in-Some.is) white_is_skipped classes code
+    skipped_laid p whitespace c.in-Some.rule (white_meant p c.in-Some.rule c.requires.sound c.in-Some.is) white_is_skipped (is_exact code) classes code
     (number_in (grammar_in p)) laid (c.in_ok-call.ensures.lays classes fits code laid m)

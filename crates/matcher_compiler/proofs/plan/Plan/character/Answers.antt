@@ -1,4 +1,5 @@
 use Rattle.base_language.specs.Language.Matching.{character_outcome}
+use Rattle.matcher_code.specs.Failures.{in_silence}
 use Rattle.matcher_code.specs.Laid as lay
 use Rattle.matcher_compiler.proofs.Growing.{later_twice}
 use Rattle.matcher_sets.proofs.Leaves.{one_as}
@@ -14,6 +15,6 @@ returns-clause-lays c = λ classes fits code laid m.
     let p = c.args.program.now in
     let m1 = (c.in_ok-operation.ensures.later p).met code laid m in
     let x = c.requires.ranges classes fits in
-    lay.leaf (character_outcome x.characters) (λ s. 0) (x.holds c.args.at.mode)
+    lay.leaf (character_outcome x.characters) in_silence (x.holds c.args.at.mode)
     (one_as c.args.ranges.items x.characters x.covers code (number_in (grammar_in p)) m.fail c.in_ok-set.set
     (c.in_ok-set.ensures.means p code laid m1) c.args.at.label c.args.at.next c.args.at.way (c.in_ok-operation.ensures.met p code laid m))

@@ -5,7 +5,9 @@ use Rattle.std.specs.Prelude.{OnOk}
 use Rattle.base_language.specs.Language.Expression.{Choice, Insens, NegPred, NodeTag, Opt, PosPred, Push, PushLiteral, Rep, RepOnce, RestoreOnErr, Seq, Str}
 use Rattle.base_language.specs.Language.Meaning.{Run}
 use Rattle.matcher_sets.specs.Modes.{mode_of}
-use Rattle.matcher_sets.specs.Forms.{said}
+use Rattle.matcher_program.specs.Programs.{IsRuleOf, name_at, names_of}
+use Rattle.matcher_sets.specs.Forms.{IsBoundIn, grammar_in, said}
+use Rattle.matcher_compiler.proofs.Naming.{rule_within}
 use Rattle.matcher_compiler.specs.Plans.{LaysAt}
 use Rattle.matcher_compiler.proofs.plan.Plan.form.Goals as goal
 
@@ -30,6 +32,12 @@ returns-in-Start-clause-lays c =
 pub returns-in-End-clause-lays : goal.returns-in-End-clause-lays
 returns-in-End-clause-lays c =
     subst (λ x. OnOk c.end_of_text.result (LaysAt c.args.program.now c.end_of_text.new.self (Run (mode_of c.args.at.mode) (said c.args.program.now x)) c.args.at)) (sym c.in-End.is) c.end_of_text.ensures.lays
+
+pub call-requires-clause-within : goal.call-requires-clause-within
+call-requires-clause-within c =
+    let p = c.args.program.now in
+    let meant : IsRuleOf (grammar_in p) (name_at (names_of p.rows.items) c.in-Call.rule) c.in-Call.rule = subst (IsBoundIn p) c.in-Call.is c.requires.bound in
+    rule_within p.rows.items _ c.in-Call.rule meant
 
 pub returns-in-Call-clause-lays : goal.returns-in-Call-clause-lays
 returns-in-Call-clause-lays c =

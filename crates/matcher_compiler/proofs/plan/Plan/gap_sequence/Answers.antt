@@ -1,10 +1,13 @@
 use Rattle.std.proofs.Common.{◌∙◌, ◌<◌, arith, subst, sym}
 use Rattle.base_language.specs.Language.Expression.{Seq}
 use Rattle.base_language.specs.Language.Meaning.{Run, Skipping}
+use Rattle.matcher_code.specs.Failures.{in_silence}
 use Rattle.matcher_code.specs.Laid as lay
 use Rattle.matcher_code.specs.Laid.{HasOutcome, IsPart, skip_set}
 use Rattle.matcher_code.proofs.Gaps.{gap_of}
+use Rattle.matcher_compiler.specs.Exact.{is_exact}
 use Rattle.matcher_compiler.proofs.Growing.{later_twice}
+use Rattle.matcher_compiler.proofs.Noting.{if_noted}
 use Rattle.matcher_compiler.proofs.Skipping.{blanks_alone}
 use Rattle.matcher_compiler.specs.Names.{number_in}
 use Rattle.matcher_sets.specs.Forms.{grammar_in, said}
@@ -35,12 +38,12 @@ returns-clause-lays c = λ classes fits code laid m.
     let s = r.set in
     let k = s.blank classes fits in
     let h = c.args.head in
-    let skips = subst (λ i. HasOutcome g classes (Skipping i) (skip_set k.characters) (λ s. 0)) (sym r.mode) (blanks_alone g classes k.characters r.none k.takes) in
+    let skips = subst (λ i. HasOutcome g classes (Skipping i) (skip_set k.characters) in_silence) (sym r.mode) (blanks_alone g classes k.characters r.none k.takes) in
     let left = subst (λ w. IsPart laid at.rank (Run (mode_of at.mode) a) at.label c.args.own w) r.way (c.in_ok-point.ensures.has p code laid m4) in
     let right = subst (λ w. IsPart laid at.rank (Run (mode_of at.mode) b) c.saturating_add-begin.result at.next w) r.way (c.in_ok-point-2.ensures.has p code laid m) in
-    subst (λ w. lay.Lays g classes code (number_in g) laid at.rank (Run (mode_of at.mode) (Seq a b)) at.label at.next w) (sym r.way)
+    subst (λ w. lay.Lays (is_exact code) g classes code (number_in g) laid at.rank (Run (mode_of at.mode) (Seq a b)) at.label at.next w) (sym r.way)
     (lay.gap_seq _ _ left
-    (gap_of code (number_in g) m.fail g classes (Skipping (mode_of at.mode)) (Run (mode_of at.mode) b) c.args.set c.in_ok-stops.stops
+    (gap_of code (number_in g) m.fail (is_exact code) g classes (Skipping (mode_of at.mode)) (Run (mode_of at.mode) b) c.args.set c.in_ok-stops.stops
     s.ranges h.ranges.items k.characters h.noted _ _ at.next c.in_ok-miss.miss (c.in_ok-operation.ensures.met p code laid m3)
     (λ x bs i u. m0.sets c.args.set x bs s.within i ∙ s.is x bs i u) k.covers skips (c.in_ok-stops.ensures.means p code laid m2)
-    (r.takes classes fits) (c.in_ok-miss.ensures.goes p code laid m1) up) right)
+    (r.takes classes fits) (if_noted code h.noted _ _ (c.in_ok-miss.ensures.goes p code laid m1)) (c.in_ok-miss.ensures.goes p code laid m1) up) right)

@@ -1,5 +1,6 @@
 use Rattle.std.proofs.Common.{chars, nat_eq, refl}
 use Rattle.matcher_compiler.proofs.Growing.{later_twice}
+use Rattle.matcher_code.specs.Failures.{in_silence}
 use Rattle.matcher_code.specs.Laid as lay
 use Rattle.matcher_code.proofs.Leaves.{text_performs}
 use Rattle.base_language.specs.Language.Matching.{text_outcome}
@@ -14,6 +15,6 @@ returns-clause-later c = later_twice c.args.program.now _ _ _ (c.in_ok-number.en
 pub returns-clause-lays : goal.returns-clause-lays
 returns-clause-lays c = λ classes fits code laid m.
     let m1 = (c.in_ok-operation.ensures.later c.args.program.now).met code laid m in
-    lay.leaf (text_outcome nat_eq (chars c.args.text.now)) (λ s. 0) (λ s. (str, refl))
+    lay.leaf (text_outcome nat_eq (chars c.args.text.now)) in_silence (λ s. (str, λ place. refl))
     (text_performs code (number_in (grammar_in c.args.program.now)) m.fail c.args.at.label c.args.at.next c.args.at.way c.in_ok-number.number c.args.text.now c.utf8.text
     (c.in_ok-number.ensures.means c.args.program.now code laid m1) (c.in_ok-operation.ensures.met c.args.program.now code laid m))

@@ -8,15 +8,15 @@ pub returns-clause-later : goal.returns-clause-later
 returns-clause-later c = later_twice c.args.program.now _ _ _ (later_twice c.args.program.now _ _ _ (c.in_ok-operation.ensures.later c.args.program.now) (c.in_ok-operation-2.ensures.later c.args.program.now)) (c.in_ok-point.ensures.later c.args.program.now c.requires.bound)
 
 pub returns-clause-positive : goal.returns-clause-positive
-returns-clause-positive c = λ found missed classes fits code laid m.
+returns-clause-positive c = λ begins found classes fits code laid m.
     let m2 = (c.in_ok-point.ensures.later c.args.program.now c.requires.bound).met code laid m in
     let m1 = (c.in_ok-operation-2.ensures.later c.args.program.now).met code laid m2 in
-    lay.pos_pred _ _ (c.in_ok-operation.ensures.met c.args.program.now code laid m1 ∙ ap (λ w. op.Try c.args.own w) missed)
+    lay.pos_pred _ _ (c.in_ok-operation.ensures.met c.args.program.now code laid m1 ∙ begins)
     (c.in_ok-point.ensures.has c.args.program.now code laid m) (c.in_ok-operation-2.ensures.met c.args.program.now code laid m2 ∙ ap op.Ahead found)
 
 pub returns-clause-negative : goal.returns-clause-negative
-returns-clause-negative c = λ found missed classes fits code laid m.
+returns-clause-negative c = λ begins found classes fits code laid m.
     let m2 = (c.in_ok-point.ensures.later c.args.program.now c.requires.bound).met code laid m in
     let m1 = (c.in_ok-operation-2.ensures.later c.args.program.now).met code laid m2 in
-    lay.neg_pred _ _ (c.in_ok-operation.ensures.met c.args.program.now code laid m1 ∙ ap (λ w. op.Try c.args.own w) missed)
+    lay.neg_pred _ _ (c.in_ok-operation.ensures.met c.args.program.now code laid m1 ∙ begins)
     (c.in_ok-point.ensures.has c.args.program.now code laid m) (c.in_ok-operation-2.ensures.met c.args.program.now code laid m2 ∙ ap op.Ahead found)

@@ -1,4 +1,5 @@
 use Rattle.std.proofs.Common.{◌∙◌, [], false, refl, subst}
+use Rattle.matcher_code.specs.Failures.{in_silence}
 use Rattle.matcher_code.specs.Laid as lay
 use Rattle.matcher_code.specs.Laid.{skip_set}
 use Rattle.matcher_compiler.proofs.Skipping.{no_comments}
@@ -16,6 +17,6 @@ returns-clause-lays c = λ classes fits code laid m.
     let p = c.args.program.now in
     let r = subst (λ x. SkipsAs p c.args.self.now.sets x) c.in-Calls.is c.requires.ready in
     let m0 = (c.in_ok-operation.ensures.later p).met code laid m in
-    lay.leaf (skip_set (λ x. false)) (λ s. 0) (no_comments (grammar_in p) classes c.requires.none)
+    lay.leaf (skip_set (λ x. false)) in_silence (no_comments (grammar_in p) classes c.requires.none)
     (all_as [] (λ x. false) (λ x l. refl) code (number_in (grammar_in p)) m.fail c.in-Calls.set (λ x bs h u. m0.sets c.in-Calls.set x bs r.within h ∙ r.is x bs h u)
     c.args.at.label c.args.at.next c.args.at.way (c.in_ok-operation.ensures.met p code laid m))

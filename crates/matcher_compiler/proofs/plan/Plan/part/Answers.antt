@@ -3,11 +3,8 @@ use Rattle.std.specs.Prelude.{OnOk}
 use Rattle.std.proofs.lemmas.Grind.{common_steps}
 use Rattle.base_language.specs.Language.Meaning.{Run}
 use Rattle.matcher_sets.specs.Modes.{mode_of}
-use Rattle.matcher_sets.specs.Forms.{grammar_in}
 use Rattle.matcher_compiler.specs.Plans.{IsBoundPart, LaysAt, task_in}
-use Rattle.matcher_program.specs.Programs.{name_at, names_of}
 use Rattle.matcher_compiler.proofs.Calling.{body_said}
-use Rattle.matcher_compiler.proofs.Naming.{meant_of}
 use Rattle.matcher_compiler.proofs.plan.Plan.part.Goals as goal
 
 pub returns-in-Form-clause-lays : goal.returns-in-Form-clause-lays
@@ -54,7 +51,5 @@ returns-in-Some-clause-lays c =
     subst (λ q. OnOk c.form-in-Some.result (LaysAt c.args.program.now c.form-in-Some.new.self (task_in c.args.program.now q (mode_of c.args.point.at.mode)) c.args.point.at)) (sym c.in-Body.is)
     (subst (λ b. OnOk c.form-in-Some.result (LaysAt c.args.program.now c.form-in-Some.new.self (Run (mode_of c.args.point.at.mode) b) c.args.point.at)) (sym e) c.form-in-Some.ensures.lays)
 
-pub call-requires-clause-meant : goal.call-requires-clause-meant
-call-requires-clause-meant c =
-    let within : c.in-Rule.rule < length c.args.program.now.rows.items = subst (IsBoundPart c.args.program.now) c.in-Rule.is c.requires.bound in
-    meant_of (grammar_in c.args.program.now) (name_at (names_of c.args.program.now.rows.items) c.in-Rule.rule) c.in-Rule.rule (c.requires.names c.in-Rule.rule within)
+pub call-requires-clause-within : goal.call-requires-clause-within
+call-requires-clause-within c = subst (IsBoundPart c.args.program.now) c.in-Rule.is c.requires.bound

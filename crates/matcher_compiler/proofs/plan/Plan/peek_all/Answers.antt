@@ -1,5 +1,6 @@
 use Rattle.std.proofs.Common.{nat_eq}
 use Rattle.base_language.specs.Language.Matching.{concatenated, text_outcome}
+use Rattle.matcher_code.specs.Failures.{in_silence}
 use Rattle.matcher_code.specs.Laid as lay
 use Rattle.matcher_code.proofs.StackReads.{peek_all_performs}
 use Rattle.matcher_sets.specs.Forms.{grammar_in}
@@ -12,5 +13,5 @@ returns-clause-later c = c.in_ok-operation.ensures.later c.args.program.now
 
 pub returns-clause-lays : goal.returns-clause-lays
 returns-clause-lays c = λ classes fits code laid m.
-    lay.leaf (λ s. text_outcome nat_eq (concatenated s.stack) s) (λ s. 0) (peek_all_has c.args.program.now classes c.args.at.mode c.requires.bound)
+    lay.leaf (λ s. text_outcome nat_eq (concatenated s.stack) s) in_silence (peek_all_has c.args.program.now classes c.args.at.mode c.requires.bound)
     (peek_all_performs code (number_in (grammar_in c.args.program.now)) m.fail c.args.at.label c.args.at.next c.args.at.way (c.in_ok-operation.ensures.met c.args.program.now code laid m))

@@ -1,6 +1,7 @@
 use Rattle.std.proofs.Common.{chars, refl}
 use Rattle.base_language.specs.Language.Meaning.{push_literal, with_top}
 use Rattle.base_language.specs.Language.State.{None', Success}
+use Rattle.matcher_code.specs.Failures.{in_silence}
 use Rattle.matcher_code.specs.Laid as lay
 use Rattle.matcher_code.proofs.StackReads.{push_text_performs}
 use Rattle.matcher_sets.specs.Forms.{grammar_in}
@@ -14,6 +15,6 @@ returns-clause-later c = later_twice c.args.program.now _ _ _ (c.in_ok-number.en
 pub returns-clause-lays : goal.returns-clause-lays
 returns-clause-lays c = λ classes fits code laid m.
     let m1 = (c.in_ok-operation.ensures.later c.args.program.now).met code laid m in
-    lay.leaf (λ s. Success (with_top (chars c.args.text.now) s) None') (λ s. 0) (λ s. (push_literal, refl))
+    lay.leaf (λ s. Success (with_top (chars c.args.text.now) s) None') in_silence (λ s. (push_literal, λ place. refl))
     (push_text_performs code (number_in (grammar_in c.args.program.now)) m.fail c.args.at.label c.args.at.next c.args.at.way c.in_ok-number.number c.args.text.now c.utf8.text
     (c.in_ok-number.ensures.means c.args.program.now code laid m1) (c.in_ok-operation.ensures.met c.args.program.now code laid m))

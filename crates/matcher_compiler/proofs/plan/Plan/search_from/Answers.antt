@@ -3,6 +3,7 @@ use Rattle.base_ast.specs.Ast.{text_of}
 use Rattle.base_language.specs.Language.Matching.{distance}
 use Rattle.base_language.specs.Language.Meaning as by
 use Rattle.base_language.specs.Language.State.{None', Success, moved}
+use Rattle.matcher_code.specs.Failures.{in_silence}
 use Rattle.matcher_code.specs.Laid as lay
 use Rattle.matcher_code.proofs.Until.{until_performs}
 use Rattle.matcher_compiler.proofs.Growing.{later_twice}
@@ -22,7 +23,7 @@ returns-clause-lays c = λ classes fits code laid m.
     let m2 = (c.in_ok-operation.ensures.later p).met code laid m in
     let m1 = (c.in_ok-list.ensures.later p).met code laid m2 in
     let x = c.in_ok-list.ensures.means p code laid m2 in
-    lay.leaf (λ s. Success (moved (distance ts s.rest) s) None') (λ s. 0) (λ s. (by.skip, refl))
+    lay.leaf (λ s. Success (moved (distance ts s.rest) s) None') in_silence (λ s. (by.skip, λ place. refl))
     (until_performs code c.in_ok-firsts.firsts c.in_ok-list.list ts
     (record { ranges = c.args.ranges.items; is = c.in_ok-firsts.ensures.means p code laid m1; starts = c.requires.starts; valid = x.valid; same = x.same })
     (number_in (grammar_in p)) m.fail c.args.at.label c.args.at.next c.args.at.way (c.in_ok-operation.ensures.met p code laid m))

@@ -1,4 +1,5 @@
 use Rattle.std.proofs.Common.{◌∙◌, subst, sym}
+use Rattle.matcher_code.specs.Failures.{in_silence}
 use Rattle.matcher_code.specs.Laid as lay
 use Rattle.matcher_code.specs.Laid.{HasOutcome, skip_set}
 use Rattle.base_language.specs.Language.Meaning.{Skipping}
@@ -17,8 +18,8 @@ returns-clause-lays c = λ classes fits code laid m.
     let m0 = (c.in_ok-operation.ensures.later p).met code laid m in
     let s = c.requires.set in
     let b = s.blank classes fits in
-    lay.leaf (skip_set b.characters) (λ s. 0)
-    (subst (λ k. HasOutcome (grammar_in p) classes (Skipping k) (skip_set b.characters) (λ s. 0)) (sym c.requires.mode)
+    lay.leaf (skip_set b.characters) in_silence
+    (subst (λ k. HasOutcome (grammar_in p) classes (Skipping k) (skip_set b.characters) in_silence) (sym c.requires.mode)
     (blanks_alone (grammar_in p) classes b.characters c.requires.none b.takes))
     (all_as s.ranges b.characters b.covers code (number_in (grammar_in p)) m.fail c.args.set (λ x bs h u. m0.sets c.args.set x bs s.within h ∙ s.is x bs h u)
     c.args.at.label c.args.at.next c.args.at.way (c.in_ok-operation.ensures.met p code laid m))

@@ -1,4 +1,5 @@
 use Rattle.std.proofs.Common.{◌==◌, if◌then◌else◌}
+use Rattle.matcher_code.specs.Failures.{in_silence}
 use Rattle.matcher_code.specs.Laid as lay
 use Rattle.matcher_code.proofs.Ends.{start_performs}
 use Rattle.base_language.specs.Language.State.{Failure, None', Success}
@@ -12,5 +13,5 @@ returns-clause-later c = c.in_ok-operation.ensures.later c.args.program.now
 
 pub returns-clause-lays : goal.returns-clause-lays
 returns-clause-lays c = λ classes fits code laid m.
-    lay.leaf (λ s. if s.position == 0 then Success s None' else Failure) (λ s. 0) (start_outcome c.args.program.now classes c.args.at.mode c.requires.bound)
+    lay.leaf (λ s. if s.position == 0 then Success s None' else Failure) in_silence (start_outcome c.args.program.now classes c.args.at.mode c.requires.bound)
     (start_performs code (number_in (grammar_in c.args.program.now)) m.fail c.args.at.label c.args.at.next c.args.at.way (c.in_ok-operation.ensures.met c.args.program.now code laid m))

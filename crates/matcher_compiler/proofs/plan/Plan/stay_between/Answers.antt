@@ -2,6 +2,7 @@ use Rattle.std.proofs.Common.{◌≡◌, arith, subst}
 use Rattle.base_language.specs.Language.Meaning.{Skipping}
 use Rattle.base_language.specs.Language.State.{Between}
 use Rattle.matcher_code.specs.Laid as lay
+use Rattle.matcher_compiler.specs.Exact.{is_exact}
 use Rattle.matcher_compiler.specs.Names.{number_in}
 use Rattle.matcher_sets.specs.Forms.{grammar_in}
 use Rattle.matcher_compiler.proofs.Skipping.{tight_between}
@@ -12,5 +13,5 @@ returns-then-at c = record {
   lays = λ classes fits code laid m.
       let g = grammar_in c.args.program.now in
       let e : c.args.at.label ≡ c.args.at.next = omega arith in
-      subst (λ n. lay.Lays g classes code (number_in g) laid c.args.at.rank (Skipping Between) c.args.at.label n c.args.at.way) e (lay.nothing (tight_between g classes));
+      subst (λ n. lay.Lays (is_exact code) g classes code (number_in g) laid c.args.at.rank (Skipping Between) c.args.at.label n c.args.at.way) e (lay.nothing (tight_between g classes));
 }

@@ -18,5 +18,6 @@ returns-clause-branches c = λ p k fails classes fits code laid m.
       switched = c.in_ok-operation.ensures.met p code laid m2;
       is = c.in_ok-set.ensures.means p code laid m1;
       fails = fails classes fits;
-      branches = c.in_ok-demand.ensures.met p code laid m;
+      allowed = (c.in_ok-demand.ensures.met p code laid m).1;
+      branches = (c.in_ok-demand.ensures.met p code laid m).0;
     }

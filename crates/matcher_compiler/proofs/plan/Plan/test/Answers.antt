@@ -1,5 +1,6 @@
 use Rattle.std.proofs.Common.{inr}
 use Rattle.matcher_compiler.proofs.Growing.{later_twice}
+use Rattle.matcher_compiler.proofs.Noting.{if_noted}
 use Rattle.matcher_compiler.proofs.plan.Plan.test.Goals as goal
 
 pub returns-clause-later : goal.returns-clause-later
@@ -14,6 +15,7 @@ returns-clause-enters c = λ p k fails classes fits code laid m.
       set = c.in_ok-set.set;
       ranges = c.args.head.ranges.items;
       noted = c.args.head.noted;
+      allowed = if_noted code c.args.head.noted _ _ (c.in_ok-miss.ensures.goes p code laid m1);
       miss = c.in_ok-miss.miss;
       tested = c.in_ok-operation.ensures.met p code laid m;
       is = c.in_ok-set.ensures.means p code laid m2;
