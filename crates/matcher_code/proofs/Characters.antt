@@ -13,7 +13,7 @@ use Rattle.base_language.specs.Language.Matching.{character_outcome, starts_in}
 use Rattle.base_language.specs.Language.Meaning as by
 use Rattle.base_language.specs.Language.Meaning.{Does, Run, Skipping, Task, Turns, body_mode, gives_token, seen_from, with_token}
 use Rattle.matcher_code.specs.Laid.{HasOutcome, IsTight, TakesSome, skip_set, span_of, IsSilent}
-use Rattle.matcher_code.specs.Failures.{Failures, both, in_silence, no_failure}
+use Rattle.matcher_code.specs.Failures.{Failures, both, in_silence, no_failure, unnamed}
 
 -- a state by its parts
 abbrev here : ℕ → Text → List Text → State
@@ -104,9 +104,6 @@ module _ (g : Grammar) (classes : Classes) where
   three_silent : {f h i : ℕ → Failures} → ((place : ℕ) → f place ≡ no_failure) → ((place : ℕ) → h place ≡ no_failure) → ((place : ℕ) → i place ≡ no_failure)
       → (place : ℕ) → both (f place) (both (h place) (i place)) ≡ no_failure
   three_silent x y z place = ap₂ both (x place) (ap₂ both (y place) (z place))
-
-  abbrev unnamed : Failures → Failures
-  unnamed f = record { furthest = f.furthest; names = [] }
 
   negated_silent : {f : ℕ → Failures} → ((place : ℕ) → f place ≡ no_failure) → (place : ℕ) → unnamed (f place) ≡ no_failure
   negated_silent x place = ap unnamed (x place)

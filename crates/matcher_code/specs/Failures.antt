@@ -32,3 +32,7 @@ end_failures place s o = record {
 -- those of two parts
 abbrev pub both : Failures → Failures → Failures
 both f g = record { furthest = max f.furthest g.furthest; names = f.names ++ g.names }
+
+-- those of a part below a `!`
+abbrev pub unnamed : Failures → Failures
+unnamed f = record f { names = [] }
