@@ -1,5 +1,4 @@
 pub mod Programs
-pub mod Rests
 pub mod Compiled
 pub mod Indexed
 pub mod Forming
