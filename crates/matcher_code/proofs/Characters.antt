@@ -1,17 +1,19 @@
 -- Expressions that match one character of a set, and as many as there are.
-use Rattle.std.proofs.Common.{◌≡◌, refl, sym, ◌∙◌, ap, subst, ℕ, zero, suc, ◌+◌, ◌≤◌, List, [], ◌∷◌, Bool, true, false, ◌&&◌, ◌||◌, Some, arith, add-zero, length, take, drop, if◌then◌else◌}
-use Rattle.std.specs.Prelude.{not}
+use Rattle.std.proofs.Common.{◌≡◌, refl, sym, ◌∙◌, ap, subst, ℕ, zero, suc, ◌+◌, ◌≤◌, List, [], ◌∷◌, Bool, true, false, ◌&&◌, ◌||◌, Some, arith, add-zero, length, take, drop, if◌then◌else◌, ap₂}
+use Rattle.std.specs.Prelude.{not, max}
 use Rattle.std.specs.List.{sum_by}
 use Rattle.std.specs.Char.{len_utf8}
 use Rattle.std.proofs.lemmas.List.Sums.{sum_by-cons}
 use Rattle.base_language.specs.Language.Text.{Text, size_of}
 use Rattle.base_language.specs.Language.Expression.{Choice, Expression, Grammar, Ident, NegPred, Rep, Rule, Seq, rule_of}
-use Rattle.base_language.specs.Language.FurthestFailure.{furthest, place_of}
+use Rattle.base_language.specs.Language.Expected.{told}
+use Rattle.base_language.specs.Language.FurthestFailure.{place_of}
 use Rattle.base_language.specs.Language.State.{Classes, Mode, None', Outcome, State, Success, Failure, Tree, moved}
 use Rattle.base_language.specs.Language.Matching.{character_outcome, starts_in}
 use Rattle.base_language.specs.Language.Meaning as by
 use Rattle.base_language.specs.Language.Meaning.{Does, Run, Skipping, Task, Turns, body_mode, gives_token, seen_from, with_token}
-use Rattle.matcher_code.specs.Laid.{HasOutcome, IsTight, TakesSome, skip_set, span_of}
+use Rattle.matcher_code.specs.Laid.{HasOutcome, IsTight, TakesSome, skip_set, span_of, IsSilent}
+use Rattle.matcher_code.specs.Failures.{Failures, both, in_silence, no_failure, unnamed}
 
 -- a state by its parts
 abbrev here : ℕ → Text → List Text → State
@@ -92,28 +94,40 @@ hidden false = refl
 module _ (g : Grammar) (classes : Classes) where
   -- a derivation that notes no failure
   abbrev Quiet : Task → State → Outcome → Type 0
-  Quiet k s o = (d : Does g classes k s o) × (furthest d ≡ 0)
+  Quiet k s o = (d : Does g classes k s o) × IsSilent d
+
+  -- nor do two that note none, or three, nor a negation
+  two_silent : {f h : ℕ → Failures} → ((place : ℕ) → f place ≡ no_failure) → ((place : ℕ) → h place ≡ no_failure)
+      → (place : ℕ) → both (f place) (h place) ≡ no_failure
+  two_silent x y place = ap₂ both (x place) (y place)
+
+  three_silent : {f h i : ℕ → Failures} → ((place : ℕ) → f place ≡ no_failure) → ((place : ℕ) → h place ≡ no_failure) → ((place : ℕ) → i place ≡ no_failure)
+      → (place : ℕ) → both (f place) (both (h place) (i place)) ≡ no_failure
+  three_silent x y z place = ap₂ both (x place) (ap₂ both (y place) (z place))
+
+  negated_silent : {f : ℕ → Failures} → ((place : ℕ) → f place ≡ no_failure) → (place : ℕ) → unnamed (f place) ≡ no_failure
+  negated_silent x place = ap unnamed (x place)
 
   left_or_right : (m : Mode) (a b : Expression) (s t : State) (p q : Bool) → Quiet (Run m a) s (either t p) → Quiet (Run m b) s (either t q)
       → Quiet (Run m (Choice a b)) s (either t (p || q))
   left_or_right m a b s t true q x y = (by.left x.0, x.1)
-  left_or_right m a b s t false q x y = (by.right x.0 y.0, omega (arith, x.1, y.1))
+  left_or_right m a b s t false q x y = (by.right x.0 y.0, two_silent x.1 y.1)
 
-  pub choice_of_sets : (m : Mode) (a b : Expression) (f h : ℕ → Bool) → HasOutcome g classes (Run m a) (character_outcome f) (λ s. 0)
-      → HasOutcome g classes (Run m b) (character_outcome h) (λ s. 0) → HasOutcome g classes (Run m (Choice a b)) (character_outcome (λ c. f c || h c)) (λ s. 0)
+  pub choice_of_sets : (m : Mode) (a b : Expression) (f h : ℕ → Bool) → HasOutcome g classes (Run m a) (character_outcome f) in_silence
+      → HasOutcome g classes (Run m b) (character_outcome h) in_silence → HasOutcome g classes (Run m (Choice a b)) (character_outcome (λ c. f c || h c)) in_silence
   choice_of_sets m a b f h x y s =
       subst (λ p. Quiet (Run m (Choice a b)) s (either (moved 1 s) p)) (sym (either_starts f h s.rest))
       (left_or_right m a b s (moved 1 s) (starts_in f s.rest) (starts_in h s.rest) (x s) (y s))
 
   pub not_and_then : (m : Mode) (a b : Expression) (s t : State) (p q : Bool) → IsTight g classes m → Quiet (Run m a) s (either t p)
       → Quiet (Run m b) s (either t q) → Quiet (Run m (Seq (NegPred a) b)) s (either t (not p && q))
-  not_and_then m a b s t true q tight x y = (by.seq_first (by.neg_pred x.0), x.1)
-  not_and_then m a b s t false true tight x y = (by.seq (by.neg_pred x.0) (tight s).0 y.0, omega (arith, x.1, (tight s).1, y.1))
-  not_and_then m a b s t false false tight x y = (by.seq_second (by.neg_pred x.0) (tight s).0 y.0, omega (arith, x.1, (tight s).1, y.1))
+  not_and_then m a b s t true q tight x y = (by.seq_first (by.neg_pred x.0), negated_silent x.1)
+  not_and_then m a b s t false true tight x y = (by.seq (by.neg_pred x.0) (tight s).0 y.0, three_silent (negated_silent x.1) (tight s).1 y.1)
+  not_and_then m a b s t false false tight x y = (by.seq_second (by.neg_pred x.0) (tight s).0 y.0, three_silent (negated_silent x.1) (tight s).1 y.1)
 
-  pub difference_of_sets : (m : Mode) (a b : Expression) (f h : ℕ → Bool) → IsTight g classes m → HasOutcome g classes (Run m a) (character_outcome f) (λ s. 0)
-      → HasOutcome g classes (Run m b) (character_outcome h) (λ s. 0)
-      → HasOutcome g classes (Run m (Seq (NegPred a) b)) (character_outcome (λ c. not (f c) && h c)) (λ s. 0)
+  pub difference_of_sets : (m : Mode) (a b : Expression) (f h : ℕ → Bool) → IsTight g classes m → HasOutcome g classes (Run m a) (character_outcome f) in_silence
+      → HasOutcome g classes (Run m b) (character_outcome h) in_silence
+      → HasOutcome g classes (Run m (Seq (NegPred a) b)) (character_outcome (λ c. not (f c) && h c)) in_silence
   difference_of_sets m a b f h tight x y s =
       subst (λ p. Quiet (Run m (Seq (NegPred a) b)) s (either (moved 1 s) p)) (sym (other_starts f h s.rest))
       (not_and_then m a b s (moved 1 s) (starts_in f s.rest) (starts_in h s.rest) tight (x s) (y s))
@@ -121,17 +135,17 @@ module _ (g : Grammar) (classes : Classes) where
   silently : (m : Mode) (x : Text) (s : State) (r : Rule) (t : State) (p : Bool) → rule_of g x ≡ Some r → gives_token r.type_of m ≡ false
       → Quiet (Run (body_mode r m) r.body) s (either t p) → Quiet (Run m (Ident x)) s (either t p)
   silently m x s r t true h e d =
-      subst (λ us. Quiet (Run m (Ident x)) s (Success t us)) (ap (λ b. if b then Tree r.name s.position t.position None' None' else None') e) (by.call {m = m} h d.0, omega (arith, d.1))
+      subst (λ us. Quiet (Run m (Ident x)) s (Success t us)) (ap (λ b. if b then Tree r.name s.position t.position None' None' else None') e) (by.call {m = m} h d.0, two_silent (λ place. refl) d.1)
   silently m x s r t false h e d =
-      let z : place_of (seen_from m && gives_token r.type_of m) s Failure ≡ 0 = ap (λ b. if (seen_from m && b) then s.position else 0) e ∙ ap (λ b. if b then s.position else 0) (hidden (seen_from m)) in
-      (by.call {m = m} h d.0, omega (arith, z, d.1))
+      let z : (seen_from m && gives_token r.type_of m) ≡ false = ap (λ b. seen_from m && b) e ∙ hidden (seen_from m) in
+      (by.call {m = m} h d.0, λ place. ap₂ (λ b i. record { furthest = max (place_of b s Failure) i.furthest; names = told b x place s Failure i.names }) z (d.1 place))
 
   pub silent_call_of_set : (m : Mode) (x : Text) (r : Rule) (f : ℕ → Bool) → rule_of g x ≡ Some r → gives_token r.type_of m ≡ false
-      → HasOutcome g classes (Run (body_mode r m) r.body) (character_outcome f) (λ s. 0) → HasOutcome g classes (Run m (Ident x)) (character_outcome f) (λ s. 0)
+      → HasOutcome g classes (Run (body_mode r m) r.body) (character_outcome f) in_silence → HasOutcome g classes (Run m (Ident x)) (character_outcome f) in_silence
   silent_call_of_set m x r f h e d s = silently m x s r (moved 1 s) (starts_in f s.rest) h e (d s)
 
   -- an expression that takes one or more characters of a set
-  some_of_one : (k : Task) (f : ℕ → Bool) → HasOutcome g classes k (character_outcome f) (λ s. 0) → (s : State) → TakesSome g classes k s f
+  some_of_one : (k : Task) (f : ℕ → Bool) → HasOutcome g classes k (character_outcome f) in_silence → (s : State) → TakesSome g classes k s f
   some_of_one k f one s = let x = one s in record { more = 0; found = x.0; quiet = x.1; within = starts_span f s.rest }
 
   pub silent_call_of_some : (m : Mode) (x : Text) (r : Rule) (f : ℕ → Bool) → rule_of g x ≡ Some r → gives_token r.type_of m ≡ false
@@ -161,20 +175,20 @@ module _ (g : Grammar) (classes : Classes) where
     turn_on s false q x ih =
         let k = tight s in
         let d = subst (λ z. Quiet (Run m e) s (if z then Success (moved (suc x.more) s) None' else Failure)) q (x.found, x.quiet) in
-        none_from (Turns m e) s q (by.turn_none k.0 d.0, omega (arith, k.1, d.1))
+        none_from (Turns m e) s q (by.turn_none k.0 d.0, two_silent k.1 d.1)
     turn_on s true q x ih =
         let k = tight s in
         let d = subst (λ z. Quiet (Run m e) s (if z then Success (moved (suc x.more) s) None' else Failure)) q (x.found, x.quiet) in
         let j = x.within q in
         let l = span_within f s.rest in
         let h = ih (moved (suc x.more) s) (omega (arith, shorter (suc x.more) s.rest (omega (arith, j, l)))) in
-        on_from (Turns m e) s (suc x.more) j (by.turn k.0 d.0 h.0, omega (arith, k.1, d.1, h.1))
+        on_from (Turns m e) s (suc x.more) j (by.turn k.0 d.0 h.0, three_silent k.1 d.1 h.1)
 
     turns : (n : ℕ) (s : State) → length s.rest ≤ n → Quiet (Turns m e) s (Success (moved (span_of f s.rest) s) None')
     turns zero s w = turn_on s (starts_in f s.rest) refl (some s) (λ t v. absurd (omega (arith, w, v)))
     turns (suc n) s w = turn_on s (starts_in f s.rest) refl (some s) (λ t v. turns n t (omega (arith, w, v)))
 
-    pub span_of_some : HasOutcome g classes (Run m (Rep e)) (skip_set f) (λ s. 0)
+    pub span_of_some : HasOutcome g classes (Run m (Rep e)) (skip_set f) in_silence
     span_of_some s = go (starts_in f s.rest) refl (some s)
       where
         go : (b : Bool) → starts_in f s.rest ≡ b → TakesSome g classes (Run m e) s f → Quiet (Run m (Rep e)) s (Success (moved (span_of f s.rest) s) None')
@@ -184,8 +198,8 @@ module _ (g : Grammar) (classes : Classes) where
         go true q x =
             let d = subst (λ z. Quiet (Run m e) s (if z then Success (moved (suc x.more) s) None' else Failure)) q (x.found, x.quiet) in
             let ih = turns (length (moved (suc x.more) s).rest) (moved (suc x.more) s) (omega arith) in
-            on_from (Run m (Rep e)) s (suc x.more) (x.within q) (by.rep d.0 ih.0, omega (arith, d.1, ih.1))
+            on_from (Run m (Rep e)) s (suc x.more) (x.within q) (by.rep d.0 ih.0, two_silent d.1 ih.1)
 
-  pub span_of_set : (m : Mode) (e : Expression) (f : ℕ → Bool) → IsTight g classes m → HasOutcome g classes (Run m e) (character_outcome f) (λ s. 0)
-      → HasOutcome g classes (Run m (Rep e)) (skip_set f) (λ s. 0)
+  pub span_of_set : (m : Mode) (e : Expression) (f : ℕ → Bool) → IsTight g classes m → HasOutcome g classes (Run m e) (character_outcome f) in_silence
+      → HasOutcome g classes (Run m (Rep e)) (skip_set f) in_silence
   span_of_set m e f tight one = span_of_some m e f tight (some_of_one (Run m e) f one)

@@ -18,3 +18,4 @@ pub mod Between
 pub mod StackReads
 pub mod Gaps
 pub mod Searching
+pub mod Expected

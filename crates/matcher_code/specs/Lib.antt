@@ -3,6 +3,7 @@ pub mod Reading
 pub mod Sets
 pub mod Steps
 pub mod Endings
+pub mod Failures
 pub mod Laid
 pub mod Reached
 pub mod Sizes

@@ -2,11 +2,11 @@
 ghost use Rattle.std.specs.Prelude.{◌≡◌, ◌<◌, ◌*◌, ◌==◌, ◌&&◌, ◌||◌, ℕ, ℤ, Bool, List, [], IsUtf8, Option, Some, chars, codes, false, get_or, if◌then◌else◌, nat_eq, not, true};
 ghost use Rattle.std.specs.Char.{eq_ignore_ascii_case};
 ghost use Rattle.base_language.specs.Language.Expression.{Choice, Expression, Grammar, Ident, NegPred, Rep, Rule, Seq, rule_of};
-ghost use Rattle.base_language.specs.Language.FurthestFailure.{furthest, place_of};
 ghost use Rattle.base_language.specs.Language.Meaning.{Does, Run, Task, body_mode, gives_token, seen_from, with_top};
 ghost use Rattle.base_language.specs.Language.State.{AtomicMode, Classes, Failure, Mode, None', Outcome, State, Success, moved};
 ghost use Rattle.base_language.specs.Language.Text.{Text};
 ghost use Rattle.base_language.specs.Language.Matching.{character_outcome, concatenated, distance, drop_outcome, end_outcome, newline_outcome, peek_outcome, pop_outcome, slice_outcome, text_outcome, with_stack};
+ghost use Rattle.matcher_code.specs.Failures.{end_failures, failures_at, in_silence};
 ghost use Rattle.matcher_code.specs.Reading.{is_covered, text_of};
 ghost use Rattle.matcher_code.specs.Sets.{IsSetOf};
 ghost use Rattle.matcher_code.specs.Steps.{Config, jump, op_at, steps};
@@ -14,57 +14,62 @@ ghost use Rattle.matcher_code.specs.declared.code.Code.{Code};
 ghost use Rattle.matcher_code.specs.declared.code.Op.TheVariants as op;
 ghost use Rattle.matcher_code.specs.Endings.{IsFound, IsOver};
 ghost use Rattle.matcher_code.specs.Laid.{AreLaid, HasOutcome, IsEnd, IsPoint, IsTight, MatchesText, MayPerform, Performs, Point, Searches, skip_set};
-ghost use Rattle.matcher_code.specs.Reached.{Comes, IsAt, IsGuarded};
+ghost use Rattle.matcher_code.specs.Reached.{Comes, IsAt, IsGuarded, MayAsk};
 ghost use Rattle.matcher_code.specs.Results.{HasFailed, HasSucceeded, start_config, start_of};
 ghost use Rattle.matcher_code.specs.Sizes.{least_steps, size};
 
 /// Where the operation 0 is `Fail` and each point of a list is laid by points of the list, the code of a
 /// point does its task: from each state, and for each outcome of the task there, the machine comes to where
-/// the outcome goes on, with its trees and the furthest position of its failures, in at most eight steps for
-/// each rule of the relation of matching that the derivation applies.
+/// the outcome goes on, with its trees, the furthest position of its failures and the rows of the names that
+/// are expected where they are asked for, in at most eight steps for each rule of the relation of matching
+/// that the derivation applies. Code that is not exact is asked for names at no place of the text.
 pub fn laid_code_does_its_task()
-    ensures { (g : Grammar) (classes : Classes) (code : Code) (number : Text → ℕ) (points : List Point)
-        → op_at code [] 0 ≡ op.Fail → AreLaid g classes code number points
+    ensures { (exact : Bool) (g : Grammar) (classes : Classes) (code : Code) (number : Text → ℕ)
+        (points : List Point) → op_at code [] 0 ≡ op.Fail → AreLaid exact g classes code number points
         → (k : Task) (l n w : ℕ) → IsPoint points k l n w
-        → (text : List ℕ) (s : State) (c : Config) → IsAt text s c.at c.stack → IsGuarded w c
-        → (o : Outcome) (d : Does g classes k s o)
-        → Comes code text number l n w o (furthest d) (least_steps k) (8 * size d) c }
+        → (text : List ℕ) (s : State) (c : Config) → IsAt text s c.at c.stack → MayAsk exact text c.asked
+        → IsGuarded w c → (o : Outcome) (d : Does g classes k s o)
+        → Comes code text number l n w o (failures_at c.asked d) (least_steps k) (8 * size d) c }
 {}
 
 /// In such code, a run from a point that comes to an end has an outcome of the point's task.
 pub fn runs_that_end_have_outcomes()
-    ensures { (g : Grammar) (classes : Classes) (code : Code) (number : Text → ℕ) (points : List Point)
-        → op_at code [] 0 ≡ op.Fail → AreLaid g classes code number points
+    ensures { (exact : Bool) (g : Grammar) (classes : Classes) (code : Code) (number : Text → ℕ)
+        (points : List Point) → op_at code [] 0 ≡ op.Fail → AreLaid exact g classes code number points
         → (k : Task) (l n w : ℕ) → IsPoint points k l n w
-        → (text : List ℕ) (s : State) (c : Config) → IsAt text s c.at c.stack → IsGuarded w c
-        → (m : ℕ) → IsOver code text m (jump l c) → IsFound g classes k s }
+        → (text : List ℕ) (s : State) (c : Config) → IsAt text s c.at c.stack → MayAsk exact text c.asked
+        → IsGuarded w c → (m : ℕ) → IsOver code text m (jump l c) → IsFound g classes k s }
 {}
 
 /// In such code, let a point go on at `Halt`, and at `Lose` where its task fails. A run from the start of a
 /// text that comes to `Halt` has the end and the trees of the task's success; one that comes to `Lose` has
-/// the furthest failure of its failure; and one that has not ended has taken fewer than eight steps for each
-/// rule of the relation of matching that any derivation applies.
+/// the furthest failure of its failure; each of them has the rows of the names that are expected where they
+/// are asked for; and one that has not ended has taken fewer than eight steps for each rule of the relation
+/// of matching that any derivation applies.
 pub fn runs_have_results()
-    ensures halts { (g : Grammar) (classes : Classes) (code : Code) (number : Text → ℕ) (points : List Point)
-        → op_at code [] 0 ≡ op.Fail → AreLaid g classes code number points
+    ensures halts { (exact : Bool) (g : Grammar) (classes : Classes) (code : Code) (number : Text → ℕ)
+        (points : List Point) → op_at code [] 0 ≡ op.Fail → AreLaid exact g classes code number points
         → (k : Task) (l n w : ℕ) → IsPoint points k l n w → 0 < w
         → op_at code [] n ≡ op.Halt → op_at code [] w ≡ op.Lose
         → (text : List ℕ) → IsUtf8 text → ((i : ℕ) → get_or text i 0 < 256)
-        → (m : ℕ) → op_at code [] (steps code text m (start_config l)).pc ≡ op.Halt
-        → HasSucceeded g classes number k text (steps code text m (start_config l)) }
-    ensures loses { (g : Grammar) (classes : Classes) (code : Code) (number : Text → ℕ) (points : List Point)
-        → op_at code [] 0 ≡ op.Fail → AreLaid g classes code number points
+        → (asked : ℕ) → MayAsk exact text asked
+        → (m : ℕ) → op_at code [] (steps code text m (start_config l asked)).pc ≡ op.Halt
+        → HasSucceeded g classes number k text (steps code text m (start_config l asked)) }
+    ensures loses { (exact : Bool) (g : Grammar) (classes : Classes) (code : Code) (number : Text → ℕ)
+        (points : List Point) → op_at code [] 0 ≡ op.Fail → AreLaid exact g classes code number points
         → (k : Task) (l n w : ℕ) → IsPoint points k l n w → 0 < w
         → op_at code [] n ≡ op.Halt → op_at code [] w ≡ op.Lose
         → (text : List ℕ) → IsUtf8 text → ((i : ℕ) → get_or text i 0 < 256)
-        → (m : ℕ) → op_at code [] (steps code text m (start_config l)).pc ≡ op.Lose
-        → HasFailed g classes k text (steps code text m (start_config l)) }
-    ensures goes_on { (g : Grammar) (classes : Classes) (code : Code) (number : Text → ℕ)
-        (points : List Point) → op_at code [] 0 ≡ op.Fail → AreLaid g classes code number points
+        → (asked : ℕ) → MayAsk exact text asked
+        → (m : ℕ) → op_at code [] (steps code text m (start_config l asked)).pc ≡ op.Lose
+        → HasFailed g classes number k text (steps code text m (start_config l asked)) }
+    ensures goes_on { (exact : Bool) (g : Grammar) (classes : Classes) (code : Code) (number : Text → ℕ)
+        (points : List Point) → op_at code [] 0 ≡ op.Fail → AreLaid exact g classes code number points
         → (k : Task) (l n w : ℕ) → IsPoint points k l n w → 0 < w
         → op_at code [] n ≡ op.Halt → op_at code [] w ≡ op.Lose
         → (text : List ℕ) → IsUtf8 text → ((i : ℕ) → get_or text i 0 < 256)
-        → (m : ℕ) → (IsEnd code (steps code text m (start_config l)).pc → ⊥)
+        → (asked : ℕ) → MayAsk exact text asked
+        → (m : ℕ) → (IsEnd code (steps code text m (start_config l asked)).pc → ⊥)
         → (o : Outcome) (d : Does g classes k (start_of text) o) → m < 8 * size d }
 {}
 
@@ -73,7 +78,7 @@ pub fn runs_have_results()
 pub fn text_operation_matches_literal()
     ensures { (code : Code) (number : Text → ℕ) → op_at code [] 0 ≡ op.Fail
         → (l n w i : ℕ) (b : List ℕ) → IsUtf8 b → text_of code i ≡ b → op_at code [] l ≡ op.Text i n w
-        → Performs code number l n w (text_outcome nat_eq (chars b)) (λ s. 0) }
+        → Performs code number l n w (text_outcome nat_eq (chars b)) in_silence }
 {}
 
 /// Where the operation 0 is `Fail`, the operation `AnyCase` of a text matches it as a literal in any case
@@ -81,7 +86,7 @@ pub fn text_operation_matches_literal()
 pub fn any_case_operation_matches_literal()
     ensures { (code : Code) (number : Text → ℕ) → op_at code [] 0 ≡ op.Fail
         → (l n w i : ℕ) (b : List ℕ) → IsUtf8 b → text_of code i ≡ b → op_at code [] l ≡ op.AnyCase i n w
-        → Performs code number l n w (text_outcome eq_ignore_ascii_case (chars b)) (λ s. 0) }
+        → Performs code number l n w (text_outcome eq_ignore_ascii_case (chars b)) in_silence }
 {}
 
 /// Where the operation 0 is `Fail`, three operations `Text` match a newline: of a line feed, of a carriage
@@ -89,7 +94,7 @@ pub fn any_case_operation_matches_literal()
 pub fn text_operations_match_newline()
     ensures { (code : Code) (number : Text → ℕ) → op_at code [] 0 ≡ op.Fail → (l j k n w : ℕ)
         → MatchesText code l (codes "\n") n j → MatchesText code j (codes "\r\n") n k
-        → MatchesText code k (codes "\r") n w → Performs code number l n w newline_outcome (λ s. 0) }
+        → MatchesText code k (codes "\r") n w → Performs code number l n w newline_outcome in_silence }
 {}
 
 /// Where the operation 0 is `Fail`, the operation `Until` of some texts goes on to the first of them.
@@ -97,28 +102,28 @@ pub fn until_operation_finds_text()
     ensures { (code : Code) (firsts list : ℕ) (ts : List Text) → Searches code firsts list ts
         → (number : Text → ℕ) → op_at code [] 0 ≡ op.Fail → (l n w : ℕ)
         → op_at code [] l ≡ op.Until firsts list n
-        → Performs code number l n w (λ s. Success (moved (distance ts s.rest) s) None') (λ s. 0) }
+        → Performs code number l n w (λ s. Success (moved (distance ts s.rest) s) None') in_silence }
 {}
 
 /// Where the operation 0 is `Fail`, the operation `One` of a set matches one character of it.
 pub fn one_operation_matches_character()
     ensures { (code : Code) (set : ℕ) (ranges : List (ℕ × ℕ)) → IsSetOf code set ranges
         → (number : Text → ℕ) → op_at code [] 0 ≡ op.Fail → (l n w : ℕ) → op_at code [] l ≡ op.One set n w
-        → Performs code number l n w (character_outcome (is_covered ranges)) (λ s. 0) }
+        → Performs code number l n w (character_outcome (is_covered ranges)) in_silence }
 {}
 
 /// Where the operation 0 is `Fail`, the operation `All` of a set matches the characters of it that follow.
 pub fn all_operation_matches_span()
     ensures { (code : Code) (set : ℕ) (ranges : List (ℕ × ℕ)) → IsSetOf code set ranges
         → (number : Text → ℕ) → op_at code [] 0 ≡ op.Fail → (l n w : ℕ) → op_at code [] l ≡ op.All set n
-        → Performs code number l n w (skip_set (is_covered ranges)) (λ s. 0) }
+        → Performs code number l n w (skip_set (is_covered ranges)) in_silence }
 {}
 
 /// Where the operation 0 is `Fail`, the operation `Start` matches at the start of a text alone.
 pub fn start_operation_matches_start()
     ensures { (code : Code) (number : Text → ℕ) → op_at code [] 0 ≡ op.Fail
         → (l n w : ℕ) → op_at code [] l ≡ op.Start n w
-        → Performs code number l n w (λ s. if s.position == 0 then Success s None' else Failure) (λ s. 0) }
+        → Performs code number l n w (λ s. if s.position == 0 then Success s None' else Failure) in_silence }
 {}
 
 /// Where the operation 0 is `Fail`, the operation `End` matches at the end of a text alone, as `EOI` does in
@@ -126,18 +131,18 @@ pub fn start_operation_matches_start()
 pub fn end_operation_matches_end()
     ensures { (code : Code) (number : Text → ℕ) → op_at code [] 0 ≡ op.Fail
         → (l n w : ℕ) → op_at code [] l ≡ op.End n w
-        → Performs code number l n w (λ s. end_outcome AtomicMode s.rest s) (λ s. 0) }
+        → Performs code number l n w (λ s. end_outcome AtomicMode s.rest s) in_silence }
 {}
 
-/// Where the operation 0 is `Fail`, the operations `End`, `Open`, `Close` and `Note` match the end of a text
+/// Where the operation 0 is `Fail`, the operations `End`, `Open`, `Close` and `Miss` match the end of a text
 /// as `EOI` does in a mode that gives its tree.
 pub fn end_operations_give_tree()
     ensures { (code : Code) (number : Text → ℕ) → op_at code [] 0 ≡ op.Fail
         → (m : Mode) (l n w begin close note : ℕ) → seen_from m ≡ true → op_at code [] l ≡ op.End begin note
         → op_at code [] begin ≡ op.Open (number (codes "EOI")) close → op_at code [] close ≡ op.Close n
-        → op_at code [] note ≡ op.Note w
+        → op_at code [] note ≡ op.Miss (number (codes "EOI")) w
         → Performs code number l n w (λ s. end_outcome m s.rest s)
-        (λ s. place_of true s (end_outcome m s.rest s)) }
+        (λ place s. end_failures place s (end_outcome m s.rest s)) }
 {}
 
 /// Where the operation 0 is `Fail`, the operations on the stack match what the expressions do. `Peek` and
@@ -145,7 +150,7 @@ pub fn end_operations_give_tree()
 pub fn stack_operations_match_stack()
     ensures push_text { (code : Code) (number : Text → ℕ) → op_at code [] 0 ≡ op.Fail
         → (l n w i : ℕ) (b : List ℕ) → IsUtf8 b → text_of code i ≡ b → op_at code [] l ≡ op.PushText i n
-        → Performs code number l n w (λ s. Success (with_top (chars b) s) None') (λ s. 0) }
+        → Performs code number l n w (λ s. Success (with_top (chars b) s) None') in_silence }
     ensures peek { (code : Code) (number : Text → ℕ) → op_at code [] 0 ≡ op.Fail
         → (l n w : ℕ) → op_at code [] l ≡ op.Peek n w
         → MayPerform code number l n w (λ s. peek_outcome s.stack s) }
@@ -154,49 +159,49 @@ pub fn stack_operations_match_stack()
         → MayPerform code number l n w (λ s. pop_outcome s.stack s) }
     ensures discard { (code : Code) (number : Text → ℕ) → op_at code [] 0 ≡ op.Fail
         → (l n w : ℕ) → op_at code [] l ≡ op.Discard n w
-        → Performs code number l n w (λ s. drop_outcome s.stack s) (λ s. 0) }
+        → Performs code number l n w (λ s. drop_outcome s.stack s) in_silence }
     ensures peek_all { (code : Code) (number : Text → ℕ) → op_at code [] 0 ≡ op.Fail
         → (l n w : ℕ) → op_at code [] l ≡ op.PeekAll n w
-        → Performs code number l n w (λ s. text_outcome nat_eq (concatenated s.stack) s) (λ s. 0) }
+        → Performs code number l n w (λ s. text_outcome nat_eq (concatenated s.stack) s) in_silence }
     ensures pop_all { (code : Code) (number : Text → ℕ) → op_at code [] 0 ≡ op.Fail
         → (l n w : ℕ) → op_at code [] l ≡ op.PopAll n w
         → Performs code number l n w
-        (λ s. with_stack [] (text_outcome nat_eq (concatenated s.stack) s)) (λ s. 0) }
+        (λ s. with_stack [] (text_outcome nat_eq (concatenated s.stack) s)) in_silence }
     ensures slice { (code : Code) (number : Text → ℕ) → op_at code [] 0 ≡ op.Fail
         → (l n w : ℕ) (i : ℤ) (j : Option ℤ) → op_at code [] l ≡ op.Slice i j n w
-        → Performs code number l n w (slice_outcome i j) (λ s. 0) }
+        → Performs code number l n w (slice_outcome i j) in_silence }
 {}
 
 /// A choice of two expressions that match one character of a set matches one of both sets.
 pub fn choice_matches_union()
     ensures { (g : Grammar) (classes : Classes) (m : Mode) (a b : Expression) (f h : ℕ → Bool)
-        → HasOutcome g classes (Run m a) (character_outcome f) (λ s. 0)
-        → HasOutcome g classes (Run m b) (character_outcome h) (λ s. 0)
-        → HasOutcome g classes (Run m (Choice a b)) (character_outcome (λ c. f c || h c)) (λ s. 0) }
+        → HasOutcome g classes (Run m a) (character_outcome f) in_silence
+        → HasOutcome g classes (Run m b) (character_outcome h) in_silence
+        → HasOutcome g classes (Run m (Choice a b)) (character_outcome (λ c. f c || h c)) in_silence }
 {}
 
 /// Where nothing is skipped, `!a ~ b` of two such expressions matches one character of the second set that is
 /// not of the first.
 pub fn negation_matches_difference()
     ensures { (g : Grammar) (classes : Classes) (m : Mode) (a b : Expression) (f h : ℕ → Bool)
-        → IsTight g classes m → HasOutcome g classes (Run m a) (character_outcome f) (λ s. 0)
-        → HasOutcome g classes (Run m b) (character_outcome h) (λ s. 0)
+        → IsTight g classes m → HasOutcome g classes (Run m a) (character_outcome f) in_silence
+        → HasOutcome g classes (Run m b) (character_outcome h) in_silence
         → HasOutcome g classes (Run m (Seq (NegPred a) b))
-        (character_outcome (λ c. not (f c) && h c)) (λ s. 0) }
+        (character_outcome (λ c. not (f c) && h c)) in_silence }
 {}
 
 /// Where nothing is skipped, a repetition of such an expression matches the characters of the set that
 /// follow.
 pub fn repetition_matches_span()
     ensures { (g : Grammar) (classes : Classes) (m : Mode) (e : Expression) (f : ℕ → Bool)
-        → IsTight g classes m → HasOutcome g classes (Run m e) (character_outcome f) (λ s. 0)
-        → HasOutcome g classes (Run m (Rep e)) (skip_set f) (λ s. 0) }
+        → IsTight g classes m → HasOutcome g classes (Run m e) (character_outcome f) in_silence
+        → HasOutcome g classes (Run m (Rep e)) (skip_set f) in_silence }
 {}
 
 /// A call without a token of a rule whose body is such an expression matches one character of the set.
 pub fn silent_call_matches_character()
     ensures { (g : Grammar) (classes : Classes) (m : Mode) (x : Text) (r : Rule) (f : ℕ → Bool)
         → rule_of g x ≡ Some r → gives_token r.type_of m ≡ false
-        → HasOutcome g classes (Run (body_mode r m) r.body) (character_outcome f) (λ s. 0)
-        → HasOutcome g classes (Run m (Ident x)) (character_outcome f) (λ s. 0) }
+        → HasOutcome g classes (Run (body_mode r m) r.body) (character_outcome f) in_silence
+        → HasOutcome g classes (Run m (Ident x)) (character_outcome f) in_silence }
 {}
