@@ -1,5 +1,5 @@
 -- Codes of warnings: their messages, and the spans at which a grammar has them.
-use Rattle.std.specs.Prelude.{◌≡◌, ℕ, List, [], ◌∷◌, ◌++◌, Bool, true, false, ◌||◌, bytes_eq, codes, flat_map, if◌then◌else◌, map}
+use Rattle.std.specs.Prelude.{◌≡◌, ℕ, List, [], ◌∷◌, ◌++◌, Bool, true, false, ◌||◌, bytes_eq, codes, flat_map, if◌then◌else◌, map, take}
 use Rattle.base_language.specs.Language.Text.{Text}
 use Rattle.base_language.specs.Pieces.Saying.{Span}
 use Rattle.front_spanned.specs.Spanned.{SpannedRule}
@@ -11,7 +11,7 @@ use Rattle.lint_patterns.specs.Copies.{many_copies}
 use Rattle.lint_patterns.specs.Bodies.{repeated_bodies}
 use Rattle.lint_patterns.specs.Duplicates.{repeated_alternatives}
 use Rattle.lint_findings.specs.Names.{is_builtin_name, is_keyword, named_rules}
-use Rattle.lint_warnings.specs.Choices.{unreachable_alternatives}
+use Rattle.lint_warnings.specs.Choices.{unreachable_choices}
 use Rattle.lint_warnings.specs.Ranges.{reversed_ranges}
 use Rattle.lint_warnings.specs.Rules.{uncalled_rules}
 use Rattle.lint_warnings.specs.Suspects.{suspects}
@@ -44,10 +44,14 @@ pub record Warning : Type 0 where
 abbrev pub warning : Code → Span → Warning
 warning c span = record { code = c; span = span }
 
+-- of each choice with alternatives that are never taken, the first of these
+abbrev pub first_unreachable : List SpannedRule → List Span
+first_unreachable rules = flat_map (take 1) (unreachable_choices rules)
+
 -- the spans at which rules have a warning of this code
 abbrev pub spans_of : Code → List Text → List SpannedRule → List Span
 spans_of code.UncalledRule starts rules = uncalled_rules starts rules
-spans_of code.Unreachable starts rules = unreachable_alternatives rules
+spans_of code.Unreachable starts rules = first_unreachable rules
 spans_of code.ReversedRange starts rules = reversed_ranges rules
 spans_of code.ReversedCount starts rules = suspects suspect.ReversedCount rules
 spans_of code.IdleTest starts rules = suspects suspect.IdleTest rules
@@ -120,6 +124,7 @@ code_name code.ZeroRepetition = codes "pest::zero_repetition"
 code_name code.ReservedName = codes "pest::reserved_name"
 code_name code.DuplicateRule = codes "pest::duplicate_rule"
 code_name code.UndefinedRule = codes "pest::undefined_rule"
+code_name code.MissingProperty = codes "pest::missing_property"
 code_name code.LeftRecursion = codes "pest::left_recursion"
 code_name code.EndlessRepetition = codes "pest::endless_repetition"
 code_name code.UnreachableChoice = codes "pest::unreachable_choice"
@@ -141,8 +146,8 @@ code_name code.RepeatedBody = codes "pest::repeated_body"
 
 abbrev pub all_codes : List Code
 all_codes = code.Syntax ∷ code.EscapeValue ∷ code.NumberRange ∷ code.ZeroRepetition ∷ code.ReservedName
-    ∷ code.DuplicateRule ∷ code.UndefinedRule ∷ code.LeftRecursion ∷ code.EndlessRepetition
-    ∷ code.UnreachableChoice ∷ code.TagWithoutToken ∷ code.UnusedAllowance ∷ code.UncalledRule
+    ∷ code.DuplicateRule ∷ code.UndefinedRule ∷ code.MissingProperty ∷ code.LeftRecursion
+    ∷ code.EndlessRepetition ∷ code.UnreachableChoice ∷ code.TagWithoutToken ∷ code.UnusedAllowance ∷ code.UncalledRule
     ∷ code.Unreachable ∷ code.ReversedRange ∷ code.ReversedCount ∷ code.IdleTest ∷ code.NeverMatches
     ∷ code.BlanksInToken ∷ code.ManyCopies ∷ code.RepeatedAlternative ∷ code.RewrittenList
     ∷ code.KeywordName ∷ code.BuiltinName ∷ code.RepeatedBody ∷ []

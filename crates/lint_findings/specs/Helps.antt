@@ -4,12 +4,14 @@ use Rattle.base_language.specs.Language.Builtins.{is_one_of}
 use Rattle.lint_findings.specs.declared.codes.Code.{Code}
 use Rattle.lint_findings.specs.declared.codes.Code.TheVariants as code
 use Rattle.lint_hints.specs.Mistakes.{text_of}
+use Rattle.lint_hints.specs.Properties.{pest_property_text}
 use Rattle.lint_hints.specs.declared.help.Help.{Help}
 use Rattle.lint_hints.specs.declared.mistakes.Mistake.{Mistake}
 
 -- the helps for a code, but for syntax errors and undefined names
 abbrev pub helps_of : Code → List (List ℕ)
 helps_of code.EscapeValue = codes "D800 to DFFF and what is above 10FFFF are no characters" ∷ []
+helps_of code.MissingProperty = pest_property_text ∷ []
 helps_of code.NumberRange = codes "a bound of `PEEK[..]` has 32 bits with its sign"
     ∷ codes "a count is at most 4294967295; `e*` and `e+` have no greatest count" ∷ []
 helps_of code.ZeroRepetition = codes "what takes nothing is written `\"\"`" ∷ []
@@ -35,6 +37,7 @@ helps_of code.IdleTest = codes "what `&` tests cannot fail: test one turn, as `&
     ∷ codes "take this `?` away: what it holds may be left out already"
     ∷ codes "no repetition is lazy: write `(!end ~ ANY)*` for what is before an end" ∷ []
 helps_of code.NeverMatches = codes "what `!` refuses cannot fail"
+    ∷ codes "`ANY+` takes the whole rest of the text: write `(!end ~ ANY)+` for what is before an end"
     ∷ codes "`ANY*` takes the whole rest of the text: write `(!end ~ ANY)*` for what is before an end" ∷ []
 helps_of code.BlanksInToken = codes "a rule with `@` before its brace skips none" ∷ []
 helps_of code.ManyCopies = codes "put a part of it into a rule of its own: then calls alone are copied" ∷ []

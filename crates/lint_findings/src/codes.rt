@@ -42,6 +42,8 @@ pub enum Code {
     DuplicateRule,
     /// A name is called that is not defined.
     UndefinedRule,
+    /// A Unicode property is called that pest has and the front end has not.
+    MissingProperty,
     /// A rule calls itself before it takes a character.
     LeftRecursion,
     /// A repetition may go on without taking a character.
@@ -81,7 +83,7 @@ pub enum Code {
 }
 
 /// All codes.
-pub const ALL_CODES: [Code; 25] = [
+pub const ALL_CODES: [Code; 26] = [
     Code::Syntax,
     Code::EscapeValue,
     Code::NumberRange,
@@ -89,6 +91,7 @@ pub const ALL_CODES: [Code; 25] = [
     Code::ReservedName,
     Code::DuplicateRule,
     Code::UndefinedRule,
+    Code::MissingProperty,
     Code::LeftRecursion,
     Code::EndlessRepetition,
     Code::UnreachableChoice,
@@ -122,6 +125,7 @@ impl Code {
             Code::ReservedName => "pest::reserved_name",
             Code::DuplicateRule => "pest::duplicate_rule",
             Code::UndefinedRule => "pest::undefined_rule",
+            Code::MissingProperty => "pest::missing_property",
             Code::LeftRecursion => "pest::left_recursion",
             Code::EndlessRepetition => "pest::endless_repetition",
             Code::UnreachableChoice => "pest::unreachable_choice",

@@ -5,7 +5,7 @@ ghost use Rattle.lint_findings.specs.Helps.{IsListedHelp, helps_of};
 ghost use Rattle.lint_findings.specs.declared.codes.Code.TheVariants as code;
 
 use crate::codes::{Code, Severity};
-use lint_hints::Help;
+use lint_hints::{Help, pest_property_text};
 use lint_warnings::{is_blank_name, is_blank_name_in_any_case};
 use std::alloc::{AllocError, Global};
 
@@ -31,6 +31,7 @@ fn help_text(code: Code, about: &str, is_repeat: bool) -> Option<&'static str>
 {
     match code {
         Code::Syntax | Code::UndefinedRule => None,
+        Code::MissingProperty => Some(pest_property_text()),
         Code::EscapeValue => Some("D800 to DFFF and what is above 10FFFF are no characters"),
         Code::NumberRange => Some(number_text(about)),
         Code::ZeroRepetition => Some("what takes nothing is written `\"\"`"),
@@ -132,8 +133,18 @@ fn never_text(expression: &str) -> &'static str
 {
     if expression.starts_with('!') {
         "what `!` refuses cannot fail"
+    } else if repeats_once(expression) {
+        "`ANY+` takes the whole rest of the text: write `(!end ~ ANY)+` for what is before an end"
     } else {
         "`ANY*` takes the whole rest of the text: write `(!end ~ ANY)*` for what is before an end"
+    }
+}
+
+/// Whether an expression has `ANY+`, and no `ANY*` before it.
+fn repeats_once(expression: &str) -> bool {
+    match expression.split_once("ANY+") {
+        Some((before, _)) => !before.contains("ANY*"),
+        None => false,
     }
 }
 

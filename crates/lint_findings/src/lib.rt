@@ -2,6 +2,7 @@
 #![tactic(auto)]
 
 mod allowances;
+mod choices;
 mod codes;
 mod diagnostic;
 mod errors;

@@ -15,6 +15,7 @@ page_of code.ZeroRepetition = page.ZERO_REPETITION.now
 page_of code.ReservedName = page.RESERVED_NAME.now
 page_of code.DuplicateRule = page.DUPLICATE_RULE.now
 page_of code.UndefinedRule = page.UNDEFINED_RULE.now
+page_of code.MissingProperty = page.MISSING_PROPERTY.now
 page_of code.LeftRecursion = page.LEFT_RECURSION.now
 page_of code.EndlessRepetition = page.ENDLESS_REPETITION.now
 page_of code.UnreachableChoice = page.UNREACHABLE_CHOICE.now

@@ -66,6 +66,7 @@ fn explanation(code: Code) -> &'static str
         Code::ReservedName => RESERVED_NAME,
         Code::DuplicateRule => DUPLICATE_RULE,
         Code::UndefinedRule => UNDEFINED_RULE,
+        Code::MissingProperty => MISSING_PROPERTY,
         Code::LeftRecursion => LEFT_RECURSION,
         Code::EndlessRepetition => ENDLESS_REPETITION,
         Code::UnreachableChoice => UNREACHABLE_CHOICE,
@@ -107,6 +108,11 @@ const DUPLICATE_RULE: &str = "Two rules have one name.\n\n    a = { \"x\" }\n   
 const UNDEFINED_RULE: &str =
     "A name is called that is no rule and no builtin.\n\n    a = { asci_digit+ }\n\n\
      Names of builtins are in capitals, as ASCII_DIGIT.";
+
+const MISSING_PROPERTY: &str =
+    "A Unicode property is called that pest has and this front end has not: a property of emoji, most \
+     scripts, and some others.\n\n    a = { EMOJI }\n\n\
+     In pest the call is right. A rule of the name takes the property's place.";
 
 const LEFT_RECURSION: &str =
     "A rule calls itself before it takes a character, and would never end.\n\n    \
