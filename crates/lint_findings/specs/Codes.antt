@@ -10,6 +10,7 @@ use Rattle.lint_findings.specs.declared.codes.Severity.TheVariants as severity
 use Rattle.lint_patterns.specs.Copies.{many_copies}
 use Rattle.lint_patterns.specs.Bodies.{repeated_bodies}
 use Rattle.lint_patterns.specs.Duplicates.{repeated_alternatives}
+use Rattle.lint_patterns.specs.Ends.{open_starts}
 use Rattle.lint_findings.specs.Names.{is_builtin_name, is_keyword, named_rules}
 use Rattle.lint_warnings.specs.Choices.{unreachable_choices}
 use Rattle.lint_warnings.specs.Ranges.{reversed_ranges}
@@ -22,6 +23,7 @@ use Rattle.lint_warnings.specs.declared.suspects.Suspect.TheVariants as suspect
 abbrev pub severity_of : Code → Severity
 severity_of code.UnusedAllowance = severity.Warning
 severity_of code.UncalledRule = severity.Warning
+severity_of code.MissingEnd = severity.Warning
 severity_of code.Unreachable = severity.Warning
 severity_of code.ReversedRange = severity.Warning
 severity_of code.ReversedCount = severity.Warning
@@ -51,6 +53,7 @@ first_unreachable rules = flat_map (take 1) (unreachable_choices rules)
 -- the spans at which rules have a warning of this code
 abbrev pub spans_of : Code → List Text → List SpannedRule → List Span
 spans_of code.UncalledRule starts rules = uncalled_rules starts rules
+spans_of code.MissingEnd starts rules = open_starts starts rules
 spans_of code.Unreachable starts rules = first_unreachable rules
 spans_of code.ReversedRange starts rules = reversed_ranges rules
 spans_of code.ReversedCount starts rules = suspects suspect.ReversedCount rules
@@ -69,8 +72,8 @@ warnings_with starts rules c = map (warning c) (spans_of c starts rules)
 
 -- the codes of warnings, in the order in which a text's are listed
 abbrev pub warning_codes : List Code
-warning_codes = code.UncalledRule ∷ code.Unreachable ∷ code.ReversedRange ∷ code.ReversedCount ∷ code.IdleTest
-    ∷ code.NeverMatches ∷ code.BlanksInToken ∷ code.ManyCopies ∷ code.RepeatedAlternative ∷ []
+warning_codes = code.UncalledRule ∷ code.MissingEnd ∷ code.Unreachable ∷ code.ReversedRange
+    ∷ code.ReversedCount ∷ code.IdleTest ∷ code.NeverMatches ∷ code.BlanksInToken ∷ code.ManyCopies ∷ code.RepeatedAlternative ∷ []
 
 -- the warnings of rules, of which those of some names are starts
 abbrev pub warnings_of : List Text → List SpannedRule → List Warning
@@ -98,6 +101,7 @@ chosen_warnings all starts rules = if all then all_warnings_of starts rules else
 abbrev pub message_of : Code → List ℕ
 message_of code.UnusedAllowance = codes "this allows nothing in the rule below"
 message_of code.UncalledRule = codes "no other rule calls this one"
+message_of code.MissingEnd = codes "this start never asks for the end of the text: what follows may be left"
 message_of code.Unreachable =
     codes "this alternative is never taken: one before it begins all that it matches"
 message_of code.ReversedRange =
@@ -131,6 +135,7 @@ code_name code.UnreachableChoice = codes "pest::unreachable_choice"
 code_name code.TagWithoutToken = codes "pest::tag_without_token"
 code_name code.UnusedAllowance = codes "pest::unused_allowance"
 code_name code.UncalledRule = codes "pest::uncalled_rule"
+code_name code.MissingEnd = codes "pest::missing_end"
 code_name code.Unreachable = codes "pest::unreachable"
 code_name code.ReversedRange = codes "pest::reversed_range"
 code_name code.ReversedCount = codes "pest::reversed_count"
@@ -148,7 +153,7 @@ abbrev pub all_codes : List Code
 all_codes = code.Syntax ∷ code.EscapeValue ∷ code.NumberRange ∷ code.ZeroRepetition ∷ code.ReservedName
     ∷ code.DuplicateRule ∷ code.UndefinedRule ∷ code.MissingProperty ∷ code.LeftRecursion
     ∷ code.EndlessRepetition ∷ code.UnreachableChoice ∷ code.TagWithoutToken ∷ code.UnusedAllowance ∷ code.UncalledRule
-    ∷ code.Unreachable ∷ code.ReversedRange ∷ code.ReversedCount ∷ code.IdleTest ∷ code.NeverMatches
+    ∷ code.MissingEnd ∷ code.Unreachable ∷ code.ReversedRange ∷ code.ReversedCount ∷ code.IdleTest ∷ code.NeverMatches
     ∷ code.BlanksInToken ∷ code.ManyCopies ∷ code.RepeatedAlternative ∷ code.RewrittenList
     ∷ code.KeywordName ∷ code.BuiltinName ∷ code.RepeatedBody ∷ []
 

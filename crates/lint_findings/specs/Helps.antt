@@ -27,8 +27,9 @@ helps_of code.UnreachableChoice =
 helps_of code.TagWithoutToken = codes "tag a rule that is not silent, or take the tag away" ∷ []
 helps_of code.UnusedAllowance = codes "take the comment away" ∷ codes "an error is mended, and not allowed"
     ∷ codes "name the code of a warning, as `// pest-lint: allow(pest::idle_test)`" ∷ []
-helps_of code.UncalledRule = codes "where matching starts with it, name it by `--start`"
+helps_of code.UncalledRule = codes "where matching starts with it, name it: `//! pest-lint: start(NAME)`"
     ∷ codes "what is skipped between expressions has the name in capitals" ∷ []
+helps_of code.MissingEnd = codes "end its body with `~ EOI`, where the whole text is to match" ∷ []
 helps_of code.Unreachable = codes "put the longer alternative first"
     ∷ codes "it is the same alternative twice: take this one away" ∷ []
 helps_of code.ReversedRange = codes "let its bounds change places" ∷ []

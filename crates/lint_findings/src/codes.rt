@@ -56,6 +56,8 @@ pub enum Code {
     UnusedAllowance,
     /// No other rule calls a rule.
     UncalledRule,
+    /// A rule with which matching starts never asks for the end of the text.
+    MissingEnd,
     /// A literal or a call before an alternative begins all that it matches.
     Unreachable,
     /// A range matches nothing.
@@ -83,7 +85,7 @@ pub enum Code {
 }
 
 /// All codes.
-pub const ALL_CODES: [Code; 26] = [
+pub const ALL_CODES: [Code; 27] = [
     Code::Syntax,
     Code::EscapeValue,
     Code::NumberRange,
@@ -98,6 +100,7 @@ pub const ALL_CODES: [Code; 26] = [
     Code::TagWithoutToken,
     Code::UnusedAllowance,
     Code::UncalledRule,
+    Code::MissingEnd,
     Code::Unreachable,
     Code::ReversedRange,
     Code::ReversedCount,
@@ -132,6 +135,7 @@ impl Code {
             Code::TagWithoutToken => "pest::tag_without_token",
             Code::UnusedAllowance => "pest::unused_allowance",
             Code::UncalledRule => "pest::uncalled_rule",
+            Code::MissingEnd => "pest::missing_end",
             Code::Unreachable => "pest::unreachable",
             Code::ReversedRange => "pest::reversed_range",
             Code::ReversedCount => "pest::reversed_count",
@@ -183,7 +187,7 @@ impl Code {
         ensures { result ≡ severity_of self }
     {
         match self {
-            Code::UnusedAllowance => Severity::Warning,
+            Code::UnusedAllowance | Code::MissingEnd => Severity::Warning,
             Code::UncalledRule | Code::Unreachable | Code::ReversedRange => Severity::Warning,
             Code::ReversedCount | Code::IdleTest | Code::NeverMatches => Severity::Warning,
             Code::BlanksInToken | Code::ManyCopies => Severity::Warning,

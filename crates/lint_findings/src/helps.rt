@@ -49,6 +49,7 @@ fn help_text(code: Code, about: &str, is_repeat: bool) -> Option<&'static str>
         Code::TagWithoutToken => Some("tag a rule that is not silent, or take the tag away"),
         Code::UnusedAllowance => Some("take the comment away"),
         Code::UncalledRule => Some(uncalled_text(about)),
+        Code::MissingEnd => Some("end its body with `~ EOI`, where the whole text is to match"),
         Code::Unreachable => Some(unreachable_text(is_repeat)),
         Code::ReversedRange => Some("let its bounds change places"),
         Code::ReversedCount => Some("let its numbers change places"),
@@ -99,7 +100,7 @@ fn uncalled_text(name: &str) -> &'static str
     if is_blank_name_in_any_case(name) {
         "what is skipped between expressions has the name in capitals"
     } else {
-        "where matching starts with it, name it by `--start`"
+        "where matching starts with it, name it: `//! pest-lint: start(NAME)`"
     }
 }
 

@@ -17,13 +17,14 @@ use crate::names::{builtin_names, keyword_names};
 use base_language::runtime::Span;
 use front_spanned::ParserRule;
 use lint_hints::Related;
-use lint_patterns::{many_copies, repeated_alternatives, repeated_bodies};
+use lint_patterns::{many_copies, open_starts, repeated_alternatives, repeated_bodies};
 use lint_warnings::{Suspect, blanks_in_tokens, reversed_ranges, suspect_spans, uncalled_rules};
 use std::alloc::{AllocError, Global};
 
 /// The codes of warnings of rules, in the order in which those of a text are listed.
-static WARNING_CODES: [Code; 9] = [
+static WARNING_CODES: [Code; 10] = [
     Code::UncalledRule,
+    Code::MissingEnd,
     Code::Unreachable,
     Code::ReversedRange,
     Code::ReversedCount,
@@ -224,6 +225,7 @@ fn spans_of<'i>(
 {
     match code {
         Code::UncalledRule => uncalled_rules(alloc, rules, starts),
+        Code::MissingEnd => open_starts(alloc, rules, starts),
         Code::ReversedRange => reversed_ranges(alloc, rules),
         Code::ReversedCount => suspect_spans(alloc, Suspect::ReversedCount, rules),
         Code::IdleTest => suspect_spans(alloc, Suspect::IdleTest, rules),
@@ -245,6 +247,9 @@ pub(crate) fn message_of(code: Code) -> &'static str
     match code {
         Code::UnusedAllowance => "this allows nothing in the rule below",
         Code::UncalledRule => "no other rule calls this one",
+        Code::MissingEnd => {
+            "this start never asks for the end of the text: what follows may be left"
+        }
         Code::Unreachable => {
             "this alternative is never taken: one before it begins all that it matches"
         }

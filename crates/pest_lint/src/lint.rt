@@ -1,5 +1,5 @@
 //! Diagnosing files.
-ghost use Rattle.std.specs.Prelude.{◌≡◌, ◌≢◌, ◌≤◌, ◌⊎◌, ◌↔◌, ℕ, List, All, IfOk, IfSome, IsSome, false, true};
+ghost use Rattle.std.specs.Prelude.{◌≡◌, ◌≢◌, ◌≤◌, ◌⊎◌, ◌↔◌, ℕ, List, All, IfOk, IfSome, IsSome, false, string_bytes, true};
 ghost use Rattle.std.specs.Io.KnownBytes.{Appends};
 ghost use Rattle.std.specs.List.{list_any};
 ghost use Rattle.lint_findings.specs.Reports.{is_error};
@@ -8,7 +8,7 @@ ghost use Rattle.lint_diagnostics.specs.Diagnosis.{IsDiagnosisWith};
 ghost use Rattle.lint_warnings.specs.Lists.{texts_of};
 ghost use Rattle.pest_lint.specs.Reports.{Tells, memory_line, reason, unreadable_line};
 ghost use Rattle.pest_lint.specs.Shows as spec;
-ghost use Rattle.pest_lint.specs.Shows.{ArePrinted, Gains, GainsAll, GainsWithEnd, IsClean, IsReadable, ShowsText, asked_of};
+ghost use Rattle.pest_lint.specs.Shows.{ArePrinted, Gains, GainsAll, GainsWithEnd, IsClean, IsEnd, IsReadable, ShowsText, asked_of};
 ghost use Rattle.pest_meta.specs.Spelling.{HasAnswer};
 
 use crate::arguments::{Format, Settings};
@@ -64,29 +64,22 @@ pub fn print_sources<W: Write, E: Write>(
     if status == MEMORY || status == UNWRITABLE {
         return status;
     }
-    match style {
-        Style::Text(_) => end_text(alloc, counts, status, out),
-        Style::Json | Style::Github => status,
+    let Ok(end) = end_of(alloc, style, counts) else {
+        return MEMORY;
+    };
+    match out.write_text(end.as_str()) {
+        Ok(()) => status,
+        Err(_) => UNWRITABLE,
     }
 }
 
-/// Prints a line of counts, if there is something to count, and answers the status: this one, or why it can't
-/// be printed.
-fn end_text<W: Write>(alloc: Global, counts: Counts, status: u8, out: &mut Output<W>) -> u8
-    requires { (status ≢ 2) × (status ≢ 4) }
-    ensures known { status ≤ 4 → result ≤ 4 }
-    ensures status { result ≢ 2 → result ≢ 4 → result ≡ status }
-    ensures gained { result ≢ 2 → result ≢ 4 → (bytes : List ℕ)
-        × Appends (W.contents out.old.writer) (W.contents out.new.writer) bytes }
-    ensures taken { result ≢ 4 → out.new.refused ≡ out.old.refused }
-    ensures refused_write { result ≡ 4 → out.new.refused ≡ true }
+/// The end of a stream, below all files: of text a line of counts, if there is something to count.
+fn end_of(alloc: Global, style: Style, counts: Counts) -> Result<String, AllocError>
+    ensures { IfOk result (λ end. IsEnd style (string_bytes end)) }
 {
-    let Ok(line) = counts.line(alloc) else {
-        return MEMORY;
-    };
-    match out.write_text(line.as_str()) {
-        Ok(()) => status,
-        Err(_) => UNWRITABLE,
+    match style {
+        Style::Text(_) => counts.line(alloc),
+        Style::Json | Style::Github => Ok(String::new(alloc)),
     }
 }
 
@@ -140,7 +133,15 @@ fn print_file<W: Write, E: Write>(
     let Some(text) = text_of(source) else {
         return report_unreadable(alloc, source, err);
     };
-    let status = print_text(alloc, source.name.as_str(), text, settings, style, counts, out);
+    let status = print_text(
+        alloc,
+        source.name.as_str(),
+        text,
+        settings,
+        style,
+        counts,
+        out,
+    );
     if status == MEMORY {
         report_memory(alloc, source, err);
     }

@@ -12,7 +12,10 @@ use std::alloc::{AllocError, Global};
 use std::collections::HashSet;
 
 /// The names that `--start` gives.
-pub fn named_starts<'a>(alloc: Global, matches: &'a ArgMatches<'_>) -> Result<Vec<&'a str>, AllocError>
+pub fn named_starts<'a>(
+    alloc: Global,
+    matches: &'a ArgMatches<'_>,
+) -> Result<Vec<&'a str>, AllocError>
     ensures { IfOk result (λ starts.
         names_of starts.items ≡ values_of matches.entry.now (codes "start")) }
 {
@@ -49,7 +52,9 @@ pub fn report_start(rt: &HostRuntime, sources: &[Source], name: &str) -> Result<
     let shown = to_visible(alloc, name)?;
     match nearest_name(alloc, name, &names)? {
         Some(near) => {
-            let _ = eprintln!(rt; "no rule is called `{shown}`, which --start names; did you mean `{near}`?");
+            let _ = eprintln!(rt;
+                "no rule is called `{shown}`, which --start names; did you mean `{near}`?"
+            );
         }
         None => {
             let _ = eprintln!(rt; "no rule is called `{shown}`, which --start names");
