@@ -1,13 +1,15 @@
 -- A text's diagnostics, by the outcome of its front end.
-use Rattle.std.proofs.Common.{◌≡◌, ◌≢◌, ◌⊎◌, inl, inr, ◌∙◌, ℕ, List, [], ◌∷◌, Bool, true, false, ◌||◌, Result, Ok, Err, IfOk, OnOk, Vec, Global, refl, sym, ap}
+use Rattle.std.proofs.Common.{◌≡◌, ◌≢◌, ◌⊎◌, All, inl, inr, ◌∙◌, ℕ, List, [], ◌∷◌, Bool, true, false, ◌||◌, Result, Ok, Err, IfOk, OnOk, Vec, Global, refl, sym, ap}
 use Rattle.std.specs.Borrow.{Bor}
 use Rattle.std.specs.List.{AllZip, list_any}
+use Rattle.lint_findings.specs.Starts.{IsNamedStart}
+use Rattle.lint_warnings.specs.Lists.{texts_of}
 use Rattle.lint_findings.specs.Reports.{ReportsError, is_error, is_severe}
 use Rattle.lint_findings.specs.declared.diagnostic.Diagnostic.{Diagnostic}
 use Rattle.base_language.specs.Language.Text.{Text}
 use Rattle.base_language.specs.declared.grammar.Rule.{Rule}
 use Rattle.base_language.specs.declared.runtime.errors.Error.{Error}
-use Rattle.lint_diagnostics.specs.Diagnosis.{IfSpells, IsDiagnosisWith, ReportRules, ReportWarnings, accepted, refused}
+use Rattle.lint_diagnostics.specs.Diagnosis.{IfSpells, IsDiagnosisWith, ReportRules, ReportWarnings, accepted, all_starts, refused}
 use Rattle.front_names.proofs.Places.{tell_none}
 use Rattle.front_spanned.specs.Spanned.{SpannedRule}
 use Rattle.lint_findings.specs.Allowances.{LeavesOutAllowed}
@@ -66,14 +68,16 @@ answered text builtins rules (Ok ds) s answer = λ none. answer builtins s
 answered text builtins rules (Err x) s answer = tt
 
 -- warnings of the rules that a text spells are those of the text
-pub of_rules : (has_all : Bool) (starts : List Text) (text : List ℕ) (rules : List SpannedRule) (all ds : List Diagnostic)
-    → ReportRules has_all starts text rules all → LeavesOutAllowed text rules all ds → IfSpells text rules (ReportWarnings has_all starts text ds)
-of_rules has_all starts text rules all ds each left = λ builtins s. record {
+pub of_rules : (has_all : Bool) (starts : List Text) (text : List ℕ) (rules : List SpannedRule) (named : List (Bor (List ℕ))) (all ds : List Diagnostic)
+    → All (λ name. IsNamedStart text name.now) named → ReportRules has_all (all_starts starts (texts_of named)) text rules all → LeavesOutAllowed text rules all ds → IfSpells text rules (ReportWarnings has_all starts text ds)
+of_rules has_all starts text rules named all ds stated each left = λ builtins s. record {
   trees = s.trees;
   of_text = s.of_text;
   rules = rules;
   read = s.read;
   all = all;
+  named = named;
+  stated = stated;
   each = each;
   left = left;
 }

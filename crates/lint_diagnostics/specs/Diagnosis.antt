@@ -1,10 +1,11 @@
 -- The diagnostics of a text.
-use Rattle.std.specs.Prelude.{ℕ, List, Bool, false, true, ◌++◌, All, chars, drop, length, map, string_bytes}
+use Rattle.std.specs.Prelude.{ℕ, List, [], ◌∷◌, Bool, false, true, ◌++◌, All, chars, drop, length, map, string_bytes}
 use Rattle.std.specs.Borrow.{Bor}
 use Rattle.std.specs.List.{AllZip}
 use Rattle.lint_findings.specs.Allowances.{LeavesOutAllowed}
 use Rattle.lint_findings.specs.Codes.{chosen_warnings, warning}
 use Rattle.lint_findings.specs.Reports.{ReportsError, ReportsWarning}
+use Rattle.lint_findings.specs.Starts.{IsNamedStart}
 use Rattle.lint_findings.specs.declared.codes.Code.TheVariants as code
 use Rattle.lint_findings.specs.declared.diagnostic.Diagnostic.{Diagnostic}
 use Rattle.base_language.specs.Language.State.{Trees}
@@ -12,9 +13,12 @@ use Rattle.base_language.specs.Language.Text.{Text}
 use Rattle.base_language.specs.Pieces.Saying.{written}
 use Rattle.base_language.specs.declared.grammar.Rule.{Rule}
 use Rattle.base_language.specs.declared.runtime.errors.Error.{Error}
+use Rattle.front_names.specs.Builtins.{name_of}
+use Rattle.front_names.specs.declared.builtin.Builtin.TheVariants.{Soi}
 use Rattle.front_reader.specs.Reading.{ReadsRules}
 use Rattle.lint_diagnostics.specs.Messages.{ReportsDifference}
 use Rattle.lint_hints.specs.declared.help.Related.{Related}
+use Rattle.lint_warnings.specs.Lists.{texts_of}
 use Rattle.lint_patterns.specs.Rewritten.{FindsLists, is_optional_name}
 use Rattle.front_spanned.specs.Spanned.{Span, SpannedRule}
 use Rattle.pest_meta.specs.Spelling.{HasAnswer, HasTrees, IsRefusedWith}
@@ -41,8 +45,13 @@ pub record ReportRules (has_all : Bool) (starts : List Text) (text : List ℕ) (
   pub last : AllZip (ReportsList text) lists
       (drop (length (chosen_warnings has_all starts rules)) diagnostics)
 
+-- these starts, and those that a comment names; with them the first rule is not taken for one
+abbrev pub all_starts : List Text → List Text → List Text
+all_starts starts [] = starts
+all_starts starts (n ∷ ns) = starts ++ (n ∷ ns) ++ name_of Soi ∷ []
+
 -- the diagnostics report the warnings of the rules that a text's trees are read as, all of them or not, but
--- for those that its comments allow
+-- for those that its comments allow; starts are also those that a comment names
 pub record ReportWarnings (has_all : Bool) (starts : List Text) (text : List ℕ)
     (diagnostics : List Diagnostic) : Type 0 where
   pub trees : Trees
@@ -50,7 +59,9 @@ pub record ReportWarnings (has_all : Bool) (starts : List Text) (text : List ℕ
   pub rules : List SpannedRule
   pub read : ReadsRules text trees rules
   pub all : List Diagnostic
-  pub each : ReportRules has_all starts text rules all
+  pub named : List (Bor (List ℕ))
+  pub stated : All (λ name. IsNamedStart text name.now) named
+  pub each : ReportRules has_all (all_starts starts (texts_of named)) text rules all
   pub left : LeavesOutAllowed text rules all diagnostics
 
 -- this holds where the text is accepted and spells these rules

@@ -7,12 +7,14 @@ mod difference;
 mod samples;
 mod texts;
 
-ghost use Rattle.std.specs.Prelude.{◌≡◌, ℕ, Bool, IfOk, IfSome, List, OnOk, chars, false, string_bytes, true};
+ghost use Rattle.std.specs.Prelude.{◌≡◌, ℕ, All, Bool, IfOk, IfSome, List, OnOk, chars, false, string_bytes, true};
+ghost use Rattle.std.specs.Borrow.{Bor};
 ghost use Rattle.std.specs.List.{AllZip, list_any};
 ghost use Rattle.lint_findings.specs.Codes.{chosen_warnings};
 ghost use Rattle.lint_findings.specs.Reports.{ReportsError, ReportsWarning, is_error};
+ghost use Rattle.lint_findings.specs.Starts.{IsNamedStart};
 ghost use Rattle.lint_diagnostics.specs.Diagnosis.{IsDiagnosis, IsDiagnosisWith, IsFullDiagnosis};
-ghost use Rattle.lint_diagnostics.specs.Diagnosis.{AreTrueNotes, IfSpells, ReportRules, ReportWarnings};
+ghost use Rattle.lint_diagnostics.specs.Diagnosis.{AreTrueNotes, IfSpells, ReportRules, ReportWarnings, all_starts};
 ghost use Rattle.lint_diagnostics.specs.Diagnosis.{ReportsList};
 ghost use Rattle.lint_diagnostics.specs.Differences.{IsComparer};
 ghost use Rattle.lint_diagnostics.specs.Messages.{ReportsDifference};
@@ -26,10 +28,12 @@ use base_ast::deep::Deep;
 use base_ast::optimized::release;
 use base_language::grammar::Rule;
 use base_language::runtime::{Error, Fault, Span};
+use front_names::Builtin;
 use front_spanned::ParserRule;
 pub use lint_findings::{ALL_CODES, Code, Diagnostic, Fix, Help, Options, Related, Severity};
 use lint_findings::{
     diagnose_all_rules, diagnose_errors, diagnose_list, diagnose_rules, leave_out_allowed,
+    named_starts,
 };
 use lint_patterns::rewritten_lists;
 use pest_meta::parser::{PestParser, common_name};
@@ -126,10 +130,47 @@ fn diagnose_accepted(
     ensures answer { OnOk result (IfSpells text.now (rule_views rules.entry.items) (HasAnswer text.now)) }
 {
     let rules = Deep { value: rules };
-    let diagnostics = warn_of(alloc, text, &rules.value, starts, has_all)?;
+    let diagnostics = warn_from(alloc, text, &rules.value, starts, has_all)?;
     let left = leave_out_allowed(alloc, text, &rules.value, diagnostics)?;
     find_answer(alloc, rules.into_inner())?;
     Ok(left)
+}
+
+/// The warnings of rules that a text spells, all of them or not, where starts are also those that a comment
+/// of the text names.
+fn warn_from(
+    alloc: Global,
+    text: &str,
+    rules: &[ParserRule<'_>],
+    starts: &[&str],
+    has_all: bool,
+) -> Result<Vec<Diagnostic>, AllocError>
+    ensures { IfOk result (λ diagnostics. (named : List (Bor (List ℕ)))
+        × All (λ name. IsNamedStart text.now name.now) named
+        × ReportRules has_all (all_starts (texts_of starts.now) (texts_of named)) text.now
+        (rule_views rules.now) diagnostics.items) }
+{
+    let named = named_starts(alloc, text)?;
+    let all = join_starts(alloc, starts, &named)?;
+    warn_of(alloc, text, rules, &all, has_all)
+}
+
+/// Starts, and those that a comment names. Where it names some, `SOI` is among them, so that the first rule is
+/// not taken for a start.
+fn join_starts<'s>(
+    alloc: Global,
+    starts: &[&'s str],
+    named: &[&'s str],
+) -> Result<Vec<&'s str>, AllocError>
+    ensures { IfOk result (λ all.
+        texts_of all.items ≡ all_starts (texts_of starts.now) (texts_of named.now)) }
+{
+    let mut all = starts.to_vec(alloc)?;
+    if !named.is_empty() {
+        all.extend_from_slice(named)?;
+        all.push(Builtin::Soi.name())?;
+    }
+    Ok(all)
 }
 
 /// Optimizes the rules of an accepted text: so it has an answer.

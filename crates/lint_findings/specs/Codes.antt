@@ -1,5 +1,5 @@
 -- Codes of warnings: their messages, and the spans at which a grammar has them.
-use Rattle.std.specs.Prelude.{◌≡◌, ℕ, List, [], ◌∷◌, ◌++◌, Bool, true, false, ◌||◌, bytes_eq, codes, flat_map, if◌then◌else◌, map}
+use Rattle.std.specs.Prelude.{◌≡◌, ℕ, List, [], ◌∷◌, ◌++◌, Bool, true, false, ◌||◌, bytes_eq, codes, flat_map, if◌then◌else◌, map, take}
 use Rattle.base_language.specs.Language.Text.{Text}
 use Rattle.base_language.specs.Pieces.Saying.{Span}
 use Rattle.front_spanned.specs.Spanned.{SpannedRule}
@@ -10,8 +10,9 @@ use Rattle.lint_findings.specs.declared.codes.Severity.TheVariants as severity
 use Rattle.lint_patterns.specs.Copies.{many_copies}
 use Rattle.lint_patterns.specs.Bodies.{repeated_bodies}
 use Rattle.lint_patterns.specs.Duplicates.{repeated_alternatives}
+use Rattle.lint_patterns.specs.Ends.{open_starts}
 use Rattle.lint_findings.specs.Names.{is_builtin_name, is_keyword, named_rules}
-use Rattle.lint_warnings.specs.Choices.{unreachable_alternatives}
+use Rattle.lint_warnings.specs.Choices.{unreachable_choices}
 use Rattle.lint_warnings.specs.Ranges.{reversed_ranges}
 use Rattle.lint_warnings.specs.Rules.{uncalled_rules}
 use Rattle.lint_warnings.specs.Suspects.{suspects}
@@ -22,6 +23,7 @@ use Rattle.lint_warnings.specs.declared.suspects.Suspect.TheVariants as suspect
 abbrev pub severity_of : Code → Severity
 severity_of code.UnusedAllowance = severity.Warning
 severity_of code.UncalledRule = severity.Warning
+severity_of code.MissingEnd = severity.Warning
 severity_of code.Unreachable = severity.Warning
 severity_of code.ReversedRange = severity.Warning
 severity_of code.ReversedCount = severity.Warning
@@ -44,10 +46,15 @@ pub record Warning : Type 0 where
 abbrev pub warning : Code → Span → Warning
 warning c span = record { code = c; span = span }
 
+-- of each choice with alternatives that are never taken, the first of these
+abbrev pub first_unreachable : List SpannedRule → List Span
+first_unreachable rules = flat_map (take 1) (unreachable_choices rules)
+
 -- the spans at which rules have a warning of this code
 abbrev pub spans_of : Code → List Text → List SpannedRule → List Span
 spans_of code.UncalledRule starts rules = uncalled_rules starts rules
-spans_of code.Unreachable starts rules = unreachable_alternatives rules
+spans_of code.MissingEnd starts rules = open_starts starts rules
+spans_of code.Unreachable starts rules = first_unreachable rules
 spans_of code.ReversedRange starts rules = reversed_ranges rules
 spans_of code.ReversedCount starts rules = suspects suspect.ReversedCount rules
 spans_of code.IdleTest starts rules = suspects suspect.IdleTest rules
@@ -65,8 +72,8 @@ warnings_with starts rules c = map (warning c) (spans_of c starts rules)
 
 -- the codes of warnings, in the order in which a text's are listed
 abbrev pub warning_codes : List Code
-warning_codes = code.UncalledRule ∷ code.Unreachable ∷ code.ReversedRange ∷ code.ReversedCount ∷ code.IdleTest
-    ∷ code.NeverMatches ∷ code.BlanksInToken ∷ code.ManyCopies ∷ code.RepeatedAlternative ∷ []
+warning_codes = code.UncalledRule ∷ code.MissingEnd ∷ code.Unreachable ∷ code.ReversedRange
+    ∷ code.ReversedCount ∷ code.IdleTest ∷ code.NeverMatches ∷ code.BlanksInToken ∷ code.ManyCopies ∷ code.RepeatedAlternative ∷ []
 
 -- the warnings of rules, of which those of some names are starts
 abbrev pub warnings_of : List Text → List SpannedRule → List Warning
@@ -94,6 +101,7 @@ chosen_warnings all starts rules = if all then all_warnings_of starts rules else
 abbrev pub message_of : Code → List ℕ
 message_of code.UnusedAllowance = codes "this allows nothing in the rule below"
 message_of code.UncalledRule = codes "no other rule calls this one"
+message_of code.MissingEnd = codes "this start never asks for the end of the text: what follows may be left"
 message_of code.Unreachable =
     codes "this alternative is never taken: one before it begins all that it matches"
 message_of code.ReversedRange =
@@ -120,12 +128,14 @@ code_name code.ZeroRepetition = codes "pest::zero_repetition"
 code_name code.ReservedName = codes "pest::reserved_name"
 code_name code.DuplicateRule = codes "pest::duplicate_rule"
 code_name code.UndefinedRule = codes "pest::undefined_rule"
+code_name code.MissingProperty = codes "pest::missing_property"
 code_name code.LeftRecursion = codes "pest::left_recursion"
 code_name code.EndlessRepetition = codes "pest::endless_repetition"
 code_name code.UnreachableChoice = codes "pest::unreachable_choice"
 code_name code.TagWithoutToken = codes "pest::tag_without_token"
 code_name code.UnusedAllowance = codes "pest::unused_allowance"
 code_name code.UncalledRule = codes "pest::uncalled_rule"
+code_name code.MissingEnd = codes "pest::missing_end"
 code_name code.Unreachable = codes "pest::unreachable"
 code_name code.ReversedRange = codes "pest::reversed_range"
 code_name code.ReversedCount = codes "pest::reversed_count"
@@ -141,9 +151,9 @@ code_name code.RepeatedBody = codes "pest::repeated_body"
 
 abbrev pub all_codes : List Code
 all_codes = code.Syntax ∷ code.EscapeValue ∷ code.NumberRange ∷ code.ZeroRepetition ∷ code.ReservedName
-    ∷ code.DuplicateRule ∷ code.UndefinedRule ∷ code.LeftRecursion ∷ code.EndlessRepetition
-    ∷ code.UnreachableChoice ∷ code.TagWithoutToken ∷ code.UnusedAllowance ∷ code.UncalledRule
-    ∷ code.Unreachable ∷ code.ReversedRange ∷ code.ReversedCount ∷ code.IdleTest ∷ code.NeverMatches
+    ∷ code.DuplicateRule ∷ code.UndefinedRule ∷ code.MissingProperty ∷ code.LeftRecursion
+    ∷ code.EndlessRepetition ∷ code.UnreachableChoice ∷ code.TagWithoutToken ∷ code.UnusedAllowance ∷ code.UncalledRule
+    ∷ code.MissingEnd ∷ code.Unreachable ∷ code.ReversedRange ∷ code.ReversedCount ∷ code.IdleTest ∷ code.NeverMatches
     ∷ code.BlanksInToken ∷ code.ManyCopies ∷ code.RepeatedAlternative ∷ code.RewrittenList
     ∷ code.KeywordName ∷ code.BuiltinName ∷ code.RepeatedBody ∷ []
 

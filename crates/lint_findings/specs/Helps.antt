@@ -4,12 +4,14 @@ use Rattle.base_language.specs.Language.Builtins.{is_one_of}
 use Rattle.lint_findings.specs.declared.codes.Code.{Code}
 use Rattle.lint_findings.specs.declared.codes.Code.TheVariants as code
 use Rattle.lint_hints.specs.Mistakes.{text_of}
+use Rattle.lint_hints.specs.Properties.{pest_property_text}
 use Rattle.lint_hints.specs.declared.help.Help.{Help}
 use Rattle.lint_hints.specs.declared.mistakes.Mistake.{Mistake}
 
 -- the helps for a code, but for syntax errors and undefined names
 abbrev pub helps_of : Code → List (List ℕ)
 helps_of code.EscapeValue = codes "D800 to DFFF and what is above 10FFFF are no characters" ∷ []
+helps_of code.MissingProperty = pest_property_text ∷ []
 helps_of code.NumberRange = codes "a bound of `PEEK[..]` has 32 bits with its sign"
     ∷ codes "a count is at most 4294967295; `e*` and `e+` have no greatest count" ∷ []
 helps_of code.ZeroRepetition = codes "what takes nothing is written `\"\"`" ∷ []
@@ -25,8 +27,9 @@ helps_of code.UnreachableChoice =
 helps_of code.TagWithoutToken = codes "tag a rule that is not silent, or take the tag away" ∷ []
 helps_of code.UnusedAllowance = codes "take the comment away" ∷ codes "an error is mended, and not allowed"
     ∷ codes "name the code of a warning, as `// pest-lint: allow(pest::idle_test)`" ∷ []
-helps_of code.UncalledRule = codes "where matching starts with it, name it by `--start`"
+helps_of code.UncalledRule = codes "where matching starts with it, name it: `//! pest-lint: start(NAME)`"
     ∷ codes "what is skipped between expressions has the name in capitals" ∷ []
+helps_of code.MissingEnd = codes "end its body with `~ EOI`, where the whole text is to match" ∷ []
 helps_of code.Unreachable = codes "put the longer alternative first"
     ∷ codes "it is the same alternative twice: take this one away" ∷ []
 helps_of code.ReversedRange = codes "let its bounds change places" ∷ []
@@ -35,6 +38,7 @@ helps_of code.IdleTest = codes "what `&` tests cannot fail: test one turn, as `&
     ∷ codes "take this `?` away: what it holds may be left out already"
     ∷ codes "no repetition is lazy: write `(!end ~ ANY)*` for what is before an end" ∷ []
 helps_of code.NeverMatches = codes "what `!` refuses cannot fail"
+    ∷ codes "`ANY+` takes the whole rest of the text: write `(!end ~ ANY)+` for what is before an end"
     ∷ codes "`ANY*` takes the whole rest of the text: write `(!end ~ ANY)*` for what is before an end" ∷ []
 helps_of code.BlanksInToken = codes "a rule with `@` before its brace skips none" ∷ []
 helps_of code.ManyCopies = codes "put a part of it into a rule of its own: then calls alone are copied" ∷ []

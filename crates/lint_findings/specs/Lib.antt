@@ -3,3 +3,4 @@ pub mod Codes
 pub mod Helps
 pub mod Names
 pub mod Reports
+pub mod Starts

@@ -42,6 +42,8 @@ pub enum Code {
     DuplicateRule,
     /// A name is called that is not defined.
     UndefinedRule,
+    /// A Unicode property is called that pest has and the front end has not.
+    MissingProperty,
     /// A rule calls itself before it takes a character.
     LeftRecursion,
     /// A repetition may go on without taking a character.
@@ -54,6 +56,8 @@ pub enum Code {
     UnusedAllowance,
     /// No other rule calls a rule.
     UncalledRule,
+    /// A rule with which matching starts never asks for the end of the text.
+    MissingEnd,
     /// A literal or a call before an alternative begins all that it matches.
     Unreachable,
     /// A range matches nothing.
@@ -81,7 +85,7 @@ pub enum Code {
 }
 
 /// All codes.
-pub const ALL_CODES: [Code; 25] = [
+pub const ALL_CODES: [Code; 27] = [
     Code::Syntax,
     Code::EscapeValue,
     Code::NumberRange,
@@ -89,12 +93,14 @@ pub const ALL_CODES: [Code; 25] = [
     Code::ReservedName,
     Code::DuplicateRule,
     Code::UndefinedRule,
+    Code::MissingProperty,
     Code::LeftRecursion,
     Code::EndlessRepetition,
     Code::UnreachableChoice,
     Code::TagWithoutToken,
     Code::UnusedAllowance,
     Code::UncalledRule,
+    Code::MissingEnd,
     Code::Unreachable,
     Code::ReversedRange,
     Code::ReversedCount,
@@ -122,12 +128,14 @@ impl Code {
             Code::ReservedName => "pest::reserved_name",
             Code::DuplicateRule => "pest::duplicate_rule",
             Code::UndefinedRule => "pest::undefined_rule",
+            Code::MissingProperty => "pest::missing_property",
             Code::LeftRecursion => "pest::left_recursion",
             Code::EndlessRepetition => "pest::endless_repetition",
             Code::UnreachableChoice => "pest::unreachable_choice",
             Code::TagWithoutToken => "pest::tag_without_token",
             Code::UnusedAllowance => "pest::unused_allowance",
             Code::UncalledRule => "pest::uncalled_rule",
+            Code::MissingEnd => "pest::missing_end",
             Code::Unreachable => "pest::unreachable",
             Code::ReversedRange => "pest::reversed_range",
             Code::ReversedCount => "pest::reversed_count",
@@ -179,7 +187,7 @@ impl Code {
         ensures { result ≡ severity_of self }
     {
         match self {
-            Code::UnusedAllowance => Severity::Warning,
+            Code::UnusedAllowance | Code::MissingEnd => Severity::Warning,
             Code::UncalledRule | Code::Unreachable | Code::ReversedRange => Severity::Warning,
             Code::ReversedCount | Code::IdleTest | Code::NeverMatches => Severity::Warning,
             Code::BlanksInToken | Code::ManyCopies => Severity::Warning,

@@ -5,7 +5,7 @@ ghost use Rattle.lint_findings.specs.Helps.{IsListedHelp, helps_of};
 ghost use Rattle.lint_findings.specs.declared.codes.Code.TheVariants as code;
 
 use crate::codes::{Code, Severity};
-use lint_hints::Help;
+use lint_hints::{Help, pest_property_text};
 use lint_warnings::{is_blank_name, is_blank_name_in_any_case};
 use std::alloc::{AllocError, Global};
 
@@ -31,6 +31,7 @@ fn help_text(code: Code, about: &str, is_repeat: bool) -> Option<&'static str>
 {
     match code {
         Code::Syntax | Code::UndefinedRule => None,
+        Code::MissingProperty => Some(pest_property_text()),
         Code::EscapeValue => Some("D800 to DFFF and what is above 10FFFF are no characters"),
         Code::NumberRange => Some(number_text(about)),
         Code::ZeroRepetition => Some("what takes nothing is written `\"\"`"),
@@ -48,6 +49,7 @@ fn help_text(code: Code, about: &str, is_repeat: bool) -> Option<&'static str>
         Code::TagWithoutToken => Some("tag a rule that is not silent, or take the tag away"),
         Code::UnusedAllowance => Some("take the comment away"),
         Code::UncalledRule => Some(uncalled_text(about)),
+        Code::MissingEnd => Some("end its body with `~ EOI`, where the whole text is to match"),
         Code::Unreachable => Some(unreachable_text(is_repeat)),
         Code::ReversedRange => Some("let its bounds change places"),
         Code::ReversedCount => Some("let its numbers change places"),
@@ -98,7 +100,7 @@ fn uncalled_text(name: &str) -> &'static str
     if is_blank_name_in_any_case(name) {
         "what is skipped between expressions has the name in capitals"
     } else {
-        "where matching starts with it, name it by `--start`"
+        "where matching starts with it, name it: `//! pest-lint: start(NAME)`"
     }
 }
 
@@ -132,8 +134,18 @@ fn never_text(expression: &str) -> &'static str
 {
     if expression.starts_with('!') {
         "what `!` refuses cannot fail"
+    } else if repeats_once(expression) {
+        "`ANY+` takes the whole rest of the text: write `(!end ~ ANY)+` for what is before an end"
     } else {
         "`ANY*` takes the whole rest of the text: write `(!end ~ ANY)*` for what is before an end"
+    }
+}
+
+/// Whether an expression has `ANY+`, and no `ANY*` before it.
+fn repeats_once(expression: &str) -> bool {
+    match expression.split_once("ANY+") {
+        Some((before, _)) => !before.contains("ANY*"),
+        None => false,
     }
 }
 

@@ -2,6 +2,7 @@
 #![tactic(auto)]
 
 mod allowances;
+mod choices;
 mod codes;
 mod diagnostic;
 mod errors;
@@ -9,6 +10,7 @@ mod helps;
 mod messages;
 mod names;
 mod repeats;
+mod starts;
 mod undefined;
 mod warnings;
 
@@ -16,5 +18,6 @@ pub use crate::allowances::{Allowance, leave_out_allowed};
 pub use crate::codes::{ALL_CODES, Code, Severity};
 pub use crate::diagnostic::{Diagnostic, Options};
 pub use crate::errors::diagnose_errors;
+pub use crate::starts::named_starts;
 pub use crate::warnings::{diagnose_all_rules, diagnose_list, diagnose_rules};
 pub use lint_hints::{Fix, Help, Related};

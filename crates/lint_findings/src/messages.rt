@@ -5,6 +5,7 @@ ghost use Rattle.lint_findings.specs.declared.codes.Code.TheVariants as code;
 ghost use Rattle.lint_findings.specs.declared.codes.Severity.TheVariants as severity;
 
 use crate::codes::Code;
+use lint_hints::is_pest_property;
 use std::alloc::{AllocError, Global};
 
 /// The message of a syntax error at a byte, where these names are expected.
@@ -62,7 +63,7 @@ pub(crate) fn code_of(message: &str) -> Code
     if message.ends_with(" already defined") {
         Code::DuplicateRule
     } else if message.ends_with(" is undefined") {
-        Code::UndefinedRule
+        undefined_code(rule_name(message))
     } else if message.ends_with(" keyword") {
         Code::ReservedName
     } else if message.contains(" is left-recursive (") {
@@ -75,6 +76,18 @@ pub(crate) fn code_of(message: &str) -> Code
         Code::TagWithoutToken
     } else {
         flaw_code(message)
+    }
+}
+
+/// The code of the error that a name is undefined.
+fn undefined_code(name: &str) -> Code
+    ensures severity { severity_of result ≡ severity.Error }
+    ensures other { result ≢ code.Syntax }
+{
+    if is_pest_property(name) {
+        Code::MissingProperty
+    } else {
+        Code::UndefinedRule
     }
 }
 

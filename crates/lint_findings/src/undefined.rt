@@ -18,6 +18,8 @@ pub(crate) struct Definitions<'t> {
     first: HashMap<&'t str, (usize, usize)>,
     /// The names in order.
     names: Vec<&'t str>,
+    /// Each definition's first byte, and its name, in order.
+    places: Vec<(usize, &'t str)>,
     /// The names of builtins that are no Unicode properties.
     builtins: Vec<&'static str>,
     /// How many undefined names were looked up.
@@ -30,8 +32,10 @@ impl<'t> Definitions<'t> {
         let builtins = names_of_builtins(alloc)?;
         let mut first = HashMap::new(alloc);
         let mut names = Vec::new(alloc);
+        let mut places = Vec::new(alloc);
         for (start, end) in &definitions(alloc, text)? {
             let name = text.get(*start..*end).unwrap_or("");
+            places.push((*start, name))?;
             if !first.contains_key(&name) {
                 first.insert(name, (*start, *end))?;
                 names.push(name)?;
@@ -40,6 +44,7 @@ impl<'t> Definitions<'t> {
         Ok(Definitions {
             first,
             names,
+            places,
             builtins,
             count: 0,
         })
@@ -59,7 +64,22 @@ impl<'t> Definitions<'t> {
         Ok(())
     }
 
-    /// A help for an undefined name at the bytes `start..end`: the nearest of the defined ones and the
+    /// The names but for that of the rule around a byte.
+    fn names_of_others(&self, alloc: Global, position: usize) -> Result<Vec<&'t str>, AllocError> {
+        let mut own = "";
+        for (start, name) in &self.places {
+            if *start <= position {
+                own = *name;
+            }
+        }
+        self.names
+            .iter()
+            .copied()
+            .filter(|name| *name != own)
+            .collect(alloc)
+    }
+
+    /// A help for an undefined name at the bytes `start..end`: the nearest of the other defined ones and the
     /// builtins.
     pub(crate) fn help_undefined(
         &mut self,
@@ -74,7 +94,8 @@ impl<'t> Definitions<'t> {
             return Ok(None);
         }
         self.count = self.count.saturating_add(1);
-        if let Some(nearest) = nearest_name(alloc, name, &self.names)? {
+        let others = self.names_of_others(alloc, start)?;
+        if let Some(nearest) = nearest_name(alloc, name, &others)? {
             return did_you_mean(alloc, nearest, start, end);
         }
         if let Some(known) = known_elsewhere(name) {

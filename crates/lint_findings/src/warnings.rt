@@ -1,5 +1,5 @@
 //! Warnings as diagnostics.
-ghost use Rattle.std.specs.Prelude.{◌≡◌, IfOk, OnOk, ◌++◌, List, flat_map, map};
+ghost use Rattle.std.specs.Prelude.{◌≡◌, ◌≢◌, IfOk, OnOk, ◌++◌, List, flat_map, map};
 ghost use Rattle.std.specs.List.{AllZip};
 ghost use Rattle.front_spanned.specs.Nodes.{piece_of, rule_views};
 ghost use Rattle.lint_findings.specs.Codes as spec;
@@ -9,25 +9,22 @@ ghost use Rattle.lint_findings.specs.declared.codes.Code.TheVariants as code;
 ghost use Rattle.lint_findings.specs.declared.codes.Severity.TheVariants as severity;
 ghost use Rattle.lint_warnings.specs.Lists.{texts_of};
 
+use crate::choices::diagnose_choices;
 use crate::codes::{Code, Severity};
 use crate::diagnostic::Diagnostic;
 use crate::helps::listed_help;
 use crate::names::{builtin_names, keyword_names};
-use crate::repeats::repeated_leaves;
 use base_language::runtime::Span;
 use front_spanned::ParserRule;
 use lint_hints::Related;
-use lint_patterns::{many_copies, repeated_alternatives, repeated_bodies};
-use lint_warnings::{
-    Suspect, blanks_in_tokens, reversed_ranges, suspect_spans, uncalled_rules,
-    unreachable_alternatives,
-};
+use lint_patterns::{many_copies, open_starts, repeated_alternatives, repeated_bodies};
+use lint_warnings::{Suspect, blanks_in_tokens, reversed_ranges, suspect_spans, uncalled_rules};
 use std::alloc::{AllocError, Global};
-use std::collections::HashSet;
 
 /// The codes of warnings of rules, in the order in which those of a text are listed.
-static WARNING_CODES: [Code; 9] = [
+static WARNING_CODES: [Code; 10] = [
     Code::UncalledRule,
+    Code::MissingEnd,
     Code::Unreachable,
     Code::ReversedRange,
     Code::ReversedCount,
@@ -146,9 +143,26 @@ fn diagnose_warning(
     ensures { IfOk result (λ diagnostics. AllZip ReportsWarning
         (spec.warnings_with (texts_of starts.now) (rule_views rules.now) code) diagnostics.items) }
 {
+    match code {
+        Code::Unreachable => diagnose_choices(alloc, rules),
+        _ => diagnose_spans(alloc, code, rules, starts),
+    }
+}
+
+/// The warnings of another code than that of choices, one for each span.
+fn diagnose_spans(
+    alloc: Global,
+    code: Code,
+    rules: &[ParserRule<'_>],
+    starts: &[&str],
+) -> Result<Vec<Diagnostic>, AllocError>
+    requires warning { severity_of code ≡ severity.Warning }
+    requires other { code ≢ code.Unreachable }
+    ensures { IfOk result (λ diagnostics. AllZip ReportsWarning
+        (spec.warnings_with (texts_of starts.now) (rule_views rules.now) code) diagnostics.items) }
+{
     let spans = spans_of(alloc, code, rules, starts)?;
-    let repeats = repeats_for(alloc, code, rules)?;
-    report_spans(alloc, code, &spans, &repeats)
+    report_spans(alloc, code, &spans)
 }
 
 /// The warning of a rule with this name, in which pest runs a list otherwise than it is written, with notes.
@@ -165,24 +179,11 @@ pub fn diagnose_list(
     Ok(diagnostic)
 }
 
-/// The bytes at which there is a repeated literal, for the code of warnings that may be at one.
-fn repeats_for(
-    alloc: Global,
-    code: Code,
-    rules: &[ParserRule<'_>],
-) -> Result<HashSet<usize>, AllocError> {
-    match code {
-        Code::Unreachable => repeated_leaves(alloc, rules),
-        _ => Ok(HashSet::new(alloc)),
-    }
-}
-
-/// A warning of a code at each of these spans; `repeats` are the places of repeated alternatives.
+/// A warning of a code at each of these spans.
 fn report_spans(
     alloc: Global,
     code: Code,
     spans: &[Span<'_>],
-    repeats: &HashSet<usize>,
 ) -> Result<Vec<Diagnostic>, AllocError>
     requires { severity_of code ≡ severity.Warning }
     ensures { IfOk result (λ diagnostics.
@@ -190,14 +191,14 @@ fn report_spans(
 {
     let mut diagnostics = Vec::new(alloc);
     for span in spans {
-        let diagnostic = report_span(alloc, code, *span, repeats.contains(&span.start()))?;
+        let diagnostic = report_span(alloc, code, *span, false)?;
         diagnostics.push(diagnostic)?;
     }
     Ok(diagnostics)
 }
 
 /// A warning of a code at a span, which may repeat what is before it.
-fn report_span(
+pub(crate) fn report_span(
     alloc: Global,
     code: Code,
     span: Span<'_>,
@@ -211,19 +212,20 @@ fn report_span(
     Ok(diagnostic)
 }
 
-/// The spans at which rules have a warning of a code.
+/// The spans at which rules have a warning of a code, but of that of choices.
 fn spans_of<'i>(
     alloc: Global,
     code: Code,
     rules: &[ParserRule<'i>],
     starts: &[&str],
 ) -> Result<Vec<Span<'i>>, AllocError>
+    requires { code ≢ code.Unreachable }
     ensures { IfOk result (λ spans. map piece_of spans.items
         ≡ spec.spans_of code (texts_of starts.now) (rule_views rules.now)) }
 {
     match code {
         Code::UncalledRule => uncalled_rules(alloc, rules, starts),
-        Code::Unreachable => unreachable_alternatives(alloc, rules),
+        Code::MissingEnd => open_starts(alloc, rules, starts),
         Code::ReversedRange => reversed_ranges(alloc, rules),
         Code::ReversedCount => suspect_spans(alloc, Suspect::ReversedCount, rules),
         Code::IdleTest => suspect_spans(alloc, Suspect::IdleTest, rules),
@@ -245,6 +247,9 @@ pub(crate) fn message_of(code: Code) -> &'static str
     match code {
         Code::UnusedAllowance => "this allows nothing in the rule below",
         Code::UncalledRule => "no other rule calls this one",
+        Code::MissingEnd => {
+            "this start never asks for the end of the text: what follows may be left"
+        }
         Code::Unreachable => {
             "this alternative is never taken: one before it begins all that it matches"
         }

@@ -9,6 +9,7 @@ mod help;
 mod literals;
 mod mistakes;
 mod outer;
+mod properties;
 mod signs;
 mod terms;
 
@@ -20,6 +21,7 @@ pub use crate::mistakes::{
     ForeignMistake, LiteralMistake, Mistake, OuterMistake, SignMistake, TermMistake,
 };
 use crate::outer::{at_definition, before_rule, inner_doc, late_doc, say_outer, starts_doc};
+pub use crate::properties::{is_pest_property, pest_property_text};
 use crate::signs::{at_sign, say_sign};
 use crate::terms::{at_digits, at_end, at_name, at_term, in_count};
 use lint_lexemes::{LexemeClass, Site};

@@ -13,3 +13,4 @@ pub mod AlternativeStacks
 pub mod Unique
 pub mod CopyStacks
 pub mod Written
+pub mod Asking

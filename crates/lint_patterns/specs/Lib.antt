@@ -10,3 +10,4 @@ pub mod DuplicateLists
 pub mod Copies
 pub mod CopyLaws
 pub mod CopyLists
+pub mod Ends

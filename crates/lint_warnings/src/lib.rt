@@ -15,6 +15,9 @@ mod tokens;
 
 pub use crate::choices::{UnreachableChoice, unreachable_alternatives, unreachable_choices};
 pub use crate::ranges::reversed_ranges;
-pub use crate::rules::{is_blank_name, is_blank_name_in_any_case, uncalled_rules};
-pub use crate::suspects::{Suspect, suspect_spans};
+pub use crate::rules::{
+    add_name, is_blank_name, is_blank_name_in_any_case, is_named, is_start, names_of, needed_names,
+    uncalled_rules,
+};
+pub use crate::suspects::{Suspect, is_any, suspect_spans};
 pub use crate::tokens::blanks_in_tokens;

@@ -94,7 +94,7 @@ fn uncalled_among<'i>(
 }
 
 /// The needed names. These are the starts, and the names that a rule of another name calls.
-pub(crate) fn needed_names<'n, 'i>(
+pub fn needed_names<'n, 'i>(
     alloc: Global,
     rules: &'n [ParserRule<'i>],
     starts: &'n [&'n str],
@@ -110,10 +110,7 @@ pub(crate) fn needed_names<'n, 'i>(
 }
 
 /// The set of some names.
-pub(crate) fn names_of<'n>(
-    alloc: Global,
-    names: &'n [&'n str],
-) -> Result<HashSet<&'n str>, AllocError>
+pub fn names_of<'n>(alloc: Global, names: &'n [&'n str]) -> Result<HashSet<&'n str>, AllocError>
     ensures { IfOk result (HasNames (is_one_of (texts_of names.entry.now))) }
 {
     let mut set = HashSet::new(alloc);
@@ -124,7 +121,7 @@ pub(crate) fn names_of<'n>(
 }
 
 /// Adds a name to a set.
-pub(crate) fn add_name<'n>(name: &'n str, set: &mut HashSet<&'n str>) -> Result<(), AllocError>
+pub fn add_name<'n>(name: &'n str, set: &mut HashSet<&'n str>) -> Result<(), AllocError>
     ensures { OnOk result ((other : List ℕ) → IsUtf8 other → has_name set.new other
         ≡ (has_name set.old other || bytes_eq (chars name.entry.now) (chars other))) }
 {
@@ -201,7 +198,7 @@ fn is_uncalled(
 }
 
 /// Whether a rule calls `SOI` or `EOI`.
-pub(crate) fn is_start(alloc: Global, rule: &ParserRule<'_>) -> Result<bool, AllocError>
+pub fn is_start(alloc: Global, rule: &ParserRule<'_>) -> Result<bool, AllocError>
     ensures { IfOk result (λ answer. answer ≡ spec.is_start (rule_view rule.now)) }
 {
     let mut stack = Vec::new(alloc);
@@ -226,7 +223,7 @@ fn is_end(node: &ParserNode<'_>) -> bool
 }
 
 /// Whether a name is a builtin's.
-pub(crate) fn is_named(name: &String, builtin: Builtin) -> bool
+pub fn is_named(name: &String, builtin: Builtin) -> bool
     ensures { result ≡ bytes_eq (text_of name.now) (name_of builtin) }
 {
     name.as_str() == builtin.name()

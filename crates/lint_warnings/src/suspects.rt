@@ -182,7 +182,7 @@ fn has_character(text: &str) -> bool
 }
 
 /// Whether a node is the builtin `ANY`.
-fn is_any(node: &ParserNode<'_>) -> bool
+pub fn is_any(node: &ParserNode<'_>) -> bool
     ensures { result ≡ spec.is_any (view node.now) }
 {
     match &node.expr {

@@ -66,12 +66,14 @@ fn explanation(code: Code) -> &'static str
         Code::ReservedName => RESERVED_NAME,
         Code::DuplicateRule => DUPLICATE_RULE,
         Code::UndefinedRule => UNDEFINED_RULE,
+        Code::MissingProperty => MISSING_PROPERTY,
         Code::LeftRecursion => LEFT_RECURSION,
         Code::EndlessRepetition => ENDLESS_REPETITION,
         Code::UnreachableChoice => UNREACHABLE_CHOICE,
         Code::TagWithoutToken => TAG_WITHOUT_TOKEN,
         Code::UnusedAllowance => UNUSED_ALLOWANCE,
         Code::UncalledRule => UNCALLED_RULE,
+        Code::MissingEnd => MISSING_END,
         Code::Unreachable => UNREACHABLE,
         Code::ReversedRange => REVERSED_RANGE,
         Code::ReversedCount => REVERSED_COUNT,
@@ -108,6 +110,11 @@ const UNDEFINED_RULE: &str =
     "A name is called that is no rule and no builtin.\n\n    a = { asci_digit+ }\n\n\
      Names of builtins are in capitals, as ASCII_DIGIT.";
 
+const MISSING_PROPERTY: &str =
+    "A Unicode property is called that pest has and this front end has not: a property of emoji, most \
+     scripts, and some others.\n\n    a = { EMOJI }\n\n\
+     In pest the call is right. A rule of the name takes the property's place.";
+
 const LEFT_RECURSION: &str =
     "A rule calls itself before it takes a character, and would never end.\n\n    \
      sum = { sum ~ \"+\" ~ number | number }\n\n\
@@ -130,10 +137,18 @@ const UNUSED_ALLOWANCE: &str =
      text count. Errors are not allowed.";
 
 const UNCALLED_RULE: &str =
-    "A rule is not needed. It is needed if another rule calls it, if it calls SOI or EOI, if --start \
-     names it, or if it is WHITESPACE or COMMENT. Where no rule calls SOI or EOI, and --start names \
-     none, the first rule is taken for the start, and where that one is called, nothing is reported. \
-     --warn all takes no rule for the start.";
+    "A rule is not needed. It is needed if another rule calls it, if it calls SOI or EOI, if it is \
+     named as a start, or if it is WHITESPACE or COMMENT. Starts are named by --start, or by a line \
+     before the rules:\n\n    //! pest-lint: start(file, expression)\n\n\
+     Where no rule calls SOI or EOI, and no start is named, the first rule is taken for the start, \
+     and where that one is called, nothing is reported. --warn all takes no rule for the start.";
+
+const MISSING_END: &str =
+    "A rule with which matching starts never asks for the end of the text. Matching then succeeds on \
+     a text that goes on behind the match.\n\n    file = { SOI ~ line* }\n\n\
+     Write file = { SOI ~ line* ~ EOI }. Such a start is a rule that no other rule calls, if it calls \
+     SOI or is the only such rule of several. EOI, !ANY, ANY* or ANY+ ask for the end, in it or by a \
+     chain of at most 32 calls. Nothing is reported where several starts are named and no rule asks for the end.";
 
 const UNREACHABLE: &str =
     "A literal or a call before an alternative begins all that it matches, so it is never \
