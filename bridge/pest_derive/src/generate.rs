@@ -36,6 +36,34 @@ fn variant(name: &str) -> syn::Result<Ident> {
     }
 }
 
+/// An error, and beside it what a program may name: `Rule` with the rules that the grammar defines, as far as they are
+/// found, and the struct as a parser. So the compiler tells of the grammar's error, and not of what lacks by it.
+pub(crate) fn refused(input: &DeriveInput, error: &syn::Error) -> TokenStream {
+    let error = error.to_compile_error();
+    let names = grammar::defined_names(input);
+    let variants: Vec<Ident> = names.iter().filter_map(|name| variant(name).ok()).collect();
+    let name = &input.ident;
+    let (impl_generics, type_generics, where_clause) = input.generics.split_for_impl();
+    quote! {
+        #error
+
+        #[allow(dead_code, missing_docs, non_camel_case_types, clippy::upper_case_acronyms)]
+        #[derive(Clone, Copy, Debug, Eq, Hash, Ord, PartialEq, PartialOrd)]
+        pub enum Rule {
+            #(#variants,)*
+        }
+
+        impl #impl_generics ::pest::Parser<Rule> for #name #type_generics #where_clause {
+            fn parse<'i>(
+                _rule: Rule,
+                _input: &'i str,
+            ) -> ::core::result::Result<::pest::iterators::Pairs<'i, Rule>, ::pest::error::Error<Rule>> {
+                ::core::unreachable!("the grammar has errors")
+            }
+        }
+    }
+}
+
 fn rule_enum(grammar: &Grammar, variants: &[Ident], is_open: bool) -> TokenStream {
     let docs = &grammar.docs;
     let open = is_open.then(|| quote!(#[non_exhaustive]));

@@ -64,6 +64,34 @@ pub(crate) fn of_attributes(input: &DeriveInput) -> syn::Result<Grammar> {
     }
 }
 
+/// The names that the grammar of a struct seems to define, each once: those before `=` and the brace of a body. `EOI` is
+/// the last. Attributes and files that cannot be read give none.
+pub(crate) fn defined_names(input: &DeriveInput) -> Vec<String> {
+    let is_grammar = |it: &&Attribute| it.path.is_ident("grammar") || it.path.is_ident("grammar_inline");
+    let sources = input.attrs.iter().filter(is_grammar).filter_map(|attribute| source(attribute).ok());
+    let texts: Vec<String> = sources.map(|source| source.text).collect();
+    let mut names: Vec<String> = Vec::new();
+    for name in texts.iter().flat_map(|text| names_before_bodies(text)).chain(["EOI"]) {
+        if !names.iter().any(|it| it == name) {
+            names.push(name.to_owned());
+        }
+    }
+    names
+}
+
+/// The names of a text that `=` and a brace follow, with a rule's modifier before the brace or none.
+fn names_before_bodies(text: &str) -> impl Iterator<Item = &str> {
+    text.match_indices('=').filter_map(move |(at, sign)| {
+        let body = text[at + sign.len()..].trim_start();
+        let body = body.strip_prefix(['_', '@', '$', '!']).unwrap_or(body).trim_start();
+        let before = text[..at].trim_end();
+        let is_part = |it: char| it == '_' || it.is_ascii_alphanumeric();
+        let name = &before[before.trim_end_matches(is_part).len()..];
+        let is_name = name.starts_with(|it: char| it == '_' || it.is_ascii_alphabetic());
+        (body.starts_with('{') && is_name).then_some(name)
+    })
+}
+
 /// The text that an attribute gives.
 fn source(attribute: &Attribute) -> syn::Result<Source> {
     let refused = |message| Err(syn::Error::new(attribute.span(), message));

@@ -34,5 +34,5 @@ use syn::{parse_macro_input, DeriveInput};
 #[proc_macro_derive(Parser, attributes(grammar, grammar_inline))]
 pub fn derive_parser(input: TokenStream) -> TokenStream {
     let input = parse_macro_input!(input as DeriveInput);
-    generate::parser(&input).unwrap_or_else(syn::Error::into_compile_error).into()
+    generate::parser(&input).unwrap_or_else(|error| generate::refused(&input, &error)).into()
 }
