@@ -29,7 +29,7 @@ use Rattle.matcher_interpreter.specs.Written.{seen}
 use Rattle.front_syntax.specs.Entries.{entries_of}
 use Rattle.matcher_program.specs.declared.form.Property.{Property}
 use Rattle.matcher_support.specs.Sets.{has_set, is_in_property}
-use Rattle.pest_run.specs.Outcomes.{AreLookedFor, AreNamesOf, HasNoRule, IsFailureReport, IsMatchReport, IsNoRuleReport, IsNoted, IsOutcome, IsStopReport, end_note, failure_text, names_of, tells_expected, trees_text, unfit_outcome}
+use Rattle.pest_run.specs.Outcomes.{AreLookedFor, AreNamesOf, HasNoRule, IsFailureReport, IsMatchReport, IsNoRuleReport, IsNoted, IsOutcome, IsStopReport, ReportsFailure, end_note, names_of, tells_expected, trees_text, unfit_outcome}
 use Rattle.pest_run.specs.Messages.{Names, expected_text, is_more, known, note_between}
 use Rattle.pest_run.specs.Steps.{name_limit}
 use Rattle.pest_run.specs.declared.arguments.Format.{Format}
@@ -53,37 +53,37 @@ looked_for g ps n text place limit (expected_is.Names names) d fits a e = expect
 looked_for g ps n text place limit (expected_is.Unfound steps) {o = o} d fits a e = (a.0, a.1 is_in_property fits o d)
 
 -- what is told of the place of the failure, and of what is expected there, is told of the failure
-pub failed : (g : Grammar) (ps : List Property) (rule text : List ℕ) (format : Format) (limit : ℕ) (place : ℕ) (names : Expected) (o : Outcome)
+pub failed : (g : Grammar) (ps : List Property) (rule name text : List ℕ) (format : Format) (limit : ℕ) (place : ℕ) (names : Expected) (o : Outcome)
     → Fits ps is_in_property → ((classes : Classes) → Fits ps classes → (d : Has g (chars rule) text classes Failure) × (place ≡ furthest d))
-    → AreLookedFor g ps (chars rule) text place (name_limit limit (length text)) names → IsFailureReport text place (names_of names) o
-    → IsOutcome g rule text format limit o
-failed g ps rule text format limit place names (is.Shown lines _) fits f a t = absurd t
-failed g ps rule text format limit place names (is.Failed report) fits f a t =
+    → AreLookedFor g ps (chars rule) text place (name_limit limit (length text)) names → IsFailureReport name text place (names_of names) o
+    → IsOutcome g rule name text format limit o
+failed g ps rule name text format limit place names (is.Shown lines _) fits f a t = absurd t
+failed g ps rule name text format limit place names (is.Failed report) fits f a t =
     let fails = f is_in_property fits in
     record {
       fails = fails.0;
       names = names_of names;
       are = looked_for g ps (chars rule) text place (name_limit limit (length text)) names fails.0 fits a fails.1;
-      report_shows = t ∙ ap (λ n. failure_text text n (names_of names)) fails.1;
+      reports = subst (λ n. ReportsFailure name text n (names_of names) (string_bytes report)) fails.1 t;
     }
-failed g ps rule text format limit place names (is.NoRule message) fits f a t = absurd t
-failed g ps rule text format limit place names (is.OutOfSteps said) fits f a t = absurd t
-failed g ps rule text format limit place names is.EmptyStack fits f a t = absurd t
-failed g ps rule text format limit place names is.UnknownName fits f a t = absurd t
-failed g ps rule text format limit place names is.Bound fits f a t = absurd t
-failed g ps rule text format limit place names is.Memory fits f a t = tt
+failed g ps rule name text format limit place names (is.NoRule message) fits f a t = absurd t
+failed g ps rule name text format limit place names (is.OutOfSteps said) fits f a t = absurd t
+failed g ps rule name text format limit place names is.EmptyStack fits f a t = absurd t
+failed g ps rule name text format limit place names is.UnknownName fits f a t = absurd t
+failed g ps rule name text format limit place names is.Bound fits f a t = absurd t
+failed g ps rule name text format limit place names is.Memory fits f a t = tt
 
 -- what is told of a name that no rule has
-pub unknown : (g : Grammar) (rule text : List ℕ) (format : Format) (limit : ℕ) (o : Outcome) → HasNoRule g rule → IsNoRuleReport g rule o
-    → IsOutcome g rule text format limit o
-unknown g rule text format limit (is.Shown lines _) h t = absurd t
-unknown g rule text format limit (is.Failed report) h t = absurd t
-unknown g rule text format limit (is.NoRule message) h t = (h, t)
-unknown g rule text format limit (is.OutOfSteps said) h t = absurd t
-unknown g rule text format limit is.EmptyStack h t = absurd t
-unknown g rule text format limit is.UnknownName h t = absurd t
-unknown g rule text format limit is.Bound h t = absurd t
-unknown g rule text format limit is.Memory h t = tt
+pub unknown : (g : Grammar) (rule name text : List ℕ) (format : Format) (limit : ℕ) (o : Outcome) → HasNoRule g rule → IsNoRuleReport g rule o
+    → IsOutcome g rule name text format limit o
+unknown g rule name text format limit (is.Shown lines _) h t = absurd t
+unknown g rule name text format limit (is.Failed report) h t = absurd t
+unknown g rule name text format limit (is.NoRule message) h t = (h, t)
+unknown g rule name text format limit (is.OutOfSteps said) h t = absurd t
+unknown g rule name text format limit is.EmptyStack h t = absurd t
+unknown g rule name text format limit is.UnknownName h t = absurd t
+unknown g rule name text format limit is.Bound h t = absurd t
+unknown g rule name text format limit is.Memory h t = tt
 
 -- whether the note tells what is expected, or not
 told : (b : Bool) → (b ≡ true) ⊎ (b ≡ false)
@@ -104,7 +104,7 @@ same_note format_is.Json text end_ place ns ms h = refl
 same_note format_is.Lines text end_ place ns ms h = refl
 
 -- what is told of a match is told of what the rule gives
-module _ (g : Grammar) (ps : List Property) (rule text : List ℕ) (format : Format) (limit : ℕ) (it : Found) (fits : Fits ps is_in_property) (m : IsMatched g ps (chars rule) text it) where
+module _ (g : Grammar) (ps : List Property) (rule name text : List ℕ) (format : Format) (limit : ℕ) (it : Found) (fits : Fits ps is_in_property) (m : IsMatched g ps (chars rule) text it) where
   -- where the note on it has these names
   noted : (names : Names) (note : Option (List ℕ)) → let d = (m.found is_in_property fits).2 in AreNamesOf d (name_limit limit (length text)) names
       → note ≡ end_note format text it.end it.furthest names → IsNoted g rule text format limit note
@@ -132,7 +132,7 @@ module _ (g : Grammar) (ps : List Property) (rule text : List ℕ) (format : For
 
   pub shows : (names : Expected) (o : Outcome) → ((trees : Trees) → seen it.entries.items ≡ entries_of 0 trees → IsMatchReport text format it.end it.furthest (names_of names) trees o)
       → (tells_expected format text it.end it.furthest ≡ true → AreLookedFor g ps (chars rule) text it.furthest (name_limit limit (length text)) names)
-      → IsOutcome g rule text format limit o
+      → IsOutcome g rule name text format limit o
   shows names (is.Shown lines note) t a =
       let found = m.found is_in_property fits in
       let told = t m.trees m.entries in (
@@ -178,25 +178,25 @@ at_character g ps n text place utf8 fits f =
     stands_here g n text place fails.0 utf8 fails.1
 
 -- what comes of a run that was stopped is what the matcher says of it
-pub stopped : (g : Grammar) (ps : List Property) (rule text : List ℕ) (format : Format) (limit : ℕ) (why : Stop) (o : Outcome) → Fits ps is_in_property
-    → IsStopped g ps (chars rule) text limit why → IsStopReport why limit o → IsOutcome g rule text format limit o
-stopped g ps rule text format limit stop.Memory o fits h t =
-    let P : Outcome → Type 0 = λ o. IsOutcome g rule text format limit o in
+pub stopped : (g : Grammar) (ps : List Property) (rule name text : List ℕ) (format : Format) (limit : ℕ) (why : Stop) (o : Outcome) → Fits ps is_in_property
+    → IsStopped g ps (chars rule) text limit why → IsStopReport why limit o → IsOutcome g rule name text format limit o
+stopped g ps rule name text format limit stop.Memory o fits h t =
+    let P : Outcome → Type 0 = λ o. IsOutcome g rule name text format limit o in
     subst P (sym t) tt
-stopped g ps rule text format limit stop.EmptyStack o fits h t =
-    let P : Outcome → Type 0 = λ o. IsOutcome g rule text format limit o in
+stopped g ps rule name text format limit stop.EmptyStack o fits h t =
+    let P : Outcome → Type 0 = λ o. IsOutcome g rule name text format limit o in
     subst P (sym t) (λ o found. h is_in_property fits o found)
-stopped g ps rule text format limit stop.OutOfSteps (is.OutOfSteps said) fits h t = (λ o found. h is_in_property fits o found, t)
-stopped g ps rule text format limit stop.OutOfSteps is.Memory fits h t = tt
-stopped g ps rule text format limit stop.OutOfSteps (is.Shown lines _) fits h t = absurd t
-stopped g ps rule text format limit stop.OutOfSteps (is.Failed report) fits h t = absurd t
-stopped g ps rule text format limit stop.OutOfSteps (is.NoRule message) fits h t = absurd t
-stopped g ps rule text format limit stop.OutOfSteps is.EmptyStack fits h t = absurd t
-stopped g ps rule text format limit stop.OutOfSteps is.UnknownName fits h t = absurd t
-stopped g ps rule text format limit stop.OutOfSteps is.Bound fits h t = absurd t
+stopped g ps rule name text format limit stop.OutOfSteps (is.OutOfSteps said) fits h t = (λ o found. h is_in_property fits o found, t)
+stopped g ps rule name text format limit stop.OutOfSteps is.Memory fits h t = tt
+stopped g ps rule name text format limit stop.OutOfSteps (is.Shown lines _) fits h t = absurd t
+stopped g ps rule name text format limit stop.OutOfSteps (is.Failed report) fits h t = absurd t
+stopped g ps rule name text format limit stop.OutOfSteps (is.NoRule message) fits h t = absurd t
+stopped g ps rule name text format limit stop.OutOfSteps is.EmptyStack fits h t = absurd t
+stopped g ps rule name text format limit stop.OutOfSteps is.UnknownName fits h t = absurd t
+stopped g ps rule name text format limit stop.OutOfSteps is.Bound fits h t = absurd t
 
 -- rules that can't be run call an unknown name, or have a wrong bound
-pub unfit : (g : Grammar) (rule text : List ℕ) (format : Format) (limit : ℕ) (why : Unfit) → IsReason has_set g why → IsOutcome g rule text format limit (unfit_outcome why)
-unfit g rule text format limit no.Memory h = tt
-unfit g rule text format limit (no.UnknownName name) h = (text_of name, h.0, h.1)
-unfit g rule text format limit (no.Bound bound) h = (text_of bound, h.0, h.1)
+pub unfit : (g : Grammar) (rule name text : List ℕ) (format : Format) (limit : ℕ) (why : Unfit) → IsReason has_set g why → IsOutcome g rule name text format limit (unfit_outcome why)
+unfit g rule name text format limit no.Memory h = tt
+unfit g rule name text format limit (no.UnknownName name) h = (text_of name, h.0, h.1)
+unfit g rule name text format limit (no.Bound bound) h = (text_of bound, h.0, h.1)

@@ -1,5 +1,4 @@
 pub mod Steps
-pub mod Json
 pub mod RuleNames
 pub mod Messages
 pub mod Outcomes

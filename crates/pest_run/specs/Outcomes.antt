@@ -9,7 +9,9 @@ use Rattle.base_language.specs.Language.State.{Classes, State, Trees, Outcome as
 use Rattle.base_language.specs.Language.Text.{Text}
 use Rattle.base_language.specs.Language.WellFormed.{InSomeRule}
 use Rattle.base_language.specs.Pieces.LineColumn.{line_column}
-use Rattle.base_language.specs.Pieces.PrintedError.{printed_error, printed_line}
+use Rattle.base_language.specs.Pieces.PrintedError.{error_line, message_of, printed_line}
+use Rattle.base_language.specs.declared.grammar.Rule.{Rule}
+use Rattle.base_language.specs.declared.runtime.errors.Error.{Error}
 use Rattle.base_language.specs.declared.runtime.errors.LineColLocation.TheVariants.{Pos}
 use Rattle.matcher_program.specs.Refusals.{IsBoundOf, IsNoCharacter, IsUnknown}
 use Rattle.matcher_program.specs.declared.compile.Unfit.{Unfit}
@@ -24,8 +26,8 @@ use Rattle.matcher_support.specs.Lines.{lines_of}
 use Rattle.matcher_support.specs.Sets.{has_set, is_in_property}
 use Rattle.matcher_support.specs.Shown.{shown}
 use Rattle.matcher_support.specs.Values.{answer_data}
-use Rattle.program_support.specs.Escapes.{escaped_lines}
-use Rattle.pest_run.specs.Json.{escaped_json}
+use Rattle.program_support.specs.Escapes.{escaped_json, escaped_lines}
+use Rattle.program_support.specs.Messages.{ShowsError}
 use Rattle.pest_run.specs.Messages.{Names, end_text, is_more, known, names_text, no_rule_text, steps_text, unfound}
 use Rattle.pest_run.specs.Steps.{name_limit}
 use Rattle.pest_run.specs.declared.arguments.Format.{Format}
@@ -95,20 +97,21 @@ pub record IsNoted (g : Grammar) (rule text : List ℕ) (format : Format) (limit
   pub are : AreNamesOf matches (name_limit limit (length text)) names
   pub tells : note ≡ end_note format text end_.position (furthest matches) names
 
--- the text of an error at a position of a text, where this is known of expected names, with escapes of hidden
--- characters
-abbrev pub failure_text : List ℕ → ℕ → Names → List ℕ
-failure_text text place names =
-    let message = names_text names in
-    escaped_lines (printed_error message (Pos (line_column text place)) (printed_line text place))
+-- a report of an error at a position of the text of a file, where this is known of expected names
+pub record ReportsFailure (name text : List ℕ) (place : ℕ) (names : Names) (report : List ℕ) : Type 0 where
+  pub error : Error Rule
+  pub says : message_of error.variant ≡ names_text names
+  pub at_place : error.line_col ≡ Pos (line_column text place)
+  pub line : error_line error ≡ printed_line text place
+  pub shows : ShowsError (Some name) error report
 
--- the rule, called at the start of the text, fails, and the report shows the furthest position of a failure,
--- and the names that are expected there, or that they were not found
-pub record HasFailed (g : Grammar) (rule text : List ℕ) (limit : ℕ) (report : List ℕ) : Type 0 where
+-- the rule, called at the start of the text of a file, fails, and the report shows the furthest position of a
+-- failure, and the names that are expected there, or that they were not found
+pub record HasFailed (g : Grammar) (rule name text : List ℕ) (limit : ℕ) (report : List ℕ) : Type 0 where
   pub fails : Has g (chars rule) text is_in_property Failure
   pub names : Names
   pub are : AreNamesOf fails (name_limit limit (length text)) names
-  pub report_shows : report ≡ failure_text text (furthest fails) names
+  pub reports : ReportsFailure name text (furthest fails) names report
 
 -- no rule has the name
 abbrev pub HasNoRule : Grammar → List ℕ → Type 0
@@ -145,12 +148,13 @@ unfit_outcome unfit.Memory = is.Memory
 unfit_outcome (unfit.UnknownName name) = is.UnknownName
 unfit_outcome (unfit.Bound text) = is.Bound
 
--- the outcome reports a failure at a position, where this is known of expected names, or an allocation
--- failure
-abbrev pub IsFailureReport : List ℕ → ℕ → Names → Outcome → Type 0
-IsFailureReport text place names (is.Failed report) = string_bytes report ≡ failure_text text place names
-IsFailureReport text place names is.Memory = ⊤
-IsFailureReport text place names _ = ⊥
+-- the outcome reports a failure at a position of the text of a file, where this is known of expected names, or
+-- an allocation failure
+abbrev pub IsFailureReport : List ℕ → List ℕ → ℕ → Names → Outcome → Type 0
+IsFailureReport name text place names (is.Failed report) =
+    ReportsFailure name text place names (string_bytes report)
+IsFailureReport name text place names is.Memory = ⊤
+IsFailureReport name text place names _ = ⊥
 
 -- the outcome shows the trees of a match that ends at a position, and has its furthest failure at another,
 -- where this is known of expected names; or it reports an allocation failure
@@ -167,18 +171,18 @@ IsNoRuleReport g rule (is.NoRule message) = string_bytes message ≡ no_rule_tex
 IsNoRuleReport g rule is.Memory = ⊤
 IsNoRuleReport g rule _ = ⊥
 
--- the outcome is that of the rule on the text, or says why the rules can't be run; an allocation failure is
+-- the outcome is that of the rule on the text of a file, or says why the rules can't be run; an allocation failure is
 -- not constrained
-abbrev pub IsOutcome : Grammar → List ℕ → List ℕ → Format → ℕ → Outcome → Type 0
-IsOutcome g rule text format limit (is.Shown lines note) =
+abbrev pub IsOutcome : Grammar → (rule name text : List ℕ) → Format → ℕ → Outcome → Type 0
+IsOutcome g rule name text format limit (is.Shown lines note) =
     IsShown g rule text format (string_bytes lines)
     × IsNoted g rule text format limit (option_map string_bytes note)
-IsOutcome g rule text format limit (is.Failed report) = HasFailed g rule text limit (string_bytes report)
-IsOutcome g rule text format limit (is.NoRule message) =
+IsOutcome g rule name text format limit (is.Failed report) = HasFailed g rule name text limit (string_bytes report)
+IsOutcome g rule name text format limit (is.NoRule message) =
     HasNoRule g rule × (string_bytes message ≡ no_rule_text g rule)
-IsOutcome g rule text format limit (is.OutOfSteps message) =
+IsOutcome g rule name text format limit (is.OutOfSteps message) =
     TakesTooManySteps g rule text limit × (string_bytes message ≡ steps_text limit)
-IsOutcome g rule text format limit is.EmptyStack = HasNoOutcome g rule text
-IsOutcome g rule text format limit is.UnknownName = CallsUnknownName g
-IsOutcome g rule text format limit is.Bound = HasWrongBound g
-IsOutcome g rule text format limit is.Memory = ⊤
+IsOutcome g rule name text format limit is.EmptyStack = HasNoOutcome g rule text
+IsOutcome g rule name text format limit is.UnknownName = CallsUnknownName g
+IsOutcome g rule name text format limit is.Bound = HasWrongBound g
+IsOutcome g rule name text format limit is.Memory = ⊤

@@ -11,7 +11,6 @@ mod arguments;
 mod ends;
 mod expected;
 mod forms;
-mod json;
 mod listing;
 mod messages;
 mod outcomes;

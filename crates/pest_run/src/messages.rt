@@ -3,7 +3,7 @@ ghost use Rattle.std.specs.Prelude.{◌≡◌, ◌++◌, IfOk, OnOk, string_byte
 ghost use Rattle.std.specs.Str.{IsCharBoundary};
 ghost use Rattle.matcher_interpreter.specs.ExpectedNames.{name_texts};
 ghost use Rattle.base_ast.specs.Optimized.{optimized_rules_of};
-ghost use Rattle.pest_run.specs.Messages.{NamesFile, end_text, expected_text, is_more, known, known_text, names_text, no_rule_text, note_between, place_text, steps_text, suggestion, unfound, unfound_text, unread_text};
+ghost use Rattle.pest_run.specs.Messages.{end_text, expected_text, is_more, known, known_text, names_text, no_rule_text, note_between, place_text, steps_text, suggestion, unfound, unfound_text, unread_text};
 ghost use Rattle.pest_run.specs.Outcomes.{names_of};
 
 use crate::expected::Expected;
@@ -62,20 +62,6 @@ pub fn unread_message(alloc: Global, name: &str, why: &str) -> Result<String, Al
     message.push_str(": ")?;
     message.push_str(shown_why.as_str())?;
     Ok(message)
-}
-
-/// Returns a report with a file's name before the position that it shows. The only error is an allocation
-/// failure.
-pub fn name_file(alloc: Global, name: &str, report: &str) -> Result<String, AllocError>
-    ensures { IfOk result (λ named. NamesFile name.now report.now (string_bytes named)) }
-{
-    match report.split_once("--> ") {
-        Some((margin, place)) => {
-            let name = escape(alloc, name)?;
-            format!(in alloc; "{margin}--> {name}:{place}")
-        }
-        None => String::from_str(alloc, report),
-    }
 }
 
 /// Returns the message that a match was stopped after so many steps. The only error is an allocation failure.

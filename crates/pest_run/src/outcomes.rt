@@ -8,13 +8,11 @@ ghost use Rattle.front_syntax.specs.Entries.{entries_of};
 ghost use Rattle.std.specs.Str.{IsCharBoundary};
 ghost use Rattle.matcher_support.specs.Shown.{shown};
 ghost use Rattle.program_support.specs.Escapes.{escaped_lines};
-ghost use Rattle.pest_run.specs.Outcomes.{IsFailureReport, IsMatchReport, IsNoRuleReport, IsOutcome, IsStopReport, end_note, failure_text, names_of, trees_text, unfit_outcome};
+ghost use Rattle.pest_run.specs.Outcomes.{IsFailureReport, IsMatchReport, IsNoRuleReport, IsOutcome, IsStopReport, ReportsFailure, end_note, names_of, trees_text, unfit_outcome};
 
 use crate::arguments::Format;
 use crate::expected::{Expected, find_names, name_limit, names_after};
-use crate::json::escape_json;
 use crate::messages::{end_message, expected_message, is_more, no_rule_message, steps_message};
-use base_language::grammar::Rule;
 use base_language::runtime::{Error, ErrorVariant, Fault, Position};
 use matcher_engine::matcher::Matcher;
 use matcher_interpreter::entries::Entry;
@@ -27,6 +25,8 @@ use matcher_support::shown::tree_text;
 use matcher_support::unicode_properties::UnicodeProperties;
 use pest_meta::optimizer::OptimizedRule;
 use program_support::escape::escape_lines;
+use program_support::json::escape_json;
+use program_support::messages::show_error;
 use std::alloc::{AllocError, Global};
 
 /// The outcome of a rule on a text.
@@ -50,16 +50,17 @@ pub enum Outcome {
     Memory,
 }
 
-/// Runs the rule of that name on a text, in so many steps at most, and returns the outcome.
+/// Runs the rule of that name on the text of a file, in so many steps at most, and returns the outcome.
 pub fn outcome_of(
     alloc: Global,
     rules: &[OptimizedRule],
     rule: &str,
+    name: &str,
     text: &str,
     format: Format,
     steps: u64,
 ) -> Outcome
-    ensures { IsOutcome (optimized_rules_of rules.now) rule.now text.now format steps result }
+    ensures { IsOutcome (optimized_rules_of rules.now) rule.now name.now text.now format steps result }
 {
     let matcher = match Matcher::new(alloc, rules, &UnicodeProperties) {
         Ok(matcher) => matcher,
@@ -76,7 +77,7 @@ pub fn outcome_of(
         Err(Refusal::UnknownRule(_)) => no_rule_outcome(alloc, rules, rule),
         Err(Refusal::NoMatch(place)) => {
             match find_names(alloc, &matcher, rule, text, place, most) {
-                Ok(names) => failed_outcome(alloc, text, place, &names),
+                Ok(names) => failed_outcome(alloc, name, text, place, &names),
                 Err(Refusal::UnknownRule(_)) => no_rule_outcome(alloc, rules, rule),
                 Err(Refusal::NoMatch(_)) => unreachable!(),
                 Err(Refusal::Stopped(stop)) => stopped_outcome(alloc, stop, steps),
@@ -193,16 +194,22 @@ fn json_line(
     Ok(line)
 }
 
-/// Returns the outcome of a rule that fails at a byte position between two characters, where this is known of
-/// the expected names.
-fn failed_outcome(alloc: Global, text: &str, place: usize, names: &Expected<'_>) -> Outcome
+/// Returns the outcome of a rule that fails on the text of a file at a byte position between two characters,
+/// where this is known of the expected names.
+fn failed_outcome(
+    alloc: Global,
+    name: &str,
+    text: &str,
+    place: usize,
+    names: &Expected<'_>,
+) -> Outcome
     requires { IsCharBoundary text.now place }
-    ensures { IsFailureReport text.now place (names_of names.now) result }
+    ensures { IsFailureReport name.now text.now place (names_of names.now) result }
 {
     let Some(position) = Position::new(text, place) else {
         unreachable!()
     };
-    match report_at(alloc, position, names) {
+    match report_at(alloc, name, position, names) {
         Ok(report) => Outcome::Failed(report),
         Err(_) => Outcome::Memory,
     }
@@ -218,20 +225,20 @@ fn no_rule_outcome(alloc: Global, rules: &[OptimizedRule], rule: &str) -> Outcom
     }
 }
 
-/// Returns the text of an error at a position where this is known of the expected names, with escapes of
-/// hidden characters. The only error is an allocation failure.
-fn report_at(alloc: Global, place: Position<'_>, names: &Expected<'_>) -> Result<String, Fault>
-    ensures { IfOk result (λ report. string_bytes report
-        ≡ failure_text (position_text place.entry) (position_offset place.entry) (names_of names.now)) }
+/// Returns the report of an error at a position of the text of a file, where this is known of the expected
+/// names. The only error is an allocation failure.
+fn report_at(
+    alloc: Global,
+    name: &str,
+    place: Position<'_>,
+    names: &Expected<'_>,
+) -> Result<String, Fault>
+    ensures { IfOk result (λ report. ReportsFailure name.now (position_text place.entry)
+        (position_offset place.entry) (names_of names.now) (string_bytes report)) }
 {
     let message = expected_message(alloc, names)?;
-    let error: Error<Rule> = Error::new_from_pos(
-        alloc,
-        ErrorVariant::CustomError { message },
-        place,
-    )?;
-    let report = format!(in alloc; "{error}")?;
-    Ok(escape_lines(alloc, report.as_str())?)
+    let error = Error::new_from_pos(alloc, ErrorVariant::CustomError { message }, place)?;
+    Ok(show_error(alloc, Some(name), &error)?)
 }
 
 /// Returns the outcome of a run that was stopped, of so many steps at most.
