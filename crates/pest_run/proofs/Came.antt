@@ -1,5 +1,5 @@
 -- What comes of a rule that fails on a text, by what the matcher answers.
-use Rattle.std.proofs.Common.{◌≡◌, ◌⊎◌, ◌∙◌, ◌++◌, ◌&&◌, ap, ap₂, inl, inr, refl, sym, subst, ℕ, Bool, true, false, List, [], None, Option, Some, drop, if◌then◌else◌, length, nat_le}
+use Rattle.std.proofs.Common.{◌≡◌, ◌⊎◌, ◌∙◌, ◌∷◌, ◌++◌, ◌&&◌, ◌<◌, ◌≤◌, ap, ap₂, arith, take, inl, inr, refl, sym, subst, ℕ, Bool, true, false, List, [], None, Option, Some, drop, if◌then◌else◌, length, nat_le}
 use Rattle.std.specs.Prelude.{IsUtf8, option_map, string_bytes}
 use Rattle.std.proofs.lemmas.Bool.{true≢false}
 use Rattle.std.specs.Borrow.{Bor}
@@ -15,10 +15,12 @@ use Rattle.base_language.specs.Pieces.LineColumn.{line_column}
 use Rattle.base_language.proofs.ExpectedOnce.{one_list}
 use Rattle.base_language.proofs.FailuresStand.{stands_at}
 use Rattle.base_language.proofs.InBytes.{on_bytes}
+use Rattle.base_language.proofs.Surveys.{order}
 use Rattle.base_language.proofs.TreesAreNested.{fits as fits_in}
 use Rattle.matcher_program.specs.Refusals.{IsReason}
 use Rattle.matcher_program.specs.declared.compile.Unfit.{Unfit}
 use Rattle.matcher_program.specs.declared.compile.Unfit.TheVariants as no
+use Rattle.matcher_interpreter.proofs.Noting.{first_names}
 use Rattle.matcher_interpreter.specs.Answers.{AreExpectedAt, FailsAt, Has, IsMatched, IsStopped, start_of}
 use Rattle.matcher_interpreter.specs.declared.matcher.Found.{Found}
 use Rattle.matcher_interpreter.specs.declared.machine.Stop.{Stop}
@@ -29,22 +31,30 @@ use Rattle.matcher_interpreter.specs.Written.{seen}
 use Rattle.front_syntax.specs.Entries.{entries_of}
 use Rattle.matcher_program.specs.declared.form.Property.{Property}
 use Rattle.matcher_support.specs.Sets.{has_set, is_in_property}
-use Rattle.pest_run.specs.Outcomes.{AreLookedFor, AreNamesOf, HasNoRule, IsFailureReport, IsMatchReport, IsNoRuleReport, IsNoted, IsOutcome, IsStopReport, ReportsFailure, end_note, names_of, tells_expected, trees_text, unfit_outcome}
+use Rattle.pest_run.specs.Failures.{AreLast, ExpectsNone, IsFound, IsFoundEarlier}
+use Rattle.pest_run.specs.Names.{AreLookedFor, AreNamesOf, names_of}
+use Rattle.pest_run.specs.Outcomes.{HasNoRule, IsFailureReport, IsMatchReport, IsNoRuleReport, IsNoted, IsOutcome, IsStopReport, ReportsFailure, end_note, tells_expected, trees_text, unfit_outcome}
 use Rattle.pest_run.specs.Messages.{Names, expected_text, is_more, known, note_between}
 use Rattle.pest_run.specs.Steps.{name_limit}
 use Rattle.pest_run.specs.declared.arguments.Format.{Format}
 use Rattle.pest_run.specs.declared.arguments.Format.TheVariants as format_is
 use Rattle.pest_run.specs.declared.expected.Expected.{Expected}
 use Rattle.pest_run.specs.declared.expected.Expected.TheVariants as expected_is
+use Rattle.pest_run.specs.declared.failures.Failure as code
 use Rattle.pest_run.specs.declared.outcomes.Outcome.{Outcome}
 use Rattle.pest_run.specs.declared.outcomes.Outcome.TheVariants as is
+
+-- the names that are expected at a position of a derivation
+expects_at : (g : Grammar) (ps : List Property) (n : Text) (text : List ℕ) (place : ℕ) (names : List (Bor (List ℕ))) {o : Result} (d : Has g n text is_in_property o)
+    → Fits ps is_in_property → AreExpectedAt g ps n text place names → name_texts names ≡ each_once (expected_at place d)
+expects_at g ps n text place names d fits a =
+    let told = a is_in_property fits in told.2 ∙ ap each_once (one_list g is_in_property place told.1 d)
 
 -- the names that are expected at the furthest failure of a derivation
 expects : (g : Grammar) (ps : List Property) (n : Text) (text : List ℕ) (place : ℕ) (names : List (Bor (List ℕ))) {o : Result} (d : Has g n text is_in_property o)
     → Fits ps is_in_property → AreExpectedAt g ps n text place names → place ≡ furthest d → name_texts names ≡ each_once (expected d)
 expects g ps n text place names d fits a e =
-    let told = a is_in_property fits in
-    told.2 ∙ ap each_once (one_list g is_in_property place told.1 d ∙ ap (λ p. expected_at p d) e)
+    expects_at g ps n text place names d fits a ∙ ap (λ p. each_once (expected_at p d)) e
 
 -- what is known of names that were looked for is known of those that are expected at the furthest failure of a derivation
 looked_for : (g : Grammar) (ps : List Property) (n : Text) (text : List ℕ) (place limit : ℕ) (names : Expected) {o : Result} (d : Has g n text is_in_property o)
@@ -52,26 +62,56 @@ looked_for : (g : Grammar) (ps : List Property) (n : Text) (text : List ℕ) (pl
 looked_for g ps n text place limit (expected_is.Names names) d fits a e = expects g ps n text place names.items d fits a e
 looked_for g ps n text place limit (expected_is.Unfound steps) {o = o} d fits a e = (a.0, a.1 is_in_property fits o d)
 
+-- where each name once is none, there is none
+none_once : (ns : List Text) → [] ≡ each_once ns → ns ≡ []
+none_once [] e = refl
+none_once (n ∷ ns) e = let first : take 1 (each_once (n ∷ ns)) ≡ n ∷ [] = first_names (n ∷ []) ns in absurd (let no : [] ≡ n ∷ [] = ap (λ l. take 1 l) e ∙ first in cc)
+
+-- a position with names that is found before the furthest failure is the last one of a derivation
+last_place : (g : Grammar) (ps : List Property) (n : Text) (text : List ℕ) (it : code.Failure) {o : Result} (d : Has g n text is_in_property o)
+    → Fits ps is_in_property → it.furthest ≡ furthest d → (f : IsFoundEarlier g ps n text it) → AreLast d text it.place (name_texts f.earlier.names.items)
+last_place g ps n text it d fits e f =
+    let earlier = f.is_earlier in
+    let none : (q : ℕ) → ExpectsNone g ps n text q → expected_at q d ≡ [] =
+    λ q a. none_once (expected_at q d) (expects_at g ps n text q [] d fits a) in
+    record {
+      after_start = subst (λ p. 0 < p) (sym f.place) earlier.after_start;
+      earlier = omega (arith, f.place, earlier.earlier, e);
+      are = expects_at g ps n text f.earlier.place f.earlier.names.items d fits earlier.are ∙ ap (λ p. each_once (expected_at p d)) (sym f.place);
+      some = earlier.some;
+      last = λ q above below here.
+          elim (order it.furthest q) [
+            | inl above_all ↦ none q
+                (let same : it.furthest ≡ q = omega (arith, above_all, below, e) in subst (λ p. ExpectsNone g ps n text p) same f.none)
+            | inr less ↦ none q (earlier.last q (omega (arith, above, f.place)) less here)
+          ];
+    }
+
 -- what is told of the place of the failure, and of what is expected there, is told of the failure
-pub failed : (g : Grammar) (ps : List Property) (rule name text : List ℕ) (format : Format) (limit : ℕ) (place : ℕ) (names : Expected) (o : Outcome)
+pub failed : (g : Grammar) (ps : List Property) (rule name text : List ℕ) (format : Format) (limit : ℕ) (place : ℕ) (it : code.Failure) (o : Outcome)
     → Fits ps is_in_property → ((classes : Classes) → Fits ps classes → (d : Has g (chars rule) text classes Failure) × (place ≡ furthest d))
-    → AreLookedFor g ps (chars rule) text place (name_limit limit (length text)) names → IsFailureReport name text place (names_of names) o
+    → IsFound g ps (chars rule) text place (name_limit limit (length text)) it → IsFailureReport name text it o
     → IsOutcome g rule name text format limit o
-failed g ps rule name text format limit place names (is.Shown lines _) fits f a t = absurd t
-failed g ps rule name text format limit place names (is.Failed report) fits f a t =
+failed g ps rule name text format limit place it (is.Shown lines _) fits f a t = absurd t
+failed g ps rule name text format limit place it (is.Failed report) fits f a t =
     let fails = f is_in_property fits in
+    let furthest_is : it.furthest ≡ furthest fails.0 = a.furthest_is ∙ fails.1 in
     record {
       fails = fails.0;
-      names = names_of names;
-      are = looked_for g ps (chars rule) text place (name_limit limit (length text)) names fails.0 fits a fails.1;
-      reports = subst (λ n. ReportsFailure name text n (names_of names) (string_bytes report)) fails.1 t;
+      place = it.place;
+      names = names_of it.names;
+      are = elim a.told [
+        | inl at ↦ inl (at.0 ∙ fails.1, looked_for g ps (chars rule) text place (name_limit limit (length text)) it.names fails.0 fits at.1 fails.1)
+        | inr earlier ↦ inr (name_texts earlier.earlier.names.items, earlier.names, last_place g ps (chars rule) text it fails.0 fits furthest_is earlier)
+      ];
+      reports = subst (λ n. ReportsFailure name text it.place n (names_of it.names) (string_bytes report)) furthest_is t;
     }
-failed g ps rule name text format limit place names (is.NoRule message) fits f a t = absurd t
-failed g ps rule name text format limit place names (is.OutOfSteps said) fits f a t = absurd t
-failed g ps rule name text format limit place names is.EmptyStack fits f a t = absurd t
-failed g ps rule name text format limit place names is.UnknownName fits f a t = absurd t
-failed g ps rule name text format limit place names is.Bound fits f a t = absurd t
-failed g ps rule name text format limit place names is.Memory fits f a t = tt
+failed g ps rule name text format limit place it (is.NoRule message) fits f a t = absurd t
+failed g ps rule name text format limit place it (is.OutOfSteps said) fits f a t = absurd t
+failed g ps rule name text format limit place it is.EmptyStack fits f a t = absurd t
+failed g ps rule name text format limit place it is.UnknownName fits f a t = absurd t
+failed g ps rule name text format limit place it is.Bound fits f a t = absurd t
+failed g ps rule name text format limit place it is.Memory fits f a t = tt
 
 -- what is told of a name that no rule has
 pub unknown : (g : Grammar) (rule name text : List ℕ) (format : Format) (limit : ℕ) (o : Outcome) → HasNoRule g rule → IsNoRuleReport g rule o

@@ -1,5 +1,5 @@
 -- Messages about a rule, a text and files.
-use Rattle.std.specs.Prelude.{ℕ, ◌==◌, ◌||◌, not, Bool, List, [], ◌++◌, bytes_eq, codes, if◌then◌else◌, length, nat_le, take}
+use Rattle.std.specs.Prelude.{ℕ, ◌==◌, ◌||◌, not, Bool, List, [], ◌++◌, bytes_eq, codes, if◌then◌else◌, length, nat_le, nat_lt, take}
 use Rattle.std.specs.Fmt.{decimal}
 use Rattle.base_language.specs.Language.Expression.{Grammar}
 use Rattle.base_language.specs.Language.Text.{Text}
@@ -54,6 +54,16 @@ known_text names = failure_message names
 abbrev pub names_text : Names → List ℕ
 names_text (known names) = known_text names
 names_text (unfound steps) = unfound_text steps
+
+-- that a failure is told of an earlier position than this one, the furthest
+abbrev pub further_text : ℕ × ℕ → List ℕ
+further_text place =
+    codes "; what failed further on, up to " ++ (place_text place ++ codes ", stands below a `!`")
+
+-- the message on a failure that is told of a position
+abbrev pub failure_text : List ℕ → (place furthest : ℕ) → Names → List ℕ
+failure_text text place furthest names = names_text names
+    ++ (if nat_lt place furthest then further_text (line_column text furthest) else [])
 
 -- that these names are expected at a position, if there are any; or that they were not found
 abbrev pub expected_text : ℕ × ℕ → Names → List ℕ
