@@ -96,7 +96,11 @@ fn expected_message(alloc: Global, names: &Expected<'_>) -> Result<String, Alloc
 }
 
 /// Returns the message on a failure on a text. The only error is an allocation failure.
-pub fn describe_failure(alloc: Global, text: &str, failure: &Failure<'_>) -> Result<String, AllocError>
+pub fn describe_failure(
+    alloc: Global,
+    text: &str,
+    failure: &Failure<'_>,
+) -> Result<String, AllocError>
     requires { IsCharBoundary text.now failure.now.furthest }
     ensures { IfOk result (λ message. string_bytes message ≡ failure_text text.now failure.now.place
         failure.now.furthest (names_of failure.now.names)) }
