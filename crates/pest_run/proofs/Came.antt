@@ -67,18 +67,24 @@ none_once : (ns : List Text) → [] ≡ each_once ns → ns ≡ []
 none_once [] e = refl
 none_once (n ∷ ns) e = let first : take 1 (each_once (n ∷ ns)) ≡ n ∷ [] = first_names (n ∷ []) ns in absurd (let no : [] ≡ n ∷ [] = ap (λ l. take 1 l) e ∙ first in cc)
 
+-- where there is no text of names, there are no names
+no_texts : (names : List (Bor (List ℕ))) → name_texts names ≡ [] → names ≡ []
+no_texts [] e = refl
+no_texts (n ∷ ns) e = cc
+
 -- a position with names that is found before the furthest failure is the last one of a derivation
 last_place : (g : Grammar) (ps : List Property) (n : Text) (text : List ℕ) (it : code.Failure) {o : Result} (d : Has g n text is_in_property o)
     → Fits ps is_in_property → it.furthest ≡ furthest d → (f : IsFoundEarlier g ps n text it) → AreLast d text it.place (name_texts f.earlier.names.items)
 last_place g ps n text it d fits e f =
     let earlier = f.is_earlier in
+    let earlier_names = f.earlier.names.items in
     let none : (q : ℕ) → ExpectsNone g ps n text q → expected_at q d ≡ [] =
     λ q a. none_once (expected_at q d) (expects_at g ps n text q [] d fits a) in
     record {
       after_start = subst (λ p. 0 < p) (sym f.place) earlier.after_start;
       earlier = omega (arith, f.place, earlier.earlier, e);
       are = expects_at g ps n text f.earlier.place f.earlier.names.items d fits earlier.are ∙ ap (λ p. each_once (expected_at p d)) (sym f.place);
-      some = earlier.some;
+      some = λ e. earlier.some (no_texts earlier_names e);
       last = λ q above below here.
           elim (order it.furthest q) [
             | inl above_all ↦ none q

@@ -1,5 +1,5 @@
 -- The position of a failure that a report shows, and the names that are expected there.
-use Rattle.std.specs.Prelude.{◌≡◌, ◌≢◌, ◌⊎◌, ◌<◌, ◌≤◌, ℕ, List, [], ⊤}
+use Rattle.std.specs.Prelude.{◌≡◌, ◌≢◌, ◌⊎◌, ◌<◌, ◌≤◌, ℕ, List, []}
 use Rattle.std.specs.Str.{IsCharBoundary}
 use Rattle.base_language.specs.Language.Expected.{expected_at}
 use Rattle.base_language.specs.Language.Expression.{Grammar}
@@ -13,6 +13,7 @@ use Rattle.matcher_program.specs.declared.form.Property.{Property}
 use Rattle.pest_run.specs.Messages.{Names, known}
 use Rattle.pest_run.specs.Names.{AreLookedFor, AreNamesOf, names_of}
 use Rattle.pest_run.specs.declared.expected.Expected.{Expected}
+use Rattle.pest_run.specs.declared.expected.Expected.TheVariants as expected_is
 use Rattle.pest_run.specs.declared.failures.Earlier.{Earlier}
 use Rattle.pest_run.specs.declared.failures.Failure.{Failure}
 
@@ -32,9 +33,10 @@ abbrev pub AreTold : {g : Grammar} {classes : Classes} {k : Task} {s : State} {o
 AreTold d text limit place names = ((place ≡ furthest d) × AreNamesOf d limit names)
     ⊎ ((ns : List Text) × (names ≡ known ns) × AreLast d text place ns)
 
--- no name is expected
+-- it is known that no name is expected
 abbrev pub HasNoNames : Expected → Type 0
-HasNoNames names = names_of names ≡ known []
+HasNoNames (expected_is.Names names) = names.items ≡ []
+HasNoNames (expected_is.Unfound steps) = ⊥
 
 -- no name is expected at a position where the rule is run on a text
 abbrev pub ExpectsNone : Grammar → List Property → Text → List ℕ → ℕ → Type 0
@@ -48,7 +50,7 @@ pub record IsEarlier (g : Grammar) (ps : List Property) (n : Text) (text : List 
   pub earlier : it.place < furthest
   pub here : IsCharBoundary text it.place
   pub are : AreExpectedAt g ps n text it.place it.names.items
-  pub some : name_texts it.names.items ≢ []
+  pub some : it.names.items ≢ []
   pub last : (q : ℕ) → it.place < q → q < furthest → IsCharBoundary text q → ExpectsNone g ps n text q
 
 -- such a position, its names, and that none is expected at the furthest one

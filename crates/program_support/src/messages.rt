@@ -105,7 +105,13 @@ pub fn show_error(
     let lines = show_line(alloc, error)?;
     let message = show_message(alloc, &error.variant)?;
     let start = start_of(&error.line_col);
-    error_lines(alloc, prefix.as_str(), start, lines.as_str(), message.as_str())
+    error_lines(
+        alloc,
+        prefix.as_str(),
+        start,
+        lines.as_str(),
+        message.as_str(),
+    )
 }
 
 /// Returns the name of a file and a colon, or nothing without a file.
