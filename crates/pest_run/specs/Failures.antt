@@ -17,7 +17,7 @@ use Rattle.pest_run.specs.declared.expected.Expected.TheVariants as expected_is
 use Rattle.pest_run.specs.declared.failures.Earlier.{Earlier}
 use Rattle.pest_run.specs.declared.failures.Failure.{Failure}
 
--- of a derivation: names that are expected at a position before the furthest failure, and after the start, and
+-- of a derivation: names that are expected at a position before the furthest failure, and after the start;
 -- it is the last position with names that is between two characters
 pub record AreLast {g : Grammar} {classes : Classes} {k : Task} {s : State} {o : Result}
     (d : Does g classes k s o) (text : List ℕ) (place : ℕ) (names : List Text) : Type 0 where
@@ -42,8 +42,8 @@ HasNoNames (expected_is.Unfound steps) = ⊥
 abbrev pub ExpectsNone : Grammar → List Property → Text → List ℕ → ℕ → Type 0
 ExpectsNone g ps n text place = AreExpectedAt g ps n text place []
 
--- names are expected at an earlier position than the furthest one, and none at the positions after it that are
--- between two characters
+-- names are expected at an earlier position than the furthest one, and none at the positions after it that
+-- are between two characters
 pub record IsEarlier (g : Grammar) (ps : List Property) (n : Text) (text : List ℕ) (furthest : ℕ)
     (it : Earlier) : Type 0 where
   pub after_start : 0 < it.place

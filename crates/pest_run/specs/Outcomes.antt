@@ -153,13 +153,14 @@ IsNoRuleReport g rule (is.NoRule message) = string_bytes message ≡ no_rule_tex
 IsNoRuleReport g rule is.Memory = ⊤
 IsNoRuleReport g rule _ = ⊥
 
--- the outcome is that of the rule on the text of a file, or says why the rules can't be run; an allocation failure is
--- not constrained
+-- the outcome is that of the rule on the text of a file, or says why the rules can't be run; an allocation
+-- failure is not constrained
 abbrev pub IsOutcome : Grammar → (rule name text : List ℕ) → Format → ℕ → Outcome → Type 0
 IsOutcome g rule name text format limit (is.Shown lines note) =
     IsShown g rule text format (string_bytes lines)
     × IsNoted g rule text format limit (option_map string_bytes note)
-IsOutcome g rule name text format limit (is.Failed report) = HasFailed g rule name text limit (string_bytes report)
+IsOutcome g rule name text format limit (is.Failed report) =
+    HasFailed g rule name text limit (string_bytes report)
 IsOutcome g rule name text format limit (is.NoRule message) =
     HasNoRule g rule × (string_bytes message ≡ no_rule_text g rule)
 IsOutcome g rule name text format limit (is.OutOfSteps message) =

@@ -100,8 +100,7 @@ pub record NotesEnd {X E : Type 0} (form : RuleForm) (grammar rule text : List �
   pub line : WritesNote note same written old new
 
 -- the reason why there are no trees, and its text: the grammar is refused, and its report is the text; or
--- it has no rule of that name; or the rule fails, and the text shows the name of the text's file, its furthest
--- position, and the expected set there, or that it was not found
+-- it has no rule of that name; or the rule fails, and the text reports that on the text of the file
 pub data IsReason (form : RuleForm) (grammar rule name text : List ℕ) (limit : ℕ) : List ℕ → Type 0 where
   refused : (errors : List (Error Rule)) (report : List ℕ) → IsRefusedWith grammar errors
       → IsReport errors report → IsReason form grammar rule name text limit report

@@ -35,8 +35,8 @@ pub record IsPlaced (name printed placed : List ℕ) : Type 0 where
 pub record ShowsError (file : Option (List ℕ)) (error : Error Rule) (shown : List ℕ) : Type 0 where
   pub lines : List ℕ
   pub excerpt : IsExcerpt error lines
-  pub whole : shown
-      ≡ error_lines (file_prefix file) (start_of error.line_col) lines (escaped_lines (message_of error.variant))
+  pub whole : shown ≡ error_lines (file_prefix file) (start_of error.line_col) lines
+      (escaped_lines (message_of error.variant))
 
 -- an error after an empty line
 pub record ShowsNext (error : Error Rule) (part : List ℕ) : Type 0 where
