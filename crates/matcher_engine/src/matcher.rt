@@ -14,8 +14,8 @@ use matcher_code::state::TreeNode;
 use matcher_compiler::compile::compile;
 use matcher_compiler::names::last_index;
 use matcher_compiler::points::NotCompiled;
-use matcher_interpreter::machine::Stop;
-use matcher_interpreter::matcher::{Found, Matcher as Interpreter, Refusal, whole_text};
+use matcher_program::answers::Stop;
+use matcher_program::answers::{Found, Refusal, Stop, whole_text};
 use matcher_machine::machine::{Machine, RunEnd};
 use matcher_program::compile::Unfit;
 use matcher_program::properties::Properties;
@@ -47,7 +47,7 @@ pub struct Preorder {
 }
 
 impl Matcher {
-    ghost use Rattle.matcher_interpreter.specs.Answers.{AreExpectedAt, AreExpectedFrom, IsMatched, IsMatchedFrom, IsRefused, IsRefusedFrom, IsUnanswered, IsUnansweredFrom, state_at};
+    ghost use Rattle.matcher_program.specs.Answers.{AreExpectedAt, AreExpectedFrom, IsMatched, IsMatchedFrom, IsRefused, IsRefusedFrom, IsUnanswered, IsUnansweredFrom, state_at};
     ghost use Rattle.matcher_engine.specs.Matchers.{IsAnswer, grammar_in, properties_in};
     ghost use Rattle.matcher_engine.specs.Preorders.{HasName, IsPreorderAnswer, IsPreorderFrom};
 

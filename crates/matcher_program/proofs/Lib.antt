@@ -5,3 +5,4 @@ pub mod Forming
 pub mod TextLemmas
 pub mod Refusing
 pub mod Gathering
+pub mod FittingSets

@@ -5,3 +5,8 @@ pub mod Indexed
 pub mod Forming
 pub mod FormWeight
 pub mod Refusals
+pub mod Answers
+pub mod Classes
+pub mod ExpectedNames
+pub mod Sizes
+pub mod Written

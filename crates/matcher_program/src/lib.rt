@@ -1,6 +1,7 @@
 //! Optimized rules compiled for the matcher, with resolved names, and the leaf expressions.
 #![tactic(auto)]
 
+pub mod answers;
 pub mod compile;
 pub mod form;
 pub mod forms;

@@ -6,7 +6,7 @@ use Rattle.base_language.specs.Language.State.{NonAtomicMode, Success}
 use Rattle.pest_meta.specs.Written.{IsWritten}
 use Rattle.pest_run.specs.Ends.{EndsAs}
 use Rattle.matcher_support.specs.Sets.{is_in_property}
-use Rattle.matcher_interpreter.specs.Answers.{start_of}
+use Rattle.matcher_program.specs.Answers.{start_of}
 use Rattle.pest_run.specs.Messages.{no_rule_text, steps_text}
 use Rattle.pest_run.specs.Outcomes.{IsOutcome, IsShown}
 use Rattle.pest_run.specs.Written.{AreMatched, AreRun, NotesEnd, PrintsTrees, ReportsReason, ReportsRefusal, ReportsStop, WritesLine, empty_stack, no_match, no_rule, refused, too_many_steps, unknown_name, wide_bound}

@@ -3,7 +3,7 @@ use Rattle.std.proofs.Common.{◌≡◌, ◌+◌, ◌-◌, ◌<◌, inl, inr, �
 use Rattle.base_language.proofs.Surveys.{order}
 use Rattle.base_language.specs.Language.Expression.{Grammar}
 use Rattle.base_language.specs.Language.Text.{Text}
-use Rattle.matcher_interpreter.specs.Answers.{AreExpectedAt}
+use Rattle.matcher_program.specs.Answers.{AreExpectedAt}
 use Rattle.matcher_program.specs.declared.form.Property.{Property}
 use Rattle.pest_run.specs.Failures.{ExpectsNone, HasNoNames}
 use Rattle.pest_run.specs.Names.{AreLookedFor}

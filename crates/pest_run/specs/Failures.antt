@@ -7,8 +7,8 @@ use Rattle.base_language.specs.Language.FurthestFailure.{furthest}
 use Rattle.base_language.specs.Language.Meaning.{Does, Task}
 use Rattle.base_language.specs.Language.State.{Classes, Outcome as Result, State}
 use Rattle.base_language.specs.Language.Text.{Text}
-use Rattle.matcher_interpreter.specs.Answers.{AreExpectedAt}
-use Rattle.matcher_interpreter.specs.ExpectedNames.{each_once, name_texts}
+use Rattle.matcher_program.specs.Answers.{AreExpectedAt}
+use Rattle.matcher_program.specs.ExpectedNames.{each_once, name_texts}
 use Rattle.matcher_program.specs.declared.form.Property.{Property}
 use Rattle.pest_run.specs.Messages.{Names, known}
 use Rattle.pest_run.specs.Names.{AreLookedFor, AreNamesOf, names_of}

@@ -6,10 +6,10 @@ use Rattle.base_language.specs.Language.Meaning.{Does, Task}
 use Rattle.base_language.specs.Language.State.{Classes, State, Outcome as Result}
 use Rattle.base_language.specs.Language.Text.{Text}
 use Rattle.matcher_program.specs.declared.form.Property.{Property}
-use Rattle.matcher_interpreter.specs.Answers.{AreExpectedAt, IsStopped}
-use Rattle.matcher_interpreter.specs.Sizes.{most_steps}
-use Rattle.matcher_interpreter.specs.ExpectedNames.{each_once, name_texts}
-use Rattle.matcher_interpreter.specs.declared.machine.Stop.TheVariants as stop
+use Rattle.matcher_program.specs.Answers.{AreExpectedAt, IsStopped}
+use Rattle.matcher_program.specs.Sizes.{most_steps}
+use Rattle.matcher_program.specs.ExpectedNames.{each_once, name_texts}
+use Rattle.matcher_program.specs.declared.answers.Stop.TheVariants as stop
 use Rattle.pest_run.specs.Messages.{Names, known, unfound}
 use Rattle.pest_run.specs.declared.expected.Expected.{Expected}
 use Rattle.pest_run.specs.declared.expected.Expected.TheVariants as expected_is

@@ -3,12 +3,12 @@
 ghost use Rattle.std.specs.Prelude.{◌≡◌, ℕ, IfErr, IfOk, IfSome, chars, true};
 ghost use Rattle.std.specs.Str.{IsCharBoundary};
 ghost use Rattle.matcher_engine.specs.Matchers.{grammar_in, properties_in};
-ghost use Rattle.matcher_interpreter.specs.Answers.{IsUnanswered};
+ghost use Rattle.matcher_program.specs.Answers.{IsUnanswered};
 ghost use Rattle.pest_run.specs.Failures.{HasNoNames, IsEarlier, IsFound};
 
 use crate::expected::{Expected, find_names};
 use matcher_engine::matcher::Matcher;
-use matcher_interpreter::matcher::Refusal;
+use matcher_program::answers::Refusal;
 use std::alloc::Global;
 
 /// How many bytes before the furthest failure an earlier position with names is looked for.

@@ -3,7 +3,7 @@ use Rattle.std.proofs.Math.Seq.{drop-length}
 use Rattle.std.proofs.lemmas.List.{get_or-map, length-map}
 use Rattle.front_syntax.specs.Entries.{Ends}
 use Rattle.matcher_program.specs.Programs.{grammar_of}
-use Rattle.matcher_interpreter.specs.Written.{entry_of, seen}
+use Rattle.matcher_program.specs.Written.{entry_of, seen}
 use Rattle.matcher_compiler.specs.Names.{number_in}
 use Rattle.matcher_engine.proofs.FromEntries.{after_end, after_start, all_read, trees_in}
 use Rattle.matcher_engine.proofs.trees.trees_of.Goals as goal

@@ -1,7 +1,7 @@
 use Rattle.std.proofs.Common.{◌≡◌, ◌++◌, drop, length}
 use Rattle.matcher_program.specs.Programs.{grammar_of}
 use Rattle.matcher_compiler.specs.Names.{number_in}
-use Rattle.matcher_interpreter.specs.Written.{seen}
+use Rattle.matcher_program.specs.Written.{seen}
 use Rattle.matcher_engine.proofs.FromEntries.{trees_in}
 use Rattle.matcher_engine.proofs.trees.trees_of.Given as goal
 
