@@ -1,21 +1,12 @@
 -- How a run ends, by what comes of the rule.
-use Rattle.std.proofs.Common.{◌≡◌, ◌≢◌, ◌⊎◌, inl, inr, sym, ◌∙◌, ℕ, ◌+◌, ◌≤◌, List, Option, Result, Ok, Err, IfOk, IfErr, codes, string_bytes, arith, subst}
-use Rattle.std.specs.Prelude.{IsErrAnd, chars, option_map}
-use Rattle.std.specs.declared.alloc.Global.{Global}
-use Rattle.std.specs.declared.string.String.{String}
+use Rattle.std.proofs.Common.{◌≡◌, ◌≢◌, ◌⊎◌, inl, inr, sym, ◌∙◌, ℕ, ◌+◌, ◌≤◌, List, Option, Result, codes, string_bytes, arith, subst}
+use Rattle.std.specs.Prelude.{chars, option_map}
 use Rattle.base_language.specs.Language.Expression.{Grammar, Ident}
 use Rattle.base_language.specs.Language.State.{NonAtomicMode, Success}
-use Rattle.base_language.specs.declared.runtime.faults.Fault.{Fault}
-use Rattle.base_language.specs.declared.runtime.faults.Fault.TheVariants as fault_is
-use Rattle.pest_meta.specs.Reports.{IsReportOf, report_text}
-use Rattle.pest_meta.specs.Spelling.{IsRefusal}
 use Rattle.pest_meta.specs.Written.{IsWritten}
-use Rattle.pest_meta.specs.declared.report.Report.{Report}
-use Rattle.pest_meta.specs.declared.report.Report.TheVariants as report_is
 use Rattle.pest_run.specs.Ends.{EndsAs}
 use Rattle.matcher_support.specs.Sets.{is_in_property}
 use Rattle.matcher_program.specs.Answers.{start_of}
-use Rattle.program_support.specs.Escapes.{escaped_lines}
 use Rattle.pest_run.specs.Messages.{no_rule_text, steps_text}
 use Rattle.pest_run.specs.Outcomes.{IsOutcome, IsShown}
 use Rattle.pest_run.specs.Written.{AreMatched, AreRun, NotesEnd, PrintsTrees, ReportsReason, ReportsRefusal, ReportsStop, WritesLine, empty_stack, no_match, no_rule, refused, too_many_steps, unknown_name, wide_bound}
@@ -28,10 +19,6 @@ use Rattle.pest_run.specs.declared.outcomes.Outcome.TheVariants as is
 -- two statuses in one
 pub apart : (n a b : ℕ) → n ≡ a → n ≡ b → a + 1 ≤ b → ⊥
 apart n a b e f h = omega (arith, e, f, h)
-
-either : (n k : ℕ) → (n ≡ 1) ⊎ (n ≡ 2) → n ≡ k → k ≢ 1 → k ≢ 2 → ⊥
-either n k (inl z) e f h = f (sym e ∙ z)
-either n k (inr z) e f h = h (sym e ∙ z)
 
 pub neither : (n k : ℕ) → (n ≡ 0) ⊎ (n ≡ 4) → n ≡ k → k ≢ 0 → k ≢ 4 → ⊥
 neither n k (inl z) e f h = f (sym e ∙ z)
@@ -62,12 +49,12 @@ matched form_is.Optimized grammar rule text format rules lines a i = record { ru
 
 -- where the status is 0, trees were printed
 pub prints : {X E : Type 0} (o : Outcome) (name grammar rule text : List ℕ) (format : Format) (form : RuleForm) (rules : Grammar) (limit : ℕ) (told : Result X E) (same : Type 0) (status : ℕ)
-    (old_out new_out old new : Option (List ℕ)) → AreRun form grammar rules → IsOutcome rules rule text format limit o
-    → EndsAs name o same status told old_out new_out old new → status ≡ 0 → PrintsTrees form grammar rule text format old_out new_out
+    (old_out new_out old new : Option (List ℕ)) → AreRun form grammar rules → IsOutcome rules rule name text format limit o
+    → EndsAs o same status told old_out new_out old new → status ≡ 0 → PrintsTrees form grammar rule text format old_out new_out
 prints (is.Shown lines note) name grammar rule text format form rules limit told same status old_out new_out old new a i e zero =
     let m = matched form grammar rule text format rules (string_bytes lines) a i.0 in
     record { rules = m.rules; matched = m.matched; lines = string_bytes lines; shows = m.shows; gained = e.1 zero }
-prints (is.Failed report) name grammar rule text format form rules limit told same status old_out new_out old new a i e zero = absurd (either status 0 e.0 zero (omega arith) (omega arith))
+prints (is.Failed report) name grammar rule text format form rules limit told same status old_out new_out old new a i e zero = absurd (apart status 0 1 zero e.0 (omega arith))
 prints (is.NoRule said) name grammar rule text format form rules limit told same status old_out new_out old new a i e zero = absurd (apart status 0 1 zero e.0 (omega arith))
 prints (is.OutOfSteps said) name grammar rule text format form rules limit told same status old_out new_out old new a i e zero = absurd (apart status 0 5 zero e.0 (omega arith))
 prints is.EmptyStack name grammar rule text format form rules limit told same status old_out new_out old new a i e zero = absurd (apart status 0 5 zero e.0 (omega arith))
@@ -77,11 +64,11 @@ prints is.Memory name grammar rule text format form rules limit told same status
 
 -- and the note on their end was written
 pub notes : {X E : Type 0} (o : Outcome) (name grammar rule text : List ℕ) (format : Format) (form : RuleForm) (rules : Grammar) (limit : ℕ) (told : Result X E) (same : Type 0) (status : ℕ)
-    (old_out new_out old new : Option (List ℕ)) → AreRun form grammar rules → IsOutcome rules rule text format limit o
-    → EndsAs name o same status told old_out new_out old new → status ≡ 0 → NotesEnd form grammar rule text format limit same told old new
+    (old_out new_out old new : Option (List ℕ)) → AreRun form grammar rules → IsOutcome rules rule name text format limit o
+    → EndsAs o same status told old_out new_out old new → status ≡ 0 → NotesEnd form grammar rule text format limit same told old new
 notes (is.Shown lines note) name grammar rule text format form rules limit told same status old_out new_out old new a i e zero =
     record { rules = rules; are = a; note = option_map string_bytes note; noted = i.1; line = e.2 zero }
-notes (is.Failed report) name grammar rule text format form rules limit told same status old_out new_out old new a i e zero = absurd (either status 0 e.0 zero (omega arith) (omega arith))
+notes (is.Failed report) name grammar rule text format form rules limit told same status old_out new_out old new a i e zero = absurd (apart status 0 1 zero e.0 (omega arith))
 notes (is.NoRule said) name grammar rule text format form rules limit told same status old_out new_out old new a i e zero = absurd (apart status 0 1 zero e.0 (omega arith))
 notes (is.OutOfSteps said) name grammar rule text format form rules limit told same status old_out new_out old new a i e zero = absurd (apart status 0 5 zero e.0 (omega arith))
 notes is.EmptyStack name grammar rule text format form rules limit told same status old_out new_out old new a i e zero = absurd (apart status 0 5 zero e.0 (omega arith))
@@ -91,12 +78,11 @@ notes is.Memory name grammar rule text format form rules limit told same status 
 
 -- where it is 1, a reason was told
 pub tells : {X E : Type 0} (o : Outcome) (name grammar rule text : List ℕ) (format : Format) (form : RuleForm) (rules : Grammar) (limit : ℕ) (told : Result X E) (same : Type 0) (status : ℕ)
-    (old_out new_out old new : Option (List ℕ)) → AreRun form grammar rules → IsOutcome rules rule text format limit o
-    → EndsAs name o same status told old_out new_out old new → status ≡ 1 → ReportsReason form grammar rule name text limit told old new
+    (old_out new_out old new : Option (List ℕ)) → AreRun form grammar rules → IsOutcome rules rule name text format limit o
+    → EndsAs o same status told old_out new_out old new → status ≡ 1 → ReportsReason form grammar rule name text limit told old new
 tells (is.Shown lines _) name grammar rule text format form rules limit told same status old_out new_out old new a i e one = absurd (neither status 1 e.0 one (omega arith) (omega arith))
 tells (is.Failed report) name grammar rule text format form rules limit told same status old_out new_out old new a i e one =
-    let written = e.1 one in
-    record { message = written.named; reason = no_match rules (string_bytes report) written.named a i written.names; line = written.line }
+    record { message = string_bytes report; reason = no_match rules (string_bytes report) a i; line = e.1 }
 tells (is.NoRule said) name grammar rule text format form rules limit told same status old_out new_out old new a i e one =
     let P : List ℕ → Type 0 = λ t. WritesLine t told old new in
     record { message = no_rule_text rules rule; reason = no_rule rules a i.0; line = subst P i.1 e.1 }
@@ -108,10 +94,10 @@ tells is.Memory name grammar rule text format form rules limit told same status 
 
 -- where it is 5, why the matcher was stopped was told
 pub stops : {X E : Type 0} (o : Outcome) (name grammar rule text : List ℕ) (format : Format) (form : RuleForm) (rules : Grammar) (limit : ℕ) (told : Result X E) (same : Type 0) (status : ℕ)
-    (old_out new_out old new : Option (List ℕ)) → AreRun form grammar rules → IsOutcome rules rule text format limit o
-    → EndsAs name o same status told old_out new_out old new → status ≡ 5 → ReportsStop form grammar rule text limit told old new
+    (old_out new_out old new : Option (List ℕ)) → AreRun form grammar rules → IsOutcome rules rule name text format limit o
+    → EndsAs o same status told old_out new_out old new → status ≡ 5 → ReportsStop form grammar rule text limit told old new
 stops (is.Shown lines _) name grammar rule text format form rules limit told same status old_out new_out old new a i e five = absurd (neither status 5 e.0 five (omega arith) (omega arith))
-stops (is.Failed report) name grammar rule text format form rules limit told same status old_out new_out old new a i e five = absurd (either status 5 e.0 five (omega arith) (omega arith))
+stops (is.Failed report) name grammar rule text format form rules limit told same status old_out new_out old new a i e five = absurd (apart status 1 5 e.0 five (omega arith))
 stops (is.NoRule said) name grammar rule text format form rules limit told same status old_out new_out old new a i e five = absurd (apart status 1 5 e.0 five (omega arith))
 stops (is.OutOfSteps said) name grammar rule text format form rules limit told same status old_out new_out old new a i e five =
     let P : List ℕ → Type 0 = λ t. WritesLine t told old new in
@@ -121,24 +107,8 @@ stops is.UnknownName name grammar rule text format form rules limit told same st
 stops is.Bound name grammar rule text format form rules limit told same status old_out new_out old new a i e five = record { rules = rules; are = a; message = codes "a range of the grammar has a bound that is no character"; stop = wide_bound i; line = e.1 }
 stops is.Memory name grammar rule text format form rules limit told same status old_out new_out old new a i e five = absurd (apart status 2 5 e five (omega arith))
 
--- where there is a text, the outcome was a refusal, and the text reports it
-pub refusal : {X Y E : Type 0} (grammar : List ℕ) (outcome : Result X Fault) (answer : Result X Report) (message : String Global) (told : Result Y E) (old new : Option (List ℕ))
-    → IfErr outcome (IsRefusal grammar) → IfOk outcome (λ v. answer ≡ Ok v) → IfErr outcome (λ fault. IsErrAnd answer (IsReportOf fault))
-    → answer ≡ Err (report_is.Text message) → WritesLine (escaped_lines (string_bytes message)) told old new → ReportsRefusal grammar told old new
-refusal grammar (Ok v) answer message told old new r a b e line = cc
-refusal grammar (Err (fault_is.Memory m)) answer message told old new r a b e line = let said = rw e at b in cc
-refusal grammar (Err (fault_is.Grammar errors)) answer message told old new r a b e line =
-    let P : List ℕ → Type 0 = λ t. WritesLine (escaped_lines t) told old new in
-    let said : string_bytes message ≡ report_text errors.items = rw e at b in
-    record { errors = errors.items; refused = r; line = subst P said line }
-
 -- a refusal is a reason
 pub refusal_is_reason : {X E : Type 0} (form : RuleForm) (grammar rule name text : List ℕ) (limit : ℕ) (told : Result X E) (old new : Option (List ℕ))
     → ReportsRefusal grammar told old new → ReportsReason form grammar rule name text limit told old new
 refusal_is_reason form grammar rule name text limit told old new r =
-    record { message = escaped_lines (report_text r.errors); reason = refused r.errors r.refused; line = r.line }
-
--- where there is a value, the outcome was that value
-pub value : {X : Type 0} (outcome : Result X Fault) (answer : Result X Report) (x : X) (P : X → Type 0) → IfOk outcome P → IfOk outcome (λ v. answer ≡ Ok v) → IfErr outcome (λ fault. IsErrAnd answer (IsReportOf fault)) → answer ≡ Ok x → P x
-value (Ok v) answer x P p a b e = let same : v ≡ x = cc in subst P same p
-value (Err fault) answer x P p a b e = absurd (rw e at b)
+    record { message = r.tells.report; reason = refused r.errors r.tells.report r.refused r.tells.shows; line = r.tells.line }

@@ -1,3 +1,4 @@
+pub mod Failing
 pub mod Came
 pub mod Ended
 pub mod Listed

@@ -16,9 +16,9 @@ use Rattle.pest_run.specs.declared.outcomes.Outcome.TheVariants as is
 use Rattle.pest_run.proofs.Ended.{apart, neither}
 use Rattle.pest_run.proofs.RuleNames.{names_kept}
 
-module _ {X E : Type 0} (grammar name : List ℕ) (rules : Grammar) (told : Result X E) (same : Type 0) (status : ℕ) (old_out new_out old new : Option (List ℕ)) where
+module _ {X E : Type 0} (grammar : List ℕ) (rules : Grammar) (told : Result X E) (same : Type 0) (status : ℕ) (old_out new_out old new : Option (List ℕ)) where
   -- where the status is 0, the names were printed
-  pub lists : (o : Outcome) → IsWritten grammar rules → IsListOutcome rules o → EndsAs name o same status told old_out new_out old new → status ≡ 0 → ListsRules grammar old_out new_out
+  pub lists : (o : Outcome) → IsWritten grammar rules → IsListOutcome rules o → EndsAs o same status told old_out new_out old new → status ≡ 0 → ListsRules grammar old_out new_out
   lists (is.Shown lines _) a i e zero =
       let written : IsWritten grammar rules = a in
       let shows : string_bytes lines ≡ name_lines written.spelled = i.0 ∙ ap (λ ns. flat_map name_line ns) (sym (names_kept written.written_out)) in
@@ -33,7 +33,7 @@ module _ {X E : Type 0} (grammar name : List ℕ) (rules : Grammar) (told : Resu
   lists is.Memory a i e zero = absurd (apart status 0 2 zero e (omega arith))
 
   -- and nothing else was told
-  pub silent : (o : Outcome) → IsListOutcome rules o → EndsAs name o same status told old_out new_out old new → status ≡ 0 → same
+  pub silent : (o : Outcome) → IsListOutcome rules o → EndsAs o same status told old_out new_out old new → status ≡ 0 → same
   silent (is.Shown lines _) i e zero =
       let P : Option (String Global) → Type 0 = λ n. WritesNote (option_map string_bytes n) same told old new in
       subst P i.1 (e.2 zero)
@@ -46,7 +46,7 @@ module _ {X E : Type 0} (grammar name : List ℕ) (rules : Grammar) (told : Resu
   silent is.Memory i e zero = absurd (apart status 0 2 zero e (omega arith))
 
   -- no other status than 0, 2 and 4
-  pub only : (o : Outcome) (k : ℕ) → IsListOutcome rules o → EndsAs name o same status told old_out new_out old new → status ≡ k → k ≢ 0 → k ≢ 2 → k ≢ 4 → ⊥
+  pub only : (o : Outcome) (k : ℕ) → IsListOutcome rules o → EndsAs o same status told old_out new_out old new → status ≡ k → k ≢ 0 → k ≢ 2 → k ≢ 4 → ⊥
   only (is.Shown lines _) k i e one z t f = neither status k e.0 one z f
   only (is.Failed report) k i e one z t f = absurd i
   only (is.NoRule message) k i e one z t f = absurd i

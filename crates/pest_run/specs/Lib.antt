@@ -1,7 +1,8 @@
 pub mod Steps
-pub mod Json
 pub mod RuleNames
 pub mod Messages
+pub mod Names
+pub mod Failures
 pub mod Outcomes
 pub mod Written
 pub mod Ends

@@ -1,7 +1,6 @@
 -- Messages about a rule, a text and files.
-use Rattle.std.specs.Prelude.{◌≡◌, ◌≢◌, ◌<◌, ℕ, ◌==◌, ◌||◌, not, Bool, List, [], ◌++◌, bytes_eq, codes, if◌then◌else◌, length, nat_le, take}
+use Rattle.std.specs.Prelude.{ℕ, ◌==◌, ◌||◌, not, Bool, List, [], ◌++◌, bytes_eq, codes, if◌then◌else◌, length, nat_le, nat_lt, take}
 use Rattle.std.specs.Fmt.{decimal}
-use Rattle.std.specs.Str.Pattern.{LacksTextAt}
 use Rattle.base_language.specs.Language.Expression.{Grammar}
 use Rattle.base_language.specs.Language.Text.{Text}
 use Rattle.base_language.specs.Pieces.LineColumn.{line_column}
@@ -18,14 +17,6 @@ suggestion names = codes "; did you mean " ++ list_text names ++ codes "?"
 abbrev pub no_rule_text : Grammar → List ℕ → List ℕ
 no_rule_text g name =
     codes "the grammar has no rule " ++ escaped_bytes name ++ suggestion (take 5 (near_names g name))
-
--- a report, and the same with a file's name behind its first arrow, if it has one
-pub data NamesFile (name report : List ℕ) : List ℕ → Type 0 where
-  placed : (margin place : List ℕ) → ((k : ℕ) → k < length margin → LacksTextAt (codes "--> ") report k)
-      → report ≡ margin ++ (codes "--> " ++ place)
-      → NamesFile name report (margin ++ (codes "--> " ++ (escaped_bytes name ++ (codes ":" ++ place))))
-  unplaced : ((margin place : List ℕ) → report ≢ margin ++ (codes "--> " ++ place))
-      → NamesFile name report report
 
 -- that a match was stopped after so many steps
 abbrev pub steps_text : ℕ → List ℕ
@@ -63,6 +54,16 @@ known_text names = failure_message names
 abbrev pub names_text : Names → List ℕ
 names_text (known names) = known_text names
 names_text (unfound steps) = unfound_text steps
+
+-- that a failure is told of an earlier position than this one, the furthest
+abbrev pub further_text : ℕ × ℕ → List ℕ
+further_text place =
+    codes "; what failed further on, up to " ++ (place_text place ++ codes ", stands below a `!`")
+
+-- the message on a failure that is told of a position
+abbrev pub failure_text : List ℕ → (place furthest : ℕ) → Names → List ℕ
+failure_text text place furthest names = names_text names
+    ++ (if nat_lt place furthest then further_text (line_column text furthest) else [])
 
 -- that these names are expected at a position, if there are any; or that they were not found
 abbrev pub expected_text : ℕ × ℕ → Names → List ℕ

@@ -2,36 +2,36 @@
 use Rattle.std.specs.Prelude.{◌≡◌, ◌<◌, ◌&&◌, ℕ, List, ◌++◌, Option, Some, None, Bool, false, codes, drop, if◌then◌else◌, length, nat_le, option_map, string_bytes, ⊤}
 use Rattle.std.specs.Str.{chars}
 use Rattle.base_language.specs.Language.Expression.{Grammar, Ident, rule_of}
-use Rattle.base_language.specs.Language.Expected.{expected}
 use Rattle.base_language.specs.Language.FurthestFailure.{furthest}
-use Rattle.base_language.specs.Language.Meaning.{Does, Task}
-use Rattle.base_language.specs.Language.State.{Classes, State, Trees, Outcome as Result, Success, Failure}
+use Rattle.base_language.specs.Language.State.{State, Trees, Outcome as Result, Success, Failure}
 use Rattle.base_language.specs.Language.Text.{Text}
 use Rattle.base_language.specs.Language.WellFormed.{InSomeRule}
 use Rattle.base_language.specs.Pieces.LineColumn.{line_column}
-use Rattle.base_language.specs.Pieces.PrintedError.{printed_error, printed_line}
+use Rattle.base_language.specs.Pieces.PrintedError.{error_line, message_of, printed_line}
+use Rattle.base_language.specs.declared.grammar.Rule.{Rule}
+use Rattle.base_language.specs.declared.runtime.errors.Error.{Error}
 use Rattle.base_language.specs.declared.runtime.errors.LineColLocation.TheVariants.{Pos}
 use Rattle.matcher_program.specs.Refusals.{IsBoundOf, IsNoCharacter, IsUnknown}
 use Rattle.matcher_program.specs.declared.compile.Unfit.{Unfit}
 use Rattle.matcher_program.specs.declared.compile.Unfit.TheVariants as unfit
 use Rattle.matcher_program.specs.declared.form.Property.{Property}
-use Rattle.matcher_program.specs.Answers.{AreExpectedAt, Has, IsStopped}
+use Rattle.matcher_program.specs.Answers.{Has}
 use Rattle.matcher_program.specs.Sizes.{most_steps}
-use Rattle.matcher_program.specs.ExpectedNames.{each_once, name_texts}
 use Rattle.matcher_program.specs.declared.answers.Stop.{Stop}
 use Rattle.matcher_program.specs.declared.answers.Stop.TheVariants as stop
 use Rattle.matcher_support.specs.Lines.{lines_of}
 use Rattle.matcher_support.specs.Sets.{has_set, is_in_property}
 use Rattle.matcher_support.specs.Shown.{shown}
 use Rattle.matcher_support.specs.Values.{answer_data}
-use Rattle.program_support.specs.Escapes.{escaped_lines}
-use Rattle.pest_run.specs.Json.{escaped_json}
-use Rattle.pest_run.specs.Messages.{Names, end_text, is_more, known, names_text, no_rule_text, steps_text, unfound}
+use Rattle.program_support.specs.Escapes.{escaped_json, escaped_lines}
+use Rattle.program_support.specs.Messages.{ShowsError}
+use Rattle.pest_run.specs.Messages.{Names, end_text, failure_text, is_more, no_rule_text, steps_text}
+use Rattle.pest_run.specs.Failures.{AreTold}
+use Rattle.pest_run.specs.Names.{AreNamesOf, names_of}
 use Rattle.pest_run.specs.Steps.{name_limit}
 use Rattle.pest_run.specs.declared.arguments.Format.{Format}
 use Rattle.pest_run.specs.declared.arguments.Format.TheVariants as format_is
-use Rattle.pest_run.specs.declared.expected.Expected.{Expected}
-use Rattle.pest_run.specs.declared.expected.Expected.TheVariants as expected_is
+use Rattle.pest_run.specs.declared.failures.Failure as code
 use Rattle.pest_run.specs.declared.outcomes.Outcome.{Outcome}
 use Rattle.pest_run.specs.declared.outcomes.Outcome.TheVariants as is
 use Rattle.serde_json.specs.Written.{compact_text}
@@ -42,25 +42,6 @@ trees_text format_is.Text text end_ trees = escaped_lines (shown text 0 trees)
 trees_text format_is.Lines text end_ trees = lines_of 0 trees
 trees_text format_is.Json text end_ trees =
     escaped_json (compact_text (answer_data text end_ trees)) ++ codes "\n"
-
--- expected names of the code
-abbrev pub names_of : Expected → Names
-names_of (expected_is.Names names) = known (name_texts names.items)
-names_of (expected_is.Unfound steps) = unfound steps
-
--- names that are expected at the furthest failure of a derivation: these, each once; or so many steps did not
--- find them, where the matcher may take more
-abbrev pub AreNamesOf : {g : Grammar} {classes : Classes} {k : Task} {s : State} {o : Result}
-    → Does g classes k s o → ℕ → Names → Type 0
-AreNamesOf d limit (known names) = names ≡ each_once (expected d)
-AreNamesOf d limit (unfound steps) = (steps ≡ limit) × (limit < most_steps d)
-
--- names that are expected at a position where the rule is run on a text: these; or so many steps did not find
--- them, since the run was stopped
-abbrev pub AreLookedFor : Grammar → List Property → Text → List ℕ → (place limit : ℕ) → Expected → Type 0
-AreLookedFor g ps n text place limit (expected_is.Names names) = AreExpectedAt g ps n text place names.items
-AreLookedFor g ps n text place limit (expected_is.Unfound steps) =
-    (steps ≡ limit) × IsStopped g ps n text limit stop.OutOfSteps
 
 -- the note on a match that ends at a position, and has its furthest failure at another, where this is known
 -- of expected names: as text, where more than a line's end of the text is left
@@ -95,20 +76,25 @@ pub record IsNoted (g : Grammar) (rule text : List ℕ) (format : Format) (limit
   pub are : AreNamesOf matches (name_limit limit (length text)) names
   pub tells : note ≡ end_note format text end_.position (furthest matches) names
 
--- the text of an error at a position of a text, where this is known of expected names, with escapes of hidden
--- characters
-abbrev pub failure_text : List ℕ → ℕ → Names → List ℕ
-failure_text text place names =
-    let message = names_text names in
-    escaped_lines (printed_error message (Pos (line_column text place)) (printed_line text place))
+-- a report of an error at a position of the text of a file, whose furthest failure is at another, where this
+-- is known of the names that are expected at the first
+pub record ReportsFailure (name text : List ℕ) (place furthest : ℕ) (names : Names) (report : List ℕ)
+    : Type 0 where
+  pub error : Error Rule
+  pub says : message_of error.variant ≡ failure_text text place furthest names
+  pub at_place : error.line_col ≡ Pos (line_column text place)
+  pub line : error_line error ≡ printed_line text place
+  pub shows : ShowsError (Some name) error report
 
--- the rule, called at the start of the text, fails, and the report shows the furthest position of a failure,
--- and the names that are expected there, or that they were not found
-pub record HasFailed (g : Grammar) (rule text : List ℕ) (limit : ℕ) (report : List ℕ) : Type 0 where
+-- the rule, called at the start of the text of a file, fails, and the report shows the furthest position of a
+-- failure, or the last one before it that has names, and the names that are expected there, or that they were
+-- not found
+pub record HasFailed (g : Grammar) (rule name text : List ℕ) (limit : ℕ) (report : List ℕ) : Type 0 where
   pub fails : Has g (chars rule) text is_in_property Failure
+  pub place : ℕ
   pub names : Names
-  pub are : AreNamesOf fails (name_limit limit (length text)) names
-  pub report_shows : report ≡ failure_text text (furthest fails) names
+  pub are : AreTold fails text (name_limit limit (length text)) place names
+  pub reports : ReportsFailure name text place (furthest fails) names report
 
 -- no rule has the name
 abbrev pub HasNoRule : Grammar → List ℕ → Type 0
@@ -145,12 +131,12 @@ unfit_outcome unfit.Memory = is.Memory
 unfit_outcome (unfit.UnknownName name) = is.UnknownName
 unfit_outcome (unfit.Bound text) = is.Bound
 
--- the outcome reports a failure at a position, where this is known of expected names, or an allocation
--- failure
-abbrev pub IsFailureReport : List ℕ → ℕ → Names → Outcome → Type 0
-IsFailureReport text place names (is.Failed report) = string_bytes report ≡ failure_text text place names
-IsFailureReport text place names is.Memory = ⊤
-IsFailureReport text place names _ = ⊥
+-- the outcome reports a failure on the text of a file, or an allocation failure
+abbrev pub IsFailureReport : List ℕ → List ℕ → code.Failure → Outcome → Type 0
+IsFailureReport name text failure (is.Failed report) =
+    ReportsFailure name text failure.place failure.furthest (names_of failure.names) (string_bytes report)
+IsFailureReport name text failure is.Memory = ⊤
+IsFailureReport name text failure _ = ⊥
 
 -- the outcome shows the trees of a match that ends at a position, and has its furthest failure at another,
 -- where this is known of expected names; or it reports an allocation failure
@@ -167,18 +153,19 @@ IsNoRuleReport g rule (is.NoRule message) = string_bytes message ≡ no_rule_tex
 IsNoRuleReport g rule is.Memory = ⊤
 IsNoRuleReport g rule _ = ⊥
 
--- the outcome is that of the rule on the text, or says why the rules can't be run; an allocation failure is
--- not constrained
-abbrev pub IsOutcome : Grammar → List ℕ → List ℕ → Format → ℕ → Outcome → Type 0
-IsOutcome g rule text format limit (is.Shown lines note) =
+-- the outcome is that of the rule on the text of a file, or says why the rules can't be run; an allocation
+-- failure is not constrained
+abbrev pub IsOutcome : Grammar → (rule name text : List ℕ) → Format → ℕ → Outcome → Type 0
+IsOutcome g rule name text format limit (is.Shown lines note) =
     IsShown g rule text format (string_bytes lines)
     × IsNoted g rule text format limit (option_map string_bytes note)
-IsOutcome g rule text format limit (is.Failed report) = HasFailed g rule text limit (string_bytes report)
-IsOutcome g rule text format limit (is.NoRule message) =
+IsOutcome g rule name text format limit (is.Failed report) =
+    HasFailed g rule name text limit (string_bytes report)
+IsOutcome g rule name text format limit (is.NoRule message) =
     HasNoRule g rule × (string_bytes message ≡ no_rule_text g rule)
-IsOutcome g rule text format limit (is.OutOfSteps message) =
+IsOutcome g rule name text format limit (is.OutOfSteps message) =
     TakesTooManySteps g rule text limit × (string_bytes message ≡ steps_text limit)
-IsOutcome g rule text format limit is.EmptyStack = HasNoOutcome g rule text
-IsOutcome g rule text format limit is.UnknownName = CallsUnknownName g
-IsOutcome g rule text format limit is.Bound = HasWrongBound g
-IsOutcome g rule text format limit is.Memory = ⊤
+IsOutcome g rule name text format limit is.EmptyStack = HasNoOutcome g rule text
+IsOutcome g rule name text format limit is.UnknownName = CallsUnknownName g
+IsOutcome g rule name text format limit is.Bound = HasWrongBound g
+IsOutcome g rule name text format limit is.Memory = ⊤

@@ -7,11 +7,10 @@ use Rattle.base_ast.specs.declared.optimized.OptimizedRule.{OptimizedRule}
 use Rattle.base_language.specs.Language.Expression.{Grammar}
 use Rattle.base_language.specs.declared.grammar.Rule.{Rule}
 use Rattle.base_language.specs.declared.runtime.errors.Error.{Error}
-use Rattle.pest_meta.specs.Reports.{report_text}
 use Rattle.pest_meta.specs.Spelling.{IsAnswer, IsRefusedWith}
 use Rattle.pest_meta.specs.Written.{IsWritten, SpellsAccepted}
-use Rattle.program_support.specs.Escapes.{escaped_lines}
-use Rattle.pest_run.specs.Messages.{NamesFile, no_rule_text, steps_text, unread_text}
+use Rattle.program_support.specs.Messages.{IsReport}
+use Rattle.pest_run.specs.Messages.{no_rule_text, steps_text, unread_text}
 use Rattle.pest_run.specs.Outcomes.{CallsUnknownName, HasFailed, HasNoOutcome, HasNoRule, HasWrongBound, IsNoted, IsShown, TakesTooManySteps}
 use Rattle.pest_run.specs.declared.arguments.Format.{Format}
 use Rattle.pest_run.specs.declared.arguments.RuleForm.{RuleForm}
@@ -30,13 +29,6 @@ why_unread source = elim source.why [ Some why ↦ string_bytes why | None ↦ c
 abbrev pub WritesLine : {X E : Type 0} → List ℕ → Result X E → Option (List ℕ) → Option (List ℕ) → Type 0
 WritesLine message written old new = OnOk written (Appends old new (message ++ 10 ∷ []))
 
--- the line is a report with a file's name
-pub record WritesNamed {X E : Type 0} (name report : List ℕ) (written : Result X E)
-    (old new : Option (List ℕ)) : Type 0 where
-  pub named : List ℕ
-  pub names : NamesFile name report named
-  pub line : WritesLine named written old new
-
 -- the line says that the file can't be read and why, or that an allocation failed
 abbrev pub WritesUnread : {X E : Type 0} → Source → Result X E → Option (List ℕ) → Option (List ℕ) → Type 0
 WritesUnread source written old new =
@@ -51,12 +43,19 @@ pub record ReportsUnread {X E : Type 0} (grammar text : Source) (written : Resul
   pub unreadable : IsReadable source → ⊥
   pub line : WritesUnread source written old new
 
+-- a report of errors is the line
+pub record WritesReport {X E : Type 0} (errors : List (Error Rule)) (written : Result X E)
+    (old new : Option (List ℕ)) : Type 0 where
+  pub report : List ℕ
+  pub shows : IsReport errors report
+  pub line : WritesLine report written old new
+
 -- the grammar is refused, and the report is the line
 pub record ReportsRefusal {X E : Type 0} (grammar : List ℕ) (written : Result X E)
     (old new : Option (List ℕ)) : Type 0 where
   pub errors : List (Error Rule)
   pub refused : IsRefusedWith grammar errors
-  pub line : WritesLine (escaped_lines (report_text errors)) written old new
+  pub tells : WritesReport errors written old new
 
 -- the rules that the optimizer returns for a grammar
 pub record AreAnswered (grammar : List ℕ) (rules : Grammar) : Type 0 where
@@ -101,16 +100,14 @@ pub record NotesEnd {X E : Type 0} (form : RuleForm) (grammar rule text : List �
   pub line : WritesNote note same written old new
 
 -- the reason why there are no trees, and its text: the grammar is refused, and its report is the text; or
--- it has no rule of that name; or the rule fails, and the text shows its furthest position, after the name
--- of the text's file, and the expected set there, or that it was not found
+-- it has no rule of that name; or the rule fails, and the text reports that on the text of the file
 pub data IsReason (form : RuleForm) (grammar rule name text : List ℕ) (limit : ℕ) : List ℕ → Type 0 where
-  refused : (errors : List (Error Rule)) → IsRefusedWith grammar errors
-      → IsReason form grammar rule name text limit (escaped_lines (report_text errors))
+  refused : (errors : List (Error Rule)) (report : List ℕ) → IsRefusedWith grammar errors
+      → IsReport errors report → IsReason form grammar rule name text limit report
   no_rule : (rules : Grammar) → AreRun form grammar rules → HasNoRule rules rule
       → IsReason form grammar rule name text limit (no_rule_text rules rule)
-  no_match : (rules : Grammar) (report named : List ℕ) → AreRun form grammar rules
-      → HasFailed rules rule text limit report → NamesFile name report named
-      → IsReason form grammar rule name text limit named
+  no_match : (rules : Grammar) (report : List ℕ) → AreRun form grammar rules
+      → HasFailed rules rule name text limit report → IsReason form grammar rule name text limit report
 
 -- there is such a reason, and it is the line
 pub record ReportsReason {X E : Type 0} (form : RuleForm) (grammar rule name text : List ℕ) (limit : ℕ)

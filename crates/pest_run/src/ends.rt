@@ -1,11 +1,11 @@
 //! Ends of a run.
 ghost use Rattle.std.specs.Prelude.{◌≡◌, ◌⊎◌, IsErr, IsOk, codes, option_map, string_bytes, true};
-ghost use Rattle.pest_run.specs.Written.{WritesLine, WritesNamed, WritesNote};
-ghost use Rattle.program_support.specs.Escapes.{escaped_lines};
+ghost use Rattle.pest_run.specs.Written.{WritesLine, WritesNote, WritesReport};
 ghost use Rattle.program_support.specs.Statuses.{status_code};
 
-use crate::messages::name_file;
-use program_support::escape::escape_lines;
+use base_language::grammar::Rule;
+use base_language::runtime::Error;
+use program_support::messages::show_report;
 use program_support::output::{Output, RefusedWrite};
 use program_support::status::Status;
 use std::alloc::Global;
@@ -20,35 +20,15 @@ pub struct RunExit {
     pub write_result: Result<(), RefusedWrite>,
 }
 
-/// Reports that a grammar is refused: with its report (1), or with an allocation failure (2).
-pub fn report_refusal<E: Write>(alloc: Global, report: &str, err: &mut Output<E>) -> RunExit
-    ensures known { (result.status ≡ 1) ⊎ (result.status ≡ 2) }
-    ensures tells { result.status ≡ 1
-        → WritesLine (escaped_lines report.now) result.write_result
-        (E.contents err.old.writer) (E.contents err.new.writer) }
-    ensures tells_memory { result.status ≡ 2
-        → WritesLine (codes "out of memory") result.write_result
-        (E.contents err.old.writer) (E.contents err.new.writer) }
-    ensures told { IsOk result.write_result → err.new.refused ≡ err.old.refused }
-    ensures refused_line { IsErr result.write_result → err.new.refused ≡ true }
-{
-    match escape_lines(alloc, report) {
-        Ok(shown) => exit_with(err, shown.as_str(), Status::Found),
-        Err(_) => exit_with(err, "out of memory", Status::OutOfMemory),
-    }
-}
-
-/// Reports that a rule fails on the text of a file: with the report, which gets the file's name (1), or with
-/// an allocation failure (2).
-pub fn report_failure<E: Write>(
+/// Reports that a grammar is refused with these errors (1), or that an allocation failed (2).
+pub fn report_refusal<E: Write>(
     alloc: Global,
-    name: &str,
-    report: &str,
+    errors: &[Error<Rule>],
     err: &mut Output<E>,
 ) -> RunExit
     ensures known { (result.status ≡ 1) ⊎ (result.status ≡ 2) }
     ensures tells { result.status ≡ 1
-        → WritesNamed name.now report.now result.write_result
+        → WritesReport errors.now result.write_result
         (E.contents err.old.writer) (E.contents err.new.writer) }
     ensures tells_memory { result.status ≡ 2
         → WritesLine (codes "out of memory") result.write_result
@@ -56,8 +36,8 @@ pub fn report_failure<E: Write>(
     ensures told { IsOk result.write_result → err.new.refused ≡ err.old.refused }
     ensures refused_line { IsErr result.write_result → err.new.refused ≡ true }
 {
-    match name_file(alloc, name, report) {
-        Ok(named) => exit_with(err, named.as_str(), Status::Found),
+    match show_report(alloc, errors) {
+        Ok(report) => exit_with(err, report.as_str(), Status::Found),
         Err(_) => exit_with(err, "out of memory", Status::OutOfMemory),
     }
 }

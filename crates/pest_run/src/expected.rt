@@ -3,7 +3,8 @@ ghost use Rattle.std.specs.Prelude.{◌≡◌, ℕ, IfErr, IfOk, chars, length, 
 ghost use Rattle.matcher_engine.specs.Matchers.{grammar_in, properties_in};
 ghost use Rattle.matcher_program.specs.Answers.{IsUnanswered};
 ghost use Rattle.std.specs.Str.{IsCharBoundary};
-ghost use Rattle.pest_run.specs.Outcomes.{AreLookedFor, tells_expected};
+ghost use Rattle.pest_run.specs.Names.{AreLookedFor};
+ghost use Rattle.pest_run.specs.Outcomes.{tells_expected};
 ghost use Rattle.pest_run.specs.Steps.{name_limit};
 
 use crate::arguments::Format;

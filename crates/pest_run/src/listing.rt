@@ -11,7 +11,8 @@ use crate::rule_names::name_lines;
 use crate::run::print_outcome;
 use crate::sources::{Source, text_of, unreadable};
 use base_ast::optimized::{OptimizedRule, release};
-use pest_meta::{Report, parse_as_written, unwrap_or_report};
+use base_language::runtime::Fault;
+use pest_meta::parse_as_written;
 use program_support::output::Output;
 use program_support::status::Status;
 use std::alloc::Global;
@@ -86,14 +87,14 @@ pub fn list_rules<W: Write, E: Write>(
     ensures told { IsOk result.write_result → err.new.refused ≡ err.old.refused }
     ensures refused_line { IsErr result.write_result → err.new.refused ≡ true }
 {
-    match unwrap_or_report(alloc, parse_as_written(alloc, grammar)) {
+    match parse_as_written(alloc, grammar) {
         Ok(rules) => {
             let outcome = list_outcome(alloc, &rules);
             release(rules);
-            print_outcome(alloc, "", outcome, out, err)
+            print_outcome(outcome, out, err)
         }
-        Err(Report::Memory) => exit_with(err, "out of memory", Status::OutOfMemory),
-        Err(Report::Text(report)) => report_refusal(alloc, report.as_str(), err),
+        Err(Fault::Memory(_)) => exit_with(err, "out of memory", Status::OutOfMemory),
+        Err(Fault::Grammar(errors)) => report_refusal(alloc, &errors, err),
     }
 }
 

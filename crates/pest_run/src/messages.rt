@@ -3,10 +3,12 @@ ghost use Rattle.std.specs.Prelude.{◌≡◌, ◌++◌, IfOk, OnOk, string_byte
 ghost use Rattle.std.specs.Str.{IsCharBoundary};
 ghost use Rattle.matcher_program.specs.ExpectedNames.{name_texts};
 ghost use Rattle.base_ast.specs.Optimized.{optimized_rules_of};
-ghost use Rattle.pest_run.specs.Messages.{NamesFile, end_text, expected_text, is_more, known, known_text, names_text, no_rule_text, note_between, place_text, steps_text, suggestion, unfound, unfound_text, unread_text};
-ghost use Rattle.pest_run.specs.Outcomes.{names_of};
+ghost use Rattle.pest_run.specs.Messages.{end_text, expected_text, failure_text, further_text, is_more, known, known_text, names_text, no_rule_text, note_between, place_text, steps_text, suggestion, unfound, unfound_text, unread_text};
+ghost use Rattle.base_language.specs.Pieces.LineColumn.{line_column};
+ghost use Rattle.pest_run.specs.Names.{names_of};
 
 use crate::expected::Expected;
+use crate::failures::Failure;
 use crate::rule_names::near_names;
 use base_ast::optimized::OptimizedRule;
 use base_language::runtime::Position;
@@ -64,20 +66,6 @@ pub fn unread_message(alloc: Global, name: &str, why: &str) -> Result<String, Al
     Ok(message)
 }
 
-/// Returns a report with a file's name before the position that it shows. The only error is an allocation
-/// failure.
-pub fn name_file(alloc: Global, name: &str, report: &str) -> Result<String, AllocError>
-    ensures { IfOk result (λ named. NamesFile name.now report.now (string_bytes named)) }
-{
-    match report.split_once("--> ") {
-        Some((margin, place)) => {
-            let name = escape(alloc, name)?;
-            format!(in alloc; "{margin}--> {name}:{place}")
-        }
-        None => String::from_str(alloc, report),
-    }
-}
-
 /// Returns the message that a match was stopped after so many steps. The only error is an allocation failure.
 pub fn steps_message(alloc: Global, steps: u64) -> Result<String, AllocError>
     ensures { IfOk result (λ message. string_bytes message ≡ steps_text steps) }
@@ -98,13 +86,50 @@ const NONE_EXPECTED: &str =
 
 /// Returns the message on expected names, in pest's words if there are any. The only error is an allocation
 /// failure.
-pub fn expected_message(alloc: Global, names: &Expected<'_>) -> Result<String, AllocError>
+fn expected_message(alloc: Global, names: &Expected<'_>) -> Result<String, AllocError>
     ensures { IfOk result (λ message. string_bytes message ≡ names_text (names_of names.now)) }
 {
     match names {
         Expected::Names(names) => known_message(alloc, names),
         Expected::Unfound(steps) => unfound_message(alloc, *steps),
     }
+}
+
+/// Returns the message on a failure on a text. The only error is an allocation failure.
+pub fn describe_failure(
+    alloc: Global,
+    text: &str,
+    failure: &Failure<'_>,
+) -> Result<String, AllocError>
+    requires { IsCharBoundary text.now failure.now.furthest }
+    ensures { IfOk result (λ message. string_bytes message ≡ failure_text text.now failure.now.place
+        failure.now.furthest (names_of failure.now.names)) }
+{
+    let mut message = expected_message(alloc, &failure.names)?;
+    if failure.place < failure.furthest {
+        add_further(alloc, text, failure.furthest, &mut message)?;
+    }
+    Ok(message)
+}
+
+/// Adds to a message that the furthest failure is at another byte position, between two characters.
+fn add_further(
+    alloc: Global,
+    text: &str,
+    furthest: usize,
+    message: &mut String,
+) -> Result<(), AllocError>
+    requires { IsCharBoundary text.now furthest }
+    ensures { OnOk result (string_bytes message.new
+        ≡ string_bytes message.old ++ further_text (line_column text.now furthest)) }
+{
+    let Some(position) = Position::new(text, furthest) else {
+        unreachable!()
+    };
+    let shown = show_place(alloc, position.line_col())?;
+    message.push_str("; what failed further on, up to ")?;
+    message.push_str(shown.as_str())?;
+    message.push_str(", stands below a `!`")
 }
 
 /// Returns the message that these names are expected. The only error is an allocation failure.

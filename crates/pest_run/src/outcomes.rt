@@ -2,19 +2,18 @@
 ghost use Rattle.std.specs.Prelude.{◌≡◌, IfOk, option_map, string_bytes};
 ghost use Rattle.base_ast.specs.Optimized.{optimized_rules_of};
 ghost use Rattle.base_language.specs.Language.State.{Trees};
-ghost use Rattle.base_language.specs.Pieces.Span.{position_offset, position_text};
 ghost use Rattle.matcher_program.specs.Written.{seen};
 ghost use Rattle.front_syntax.specs.Entries.{entries_of};
 ghost use Rattle.std.specs.Str.{IsCharBoundary};
 ghost use Rattle.matcher_support.specs.Shown.{shown};
 ghost use Rattle.program_support.specs.Escapes.{escaped_lines};
-ghost use Rattle.pest_run.specs.Outcomes.{IsFailureReport, IsMatchReport, IsNoRuleReport, IsOutcome, IsStopReport, end_note, failure_text, names_of, trees_text, unfit_outcome};
+ghost use Rattle.pest_run.specs.Outcomes.{IsFailureReport, IsMatchReport, IsNoRuleReport, IsOutcome, IsStopReport, ReportsFailure, end_note, trees_text, unfit_outcome};
+ghost use Rattle.pest_run.specs.Names.{names_of};
 
 use crate::arguments::Format;
-use crate::expected::{Expected, find_names, name_limit, names_after};
-use crate::json::escape_json;
-use crate::messages::{end_message, expected_message, is_more, no_rule_message, steps_message};
-use base_language::grammar::Rule;
+use crate::expected::{Expected, name_limit, names_after};
+use crate::failures::{Failure, find_failure};
+use crate::messages::{describe_failure, end_message, is_more, no_rule_message, steps_message};
 use base_language::runtime::{Error, ErrorVariant, Fault, Position};
 use matcher_engine::matcher::Matcher;
 use matcher_program::answers::Entry;
@@ -27,6 +26,8 @@ use matcher_support::shown::tree_text;
 use matcher_support::unicode_properties::UnicodeProperties;
 use pest_meta::optimizer::OptimizedRule;
 use program_support::escape::escape_lines;
+use program_support::json::escape_json;
+use program_support::messages::show_error;
 use std::alloc::{AllocError, Global};
 
 /// The outcome of a rule on a text.
@@ -50,16 +51,17 @@ pub enum Outcome {
     Memory,
 }
 
-/// Runs the rule of that name on a text, in so many steps at most, and returns the outcome.
+/// Runs the rule of that name on the text of a file, in so many steps at most, and returns the outcome.
 pub fn outcome_of(
     alloc: Global,
     rules: &[OptimizedRule],
     rule: &str,
+    name: &str,
     text: &str,
     format: Format,
     steps: u64,
 ) -> Outcome
-    ensures { IsOutcome (optimized_rules_of rules.now) rule.now text.now format steps result }
+    ensures { IsOutcome (optimized_rules_of rules.now) rule.now name.now text.now format steps result }
 {
     let matcher = match Matcher::new(alloc, rules, &UnicodeProperties) {
         Ok(matcher) => matcher,
@@ -74,9 +76,9 @@ pub fn outcome_of(
             Err(Refusal::Stopped(stop)) => stopped_outcome(alloc, stop, steps),
         },
         Err(Refusal::UnknownRule(_)) => no_rule_outcome(alloc, rules, rule),
-        Err(Refusal::NoMatch(place)) => {
-            match find_names(alloc, &matcher, rule, text, place, most) {
-                Ok(names) => failed_outcome(alloc, text, place, &names),
+        Err(Refusal::NoMatch(furthest)) => {
+            match find_failure(alloc, &matcher, rule, text, furthest, most) {
+                Ok(failure) => failed_outcome(alloc, name, text, &failure),
                 Err(Refusal::UnknownRule(_)) => no_rule_outcome(alloc, rules, rule),
                 Err(Refusal::NoMatch(_)) => unreachable!(),
                 Err(Refusal::Stopped(stop)) => stopped_outcome(alloc, stop, steps),
@@ -193,16 +195,13 @@ fn json_line(
     Ok(line)
 }
 
-/// Returns the outcome of a rule that fails at a byte position between two characters, where this is known of
-/// the expected names.
-fn failed_outcome(alloc: Global, text: &str, place: usize, names: &Expected<'_>) -> Outcome
-    requires { IsCharBoundary text.now place }
-    ensures { IsFailureReport text.now place (names_of names.now) result }
+/// Returns the outcome of a rule that fails on the text of a file.
+fn failed_outcome(alloc: Global, name: &str, text: &str, failure: &Failure<'_>) -> Outcome
+    requires place { IsCharBoundary text.now failure.now.place }
+    requires furthest { IsCharBoundary text.now failure.now.furthest }
+    ensures { IsFailureReport name.now text.now failure.now result }
 {
-    let Some(position) = Position::new(text, place) else {
-        unreachable!()
-    };
-    match report_at(alloc, position, names) {
+    match report_failure(alloc, name, text, failure) {
         Ok(report) => Outcome::Failed(report),
         Err(_) => Outcome::Memory,
     }
@@ -218,20 +217,24 @@ fn no_rule_outcome(alloc: Global, rules: &[OptimizedRule], rule: &str) -> Outcom
     }
 }
 
-/// Returns the text of an error at a position where this is known of the expected names, with escapes of
-/// hidden characters. The only error is an allocation failure.
-fn report_at(alloc: Global, place: Position<'_>, names: &Expected<'_>) -> Result<String, Fault>
-    ensures { IfOk result (λ report. string_bytes report
-        ≡ failure_text (position_text place.entry) (position_offset place.entry) (names_of names.now)) }
+/// Returns the report of a failure on the text of a file. The only error is an allocation failure.
+fn report_failure(
+    alloc: Global,
+    name: &str,
+    text: &str,
+    failure: &Failure<'_>,
+) -> Result<String, Fault>
+    requires place { IsCharBoundary text.now failure.now.place }
+    requires furthest { IsCharBoundary text.now failure.now.furthest }
+    ensures { IfOk result (λ report. ReportsFailure name.now text.now failure.now.place
+        failure.now.furthest (names_of failure.now.names) (string_bytes report)) }
 {
-    let message = expected_message(alloc, names)?;
-    let error: Error<Rule> = Error::new_from_pos(
-        alloc,
-        ErrorVariant::CustomError { message },
-        place,
-    )?;
-    let report = format!(in alloc; "{error}")?;
-    Ok(escape_lines(alloc, report.as_str())?)
+    let Some(place) = Position::new(text, failure.place) else {
+        unreachable!()
+    };
+    let message = describe_failure(alloc, text, failure)?;
+    let error = Error::new_from_pos(alloc, ErrorVariant::CustomError { message }, place)?;
+    Ok(show_error(alloc, Some(name), &error)?)
 }
 
 /// Returns the outcome of a run that was stopped, of so many steps at most.

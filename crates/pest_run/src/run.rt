@@ -7,12 +7,12 @@ ghost use Rattle.pest_run.specs.Steps.{step_limit};
 ghost use Rattle.pest_run.specs.Written.{AreRun, IsReadable, NotesEnd, PrintsTrees, ReportsReason, ReportsStop, ReportsUnread, WritesLine};
 
 use crate::arguments::{Request, RuleForm, step_limit};
-use crate::ends::{RunExit, exit_after_write, exit_with, report_failure, report_refusal};
+use crate::ends::{RunExit, exit_after_write, exit_with, report_refusal};
 use crate::outcomes::{Outcome, outcome_of};
 use crate::sources::{Source, text_of, unreadable};
 use base_ast::optimized::{OptimizedRule, release};
 use base_language::runtime::Fault;
-use pest_meta::{Report, parse_and_optimize, parse_as_written, unwrap_or_report};
+use pest_meta::{parse_and_optimize, parse_as_written};
 use program_support::output::Output;
 use program_support::status::Status;
 use std::alloc::Global;
@@ -118,15 +118,16 @@ pub fn run<W: Write, E: Write>(
     ensures told { IsOk result.write_result → err.new.refused ≡ err.old.refused }
     ensures refused_line { IsErr result.write_result → err.new.refused ≡ true }
 {
-    match unwrap_or_report(alloc, read_rules(alloc, grammar, request.form)) {
+    match read_rules(alloc, grammar, request.form) {
         Ok(rules) => {
+            let (rule, format) = (request.rule, request.format);
             let steps = step_limit(request.steps, text.len());
-            let outcome = outcome_of(alloc, &rules, request.rule, text, request.format, steps);
+            let outcome = outcome_of(alloc, &rules, rule, name, text, format, steps);
             release(rules);
-            print_outcome(alloc, name, outcome, out, err)
+            print_outcome(outcome, out, err)
         }
-        Err(Report::Memory) => exit_with(err, "out of memory", Status::OutOfMemory),
-        Err(Report::Text(report)) => report_refusal(alloc, report.as_str(), err),
+        Err(Fault::Memory(_)) => exit_with(err, "out of memory", Status::OutOfMemory),
+        Err(Fault::Grammar(errors)) => report_refusal(alloc, &errors, err),
     }
 }
 
@@ -144,17 +145,14 @@ pub fn read_rules(alloc: Global, grammar: &str, form: RuleForm) -> Result<Vec<Op
     }
 }
 
-/// Prints the lines of an outcome, or reports why there are none: with the name of a text's file, if a rule
-/// fails on it.
+/// Prints the lines of an outcome, or reports why there are none.
 pub fn print_outcome<W: Write, E: Write>(
-    alloc: Global,
-    name: &str,
     outcome: Outcome,
     out: &mut Output<W>,
     err: &mut Output<E>,
 ) -> RunExit
     ensures known { IsStatus result.status }
-    ensures ends { EndsAs name.now outcome (err.new ≡ err.old) result.status result.write_result
+    ensures ends { EndsAs outcome (err.new ≡ err.old) result.status result.write_result
         (W.contents out.old.writer) (W.contents out.new.writer)
         (E.contents err.old.writer) (E.contents err.new.writer) }
     ensures unprinted { result.status ≢ 0 → result.status ≢ 4 → out.new ≡ out.old }
@@ -174,7 +172,7 @@ pub fn print_outcome<W: Write, E: Write>(
             let written = out.write_text(lines.as_str());
             exit_after_write(err, written, note)
         }
-        Outcome::Failed(report) => report_failure(alloc, name, report.as_str(), err),
+        Outcome::Failed(report) => exit_with(err, report.as_str(), Status::Found),
         Outcome::NoRule(message) => exit_with(err, message.as_str(), Status::Found),
         Outcome::OutOfSteps(message) => exit_with(err, message.as_str(), Status::Stopped),
         Outcome::EmptyStack => exit_with(

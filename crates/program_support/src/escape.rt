@@ -27,8 +27,8 @@ pub fn escape_lines(alloc: Global, text: &str) -> Result<String, AllocError>
     Ok(escaped)
 }
 
-/// Returns whether a character is shown as an escape: a control character, or one that is invisible or turns
-/// the direction of a line.
+/// Returns whether a character is shown as an escape: a control character, or one that formats a text and has
+/// no shape of its own, as those that turn the direction of a line and the invisible tags.
 pub fn is_hidden(character: char) -> bool
     ensures { result ≡ is_hidden character }
 {
@@ -37,6 +37,8 @@ pub fn is_hidden(character: char) -> bool
         '\u{ad}' | '\u{61c}' | '\u{180e}' | '\u{200b}'..='\u{200f}' => true,
         '\u{2028}'..='\u{202e}' | '\u{2060}'..='\u{206f}' => true,
         '\u{feff}' | '\u{fff9}'..='\u{fffb}' => true,
+        '\u{13430}'..='\u{1343f}' | '\u{1bca0}'..='\u{1bca3}' => true,
+        '\u{1d173}'..='\u{1d17a}' | '\u{e0001}' | '\u{e0020}'..='\u{e007f}' => true,
         _ => false,
     }
 }

@@ -280,7 +280,9 @@ fn escape_width(code: u32) -> usize {
         0..=0xf => 5,
         0x10..=0xff => 6,
         0x100..=0xfff => 7,
-        _ => 8,
+        0x1000..=0xffff => 8,
+        0x10000..=0xfffff => 9,
+        _ => 10,
     }
 }
 

@@ -1,6 +1,6 @@
 //! JSON without hidden characters.
-ghost use Rattle.std.specs.Prelude.{◌≡◌, ◌++◌, ◌<◌, IfOk, OnOk, encode_utf8_all, string_bytes};
-ghost use Rattle.program_support.specs.Escapes.{escaped_json, four_digits, hex_digit, json_character};
+ghost use Rattle.std.specs.Prelude.{◌≡◌, ◌++◌, ◌<◌, IfOk, OnOk, codes, encode_utf8_all, string_bytes};
+ghost use Rattle.program_support.specs.Escapes.{escaped_json, four_digits, hex_digit, json_character, json_escape};
 
 use crate::escape::is_hidden;
 use std::alloc::{AllocError, Global};
@@ -23,11 +23,32 @@ fn push_character(character: char, text: &mut String) -> Result<(), AllocError>
         ≡ string_bytes text.old ++ encode_utf8_all (json_character character)) }
 {
     if is_hidden(character) {
-        text.push_str("\\u")?;
-        push_digits(u32::from(character), text)
+        push_escape(u32::from(character), text)
     } else {
         text.push(character)
     }
+}
+
+/// Appends the escape of a character: of one unit of UTF-16, or of two from U+10000 on.
+fn push_escape(code: u32, text: &mut String) -> Result<(), AllocError>
+    ensures { OnOk result (string_bytes text.new
+        ≡ string_bytes text.old ++ encode_utf8_all (json_escape code)) }
+{
+    if code < 0x10000 {
+        return push_unit(code, text);
+    }
+    let above = code - 0x10000;
+    push_unit(0xd800 + above / 0x400, text)?;
+    push_unit(0xdc00 + above % 0x400, text)
+}
+
+/// Appends the escape of a unit of UTF-16.
+fn push_unit(unit: u32, text: &mut String) -> Result<(), AllocError>
+    ensures { OnOk result (string_bytes text.new
+        ≡ string_bytes text.old ++ encode_utf8_all (codes "\\u" ++ four_digits unit)) }
+{
+    text.push_str("\\u")?;
+    push_digits(unit, text)
 }
 
 /// Appends the last four hexadecimal digits of a number.

@@ -1,8 +1,9 @@
 //! Messages of the programs, and where an error of a grammar is.
 ghost use Rattle.std.specs.Prelude.{◌≡◌, ◌++◌, IfOk, codes, string_bytes};
+ghost use Rattle.std.specs.Option.{option_copied};
 ghost use Rattle.base_language.specs.Pieces.PrintedError.{error_text, message_of};
 ghost use Rattle.program_support.specs.Escapes.{escaped_bytes, escaped_lines};
-ghost use Rattle.program_support.specs.Messages.{ArePartsOf, IsPlaced, IsReport, ShowsError, ShowsNext, error_lines, placed_lines};
+ghost use Rattle.program_support.specs.Messages.{ArePartsOf, IsPlaced, IsReport, ShowsError, ShowsNext, error_lines, file_prefix, placed_lines};
 
 use crate::escape::{escape, escape_lines};
 use crate::excerpt::{margin_of, show_line, start_of};
@@ -41,24 +42,24 @@ pub fn is_not_utf8(alloc: Global, name: &str) -> Result<String, AllocError>
 pub fn place_error(alloc: Global, name: &str, error: &Error<Rule>) -> Result<String, AllocError>
     ensures { IfOk result (λ placed. IsPlaced name.now (error_text error.now) (string_bytes placed)) }
 {
-    let start = start_of(&error.line_col);
+    let prefix = format!(in alloc; "{name}:")?;
     let lines = show_line(alloc, error)?;
-    let text = lines.as_str();
-    place_lines(alloc, name, start, text)
+    let start = start_of(&error.line_col);
+    place_lines(alloc, prefix.as_str(), start, lines.as_str())
 }
 
-/// Returns a line and a column in the file of a name, and lines below.
+/// Returns a line and a column after a text, and lines below.
 fn place_lines(
     alloc: Global,
-    name: &str,
+    prefix: &str,
     start: (usize, usize),
     lines: &str,
 ) -> Result<String, AllocError>
-    ensures { IfOk result (λ placed. string_bytes placed ≡ placed_lines name.now start lines.now) }
+    ensures { IfOk result (λ placed. string_bytes placed ≡ placed_lines prefix.now start lines.now) }
 {
     let (line, column) = start;
     let margin = margin_of(alloc, line)?;
-    format!(in alloc; "{margin}--> {name}:{line}:{column}\n{lines}")
+    format!(in alloc; "{margin}--> {prefix}{line}:{column}\n{lines}")
 }
 
 /// Returns the report of a grammar's errors: `grammar error`, and each error after an empty line, without a
@@ -87,34 +88,59 @@ fn show_errors(alloc: Global, errors: &[Error<Rule>]) -> Result<String, AllocErr
 fn show_next(alloc: Global, error: &Error<Rule>) -> Result<String, AllocError>
     ensures { IfOk result (λ part. ShowsNext error.now (string_bytes part)) }
 {
-    let shown = show_error(alloc, error)?;
+    let shown = show_error(alloc, None, error)?;
     format!(in alloc; "\n\n{shown}")
 }
 
-/// Returns the place of an error, its line with a mark, and its message, without a last line feed.
-pub fn show_error(alloc: Global, error: &Error<Rule>) -> Result<String, AllocError>
-    ensures { IfOk result (λ shown. ShowsError error.now (string_bytes shown)) }
+/// Returns the place of an error, with the name of its file if there is one, its line with a mark, and its
+/// message, without a last line feed.
+pub fn show_error(
+    alloc: Global,
+    file: Option<&str>,
+    error: &Error<Rule>,
+) -> Result<String, AllocError>
+    ensures { IfOk result (λ shown. ShowsError (option_copied file.entry) error.now (string_bytes shown)) }
 {
-    let start = start_of(&error.line_col);
+    let prefix = file_prefix(alloc, file)?;
     let lines = show_line(alloc, error)?;
     let message = show_message(alloc, &error.variant)?;
-    let text = lines.as_str();
-    let said = message.as_str();
-    error_lines(alloc, start, text, said)
+    let start = start_of(&error.line_col);
+    error_lines(
+        alloc,
+        prefix.as_str(),
+        start,
+        lines.as_str(),
+        message.as_str(),
+    )
 }
 
-/// Returns a line and a column, lines below, and a message.
+/// Returns the name of a file and a colon, or nothing without a file.
+fn file_prefix(alloc: Global, file: Option<&str>) -> Result<String, AllocError>
+    ensures { IfOk result (λ prefix. string_bytes prefix ≡ file_prefix (option_copied file.entry)) }
+{
+    match file {
+        Some(name) => {
+            let name = escape(alloc, name)?;
+            format!(in alloc; "{name}:")
+        }
+        None => Ok(String::new(alloc)),
+    }
+}
+
+/// Returns a line and a column after a text, lines below, and a message.
 fn error_lines(
     alloc: Global,
+    prefix: &str,
     start: (usize, usize),
     lines: &str,
     message: &str,
 ) -> Result<String, AllocError>
-    ensures { IfOk result (λ shown. string_bytes shown ≡ error_lines start lines.now message.now) }
+    ensures { IfOk result (λ shown.
+        string_bytes shown ≡ error_lines prefix.now start lines.now message.now) }
 {
-    let (line, column) = start;
-    let margin = margin_of(alloc, line)?;
-    format!(in alloc; "{margin}--> {line}:{column}\n{lines}{margin} |\n{margin} = {message}")
+    let placed = place_lines(alloc, prefix, start, lines)?;
+    let margin = margin_of(alloc, start.0)?;
+    format!(in alloc; "{placed}{margin} |\n{margin} = {message}")
 }
 
 /// Returns the message of an error, with escapes of hidden characters.

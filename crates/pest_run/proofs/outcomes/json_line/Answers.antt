@@ -1,5 +1,5 @@
 use Rattle.std.proofs.Common.{ap, codes, ◌++◌, ◌∙◌}
-use Rattle.pest_run.specs.Json.{escaped_json}
+use Rattle.program_support.specs.Escapes.{escaped_json}
 use Rattle.pest_run.proofs.outcomes.json_line.Goals as goal
 
 pub returns : goal.returns

@@ -27,38 +27,47 @@ pub returns-in-Ok-names_after : goal.returns-in-Ok-names_after
 returns-in-Ok-names_after c =
     let m = c.in-Ok.matcher in
     let names = rw c.name_limit-most.ensures at c.in-Ok-names_after.ensures.expected in
-    let P : Grammar → Type 0 = λ g. IsOutcome g c.args.rule.now c.args.text.now c.args.format c.args.steps c.shown_outcome.result in
+    let P : Grammar → Type 0 = λ g. IsOutcome g c.args.rule.now c.args.name.now c.args.text.now c.args.format c.args.steps c.shown_outcome.result in
     subst P c.in-Ok.ensures.means
-    (shows (grammar_in m) (properties_in m) c.args.rule.now c.args.text.now c.args.format c.args.steps c.in-Ok-parse.found c.in-Ok.ensures.fits c.in-Ok-parse.ensures.matched c.in-Ok-names_after.names c.shown_outcome.result c.shown_outcome.ensures names)
+    (shows (grammar_in m) (properties_in m) c.args.rule.now c.args.name.now c.args.text.now c.args.format c.args.steps c.in-Ok-parse.found c.in-Ok.ensures.fits c.in-Ok-parse.ensures.matched c.in-Ok-names_after.names c.shown_outcome.result c.shown_outcome.ensures names)
 
 -- a failure
-pub returns-in-Ok-find_names : goal.returns-in-Ok-find_names
-returns-in-Ok-find_names c =
+pub find_failure-requires : goal.find_failure-requires
+find_failure-requires c =
     let m = c.in-Ok.matcher in
     let refused = rw c.in-Err-NoMatch.field-0-is at c.in-Err-NoMatch.ensures.refused in
-    let names = rw (c.in-Err-NoMatch.field-0-is, c.name_limit-most.ensures) at c.in-Ok-find_names.ensures.expected in
-    let told = rw c.in-Err-NoMatch.field-0-is at c.failed_outcome.ensures in
-    let P : Grammar → Type 0 = λ g. IsOutcome g c.args.rule.now c.args.text.now c.args.format c.args.steps c.failed_outcome.result in
-    subst P c.in-Ok.ensures.means
-    (failed (grammar_in m) (properties_in m) c.args.rule.now c.args.text.now c.args.format c.args.steps c.in-Err-NoMatch.place c.in-Ok-find_names.names c.failed_outcome.result c.in-Ok.ensures.fits refused names told)
+    rw c.in-Err-NoMatch.field-0-is
+    (at_character (grammar_in m) (properties_in m) _ c.args.text.now c.in-Err-NoMatch.furthest c.utf8.text c.in-Ok.ensures.fits refused)
 
-pub failed_outcome-requires : goal.failed_outcome-requires
-failed_outcome-requires c =
+pub failed_outcome-requires-clause-place : goal.failed_outcome-requires-clause-place
+failed_outcome-requires-clause-place c = c.in-Ok-find_failure.ensures.found.here
+
+pub failed_outcome-requires-clause-furthest : goal.failed_outcome-requires-clause-furthest
+failed_outcome-requires-clause-furthest c =
     let m = c.in-Ok.matcher in
     let refused = rw c.in-Err-NoMatch.field-0-is at c.in-Err-NoMatch.ensures.refused in
-    let here = at_character (grammar_in m) (properties_in m) _ c.args.text.now c.in-Err-NoMatch.place c.utf8.text c.in-Ok.ensures.fits refused in
-    rw c.in-Err-NoMatch.field-0-is here
+    let here = at_character (grammar_in m) (properties_in m) _ c.args.text.now c.in-Err-NoMatch.furthest c.utf8.text c.in-Ok.ensures.fits refused in
+    rw (c.in-Ok-find_failure.ensures.found.furthest_is, c.in-Err-NoMatch.field-0-is) here
+
+pub returns-in-Ok-find_failure : goal.returns-in-Ok-find_failure
+returns-in-Ok-find_failure c =
+    let m = c.in-Ok.matcher in
+    let refused = rw c.in-Err-NoMatch.field-0-is at c.in-Err-NoMatch.ensures.refused in
+    let found = rw (c.in-Err-NoMatch.field-0-is, c.name_limit-most.ensures) at c.in-Ok-find_failure.ensures.found in
+    let P : Grammar → Type 0 = λ g. IsOutcome g c.args.rule.now c.args.name.now c.args.text.now c.args.format c.args.steps c.failed_outcome.result in
+    subst P c.in-Ok.ensures.means
+    (failed (grammar_in m) (properties_in m) c.args.rule.now c.args.name.now c.args.text.now c.args.format c.args.steps c.in-Err-NoMatch.furthest c.in-Ok-find_failure.failure c.failed_outcome.result c.in-Ok.ensures.fits refused found c.failed_outcome.ensures)
 
 -- a run that was stopped while names were looked for
 pub returns-in-Err-NoMatch : goal.returns-in-Err-NoMatch
 returns-in-Err-NoMatch c =
     let m = c.in-Ok.matcher in
-    let why = c.in-Err-Stopped-find_names.stop in
-    let refused = c.in-Err-Stopped-find_names.ensures.refused c.args.steps in
-    let says = rw c.in-Err-Stopped-find_names.field-0-is at refused in
-    let told = c.stopped_outcome-in-Err-Stopped-find_names.ensures in
-    let Q : Grammar → Type 0 = λ g. IsOutcome g c.args.rule.now c.args.text.now c.args.format c.args.steps c.stopped_outcome-in-Err-Stopped-find_names.result in
-    subst Q c.in-Ok.ensures.means (stopped (grammar_in m) (properties_in m) c.args.rule.now c.args.text.now c.args.format c.args.steps why c.stopped_outcome-in-Err-Stopped-find_names.result c.in-Ok.ensures.fits says told)
+    let why = c.in-Err-Stopped-find_failure.stop in
+    let refused = c.in-Err-Stopped-find_failure.ensures.refused c.args.steps in
+    let says = rw c.in-Err-Stopped-find_failure.field-0-is at refused in
+    let told = c.stopped_outcome-in-Err-Stopped-find_failure.ensures in
+    let Q : Grammar → Type 0 = λ g. IsOutcome g c.args.rule.now c.args.name.now c.args.text.now c.args.format c.args.steps c.stopped_outcome-in-Err-Stopped-find_failure.result in
+    subst Q c.in-Ok.ensures.means (stopped (grammar_in m) (properties_in m) c.args.rule.now c.args.name.now c.args.text.now c.args.format c.args.steps why c.stopped_outcome-in-Err-Stopped-find_failure.result c.in-Ok.ensures.fits says told)
 
 -- the same of the match
 pub returns : goal.returns
@@ -67,28 +76,28 @@ returns c =
     let why = c.in-Err-Stopped.stop in
     let says = rw c.in-Err-Stopped.field-0-is at c.in-Err-Stopped.ensures.refused in
     let told = rw c.in-Err-Stopped.field-0-is at c.stopped_outcome-in-Err-Stopped.ensures in
-    let Q : Grammar → Type 0 = λ g. IsOutcome g c.args.rule.now c.args.text.now c.args.format c.args.steps c.stopped_outcome-in-Err-Stopped.result in
-    subst Q c.in-Ok.ensures.means (stopped (grammar_in m) (properties_in m) c.args.rule.now c.args.text.now c.args.format c.args.steps why c.stopped_outcome-in-Err-Stopped.result c.in-Ok.ensures.fits says told)
+    let Q : Grammar → Type 0 = λ g. IsOutcome g c.args.rule.now c.args.name.now c.args.text.now c.args.format c.args.steps c.stopped_outcome-in-Err-Stopped.result in
+    subst Q c.in-Ok.ensures.means (stopped (grammar_in m) (properties_in m) c.args.rule.now c.args.name.now c.args.text.now c.args.format c.args.steps why c.stopped_outcome-in-Err-Stopped.result c.in-Ok.ensures.fits says told)
 
 -- no rule of that name
 pub returns-in-Err-UnknownRule : goal.returns-in-Err-UnknownRule
 returns-in-Err-UnknownRule c =
     let told = rw c.in-Err-UnknownRule.field-0-is at c.in-Err-UnknownRule.ensures.refused in
     let R : Grammar → Type 0 = λ g. HasNoRule g c.args.rule.now in
-    unknown (optimized_rules_of c.args.rules.now) c.args.rule.now c.args.text.now c.args.format c.args.steps c.no_rule_outcome-in-Err-UnknownRule.result (subst R c.in-Ok.ensures.means told.0) c.no_rule_outcome-in-Err-UnknownRule.ensures
+    unknown (optimized_rules_of c.args.rules.now) c.args.rule.now c.args.name.now c.args.text.now c.args.format c.args.steps c.no_rule_outcome-in-Err-UnknownRule.result (subst R c.in-Ok.ensures.means told.0) c.no_rule_outcome-in-Err-UnknownRule.ensures
 
-pub returns-in-Err-UnknownRule-find_names : goal.returns-in-Err-UnknownRule-find_names
-returns-in-Err-UnknownRule-find_names c =
-    let refused = c.in-Err-UnknownRule-find_names.ensures.refused c.args.steps in
-    let told = rw c.in-Err-UnknownRule-find_names.field-0-is at refused in
+pub returns-in-Err-UnknownRule-find_failure : goal.returns-in-Err-UnknownRule-find_failure
+returns-in-Err-UnknownRule-find_failure c =
+    let refused = c.in-Err-UnknownRule-find_failure.ensures.refused c.args.steps in
+    let told = rw c.in-Err-UnknownRule-find_failure.field-0-is at refused in
     let R : Grammar → Type 0 = λ g. HasNoRule g c.args.rule.now in
-    unknown (optimized_rules_of c.args.rules.now) c.args.rule.now c.args.text.now c.args.format c.args.steps c.no_rule_outcome-in-Err-UnknownRule-find_names.result (subst R c.in-Ok.ensures.means told.0) c.no_rule_outcome-in-Err-UnknownRule-find_names.ensures
+    unknown (optimized_rules_of c.args.rules.now) c.args.rule.now c.args.name.now c.args.text.now c.args.format c.args.steps c.no_rule_outcome-in-Err-UnknownRule-find_failure.result (subst R c.in-Ok.ensures.means told.0) c.no_rule_outcome-in-Err-UnknownRule-find_failure.ensures
 
 -- rules that can't be run
 pub returns-in-Err : goal.returns-in-Err
 returns-in-Err c =
-    let P : Outcome → Type 0 = λ o. IsOutcome (optimized_rules_of c.args.rules.now) c.args.rule.now c.args.text.now c.args.format c.args.steps o in
-    subst P (sym c.unfit_outcome.ensures) (unfit (optimized_rules_of c.args.rules.now) c.args.rule.now c.args.text.now c.args.format c.args.steps c.in-Err.unfit c.in-Err.ensures.refused)
+    let P : Outcome → Type 0 = λ o. IsOutcome (optimized_rules_of c.args.rules.now) c.args.rule.now c.args.name.now c.args.text.now c.args.format c.args.steps o in
+    subst P (sym c.unfit_outcome.ensures) (unfit (optimized_rules_of c.args.rules.now) c.args.rule.now c.args.name.now c.args.text.now c.args.format c.args.steps c.in-Err.unfit c.in-Err.ensures.refused)
 
 -- names that were looked for after a match
 pub returns-in-Err-UnknownRule-names_after : goal.returns-in-Err-UnknownRule-names_after
@@ -96,7 +105,7 @@ returns-in-Err-UnknownRule-names_after c =
     let refused = c.in-Err-UnknownRule-names_after.ensures.refused c.args.steps in
     let told = rw c.in-Err-UnknownRule-names_after.field-0-is at refused in
     let R : Grammar → Type 0 = λ g. HasNoRule g c.args.rule.now in
-    unknown (optimized_rules_of c.args.rules.now) c.args.rule.now c.args.text.now c.args.format c.args.steps c.no_rule_outcome.result (subst R c.in-Ok.ensures.means told.0) c.no_rule_outcome.ensures
+    unknown (optimized_rules_of c.args.rules.now) c.args.rule.now c.args.name.now c.args.text.now c.args.format c.args.steps c.no_rule_outcome.result (subst R c.in-Ok.ensures.means told.0) c.no_rule_outcome.ensures
 
 pub returns-in-Ok-parse : goal.returns-in-Ok-parse
 returns-in-Ok-parse c =
@@ -105,8 +114,8 @@ returns-in-Ok-parse c =
     let refused = c.in-Err-Stopped-names_after.ensures.refused c.args.steps in
     let says = rw c.in-Err-Stopped-names_after.field-0-is at refused in
     let told = rw c.in-Err-Stopped-names_after.field-0-is at c.stopped_outcome.ensures in
-    let Q : Grammar → Type 0 = λ g. IsOutcome g c.args.rule.now c.args.text.now c.args.format c.args.steps c.stopped_outcome.result in
-    subst Q c.in-Ok.ensures.means (stopped (grammar_in m) (properties_in m) c.args.rule.now c.args.text.now c.args.format c.args.steps why c.stopped_outcome.result c.in-Ok.ensures.fits says told)
+    let Q : Grammar → Type 0 = λ g. IsOutcome g c.args.rule.now c.args.name.now c.args.text.now c.args.format c.args.steps c.stopped_outcome.result in
+    subst Q c.in-Ok.ensures.means (stopped (grammar_in m) (properties_in m) c.args.rule.now c.args.name.now c.args.text.now c.args.format c.args.steps why c.stopped_outcome.result c.in-Ok.ensures.fits says told)
 
 -- names are told of a rule that fails
 pub unreachable-requires : goal.unreachable-requires
@@ -114,7 +123,7 @@ unreachable-requires c =
     let refused = c.in-Err-NoMatch-names_after.ensures.refused c.args.steps in
     rw c.in-Err-NoMatch-names_after.field-0-is at refused
 
-pub unreachable-requires-in-Err-NoMatch-find_names : goal.unreachable-requires-in-Err-NoMatch-find_names
-unreachable-requires-in-Err-NoMatch-find_names c =
-    let refused = c.in-Err-NoMatch-find_names.ensures.refused c.args.steps in
-    rw c.in-Err-NoMatch-find_names.field-0-is at refused
+pub unreachable-requires-in-Err-NoMatch-find_failure : goal.unreachable-requires-in-Err-NoMatch-find_failure
+unreachable-requires-in-Err-NoMatch-find_failure c =
+    let refused = c.in-Err-NoMatch-find_failure.ensures.refused c.args.steps in
+    rw c.in-Err-NoMatch-find_failure.field-0-is at refused

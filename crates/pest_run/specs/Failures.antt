@@ -1,0 +1,71 @@
+-- The position of a failure that a report shows, and the names that are expected there.
+use Rattle.std.specs.Prelude.{◌≡◌, ◌≢◌, ◌⊎◌, ◌<◌, ◌≤◌, ℕ, List, []}
+use Rattle.std.specs.Str.{IsCharBoundary}
+use Rattle.base_language.specs.Language.Expected.{expected_at}
+use Rattle.base_language.specs.Language.Expression.{Grammar}
+use Rattle.base_language.specs.Language.FurthestFailure.{furthest}
+use Rattle.base_language.specs.Language.Meaning.{Does, Task}
+use Rattle.base_language.specs.Language.State.{Classes, Outcome as Result, State}
+use Rattle.base_language.specs.Language.Text.{Text}
+use Rattle.matcher_program.specs.Answers.{AreExpectedAt}
+use Rattle.matcher_program.specs.ExpectedNames.{each_once, name_texts}
+use Rattle.matcher_program.specs.declared.form.Property.{Property}
+use Rattle.pest_run.specs.Messages.{Names, known}
+use Rattle.pest_run.specs.Names.{AreLookedFor, AreNamesOf, names_of}
+use Rattle.pest_run.specs.declared.expected.Expected.{Expected}
+use Rattle.pest_run.specs.declared.expected.Expected.TheVariants as expected_is
+use Rattle.pest_run.specs.declared.failures.Earlier.{Earlier}
+use Rattle.pest_run.specs.declared.failures.Failure.{Failure}
+
+-- of a derivation: names that are expected at a position before the furthest failure, and after the start;
+-- it is the last position with names that is between two characters
+pub record AreLast {g : Grammar} {classes : Classes} {k : Task} {s : State} {o : Result}
+    (d : Does g classes k s o) (text : List ℕ) (place : ℕ) (names : List Text) : Type 0 where
+  pub after_start : 0 < place
+  pub earlier : place < furthest d
+  pub are : names ≡ each_once (expected_at place d)
+  pub some : names ≢ []
+  pub last : (q : ℕ) → place < q → q ≤ furthest d → IsCharBoundary text q → expected_at q d ≡ []
+
+-- names that are told of a failure: those at the furthest position, or those at such an earlier one
+abbrev pub AreTold : {g : Grammar} {classes : Classes} {k : Task} {s : State} {o : Result}
+    → Does g classes k s o → List ℕ → (limit place : ℕ) → Names → Type 0
+AreTold d text limit place names = ((place ≡ furthest d) × AreNamesOf d limit names)
+    ⊎ ((ns : List Text) × (names ≡ known ns) × AreLast d text place ns)
+
+-- it is known that no name is expected
+abbrev pub HasNoNames : Expected → Type 0
+HasNoNames (expected_is.Names names) = names.items ≡ []
+HasNoNames (expected_is.Unfound steps) = ⊥
+
+-- no name is expected at a position where the rule is run on a text
+abbrev pub ExpectsNone : Grammar → List Property → Text → List ℕ → ℕ → Type 0
+ExpectsNone g ps n text place = AreExpectedAt g ps n text place []
+
+-- names are expected at an earlier position than the furthest one, and none at the positions after it that
+-- are between two characters
+pub record IsEarlier (g : Grammar) (ps : List Property) (n : Text) (text : List ℕ) (furthest : ℕ)
+    (it : Earlier) : Type 0 where
+  pub after_start : 0 < it.place
+  pub earlier : it.place < furthest
+  pub here : IsCharBoundary text it.place
+  pub are : AreExpectedAt g ps n text it.place it.names.items
+  pub some : it.names.items ≢ []
+  pub last : (q : ℕ) → it.place < q → q < furthest → IsCharBoundary text q → ExpectsNone g ps n text q
+
+-- such a position, its names, and that none is expected at the furthest one
+pub record IsFoundEarlier (g : Grammar) (ps : List Property) (n : Text) (text : List ℕ) (it : Failure)
+    : Type 0 where
+  pub earlier : Earlier
+  pub is_earlier : IsEarlier g ps n text it.furthest earlier
+  pub place : it.place ≡ earlier.place
+  pub names : names_of it.names ≡ known (name_texts earlier.names.items)
+  pub none : ExpectsNone g ps n text it.furthest
+
+-- what was looked for of a failure at this furthest position, in so many steps at most
+pub record IsFound (g : Grammar) (ps : List Property) (n : Text) (text : List ℕ) (furthest limit : ℕ)
+    (it : Failure) : Type 0 where
+  pub furthest_is : it.furthest ≡ furthest
+  pub here : IsCharBoundary text it.place
+  pub told : ((it.place ≡ furthest) × AreLookedFor g ps n text furthest limit it.names)
+      ⊎ IsFoundEarlier g ps n text it
