@@ -11,6 +11,7 @@ use Rattle.server_protocol.specs.Changes.{AreChangesIn, version_in}
 use Rattle.server_protocol.specs.Documents.{KeepsDocuments, document_in}
 use Rattle.server_protocol.specs.declared.documents.Document.{Document}
 use Rattle.server_protocol.specs.declared.documents.Documents.{Documents}
+use Rattle.server_features.specs.Diagnoses.{accepted_in}
 use Rattle.server_features.specs.Diagnostics.{Publishes}
 use Rattle.pest_language_server.specs.Notices.{Announces, AnnouncesAt, AnnouncesChange, AnnouncesOpening, changed_at, changed_by, uri_in}
 use Rattle.pest_language_server.specs.Serving.{TakesNotification}
@@ -28,13 +29,13 @@ pub changed_as : (e : Encoding) (t u : List ℕ) (xs ys : List Change) (s : List
 changed_as e t u xs ys s p q h = subst (λ (z : List ℕ). AreChanged e z ys s) p (subst (λ (zs : List Change). AreChanged e t zs s) q h)
 
 -- a document that is put there with the text of the parameters is opened
-pub opening_of : (uri : List ℕ) (old new : Server) (params : Data) (document : Document) (r : Result (Option (String Global)) AllocError) → text_in (codes "/textDocument/text") params ≡ Some (string_bytes document.text) → document.version ≡ version_in params → OnOk r (document_in new.documents uri ≡ Some document) → IfOk r (λ sent. IfSome sent (λ body. Publishes old.client uri document (string_bytes body))) → IfOk r (λ sent. IfSome sent (λ body. AnnouncesOpening uri old new params (string_bytes body)))
+pub opening_of : (uri : List ℕ) (old new : Server) (params : Data) (document : Document) (r : Result (Option (String Global)) AllocError) → text_in (codes "/textDocument/text") params ≡ Some (string_bytes document.text) → document.version ≡ version_in params → OnOk r (document_in new.documents uri ≡ Some document) → IfOk r (λ sent. IfSome sent (λ body. Publishes old.client (accepted_in old.diagnoses uri) uri document (string_bytes body))) → IfOk r (λ sent. IfSome sent (λ body. AnnouncesOpening uri old new params (string_bytes body)))
 opening_of uri old new params document (Ok (Some body)) t v q h = record { document = document; is_open = q; text = t; version = v; published = h }
 opening_of uri old new params document (Ok None) t v q h = tt
 opening_of uri old new params document (Err e) t v q h = tt
 
 -- one with the changed text is changed
-pub change_of : (uri : List ℕ) (old new : Server) (params : Data) (before after : Document) (changes : List Change) (r : Result (Option (String Global)) AllocError) → document_in old.documents uri ≡ Some before → AreChangesIn params changes → AreChanged old.client.encoding (string_bytes before.text) changes (string_bytes after.text) → after.version ≡ version_in params → OnOk r (document_in new.documents uri ≡ Some after) → IfOk r (λ sent. IfSome sent (λ body. Publishes old.client uri after (string_bytes body))) → IfOk r (λ sent. IfSome sent (λ body. AnnouncesChange uri old new params (string_bytes body)))
+pub change_of : (uri : List ℕ) (old new : Server) (params : Data) (before after : Document) (changes : List Change) (r : Result (Option (String Global)) AllocError) → document_in old.documents uri ≡ Some before → AreChangesIn params changes → AreChanged old.client.encoding (string_bytes before.text) changes (string_bytes after.text) → after.version ≡ version_in params → OnOk r (document_in new.documents uri ≡ Some after) → IfOk r (λ sent. IfSome sent (λ body. Publishes old.client (accepted_in old.diagnoses uri) uri after (string_bytes body))) → IfOk r (λ sent. IfSome sent (λ body. AnnouncesChange uri old new params (string_bytes body)))
 change_of uri old new params before after changes (Ok (Some body)) b a c v q h = record { before = before; after = after; was_open = b; is_open = q; changes = changes; asked = a; changed = c; version = v; published = h }
 change_of uri old new params before after changes (Ok None) b a c v q h = tt
 change_of uri old new params before after changes (Err e) b a c v q h = tt

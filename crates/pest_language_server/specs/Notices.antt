@@ -6,6 +6,7 @@ use Rattle.server_protocol.specs.Asked.{text_in}
 use Rattle.server_protocol.specs.Changes.{AreChangesIn, version_in}
 use Rattle.server_protocol.specs.Documents.{document_in}
 use Rattle.server_protocol.specs.declared.documents.Document.{Document}
+use Rattle.server_features.specs.Diagnoses.{accepted_in}
 use Rattle.server_features.specs.Diagnostics.{IsPublication, Publishes}
 use Rattle.pest_language_server.specs.declared.server.Notice.{Notice}
 use Rattle.pest_language_server.specs.declared.server.Notice.TheVariants.{Open, Change as Changing, Save, Close}
@@ -46,7 +47,7 @@ changed_by (Some notice) params = option_and_then (changed_at notice) (uri_in pa
 pub record PublishesAt (server : Server) (uri body : List ℕ) : Type 0 where
   pub document : Document
   pub is_open : document_in server.documents uri ≡ Some document
-  pub published : Publishes server.client uri document body
+  pub published : Publishes server.client (accepted_in server.diagnoses uri) uri document body
 
 -- a document is opened with the text in parameters, and its diagnostics are published
 pub record AnnouncesOpening (uri : List ℕ) (old new : Server) (params : Data) (body : List ℕ) : Type 0 where
@@ -54,7 +55,7 @@ pub record AnnouncesOpening (uri : List ℕ) (old new : Server) (params : Data) 
   pub is_open : document_in new.documents uri ≡ Some document
   pub text : text_in (codes "/textDocument/text") params ≡ Some (string_bytes document.text)
   pub version : document.version ≡ version_in params
-  pub published : Publishes old.client uri document body
+  pub published : Publishes old.client (accepted_in old.diagnoses uri) uri document body
 
 -- an open document's text is what the changes in parameters make of the former, and its diagnostics are
 -- published
@@ -67,7 +68,7 @@ pub record AnnouncesChange (uri : List ℕ) (old new : Server) (params : Data) (
   pub asked : AreChangesIn params changes
   pub changed : AreChanged old.client.encoding (string_bytes before.text) changes (string_bytes after.text)
   pub version : after.version ≡ version_in params
-  pub published : Publishes old.client uri after body
+  pub published : Publishes old.client (accepted_in old.diagnoses uri) uri after body
 
 -- a document is closed, and has no diagnostics any more
 pub record AnnouncesClosing (uri : List ℕ) (new : Server) (body : List ℕ) : Type 0 where

@@ -2,6 +2,7 @@
 ghost use Rattle.std.specs.Prelude.{◌≡◌, IfOk, IfSome, OnOk, Some, bytes_eq, codes, string_bytes};
 ghost use Rattle.server_protocol.specs.Documents.{KeepsDocuments, document_in};
 ghost use Rattle.server_protocol.specs.Messages as messages;
+ghost use Rattle.server_features.specs.Diagnoses.{accepted_in};
 ghost use Rattle.server_features.specs.Diagnostics.{Publishes};
 ghost use Rattle.pest_language_server.specs.Capabilities.{DescribesServer};
 ghost use Rattle.pest_language_server.specs.Notices as spec;
@@ -296,7 +297,8 @@ impl Server {
         ensures documents { KeepsDocuments (Some uri.now) self.old.documents self.new.documents }
         ensures stored { OnOk result (document_in self.new.documents uri.now ≡ Some document) }
         ensures sent { IfOk result (λ sent. IfSome sent (λ body.
-            Publishes self.old.client uri.now document (string_bytes body))) }
+            Publishes self.old.client (accepted_in self.old.diagnoses uri.now) uri.now document
+            (string_bytes body))) }
     {
         self.documents.put(alloc, uri, document)?;
         self.publish(alloc, uri)

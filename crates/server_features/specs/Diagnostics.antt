@@ -1,6 +1,8 @@
 -- Diagnostics as JSON.
-use Rattle.std.specs.Prelude.{ℕ, ℤ, List, [], ◌++◌, Bool, true, false, Option, Some, None, codes, map, string_bytes}
+use Rattle.std.specs.List.{list_any}
+use Rattle.std.specs.Prelude.{◌≡◌, ◌⊎◌, ℕ, ℤ, List, [], ◌++◌, All, Bool, true, false, Option, Some, None, codes, map, string_bytes}
 use Rattle.lint_findings.specs.Codes.{code_name}
+use Rattle.lint_findings.specs.Reports.{is_error}
 use Rattle.lint_findings.specs.declared.codes.Code.{Code}
 use Rattle.lint_findings.specs.declared.codes.Code.TheVariants as code
 use Rattle.lint_findings.specs.declared.codes.Severity.{Severity}
@@ -9,6 +11,8 @@ use Rattle.lint_findings.specs.declared.diagnostic.Diagnostic.{Diagnostic}
 use Rattle.lint_diagnostics.specs.Diagnosis.{IsDiagnosis}
 use Rattle.lint_hints.specs.declared.help.Help.{Help}
 use Rattle.lint_hints.specs.declared.help.Related.{Related}
+use Rattle.server_features.specs.Earlier.{StaysAmong}
+use Rattle.server_features.specs.declared.diagnoses.Diagnosis.{Diagnosis}
 use Rattle.server_protocol.specs.declared.positions.Encoding.{Encoding}
 use Rattle.server_protocol.specs.Messages.{IsMessage, notification_data}
 use Rattle.server_protocol.specs.Values.{location_data, range_data}
@@ -87,11 +91,25 @@ abbrev pub IsPublication : List ℕ → Option ℤ → Data → List ℕ → Typ
 IsPublication uri version diagnostics body = IsMessage (notification_data
     (codes "textDocument/publishDiagnostics") (publication_data uri version diagnostics)) body
 
--- a message publishes the diagnostics of a document's text, each once and in their order, with related
--- information where the client has that
-pub record Publishes (client : Client) (uri : List ℕ) (document : Document) (body : List ℕ) : Type 0 where
+-- warnings of an earlier text stay in a text that is refused with these diagnostics
+pub record AreStaying (earlier : Diagnosis) (text : List ℕ) (diagnostics others : List Diagnostic) : Type 0 where
+  pub refused : list_any is_error diagnostics ≡ true
+  pub stay : All (StaysAmong (string_bytes earlier.text) text earlier.diagnostics.items) others
+
+-- the diagnostics that are published beside those of a text: such warnings, or none
+abbrev pub AreOthers : Option Diagnosis → List ℕ → List Diagnostic → List Diagnostic → Type 0
+AreOthers None text diagnostics others = others ≡ []
+AreOthers (Some earlier) text diagnostics others =
+    (others ≡ []) ⊎ AreStaying earlier text diagnostics others
+
+-- a message publishes the diagnostics of a document's text, each once and in their order, and with errors
+-- warnings of an earlier text that stay; with related information where the client has that
+pub record Publishes (client : Client) (earlier : Option Diagnosis) (uri : List ℕ) (document : Document)
+    (body : List ℕ) : Type 0 where
   pub diagnostics : List Diagnostic
+  pub others : List Diagnostic
   pub of_text : ∥ IsDiagnosis [] (string_bytes document.text) diagnostics ∥₁
+  pub are_others : AreOthers earlier (string_bytes document.text) diagnostics others
   pub message : IsPublication uri document.version (array (items_of
       (map (diagnostic_data client.has_related client.encoding (string_bytes document.text) uri)
-      diagnostics))) body
+      (diagnostics ++ others)))) body

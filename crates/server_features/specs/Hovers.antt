@@ -19,26 +19,26 @@ use Rattle.serde_json.specs.Data.{Data, member, no_members, null, object, string
 use Rattle.serde_json.specs.View.{view}
 
 -- a piece of a grammar, marked as code where the text is Markdown
-abbrev pub marked : Bool → List ℕ → List ℕ
-marked true code = codes "`" ++ code ++ codes "`"
-marked false code = code
+abbrev pub code_text : Bool → List ℕ → List ℕ
+code_text true code = codes "`" ++ code ++ codes "`"
+code_text false code = code
 
 -- a text without the marks of code
-abbrev pub unmarked : List ℕ → List ℕ
-unmarked text = encode_utf8_all (filter (λ c. not (c == 96)) (chars text))
+abbrev pub plain_text : List ℕ → List ℕ
+plain_text text = encode_utf8_all (filter (λ c. not (c == 96)) (chars text))
 
 abbrev pub marked_doc : Bool → List ℕ → List ℕ
 marked_doc true doc = doc
-marked_doc false doc = unmarked doc
+marked_doc false doc = plain_text doc
 
 -- the meaning of a builtin, in a sentence
 abbrev pub meaning_of : Bool → List ℕ → List ℕ → List ℕ
 meaning_of has_markdown name doc =
-    marked has_markdown name ++ codes " matches " ++ marked_doc has_markdown doc ++ codes "."
+    code_text has_markdown name ++ codes " matches " ++ marked_doc has_markdown doc ++ codes "."
 
 abbrev pub property_text : Bool → List ℕ → List ℕ
 property_text has_markdown name = if is_builtin name
-    then marked has_markdown name ++ codes " matches a character with this Unicode property." else []
+    then code_text has_markdown name ++ codes " matches a character with this Unicode property." else []
 
 -- a text says what the builtin of a name matches; nothing of a name that is no builtin
 abbrev pub IsBuiltinText : Bool → List ℕ → List ℕ → Type 0

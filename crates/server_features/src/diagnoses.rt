@@ -1,8 +1,9 @@
 //! Diagnoses of texts, kept for the documents that have these texts.
 ghost use Rattle.std.specs.List.{list_any};
-ghost use Rattle.std.specs.Prelude.{◌≡◌, ℕ, List, [], IfOk, IfSome, None, OnErr, OnOk, Some, option_copied, string_bytes};
+ghost use Rattle.std.specs.Prelude.{◌≡◌, ℕ, List, [], IfOk, IfSome, None, OnErr, OnOk, option_and_then, Some, option_copied, string_bytes};
 ghost use Rattle.lint_diagnostics.specs.Diagnosis.{IsDiagnosis};
 ghost use Rattle.lint_findings.specs.Reports as reports;
+ghost use Rattle.server_features.specs.Diagnoses.{if_of};
 
 use lint_diagnostics::{Diagnostic, Options, Severity, diagnose};
 use std::alloc::{AllocError, Global};
@@ -46,49 +47,81 @@ pub(crate) fn is_error(diagnostic: &Diagnostic) -> bool
 /// The last diagnoses of documents, by their URIs.
 #[derive(Drop)]
 pub struct Diagnoses {
-    diagnoses: BTreeMap<String, Diagnosis>,
+    /// Those of the last accepted texts.
+    accepted: BTreeMap<String, Diagnosis>,
+    /// Those of the last texts that are refused, of documents without an accepted text since.
+    refused: BTreeMap<String, Diagnosis>,
 }
 
 impl Diagnoses {
-    ghost use Rattle.server_features.specs.Diagnoses.{IsUnchanged, diagnosis_in, diagnosis_of};
+    ghost use Rattle.server_features.specs.Diagnoses.{IsUnchanged, accepted_in, diagnosis_of, last_accepted};
 
     /// Returns no diagnoses.
     pub fn new(alloc: Global) -> Diagnoses
-        ensures { (uri : List ℕ) → diagnosis_in result uri ≡ None }
+        ensures { (uri text : List ℕ) → diagnosis_of result uri text ≡ None }
     {
         Diagnoses {
-            diagnoses: BTreeMap::new(alloc),
+            accepted: BTreeMap::new(alloc),
+            refused: BTreeMap::new(alloc),
         }
     }
 
-    /// Returns the diagnosis of a document, if that has this text still.
+    /// Returns the diagnosis of a document that has this text, if it is kept.
     pub fn get(&self, uri: &str, text: &str) -> Option<&Diagnosis>
         ensures found { option_copied result ≡ diagnosis_of self.now uri.now text.now }
         ensures text { IfSome result (λ diagnosis. string_bytes diagnosis.now.text ≡ text.now) }
     {
-        let diagnosis = self.diagnoses.get(uri)?;
-        if diagnosis.text.as_str() == text {
-            Some(diagnosis)
-        } else {
-            None
+        match if_of(self.refused.get(uri), text) {
+            Some(diagnosis) => Some(diagnosis),
+            None => if_of(self.accepted.get(uri), text),
         }
     }
 
-    /// Keeps the diagnosis of a document in place of an earlier one. After a refusal the diagnoses are as
-    /// before.
+    /// Returns the diagnosis of the last accepted text of a document, if there was one.
+    pub fn get_accepted(&self, uri: &str) -> Option<&Diagnosis>
+        ensures { option_copied result ≡ accepted_in self.now uri.now }
+    {
+        self.accepted.get(uri)
+    }
+
+    /// Keeps the diagnosis of a document in place of an earlier one, and beside a text that is refused that
+    /// of the last accepted text. After a refusal the diagnoses are as before.
     pub fn put(&mut self, alloc: Global, uri: &str, diagnosis: Diagnosis) -> Result<(), AllocError>
-        ensures stored { OnOk result (diagnosis_in self.new uri.now ≡ Some diagnosis) }
+        ensures stored { OnOk result
+            (diagnosis_of self.new uri.now (string_bytes diagnosis.text) ≡ Some diagnosis) }
+        ensures accepted { OnOk result
+            (accepted_in self.new uri.now ≡ last_accepted diagnosis (accepted_in self.old uri.now)) }
         ensures refused { OnErr result (IsUnchanged self.old self.new) }
     {
-        let uri = String::from_str(alloc, uri)?;
-        let _ = self.diagnoses.insert(uri, diagnosis)?;
+        let key = String::from_str(alloc, uri)?;
+        if diagnosis.is_refused() {
+            let _ = self.refused.insert(key, diagnosis)?;
+        } else {
+            let _ = self.accepted.insert(key, diagnosis)?;
+            let _ = self.refused.remove(uri);
+        }
         Ok(())
     }
 
-    /// Forgets the diagnosis of a document.
+    /// Forgets the diagnoses of a document.
     pub fn remove(&mut self, uri: &str)
-        ensures { diagnosis_in self.new uri.now ≡ None }
+        ensures { (text : List ℕ) → diagnosis_of self.new uri.now text ≡ None }
     {
-        let _ = self.diagnoses.remove(uri);
+        let _ = self.accepted.remove(uri);
+        let _ = self.refused.remove(uri);
+    }
+}
+
+/// Returns a diagnosis, if it is of this text.
+fn if_of<'d>(diagnosis: Option<&'d Diagnosis>, text: &str) -> Option<&'d Diagnosis>
+    ensures found { option_copied result
+        ≡ option_and_then (if_of text.now) (option_copied diagnosis.entry) }
+    ensures text { IfSome result (λ diagnosis. string_bytes diagnosis.now.text ≡ text.now) }
+{
+    let diagnosis = diagnosis?;
+    if diagnosis.text.as_str() == text {
+        Some(diagnosis)
+    } else {
+        None
     }
 }

@@ -1,12 +1,14 @@
 //! Diagnostics of a document.
-ghost use Rattle.std.specs.Prelude.{◌≡◌, ◌++◌, ◌∷◌, [], IfOk, None, OnOk, codes, map, string_bytes, true};
+ghost use Rattle.std.specs.Prelude.{◌≡◌, ◌++◌, ◌∷◌, [], IfOk, None, OnOk, codes, map, option_copied, string_bytes, true};
 ghost use Rattle.server_protocol.specs.Shown.{index_encoding, index_text};
+ghost use Rattle.server_features.specs.Diagnoses.{accepted_in};
 ghost use Rattle.server_features.specs.Diagnostics as spec;
-ghost use Rattle.server_features.specs.Diagnostics.{IsPublication, Publishes};
+ghost use Rattle.server_features.specs.Diagnostics.{AreOthers, IsPublication, Publishes};
 ghost use Rattle.serde_json.specs.Data.{array, no_items};
 ghost use Rattle.serde_json.specs.View.{items_of, view};
 
 use crate::diagnoses::{Diagnoses, Diagnosis};
+use crate::earlier::staying_warnings;
 use lint_diagnostics::{Code, Diagnostic, Help, Related, Severity};
 use serde_json::{Value, json};
 use server_protocol::PositionIndex;
@@ -17,8 +19,9 @@ use server_protocol::values::{location_value, range_value};
 use server_symbols::Extent;
 use std::alloc::{AllocError, Global};
 
-/// Returns the notification of a document's diagnostics, those of its text. A text whose diagnosis is kept is
-/// not diagnosed again, and a new diagnosis is kept if there is memory for that.
+/// Returns the notification of a document's diagnostics: those of its text, and with errors those warnings
+/// of the last accepted text that stay. A text whose diagnosis is kept is not diagnosed again, and a new
+/// diagnosis is kept if there is memory for that.
 pub fn publish(
     alloc: Global,
     client: Client,
@@ -26,32 +29,58 @@ pub fn publish(
     document: &Document,
     diagnoses: &mut Diagnoses,
 ) -> Result<String, AllocError>
-    ensures { IfOk result (λ body. Publishes client uri.now document.now (string_bytes body)) }
+    ensures { IfOk result (λ body. Publishes client (accepted_in diagnoses.old uri.now) uri.now document.now
+        (string_bytes body)) }
 {
+    let earlier = diagnoses.get_accepted(uri);
     if let Some(diagnosis) = diagnoses.get(uri, document.text.as_str()) {
-        return publish_diagnosis(alloc, client, uri, document, diagnosis);
+        return publish_diagnosis(alloc, client, uri, document, diagnosis, earlier);
     }
     let diagnosis = Diagnosis::new(alloc, document.text.as_str())?;
-    let body = publish_diagnosis(alloc, client, uri, document, &diagnosis)?;
+    let body = publish_diagnosis(alloc, client, uri, document, &diagnosis, earlier)?;
     let _ = diagnoses.put(alloc, uri, diagnosis);
     Ok(body)
 }
 
-/// Returns the notification of the diagnostics of a document's text.
+/// Returns the notification of the diagnostics of a document's text, and where that is refused, of the
+/// warnings of an earlier text that stay in it.
 fn publish_diagnosis(
     alloc: Global,
     client: Client,
     uri: &str,
     document: &Document,
     diagnosis: &Diagnosis,
+    earlier: Option<&Diagnosis>,
 ) -> Result<String, AllocError>
     requires { string_bytes diagnosis.now.text ≡ string_bytes document.now.text }
-    ensures { IfOk result (λ body. Publishes client uri.now document.now (string_bytes body)) }
+    ensures { IfOk result (λ body. Publishes client (option_copied earlier.entry) uri.now document.now
+        (string_bytes body)) }
 {
+    let others = other_warnings(alloc, diagnosis, earlier)?;
     let index = PositionIndex::new(alloc, document.text.as_str(), client.encoding)?;
     let has_related = client.has_related;
-    let values = diagnostic_values(alloc, &index, uri, has_related, &diagnosis.diagnostics)?;
-    publication(alloc, uri, document.version, values)
+    let mut values = Vec::new(alloc);
+    let own = diagnosis.diagnostics.as_slice();
+    push_diagnostics(alloc, &index, uri, has_related, own, &mut values)?;
+    push_diagnostics(alloc, &index, uri, has_related, &others, &mut values)?;
+    publication(alloc, uri, document.version, Value::Array(values))
+}
+
+/// Returns the warnings of an earlier text that stay in one that is refused; none in one that is accepted.
+fn other_warnings(
+    alloc: Global,
+    diagnosis: &Diagnosis,
+    earlier: Option<&Diagnosis>,
+) -> Result<Vec<Diagnostic>, AllocError>
+    ensures { IfOk result (λ others. AreOthers (option_copied earlier.entry)
+        (string_bytes diagnosis.now.text) diagnosis.now.diagnostics.items others.items) }
+{
+    match earlier {
+        Some(earlier) if diagnosis.is_refused() => {
+            staying_warnings(alloc, earlier, diagnosis.text.as_str())
+        }
+        _ => Ok(Vec::new(alloc)),
+    }
 }
 
 /// Returns the notification that a document has no diagnostics.
@@ -95,24 +124,25 @@ fn publication_params(
     }
 }
 
-/// Returns diagnostics as a value.
-fn diagnostic_values(
+/// Adds diagnostics.
+fn push_diagnostics(
     alloc: Global,
     index: &PositionIndex<'_>,
     uri: &str,
     has_related: bool,
     diagnostics: &[Diagnostic],
-) -> Result<Value, AllocError>
-    ensures { IfOk result (λ v. view v ≡ array (items_of (map (spec.diagnostic_data has_related
-        (index_encoding index.now) (index_text index.now) uri.now) diagnostics.now))) }
+    values: &mut Vec<Value>,
+) -> Result<(), AllocError>
+    ensures { OnOk result (map view values.new.items ≡ map view values.old.items
+        ++ map (spec.diagnostic_data has_related (index_encoding index.now) (index_text index.now) uri.now)
+        diagnostics.now) }
 {
-    let mut values = Vec::new(alloc);
     let mut rest = diagnostics;
     while let Some((diagnostic, after)) = rest.split_first() {
-        push_diagnostic(alloc, index, uri, has_related, diagnostic, &mut values)?;
+        push_diagnostic(alloc, index, uri, has_related, diagnostic, values)?;
         rest = after;
     }
-    Ok(Value::Array(values))
+    Ok(())
 }
 
 /// Adds a diagnostic.

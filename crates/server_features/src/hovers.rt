@@ -151,13 +151,13 @@ fn marked_doc(alloc: Global, has_markdown: bool, doc: &str) -> Result<String, Al
     if has_markdown {
         String::from_str(alloc, doc)
     } else {
-        unmarked(alloc, doc)
+        strip_marks(alloc, doc)
     }
 }
 
 /// Returns a text without the marks of code in it.
-fn unmarked(alloc: Global, text: &str) -> Result<String, AllocError>
-    ensures { IfOk result (λ plain. string_bytes plain ≡ spec.unmarked text.now) }
+fn strip_marks(alloc: Global, text: &str) -> Result<String, AllocError>
+    ensures { IfOk result (λ plain. string_bytes plain ≡ spec.plain_text text.now) }
 {
     text.chars()
         .filter(|character| *character != '`')
@@ -167,7 +167,7 @@ fn unmarked(alloc: Global, text: &str) -> Result<String, AllocError>
 /// Adds a piece of a grammar, marked as code or not.
 fn push_code(has_markdown: bool, code: &str, text: &mut String) -> Result<(), AllocError>
     ensures { OnOk result
-        (string_bytes text.new ≡ string_bytes text.old ++ spec.marked has_markdown code.now) }
+        (string_bytes text.new ≡ string_bytes text.old ++ spec.code_text has_markdown code.now) }
 {
     if !has_markdown {
         return text.push_str(code);

@@ -4,6 +4,7 @@
 pub mod actions;
 pub mod diagnoses;
 pub mod diagnostics;
+mod earlier;
 mod facts;
 pub mod formatting;
 pub mod hovers;
