@@ -18,3 +18,13 @@ pub mod OneReportList
 pub mod OneRefusal
 pub mod InText
 pub mod OneAnswer
+pub mod Bare
+pub mod FromAbove
+pub mod FromBelow
+pub mod LeastNames
+pub mod StringsDecided
+pub mod ChangesDecided
+pub mod RestoresAll
+pub mod EachNode
+pub mod Optimizes
+pub mod Accepted

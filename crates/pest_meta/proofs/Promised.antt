@@ -2,8 +2,6 @@
 use Rattle.std.proofs.Common.{◌≡◌, ℕ, List, [], subst, sym}
 use Rattle.std.specs.Borrow.{Bor}
 use Rattle.std.specs.Str.{IsUtf8}
-use Rattle.base_ast.specs.Optimized.{optimized_rules_of}
-use Rattle.base_ast.specs.declared.optimized.OptimizedRule.{OptimizedRule}
 use Rattle.base_language.specs.Language.Expression.{Expression, Grammar}
 use Rattle.base_language.specs.Language.Grammar.{FitsItsTypes, IsGrammar}
 use Rattle.base_language.specs.Language.CharacterBounds.{HasCharacterBounds}
@@ -32,7 +30,7 @@ use Rattle.pest_meta.proofs.Spelled.{spells_once}
 use Rattle.pest_meta.proofs.WellNamed.{defined_texts, distinct_read, keeps_any, names_are_texts, no_keyword_read}
 use Rattle.pest_meta.proofs.WholeCharacters.{trees_on_characters}
 use Rattle.pest_meta.specs.Promises.{AreBuiltinsOf, EndsFromEverywhere, HasOutcomesOf, IsWellFormedGrammar, OfSpelled}
-use Rattle.pest_meta.specs.Spelling.{AreReadAsRules, HasTrees, IsAnswer, SpellsGrammar, complaints_in}
+use Rattle.pest_meta.specs.Spelling.{AreReadAsRules, HasTrees, IsAnsweredBy, SpellsGrammar, complaints_in}
 
 module _ (text : List ℕ) (utf8 : IsUtf8 text) (us : Trees) (sound : AreSound text us) (h : complaints_in text us ≡ []) (rs : List SpannedRule) (d : ReadsRules text us rs) where
   fits : (p : Expression) → InSomeRule (rules_without_spans rs) p → FitsItsTypes p
@@ -59,7 +57,7 @@ read_builtins text utf8 trees rules builtins h none uses give =
       complete = each_is_called give.reads builtins uses;
     })
 
-module _ (text : List ℕ) (utf8 : IsUtf8 text) (builtins : List (Bor (List ℕ))) (answer : List OptimizedRule) (a : IsAnswer text builtins answer) where
+module _ (text : List ℕ) (utf8 : IsUtf8 text) (builtins : List (Bor (List ℕ))) (answer : Grammar) (a : IsAnsweredBy text builtins answer) where
   -- a grammar that the text spells is the one that was accepted
   the_same : (g : Grammar) → SpellsGrammar text g → a.spelled ≡ g
   the_same g s = spells_once text a.spelled g (record { trees = a.trees; of_text = a.of_text; give = a.accepted.give }) s
@@ -81,21 +79,21 @@ module _ (text : List ℕ) (utf8 : IsUtf8 text) (builtins : List (Bor (List ℕ)
   spells_grammar g s = subst IsWellFormedGrammar (the_same g s) (accepted_is_grammar, a.accepted.well_formed)
 
   -- the rules that are answered call rules and builtins alone
-  pub answers_known : HasKnownNames (optimized_rules_of answer)
+  pub answers_known : HasKnownNames answer
   answers_known =
       let o = a.optimized in
-      answer_known a.spelled o.reached (optimized_rules_of answer) o.chain
-      (wrapped_listing_finishes o.reached (optimized_rules_of answer) o.lists) (spelled_known a.spelled builtins accepted_builtins)
+      answer_known a.spelled o.reached answer o.chain
+      (wrapped_listing_finishes o.reached answer o.lists) (spelled_known a.spelled builtins accepted_builtins)
 
   -- the bounds of their ranges are characters
-  pub answers_bounds : HasCharacterBounds (optimized_rules_of answer)
+  pub answers_bounds : HasCharacterBounds answer
   answers_bounds =
       let o = a.optimized in
-      answer_bounds a.spelled o.reached (optimized_rules_of answer) o.chain
-      (wrapped_listing_finishes o.reached (optimized_rules_of answer) o.lists)
+      answer_bounds a.spelled o.reached answer o.chain
+      (wrapped_listing_finishes o.reached answer o.lists)
       (read_bounds text utf8 a.trees a.spelled a.of_text a.accepted.give)
 
-  optimized_outcomes : HasOutcomesOf a.spelled (optimized_rules_of answer)
+  optimized_outcomes : HasOutcomesOf a.spelled answer
   optimized_outcomes =
       let o = a.optimized in
       let grammar = accepted_is_grammar in
@@ -107,8 +105,8 @@ module _ (text : List ℕ) (utf8 : IsUtf8 text) (builtins : List (Bor (List ℕ)
         listing = o.lists;
       }
 
-  pub answers_outcomes : OfSpelled text (λ g. HasOutcomesOf g (optimized_rules_of answer))
-  answers_outcomes g s = subst (λ h. HasOutcomesOf h (optimized_rules_of answer)) (the_same g s) optimized_outcomes
+  pub answers_outcomes : OfSpelled text (λ g. HasOutcomesOf g answer)
+  answers_outcomes g s = subst (λ h. HasOutcomesOf h answer) (the_same g s) optimized_outcomes
 
 -- a plain well-formed grammar ends
 sound_ends : (g : Grammar) → IsWellFormedGrammar g → IsPlain g → EndsFromEverywhere g

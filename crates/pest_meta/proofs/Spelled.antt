@@ -37,7 +37,7 @@ use Rattle.std.specs.declared.alloc.Global.{Global}
 use Rattle.std.specs.declared.vec.Vec.{Vec}
 use Rattle.pest_meta.specs.WithSpans.{SpellsWithSpans}
 use Rattle.pest_meta.specs.Written.{IsWritten, SpellsAccepted}
-use Rattle.pest_meta.specs.Spelling.{AreAccepted, AreFlawed, AreRejected, AreReadAsRules, HasAnswer, HasRefusal, HasTrees, HaveFindings, IsAnswer, complaints_in, HasWrongRules, IsMisnamed, IsNoGrammar, IsRefusal, IsRefusedGrammar, SpellsGrammar}
+use Rattle.pest_meta.specs.Spelling.{AreAccepted, AreFlawed, AreRejected, AreReadAsRules, HasAnswer, HasRefusal, HasTrees, HaveFindings, IsAnswer, IsAnsweredBy, complaints_in, HasWrongRules, IsMisnamed, IsNoGrammar, IsRefusal, IsRefusedGrammar, SpellsGrammar}
 
 -- no property name stands for anything
 abbrev pub empty_classes : Classes
@@ -78,7 +78,7 @@ accepted_or_found text trees rules errors a h =
     h.some (nothing_else a.give.read [] errors a.nothing_found (subst (λ spans. AreReported a.give.read spans errors) none found.tell))
 
 -- nor for anything else
-answered_or_refused : (text : List ℕ) (builtins : List (Bor (List ℕ))) (answer : List OptimizedRule) (errors : List (Error Rule)) → IsAnswer text builtins answer → IsRefusedGrammar text errors → ⊥
+answered_or_refused : (text : List ℕ) (builtins : List (Bor (List ℕ))) (answer : Grammar) (errors : List (Error Rule)) → IsAnsweredBy text builtins answer → IsRefusedGrammar text errors → ⊥
 answered_or_refused text builtins answer errors a r = go r.why
   where
     trees : r.trees ≡ a.trees
@@ -97,7 +97,7 @@ not_both text (builtins, answer, a) (errors, inl n) = trees_or_fails text a.tree
 not_both text (builtins, answer, a) (errors, inr r) = answered_or_refused text builtins answer errors a r
 
 -- where there is an answer, the stack pass reports nothing
-pub answered_without_reports : (text : List ℕ) (builtins : List (Bor (List ℕ))) (answer : List OptimizedRule) → IsAnswer text builtins answer → OfRead text (λ rules. AreReports rules [])
+pub answered_without_reports : (text : List ℕ) (builtins : List (Bor (List ℕ))) (answer : Grammar) → IsAnsweredBy text builtins answer → OfRead text (λ rules. AreReports rules [])
 answered_without_reports text builtins answer a trees rules h d =
     let same = trees_once text trees a.trees h a.of_text in
     let read = rules_once (subst (λ us. ReadsRules text us rules) same d) a.accepted.give.reads in

@@ -2,15 +2,15 @@
 use Rattle.std.specs.Prelude.{◌≡◌, ℕ, List, map}
 use Rattle.std.specs.Borrow.{Bor}
 use Rattle.std.specs.Str.{IsUtf8}
-use Rattle.base_ast.specs.Optimized.{optimized_rules_of}
-use Rattle.base_ast.specs.declared.optimized.OptimizedRule.{OptimizedRule}
 use Rattle.base_language.specs.Language.Expression.{Expression, Grammar, RuleType}
 use Rattle.base_language.specs.Language.State.{Trees}
 use Rattle.base_language.specs.declared.grammar.Rule.{Rule}
 use Rattle.base_language.specs.declared.runtime.errors.Error.{Error}
 use Rattle.front_optimizer.specs.Passes.{IsOptimized}
+use Rattle.front_restorer.specs.Restoring.{HaveNoWrappers}
 use Rattle.front_validator.specs.Alike.{AreAlike}
-use Rattle.pest_meta.specs.Spelling.{AreFlawed, AreReadAsRules, HasAnswer, HasRefusal, HasTrees, HasWrongRules, IsAnswer, IsMisnamed, IsNoGrammar, IsRefusedWith, SpellsGrammar}
+use Rattle.pest_meta.specs.Spelling.{AreFlawed, AreReadAsRules, HasAnswer, HasRefusal, HasTrees, HasWrongRules, IsAnsweredBy, IsMisnamed, IsNoGrammar, IsRefusedWith, SpellsGrammar}
+use Rattle.pest_meta.specs.Written.{SpellsAccepted}
 
 -- a text has one list of trees at most
 abbrev pub HasOneListOfTrees : Type 0
@@ -55,19 +55,26 @@ abbrev pub HasOneOptimization : Type 0
 HasOneOptimization = (rules answer other : Grammar) → IsOptimized rules answer → IsOptimized rules other
     → answer ≡ other
 
+-- rules without wrappers are optimized in some way
+abbrev pub HaveOptimizations : Type 0
+HaveOptimizations = (rules : Grammar) → HaveNoWrappers rules → (answer : Grammar) × IsOptimized rules answer
+
+-- a text of which the rules are accepted, and the names in order, has an answer
+abbrev pub AcceptedHaveAnswers : Type 0
+AcceptedHaveAnswers = (text : List ℕ) (rules : Grammar) → SpellsAccepted text rules → HasAnswer text
+
 -- two answers for a text have the same builtins, as texts
 abbrev pub HasOneListOfBuiltins : Type 0
-HasOneListOfBuiltins = (text : List ℕ) (builtins others : List (Bor (List ℕ)))
-    (answer rules : List OptimizedRule) → IsAnswer text builtins answer → IsAnswer text others rules
+HasOneListOfBuiltins = (text : List ℕ) (builtins others : List (Bor (List ℕ))) (answer rules : Grammar)
+    → IsAnsweredBy text builtins answer → IsAnsweredBy text others rules
     → map (λ t. t.now) builtins ≡ map (λ t. t.now) others
 
 -- two answers for a text have the same rules
 abbrev pub HasOneListOfRules : Type 0
-HasOneListOfRules = (text : List ℕ) (builtins others : List (Bor (List ℕ)))
-    (answer rules : List OptimizedRule) → IsAnswer text builtins answer → IsAnswer text others rules
-    → optimized_rules_of answer ≡ optimized_rules_of rules
+HasOneListOfRules = (text : List ℕ) (builtins others : List (Bor (List ℕ))) (answer rules : Grammar)
+    → IsAnsweredBy text builtins answer → IsAnsweredBy text others rules → answer ≡ rules
 
 -- this holds of the rules of each answer
 abbrev pub OfAnswers : (Grammar → Type 0) → Type 0
-OfAnswers P = (text : List ℕ) (builtins : List (Bor (List ℕ))) (answer : List OptimizedRule) → IsUtf8 text
-    → IsAnswer text builtins answer → P (optimized_rules_of answer)
+OfAnswers P = (text : List ℕ) (builtins : List (Bor (List ℕ))) (answer : Grammar) → IsUtf8 text
+    → IsAnsweredBy text builtins answer → P answer

@@ -81,15 +81,18 @@ complaints_in text trees = name_complaints (definitions text trees) (calls text 
 
 -- the rules that the text spells are accepted, and optimized; its names are in order, and the builtins are
 -- those that it calls, each once, in the order of their first calls
-pub record IsAnswer (text : List ℕ) (builtins : List (Bor (List ℕ)))
-    (answer : List OptimizedRule) : Type 0 where
+pub record IsAnsweredBy (text : List ℕ) (builtins : List (Bor (List ℕ))) (answer : Grammar) : Type 0 where
   pub trees : Trees
   pub of_text : HasTrees text trees
   pub well_named : complaints_in text trees ≡ []
   pub uses : AreWrittenAt (first_calls (definitions text trees) (calls text trees)) builtins
   pub spelled : Grammar
   pub accepted : AreAccepted text trees spelled
-  pub optimized : IsOptimized spelled (optimized_rules_of answer)
+  pub optimized : IsOptimized spelled answer
+
+-- so it is with the rules of a list of code
+abbrev pub IsAnswer : List ℕ → List (Bor (List ℕ)) → List OptimizedRule → Type 0
+IsAnswer text builtins rules = IsAnsweredBy text builtins (optimized_rules_of rules)
 
 -- the text is no grammar: one syntax error reports the furthest position of a failure
 pub record IsNoGrammar (text : List ℕ) (errors : List (Error Rule)) : Type 0 where
@@ -123,8 +126,7 @@ IsRefusal text (fault_is.Grammar errors) = IsRefusedWith text errors.items
 
 -- there is an answer for the text
 abbrev pub HasAnswer : List ℕ → Type 0
-HasAnswer text = (builtins : List (Bor (List ℕ))) × (answer : List OptimizedRule)
-    × IsAnswer text builtins answer
+HasAnswer text = (builtins : List (Bor (List ℕ))) × (answer : Grammar) × IsAnsweredBy text builtins answer
 
 -- there is a reason to refuse the text
 abbrev pub HasRefusal : List ℕ → Type 0

@@ -9,7 +9,8 @@ ghost use Rattle.front_optimizer.specs.Passes.{IsFactoring, IsUnrolling};
 ghost use Rattle.front_restorer.specs.Agreeing.{WrappersSuffice};
 ghost use Rattle.pest_meta.specs.Laws.{FlawedGiveNothing, HasOneListOfBuiltins, HasOneListOfRules, HasOneListOfTrees};
 ghost use Rattle.pest_meta.specs.Laws.{HasOneOptimization, HasOneRefusal, HasOneResult, HasTreesOrFails, IsNotBoth};
-ghost use Rattle.pest_meta.specs.Laws.{NamesComeFirst, OfAnswers, SpellsOneGrammar};
+ghost use Rattle.pest_meta.specs.Laws.{AcceptedHaveAnswers, HaveOptimizations, NamesComeFirst, OfAnswers};
+ghost use Rattle.pest_meta.specs.Laws.{SpellsOneGrammar};
 
 /// Proves that a text spells one list of rules at most.
 pub fn spells_one_grammar()
@@ -43,6 +44,13 @@ pub fn one_result()
     ensures factor { HasOneResult IsFactoring }
     ensures restore { (g : Grammar) → HasOneResult (λ y. RestoresTo g) }
     ensures optimize { HasOneOptimization }
+{}
+
+/// Proves that a text has an answer if its rules are accepted and its names are in order: such rules can
+/// always be optimized.
+pub fn accepted_rules_have_an_answer()
+    ensures optimized { HaveOptimizations }
+    ensures answered { AcceptedHaveAnswers }
 {}
 
 /// Proves that a text has one answer at most: two answers have the same builtins, as written, and the same

@@ -4,8 +4,6 @@ use Rattle.std.proofs.lemmas.List.Elements.{All-from_recursion}
 use Rattle.std.specs.Borrow.{Bor}
 use Rattle.std.specs.List.{All, AllByRecursion}
 use Rattle.std.specs.Str.{IsUtf8}
-use Rattle.base_ast.specs.Optimized.{optimized_rules_of}
-use Rattle.base_ast.specs.declared.optimized.OptimizedRule.{OptimizedRule}
 use Rattle.base_language.specs.Language.Expression.{Expression, Grammar, RuleType}
 use Rattle.base_language.specs.Language.State.{Trees}
 use Rattle.base_language.specs.Rewritings.Rewriting.{EachBody, also_rule, no_rules}
@@ -15,7 +13,7 @@ use Rattle.front_spanned.specs.Erasure.{rules_without_spans}
 use Rattle.front_spanned.specs.Spanned.{SpannedRule}
 use Rattle.front_syntax.proofs.Naming.{rule_named}
 use Rattle.matcher_pairs.specs.Spliced.{HasNoMark}
-use Rattle.pest_meta.specs.Spelling.{AreReadAsRules, HasTrees, IsAnswer, SpellsGrammar}
+use Rattle.pest_meta.specs.Spelling.{AreReadAsRules, HasTrees, IsAnsweredBy, SpellsGrammar}
 use Rattle.pest_meta.specs.Written.{IsWritten}
 use Rattle.test_calling.proofs.NamesInTrees.{HoldNames, trees_hold}
 
@@ -54,7 +52,6 @@ module _ (text : List ℕ) (utf8 : IsUtf8 text) where
       let a = w.accepted in
       All-from_recursion HasNoMark rules (unmarked_on w.written_out (given a.trees w.spelled a.of_text a.accepted.give))
 
-  pub answer_unmarked : (builtins : List (Bor (List ℕ))) (answer : List OptimizedRule) → IsAnswer text builtins answer → All HasNoMark (optimized_rules_of answer)
+  pub answer_unmarked : (builtins : List (Bor (List ℕ))) (answer : Grammar) → IsAnsweredBy text builtins answer → All HasNoMark answer
   answer_unmarked builtins answer a =
-      let rules = optimized_rules_of answer in
-      All-from_recursion HasNoMark rules (optimized_unmarked a.spelled rules a.optimized (given a.trees a.spelled a.of_text a.accepted.give))
+      All-from_recursion HasNoMark answer (optimized_unmarked a.spelled answer a.optimized (given a.trees a.spelled a.of_text a.accepted.give))

@@ -1,5 +1,6 @@
 use Rattle.std.proofs.lemmas.Result.{err_from_is_err_and}
 use Rattle.base_ast.specs.Ast.{rules_of}
+use Rattle.base_ast.specs.Optimized.{optimized_rules_of}
 use Rattle.pest_meta.proofs.Spelled.{answered, answered_without_reports, misnamed, no_grammar, not_both, rejected}
 use Rattle.pest_meta.proofs.Promised.{answer_ends, answer_suffices, answers_bounds, answers_builtins, answers_known, answers_outcomes, spelled_ends, spells_grammar}
 use Rattle.pest_meta.proofs.parse_and_optimize.Goals as goal
@@ -57,7 +58,7 @@ returns-clause-no_reports c = answered_without_reports c.args.grammar.now _ _ (r
 
 pub returns-clause-no_refusal : goal.returns-clause-no_refusal
 returns-clause-no_refusal c = λ refused.
-    not_both c.args.grammar.now (c.in_ok-builtins.builtins.items, c.in_ok-optimize.field-0.items, returns-clause-answer c) refused
+    not_both c.args.grammar.now (c.in_ok-builtins.builtins.items, optimized_rules_of c.in_ok-optimize.field-0.items, returns-clause-answer c) refused
 
 pub returns-clause-agrees : goal.returns-clause-agrees
 returns-clause-agrees c = λ g s suffice.
