@@ -1,6 +1,10 @@
 -- A text's diagnostics, by the outcome of its front end.
-use Rattle.std.proofs.Common.{◌≡◌, ◌≢◌, ◌⊎◌, All, inl, inr, ◌∙◌, ℕ, List, [], ◌∷◌, Bool, true, false, ◌||◌, Result, Ok, Err, IfOk, OnOk, Vec, Global, refl, sym, ap}
+use Rattle.std.proofs.Common.{◌≡◌, ◌≢◌, ◌⊎◌, All, inl, inr, ◌∙◌, ℕ, List, [], ◌∷◌, ◌++◌, ◌==◌, Bool, true, false, ◌||◌, Result, Ok, Err, IfOk, OnOk, Vec, Global, arith, chars, eqb-true, length, map, refl, subst, sym, ap}
 use Rattle.std.specs.Borrow.{Bor}
+use Rattle.std.proofs.lemmas.List.{map-append}
+use Rattle.front_names.specs.Builtins.{name_of}
+use Rattle.front_names.specs.declared.builtin.Builtin.TheVariants.{Soi}
+use Rattle.lint_warnings.proofs.Sets.{name_characters}
 use Rattle.std.specs.List.{AllZip, list_any}
 use Rattle.lint_findings.specs.Starts.{IsNamedStart}
 use Rattle.lint_warnings.specs.Lists.{texts_of}
@@ -81,3 +85,27 @@ of_rules has_all starts text rules named all ds stated each left = λ builtins s
   each = each;
   left = left;
 }
+
+-- warnings of rules with starts that a comment names
+pub from_starts : {E : Type 0} (has_all : Bool) (starts : List Text) (text : List ℕ) (rules : List SpannedRule) (named : List (Bor (List ℕ))) (all : List Text) (result : Result (Vec Diagnostic Global) E)
+    → All (λ name. IsNamedStart text name.now) named → all ≡ all_starts starts (texts_of named) → IfOk result (λ ds. ReportRules has_all all text rules ds.items)
+    → IfOk result (λ ds. (names : List (Bor (List ℕ))) × All (λ name. IsNamedStart text name.now) names × ReportRules has_all (all_starts starts (texts_of names)) text rules ds.items)
+from_starts has_all starts text rules named all (Ok ds) stated e h =
+    let P : List Text → Type 0 = λ s. ReportRules has_all s text rules ds.items in
+    (named, stated, subst P e h)
+from_starts has_all starts text rules named all (Err x) stated e h = tt
+
+-- none is named, or some
+pub none_named : (starts : List Text) (named : List (Bor (List ℕ))) → (length named == 0) ≡ true → starts ≡ all_starts starts (texts_of named)
+none_named starts [] h = refl
+none_named starts (n ∷ ns) h = let z = eqb-true (length (n ∷ ns)) 0 h in absurd (omega arith)
+
+pub some_named : (starts named all : List (Bor (List ℕ))) (last : Bor (List ℕ)) → (length named == 0) ≡ false → all ≡ (starts ++ named) ++ last ∷ [] → last.now ≡ name_of Soi
+    → texts_of all ≡ all_starts (texts_of starts) (texts_of named)
+some_named starts [] all last h e s = absurd (let z : true ≡ false = h in cc)
+some_named starts (n ∷ ns) all last h e s =
+    let now : Bor (List ℕ) → Text = λ t. chars t.now in
+    ap texts_of e
+    ∙ (map-append now (starts ++ n ∷ ns) (last ∷ [])
+    ∙ (ap (λ l. l ++ chars last.now ∷ []) (map-append now starts (n ∷ ns))
+    ∙ ap (λ t. (texts_of starts ++ texts_of (n ∷ ns)) ++ t ∷ []) (name_characters Soi last.now s)))

@@ -165,11 +165,13 @@ fn join_starts<'s>(
     ensures { IfOk result (λ all.
         texts_of all.items ≡ all_starts (texts_of starts.now) (texts_of named.now)) }
 {
-    let mut all = starts.to_vec(alloc)?;
-    if !named.is_empty() {
-        all.extend_from_slice(named)?;
-        all.push(Builtin::Soi.name())?;
+    let mut all = Vec::new(alloc);
+    all.extend_from_slice(starts)?;
+    if named.is_empty() {
+        return Ok(all);
     }
+    all.extend_from_slice(named)?;
+    all.push(Builtin::Soi.name())?;
     Ok(all)
 }
 

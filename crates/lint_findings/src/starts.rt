@@ -79,12 +79,19 @@ fn comment_at(comment: &str, start: usize) -> Option<StartComment> {
 fn name_at(text: &str, comment: StartComment, first: usize, last: usize) -> Option<&str>
     ensures { IfSome result (λ name. IsNamedStart text.entry.now name.now) }
 {
-    let prefix = text.get(comment.start..comment.inside)?;
-    let bracket = text.get(comment.close..comment.end)?;
+    let Some(prefix) = text.get(comment.start..comment.inside) else {
+        return None;
+    };
+    let Some(bracket) = text.get(comment.close..comment.end) else {
+        return None;
+    };
+    let Some(name) = text.get(first..last) else {
+        return None;
+    };
     if prefix != PREFIX || bracket != ")" || first < comment.inside || comment.close < last {
         return None;
     }
-    text.get(first..last)
+    Some(name)
 }
 
 /// Adds a name, if it is there.

@@ -225,6 +225,7 @@ fn spans_of<'i>(
 {
     match code {
         Code::UncalledRule => uncalled_rules(alloc, rules, starts),
+        Code::Unreachable => unreachable!(),
         Code::MissingEnd => open_starts(alloc, rules, starts),
         Code::ReversedRange => reversed_ranges(alloc, rules),
         Code::ReversedCount => suspect_spans(alloc, Suspect::ReversedCount, rules),

@@ -1,5 +1,5 @@
 -- The helps of known mistakes.
-use Rattle.std.specs.Prelude.{ℕ, List, ◌++◌, codes}
+use Rattle.std.specs.Prelude.{ℕ, List, codes}
 use Rattle.lint_hints.specs.declared.mistakes.Mistake.{Mistake}
 use Rattle.lint_hints.specs.declared.mistakes.Mistake.TheVariants as mistake
 use Rattle.lint_hints.specs.declared.mistakes.LiteralMistake.{LiteralMistake}

@@ -67,8 +67,8 @@ asking_more k rules set h = subst (λ j. HasNames (is_asking j rules) set) (sym 
 pub one_entry : (f : Text → Bool) (rules : List SpannedRule) (spans : List code.Span) (many : Bool) → map piece_of spans ≡ flat_map (entry_at f) rules
     → many ≡ nat_lt 1 (length rules) → (many && length spans == 1) ≡ has_one_entry f rules
 one_entry f rules spans many e m =
-    ap (λ b. b && length spans == 1) m
-    ∙ ap (λ n. nat_lt 1 (length rules) && n == 1) (sym (length-map {f = piece_of} spans) ∙ ap length e)
+    let same : length spans ≡ length (flat_map (entry_at f) rules) = simp length-map at (ap length e) in
+    ap (λ b. b && length spans == 1) m ∙ ap (λ n. nat_lt 1 (length rules) && n == 1) same
 
 -- the spans in all rules
 pub starts_found : {E : Type 0} (starts : List Text) (rules : List SpannedRule) (called asking : TextSet) (only : Bool) (result : Result (Vec code.Span Global) E) → wants_fronts starts rules ≡ false

@@ -1,5 +1,5 @@
 //! Starts that never ask for the end of a text.
-ghost use Rattle.std.specs.Prelude.{◌≡◌, ◌++◌, ◌==◌, ◌&&◌, ◌||◌, Bool, IfOk, OnOk, List, ℕ, flat_map, map, nat_lt};
+ghost use Rattle.std.specs.Prelude.{◌≡◌, ◌++◌, ◌==◌, ◌&&◌, ◌||◌, Bool, IfOk, OnOk, List, ℕ, flat_map, length, map, nat_lt};
 ghost use Rattle.std.specs.Str.{IsUtf8, chars};
 ghost use Rattle.base_ast.specs.Ast.{text_of};
 ghost use Rattle.base_language.specs.Language.Builtins.{is_one_of};
@@ -39,15 +39,15 @@ pub fn open_starts<'n, 'i>(
     let called = needed_names(alloc, &*rules, &[])?;
     let asking = asking_names(alloc, &*rules)?;
     let entries = entry_spans(alloc, &*rules, &called)?;
-    let is_only = is_only_entry(rules.len(), entries.len());
+    let is_only = is_only_entry(&*rules, &entries);
     open_among(alloc, rules, &called, &asking, is_only)
 }
 
-/// Whether one of so many rules is an entry, of so many entries, and it is not all of a grammar.
-fn is_only_entry(rules: usize, entries: usize) -> bool
-    ensures { result ≡ (nat_lt 1 rules && entries == 1) }
+/// Whether one of several rules is an entry, where these spans are those of entries.
+fn is_only_entry(rules: &[ParserRule<'_>], entries: &[Span<'_>]) -> bool
+    ensures { result ≡ (nat_lt 1 (length rules.now) && length entries.now == 1) }
 {
-    rules > 1 && entries == 1
+    rules.len() > 1 && entries.len() == 1
 }
 
 /// Whether several rules have names that are given as starts, and no rule asks for the end.

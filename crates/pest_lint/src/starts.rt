@@ -1,6 +1,5 @@
 //! Rules with which matching starts.
 ghost use Rattle.std.specs.Prelude.{◌≡◌, IfOk, codes};
-ghost use Rattle.clap.specs.Matches.{};
 ghost use Rattle.pest_lint.specs.Starts.{names_of, values_of};
 
 use crate::lint::{Source, UNREADABLE, text_of};
@@ -28,30 +27,50 @@ pub fn named_starts<'a>(
 }
 
 /// The first of some names that is none of a rule in these files, nor `SOI`; none where a file can't be read.
-pub fn unknown_start<'a>(
+pub(crate) fn unknown_start<'a>(
     alloc: Global,
     sources: &[Source],
     starts: &[&'a str],
 ) -> Result<Option<&'a str>, AllocError> {
     let names = defined_names(alloc, sources)?;
+    let known = set_of(alloc, &names)?;
     let is_whole = sources.iter().all(|source| text_of(source).is_some());
-    let mut known = HashSet::new(alloc);
-    for name in &names {
-        known.insert(*name)?;
+    Ok(first_unknown(starts, &known).filter(|_| is_whole))
+}
+
+/// The first of some names that is not among others.
+fn first_unknown<'a>(starts: &[&'a str], known: &HashSet<&str>) -> Option<&'a str> {
+    for name in starts {
+        if !known.contains(name) {
+            return Some(*name);
+        }
     }
-    known.insert(Builtin::Soi.name())?;
-    let unknown = starts.iter().find(|&&name| !known.contains(&name));
-    Ok(unknown.copied().filter(|_| is_whole))
+    None
+}
+
+/// A set of names, and `SOI`.
+fn set_of<'n>(alloc: Global, names: &[&'n str]) -> Result<HashSet<&'n str>, AllocError> {
+    let mut set = HashSet::new(alloc);
+    set.insert(Builtin::Soi.name())?;
+    for name in names {
+        set.insert(*name)?;
+    }
+    Ok(set)
 }
 
 /// Reports on standard error that no rule has a name which `--start` gives, with a near one, and answers the
 /// status.
-pub fn report_start(rt: &HostRuntime, sources: &[Source], name: &str) -> Result<u8, AllocError> {
+pub(crate) fn report_start(
+    rt: &HostRuntime,
+    sources: &[Source],
+    name: &str,
+) -> Result<u8, AllocError> {
     let alloc = rt.alloc();
     let names = defined_names(alloc, sources)?;
     let shown = to_visible(alloc, name)?;
     match nearest_name(alloc, name, &names)? {
         Some(near) => {
+            let near = to_visible(alloc, near)?;
             let _ = eprintln!(rt;
                 "no rule is called `{shown}`, which --start names; did you mean `{near}`?"
             );
@@ -67,10 +86,20 @@ pub fn report_start(rt: &HostRuntime, sources: &[Source], name: &str) -> Result<
 fn defined_names(alloc: Global, sources: &[Source]) -> Result<Vec<&str>, AllocError> {
     let mut names = Vec::new(alloc);
     for source in sources {
-        let text = text_of(source).unwrap_or("");
-        for (start, end) in &definitions(alloc, text)? {
-            names.push(text.get(*start..*end).unwrap_or(""))?;
-        }
+        add_names(alloc, source, &mut names)?;
     }
     Ok(names)
+}
+
+/// Adds the names that a file defines.
+fn add_names<'s>(
+    alloc: Global,
+    source: &'s Source,
+    names: &mut Vec<&'s str>,
+) -> Result<(), AllocError> {
+    let text = text_of(source).unwrap_or("");
+    for (start, end) in &definitions(alloc, text)? {
+        names.push(text.get(*start..*end).unwrap_or(""))?;
+    }
+    Ok(())
 }
