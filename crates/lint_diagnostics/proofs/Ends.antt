@@ -5,8 +5,8 @@ use Rattle.matcher_program.specs.declared.form.Property.{Property}
 use Rattle.matcher_support.specs.Sets.{is_in_property}
 use Rattle.base_language.specs.Language.Expression.{Grammar}
 use Rattle.base_language.specs.Language.Text.{Text}
-use Rattle.matcher_interpreter.specs.Answers.{FailsAt, IsMatched}
-use Rattle.matcher_interpreter.specs.declared.matcher.Found.{Found}
+use Rattle.matcher_program.specs.Answers.{FailsAt, IsMatched}
+use Rattle.matcher_program.specs.declared.answers.Found.{Found}
 use Rattle.lint_diagnostics.specs.Differences.{EndsAs}
 use Rattle.lint_diagnostics.specs.declared.difference.RuleEnd.TheVariants as rule_end
 

@@ -5,7 +5,7 @@ use Rattle.base_ast.specs.Optimized.{optimized_rules_of}
 use Rattle.base_ast.specs.declared.optimized.OptimizedRule.{OptimizedRule}
 use Rattle.base_language.specs.Language.Expression.{Grammar}
 use Rattle.base_language.specs.Language.Text.{Text}
-use Rattle.matcher_interpreter.specs.declared.matcher.Matcher.{Matcher}
+use Rattle.matcher_engine.specs.declared.matcher.Matcher.{Matcher}
 use Rattle.lint_diagnostics.specs.Differences.{AreForms, AreOptimized, CannotRun, Distinguishes, IsRunnable, LacksForms, ShowsDifference, as_optimized, matcher_grammar}
 use Rattle.lint_diagnostics.specs.declared.comparer.RunnableForms.{RunnableForms}
 use Rattle.lint_diagnostics.specs.declared.difference.Difference.{Difference}

@@ -11,8 +11,8 @@ use Rattle.base_ast.specs.declared.optimized.OptimizedRule.{OptimizedRule}
 use Rattle.base_language.specs.Language.Expression.{Grammar}
 use Rattle.base_language.specs.Language.State.{State, Trees, Success, Failure}
 use Rattle.base_language.specs.Language.Text.{Text}
-use Rattle.matcher_interpreter.specs.Answers.{Has, IsSoundMatcher}
-use Rattle.matcher_interpreter.specs.declared.matcher.Matcher.{Matcher}
+use Rattle.matcher_program.specs.Answers.{Has, IsSoundMatcher}
+use Rattle.matcher_engine.specs.declared.matcher.Matcher.{Matcher}
 use Rattle.lint_diagnostics.specs.declared.comparer.Comparer.{Comparer}
 use Rattle.lint_diagnostics.specs.declared.comparer.RunnableForms.{RunnableForms}
 use Rattle.lint_diagnostics.specs.declared.difference.Difference.{Difference}

@@ -254,7 +254,7 @@ impl<'p> Plan<'p> {
         match form {
             Form::Str(text) => self.literal(alloc, program, text.as_str(), at),
             Form::Insens(text) => { self.literal_in_any_case(alloc, program, text.as_str(), at) }
-            Form::Range(_, _) | Form::One(_) | Form::Set(_, _) | Form::Property(_, _) => {
+            Form::Range(_, _) | Form::One(_) | Form::Set(_) | Form::Property(_, _) => {
                 self.one_character(alloc, program, form, at)
             }
             Form::Start => self.start(program, at),
@@ -272,7 +272,7 @@ impl<'p> Plan<'p> {
             Form::RepOnce(body) => self.once_or_more(program, body, at),
             Form::Tag(body, tag) => self.tag(program, body, tag.as_str(), at),
             Form::Restore(body) => self.restore(program, body, at),
-            Form::Skip(texts, _) => self.search(alloc, program, texts, at),
+            Form::Skip(texts) => self.search(alloc, program, texts, at),
             Form::Push(body) => self.push(program, body, at, own),
             Form::PushLiteral(text) => self.push_literal(alloc, program, text.as_str(), at),
             Form::Peek => self.peek(program, at),

@@ -133,7 +133,7 @@ pub(crate) fn span_ranges(
 {
     match form {
         Form::Rep(body) => repeated_ranges(alloc, program, body, mode),
-        Form::Skip(texts, _) => searched_ranges(alloc, texts),
+        Form::Skip(texts) => searched_ranges(alloc, texts),
         _ => Ok(None),
     }
 }

@@ -1,5 +1,4 @@
 pub mod Bytes
-pub mod FromEntries
 pub mod Known
 pub mod OneAnswer
 pub mod OneDerivation

@@ -17,11 +17,11 @@ use Rattle.matcher_code.specs.Reached.{nodes_of}
 use Rattle.matcher_compiler.specs.Names.{number_in}
 use Rattle.matcher_program.specs.declared.form.Property.{Property}
 use Rattle.matcher_program.specs.Programs.{Fits}
-use Rattle.matcher_interpreter.specs.Answers.{FailsWith, HasAt, IsMatchedFrom, IsStoppedFrom}
-use Rattle.matcher_interpreter.specs.Endings.{classes_in}
-use Rattle.matcher_interpreter.specs.Written.{seen}
-use Rattle.matcher_interpreter.specs.declared.matcher.Found.{Found}
-use Rattle.matcher_interpreter.specs.declared.machine.Stop.TheVariants as stop
+use Rattle.matcher_program.specs.Answers.{FailsWith, HasAt, IsMatchedFrom, IsStoppedFrom}
+use Rattle.matcher_program.specs.Classes.{classes_in}
+use Rattle.matcher_program.specs.Written.{seen}
+use Rattle.matcher_program.specs.declared.answers.Found.{Found}
+use Rattle.matcher_program.specs.declared.answers.Stop.TheVariants as stop
 use Rattle.matcher_engine.specs.Preorders.{HasPreorder}
 use Rattle.matcher_engine.specs.declared.matcher.Preorder.{Preorder}
 use Rattle.matcher_engine.proofs.OneDerivation.{Answer, one_answer}

@@ -28,8 +28,8 @@ use Rattle.matcher_machine.specs.declared.machine.RunEnd.TheVariants as ended
 use Rattle.matcher_machine.specs.Machines.{EndsAtLast, config}
 use Rattle.matcher_program.specs.declared.form.Program.{Program}
 use Rattle.matcher_program.specs.Programs.{Fits, name_at, names_of, rule_of_row}
-use Rattle.matcher_interpreter.specs.declared.machine.Stop.TheVariants as stop
-use Rattle.matcher_interpreter.specs.Answers.{FailsWith, IsStoppedFrom, start_of, state_at}
+use Rattle.matcher_program.specs.declared.answers.Stop.TheVariants as stop
+use Rattle.matcher_program.specs.Answers.{FailsWith, IsStoppedFrom, start_of, state_at}
 use Rattle.matcher_compiler.specs.Compiled.{IsCodeOf}
 use Rattle.matcher_compiler.specs.Names.{number_in}
 use Rattle.matcher_sets.specs.Forms.{grammar_in}

@@ -5,9 +5,9 @@ use Rattle.std.proofs.Math.Logic.{∥∥₁_elim, ∥∥₁_map}
 use Rattle.matcher_code.specs.declared.code.Code.{Code}
 use Rattle.matcher_program.specs.Programs.{Fits}
 use Rattle.matcher_compiler.specs.Compiled.{IsCodeOf}
-use Rattle.matcher_interpreter.specs.Answers.{IsSoundMatcher}
-use Rattle.matcher_interpreter.specs.Endings.{classes_in}
-use Rattle.matcher_interpreter.proofs.Totals.{fits_first}
+use Rattle.matcher_program.specs.Answers.{IsSoundMatcher}
+use Rattle.matcher_program.specs.Classes.{classes_in}
+use Rattle.matcher_program.proofs.FittingSets.{fits_first}
 use Rattle.matcher_engine.specs.Matchers.{properties_in}
 use Rattle.matcher_engine.specs.declared.matcher.Matcher.{Matcher}
 use Rattle.matcher_engine.proofs.OneSoundness.{sound_prop}

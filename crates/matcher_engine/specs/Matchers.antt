@@ -5,9 +5,9 @@ use Rattle.base_language.specs.Language.State.{State}
 use Rattle.base_language.specs.Language.Text.{Text}
 use Rattle.matcher_program.specs.declared.form.Property.{Property}
 use Rattle.matcher_program.specs.Programs.{grammar_of}
-use Rattle.matcher_interpreter.specs.Answers.{IsMatchedFrom, IsRefusedFrom}
-use Rattle.matcher_interpreter.specs.declared.matcher.Found.{Found}
-use Rattle.matcher_interpreter.specs.declared.matcher.Refusal.{Refusal}
+use Rattle.matcher_program.specs.Answers.{IsMatchedFrom, IsRefusedFrom}
+use Rattle.matcher_program.specs.declared.answers.Found.{Found}
+use Rattle.matcher_program.specs.declared.answers.Refusal.{Refusal}
 use Rattle.matcher_engine.specs.declared.matcher.Matcher.{Matcher}
 
 -- the grammar of a matcher, and its properties

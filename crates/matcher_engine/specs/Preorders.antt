@@ -7,8 +7,8 @@ use Rattle.base_language.specs.Language.Text.{Text}
 use Rattle.matcher_code.specs.Reached.{nodes_of}
 use Rattle.matcher_program.specs.declared.form.Property.{Property}
 use Rattle.matcher_program.specs.Programs.{Fits}
-use Rattle.matcher_interpreter.specs.Answers.{HasAt, IsRefusedFrom}
-use Rattle.matcher_interpreter.specs.declared.matcher.Refusal.{Refusal}
+use Rattle.matcher_program.specs.Answers.{HasAt, IsRefusedFrom}
+use Rattle.matcher_program.specs.declared.answers.Refusal.{Refusal}
 use Rattle.matcher_compiler.specs.Names.{number_in}
 use Rattle.matcher_engine.specs.Matchers.{grammar_in, properties_in}
 use Rattle.matcher_engine.specs.declared.matcher.Matcher.{Matcher}

@@ -4,8 +4,8 @@ use Rattle.base_language.specs.Language.State.{Classes}
 use Rattle.matcher_code.specs.declared.code.Code.{Code}
 use Rattle.matcher_program.specs.Programs.{Fits}
 use Rattle.matcher_compiler.specs.Compiled.{IsCodeOf}
-use Rattle.matcher_interpreter.specs.Answers.{IsSoundMatcher}
-use Rattle.matcher_interpreter.specs.declared.matcher.Matcher.{Matcher}
+use Rattle.matcher_program.specs.Answers.{IsSoundMatcher}
+use Rattle.matcher_engine.specs.declared.matcher.Matcher.{Matcher}
 
 -- the names of the rules mean what they are resolved to, some sets fit the properties, and the program, if
 -- there is one, is that of the rules

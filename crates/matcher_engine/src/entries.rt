@@ -3,14 +3,14 @@ ghost use Rattle.std.specs.Prelude.{◌≡◌, ◌≤◌, ◌<◌, ℕ, ◌+◌,
 ghost use Rattle.base_language.specs.Language.State.{Trees};
 ghost use Rattle.matcher_code.specs.Reached.{nodes_of};
 ghost use Rattle.matcher_program.specs.Programs.{grammar_of, names_of};
-ghost use Rattle.matcher_interpreter.specs.Written.{seen};
+ghost use Rattle.matcher_program.specs.Written.{seen};
 ghost use Rattle.front_syntax.specs.Entries.{entries_of};
 ghost use Rattle.matcher_compiler.specs.Names.{number_in};
 ghost use Rattle.matcher_engine.specs.Entries.{HasStarted, closed, left_open};
 
 use front_names::Builtin;
 use matcher_code::state::TreeNode;
-use matcher_interpreter::entries::Entry;
+use matcher_program::answers::Entry;
 use matcher_program::form::Row;
 use std::alloc::{AllocError, Global};
 

@@ -3,4 +3,3 @@
 
 mod entries;
 pub mod matcher;
-mod trees;

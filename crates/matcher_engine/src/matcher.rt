@@ -6,33 +6,28 @@ ghost use Rattle.matcher_program.specs.Refusals.{IsReason};
 ghost use Rattle.matcher_engine.specs.Soundness.{IsSound};
 
 use crate::entries::{entries_of, name_of};
-use crate::trees::trees_of;
 use base_ast::optimized::OptimizedRule;
 use base_language::runtime::{Position, Span};
 use matcher_code::code::Code;
 use matcher_code::state::TreeNode;
 use matcher_compiler::compile::{compile, compile_for_names};
 use matcher_compiler::names::last_index;
-use matcher_compiler::points::NotCompiled;
-use matcher_interpreter::machine::Stop;
-use matcher_interpreter::matcher::{Found, Matcher as Interpreter, Refusal, whole_text};
 use matcher_machine::machine::{Machine, RunEnd};
-use matcher_program::compile::Unfit;
+use matcher_program::answers::{Found, Refusal, Stop, whole_text};
+use matcher_program::compile::{Unfit, program_of};
+use matcher_program::form::Program;
 use matcher_program::properties::Properties;
-use std::alloc::Global;
-
-/// The largest number of rules that are compiled.
-const MOST_RULES: usize = 4096;
+use std::alloc::{AllocError, Global};
 
 /// How many operations of a program are run for each step that is allowed.
 const OPERATIONS: u64 = 4;
 
-/// Rules whose names are resolved, with their program if they are compiled.
+/// Rules whose names are resolved, with their code.
 #[derive(Drop)]
 pub struct Matcher {
-    interpreter: Interpreter,
-    code: Option<Code>,
-    ghost sound: { ∥ IsSound interpreter code ∥₁ },
+    program: Program,
+    code: Code,
+    ghost sound: { ∥ IsSound program code ∥₁ },
 }
 
 /// A match by its trees in preorder.
@@ -47,13 +42,14 @@ pub struct Preorder {
 }
 
 impl Matcher {
-    ghost use Rattle.matcher_interpreter.specs.Answers.{AreExpectedAt, AreExpectedFrom, IsMatched, IsMatchedFrom, IsRefused, IsRefusedFrom, IsUnanswered, IsUnansweredFrom, state_at};
+    ghost use Rattle.matcher_program.specs.Answers.{AreExpectedAt, AreExpectedFrom, IsMatched, IsMatchedFrom, IsRefused, IsRefusedFrom, IsUnanswered, IsUnansweredFrom, state_at};
     ghost use Rattle.matcher_engine.specs.Matchers.{IsAnswer, grammar_in, properties_in};
     ghost use Rattle.matcher_engine.specs.Preorders.{HasName, IsPreorderAnswer, IsPreorderFrom};
 
     /// Compiles rules, and resolves every name once, to the last rule of that name, or to a builtin if no
     /// rule has it. Errors: a name in a body that is neither, or a property's that `properties` does not
-    /// know; a bound of a range that is not one character; an allocation failure.
+    /// know; a bound of a range that is not one character; an allocation failure, as which code of 2^28
+    /// operations or more counts.
     pub fn new<P: Properties>(
         alloc: Global,
         rules: &[OptimizedRule],
@@ -63,70 +59,15 @@ impl Matcher {
         ensures fits { IfOk result (λ matcher. Fits (properties_in matcher) P.classes) }
         ensures refused { IfErr result (IsReason P.knows (optimized_rules_of rules.now)) }
     {
-        let interpreter = Interpreter::new(alloc, rules, properties)?;
-        match compile(alloc, &interpreter.program) {
-            Ok(code) => Ok(Matcher {
-                interpreter,
-                code: Some(code),
-            }),
-            Err(NotCompiled::Unsupported) => Ok(Matcher {
-                interpreter,
-                code: None,
-            }),
-            Err(NotCompiled::Memory) => Err(Unfit::Memory),
+        let program = program_of(alloc, rules, properties)?;
+        match compile(alloc, &program) {
+            Ok(code) => Ok(Matcher { program, code }),
+            Err(_) => Err(Unfit::Memory),
         }
     }
 
-    /// Matches as `parse_preorder` by the program. Returns `None` where the interpreter has to answer: the
-    /// rules are not compiled, the rule's number is 4096 or more, a text is taken from the empty stack, or
-    /// the operations of so many steps are more than a `u64` counts and no fewer were enough.
-    fn run_program<'a>(
-        &'a self,
-        alloc: Global,
-        rule: &'a str,
-        start: Position<'a>,
-        steps: u64,
-    ) -> Option<Result<Preorder, Refusal<'a>>>
-        ensures { IfSome result
-            (IsPreorderAnswer self.entry.now (chars rule.entry.now) (state_at start.entry) steps) }
-    {
-        let Some(code) = &self.code else {
-            return None;
-        };
-        let rows = self.interpreter.program.rows.as_slice();
-        let Some(number) = last_index(rows, rule) else {
-            return Some(Err(Refusal::UnknownRule(rule)));
-        };
-        if number >= MOST_RULES {
-            return None;
-        }
-        let mut machine = Machine::new(alloc);
-        let most = steps.saturating_mul(OPERATIONS);
-        let text = whole_text(start);
-        match machine.run_with_memory(alloc, code, text, number as u32 + 3, start.pos(), most) {
-            Ok(RunEnd::Found(end)) => {
-                let place = machine.furthest;
-                let Machine { trees, .. } = machine;
-                Some(Ok(Preorder {
-                    trees,
-                    end,
-                    furthest: place,
-                }))
-            }
-            Ok(RunEnd::Failed) => Some(Err(Refusal::NoMatch(machine.furthest))),
-            Ok(RunEnd::OutOfSteps) => {
-                if most / OPERATIONS == steps {
-                    Some(Err(Refusal::Stopped(Stop::OutOfSteps)))
-                } else {
-                    None
-                }
-            }
-            Ok(RunEnd::Stuck) => None,
-            Err(_) => Some(Err(Refusal::Stopped(Stop::Memory))),
-        }
-    }
-
-    /// Matches as `parse_from`, and returns the trees in preorder: one node for each in place of two entries.
+    /// Matches the rule of a name in NonAtomic from a position of a text on, with the empty stack, in at most
+    /// `steps` steps, and returns the trees in preorder. Errors are those of `parse`.
     pub fn parse_preorder<'a>(
         &'a self,
         alloc: Global,
@@ -139,17 +80,26 @@ impl Matcher {
         ensures refused { IfErr result (IsRefusedFrom (grammar_in self.entry.now)
             (properties_in self.entry.now) (chars rule.entry.now) (state_at start.entry) steps) }
     {
-        if let Some(answer) = self.run_program(alloc, rule, start, steps) {
-            return answer;
-        }
-        let found = self.interpreter.parse_from(alloc, rule, start, steps)?;
-        let rows = self.interpreter.program.rows.as_slice();
-        match trees_of(alloc, rows, &found.entries) {
-            Ok(trees) => Ok(Preorder {
-                trees,
-                end: found.end,
-                furthest: found.furthest,
-            }),
+        let Some(number) = last_index(self.program.rows.as_slice(), rule) else {
+            return Err(Refusal::UnknownRule(rule));
+        };
+        let mut machine = Machine::new(alloc);
+        let most = steps.saturating_mul(OPERATIONS);
+        let text = whole_text(start);
+        let entry = number as u32 + 3;
+        match machine.run_with_memory(alloc, &self.code, text, entry, start.pos(), most) {
+            Ok(RunEnd::Found(end)) => {
+                let place = machine.furthest;
+                let Machine { trees, .. } = machine;
+                Ok(Preorder {
+                    trees,
+                    end,
+                    furthest: place,
+                })
+            }
+            Ok(RunEnd::Failed) => Err(Refusal::NoMatch(machine.furthest)),
+            Ok(RunEnd::OutOfSteps) => Err(Refusal::Stopped(stop_of(steps, most))),
+            Ok(RunEnd::Stuck) => Err(Refusal::Stopped(Stop::EmptyStack)),
             Err(_) => Err(Refusal::Stopped(Stop::Memory)),
         }
     }
@@ -159,32 +109,7 @@ impl Matcher {
         ensures known { IfSome result (λ name. HasName self.entry.now row (chars name.now)) }
         ensures unknown { IfNone result (length (grammar_in self.entry.now) < row) }
     {
-        name_of(self.interpreter.program.rows.as_slice(), row)
-    }
-
-    /// Returns the match of a rule with its entries, or `None` if the interpreter has to answer.
-    fn run<'a>(
-        &'a self,
-        alloc: Global,
-        rule: &'a str,
-        start: Position<'a>,
-        steps: u64,
-    ) -> Option<Result<Found<'a>, Refusal<'a>>>
-        ensures { IfSome result
-            (IsAnswer self.entry.now (chars rule.entry.now) (state_at start.entry) steps) }
-    {
-        match self.run_program(alloc, rule, start, steps)? {
-            Ok(found) => match entries_of(alloc, &self.interpreter.program.rows, &found.trees) {
-                Ok(Some(entries)) => Some(Ok(Found {
-                    entries,
-                    end: found.end,
-                    furthest: found.furthest,
-                })),
-                Ok(None) => None,
-                Err(_) => Some(Err(Refusal::Stopped(Stop::Memory))),
-            },
-            Err(refusal) => Some(Err(refusal)),
-        }
+        name_of(self.program.rows.as_slice(), row)
     }
 
     /// Matches the rule of a name in NonAtomic from the start of a text, with the empty stack, in at most
@@ -222,57 +147,23 @@ impl Matcher {
         ensures refused { IfErr result (IsRefusedFrom (grammar_in self.entry.now)
             (properties_in self.entry.now) (chars rule.entry.now) (state_at start.entry) steps) }
     {
-        match self.run(alloc, rule, start, steps) {
-            Some(answer) => answer,
-            None => self.interpreter.parse_from(alloc, rule, start, steps),
+        let found = self.parse_preorder(alloc, rule, start, steps)?;
+        match entries_of(alloc, &self.program.rows, &found.trees) {
+            Ok(Some(entries)) => Ok(Found {
+                entries,
+                end: found.end,
+                furthest: found.furthest,
+            }),
+            Ok(None) | Err(_) => Err(Refusal::Stopped(Stop::Memory)),
         }
-    }
-
-    /// Returns the names that are expected at a position, by the program.
-    pub fn names_by_program<'a>(
-        &'a self,
-        alloc: Global,
-        rule: &'a str,
-        start: Position<'a>,
-        place: usize,
-        steps: u64,
-    ) -> Option<Result<Vec<&'a str>, Refusal<'a>>> {
-        let rows = self.interpreter.program.rows.as_slice();
-        let Some(number) = last_index(rows, rule) else {
-            return Some(Err(Refusal::UnknownRule(rule)));
-        };
-        let code = match compile_for_names(alloc, &self.interpreter.program) {
-            Ok(code) => code,
-            Err(NotCompiled::Unsupported) => return None,
-            Err(NotCompiled::Memory) => return Some(Err(Refusal::Stopped(Stop::Memory))),
-        };
-        let mut machine = Machine::new(alloc);
-        machine.asked = place;
-        let most = steps.saturating_mul(OPERATIONS);
-        let text = whole_text(start);
-        match machine.run_with_memory(alloc, &code, text, number as u32 + 3, start.pos(), most) {
-            Ok(RunEnd::Found(_)) | Ok(RunEnd::Failed) => {}
-            Ok(RunEnd::OutOfSteps) => return Some(Err(Refusal::Stopped(Stop::OutOfSteps))),
-            Ok(RunEnd::Stuck) => return Some(Err(Refusal::Stopped(Stop::EmptyStack))),
-            Err(_) => return Some(Err(Refusal::Stopped(Stop::Memory))),
-        }
-        let mut names = Vec::new(alloc);
-        for row in &machine.names {
-            if let Some(name) = name_of(rows, *row) {
-                if names.push(name).is_err() {
-                    return Some(Err(Refusal::Stopped(Stop::Memory)));
-                }
-            }
-        }
-        Some(Ok(names))
     }
 
     /// Returns the names that are expected at `place`, in bytes, without duplicates, in the order in which
     /// they are first called there. Where `parse` refuses a text by `NoMatch` of that position, they are the
     /// rules that could have let the run get further.
     ///
-    /// The rule is run as by `parse`, but interpreted. Errors are those of `parse`, but a text on which the
-    /// rule fails has an answer.
+    /// The rule is compiled once more, and run as by `parse`. Errors are those of `parse`, but a text on which
+    /// the rule fails has an answer.
     pub fn expected_at<'a>(
         &'a self,
         alloc: Global,
@@ -286,8 +177,7 @@ impl Matcher {
         ensures refused { IfErr result (IsUnanswered (grammar_in self.entry.now)
             (properties_in self.entry.now) (chars rule.entry.now) text.entry.now steps) }
     {
-        self.interpreter
-            .expected_at(alloc, rule, text, place, steps)
+        self.expected_from(alloc, rule, Span::of(text, 0, 0).start_pos(), place, steps)
     }
 
     /// Returns the names as `expected_at`, in a run as by `parse_from`; `place` is counted from the start
@@ -305,7 +195,46 @@ impl Matcher {
         ensures refused { IfErr result (IsUnansweredFrom (grammar_in self.entry.now)
             (properties_in self.entry.now) (chars rule.entry.now) (state_at start.entry) steps) }
     {
-        self.interpreter
-            .expected_from(alloc, rule, start, place, steps)
+        let Some(number) = last_index(self.program.rows.as_slice(), rule) else {
+            return Err(Refusal::UnknownRule(rule));
+        };
+        let Ok(code) = compile_for_names(alloc, &self.program) else {
+            return Err(Refusal::Stopped(Stop::Memory));
+        };
+        let mut machine = Machine::new(alloc);
+        machine.asked = place;
+        let most = steps.saturating_mul(OPERATIONS);
+        let text = whole_text(start);
+        let entry = number as u32 + 3;
+        match machine.run_with_memory(alloc, &code, text, entry, start.pos(), most) {
+            Ok(RunEnd::Found(_)) | Ok(RunEnd::Failed) => match self.names_of(alloc, &machine.names) {
+                Ok(names) => Ok(names),
+                Err(_) => Err(Refusal::Stopped(Stop::Memory)),
+            },
+            Ok(RunEnd::OutOfSteps) => Err(Refusal::Stopped(stop_of(steps, most))),
+            Ok(RunEnd::Stuck) => Err(Refusal::Stopped(Stop::EmptyStack)),
+            Err(_) => Err(Refusal::Stopped(Stop::Memory)),
+        }
+    }
+
+    /// Returns the names of rows. The only error is an allocation failure.
+    fn names_of(&self, alloc: Global, rows: &[u32]) -> Result<Vec<&str>, AllocError> {
+        let mut names = Vec::with_capacity(alloc, rows.len())?;
+        for row in rows {
+            if let Some(name) = self.rule_name(*row) {
+                names.push(name)?;
+            }
+        }
+        Ok(names)
+    }
+}
+
+/// Returns why a run was stopped that took so many operations: `steps` times as many as a step has, unless a
+/// `u64` counts no more.
+fn stop_of(steps: u64, most: u64) -> Stop {
+    if most / OPERATIONS == steps {
+        Stop::OutOfSteps
+    } else {
+        Stop::Memory
     }
 }

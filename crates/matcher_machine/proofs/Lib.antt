@@ -1,5 +1,7 @@
 pub mod Stepping
 pub mod Stopping
+pub mod Naming
 pub mod Stacking
+pub mod Following
 pub mod Framing
 pub mod Recalling

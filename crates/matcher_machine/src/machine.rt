@@ -1,6 +1,6 @@
 //! The state of a machine.
-ghost use Rattle.std.specs.Prelude.{length, reverse};
-ghost use Rattle.matcher_machine.specs.Links.{AreHeld, AreHeld-prop};
+ghost use Rattle.std.specs.Prelude.{◌≤◌, length, reverse};
+ghost use Rattle.matcher_machine.specs.Links.{AreHeld, AreHeld-prop, AreNamed, AreNamed-prop};
 
 use crate::slot::Slot;
 use crate::stack::TextStack;
@@ -17,10 +17,13 @@ pub struct Machine {
     pub stack: TextStack,
     /// The furthest position, in bytes, at which a call that counts has failed.
     pub furthest: usize,
-    /// The position at which names are asked for, and the rows of the rules that are expected there.
+    /// The position, in bytes, at which names are asked for.
     pub asked: usize,
+    /// The rows of the rules that are expected there.
     pub names: Vec<u32>,
     ghost held: { AreHeld (length stack.pushed.items) (reverse slots.items) } by { AreHeld-prop _ _ },
+    ghost named: { AreNamed (length names.items) (reverse slots.items) } by { AreNamed-prop _ _ },
+    ghost few: { length names.items ≤ 65535 },
 }
 
 /// The result of an operation.
@@ -69,15 +72,17 @@ pub(crate) struct Blanks {
 }
 
 impl Machine {
-    ghost use Rattle.std.specs.Prelude.{◌≡◌, []};
+    ghost use Rattle.std.specs.Prelude.{◌≡◌, ◌-◌, ◌^◌, []};
 
-    /// Returns a machine before its first step.
+    /// Returns a machine before its first step. Names are asked for at no position of a text.
     pub fn new(alloc: Global) -> Machine
         ensures slots { result.slots.items ≡ [] }
         ensures trees { result.trees.items ≡ [] }
         ensures pushed { result.stack.pushed.items ≡ [] }
         ensures top { result.stack.top ≡ 0 }
         ensures furthest { result.furthest ≡ 0 }
+        ensures asked { result.asked ≡ 2 ^ 64 - 1 }
+        ensures names { result.names.items ≡ [] }
     {
         Machine {
             slots: Vec::new(alloc),

@@ -15,8 +15,8 @@ use Rattle.base_language.proofs.FailuresStand.{stands_at}
 use Rattle.base_language.proofs.InBytes.{on_bytes}
 use Rattle.matcher_program.specs.Programs.{Fits}
 use Rattle.matcher_program.specs.declared.form.Property.{Property}
-use Rattle.matcher_interpreter.specs.Answers.{AreExpectedFrom, FailsWith, HasAt}
-use Rattle.matcher_interpreter.specs.ExpectedNames.{each_once, name_texts}
+use Rattle.matcher_program.specs.Answers.{AreExpectedFrom, FailsWith, HasAt}
+use Rattle.matcher_program.specs.ExpectedNames.{each_once, name_texts}
 use Rattle.matcher_pairs.specs.Parses.{IsErrorAt}
 use Rattle.matcher_pairs.specs.Trees.{Name}
 

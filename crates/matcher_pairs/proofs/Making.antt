@@ -2,8 +2,8 @@
 use Rattle.std.proofs.Common.{◌≡◌, sym, ◌∙◌, ap, ℕ, suc, ◌-◌, ◌<◌, ◌≤◌, List, ◌∷◌, length, drop, get_or, map, arith}
 use Rattle.std.proofs.Math.Seq.{drop-cons}
 use Rattle.std.proofs.lemmas.List.{drop-map}
-use Rattle.matcher_interpreter.specs.Written.{entry_of}
-use Rattle.matcher_interpreter.specs.declared.entries.Entry as code
+use Rattle.matcher_program.specs.Written.{entry_of}
+use Rattle.matcher_program.specs.declared.answers.Entry as code
 use Rattle.front_syntax.specs.Building.{Making, making_from, with_one_more}
 
 pub made_more : (es : List code.Entry) (left : ℕ) (d : code.Entry) (k : Making) → 0 < left → left ≤ length es

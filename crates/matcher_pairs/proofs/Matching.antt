@@ -12,8 +12,8 @@ use Rattle.base_language.proofs.InBytes.{on_bytes}
 use Rattle.base_language.proofs.OneOutcome.{same, same_trees}
 use Rattle.matcher_program.specs.Programs.{Fits}
 use Rattle.matcher_program.specs.declared.form.Property.{Property}
-use Rattle.matcher_interpreter.specs.Answers.{HasAt, IsMatchedFrom}
-use Rattle.matcher_interpreter.specs.declared.matcher.Found.{Found}
+use Rattle.matcher_program.specs.Answers.{HasAt, IsMatchedFrom}
+use Rattle.matcher_program.specs.declared.answers.Found.{Found}
 use Rattle.matcher_pairs.specs.Spliced.{CanWrap, spliced}
 use Rattle.matcher_pairs.specs.Tags.{tagged, untagged}
 use Rattle.matcher_pairs.specs.Wrapped.{wrapped_grammar}

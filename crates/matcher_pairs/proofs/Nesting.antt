@@ -14,7 +14,7 @@ use Rattle.base_language.specs.declared.runtime.places.Position.{Position}
 use Rattle.base_language.proofs.InBytes.{ends_within, on_bytes, sizes}
 use Rattle.base_language.proofs.PairLemmas.{AreNested-wider}
 use Rattle.base_language.proofs.TreesAreNested.{fits}
-use Rattle.matcher_interpreter.specs.Answers.{HasAt, state_at}
+use Rattle.matcher_program.specs.Answers.{HasAt, state_at}
 use Rattle.matcher_pairs.specs.Trees.{Name, by_name}
 
 -- a position of a text is a state in it

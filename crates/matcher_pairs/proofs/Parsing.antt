@@ -6,9 +6,9 @@ use Rattle.base_language.specs.Language.Text.{Text}
 use Rattle.base_language.specs.Pieces.Span.{position_text}
 use Rattle.base_language.specs.declared.runtime.places.Position.{Position}
 use Rattle.base_language.proofs.OneOutcome.{same, same_state}
-use Rattle.matcher_interpreter.specs.Answers.{IsMatched, start_of}
-use Rattle.matcher_interpreter.specs.Endings.{classes_in}
-use Rattle.matcher_interpreter.specs.declared.matcher.Found.{Found}
+use Rattle.matcher_program.specs.Answers.{IsMatched, start_of}
+use Rattle.matcher_program.specs.Classes.{classes_in}
+use Rattle.matcher_program.specs.declared.answers.Found.{Found}
 use Rattle.matcher_pairs.specs.Wrapped.{wrapped_grammar}
 use Rattle.matcher_pairs.proofs.WrappedRules.{shows_tags}
 use Rattle.matcher_engine.specs.Matchers.{grammar_in, properties_in}

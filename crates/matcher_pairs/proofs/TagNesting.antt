@@ -9,7 +9,7 @@ use Rattle.base_language.specs.Language.Text.{Text, IsPosition}
 use Rattle.base_language.specs.Pieces.TokenTrees.{NoTokens, Token, followed_by}
 use Rattle.base_language.proofs.InBytes.{ends_within}
 use Rattle.base_language.proofs.TreesAreNested.{fits}
-use Rattle.matcher_interpreter.specs.Answers.{HasAt, start_of}
+use Rattle.matcher_program.specs.Answers.{HasAt, start_of}
 use Rattle.matcher_pairs.specs.Names.{tag_in}
 use Rattle.matcher_pairs.specs.Spliced.{spliced, with_next}
 use Rattle.matcher_pairs.specs.Tags.{TaggedTrees, has_trees, untagged, with_tag}

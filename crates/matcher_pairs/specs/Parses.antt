@@ -12,8 +12,8 @@ use Rattle.base_language.specs.declared.runtime.errors.Error.{Error}
 use Rattle.base_language.specs.declared.runtime.errors.InputLocation.TheVariants as location
 use Rattle.base_language.specs.declared.runtime.errors.LineColLocation.TheVariants as line_col
 use Rattle.matcher_program.specs.Programs.{Fits}
-use Rattle.matcher_interpreter.specs.Answers.{HasAt, IsStoppedFrom, start_of}
-use Rattle.matcher_interpreter.specs.ExpectedNames.{each_once}
+use Rattle.matcher_program.specs.Answers.{HasAt, IsStoppedFrom, start_of}
+use Rattle.matcher_program.specs.ExpectedNames.{each_once}
 use Rattle.matcher_support.specs.Expectations.{failure_message}
 use Rattle.matcher_engine.specs.Matchers.{grammar_in, properties_in}
 use Rattle.matcher_engine.specs.declared.matcher.Matcher.{Matcher}

@@ -9,9 +9,9 @@ use Rattle.base_language.specs.Pieces.TokenTrees.{NoTokens}
 use Rattle.base_language.specs.declared.runtime.tokens.Pairs.{Pairs}
 use Rattle.matcher_program.specs.Programs.{Fits}
 use Rattle.matcher_program.specs.declared.form.Property.{Property}
-use Rattle.matcher_interpreter.specs.Answers.{HasAt, IsMatchedFrom}
-use Rattle.matcher_interpreter.specs.Written.{seen}
-use Rattle.matcher_interpreter.specs.declared.matcher.Found.{Found}
+use Rattle.matcher_program.specs.Answers.{HasAt, IsMatchedFrom}
+use Rattle.matcher_program.specs.Written.{seen}
+use Rattle.matcher_program.specs.declared.answers.Found.{Found}
 use Rattle.front_syntax.specs.Entries.{entries_of}
 use Rattle.matcher_pairs.specs.Spliced.{CanWrap, spliced}
 use Rattle.matcher_pairs.specs.Tags.{tagged, untagged}

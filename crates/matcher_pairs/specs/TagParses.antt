@@ -7,7 +7,7 @@ use Rattle.base_language.specs.Language.Text.{Text}
 use Rattle.base_language.specs.Pieces.Pairs.{pairs_text, pairs_trees}
 use Rattle.base_language.specs.Pieces.TokenTrees.{NoTokens}
 use Rattle.matcher_program.specs.Programs.{Fits}
-use Rattle.matcher_interpreter.specs.Answers.{Has}
+use Rattle.matcher_program.specs.Answers.{Has}
 use Rattle.matcher_pairs.specs.Spliced.{CanWrap, spliced}
 use Rattle.matcher_pairs.specs.Tags.{tagged}
 use Rattle.matcher_pairs.specs.Wrapped.{wrapped_grammar}

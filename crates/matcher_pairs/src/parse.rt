@@ -5,16 +5,16 @@ ghost use Rattle.base_language.specs.Language.State.{Trees};
 ghost use Rattle.base_language.specs.Pieces.Pairs.{pairs_text, pairs_trees};
 ghost use Rattle.base_language.specs.Pieces.Span.{position_text};
 ghost use Rattle.base_language.specs.Pieces.TokenTrees.{AreNested};
-ghost use Rattle.matcher_interpreter.specs.Answers.{FailsWith, IsMatchedFrom, state_at};
-ghost use Rattle.matcher_interpreter.specs.ExpectedNames.{name_texts};
+ghost use Rattle.matcher_program.specs.Answers.{FailsWith, IsMatchedFrom, state_at};
+ghost use Rattle.matcher_program.specs.ExpectedNames.{name_texts};
 ghost use Rattle.matcher_engine.specs.Matchers.{grammar_in, properties_in};
 ghost use Rattle.matcher_pairs.specs.Parses.{IsErrorAt, IsMatch, IsMatchFrom, IsRefused, IsRefusedFrom};
 
 use crate::trees::build_trees;
 use base_language::runtime::{Error, ErrorVariant, Fault, Pairs, Position, Span};
 use matcher_engine::matcher::Matcher;
-use matcher_interpreter::machine::Stop;
-use matcher_interpreter::matcher::{Found, Refusal, whole_text};
+use matcher_program::answers::Stop;
+use matcher_program::answers::{Found, Refusal, whole_text};
 use matcher_support::expectations::failure_message;
 use std::alloc::{AllocError, Global};
 

@@ -1,14 +1,14 @@
 //! Token trees from the list of their entries.
 ghost use Rattle.std.specs.Prelude.{◌≡◌, IfOk};
 ghost use Rattle.base_language.specs.Language.State.{Trees};
-ghost use Rattle.matcher_interpreter.specs.Written.{entry_of, seen};
+ghost use Rattle.matcher_program.specs.Written.{entry_of, seen};
 ghost use Rattle.front_syntax.specs.Building.{with_one_more};
 ghost use Rattle.front_syntax.specs.Entries.{entries_of};
 ghost use Rattle.matcher_pairs.specs.Trees.{by_name, making_of};
 ghost use Rattle.base_language.specs.Pieces.TreeViews.{trees_of};
 
 use base_language::runtime::TokenTree;
-use matcher_interpreter::entries::Entry;
+use matcher_program::answers::Entry;
 use std::alloc::{AllocError, Global};
 
 /// The end of a tree whose start is not read yet, and the trees after it, the last first.

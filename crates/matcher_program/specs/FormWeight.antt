@@ -5,7 +5,7 @@ use Rattle.matcher_program.specs.declared.form.Form.TheVariants as form
 
 -- the size of a form in which left sides weigh double, so that a rotation makes it lighter
 abbrev pub weight : Form → ℕ
-weight (form.Set' flags p a) = weight a + 1
+weight (form.Set' p a) = weight a + 1
 weight (form.PosPred' p a) = weight a + 1
 weight (form.NegPred' p a) = weight a + 1
 weight (form.Seq' p a q b) = 2 * weight a + weight b + 1

@@ -1,7 +1,11 @@
 pub mod Programs
-pub mod Rests
 pub mod Compiled
 pub mod Indexed
 pub mod Forming
 pub mod FormWeight
 pub mod Refusals
+pub mod Answers
+pub mod Classes
+pub mod ExpectedNames
+pub mod Sizes
+pub mod Written

@@ -3,7 +3,7 @@ use Rattle.std.specs.Prelude.{◌≡◌, ◌<◌, ℕ, List, [], ◌∷◌, Opti
 use Rattle.base_language.specs.Language.Text.{Text}
 use Rattle.base_ast.specs.Ast.{rule_type_of, text_of}
 use Rattle.base_language.specs.Language.Builtins.{Property as PropertyOf, builtin_of, is_between, is_letter, is_lower, is_upper}
-use Rattle.base_language.specs.Language.Matching.{any_begins, starts_in}
+use Rattle.base_language.specs.Language.Matching.{starts_in}
 use Rattle.base_language.specs.Language.State.{Classes}
 use Rattle.base_language.specs.Language.Expression as spec
 use Rattle.base_language.specs.Language.Expression.{Expression, Rule, Grammar, rule_of, whitespace, comment}
@@ -61,41 +61,6 @@ characters_of (form.One k) = set_of k
 characters_of (form.Choice' p a q b) = λ c. characters_of a c || characters_of b c
 characters_of _ = λ c. false
 
--- for a first character, by number, the flag is set iff the form matches it
-pub record IsSetOf (flags : List Bool) (f : Form) : Type 0 where
-  pub one : is_set f ≡ true
-  pub told : (c : ℕ) → c < length flags → get_or flags c false ≡ characters_of f c
-
--- whether a text may begin with a character, for any continuation of that
-abbrev pub may_start : Text → ℕ → Bool
-may_start [] c = true
-may_start (d ∷ t) c = nat_eq d c
-
--- whether a form may begin with a character; where not, it fails at once, and calls no rule before
-abbrev pub may_begin : Form → ℕ → Bool
-may_begin (form.Str t) = may_start (text_of t)
-may_begin (form.Range a b) = is_between a b
-may_begin (form.One k) = set_of k
-may_begin (form.Set' flags p a) = characters_of a
-may_begin (form.PosPred' p a) = may_begin a
-may_begin (form.Seq' p a q b) = may_begin a
-may_begin (form.Choice' p a q b) = λ c. may_begin a c || may_begin b c
-may_begin (form.RepOnce' p a) = may_begin a
-may_begin (form.Push' p a) = may_begin a
-may_begin (form.Tag' p a t) = may_begin a
-may_begin (form.Restore' p a) = may_begin a
-may_begin _ = λ c. true
-
--- the text begins with a character that has a flag, which is not set
-abbrev pub IsBarred : List Bool → Text → Type 0
-IsBarred flags [] = ⊥
-IsBarred flags (c ∷ t) = (c < length flags) × (get_or flags c true ≡ false)
-
--- none of the texts begins with one of the first characters by number whose flag is not set
-abbrev pub AreStops : List Bool → List Text → Type 0
-AreStops flags texts = (c : ℕ) (u : Text) → c < length flags → get_or flags c true ≡ false
-    → any_begins texts (c ∷ u) ≡ false
-
 -- the character is in one of the ranges
 abbrev pub is_in_ranges : List (ℕ × ℕ) → ℕ → Bool
 is_in_ranges [] c = false
@@ -117,7 +82,7 @@ module _ (names : List Text) where
   expression_of (form.Insens t) = spec.Insens (text_of t)
   expression_of (form.Range a b) = spec.Range (a ∷ []) (b ∷ [])
   expression_of (form.One k) = spec.Ident (class_name k)
-  expression_of (form.Set' flags p a) = expression_of a
+  expression_of (form.Set' p a) = expression_of a
   expression_of form.Start = spec.Ident (codes "SOI")
   expression_of form.End = spec.Ident (codes "EOI")
   expression_of form.Newline = spec.Ident (codes "NEWLINE")
@@ -130,7 +95,7 @@ module _ (names : List Text) where
   expression_of (form.Opt' p a) = spec.Opt (expression_of a)
   expression_of (form.Rep' p a) = spec.Rep (expression_of a)
   expression_of (form.RepOnce' p a) = spec.RepOnce (expression_of a)
-  expression_of (form.Skip ss stops) = spec.Skip (map text_of ss.items)
+  expression_of (form.Skip ss) = spec.Skip (map text_of ss.items)
   expression_of (form.Push' p a) = spec.Push (expression_of a)
   expression_of (form.PushLiteral s) = spec.PushLiteral (text_of s)
   expression_of (form.Tag' p a t) = spec.NodeTag (expression_of a) (text_of t)
@@ -178,7 +143,7 @@ IsPropertyOf g ps n i = record {
 -- the names in a form mean what they are resolved to
 abbrev pub IsBound : Grammar → List Text → List Property → Form → Type 0
 IsBound g names ps (form.One k) = rule_of g (class_name k) ≡ None
-IsBound g names ps (form.Set' flags p a) = IsSetOf flags.items a × IsBound g names ps a
+IsBound g names ps (form.Set' p a) = (is_set a ≡ true) × IsBound g names ps a
 IsBound g names ps form.Start = rule_of g (codes "SOI") ≡ None
 IsBound g names ps form.End = rule_of g (codes "EOI") ≡ None
 IsBound g names ps form.Newline = rule_of g (codes "NEWLINE") ≡ None
@@ -191,7 +156,6 @@ IsBound g names ps (form.Choice' p a q b) = IsBound g names ps a × IsBound g na
 IsBound g names ps (form.Opt' p a) = IsBound g names ps a
 IsBound g names ps (form.Rep' p a) = IsBound g names ps a
 IsBound g names ps (form.RepOnce' p a) = IsBound g names ps a
-IsBound g names ps (form.Skip ss stops) = AreStops stops.items (map text_of ss.items)
 IsBound g names ps (form.Push' p a) = IsBound g names ps a
 IsBound g names ps (form.Tag' p a t) = IsBound g names ps a
 IsBound g names ps (form.Restore' p a) = IsBound g names ps a
@@ -214,8 +178,6 @@ pub record IsKnown (g : Grammar) (number : Option ℕ) : Type 0 where
 abbrev pub IsRow : Grammar → List Text → List Property → Row → Type 0
 IsRow g names ps r = record {
   bound : IsBound g names ps r.body;
-  firsts : (c : ℕ) → c < length r.firsts.items → get_or r.firsts.items c true ≡ false
-      → may_begin r.body c ≡ false;
   blank : r.blank ≡ (bytes_eq (text_of r.name) whitespace || bytes_eq (text_of r.name) comment);
 }
 

@@ -18,7 +18,7 @@ use crate::form::{Class, Form, Program, Property, Row};
 use crate::forms::form_of;
 use crate::indexed::{Indexed, index_rules};
 use crate::properties::{Properties, find_property, properties_in};
-use crate::sets::{firsts_of, to_set};
+use crate::sets::to_set;
 use crate::texts::same;
 use base_ast::optimized::OptimizedRule;
 use front_names::{Builtin, CharSet, comment_name, unicode_property_names, whitespace_name};
@@ -188,12 +188,10 @@ fn row_of(
     let name = rule.name.clone()?;
     let blank = is_blank(name.as_str());
     let body = to_set(alloc, form_of(alloc, rules, properties, &rule.expr)?)?;
-    let firsts = firsts_of(alloc, &body)?;
     Ok(Row {
         name,
         kind: rule.ty,
         blank,
-        firsts,
         body,
     })
 }

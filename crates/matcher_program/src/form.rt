@@ -25,8 +25,8 @@ pub enum Form {
     Insens(String),
     Range(char, char),
     One(Class),
-    /// One of some characters, those of the boxed form; the flags by number are for the first characters.
-    Set(Vec<bool>, Box<Form>),
+    /// One of some characters, those of the boxed form.
+    Set(Box<Form>),
     Start,
     End,
     Newline,
@@ -41,9 +41,8 @@ pub enum Form {
     Opt(Box<Form>),
     Rep(Box<Form>),
     RepOnce(Box<Form>),
-    /// A forward search for the first of some texts, or to the end; a flag is set if one of the texts may
-    /// begin with the character of that number.
-    Skip(Vec<String>, Vec<bool>),
+    /// A forward search for the first of some texts, or to the end.
+    Skip(Vec<String>),
     Push(Box<Form>),
     PushLiteral(String),
     /// A tagged form, with its tag.
@@ -57,14 +56,12 @@ pub enum Form {
     PeekSlice(i32, Option<i32>),
 }
 
-/// A compiled rule. `blank`: the rule has one of the two names that are skipped implicitly. `firsts`: the
-/// first set; a flag is set if the body may begin with the character of that number. The body is dropped
-/// iteratively.
+/// A compiled rule. `blank`: the rule has one of the two names that are skipped implicitly. The body is
+/// dropped iteratively.
 pub struct Row {
     pub name: String,
     pub kind: RuleType,
     pub blank: bool,
-    pub firsts: Vec<bool>,
     pub body: Form,
 }
 
@@ -74,7 +71,6 @@ impl Drop for Row {
             name: _,
             kind: _,
             blank: _,
-            firsts: _,
             body,
         } = self;
         body.release();

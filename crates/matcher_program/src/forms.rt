@@ -16,7 +16,7 @@ ghost use Rattle.matcher_program.specs.declared.form.Property.{Property};
 use crate::compile::{Unfit, range_bound, resolve_name};
 use crate::form::{Form, Property};
 use crate::indexed::Indexed;
-use crate::sets::{stops_of, to_set};
+use crate::sets::to_set;
 use base_ast::deep::Deep;
 use base_ast::optimized::OptimizedExpr;
 use base_ast::rebuilt::Step;
@@ -71,11 +71,7 @@ fn begin<'e>(
         ))),
         E::Ident(name) => return Ok(Step::Made(resolve_name(rules, properties, name)?)),
         E::PeekSlice(start, end) => return Ok(Step::Made(Form::PeekSlice(*start, *end))),
-        E::Skip(texts) => {
-            let texts = copy_texts(texts)?;
-            let stops = stops_of(alloc, &texts)?;
-            return Ok(Step::Made(Form::Skip(texts, stops)));
-        }
+        E::Skip(texts) => return Ok(Step::Made(Form::Skip(copy_texts(texts)?))),
         E::PushLiteral(text) => return Ok(Step::Made(Form::PushLiteral(text.clone()?))),
         E::PosPred(inner) => (CompilerFrame::PosPred, inner),
         E::NegPred(inner) => (CompilerFrame::NegPred, inner),

@@ -1,13 +1,13 @@
 //! Optimized rules compiled for the matcher, with resolved names, and the leaf expressions.
 #![tactic(auto)]
 
+pub mod answers;
 pub mod compile;
 pub mod form;
 pub mod forms;
 mod indexed;
 pub mod laws;
-pub mod leaves;
 pub mod properties;
 mod released;
-pub mod sets;
+mod sets;
 pub mod texts;

@@ -10,10 +10,10 @@ impl Release for Form {
         let mut rest = self;
         'parts: loop {
             match rest {
-                Form::Set(_flags, inner) => rest = Box::into_inner(inner),
-                Form::PosPred(inner) | Form::NegPred(inner) | Form::Opt(inner) => {
-                    rest = Box::into_inner(inner);
-                }
+                Form::Set(inner) | Form::PosPred(inner) | Form::NegPred(inner) | Form::Opt(inner) =>
+                    {
+                        rest = Box::into_inner(inner);
+                    }
                 Form::Rep(inner)
                 | Form::RepOnce(inner)
                 | Form::Push(inner)
@@ -38,14 +38,14 @@ fn rotate(mut left: Box<Form>, right: Box<Form>) -> Form
             let _ = Box::replace(&mut left, Form::Seq(second, right));
             Form::Seq(first, left)
         }
-        Form::PosPred(inner)
+        Form::Set(inner)
+        | Form::PosPred(inner)
         | Form::NegPred(inner)
         | Form::Opt(inner)
         | Form::Rep(inner)
         | Form::RepOnce(inner)
         | Form::Push(inner)
         | Form::Restore(inner) => Form::Seq(inner, right),
-        Form::Set(_flags, inner) => Form::Seq(inner, right),
         Form::Tag(inner, _tag) => Form::Seq(inner, right),
         _ => Box::into_inner(right),
     }

@@ -162,7 +162,7 @@ module _ (p : Program) (classes : Classes) where
       choice_of_sets g classes (mode_of m) (said p a) (said p c) (characters_of a) (characters_of c)
       (set_outcome m a (one_is_set a k.0) b.0) (set_outcome m c k.1 b.1)
   set_outcome m (form.Insens t) h b = cc
-  set_outcome m (form.Set' fs q a) h b = cc
+  set_outcome m (form.Set' q a) h b = cc
   set_outcome m form.Start h b = cc
   set_outcome m form.End h b = cc
   set_outcome m form.Newline h b = cc
@@ -174,7 +174,7 @@ module _ (p : Program) (classes : Classes) where
   set_outcome m (form.Opt' q a) h b = cc
   set_outcome m (form.Rep' q a) h b = cc
   set_outcome m (form.RepOnce' q a) h b = cc
-  set_outcome m (form.Skip ss stops) h b = cc
+  set_outcome m (form.Skip ss) h b = cc
   set_outcome m (form.Push' q a) h b = cc
   set_outcome m (form.PushLiteral t) h b = cc
   set_outcome m (form.Tag' q a t) h b = cc

@@ -33,7 +33,7 @@ fn included_set(form: &Form) -> Option<&Form>
     ensures { IfSome result (λ set. IsIncluded form.entry.now set.now) }
 {
     match form {
-        Form::Set(_, set) => Some(set),
+        Form::Set(set) => Some(set),
         Form::Range(_, _) | Form::One(_) => Some(form),
         Form::Str(text) => single_form(form, text.as_str()),
         _ => None,

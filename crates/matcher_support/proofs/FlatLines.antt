@@ -5,8 +5,8 @@ use Rattle.std.proofs.lemmas.List.{drop_all}
 use Rattle.base_language.specs.Language.Text.{Text}
 use Rattle.base_language.specs.Language.State.{Trees, None', Tree}
 use Rattle.front_syntax.specs.Entries.{Entry, Starts, Ends, entries_of, entry_count}
-use Rattle.matcher_interpreter.specs.Written.{entry_of, seen}
-use Rattle.matcher_interpreter.specs.declared.entries.Entry as code
+use Rattle.matcher_program.specs.Written.{entry_of, seen}
+use Rattle.matcher_program.specs.declared.answers.Entry as code
 use Rattle.matcher_support.specs.Flat.{before_of, flat, level_after, opening, piece}
 use Rattle.matcher_support.specs.Shown.{behind, line_start, shown}
 use Rattle.matcher_support.specs.declared.shown.Before.{Before}

@@ -8,8 +8,8 @@ use Rattle.base_language.specs.Language.Text.{Text}
 use Rattle.base_language.specs.Language.State.{Trees, None', Tree}
 use Rattle.front_syntax.specs.Entries.{Entry, Starts, Ends, entries_of, entry_count}
 use Rattle.front_syntax.proofs.EntryLists.{length-entries}
-use Rattle.matcher_interpreter.specs.Written.{entry_of, seen}
-use Rattle.matcher_interpreter.specs.declared.entries.Entry as code
+use Rattle.matcher_program.specs.Written.{entry_of, seen}
+use Rattle.matcher_program.specs.declared.answers.Entry as code
 use Rattle.matcher_support.specs.Json.{closing, closing_of, flat, head, is_end, own_data, piece}
 use Rattle.matcher_support.specs.Shown.{part}
 use Rattle.matcher_support.specs.Values.{answer_data, inner_data, leaf_data, tree_data, trees_data}

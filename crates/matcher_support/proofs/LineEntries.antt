@@ -3,8 +3,8 @@ use Rattle.std.proofs.Common.{◌≡◌, ℕ, ◌+◌, ◌-◌, ◌<◌, ◌≤�
 use Rattle.std.proofs.lemmas.List.{drop_all}
 use Rattle.base_language.specs.Language.State.{Trees, None', Tree}
 use Rattle.front_syntax.specs.Entries.{Entry, Starts, Ends, entries_of, entry_count}
-use Rattle.matcher_interpreter.specs.Written.{entry_of, seen}
-use Rattle.matcher_interpreter.specs.declared.entries.Entry as code
+use Rattle.matcher_program.specs.Written.{entry_of, seen}
+use Rattle.matcher_program.specs.declared.answers.Entry as code
 use Rattle.matcher_support.specs.Lines.{depth_after, end_at, flat, line, lines_of, piece, position_of}
 use Rattle.matcher_support.proofs.JsonEntries.{after_front, first_of_rest, rest_of_rest}
 

@@ -1,7 +1,7 @@
 //! Messages on what is expected in a text.
 ghost use Rattle.std.specs.Prelude.{◌≡◌, ◌==◌, ◌++◌, IfOk, OnOk, encode_utf8_all, length, string_bytes};
 ghost use Rattle.std.specs.Str.{chars};
-ghost use Rattle.matcher_interpreter.specs.ExpectedNames.{name_texts};
+ghost use Rattle.matcher_program.specs.ExpectedNames.{name_texts};
 ghost use Rattle.matcher_support.specs.Expectations.{failure_message, list_text, name_separator, other_names};
 
 use std::alloc::{AllocError, Global};

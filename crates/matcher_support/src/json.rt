@@ -2,14 +2,14 @@
 ghost use Rattle.std.specs.Prelude.{◌≡◌, ◌++◌, ◌<◌, IfOk, OnOk, chars, encode_utf8_all, length, string_bytes};
 ghost use Rattle.base_language.specs.Language.State.{Trees};
 ghost use Rattle.front_syntax.specs.Entries.{entries_of};
-ghost use Rattle.matcher_interpreter.specs.Written.{entry_of, seen};
+ghost use Rattle.matcher_program.specs.Written.{entry_of, seen};
 ghost use Rattle.matcher_support.specs.Json.{closing, head, is_end, own_data, piece};
 ghost use Rattle.matcher_support.specs.Values.{answer_data, leaf_data};
 ghost use Rattle.serde_json.specs.View.{view};
 ghost use Rattle.serde_json.specs.Written.{compact_text};
 
 use crate::shown::part_of;
-use matcher_interpreter::entries::Entry;
+use matcher_program::answers::Entry;
 use serde_json::{Value, json};
 use std::alloc::{AllocError, Global};
 

@@ -2,11 +2,11 @@
 ghost use Rattle.std.specs.Prelude.{◌≡◌, ◌+◌, ◌<◌, ◌≤◌, ◌^◌, ◌++◌, IfOk, OnOk, string_bytes};
 ghost use Rattle.base_language.specs.Language.State.{Trees};
 ghost use Rattle.front_syntax.specs.Entries.{entries_of};
-ghost use Rattle.matcher_interpreter.specs.Written.{entry_of, seen};
+ghost use Rattle.matcher_program.specs.Written.{entry_of, seen};
 ghost use Rattle.matcher_support.specs.Lines.{depth_after, end_at, lines_of, numbers, piece};
 
 use crate::shown::write_name;
-use matcher_interpreter::entries::Entry;
+use matcher_program::answers::Entry;
 use std::alloc::{AllocError, Global};
 
 /// Returns one line for each tree of a text, from the list of their starts and ends, before the lines of its

@@ -3,12 +3,12 @@ ghost use Rattle.std.specs.Prelude.{◌≡◌, ◌+◌, ◌<◌, ◌≤◌, ◌^
 ghost use Rattle.std.specs.Str.{chars};
 ghost use Rattle.base_language.specs.Language.State.{Trees};
 ghost use Rattle.front_syntax.specs.Entries.{entries_of};
-ghost use Rattle.matcher_interpreter.specs.Written.{entry_of, seen};
+ghost use Rattle.matcher_program.specs.Written.{entry_of, seen};
 ghost use Rattle.matcher_support.specs.Flat.{before_of, level_after, opening, piece};
 ghost use Rattle.matcher_support.specs.Shown.{leaf, line_start, part, shown};
 
 use crate::literal::Literal;
-use matcher_interpreter::entries::Entry;
+use matcher_program::answers::Entry;
 use std::alloc::{AllocError, Global};
 
 /// The entry before an entry of a list: none, the start of a tree, or the end of one. Starts and ends have

@@ -8,9 +8,9 @@ use Rattle.base_ast.specs.Optimized.{optimized_rule_of}
 use Rattle.base_ast.specs.declared.optimized.OptimizedRule.{OptimizedRule}
 use Rattle.base_language.specs.Language.Expression.{Grammar, Rule, last_place}
 use Rattle.base_language.specs.Language.Text.{Text}
-use Rattle.matcher_interpreter.specs.ExpectedNames.{name_texts}
-use Rattle.matcher_interpreter.specs.Written.{entry_of, seen}
-use Rattle.matcher_interpreter.specs.declared.entries.Entry as code
+use Rattle.matcher_program.specs.ExpectedNames.{name_texts}
+use Rattle.matcher_program.specs.Written.{entry_of, seen}
+use Rattle.matcher_program.specs.declared.answers.Entry as code
 use Rattle.pest_meta_c.specs.Numbers.{entry_numbers, number_of, rule_number, rule_numbers, token_numbers}
 
 -- the last rule of a name, with none of that name after it

@@ -14,13 +14,13 @@ use Rattle.matcher_program.specs.declared.compile.Unfit.{Unfit}
 use Rattle.matcher_program.specs.declared.compile.Unfit.TheVariants as no
 use Rattle.matcher_program.specs.declared.form.Property.{Property}
 use Rattle.matcher_support.specs.Sets.{has_set, is_in_property}
-use Rattle.matcher_interpreter.specs.Answers.{AreExpectedAt, FailsAt, IsMatched, IsStopped}
-use Rattle.matcher_interpreter.specs.Written.{seen}
-use Rattle.matcher_interpreter.specs.declared.matcher.Found.{Found}
+use Rattle.matcher_program.specs.Answers.{AreExpectedAt, FailsAt, IsMatched, IsStopped}
+use Rattle.matcher_program.specs.Written.{seen}
+use Rattle.matcher_program.specs.declared.answers.Found.{Found}
 use Rattle.front_syntax.specs.Entries.{entries_of}
-use Rattle.matcher_interpreter.specs.ExpectedNames.{each_once, name_texts}
-use Rattle.matcher_interpreter.specs.declared.machine.Stop.{Stop}
-use Rattle.matcher_interpreter.specs.declared.machine.Stop.TheVariants as stop
+use Rattle.matcher_program.specs.ExpectedNames.{each_once, name_texts}
+use Rattle.matcher_program.specs.declared.answers.Stop.{Stop}
+use Rattle.matcher_program.specs.declared.answers.Stop.TheVariants as stop
 use Rattle.pest_meta_c.specs.Numbers.{failure_numbers, match_numbers}
 use Rattle.pest_meta_c.specs.MatchOutcomes.{HasMatched, IsFailureOutcome, IsOutcomeBy, IsRunOutcome, stopped_outcome, unfit_outcome}
 use Rattle.pest_meta_c.specs.declared.matching.outcome.MatchOutcome.{MatchOutcome}

@@ -18,11 +18,11 @@ use Rattle.matcher_program.specs.Refusals.{IsReason}
 use Rattle.matcher_program.specs.declared.compile.Unfit.{Unfit}
 use Rattle.matcher_program.specs.declared.compile.Unfit.TheVariants as unfit
 use Rattle.matcher_support.specs.Sets.{has_set, is_in_property}
-use Rattle.matcher_interpreter.specs.Answers.{Has}
-use Rattle.matcher_interpreter.specs.ExpectedNames.{each_once}
-use Rattle.matcher_interpreter.specs.Sizes.{most_steps}
-use Rattle.matcher_interpreter.specs.declared.machine.Stop.{Stop}
-use Rattle.matcher_interpreter.specs.declared.machine.Stop.TheVariants as stop
+use Rattle.matcher_program.specs.Answers.{Has}
+use Rattle.matcher_program.specs.ExpectedNames.{each_once}
+use Rattle.matcher_program.specs.Sizes.{most_steps}
+use Rattle.matcher_program.specs.declared.answers.Stop.{Stop}
+use Rattle.matcher_program.specs.declared.answers.Stop.TheVariants as stop
 use Rattle.pest_meta_c.specs.Numbers.{failure_numbers, match_numbers}
 use Rattle.pest_meta_c.specs.declared.matching.outcome.MatchOutcome.{MatchOutcome}
 use Rattle.pest_meta_c.specs.declared.matching.outcome.MatchOutcome.TheVariants as is

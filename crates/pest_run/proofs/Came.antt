@@ -19,13 +19,13 @@ use Rattle.base_language.proofs.TreesAreNested.{fits as fits_in}
 use Rattle.matcher_program.specs.Refusals.{IsReason}
 use Rattle.matcher_program.specs.declared.compile.Unfit.{Unfit}
 use Rattle.matcher_program.specs.declared.compile.Unfit.TheVariants as no
-use Rattle.matcher_interpreter.specs.Answers.{AreExpectedAt, FailsAt, Has, IsMatched, IsStopped, start_of}
-use Rattle.matcher_interpreter.specs.declared.matcher.Found.{Found}
-use Rattle.matcher_interpreter.specs.declared.machine.Stop.{Stop}
-use Rattle.matcher_interpreter.specs.declared.machine.Stop.TheVariants as stop
-use Rattle.matcher_interpreter.specs.ExpectedNames.{each_once, name_texts}
+use Rattle.matcher_program.specs.Answers.{AreExpectedAt, FailsAt, Has, IsMatched, IsStopped, start_of}
+use Rattle.matcher_program.specs.declared.answers.Found.{Found}
+use Rattle.matcher_program.specs.declared.answers.Stop.{Stop}
+use Rattle.matcher_program.specs.declared.answers.Stop.TheVariants as stop
+use Rattle.matcher_program.specs.ExpectedNames.{each_once, name_texts}
 use Rattle.matcher_program.specs.Programs.{Fits}
-use Rattle.matcher_interpreter.specs.Written.{seen}
+use Rattle.matcher_program.specs.Written.{seen}
 use Rattle.front_syntax.specs.Entries.{entries_of}
 use Rattle.matcher_program.specs.declared.form.Property.{Property}
 use Rattle.matcher_support.specs.Sets.{has_set, is_in_property}

@@ -14,7 +14,7 @@ use Rattle.pest_meta.specs.declared.report.Report.{Report}
 use Rattle.pest_meta.specs.declared.report.Report.TheVariants as report_is
 use Rattle.pest_run.specs.Ends.{EndsAs}
 use Rattle.matcher_support.specs.Sets.{is_in_property}
-use Rattle.matcher_interpreter.specs.Answers.{start_of}
+use Rattle.matcher_program.specs.Answers.{start_of}
 use Rattle.program_support.specs.Escapes.{escaped_lines}
 use Rattle.pest_run.specs.Messages.{no_rule_text, steps_text}
 use Rattle.pest_run.specs.Outcomes.{IsOutcome, IsShown}

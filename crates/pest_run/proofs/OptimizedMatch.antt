@@ -6,8 +6,8 @@ use Rattle.base_language.specs.Language.State.{State, Success}
 use Rattle.matcher_program.specs.Programs.{Fits}
 use Rattle.matcher_program.specs.declared.form.Property.{Property}
 use Rattle.matcher_support.specs.Sets.{is_in_property}
-use Rattle.matcher_interpreter.specs.Answers.{HasAt, start_of}
-use Rattle.matcher_interpreter.specs.declared.matcher.Refusal.{Refusal}
+use Rattle.matcher_program.specs.Answers.{HasAt, start_of}
+use Rattle.matcher_program.specs.declared.answers.Refusal.{Refusal}
 use Rattle.matcher_engine.specs.Preorders.{IsPreorderFrom}
 use Rattle.matcher_engine.specs.declared.matcher.Preorder.{Preorder}
 use Rattle.pest_run.specs.Forms.{HasMatch}

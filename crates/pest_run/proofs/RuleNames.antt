@@ -13,7 +13,7 @@ use Rattle.base_ast.specs.declared.optimized.OptimizedRule.{OptimizedRule}
 use Rattle.base_language.specs.Language.Expression.{Expression, Grammar, RuleType}
 use Rattle.base_language.specs.Language.Text.{Text}
 use Rattle.base_language.specs.Rewritings.Rewriting.{EachBody, also_rule, no_rules}
-use Rattle.matcher_interpreter.specs.ExpectedNames.{name_texts}
+use Rattle.matcher_program.specs.ExpectedNames.{name_texts}
 use Rattle.pest_run.specs.RuleNames.{name_line, name_lines, rule_names}
 
 -- rules with other bodies have the same names

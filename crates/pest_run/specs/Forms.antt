@@ -4,7 +4,7 @@ use Rattle.std.specs.Str.{chars}
 use Rattle.base_language.specs.Language.Expression.{Grammar}
 use Rattle.base_language.specs.Language.State.{State, Success, Trees}
 use Rattle.matcher_support.specs.Sets.{is_in_property}
-use Rattle.matcher_interpreter.specs.Answers.{Has}
+use Rattle.matcher_program.specs.Answers.{Has}
 use Rattle.pest_run.specs.Messages.{optimized_text}
 use Rattle.pest_run.specs.Written.{AreMatched, WritesLine}
 use Rattle.pest_run.specs.declared.arguments.RuleForm.{RuleForm}

@@ -15,11 +15,11 @@ use Rattle.matcher_program.specs.Refusals.{IsBoundOf, IsNoCharacter, IsUnknown}
 use Rattle.matcher_program.specs.declared.compile.Unfit.{Unfit}
 use Rattle.matcher_program.specs.declared.compile.Unfit.TheVariants as unfit
 use Rattle.matcher_program.specs.declared.form.Property.{Property}
-use Rattle.matcher_interpreter.specs.Answers.{AreExpectedAt, Has, IsStopped}
-use Rattle.matcher_interpreter.specs.Sizes.{most_steps}
-use Rattle.matcher_interpreter.specs.ExpectedNames.{each_once, name_texts}
-use Rattle.matcher_interpreter.specs.declared.machine.Stop.{Stop}
-use Rattle.matcher_interpreter.specs.declared.machine.Stop.TheVariants as stop
+use Rattle.matcher_program.specs.Answers.{AreExpectedAt, Has, IsStopped}
+use Rattle.matcher_program.specs.Sizes.{most_steps}
+use Rattle.matcher_program.specs.ExpectedNames.{each_once, name_texts}
+use Rattle.matcher_program.specs.declared.answers.Stop.{Stop}
+use Rattle.matcher_program.specs.declared.answers.Stop.TheVariants as stop
 use Rattle.matcher_support.specs.Lines.{lines_of}
 use Rattle.matcher_support.specs.Sets.{has_set, is_in_property}
 use Rattle.matcher_support.specs.Shown.{shown}

@@ -1,7 +1,7 @@
 //! Names that are expected at a failure.
 ghost use Rattle.std.specs.Prelude.{◌≡◌, ℕ, IfErr, IfOk, chars, length, true};
 ghost use Rattle.matcher_engine.specs.Matchers.{grammar_in, properties_in};
-ghost use Rattle.matcher_interpreter.specs.Answers.{IsUnanswered};
+ghost use Rattle.matcher_program.specs.Answers.{IsUnanswered};
 ghost use Rattle.std.specs.Str.{IsCharBoundary};
 ghost use Rattle.pest_run.specs.Outcomes.{AreLookedFor, tells_expected};
 ghost use Rattle.pest_run.specs.Steps.{name_limit};
@@ -9,8 +9,8 @@ ghost use Rattle.pest_run.specs.Steps.{name_limit};
 use crate::arguments::Format;
 use crate::messages::is_more;
 use matcher_engine::matcher::Matcher;
-use matcher_interpreter::machine::Stop;
-use matcher_interpreter::matcher::{Found, Refusal};
+use matcher_program::answers::Stop;
+use matcher_program::answers::{Found, Refusal};
 use std::alloc::Global;
 
 /// Names that are expected at a position, or why they are unknown.

@@ -1,7 +1,7 @@
 //! Messages without hidden characters.
 ghost use Rattle.std.specs.Prelude.{◌≡◌, ◌++◌, IfOk, OnOk, string_bytes};
 ghost use Rattle.std.specs.Str.{IsCharBoundary};
-ghost use Rattle.matcher_interpreter.specs.ExpectedNames.{name_texts};
+ghost use Rattle.matcher_program.specs.ExpectedNames.{name_texts};
 ghost use Rattle.base_ast.specs.Optimized.{optimized_rules_of};
 ghost use Rattle.pest_run.specs.Messages.{NamesFile, end_text, expected_text, is_more, known, known_text, names_text, no_rule_text, note_between, place_text, steps_text, suggestion, unfound, unfound_text, unread_text};
 ghost use Rattle.pest_run.specs.Outcomes.{names_of};

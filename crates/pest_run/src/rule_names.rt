@@ -1,7 +1,7 @@
 //! Names of rules, and near names.
 ghost use Rattle.std.specs.Prelude.{◌≡◌, ◌++◌, IfOk, OnOk, codes, string_bytes};
 ghost use Rattle.base_ast.specs.Optimized.{optimized_rules_of};
-ghost use Rattle.matcher_interpreter.specs.ExpectedNames.{name_texts};
+ghost use Rattle.matcher_program.specs.ExpectedNames.{name_texts};
 ghost use Rattle.pest_run.specs.RuleNames.{is_near, name_lines, near_names};
 
 use base_ast::optimized::OptimizedRule;

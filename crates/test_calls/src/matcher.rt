@@ -4,13 +4,14 @@ ghost use Rattle.matcher_program.specs.Programs.{Fits, grammar_of};
 ghost use Rattle.matcher_support.specs.Shown.{shown};
 ghost use Rattle.base_ast.specs.Optimized.{optimized_rules_of};
 ghost use Rattle.base_language.specs.Language.State.{Trees};
-ghost use Rattle.matcher_interpreter.specs.Answers.{IsMatched, IsRefused, IsSoundMatcher};
-ghost use Rattle.matcher_interpreter.specs.Written.{seen};
+ghost use Rattle.matcher_program.specs.Answers.{IsMatched, IsRefused, IsSoundMatcher};
+ghost use Rattle.matcher_program.specs.Written.{seen};
 ghost use Rattle.front_syntax.specs.Entries.{entries_of};
 
 use base_ast::optimized::OptimizedRule;
-use matcher_interpreter::entries::Entry;
-use matcher_interpreter::matcher::{Found, Matcher, Refusal};
+use matcher_program::answers::Entry;
+use matcher_program::answers::{Found, Refusal};
+use matcher_engine::matcher::Matcher;
 use matcher_program::compile::Unfit;
 use matcher_program::properties::Properties;
 use std::alloc::{AllocError, Global};

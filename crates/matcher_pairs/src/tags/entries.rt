@@ -2,14 +2,14 @@
 ghost use Rattle.std.specs.Prelude.{◌≡◌, IfOk, OnOk, [], chars};
 ghost use Rattle.base_language.specs.Language.State.{Trees};
 ghost use Rattle.base_language.specs.Pieces.TokenTrees.{NoTokens};
-ghost use Rattle.matcher_interpreter.specs.Written.{entry_of, seen};
+ghost use Rattle.matcher_program.specs.Written.{entry_of, seen};
 ghost use Rattle.front_syntax.specs.Entries.{entries_of};
 ghost use Rattle.matcher_pairs.specs.Spliced.{spliced};
 ghost use Rattle.matcher_pairs.specs.TagEntries.{entries_onto, last_first, tagging_of, with_entry};
 ghost use Rattle.matcher_pairs.specs.TagEntries.{with_last_tag};
 
 use crate::tags::names::find_tag;
-use matcher_interpreter::entries::Entry;
+use matcher_program::answers::Entry;
 use std::alloc::{AllocError, Global};
 
 /// The start of a tree, or its end with its tag; positions are in bytes.

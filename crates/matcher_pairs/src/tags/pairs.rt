@@ -4,8 +4,8 @@ ghost use Rattle.base_language.specs.Language.State.{Trees};
 ghost use Rattle.base_language.specs.Pieces.Pairs.{pair_rule, pairs_text, pairs_trees};
 ghost use Rattle.base_language.specs.Pieces.Span.{position_text};
 ghost use Rattle.base_language.specs.Pieces.TokenTrees.{NoTokens};
-ghost use Rattle.matcher_interpreter.specs.Answers.{state_at};
-ghost use Rattle.matcher_interpreter.specs.Written.{seen};
+ghost use Rattle.matcher_program.specs.Answers.{state_at};
+ghost use Rattle.matcher_program.specs.Written.{seen};
 ghost use Rattle.front_syntax.specs.Entries.{entries_of};
 ghost use Rattle.matcher_pairs.specs.Spliced.{spliced};
 ghost use Rattle.matcher_pairs.specs.TagMatches.{HaveTags, IsNested};
@@ -14,7 +14,7 @@ ghost use Rattle.matcher_pairs.specs.TagTrees.{by_name};
 use crate::tags::entries::tag_entries;
 use crate::tags::trees::build_trees;
 use base_language::runtime::{Pair, Pairs, Position};
-use matcher_interpreter::matcher::{Found, whole_text};
+use matcher_program::answers::{Found, whole_text};
 use std::alloc::{AllocError, Global};
 
 /// The rule of a pair, and the pair's tag, if it has one.

@@ -1,14 +1,14 @@
 //! Parsing with tags, by a matcher of wrapped rules.
 ghost use Rattle.std.specs.Prelude.{IfErr, IfOk, chars};
-ghost use Rattle.matcher_interpreter.specs.Answers.{IsRefused};
+ghost use Rattle.matcher_program.specs.Answers.{IsRefused};
 ghost use Rattle.matcher_engine.specs.Matchers.{grammar_in, properties_in};
 ghost use Rattle.matcher_pairs.specs.TagParses.{HasTags, IsTaggedMatch};
 
 use crate::tags::pairs::{TaggedRule, tagged_pairs};
 use base_language::runtime::{Pairs, Span};
 use matcher_engine::matcher::Matcher;
-use matcher_interpreter::machine::Stop;
-use matcher_interpreter::matcher::Refusal;
+use matcher_program::answers::Stop;
+use matcher_program::answers::Refusal;
 use std::alloc::Global;
 
 /// The match of a rule.

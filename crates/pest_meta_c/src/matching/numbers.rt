@@ -2,13 +2,13 @@
 ghost use Rattle.std.specs.Prelude.{◌≡◌, ◌∷◌, [], ◌++◌, IfOk, OnOk, chars};
 ghost use Rattle.base_ast.specs.Optimized.{optimized_rules_of};
 ghost use Rattle.base_language.specs.Language.State.{Trees};
-ghost use Rattle.matcher_interpreter.specs.ExpectedNames.{name_texts};
-ghost use Rattle.matcher_interpreter.specs.Written.{entry_of, seen};
+ghost use Rattle.matcher_program.specs.ExpectedNames.{name_texts};
+ghost use Rattle.matcher_program.specs.Written.{entry_of, seen};
 ghost use Rattle.front_syntax.specs.Entries.{entries_of};
 ghost use Rattle.pest_meta_c.specs.Numbers.{entry_numbers, failure_numbers, match_numbers, rule_number, rule_numbers, token_numbers};
 
 use base_ast::optimized::OptimizedRule;
-use matcher_interpreter::entries::Entry;
+use matcher_program::answers::Entry;
 use matcher_program::texts::same;
 use std::alloc::{AllocError, Global};
 

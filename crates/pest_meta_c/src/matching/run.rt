@@ -1,7 +1,7 @@
 //! A run of a rule on a text.
 ghost use Rattle.std.specs.Prelude.{◌≡◌, chars};
 ghost use Rattle.base_ast.specs.Optimized.{optimized_rules_of};
-ghost use Rattle.matcher_interpreter.specs.ExpectedNames.{name_texts};
+ghost use Rattle.matcher_program.specs.ExpectedNames.{name_texts};
 ghost use Rattle.pest_meta_c.specs.MatchOutcomes.{IsFailureOutcome, IsMatchOutcome, IsPreparedOutcome, IsRunOutcome, stopped_outcome, unfit_outcome};
 
 use crate::matching::numbers::{failure_numbers, match_numbers};
@@ -11,8 +11,8 @@ use base_ast::optimized::OptimizedRule;
 use format_binary::{BinaryRefusal, read_optimized_rules as read_prepared_rules};
 use format_json::{Refusal as Unread, read_optimized_rules};
 use matcher_engine::matcher::Matcher;
-use matcher_interpreter::machine::Stop;
-use matcher_interpreter::matcher::Refusal;
+use matcher_program::answers::Stop;
+use matcher_program::answers::Refusal;
 use matcher_program::compile::Unfit;
 use matcher_support::unicode_properties::UnicodeProperties;
 use std::alloc::Global;

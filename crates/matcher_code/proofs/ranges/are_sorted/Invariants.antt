@@ -1,4 +1,4 @@
-use Rattle.std.proofs.Common.{ℕ, ◌≤◌, ◌<◌, ◌⊎◌, get_or, length}
+use Rattle.std.proofs.Common.{ℕ, ◌≤◌, ◌<◌, get_or, length}
 use Rattle.matcher_code.proofs.ranges.are_sorted.Given as goal
 
 abbrev pub invariant-loop-index : goal.invariant-loop-index

@@ -1,5 +1,5 @@
 use Rattle.std.proofs.Common.{◌≡◌, ◌++◌, reverse, vec_len}
-use Rattle.matcher_interpreter.specs.Written.{seen}
+use Rattle.matcher_program.specs.Written.{seen}
 use Rattle.matcher_engine.specs.Entries.{closed, left_open}
 use Rattle.matcher_engine.proofs.entries.close.Given as goal
 

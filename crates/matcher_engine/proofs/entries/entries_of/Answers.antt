@@ -1,7 +1,7 @@
 use Rattle.std.proofs.Common.{◌≡◌, ◌∙◌, ◌<◌, ◌+◌, [], ap, arith, length, reverse, subst, suc}
 use Rattle.std.proofs.lemmas.List.{get_or_default}
 use Rattle.matcher_program.specs.Programs.{grammar_of, names_of}
-use Rattle.matcher_interpreter.specs.Written.{seen}
+use Rattle.matcher_program.specs.Written.{seen}
 use Rattle.matcher_compiler.specs.Names.{number_in}
 use Rattle.matcher_engine.proofs.Known.{known_name}
 use Rattle.matcher_engine.proofs.Preorder.{AreKnown, after_tree, all_known, all_written, known_more, opened_more, written, written_trees}

@@ -2,10 +2,10 @@ use Rattle.std.proofs.Common.{◌≡◌, subst, sym}
 use Rattle.std.specs.Prelude.{IsUtf8, chars}
 use Rattle.base_language.specs.Language.Places.{IsStateIn}
 use Rattle.base_language.specs.Pieces.Span.{position_text}
-use Rattle.matcher_interpreter.specs.Answers.{state_at}
-use Rattle.matcher_interpreter.specs.ExpectedNames.{name_texts}
+use Rattle.matcher_program.specs.Answers.{state_at}
+use Rattle.matcher_program.specs.ExpectedNames.{name_texts}
 use Rattle.matcher_engine.specs.Matchers.{grammar_in, properties_in}
-use Rattle.matcher_interpreter.specs.Endings.{classes_in}
+use Rattle.matcher_program.specs.Classes.{classes_in}
 use Rattle.matcher_engine.proofs.Sound.{fits_in}
 use Rattle.matcher_pairs.specs.Parses.{IsErrorAt}
 use Rattle.matcher_pairs.proofs.Failing.{fails_on_character, tells_of_failure}

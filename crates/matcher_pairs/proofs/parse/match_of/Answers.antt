@@ -6,10 +6,10 @@ use Rattle.base_language.specs.Language.FurthestFailure.{furthest}
 use Rattle.base_language.specs.Language.State.{Success}
 use Rattle.base_language.specs.Pieces.Pairs.{pairs_trees}
 use Rattle.base_language.specs.Pieces.TreeViews.{trees_of}
-use Rattle.matcher_interpreter.specs.Answers.{HasAt, state_at}
-use Rattle.matcher_interpreter.specs.Written.{seen}
+use Rattle.matcher_program.specs.Answers.{HasAt, state_at}
+use Rattle.matcher_program.specs.Written.{seen}
 use Rattle.matcher_engine.specs.Matchers.{grammar_in, properties_in}
-use Rattle.matcher_interpreter.specs.Endings.{classes_in}
+use Rattle.matcher_program.specs.Classes.{classes_in}
 use Rattle.matcher_engine.proofs.Sound.{fits_in}
 use Rattle.matcher_pairs.specs.Trees.{by_name}
 use Rattle.matcher_pairs.proofs.Nesting.{nested_in_text, stands_in}

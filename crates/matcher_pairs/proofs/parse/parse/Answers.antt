@@ -1,7 +1,7 @@
 use Rattle.std.proofs.Common.{◌∙◌, IfErr, IfOk, chars, subst}
 use Rattle.std.proofs.lemmas.Str.{IsCharBoundary-start}
 use Rattle.base_language.specs.Pieces.Span.{position_text}
-use Rattle.matcher_interpreter.specs.Answers.{start_of}
+use Rattle.matcher_program.specs.Answers.{start_of}
 use Rattle.matcher_engine.proofs.Results.{first_state}
 use Rattle.matcher_pairs.specs.Parses.{IsMatchFrom, IsRefusedFrom}
 use Rattle.matcher_pairs.proofs.parse.parse.Goals as goal

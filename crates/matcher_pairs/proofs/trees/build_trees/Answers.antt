@@ -1,5 +1,5 @@
 use Rattle.std.proofs.Common.{◌≡◌, ◌∙◌, ap, drop, arith}
-use Rattle.matcher_interpreter.specs.Written.{seen}
+use Rattle.matcher_program.specs.Written.{seen}
 use Rattle.front_syntax.specs.Building.{making_from}
 use Rattle.front_syntax.proofs.Making.{made_back}
 use Rattle.matcher_pairs.proofs.Making.{made_more}

@@ -1,5 +1,5 @@
 use Rattle.std.proofs.Common.{◌≡◌, ◌≤◌, drop, length}
-use Rattle.matcher_interpreter.specs.Written.{seen}
+use Rattle.matcher_program.specs.Written.{seen}
 use Rattle.front_syntax.specs.Building.{making_from}
 use Rattle.matcher_pairs.specs.Trees.{making_of}
 use Rattle.matcher_pairs.proofs.trees.build_trees.Given as goal

@@ -1,7 +1,7 @@
 use Rattle.std.proofs.Common.{◌≡◌, ◌-◌, ◌∙◌, ap, sym, [], ◌++◌, ◌==◌, append-nil, arith, add-one, drop, length}
 use Rattle.std.specs.Prelude.{string_bytes}
 use Rattle.std.proofs.Math.ListN.{drop_of_length-le}
-use Rattle.matcher_interpreter.specs.ExpectedNames.{name_texts}
+use Rattle.matcher_program.specs.ExpectedNames.{name_texts}
 use Rattle.matcher_support.specs.Expectations.{other_names}
 use Rattle.matcher_support.proofs.NameLists.{one_more}
 use Rattle.matcher_support.proofs.expectations.add_others.Goals as goal

@@ -1,6 +1,6 @@
 use Rattle.std.proofs.Common.{◌≡◌, ◌+◌, ◌++◌, drop, length}
 use Rattle.std.specs.Prelude.{string_bytes}
-use Rattle.matcher_interpreter.specs.ExpectedNames.{name_texts}
+use Rattle.matcher_program.specs.ExpectedNames.{name_texts}
 use Rattle.matcher_support.specs.Expectations.{other_names}
 use Rattle.matcher_support.proofs.expectations.add_others.Given as goal
 

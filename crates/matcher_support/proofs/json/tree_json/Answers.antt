@@ -1,5 +1,5 @@
 use Rattle.std.proofs.Common.{string_bytes}
-use Rattle.matcher_interpreter.specs.Written.{seen}
+use Rattle.matcher_program.specs.Written.{seen}
 use Rattle.matcher_support.proofs.JsonEntries.{all_json, all_written, one_more}
 use Rattle.matcher_support.proofs.json.tree_json.Goals as goal
 

@@ -1,5 +1,5 @@
 use Rattle.std.proofs.Common.{◌∙◌, string_bytes, arith}
-use Rattle.matcher_interpreter.specs.Written.{seen}
+use Rattle.matcher_program.specs.Written.{seen}
 use Rattle.matcher_support.proofs.LineEntries.{all_lines, all_written, one_more}
 use Rattle.matcher_support.proofs.lines.tree_lines.Goals as goal
 

@@ -1,5 +1,5 @@
 use Rattle.std.proofs.Common.{◌≡◌, ◌≤◌, ◌++◌, drop, string_bytes}
-use Rattle.matcher_interpreter.specs.Written.{seen}
+use Rattle.matcher_program.specs.Written.{seen}
 use Rattle.matcher_support.specs.Flat.{flat}
 use Rattle.matcher_support.specs.declared.shown.Before.TheVariants as is
 use Rattle.matcher_support.proofs.shown.tree_text.Given as goal

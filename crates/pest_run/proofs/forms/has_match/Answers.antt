@@ -1,6 +1,6 @@
 use Rattle.std.proofs.Common.{◌∙◌, subst, sym}
 use Rattle.std.proofs.lemmas.Str.{IsCharBoundary-start}
-use Rattle.matcher_interpreter.specs.Answers.{state_at}
+use Rattle.matcher_program.specs.Answers.{state_at}
 use Rattle.matcher_engine.proofs.Results.{first_state}
 use Rattle.matcher_engine.specs.Matchers.{grammar_in, properties_in}
 use Rattle.pest_run.specs.Forms.{HasMatch}

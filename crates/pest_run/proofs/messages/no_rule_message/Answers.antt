@@ -2,7 +2,7 @@ use Rattle.std.proofs.Common.{◌≡◌, ◌∙◌, ◌++◌, ap, ap₂, sym, ta
 use Rattle.std.specs.Prelude.{chars}
 use Rattle.std.proofs.lemmas.List.{take-map}
 use Rattle.base_ast.specs.Optimized.{optimized_rules_of}
-use Rattle.matcher_interpreter.specs.ExpectedNames.{name_texts}
+use Rattle.matcher_program.specs.ExpectedNames.{name_texts}
 use Rattle.pest_run.specs.Messages.{suggestion}
 use Rattle.pest_run.specs.RuleNames.{near_names}
 use Rattle.pest_run.proofs.messages.no_rule_message.Goals as goal

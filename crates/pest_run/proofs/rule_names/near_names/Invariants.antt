@@ -1,6 +1,6 @@
 use Rattle.std.proofs.Common.{◌≡◌, take}
 use Rattle.base_ast.specs.Optimized.{optimized_rules_of}
-use Rattle.matcher_interpreter.specs.ExpectedNames.{name_texts}
+use Rattle.matcher_program.specs.ExpectedNames.{name_texts}
 use Rattle.pest_run.specs.RuleNames.{near_names}
 use Rattle.pest_run.proofs.rule_names.near_names.Given as goal
 

@@ -1,6 +1,6 @@
 use Rattle.std.proofs.Common.{subst, ◌∙◌, IfErr, IfOk, chars}
 use Rattle.std.proofs.lemmas.Str.{IsCharBoundary-start}
-use Rattle.matcher_interpreter.specs.Answers.{IsMatchedFrom, IsRefusedFrom}
+use Rattle.matcher_program.specs.Answers.{IsMatchedFrom, IsRefusedFrom}
 use Rattle.matcher_engine.specs.Matchers.{grammar_in, properties_in}
 use Rattle.matcher_engine.proofs.Results.{first_state}
 use Rattle.matcher_engine.proofs.matcher.Matcher.parse.Goals as goal

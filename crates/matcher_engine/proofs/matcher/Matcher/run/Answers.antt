@@ -1,5 +1,5 @@
 use Rattle.std.proofs.Common.{chars, refl}
-use Rattle.matcher_interpreter.specs.Answers.{state_at}
+use Rattle.matcher_program.specs.Answers.{state_at}
 use Rattle.matcher_engine.specs.Matchers.{grammar_in, properties_in}
 use Rattle.matcher_engine.proofs.OneAnswer.{with_entries}
 use Rattle.matcher_engine.proofs.Sound.{fits_in}

@@ -2,7 +2,7 @@ use Rattle.std.proofs.Common.{◌≡◌, ◌∙◌, ◌+◌, None, Some, ap, ari
 use Rattle.std.proofs.Math.Logic.{∥∥₁_map}
 use Rattle.base_language.specs.Language.Expression.{last_place}
 use Rattle.matcher_program.specs.Programs.{grammar_of}
-use Rattle.matcher_interpreter.specs.Answers.{state_at}
+use Rattle.matcher_program.specs.Answers.{state_at}
 use Rattle.matcher_engine.specs.Matchers.{grammar_in, properties_in}
 use Rattle.matcher_engine.specs.declared.matcher.Preorder.{Preorder}
 use Rattle.matcher_engine.proofs.Known.{unnamed}

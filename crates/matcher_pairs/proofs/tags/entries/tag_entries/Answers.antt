@@ -1,7 +1,7 @@
 use Rattle.std.proofs.Common.{◌≡◌, ◌≤◌, ◌∙◌, ap, sym, refl, ℕ, zero, suc, List, [], ◌∷◌, drop, length, arith}
 use Rattle.base_language.specs.Pieces.TokenTrees.{NoTokens}
-use Rattle.matcher_interpreter.specs.Written.{seen}
-use Rattle.matcher_interpreter.specs.declared.entries.Entry as code
+use Rattle.matcher_program.specs.Written.{seen}
+use Rattle.matcher_program.specs.declared.answers.Entry as code
 use Rattle.matcher_pairs.specs.Spliced.{spliced}
 use Rattle.matcher_pairs.specs.TagEntries.{Tagging, entries_onto, tagging_of, with_entries}
 use Rattle.matcher_pairs.proofs.Tagging.{tags_of}

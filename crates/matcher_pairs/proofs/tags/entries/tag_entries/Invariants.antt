@@ -1,5 +1,5 @@
 use Rattle.std.proofs.Common.{◌≡◌, [], drop}
-use Rattle.matcher_interpreter.specs.Written.{seen}
+use Rattle.matcher_program.specs.Written.{seen}
 use Rattle.matcher_pairs.specs.TagEntries.{tagging_of, with_entries}
 use Rattle.matcher_pairs.proofs.tags.entries.tag_entries.Given as goal
 

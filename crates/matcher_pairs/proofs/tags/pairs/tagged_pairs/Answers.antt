@@ -5,8 +5,8 @@ use Rattle.base_language.specs.Language.Places.{Nested}
 use Rattle.base_language.specs.Pieces.Span.{position_text}
 use Rattle.base_language.specs.Pieces.TokenTrees.{NoTokens}
 use Rattle.base_language.specs.Pieces.TreeViews.{trees_of}
-use Rattle.matcher_interpreter.specs.Answers.{state_at}
-use Rattle.matcher_interpreter.specs.Written.{seen}
+use Rattle.matcher_program.specs.Answers.{state_at}
+use Rattle.matcher_program.specs.Written.{seen}
 use Rattle.matcher_pairs.specs.Spliced.{spliced}
 use Rattle.matcher_pairs.specs.Tags.{untagged}
 use Rattle.matcher_pairs.specs.TagTrees.{by_name}

@@ -1,6 +1,6 @@
 use Rattle.std.proofs.Common.{◌≡◌, ◌++◌, drop}
 use Rattle.base_ast.specs.Optimized.{optimized_rules_of}
-use Rattle.matcher_interpreter.specs.Written.{seen}
+use Rattle.matcher_program.specs.Written.{seen}
 use Rattle.pest_meta_c.specs.Numbers.{token_numbers}
 use Rattle.pest_meta_c.proofs.matching.numbers.push_entries.Given as goal
 

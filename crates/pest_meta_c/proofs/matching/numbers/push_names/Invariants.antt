@@ -1,6 +1,6 @@
 use Rattle.std.proofs.Common.{◌≡◌, ◌++◌, drop}
 use Rattle.base_ast.specs.Optimized.{optimized_rules_of}
-use Rattle.matcher_interpreter.specs.ExpectedNames.{name_texts}
+use Rattle.matcher_program.specs.ExpectedNames.{name_texts}
 use Rattle.pest_meta_c.specs.Numbers.{rule_numbers}
 use Rattle.pest_meta_c.proofs.matching.numbers.push_names.Given as goal
 

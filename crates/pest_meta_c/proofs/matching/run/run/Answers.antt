@@ -4,7 +4,7 @@ use Rattle.base_language.specs.Language.Expression.{Grammar}
 use Rattle.matcher_engine.specs.Matchers.{grammar_in, properties_in}
 use Rattle.pest_meta_c.specs.MatchOutcomes.{IsRunOutcome, IsFailureOutcome, stopped_outcome}
 use Rattle.pest_meta_c.specs.declared.matching.outcome.MatchOutcome.{MatchOutcome}
-use Rattle.matcher_interpreter.specs.ExpectedNames.{name_texts}
+use Rattle.matcher_program.specs.ExpectedNames.{name_texts}
 use Rattle.pest_meta_c.proofs.Running.{failed, stopped}
 use Rattle.pest_meta_c.proofs.matching.run.run.Goals as goal
 
