@@ -7,7 +7,7 @@ mod difference;
 mod samples;
 mod texts;
 
-ghost use Rattle.std.specs.Prelude.{◌≡◌, ℕ, Bool, IfOk, IfSome, List, OnOk, chars, false, string_bytes, true};
+ghost use Rattle.std.specs.Prelude.{◌≡◌, Bool, IfOk, IfSome, chars, false, string_bytes, true};
 ghost use Rattle.std.specs.List.{AllZip, list_any};
 ghost use Rattle.lint_findings.specs.Codes.{chosen_warnings};
 ghost use Rattle.lint_findings.specs.Reports.{ReportsError, ReportsWarning, is_error};
@@ -23,17 +23,16 @@ ghost use Rattle.pest_meta.specs.Spelling.{HasAnswer};
 pub use crate::comparer::Comparer;
 pub use crate::difference::{Difference, RuleEnd};
 use base_ast::deep::Deep;
-use base_ast::optimized::release;
 use base_language::grammar::Rule;
-use base_language::runtime::{Error, Fault, Span};
+use base_language::runtime::{Error, ErrorVariant, Fault, Span};
 use front_spanned::ParserRule;
 pub use lint_findings::{ALL_CODES, Code, Diagnostic, Fix, Help, Options, Related, Severity};
 use lint_findings::{
     diagnose_all_rules, diagnose_errors, diagnose_list, diagnose_rules, leave_out_allowed,
 };
 use lint_patterns::rewritten_lists;
+use pest_meta::parse_with_spans;
 use pest_meta::parser::{PestParser, common_name};
-use pest_meta::{optimize_with_spans, parse_with_spans};
 use std::alloc::{AllocError, Global};
 
 /// How many warnings of rewritten lists have a note.
@@ -99,8 +98,20 @@ fn diagnose_refused(
 ) -> Result<Vec<Diagnostic>, AllocError>
     ensures { IfOk result (λ diagnostics. AllZip ReportsError errors.now diagnostics.items) }
 {
-    let expected = expected_names(alloc, text)?;
+    let expected = if is_syntax_error(errors) {
+        expected_names(alloc, text)?
+    } else {
+        Vec::new(alloc)
+    };
     diagnose_errors(alloc, text, errors, &expected)
+}
+
+/// Whether the errors are one syntax error.
+fn is_syntax_error(errors: &[Error<Rule>]) -> bool {
+    match errors {
+        [error] => matches!(error.variant, ErrorVariant::ParsingError),
+        _ => false,
+    }
 }
 
 /// The expected set of a text's syntax error, by name, in the order of the meta-grammar.
@@ -121,29 +132,12 @@ fn diagnose_accepted(
     starts: &[&str],
     has_all: bool,
 ) -> Result<Vec<Diagnostic>, AllocError>
-    ensures warnings { IfOk result (λ diagnostics. IfSpells text.now (rule_views rules.entry.items)
+    ensures { IfOk result (λ diagnostics. IfSpells text.now (rule_views rules.entry.items)
         (ReportWarnings has_all (texts_of starts.now) text.now diagnostics.items)) }
-    ensures answer { OnOk result (IfSpells text.now (rule_views rules.entry.items) (HasAnswer text.now)) }
 {
     let rules = Deep { value: rules };
     let diagnostics = warn_of(alloc, text, &rules.value, starts, has_all)?;
-    let left = leave_out_allowed(alloc, text, &rules.value, diagnostics)?;
-    find_answer(alloc, rules.into_inner())?;
-    Ok(left)
-}
-
-/// Optimizes the rules of an accepted text: so it has an answer.
-fn find_answer(alloc: Global, rules: Vec<ParserRule<'_>>) -> Result<(), AllocError>
-    ensures { OnOk result ((text : List ℕ)
-        → IfSpells text (rule_views rules.entry.items) (HasAnswer text)) }
-{
-    match optimize_with_spans(alloc, rules) {
-        Ok(optimized) => {
-            release(optimized);
-            Ok(())
-        }
-        Err(_) => Err(AllocError),
-    }
+    leave_out_allowed(alloc, text, &rules.value, diagnostics)
 }
 
 /// The warnings of rules that a text spells, all of them or not.
