@@ -1,5 +1,5 @@
 -- A text's diagnostics, by the outcome of its front end.
-use Rattle.std.proofs.Common.{◌≡◌, ◌≢◌, ◌⊎◌, All, inl, inr, ◌∙◌, ℕ, List, [], ◌∷◌, ◌++◌, ◌==◌, Bool, true, false, ◌||◌, Result, Ok, Err, IfOk, OnOk, Vec, Global, arith, chars, eqb-true, length, map, refl, subst, sym, ap}
+use Rattle.std.proofs.Common.{◌≡◌, ◌≢◌, ◌⊎◌, All, inl, inr, ◌∙◌, ℕ, List, [], ◌∷◌, ◌++◌, ◌==◌, Bool, true, false, ◌||◌, Result, Ok, Err, IfOk, Vec, Global, arith, chars, eqb-true, length, map, refl, subst, sym, ap}
 use Rattle.std.specs.Borrow.{Bor}
 use Rattle.std.proofs.lemmas.List.{map-append}
 use Rattle.front_names.specs.Builtins.{name_of}
@@ -19,6 +19,7 @@ use Rattle.front_spanned.specs.Spanned.{SpannedRule}
 use Rattle.lint_findings.specs.Allowances.{LeavesOutAllowed}
 use Rattle.pest_meta.specs.Spelling.{HasAnswer, HasWrongRules, IsMisnamed, AreFlawed, HaveFindings, IsRefusedWith, complaints_in}
 use Rattle.pest_meta.specs.WithSpans.{SpellsWithSpans}
+use Rattle.pest_meta.proofs.Accepted.{spelled_have_answers}
 
 one_some : {X : Type 0} (xs : List X) (x : X) → xs ≡ x ∷ [] → xs ≢ []
 one_some xs x e h = let z = sym e ∙ h in cc
@@ -61,20 +62,21 @@ answered_refused text errors (Ok ds) r each = λ none. no_refusal text errors ds
 answered_refused text errors (Err e) r each = tt
 
 pub diagnosed_accepted : {E : Type 0} (all : Bool) (starts : List Text) (text : List ℕ) (builtins : List (Bor (List ℕ))) (rules : List SpannedRule) (result : Result (Vec Diagnostic Global) E)
-    → SpellsWithSpans text builtins rules → IfOk result (λ ds. IfSpells text rules (ReportWarnings all starts text ds.items)) → OnOk result (IfSpells text rules (HasAnswer text))
+    → SpellsWithSpans text builtins rules → IfOk result (λ ds. IfSpells text rules (ReportWarnings all starts text ds.items))
     → IfOk result (λ ds. IsDiagnosisWith all starts text ds.items)
-diagnosed_accepted all starts text builtins rules (Ok ds) s warnings answer = accepted (answer builtins s) (warnings builtins s)
-diagnosed_accepted all starts text builtins rules (Err x) s warnings answer = tt
+diagnosed_accepted all starts text builtins rules (Ok ds) s warnings = accepted (spelled_have_answers text builtins rules s) (warnings builtins s)
+diagnosed_accepted all starts text builtins rules (Err x) s warnings = tt
 
 pub answered : {E : Type 0} (text : List ℕ) (builtins : List (Bor (List ℕ))) (rules : List SpannedRule) (result : Result (Vec Diagnostic Global) E)
-    → SpellsWithSpans text builtins rules → OnOk result (IfSpells text rules (HasAnswer text)) → IfOk result (λ ds. list_any is_error ds.items ≡ false → HasAnswer text)
-answered text builtins rules (Ok ds) s answer = λ none. answer builtins s
-answered text builtins rules (Err x) s answer = tt
+    → SpellsWithSpans text builtins rules → IfOk result (λ ds. list_any is_error ds.items ≡ false → HasAnswer text)
+answered text builtins rules (Ok ds) s = λ none. spelled_have_answers text builtins rules s
+answered text builtins rules (Err x) s = tt
 
 -- warnings of the rules that a text spells are those of the text
-pub of_rules : (has_all : Bool) (starts : List Text) (text : List ℕ) (rules : List SpannedRule) (named : List (Bor (List ℕ))) (all ds : List Diagnostic)
-    → All (λ name. IsNamedStart text name.now) named → ReportRules has_all (all_starts starts (texts_of named)) text rules all → LeavesOutAllowed text rules all ds → IfSpells text rules (ReportWarnings has_all starts text ds)
-of_rules has_all starts text rules named all ds stated each left = λ builtins s. record {
+pub of_rules : {E : Type 0} (has_all : Bool) (starts : List Text) (text : List ℕ) (rules : List SpannedRule) (named : List (Bor (List ℕ))) (all : List Diagnostic) (result : Result (Vec Diagnostic Global) E)
+    → All (λ name. IsNamedStart text name.now) named → ReportRules has_all (all_starts starts (texts_of named)) text rules all → IfOk result (λ ds. LeavesOutAllowed text rules all ds.items)
+    → IfOk result (λ ds. IfSpells text rules (ReportWarnings has_all starts text ds.items))
+of_rules has_all starts text rules named all (Ok ds) stated each left = λ builtins s. record {
   trees = s.trees;
   of_text = s.of_text;
   rules = rules;
@@ -85,6 +87,7 @@ of_rules has_all starts text rules named all ds stated each left = λ builtins s
   each = each;
   left = left;
 }
+of_rules has_all starts text rules named all (Err x) stated each left = tt
 
 -- warnings of rules with starts that a comment names
 pub from_starts : {E : Type 0} (has_all : Bool) (starts : List Text) (text : List ℕ) (rules : List SpannedRule) (named : List (Bor (List ℕ))) (all : List Text) (result : Result (Vec Diagnostic Global) E)

@@ -25,9 +25,8 @@ ghost use Rattle.pest_meta.specs.Spelling.{HasAnswer};
 pub use crate::comparer::Comparer;
 pub use crate::difference::{Difference, RuleEnd};
 use base_ast::deep::Deep;
-use base_ast::optimized::release;
 use base_language::grammar::Rule;
-use base_language::runtime::{Error, Fault, Span};
+use base_language::runtime::{Error, ErrorVariant, Fault, Span};
 use front_names::Builtin;
 use front_spanned::ParserRule;
 pub use lint_findings::{ALL_CODES, Code, Diagnostic, Fix, Help, Options, Related, Severity};
@@ -36,8 +35,8 @@ use lint_findings::{
     named_starts,
 };
 use lint_patterns::rewritten_lists;
+use pest_meta::parse_with_spans;
 use pest_meta::parser::{PestParser, common_name};
-use pest_meta::{optimize_with_spans, parse_with_spans};
 use std::alloc::{AllocError, Global};
 
 /// How many warnings of rewritten lists have a note.
@@ -103,8 +102,20 @@ fn diagnose_refused(
 ) -> Result<Vec<Diagnostic>, AllocError>
     ensures { IfOk result (λ diagnostics. AllZip ReportsError errors.now diagnostics.items) }
 {
-    let expected = expected_names(alloc, text)?;
+    let expected = if is_syntax_error(errors) {
+        expected_names(alloc, text)?
+    } else {
+        Vec::new(alloc)
+    };
     diagnose_errors(alloc, text, errors, &expected)
+}
+
+/// Whether the errors are one syntax error.
+fn is_syntax_error(errors: &[Error<Rule>]) -> bool {
+    match errors {
+        [error] => matches!(error.variant, ErrorVariant::ParsingError),
+        _ => false,
+    }
 }
 
 /// The expected set of a text's syntax error, by name, in the order of the meta-grammar.
@@ -125,15 +136,12 @@ fn diagnose_accepted(
     starts: &[&str],
     has_all: bool,
 ) -> Result<Vec<Diagnostic>, AllocError>
-    ensures warnings { IfOk result (λ diagnostics. IfSpells text.now (rule_views rules.entry.items)
+    ensures { IfOk result (λ diagnostics. IfSpells text.now (rule_views rules.entry.items)
         (ReportWarnings has_all (texts_of starts.now) text.now diagnostics.items)) }
-    ensures answer { OnOk result (IfSpells text.now (rule_views rules.entry.items) (HasAnswer text.now)) }
 {
     let rules = Deep { value: rules };
     let diagnostics = warn_from(alloc, text, &rules.value, starts, has_all)?;
-    let left = leave_out_allowed(alloc, text, &rules.value, diagnostics)?;
-    find_answer(alloc, rules.into_inner())?;
-    Ok(left)
+    leave_out_allowed(alloc, text, &rules.value, diagnostics)
 }
 
 /// The warnings of rules that a text spells, all of them or not, where starts are also those that a comment

@@ -6,12 +6,11 @@ use Rattle.lint_diagnostics.proofs.diagnose_with.Goals as goal
 pub returns-in-Ok-clause-diagnosis : goal.returns-in-Ok-clause-diagnosis
 returns-in-Ok-clause-diagnosis c =
     diagnosed_accepted c.args.has_all (texts_of c.args.starts.now) c.args.text.now c.in-Ok.field-0-0.items (rule_views c.in-Ok.rules.items) c.diagnose_accepted.result
-    c.in-Ok.ensures.rules c.diagnose_accepted.ensures.warnings c.diagnose_accepted.ensures.answer
+    c.in-Ok.ensures.rules c.diagnose_accepted.ensures
 
 pub returns-in-Ok-clause-accepted : goal.returns-in-Ok-clause-accepted
 returns-in-Ok-clause-accepted c =
-    answered c.args.text.now c.in-Ok.field-0-0.items (rule_views c.in-Ok.rules.items) c.diagnose_accepted.result
-    c.in-Ok.ensures.rules c.diagnose_accepted.ensures.answer
+    answered c.args.text.now c.in-Ok.field-0-0.items (rule_views c.in-Ok.rules.items) c.diagnose_accepted.result c.in-Ok.ensures.rules
 
 pub returns-in-Err-Grammar-clause-diagnosis : goal.returns-in-Err-Grammar-clause-diagnosis
 returns-in-Err-Grammar-clause-diagnosis c =
