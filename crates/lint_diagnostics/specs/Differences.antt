@@ -1,7 +1,7 @@
 -- Texts on which a rule ends otherwise as pest runs it than as it is written.
 use Rattle.std.specs.Prelude.{◌≡◌, ◌≢◌, ℕ, List, IfSome, string_bytes}
 use Rattle.std.specs.Borrow.{Bor}
-use Rattle.matcher_program.specs.Programs.{Fits, grammar_of}
+use Rattle.matcher_program.specs.Programs.{Fits}
 use Rattle.matcher_program.specs.Refusals.{IsReason}
 use Rattle.matcher_program.specs.declared.compile.Unfit.{Unfit}
 use Rattle.matcher_program.specs.declared.compile.Unfit.TheVariants as unfit
@@ -11,7 +11,8 @@ use Rattle.base_ast.specs.declared.optimized.OptimizedRule.{OptimizedRule}
 use Rattle.base_language.specs.Language.Expression.{Grammar}
 use Rattle.base_language.specs.Language.State.{State, Trees, Success, Failure}
 use Rattle.base_language.specs.Language.Text.{Text}
-use Rattle.matcher_program.specs.Answers.{Has, IsSoundMatcher}
+use Rattle.matcher_program.specs.Answers.{Has}
+use Rattle.matcher_engine.specs.Matchers.{grammar_in, properties_in}
 use Rattle.matcher_engine.specs.declared.matcher.Matcher.{Matcher}
 use Rattle.lint_diagnostics.specs.declared.comparer.Comparer.{Comparer}
 use Rattle.lint_diagnostics.specs.declared.comparer.RunnableForms.{RunnableForms}
@@ -48,19 +49,14 @@ pub record ShowsDifference (grammar : List ℕ) (n : Text) (d : Difference) : Ty
   pub are_optimized : AreOptimized grammar optimized
   pub distinguishes : Distinguishes written optimized n d
 
--- the rules that a matcher runs
-abbrev pub matcher_grammar : Matcher → Grammar
-matcher_grammar matcher = grammar_of matcher.program.rows.items
-
--- a matcher that can be run, with the sets of Unicode for property names
-pub record IsRunnable (matcher : Matcher) : Type 0 where
-  pub sound : IsSoundMatcher matcher
-  pub fits : Fits matcher.program.properties.items is_in_property
+-- a matcher that has the sets of Unicode for property names
+abbrev pub IsRunnable : Matcher → Type 0
+IsRunnable matcher = Fits (properties_in matcher) is_in_property
 
 -- both forms of a grammar's rules
 pub record AreForms (grammar : List ℕ) (forms : RunnableForms) : Type 0 where
-  pub are_written : IsWritten grammar (matcher_grammar forms.written)
-  pub are_optimized : AreOptimized grammar (matcher_grammar forms.optimized)
+  pub are_written : IsWritten grammar (grammar_in forms.written)
+  pub are_optimized : AreOptimized grammar (grammar_in forms.optimized)
   pub written : IsRunnable forms.written
   pub optimized : IsRunnable forms.optimized
 

@@ -3,7 +3,7 @@ ghost use Rattle.std.specs.Prelude.{◌≡◌, IfNone, IfOk, IfSome, chars};
 ghost use Rattle.base_ast.specs.Optimized.{optimized_rules_of};
 ghost use Rattle.lint_diagnostics.specs.Differences.{AreForms, AreOptimized, Distinguishes, EndsAs};
 ghost use Rattle.lint_diagnostics.specs.Differences.{CannotRun, IsComparer, IsRunnable, LacksForms, ShowsDifference};
-ghost use Rattle.lint_diagnostics.specs.Differences.{matcher_grammar};
+ghost use Rattle.matcher_engine.specs.Matchers.{grammar_in};
 ghost use Rattle.pest_meta.specs.Spelling.{HasRefusal};
 ghost use Rattle.pest_meta.specs.Written.{IsWritten};
 
@@ -80,8 +80,8 @@ impl RunnableForms {
     ) -> Result<Option<Difference>, AllocError>
         requires written { IsRunnable self.now.written }
         requires optimized { IsRunnable self.now.optimized }
-        ensures { IfOk result (λ found. IfSome found (Distinguishes (matcher_grammar self.now.written)
-            (matcher_grammar self.now.optimized) (chars rule.now))) }
+        ensures { IfOk result (λ found. IfSome found (Distinguishes (grammar_in self.now.written)
+            (grammar_in self.now.optimized) (chars rule.now))) }
     {
         for text in texts {
             if let Some(difference) = self.difference_on(alloc, rule, text.as_str())? {
@@ -100,8 +100,8 @@ impl RunnableForms {
     ) -> Result<Option<Difference>, AllocError>
         requires written { IsRunnable self.now.written }
         requires optimized { IsRunnable self.now.optimized }
-        ensures { IfOk result (λ found. IfSome found (Distinguishes (matcher_grammar self.now.written)
-            (matcher_grammar self.now.optimized) (chars rule.now))) }
+        ensures { IfOk result (λ found. IfSome found (Distinguishes (grammar_in self.now.written)
+            (grammar_in self.now.optimized) (chars rule.now))) }
     {
         let Some(written) = end_of(alloc, &self.written, rule, text)? else {
             return Ok(None);
@@ -130,7 +130,7 @@ fn end_of(
 ) -> Result<Option<RuleEnd>, AllocError>
     requires { IsRunnable matcher.now }
     ensures { IfOk result (λ found.
-        IfSome found (EndsAs (matcher_grammar matcher.now) (chars rule.now) text.now)) }
+        IfSome found (EndsAs (grammar_in matcher.now) (chars rule.now) text.now)) }
 {
     match matcher.parse(alloc, rule, text, MOST_STEPS) {
         Ok(found) => Ok(Some(RuleEnd::At(found.end))),
@@ -181,7 +181,7 @@ fn written_rules(
 /// run.
 fn optimized_matcher(alloc: Global, grammar: &str) -> Result<Option<Matcher>, AllocError>
     ensures optimized { IfOk result (λ found. IfSome found (λ matcher.
-        AreOptimized grammar.now (matcher_grammar matcher))) }
+        AreOptimized grammar.now (grammar_in matcher))) }
     ensures runnable { IfOk result (λ found. IfSome found IsRunnable) }
     ensures lacking { IfOk result (λ found. IfNone found (LacksForms grammar.now)) }
 {
@@ -198,7 +198,7 @@ fn optimized_matcher(alloc: Global, grammar: &str) -> Result<Option<Matcher>, Al
 /// Compiles rules, or returns none if they cannot be run.
 fn compile(alloc: Global, rules: &[OptimizedRule]) -> Result<Option<Matcher>, AllocError>
     ensures means { IfOk result (λ found. IfSome found (λ matcher.
-        matcher_grammar matcher ≡ optimized_rules_of rules.now)) }
+        grammar_in matcher ≡ optimized_rules_of rules.now)) }
     ensures runnable { IfOk result (λ found. IfSome found IsRunnable) }
     ensures unfit { IfOk result (λ found. IfNone found (CannotRun (optimized_rules_of rules.now))) }
 {

@@ -7,7 +7,7 @@ mod difference;
 mod samples;
 mod texts;
 
-ghost use Rattle.std.specs.Prelude.{◌≡◌, ℕ, All, Bool, IfOk, IfSome, List, OnOk, chars, false, string_bytes, true};
+ghost use Rattle.std.specs.Prelude.{◌≡◌, ℕ, All, Bool, IfOk, IfSome, List, chars, false, string_bytes, true};
 ghost use Rattle.std.specs.Borrow.{Bor};
 ghost use Rattle.std.specs.List.{AllZip, list_any};
 ghost use Rattle.lint_findings.specs.Codes.{chosen_warnings};
@@ -181,20 +181,6 @@ fn join_starts<'s>(
     all.extend_from_slice(named)?;
     all.push(Builtin::Soi.name())?;
     Ok(all)
-}
-
-/// Optimizes the rules of an accepted text: so it has an answer.
-fn find_answer(alloc: Global, rules: Vec<ParserRule<'_>>) -> Result<(), AllocError>
-    ensures { OnOk result ((text : List ℕ)
-        → IfSpells text (rule_views rules.entry.items) (HasAnswer text)) }
-{
-    match optimize_with_spans(alloc, rules) {
-        Ok(optimized) => {
-            release(optimized);
-            Ok(())
-        }
-        Err(_) => Err(AllocError),
-    }
 }
 
 /// The warnings of rules that a text spells, all of them or not.
