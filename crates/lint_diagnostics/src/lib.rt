@@ -163,8 +163,8 @@ fn warn_from(
     warn_of(alloc, text, rules, &all, has_all)
 }
 
-/// Starts, and those that a comment names. Where it names some, `SOI` is among them, so that the first rule is
-/// not taken for a start.
+/// Starts, and those that a comment names. Where it names some, `SOI` is among them, so that the first rule
+/// is not taken for a start.
 fn join_starts<'s>(
     alloc: Global,
     starts: &[&'s str],

@@ -73,7 +73,8 @@ warnings_with starts rules c = map (warning c) (spans_of c starts rules)
 -- the codes of warnings, in the order in which a text's are listed
 abbrev pub warning_codes : List Code
 warning_codes = code.UncalledRule ∷ code.MissingEnd ∷ code.Unreachable ∷ code.ReversedRange
-    ∷ code.ReversedCount ∷ code.IdleTest ∷ code.NeverMatches ∷ code.BlanksInToken ∷ code.ManyCopies ∷ code.RepeatedAlternative ∷ []
+    ∷ code.ReversedCount ∷ code.IdleTest ∷ code.NeverMatches ∷ code.BlanksInToken ∷ code.ManyCopies
+    ∷ code.RepeatedAlternative ∷ []
 
 -- the warnings of rules, of which those of some names are starts
 abbrev pub warnings_of : List Text → List SpannedRule → List Warning
@@ -152,9 +153,9 @@ code_name code.RepeatedBody = codes "pest::repeated_body"
 abbrev pub all_codes : List Code
 all_codes = code.Syntax ∷ code.EscapeValue ∷ code.NumberRange ∷ code.ZeroRepetition ∷ code.ReservedName
     ∷ code.DuplicateRule ∷ code.UndefinedRule ∷ code.MissingProperty ∷ code.LeftRecursion
-    ∷ code.EndlessRepetition ∷ code.UnreachableChoice ∷ code.TagWithoutToken ∷ code.UnusedAllowance ∷ code.UncalledRule
-    ∷ code.MissingEnd ∷ code.Unreachable ∷ code.ReversedRange ∷ code.ReversedCount ∷ code.IdleTest ∷ code.NeverMatches
-    ∷ code.BlanksInToken ∷ code.ManyCopies ∷ code.RepeatedAlternative ∷ code.RewrittenList
+    ∷ code.EndlessRepetition ∷ code.UnreachableChoice ∷ code.TagWithoutToken ∷ code.UnusedAllowance
+    ∷ code.UncalledRule ∷ code.MissingEnd ∷ code.Unreachable ∷ code.ReversedRange ∷ code.ReversedCount
+    ∷ code.IdleTest ∷ code.NeverMatches ∷ code.BlanksInToken ∷ code.ManyCopies ∷ code.RepeatedAlternative ∷ code.RewrittenList
     ∷ code.KeywordName ∷ code.BuiltinName ∷ code.RepeatedBody ∷ []
 
 -- how each of their names begins

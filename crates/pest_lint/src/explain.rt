@@ -148,7 +148,8 @@ const MISSING_END: &str =
      a text that goes on behind the match.\n\n    file = { SOI ~ line* }\n\n\
      Write file = { SOI ~ line* ~ EOI }. Such a start is a rule that no other rule calls, if it calls \
      SOI or is the only such rule of several. EOI, !ANY, ANY* or ANY+ ask for the end, in it or by a \
-     chain of at most 32 calls. Nothing is reported where several starts are named and no rule asks for the end.";
+     chain of at most 32 calls. Nothing is reported where several starts are named and no rule asks for \
+     the end.";
 
 const UNREACHABLE: &str =
     "A literal or a call before an alternative begins all that it matches, so it is never \
