@@ -1,5 +1,5 @@
 -- The last row of a name, by a search from the end.
-use Rattle.std.proofs.Common.{◌≡◌, ◌∙◌, ap, refl, sym, subst, Bool, Option, if◌then◌else◌, ℕ, zero, ◌+◌, ◌<◌, suc, List, [], ◌∷◌, None, Some, arith, bytes_eq, drop, false, get_or, length, true}
+use Rattle.std.proofs.Common.{◌≡◌, ◌∙◌, ap, refl, sym, subst, Bool, Option, if◌then◌else◌, ℕ, zero, ◌+◌, ◌<◌, suc, List, [], ◌∷◌, None, Some, arith, bytes_eq, drop, false, get_or, length, map, true}
 use Rattle.std.proofs.lemmas.List.{get_or-map, length-map}
 use Rattle.std.proofs.lemmas.Slice.Eq.{bytes_eq-Decides}
 use Rattle.base_ast.specs.Ast.{text_of}
@@ -7,6 +7,7 @@ use Rattle.base_language.specs.Language.Expression.{Grammar, Rule, last_place, r
 use Rattle.base_language.specs.Language.Text.{Text}
 use Rattle.matcher_program.specs.declared.form.Row.{Row}
 use Rattle.matcher_program.specs.Programs.{IsRuleOf, grammar_of, name_at, names_of, rule_of_row}
+use Rattle.matcher_sets.specs.Forms.{no_rule}
 use Rattle.matcher_compiler.specs.Names.{IsLast}
 
 last_found : (g : Grammar) (i : ℕ) (d : Rule) (n : Text) → i < length g → last_place (drop (suc i) g) n ≡ None → bytes_eq (get_or g i d).name n ≡ true → last_place g n ≡ Some i
@@ -89,17 +90,22 @@ meant_of g n i e =
 pub rule_within : (rows : List Row) (n : Text) (i : ℕ) → IsRuleOf (grammar_of rows) n i → i < length rows
 rule_within rows n i h = omega (arith, h.within, length-map rows (rule_of_row (names_of rows)))
 
+-- the name of a row, and that of its rule
+row_name : (names : List Text) (rows : List Row) (i : ℕ) (d : Rule) → i < length rows
+    → get_or (map (λ r. text_of r.name) rows) i [] ≡ (get_or (map (rule_of_row names) rows) i d).name
+row_name names [] i d l = absurd (omega (arith, l))
+row_name names (r ∷ rows) zero d l = refl
+row_name names (r ∷ rows) (suc i) d l = row_name names rows i d (omega (arith, l))
+
 -- the last row of the name of a row
-module _ (rows : List Row) (rule last : ℕ) (d : Row) (e : last_place (grammar_of rows) (name_at (names_of rows) rule) ≡ Some last) where
+module _ (rows : List Row) (rule last : ℕ) (e : last_place (grammar_of rows) (name_at (names_of rows) rule) ≡ Some last) where
   pub last_within : last < length rows
   last_within = rule_within rows (name_at (names_of rows) rule) last (meant_of (grammar_of rows) (name_at (names_of rows) rule) last e)
 
   pub last_named : name_at (names_of rows) last ≡ name_at (names_of rows) rule
   last_named =
-      let f = rule_of_row (names_of rows) in
-      let x = place_of_last (grammar_of rows) (name_at (names_of rows) rule) last e in
-      get_or-map (λ r. text_of r.name) rows last d [] last_within
-      ∙ (ap (λ r. r.name) (sym (get_or-map f rows last d (f d) last_within)) ∙ x.named (f d))
+      row_name (names_of rows) rows last no_rule last_within
+      ∙ (place_of_last (grammar_of rows) (name_at (names_of rows) rule) last e).named no_rule
 
   pub last_is : IsLast rows last
   last_is = ap (last_place (grammar_of rows)) last_named ∙ e

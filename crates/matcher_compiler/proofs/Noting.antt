@@ -1,11 +1,12 @@
 -- Operations that note failures without names.
-use Rattle.std.proofs.Common.{◌≡◌, ap, ◌∙◌, ℕ, zero, suc, Bool, true, false, ◌&&◌, ◌||◌, List, [], ◌∷◌, get_or}
-use Rattle.std.specs.Prelude.{list_any, not}
+use Rattle.std.proofs.Common.{◌≡◌, refl, ap, ◌∙◌, ℕ, zero, suc, Bool, true, false, ◌&&◌, ◌||◌, List, [], ◌∷◌, get_or}
+use Rattle.std.specs.List.{list_any}
+use Rattle.std.specs.Prelude.{not}
 use Rattle.std.proofs.Math.Bool.{and-false}
 use Rattle.matcher_code.specs.declared.code.Code.{Code}
 use Rattle.matcher_code.specs.declared.code.Op.{Op}
 use Rattle.matcher_code.specs.declared.code.Op.TheVariants as op
-use Rattle.matcher_code.specs.Laid.{GoesTo, at_label}
+use Rattle.matcher_code.specs.Laid.{GoesTo}
 use Rattle.matcher_compiler.specs.Exact.{IsAllowed, is_exact, is_note}
 
 or_true : (b : Bool) → (b || true) ≡ true

@@ -10,7 +10,7 @@ use Rattle.std.specs.declared.alloc.Global.{Global}
 use Rattle.std.specs.declared.string.String.{String}
 use Rattle.std.specs.declared.vec.Vec.{Vec}
 use Rattle.base_ast.specs.Ast.{text_of}
-use Rattle.base_language.specs.Language.Expression.{Expression, Rep, Seq, Skip}
+use Rattle.base_language.specs.Language.Expression.{Rep, Seq, Skip}
 use Rattle.base_language.specs.Language.Matching.{any_begins, begins, distance}
 use Rattle.base_language.specs.Language.Meaning as by
 use Rattle.base_language.specs.Language.Meaning.{Does, Run, Task}
@@ -101,11 +101,12 @@ begins_empty (x ∷ t) u h = cc
 
 any_empty : (ts : List Text) (u : Text) → any_begins ts [] ≡ true → any_begins ts u ≡ true
 any_empty [] u h = cc
-any_empty (t ∷ ts) u h = go (begins nat_eq t []) refl h
+any_empty (t ∷ ts) u h = go (begins nat_eq t []) refl h (any_empty ts u)
   where
-    go : (b : Bool) → begins nat_eq t [] ≡ b → (b || any_begins ts []) ≡ true → (begins nat_eq t u || any_begins ts u) ≡ true
-    go true e k = ap (λ b. b || any_begins ts u) (begins_empty t u e)
-    go false e k = ap (λ b. begins nat_eq t u || b) (any_empty ts u k) ∙ or_true (begins nat_eq t u)
+    go : (b : Bool) → begins nat_eq t [] ≡ b → (b || any_begins ts []) ≡ true → (any_begins ts [] ≡ true → any_begins ts u ≡ true)
+        → (begins nat_eq t u || any_begins ts u) ≡ true
+    go true e k ih = ap (λ b. b || any_begins ts u) (begins_empty t u e)
+    go false e k ih = ap (λ b. begins nat_eq t u || b) (ih k) ∙ or_true (begins nat_eq t u)
 
 no_distance : (ts : List Text) → any_begins ts [] ≡ true → (cs : Text) → distance ts cs ≡ span_of (λ c. false) cs
 no_distance ts h [] = refl

@@ -1,5 +1,6 @@
 -- Code that records the name of each failure that counts.
-use Rattle.std.specs.Prelude.{◌≡◌, Bool, true, false, ◌&&◌, not, list_any}
+use Rattle.std.specs.Prelude.{◌≡◌, Bool, true, false, ◌&&◌, not}
+use Rattle.std.specs.List.{list_any}
 use Rattle.matcher_code.specs.declared.code.Code.{Code}
 use Rattle.matcher_code.specs.declared.code.Op.{Op}
 use Rattle.matcher_code.specs.declared.code.Op.TheVariants as op

@@ -1,5 +1,5 @@
 use Rattle.std.proofs.Common.{◌≡◌, false, take}
-use Rattle.std.specs.Prelude.{list_any}
+use Rattle.std.specs.List.{list_any}
 use Rattle.matcher_compiler.specs.Exact.{is_note}
 use Rattle.matcher_compiler.proofs.check.is_exact.Given as goal
 
