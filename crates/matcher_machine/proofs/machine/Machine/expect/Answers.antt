@@ -1,6 +1,7 @@
 use Rattle.std.proofs.Common.{◌≡◌, ◌≤◌, ◌∙◌, sym, length, reverse, true, false, arith}
 use Rattle.matcher_code.specs.Steps.{is_among}
-use Rattle.matcher_machine.proofs.Naming.{contained, named_longer, row_added, row_there}
+use Rattle.matcher_code.proofs.Expected.{row_there}
+use Rattle.matcher_machine.proofs.Naming.{contained, named_longer, row_added}
 use Rattle.matcher_machine.proofs.machine.Machine.expect.Goals as goal
 
 pub returns-then-contains-clause-expected : goal.returns-then-contains-clause-expected
