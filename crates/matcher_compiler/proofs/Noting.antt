@@ -6,7 +6,7 @@ use Rattle.std.proofs.Math.Bool.{and-false}
 use Rattle.matcher_code.specs.declared.code.Code.{Code}
 use Rattle.matcher_code.specs.declared.code.Op.{Op}
 use Rattle.matcher_code.specs.declared.code.Op.TheVariants as op
-use Rattle.matcher_code.specs.Laid.{GoesTo, at_label}
+use Rattle.matcher_code.specs.Laid.{GoesTo}
 use Rattle.matcher_compiler.specs.Exact.{IsAllowed, is_exact, is_note}
 
 or_true : (b : Bool) → (b || true) ≡ true

@@ -1,5 +1,5 @@
 -- Exact code does what other code does.
-use Rattle.std.proofs.Common.{◌≡◌, refl, ℕ, inl, inr, Bool, true, false, List}
+use Rattle.std.proofs.Common.{refl, ℕ, inl, inr, Bool, true, false, List}
 use Rattle.base_language.specs.Language.Expression.{Grammar}
 use Rattle.base_language.specs.Language.Meaning.{Task}
 use Rattle.base_language.specs.Language.State.{Classes}

@@ -1,13 +1,11 @@
 -- What the implicit skipping takes.
-use Rattle.std.proofs.Common.{◌≡◌, refl, sym, ◌∙◌, ap, ap₂, subst, ℕ, zero, suc, ◌<◌, ◌||◌, ◌&&◌, List, [], ◌∷◌, Bool, true, false, None, Some, add-zero, bytes_eq, get_or, length, map, arith, if◌then◌else◌}
-use Rattle.std.specs.Prelude.{Err, IfOk, IfSome, Ok, Option, Result, max}
-use Rattle.std.proofs.lemmas.List.{length-map}
-use Rattle.base_ast.specs.Ast.{rule_type_of, text_of}
-use Rattle.base_language.specs.Language.Expression.{Atomic, CompoundAtomic, Grammar, Ident, NonAtomic, Normal, Rep, Rule, RuleType, Silent, comment, rule_of, whitespace}
-use Rattle.base_language.specs.Language.FurthestFailure.{is_eoi, place_of}
+use Rattle.std.proofs.Common.{◌≡◌, refl, sym, ◌∙◌, ap, ap₂, subst, ℕ, ◌<◌, ◌||◌, List, [], ◌∷◌, Bool, true, false, None, Some, add-zero, bytes_eq, get_or, length, if◌then◌else◌}
+use Rattle.std.specs.Prelude.{Err, IfOk, IfSome, Ok, Option, Result}
+use Rattle.base_ast.specs.Ast.{rule_type_of}
+use Rattle.base_language.specs.Language.Expression.{Grammar, Ident, Rep, Rule, Silent, comment, rule_of, whitespace}
 use Rattle.base_language.specs.Language.Meaning as by
 use Rattle.base_language.specs.Language.Meaning.{Does, Run, Skipping, body_mode, gives_token, inherited, mode_in, seen_from, with_token}
-use Rattle.base_language.specs.Language.State.{AtomicMode, Between, Classes, CompoundAtomicMode, Failure, Mode, NonAtomicMode, None', Outcome, State, Success, Tree, moved}
+use Rattle.base_language.specs.Language.State.{AtomicMode, Between, Classes, CompoundAtomicMode, Failure, NonAtomicMode, None', State, Success, moved}
 use Rattle.base_language.specs.Language.Text.{Text}
 use Rattle.base_language.proofs.Basics.{same_some}
 use Rattle.matcher_code.specs.Failures.{both, in_silence, no_failure}
@@ -17,7 +15,7 @@ use Rattle.matcher_code.specs.Laid.{FailsOutside, HasOutcome, IsPart, IsPoint, I
 use Rattle.matcher_code.proofs.Characters.{silent_call_of_some, span_of_some}
 use Rattle.matcher_program.specs.declared.form.Program.{Program}
 use Rattle.matcher_program.specs.declared.form.Row.{Row}
-use Rattle.matcher_program.specs.Programs.{IsRuleOf, IsSkippedRule, name_at, names_of, rule_of_row}
+use Rattle.matcher_program.specs.Programs.{IsRuleOf, IsSkippedRule, name_at, names_of}
 use Rattle.matcher_sets.specs.declared.modes.Atomicity as code
 use Rattle.matcher_compiler.specs.declared.plan.Skips.TheVariants as skips
 use Rattle.matcher_sets.specs.declared.modes.Atomicity.TheVariants as mode

@@ -10,7 +10,7 @@ use Rattle.std.specs.declared.alloc.Global.{Global}
 use Rattle.std.specs.declared.string.String.{String}
 use Rattle.std.specs.declared.vec.Vec.{Vec}
 use Rattle.base_ast.specs.Ast.{text_of}
-use Rattle.base_language.specs.Language.Expression.{Expression, Rep, Seq, Skip}
+use Rattle.base_language.specs.Language.Expression.{Rep, Seq, Skip}
 use Rattle.base_language.specs.Language.Matching.{any_begins, begins, distance}
 use Rattle.base_language.specs.Language.Meaning as by
 use Rattle.base_language.specs.Language.Meaning.{Does, Run, Task}

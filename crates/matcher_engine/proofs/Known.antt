@@ -11,6 +11,8 @@ use Rattle.matcher_program.specs.declared.form.Row.{Row}
 use Rattle.matcher_program.specs.Programs.{grammar_of, names_of, rule_of_row}
 use Rattle.matcher_compiler.specs.Names.{number_in, or_end}
 use Rattle.matcher_engine.specs.Entries.{name_in}
+use Rattle.std.proofs.lemmas.Str.{chars-IsAscii}
+use Rattle.std.proofs.lemmas.Str.Ascii.{IsAscii-cons, IsAscii-nil}
 
 -- the rule of a place has the name
 abbrev pub IsNamed : Grammar → Text → ℕ → Type 0
@@ -86,3 +88,6 @@ pub names_rule : (rows : List Row) (row : ℕ) (found : Option (Bor (List ℕ)))
     → IfSome found (λ name. (r : Text) → number_in (grammar_of rows) r ≡ row → chars name.now ≡ r)
 names_rule rows row None h e = tt
 names_rule rows row (Some name) h e = λ r n. e ∙ (ap (name_in (names_of rows)) (sym n) ∙ known_name rows r (subst (λ k. k ≤ length rows) (sym n) h))
+
+pub eoi_text : chars (codes "EOI") ≡ codes "EOI"
+eoi_text = chars-IsAscii (codes "EOI") (IsAscii-cons 69 (79 ∷ 73 ∷ []) (omega arith) (IsAscii-cons 79 (73 ∷ []) (omega arith) (IsAscii-cons 73 [] (omega arith) IsAscii-nil)))

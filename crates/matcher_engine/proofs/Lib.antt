@@ -5,6 +5,7 @@ pub mod OneDerivation
 pub mod OneSoundness
 pub mod Preorder
 pub mod Results
+pub mod Rows
 pub mod RuleSets
 pub mod Sound
 pub mod Totals

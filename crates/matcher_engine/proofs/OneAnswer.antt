@@ -1,15 +1,15 @@
 -- There is one answer at most, so that what has some has that.
-use Rattle.std.proofs.Common.{◌≡◌, sym, ◌∙◌, subst, List, ℕ}
+use Rattle.std.proofs.Common.{◌≡◌, sym, ◌∙◌, subst, List, ℕ, [], Option, Some, None, Ok, map}
 use Rattle.std.proofs.Props.{props}
 use Rattle.std.proofs.Math.Bridge.{le_prop}
 use Rattle.std.proofs.Math.Logic.{∥∥₁_elim}
 use Rattle.std.proofs.Math.Nat.{ℕ_set}
-use Rattle.std.specs.Coded.{×_prop}
+use Rattle.std.specs.Coded.{×_prop, Unit-prop}
 use mathlib.Core.HLevel.{Σ_prop, ⊥_prop}
 use Rattle.base_language.specs.Language.Expression.{Grammar, Ident}
 use Rattle.base_language.specs.Language.FurthestFailure.{furthest}
 use Rattle.base_language.specs.Language.Meaning.{Run}
-use Rattle.base_language.specs.Language.State.{Classes, Failure, NonAtomicMode, State, Success, Trees}
+use Rattle.base_language.specs.Language.State.{Classes, Failure, NonAtomicMode, State, Success, Trees, Outcome}
 use Rattle.base_language.specs.Language.Text.{Text}
 use Rattle.front_syntax.specs.Entries.{entries_of}
 use Rattle.matcher_code.specs.declared.state.TreeNode.{TreeNode}
@@ -21,11 +21,18 @@ use Rattle.matcher_program.specs.Answers.{FailsWith, HasAt, IsMatchedFrom, IsSto
 use Rattle.matcher_program.specs.Classes.{classes_in}
 use Rattle.matcher_program.specs.Written.{seen}
 use Rattle.matcher_program.specs.declared.answers.Found.{Found}
+use Rattle.matcher_program.specs.declared.answers.Stop.{Stop}
 use Rattle.matcher_program.specs.declared.answers.Stop.TheVariants as stop
 use Rattle.matcher_engine.specs.Preorders.{HasPreorder}
 use Rattle.matcher_engine.specs.declared.matcher.Preorder.{Preorder}
 use Rattle.matcher_engine.proofs.OneDerivation.{Answer, one_answer}
 use Rattle.matcher_engine.proofs.Uniqueness.{one_trees}
+use Rattle.matcher_machine.specs.declared.machine.Machine.{Machine}
+use Rattle.matcher_engine.specs.Runs.{HasFound, IsRun}
+use Rattle.base_language.specs.Language.Expected.{expected_at}
+use Rattle.matcher_code.specs.Steps.{with_rows}
+use Rattle.matcher_program.specs.declared.form.Program.{Program}
+use Rattle.matcher_sets.specs.Forms.{grammar_in}
 
 nodes_set : IsSet (List TreeNode)
 nodes_set = hlevel props
@@ -73,6 +80,11 @@ module _ (g : Grammar) (ps : List Property) (n : Text) (s : State) where
           entries = w x.trees x.nodes;
         }
 
+  -- what a machine has found, as a match
+  pub in_preorder : {classes : Classes} {place end : ℕ} {m : Machine} → HasFound g n s classes place m end
+      → HasPreorder g n s classes (record { trees = m.trees; end = end; furthest = m.furthest })
+  in_preorder x = record { state = x.state; trees = x.trees; found = x.found; ends = x.ends; nodes = x.nodes; place = x.furthest }
+
   module _ (place : ℕ) where
     -- it is a failure at the place
     abbrev IsFailure : {classes : Classes} → Result classes → Type 0
@@ -94,6 +106,17 @@ module _ (g : Grammar) (ps : List Property) (n : Text) (s : State) where
         ∥∥₁_elim failed (Σ_prop (λ r q. one_answer g classes r q) (λ r. failure_prop r)) (λ f. let found = f classes fits in ((Failure, found.0), found.1)) in
         failure_in x.0 x.1
 
-  -- a run that takes more steps than were allowed
-  pub one_stop : (steps : ℕ) → ∥ IsStoppedFrom g ps n s steps stop.OutOfSteps ∥₁ → IsStoppedFrom g ps n s steps stop.OutOfSteps
-  one_stop steps stopped classes fits o d = ∥∥₁_elim stopped le_prop (λ x. x classes fits o d)
+  -- a run that was stopped
+  stop_prop : (steps : ℕ) (why : Stop) → IsProp (IsStoppedFrom g ps n s steps why)
+  stop_prop steps stop.Memory = Unit-prop
+  stop_prop steps stop.OutOfSteps = hlevel (props, le_prop)
+  stop_prop steps stop.EmptyStack = hlevel props
+
+  pub one_stop : (steps : ℕ) (why : Stop) → ∥ IsStoppedFrom g ps n s steps why ∥₁ → IsStoppedFrom g ps n s steps why
+  one_stop steps why stopped = ∥∥₁_elim stopped (stop_prop steps why) (λ x. x)
+
+-- the names of a run
+pub has_names : (p : Program) (n : Text) (s : State) (steps place : ℕ) (m : Machine) (x : Option ℕ) → IsRun p n s steps place m (Ok x) → (classes : Classes) → Fits p.properties.items classes
+    → (o : Outcome) × (d : HasAt (grammar_in p) n s classes o) × (m.names.items ≡ with_rows [] (map (number_in (grammar_in p)) (expected_at place d)))
+has_names p n s steps place m (Some end) run classes fits = let y = run classes fits in (Success y.state y.trees, y.found, y.names)
+has_names p n s steps place m None run classes fits = let y = run classes fits in (Failure, y.found, y.names)

@@ -30,7 +30,7 @@ module _ (g : Grammar) (names : List Text) (ps : List Property) where
   bound_prop (form.Insens t) = Unit-prop
   bound_prop (form.Range a b) = Unit-prop
   bound_prop (form.One k) = no_rule_prop g _
-  bound_prop (form.Set' flags p a) = ×_prop (hlevel props) (bound_prop a)
+  bound_prop (form.Set' p a) = ×_prop (hlevel props) (bound_prop a)
   bound_prop form.Start = no_rule_prop g _
   bound_prop form.End = no_rule_prop g _
   bound_prop form.Newline = no_rule_prop g _
@@ -43,7 +43,7 @@ module _ (g : Grammar) (names : List Text) (ps : List Property) where
   bound_prop (form.Opt' p a) = bound_prop a
   bound_prop (form.Rep' p a) = bound_prop a
   bound_prop (form.RepOnce' p a) = bound_prop a
-  bound_prop (form.Skip ss stops) = hlevel props
+  bound_prop (form.Skip ss) = hlevel props
   bound_prop (form.Push' p a) = bound_prop a
   bound_prop (form.PushLiteral s) = Unit-prop
   bound_prop (form.Tag' p a t) = bound_prop a

@@ -1,5 +1,5 @@
 -- What a run of compiled rules says of a rule on a text.
-use Rattle.std.proofs.Common.{◌≡◌, refl, sym, ◌∙◌, ap, subst, ℕ, ◌+◌, ◌-◌, ◌*◌, ◌<◌, ◌≤◌, List, [], Some, chars, drop, length, inl, inr, arith}
+use Rattle.std.proofs.Common.{◌≡◌, refl, sym, ◌∙◌, ap, subst, ℕ, ◌+◌, ◌-◌, ◌*◌, ◌<◌, ◌≤◌, List, [], Some, chars, drop, length, inl, inr, arith, zero, suc, Bool, map}
 use Rattle.std.specs.Prelude.{IsUtf8, max}
 use Rattle.std.specs.Str.{IsCharBoundary}
 use Rattle.std.proofs.lemmas.Bool.{cases_lt}
@@ -15,10 +15,10 @@ use Rattle.base_language.specs.Pieces.Span.{position_offset, position_text}
 use Rattle.base_language.specs.declared.runtime.places.Position.{Position}
 use Rattle.matcher_code.specs.declared.code.Code.{Code}
 use Rattle.matcher_code.specs.declared.code.Op.TheVariants as op
-use Rattle.matcher_code.specs.Steps.{Config, jump, op_at, steps}
+use Rattle.matcher_code.specs.Steps.{Config, jump, op_at, steps, step, with_rows}
 use Rattle.matcher_code.specs.Endings.{IsFound}
 use Rattle.matcher_code.specs.Laid.{IsEnd, IsPoint}
-use Rattle.matcher_code.specs.Reached.{IsAt, Reaches, nodes_of, with_failure, with_success}
+use Rattle.matcher_code.specs.Reached.{IsAt, Reaches, with_failure, with_success, MayAsk}
 use Rattle.matcher_code.specs.Sizes.{size}
 use Rattle.matcher_code.proofs.Existence.{finds, stays_ended}
 use Rattle.matcher_code.proofs.Forward.{comes, fail_forward, guard_forward}
@@ -29,24 +29,31 @@ use Rattle.matcher_machine.specs.Machines.{EndsAtLast, config}
 use Rattle.matcher_program.specs.declared.form.Program.{Program}
 use Rattle.matcher_program.specs.Programs.{Fits, name_at, names_of, rule_of_row}
 use Rattle.matcher_program.specs.declared.answers.Stop.TheVariants as stop
-use Rattle.matcher_program.specs.Answers.{FailsWith, IsStoppedFrom, start_of, state_at}
+use Rattle.matcher_program.specs.Answers.{IsStoppedFrom, start_of, state_at}
 use Rattle.matcher_compiler.specs.Compiled.{IsCodeOf}
 use Rattle.matcher_compiler.specs.Names.{number_in}
 use Rattle.matcher_sets.specs.Forms.{grammar_in}
-use Rattle.matcher_engine.specs.Preorders.{HasPreorder}
-use Rattle.matcher_engine.specs.declared.matcher.Preorder.{Preorder}
 use Rattle.matcher_engine.proofs.Bytes.{bytes_of_text}
 use Rattle.matcher_engine.proofs.Known.{named_map, no_rule, placed}
 use Rattle.matcher_engine.proofs.Totals.{same_size}
+use Rattle.base_language.specs.Language.Expected.{expected_at}
+use Rattle.matcher_code.specs.Failures.{failures_at}
+use Rattle.matcher_engine.specs.Runs.{HasFailed, HasFound, IsFresh}
+use Rattle.matcher_machine.specs.declared.machine.RunEnd.{RunEnd}
 
--- the configuration of a run from a position
-abbrev pub start_at : ℕ → ℕ → Config
-start_at from l = record { pc = l; at = from; slots = []; trees = []; stack = []; furthest = 0 }
+-- the configuration of a run from a position, where names are asked for at another one
+abbrev pub start_at : ℕ → ℕ → ℕ → Config
+start_at from asked l = record { pc = l; at = from; slots = []; trees = []; stack = []; furthest = 0; asked = asked; names = [] }
 
 -- a machine before its first step
-pub fresh : (code : Code) (text : List ℕ) (m : Machine) (l from : ℕ) → m.slots.items ≡ [] → m.trees.items ≡ [] → m.stack.pushed.items ≡ [] → m.furthest ≡ 0
-    → config code text m l from ≡ start_at from l
-fresh code text m l from a b d c = rw (a, b, d, c) refl
+pub fresh : (code : Code) (text : List ℕ) (m : Machine) (l from : ℕ) → IsFresh m → config code text m l from ≡ start_at from m.asked l
+fresh code text m l from f =
+    let a = f.slots in
+    let b = f.trees in
+    let d = f.pushed in
+    let c = f.furthest in
+    let e = f.names in
+    rw (a, b, d, c, e) refl
 
 -- a position, as the machine has it
 pub stands_at : (p : Position) (text : List ℕ) (from : ℕ) → text ≡ position_text p → from ≡ position_offset p → IsUtf8 text → IsCharBoundary (position_text p) (position_offset p)
@@ -78,16 +85,24 @@ ends_by code text m {c = c} {d = d} x l e =
     ap (λ k. steps code text k c) (sym z) ∙ (steps_add code text x.taken (m - x.taken) c ∙ (ap (steps code text (m - x.taken)) x.same ∙ stays_ended code text d e (m - x.taken))) in
     subst (λ y. IsEnd code y.pc) (sym q) e
 
-module _ (p : Program) (code : Code) (is : IsCodeOf p code) (n : Text) (i : ℕ) (meant : last_place (grammar_in p) n ≡ Some i)
-    (text : List ℕ) (s : State) (from : ℕ) (stands : IsAt text s from []) where
+-- a run that stays where it is
+stays_there : (code : Code) (text : List ℕ) (n : ℕ) (c : Config) → step code text c ≡ c → steps code text n c ≡ c
+stays_there code text zero c h = refl
+stays_there code text (suc n) c h = ap (steps code text n) h ∙ stays_there code text n c h
+
+module _ (p : Program) (exact : Bool) (code : Code) (is : IsCodeOf exact p code) (n : Text) (i : ℕ) (meant : last_place (grammar_in p) n ≡ Some i)
+    (text : List ℕ) (s : State) (from asked : ℕ) (stands : IsAt text s from []) (asks : MayAsk exact text asked) where
   abbrev task : Task
   task = Run NonAtomicMode (Ident n)
 
   abbrev start : Config
-  start = start_at from (i + 3)
+  start = start_at from asked (i + 3)
 
   abbrev after : ℕ → Config
   after m = steps code text m start
+
+  abbrev rows_at : {classes : Classes} {o : Outcome} → Does (grammar_in p) classes task s o → List ℕ
+  rows_at d = with_rows [] (map (number_in (grammar_in p)) (expected_at asked d))
 
   entry : IsPoint is.points task (i + 3) 1 2
   entry =
@@ -102,20 +117,20 @@ module _ (p : Program) (code : Code) (is : IsCodeOf p code) (n : Text) (i : ℕ)
   module _ (classes : Classes) (fits : Fits p.properties.items classes) where
     -- what a run comes to
     succeeding : {t : State} {us : Trees} (d : Does (grammar_in p) classes task s (Success t us))
-        → Reaches code text 0 (8 * size d) start (jump 1 (with_success (number_in (grammar_in p)) t us (furthest d) start))
+        → Reaches code text 0 (8 * size d) start (jump 1 (with_success (number_in (grammar_in p)) t us (failures_at asked d) start))
     succeeding d =
         let laid = is.laid classes fits in
-        let x = comes code text (number_in (grammar_in p)) is.ends.fail (grammar_in p) classes is.points laid d (laid task (i + 3) 1 2 entry) start stands (guard_forward 2 0 start up) in
+        let x = comes code text (number_in (grammar_in p)) is.ends.fail exact (grammar_in p) classes is.points laid d (laid task (i + 3) 1 2 entry) start stands asks (guard_forward 2 0 start up) in
         within code text 0 (8 * size d) x.reaches (omega arith) (omega arith)
 
-    failing : (d : Does (grammar_in p) classes task s Failure) → Reaches code text 0 (8 * size d) start (jump 2 (with_failure (furthest d) start))
+    failing : (d : Does (grammar_in p) classes task s Failure) → Reaches code text 0 (8 * size d) start (jump 2 (with_failure (number_in (grammar_in p)) (failures_at asked d) start))
     failing d =
         let laid = is.laid classes fits in
-        let x = comes code text (number_in (grammar_in p)) is.ends.fail (grammar_in p) classes is.points laid d (laid task (i + 3) 1 2 entry) start stands (guard_forward 2 0 start up) in
-        within code text 0 (8 * size d) (reaching code text x.reaches (fail_forward 2 (with_failure (furthest d) start) up)) (omega arith) (omega arith)
+        let x = comes code text (number_in (grammar_in p)) is.ends.fail exact (grammar_in p) classes is.points laid d (laid task (i + 3) 1 2 entry) start stands asks (guard_forward 2 0 start up) in
+        within code text 0 (8 * size d) (reaching code text x.reaches (fail_forward 2 (with_failure (number_in (grammar_in p)) (failures_at asked d) start) up)) (omega arith) (omega arith)
 
     outcome_of : (m : ℕ) → IsEnd code (after m).pc → IsFound (grammar_in p) classes task s
-    outcome_of m h = finds code text (number_in (grammar_in p)) is.ends.fail (grammar_in p) classes is.points (is.laid classes fits) entry s start stands (guard_forward 2 0 start up) m (record { ended = h })
+    outcome_of m h = finds code text (number_in (grammar_in p)) is.ends.fail exact (grammar_in p) classes is.points (is.laid classes fits) entry s start stands asks (guard_forward 2 0 start up) m (record { ended = h })
 
     unfinished : (m : ℕ) → (IsEnd code (after m).pc → ⊥) → (o : Outcome) (d : Does (grammar_in p) classes task s o) → m < 8 * size d
     unfinished m h (Success t us) d =
@@ -125,76 +140,112 @@ module _ (p : Program) (code : Code) (is : IsCodeOf p code) (n : Text) (i : ℕ)
         let x = failing d in
         elim (cases_lt m (8 * size d)) [ inl a ↦ a | inr a ↦ absurd (h (ends_by code text m x (omega (arith, x.below, a)) (inr is.ends.lose))) ]
 
-  -- a success, and what a run that comes to the halt has of it
-  record Succeeded (classes : Classes) (m : ℕ) : Type 0 where
-    pub state : State
-    pub trees : Trees
-    pub found : Does (grammar_in p) classes task s (Success state trees)
-    pub position : (after m).at ≡ state.position
-    pub nodes : (after m).trees ≡ nodes_of (number_in (grammar_in p)) 0 trees
-    pub place : (after m).furthest ≡ furthest found
+    -- a run that stays at an operation that is no end has no outcome to come to
+    never : (m : ℕ) → step code text (after m) ≡ after m → (IsEnd code (after m).pc → ⊥) → (o : Outcome) → Does (grammar_in p) classes task s o → ⊥
+    never m fixed live o d =
+        let e : after (m + 8 * size d) ≡ after m = steps_add code text m (8 * size d) start ∙ stays_there code text (8 * size d) (after m) fixed in
+        let l = unfinished (m + 8 * size d) (λ z. live (subst (λ c. IsEnd code c.pc) e z)) o d in
+        absurd (omega (arith, l))
 
-  module _ (m : ℕ) where
-    succeeded : (classes : Classes) → Fits p.properties.items classes → op_at code [] (after m).pc ≡ op.Halt → (o : Outcome) → Does (grammar_in p) classes task s o → Succeeded classes m
-    succeeded classes fits h (Success t us) d =
+  module _ (m : ℕ) (it : Machine) (end : ℕ) where
+    -- a success, and what a run that comes to the halt has of it
+    succeeded : (classes : Classes) → Fits p.properties.items classes → op_at code [] (after m).pc ≡ op.Halt
+        → (after m).at ≡ end → (after m).trees ≡ it.trees.items → (after m).furthest ≡ it.furthest → (after m).names ≡ it.names.items
+        → (o : Outcome) → Does (grammar_in p) classes task s o → HasFound (grammar_in p) n s classes asked it end
+    succeeded classes fits h e w f ns (Success t us) d =
         let q = same_end code text m (succeeding classes fits d) (inl is.ends.halt) (inl h) in
         let z : max 0 (furthest d) ≡ furthest d = omega arith in
-        record { state = t; trees = us; found = d; position = ap (λ y. y.at) q; nodes = ap (λ y. y.trees) q; place = ap (λ y. y.furthest) q ∙ z }
-    succeeded classes fits h Failure d =
+        record {
+          state = t;
+          trees = us;
+          found = d;
+          ends = sym e ∙ ap (λ y. y.at) q;
+          nodes = sym w ∙ ap (λ y. y.trees) q;
+          furthest = sym f ∙ (ap (λ y. y.furthest) q ∙ z);
+          names = sym ns ∙ ap (λ y. y.names) q;
+        }
+    succeeded classes fits h e w f ns Failure d =
         let q = same_end code text m (failing classes fits d) (inr is.ends.lose) (inl h) in
         let e : op_at code [] (after m).pc ≡ op_at code [] 2 = ap (λ y. op_at code [] y.pc) q in
         let z : op.Lose ≡ op.Halt = sym is.ends.lose ∙ (sym e ∙ h) in cc
 
-    success : (classes : Classes) → Fits p.properties.items classes → op_at code [] (after m).pc ≡ op.Halt → Succeeded classes m
-    success classes fits h = let x = outcome_of classes fits m (inl h) in succeeded classes fits h x.outcome x.found
-
-    lost : (classes : Classes) → Fits p.properties.items classes → op_at code [] (after m).pc ≡ op.Lose → (o : Outcome) → Does (grammar_in p) classes task s o
-        → (d : Does (grammar_in p) classes task s Failure) × ((after m).furthest ≡ furthest d)
-    lost classes fits h Failure d =
+    lost : (classes : Classes) → Fits p.properties.items classes → op_at code [] (after m).pc ≡ op.Lose
+        → (after m).furthest ≡ it.furthest → (after m).names ≡ it.names.items
+        → (o : Outcome) → Does (grammar_in p) classes task s o → HasFailed (grammar_in p) n s classes asked it
+    lost classes fits h f ns Failure d =
         let q = same_end code text m (failing classes fits d) (inr is.ends.lose) (inr h) in
         let z : max 0 (furthest d) ≡ furthest d = omega arith in
-        (d, ap (λ y. y.furthest) q ∙ z)
-    lost classes fits h (Success t us) d =
+        record { found = d; furthest = sym f ∙ (ap (λ y. y.furthest) q ∙ z); names = sym ns ∙ ap (λ y. y.names) q }
+    lost classes fits h f ns (Success t us) d =
         let q = same_end code text m (succeeding classes fits d) (inl is.ends.halt) (inr h) in
         let e : op_at code [] (after m).pc ≡ op_at code [] 1 = ap (λ y. op_at code [] y.pc) q in
         let z : op.Halt ≡ op.Lose = sym is.ends.halt ∙ (sym e ∙ h) in cc
 
-    matched : (classes : Classes) → Fits p.properties.items classes → op_at code [] (after m).pc ≡ op.Halt
-        → (it : Preorder) → it.end ≡ (after m).at → it.furthest ≡ (after m).furthest → it.trees.items ≡ (after m).trees
-        → HasPreorder (grammar_in p) n s classes it
-    matched classes fits h it e f w =
-        let x = success classes fits h in
-        record { state = x.state; trees = x.trees; found = x.found; ends = e ∙ x.position; nodes = w ∙ x.nodes; place = f ∙ x.place }
-
-    failed : op_at code [] (after m).pc ≡ op.Lose → (place : ℕ)
-        → place ≡ (after m).furthest → FailsWith (grammar_in p) p.properties.items n s place
-    failed h place e classes fits =
-        let x = outcome_of classes fits m (inr h) in
-        let y = lost classes fits h x.outcome x.found in
-        (y.0, e ∙ y.1)
-
   module _ (old new : Machine) (most : ℕ) (same : config code text old (i + 3) from ≡ start) where
     -- the result of a run that found the end of a match
-    pub found_as : (classes : Classes) → Fits p.properties.items classes → (it : Preorder) → it.furthest ≡ new.furthest → it.trees.items ≡ new.trees.items
-        → EndsAtLast code text most (config code text old (i + 3) from) new (ended.Found it.end)
-        → HasPreorder (grammar_in p) n s classes it
-    found_as classes fits it f w x =
-        let q : after x.taken ≡ config code text new x.ends.0 it.end = ap (λ c. steps code text x.taken c) (sym same) ∙ x.ends.1 in
+    pub found_as : (end : ℕ) → EndsAtLast code text most (config code text old (i + 3) from) new (ended.Found end)
+        → (classes : Classes) → Fits p.properties.items classes → HasFound (grammar_in p) n s classes asked new end
+    found_as end x classes fits =
+        let q : after x.taken ≡ config code text new x.ends.0 end = ap (λ c. steps code text x.taken c) (sym same) ∙ x.ends.1 in
         let h : op_at code [] (after x.taken).pc ≡ op.Halt = subst (λ c. op_at code [] c.pc ≡ op.Halt) (sym q) x.ends.2 in
-        matched x.taken classes fits h it (ap (λ c. c.at) (sym q)) (f ∙ ap (λ c. c.furthest) (sym q)) (w ∙ ap (λ c. c.trees) (sym q))
+        let y = outcome_of classes fits x.taken (inl h) in
+        succeeded x.taken new end classes fits h (ap (λ c. c.at) q) (ap (λ c. c.trees) q) (ap (λ c. c.furthest) q) (ap (λ c. c.names) q) y.outcome y.found
 
     -- of a run that failed
-    pub failed_as : EndsAtLast code text most (config code text old (i + 3) from) new ended.Failed → FailsWith (grammar_in p) p.properties.items n s new.furthest
-    failed_as x =
+    pub failed_as : EndsAtLast code text most (config code text old (i + 3) from) new ended.Failed
+        → (classes : Classes) → Fits p.properties.items classes → HasFailed (grammar_in p) n s classes asked new
+    failed_as x classes fits =
         let q : after x.taken ≡ config code text new x.ends.0 x.ends.1 = ap (λ c. steps code text x.taken c) (sym same) ∙ x.ends.2 in
         let h : op_at code [] (after x.taken).pc ≡ op.Lose = subst (λ c. op_at code [] c.pc ≡ op.Lose) (sym q) x.ends.3 in
-        failed x.taken h new.furthest (ap (λ c. c.furthest) (sym q))
+        let y = outcome_of classes fits x.taken (inr h) in
+        lost x.taken new 0 classes fits h (ap (λ c. c.furthest) q) (ap (λ c. c.names) q) y.outcome y.found
+
+    -- where a run stands that has not ended
+    no_end : (m pc at : ℕ) → after m ≡ config code text new pc at → (op_at code text pc ≡ op.Halt → ⊥) → (op_at code text pc ≡ op.Lose → ⊥) → IsEnd code (after m).pc → ⊥
+    no_end m pc at q h k e = elim e [ inl a ↦ h (subst (λ c. op_at code [] c.pc ≡ op.Halt) q a) | inr a ↦ k (subst (λ c. op_at code [] c.pc ≡ op.Lose) q a) ]
 
     -- of a run that was stopped
     pub stopped_as : (limit : ℕ) → 4 * limit ≤ most → EndsAtLast code text most (config code text old (i + 3) from) new ended.OutOfSteps
         → IsStoppedFrom (grammar_in p) p.properties.items n s limit stop.OutOfSteps
     stopped_as limit l x classes fits o d =
         let q : after x.taken ≡ config code text new x.ends.0 x.ends.1 = ap (λ c. steps code text x.taken c) (sym same) ∙ x.ends.2 in
-        let no : IsEnd code (after x.taken).pc → ⊥ = λ e. elim e [ inl h ↦ x.ends.4 (subst (λ c. op_at code [] c.pc ≡ op.Halt) q h) | inr h ↦ x.ends.5 (subst (λ c. op_at code [] c.pc ≡ op.Lose) q h) ] in
-        let less = unfinished classes fits x.taken no o d in
+        let less = unfinished classes fits x.taken (no_end x.taken x.ends.0 x.ends.1 q x.ends.4 x.ends.5) o d in
         omega (arith, less, x.ends.3, l, same_size d)
+
+    -- of a run that takes a text from the empty stack
+    pub stuck_as : (limit : ℕ) → EndsAtLast code text most (config code text old (i + 3) from) new ended.Stuck
+        → IsStoppedFrom (grammar_in p) p.properties.items n s limit stop.EmptyStack
+    stuck_as limit x classes fits o d =
+        let q : after x.taken ≡ config code text new x.ends.0 x.ends.1 = ap (λ c. steps code text x.taken c) (sym same) ∙ x.ends.2 in
+        let fixed : step code text (after x.taken) ≡ after x.taken = subst (λ c. step code text c ≡ c) (sym q) x.ends.4 in
+        never classes fits x.taken fixed (no_end x.taken x.ends.0 x.ends.1 q x.ends.5 x.ends.6) o d
+
+-- the results of a run from a position of a text
+module _ (p : Program) (exact : Bool) (code : Code) (is : IsCodeOf exact p code) (n : Text) (i : ℕ) (meant : last_place (grammar_in p) n ≡ Some i)
+    (start : Position) (text : List ℕ) (from : ℕ) (e : text ≡ position_text start) (h : from ≡ position_offset start) (u : IsUtf8 text)
+    (b : IsCharBoundary (position_text start) (position_offset start)) (old new : Machine) (f : IsFresh old) (asks : MayAsk exact (position_text start) old.asked)
+    (entry most : ℕ) (k : entry ≡ i + 3) where
+  asks_here : MayAsk exact text old.asked
+  asks_here = subst (λ t. MayAsk exact t old.asked) (sym e) asks
+
+  entered : (r : RunEnd) → EndsAtLast code text most (config code text old entry from) new r → EndsAtLast code text most (config code text old (i + 3) from) new r
+  entered r x = subst (λ l. EndsAtLast code text most (config code text old l from) new r) k x
+
+  begun : config code text old (i + 3) from ≡ start_at from old.asked (i + 3)
+  begun = fresh code text old (i + 3) from f
+
+  pub run_found : (end : ℕ) → EndsAtLast code text most (config code text old entry from) new (ended.Found end)
+      → (classes : Classes) → Fits p.properties.items classes → HasFound (grammar_in p) n (state_at start) classes old.asked new end
+  run_found end x = found_as p exact code is n i meant text (state_at start) from old.asked (stands_at start text from e h u b) asks_here old new most begun end (entered _ x)
+
+  pub run_failed : EndsAtLast code text most (config code text old entry from) new ended.Failed
+      → (classes : Classes) → Fits p.properties.items classes → HasFailed (grammar_in p) n (state_at start) classes old.asked new
+  run_failed x = failed_as p exact code is n i meant text (state_at start) from old.asked (stands_at start text from e h u b) asks_here old new most begun (entered _ x)
+
+  pub run_stopped : (limit : ℕ) → 4 * limit ≤ most → EndsAtLast code text most (config code text old entry from) new ended.OutOfSteps
+      → IsStoppedFrom (grammar_in p) p.properties.items n (state_at start) limit stop.OutOfSteps
+  run_stopped limit l x = stopped_as p exact code is n i meant text (state_at start) from old.asked (stands_at start text from e h u b) asks_here old new most begun limit l (entered _ x)
+
+  pub run_stuck : (limit : ℕ) → EndsAtLast code text most (config code text old entry from) new ended.Stuck
+      → IsStoppedFrom (grammar_in p) p.properties.items n (state_at start) limit stop.EmptyStack
+  run_stuck limit x = stuck_as p exact code is n i meant text (state_at start) from old.asked (stands_at start text from e h u b) asks_here old new most begun limit (entered _ x)

@@ -1,13 +1,13 @@
--- Both matchers count the rules of a derivation.
+-- The limit on steps counts the rules of a derivation, as the machine's steps do.
 use Rattle.std.proofs.Common.{◌≡◌, refl, arith}
 use Rattle.base_language.specs.Language.Expression.{Grammar}
 use Rattle.base_language.specs.Language.State.{State, Outcome, Classes}
 use Rattle.base_language.specs.Language.Meaning.{Does, Task, str, insens, range, slice, skip, call, other, pos_pred, neg_pred, push, restore, seq, seq_first, seq_second, left, right, opt, opt_none, rep_none, turn, turn_none, rep_exact, rep_max, rep_min_max, skips, atomic, compound_atomic, between, rep, rep_once, rep_min, push_literal, tag}
 use Rattle.matcher_code.specs.Sizes.{size}
-use Rattle.matcher_program.specs.Sizes as interpreted
+use Rattle.matcher_program.specs.Sizes as limit
 
 pub same_size : {g : Grammar} {classes : Classes} {k : Task} {s : State} {o : Outcome} (d : Does g classes k s o)
-    → size d ≡ interpreted.size d
+    → size d ≡ limit.size d
 same_size str = refl
 same_size insens = refl
 same_size range = refl

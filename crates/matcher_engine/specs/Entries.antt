@@ -1,11 +1,8 @@
--- Entries of trees that are given in preorder, and the way back.
-use Rattle.std.specs.HashMap.{get_by_text}
-use Rattle.std.specs.Prelude.{IsUtf8, chars, ◌≡◌, ◌≤◌, ℕ, suc, ◌+◌, ◌-◌, ◌*◌, List, [], ◌∷◌, ◌++◌, codes, get_or, length, nat_le, if◌then◌else◌}
+-- Entries of trees that are given in preorder.
+use Rattle.std.specs.Prelude.{◌≡◌, ◌≤◌, ℕ, suc, ◌+◌, ◌-◌, ◌*◌, List, [], ◌∷◌, ◌++◌, codes, get_or, length, nat_le, if◌then◌else◌}
 use Rattle.base_language.specs.Language.Text.{Text}
-use Rattle.base_language.specs.Language.Expression.{Grammar, last_place}
 use Rattle.matcher_code.specs.declared.state.TreeNode.{TreeNode}
 use Rattle.matcher_program.specs.declared.form.Row.{Row}
-use Rattle.matcher_program.specs.Indexed.{Numbers}
 use Rattle.matcher_program.specs.Programs.{names_of}
 use Rattle.front_syntax.specs.Entries.{Entry, Ends, Starts}
 use Rattle.matcher_engine.specs.declared.entries.OpenTree.{OpenTree}
@@ -39,15 +36,3 @@ pub record HasStarted (rows : List Row) (t : TreeNode) (number : ℕ) (old new :
   pub entries : new ≡ old ++ start_entry (names_of rows) t number (length old)
       ∷ closed (suc number) (opened t (length old) ∷ [])
   pub pending : new_open ≡ old_open ++ left_open (suc number) (opened t (length old) ∷ [])
-
--- for each name the map has the index of its last rule
-abbrev pub KnowsPlaces : Grammar → Numbers → Type 0
-KnowsPlaces g places = (name : List ℕ) → IsUtf8 name → get_by_text places name ≡ last_place g (chars name)
-
--- the position of an entry
-abbrev pub position_of : Entry → ℕ
-position_of (Starts r i m) = i
-position_of (Ends j m) = j
-
-abbrev pub place_in : List Entry → ℕ → ℕ
-place_in es k = position_of (get_or es k (Ends 0 0))

@@ -1,4 +1,5 @@
 pub mod Entries
 pub mod Matchers
 pub mod Preorders
+pub mod Runs
 pub mod Soundness

@@ -1,5 +1,5 @@
 -- Matches by their trees in preorder.
-use Rattle.std.specs.Prelude.{◌≡◌, List, ℕ, Result, Err, Ok}
+use Rattle.std.specs.Prelude.{◌≡◌, List, ℕ}
 use Rattle.base_language.specs.Language.Expression.{Grammar}
 use Rattle.base_language.specs.Language.FurthestFailure.{furthest}
 use Rattle.base_language.specs.Language.State.{Classes, State, Success, Trees}
@@ -7,10 +7,9 @@ use Rattle.base_language.specs.Language.Text.{Text}
 use Rattle.matcher_code.specs.Reached.{nodes_of}
 use Rattle.matcher_program.specs.declared.form.Property.{Property}
 use Rattle.matcher_program.specs.Programs.{Fits}
-use Rattle.matcher_program.specs.Answers.{HasAt, IsRefusedFrom}
-use Rattle.matcher_program.specs.declared.answers.Refusal.{Refusal}
+use Rattle.matcher_program.specs.Answers.{HasAt}
 use Rattle.matcher_compiler.specs.Names.{number_in}
-use Rattle.matcher_engine.specs.Matchers.{grammar_in, properties_in}
+use Rattle.matcher_engine.specs.Matchers.{grammar_in}
 use Rattle.matcher_engine.specs.declared.matcher.Matcher.{Matcher}
 use Rattle.matcher_engine.specs.declared.matcher.Preorder.{Preorder}
 
@@ -27,11 +26,6 @@ pub record HasPreorder (g : Grammar) (n : Text) (s : State) (classes : Classes) 
 -- so it does for all fitting classes
 abbrev pub IsPreorderFrom : Grammar → List Property → Text → State → Preorder → Type 0
 IsPreorderFrom g ps n s it = (classes : Classes) → Fits ps classes → HasPreorder g n s classes it
-
--- so it is; or this is the reason why there is no match in so many steps at most
-abbrev pub IsPreorderAnswer : Matcher → Text → State → ℕ → Result Preorder Refusal → Type 0
-IsPreorderAnswer m n s steps (Ok it) = IsPreorderFrom (grammar_in m) (properties_in m) n s it
-IsPreorderAnswer m n s steps (Err why) = IsRefusedFrom (grammar_in m) (properties_in m) n s steps why
 
 -- the name of each rule of this number is the text
 abbrev pub HasName : Matcher → ℕ → Text → Type 0

@@ -1,4 +1,4 @@
-//! A matcher that runs compiled rules, and interprets those that are not compiled.
+//! A matcher that runs compiled rules.
 #![tactic(auto)]
 
 mod entries;

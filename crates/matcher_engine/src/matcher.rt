@@ -1,8 +1,17 @@
 //! The matcher.
-ghost use Rattle.std.specs.Prelude.{◌≡◌, ◌<◌, IfErr, IfNone, IfOk, IfSome, chars, length};
+ghost use Rattle.std.specs.Prelude.{◌≡◌, ◌<◌, ◌+◌, ℕ, Bool, List, Some, IfErr, IfNone, IfOk, IfSome, chars, length, map};
 ghost use Rattle.base_ast.specs.Optimized.{optimized_rules_of};
 ghost use Rattle.matcher_program.specs.Programs.{Fits};
 ghost use Rattle.matcher_program.specs.Refusals.{IsReason};
+ghost use Rattle.base_language.specs.Language.Expression.{last_place};
+ghost use Rattle.base_language.specs.Language.Text.{Text};
+ghost use Rattle.base_language.specs.Pieces.Span.{position_text};
+ghost use Rattle.matcher_program.specs.Answers.{state_at};
+ghost use Rattle.matcher_program.specs.declared.form.Program.{Program};
+ghost use Rattle.matcher_code.specs.Reached.{MayAsk};
+ghost use Rattle.matcher_sets.specs.Forms as forms;
+ghost use Rattle.matcher_compiler.specs.Compiled.{IsCodeOf};
+ghost use Rattle.matcher_engine.specs.Runs.{IsFresh, IsRun};
 ghost use Rattle.matcher_engine.specs.Soundness.{IsSound};
 
 use crate::entries::{entries_of, name_of};
@@ -43,8 +52,10 @@ pub struct Preorder {
 
 impl Matcher {
     ghost use Rattle.matcher_program.specs.Answers.{AreExpectedAt, AreExpectedFrom, IsMatched, IsMatchedFrom, IsRefused, IsRefusedFrom, IsUnanswered, IsUnansweredFrom, state_at};
-    ghost use Rattle.matcher_engine.specs.Matchers.{IsAnswer, grammar_in, properties_in};
-    ghost use Rattle.matcher_engine.specs.Preorders.{HasName, IsPreorderAnswer, IsPreorderFrom};
+    ghost use Rattle.matcher_program.specs.ExpectedNames.{name_texts};
+    ghost use Rattle.matcher_compiler.specs.Names.{HaveNumbers, number_in};
+    ghost use Rattle.matcher_engine.specs.Matchers.{grammar_in, properties_in};
+    ghost use Rattle.matcher_engine.specs.Preorders.{HasName, IsPreorderFrom};
 
     /// Compiles rules, and resolves every name once, to the last rule of that name, or to a builtin if no
     /// rule has it. Errors: a name in a body that is neither, or a property's that `properties` does not
@@ -84,11 +95,12 @@ impl Matcher {
             return Err(Refusal::UnknownRule(rule));
         };
         let mut machine = Machine::new(alloc);
-        let most = steps.saturating_mul(OPERATIONS);
-        let text = whole_text(start);
-        let entry = number as u32 + 3;
-        match machine.run_with_memory(alloc, &self.code, text, entry, start.pos(), most) {
-            Ok(RunEnd::Found(end)) => {
+        // names are asked for behind the text
+        if whole_text(start).len() >= machine.asked {
+            return Err(Refusal::Stopped(Stop::Memory));
+        }
+        match run_rule(&mut machine, alloc, &self.code, number, start, steps) {
+            Ok(Some(end)) => {
                 let place = machine.furthest;
                 let Machine { trees, .. } = machine;
                 Ok(Preorder {
@@ -97,10 +109,8 @@ impl Matcher {
                     furthest: place,
                 })
             }
-            Ok(RunEnd::Failed) => Err(Refusal::NoMatch(machine.furthest)),
-            Ok(RunEnd::OutOfSteps) => Err(Refusal::Stopped(stop_of(steps, most))),
-            Ok(RunEnd::Stuck) => Err(Refusal::Stopped(Stop::EmptyStack)),
-            Err(_) => Err(Refusal::Stopped(Stop::Memory)),
+            Ok(None) => Err(Refusal::NoMatch(machine.furthest)),
+            Err(stop) => Err(Refusal::Stopped(stop)),
         }
     }
 
@@ -203,22 +213,21 @@ impl Matcher {
         };
         let mut machine = Machine::new(alloc);
         machine.asked = place;
-        let most = steps.saturating_mul(OPERATIONS);
-        let text = whole_text(start);
-        let entry = number as u32 + 3;
-        match machine.run_with_memory(alloc, &code, text, entry, start.pos(), most) {
-            Ok(RunEnd::Found(_)) | Ok(RunEnd::Failed) => match self.names_of(alloc, &machine.names) {
+        match run_rule(&mut machine, alloc, &code, number, start, steps) {
+            Ok(_) => match self.names_of(alloc, &machine.names) {
                 Ok(names) => Ok(names),
                 Err(_) => Err(Refusal::Stopped(Stop::Memory)),
             },
-            Ok(RunEnd::OutOfSteps) => Err(Refusal::Stopped(stop_of(steps, most))),
-            Ok(RunEnd::Stuck) => Err(Refusal::Stopped(Stop::EmptyStack)),
-            Err(_) => Err(Refusal::Stopped(Stop::Memory)),
+            Err(stop) => Err(Refusal::Stopped(stop)),
         }
     }
 
     /// Returns the names of rows. The only error is an allocation failure.
-    fn names_of(&self, alloc: Global, rows: &[u32]) -> Result<Vec<&str>, AllocError> {
+    fn names_of(&self, alloc: Global, rows: &[u32]) -> Result<Vec<&str>, AllocError>
+        ensures { IfOk result (λ names. (ns : List Text)
+            → rows.entry.now ≡ map (number_in (grammar_in self.entry.now)) ns
+            → HaveNumbers (grammar_in self.entry.now) ns → name_texts names.items ≡ ns) }
+    {
         let mut names = Vec::with_capacity(alloc, rows.len())?;
         for row in rows {
             if let Some(name) = self.rule_name(*row) {
@@ -229,12 +238,44 @@ impl Matcher {
     }
 }
 
-/// Returns why a run was stopped that took so many operations: `steps` times as many as a step has, unless a
-/// `u64` counts no more.
-fn stop_of(steps: u64, most: u64) -> Stop {
-    if most / OPERATIONS == steps {
-        Stop::OutOfSteps
-    } else {
-        Stop::Memory
+/// Returns the label of the call of the rule of a number from outside, if a `u32` holds it.
+fn entry_of(number: usize) -> Option<u32>
+    ensures { IfSome result (λ entry. entry ≡ number + 3) }
+{
+    u32::try_from(number.checked_add(3)?).ok()
+}
+
+/// Runs code for the rule of a number from a position of a text on, in at most `steps` steps. Returns the end
+/// of the match, or `None` where the rule fails.
+fn run_rule(
+    machine: &mut Machine,
+    alloc: Global,
+    code: &Code,
+    number: usize,
+    start: Position<'_>,
+    steps: u64,
+) -> Result<Option<usize>, Stop>
+    ensures { (p : Program) (exact : Bool) → IsCodeOf exact p code.now
+        → (n : Text) → last_place (forms.grammar_in p) n ≡ Some number → IsFresh machine.old
+        → MayAsk exact (position_text start.entry) machine.old.asked
+        → IsRun p n (state_at start.entry) steps machine.old.asked machine.new result }
+{
+    let Some(entry) = entry_of(number) else {
+        return Err(Stop::Memory);
+    };
+    let most = steps.saturating_mul(OPERATIONS);
+    let text = whole_text(start);
+    match machine.run_with_memory(alloc, code, text, entry, start.pos(), most) {
+        Ok(RunEnd::Found(end)) => Ok(Some(end)),
+        Ok(RunEnd::Failed) => Ok(None),
+        Ok(RunEnd::OutOfSteps) => {
+            if most / OPERATIONS == steps {
+                Err(Stop::OutOfSteps)
+            } else {
+                Err(Stop::Memory)
+            }
+        }
+        Ok(RunEnd::Stuck) => Err(Stop::EmptyStack),
+        Err(_) => Err(Stop::Memory),
     }
 }

@@ -5,10 +5,10 @@ use Rattle.std.proofs.lemmas.Bool.{and_parts}
 use Rattle.std.specs.declared.vec.Vec.{Vec}
 use Rattle.std.specs.declared.alloc.Global.{Global}
 use Rattle.base_language.specs.Language.Expression.{Choice, Expression, Grammar, NegPred, Seq, rule_of}
-use Rattle.base_language.specs.Language.Matching.{begins, character_outcome, newline_outcome, starts_in}
+use Rattle.base_language.specs.Language.Matching.{begins, character_outcome, starts_in}
 use Rattle.base_language.specs.Language.Meaning as by
 use Rattle.base_language.specs.Language.Meaning.{Does, Run, Task}
-use Rattle.base_language.specs.Language.State.{Classes, Failure, Mode, None', Outcome, State, Success, moved}
+use Rattle.base_language.specs.Language.State.{Classes, Failure, Mode, None', State, Success, moved}
 use Rattle.base_language.specs.Language.Text.{Text}
 use Rattle.matcher_code.specs.Laid.{HasOutcome, IsSilent, IsTight, TakesSome, span_of}
 use Rattle.matcher_code.specs.Failures.{in_silence}

@@ -14,7 +14,7 @@ use Rattle.base_language.specs.Language.FurthestFailure.{furthest, place_of}
 use Rattle.base_language.specs.Language.Matching.{begins, starts_in}
 use Rattle.base_language.specs.Language.Meaning as by
 use Rattle.base_language.specs.Language.Meaning.{Does, Run, Skipping, body_mode, gives_token, mode_in, seen_from}
-use Rattle.base_language.specs.Language.State.{Classes, Failure, Mode, NonAtomicMode, None', Outcome, State, Success, moved}
+use Rattle.base_language.specs.Language.State.{Classes, Failure, Mode, NonAtomicMode, None', State, Success, moved}
 use Rattle.base_language.specs.Language.Text.{Text}
 use Rattle.matcher_code.specs.Reading.{is_covered}
 use Rattle.matcher_code.specs.Laid.{FailsOutside, IsTight, Misses, NamesNone, TakesNone}
@@ -88,8 +88,7 @@ module _ (g : Grammar) (classes : Classes) (m : Mode) where
     skipping_takes xs ys n k x y s h =
         let i = misses_parts xs ys s.rest h in
         let u = x s i.0 in
-        let v = y s i.1 in
-        (
+        let v = y s i.1 in (
           u.0,
           (
             v.0,
@@ -105,8 +104,7 @@ module _ (g : Grammar) (classes : Classes) (m : Mode) where
         let i = misses_parts xs ys s.rest h in
         let u = x s i.0 in
         let t = u.1 in
-        let v = y s i.1 in
-        (
+        let v = y s i.1 in (
           by.seq u.0 t.0 v.0,
           first_parts (furthest u.0) (furthest t.0) (furthest v.0) ∙ (ap₂ (λ p q. max p q) t.1 v.1 ∙ greater_place n k s.position),
           three_unnamed n k t.2 t.3 v.2,
@@ -115,8 +113,7 @@ module _ (g : Grammar) (classes : Classes) (m : Mode) where
         let i = misses_parts xs ys s.rest h in
         let u = x s i.0 in
         let t = u.1 in
-        let v = y s i.1 in
-        (
+        let v = y s i.1 in (
           by.seq_second u.0 t.0 v.0,
           first_parts (furthest u.0) (furthest t.0) (furthest v.0) ∙ (ap₂ (λ p q. max p q) t.1 v.1 ∙ greater_place n k s.position),
           three_unnamed n k t.2 t.3 v.2,
@@ -144,8 +141,7 @@ module _ (g : Grammar) (classes : Classes) (m : Mode) where
   pub call_takes : (x : Text) (r : Rule) (xs : List (ℕ × ℕ)) (n counts : Bool) → rule_of g x ≡ Some r → counts ≡ (seen_from m && gives_token r.type_of m)
       → TakesNothing g classes (Run (body_mode r m) r.body) xs false n → TakesNothing g classes (Run m (Ident x)) xs false (counts || n)
   call_takes x r xs n counts e c y s h =
-      let u = y s h in
-      (
+      let u = y s h in (
         by.call e u.0,
         ap₂ (λ p q. max p q) (ap (λ b. place_of b s Failure) (sym c)) u.1 ∙ greater_place counts n s.position,
         λ z place. let q = neither counts n z in ap₂ (λ b w. told b x place s Failure w) (sym c ∙ q.0) (u.2 q.1 place),

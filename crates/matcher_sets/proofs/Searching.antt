@@ -1,26 +1,13 @@
 -- Searches for characters.
-use Rattle.std.proofs.Common.{◌≡◌, refl, sym, ◌∙◌, ap, ap₂, subst, ℕ, suc, ◌<◌, List, [], ◌∷◌, ◌++◌, Bool, true, false, ◌||◌, ◌==◌, arith, eqb-true, get_or, length, map, nat_eq, take, if◌then◌else◌}
-use Rattle.std.specs.Prelude.{not}
+use Rattle.std.proofs.Common.{◌≡◌, refl, sym, ◌∙◌, ap, ap₂, ℕ, suc, ◌<◌, List, [], ◌∷◌, ◌++◌, Bool, true, false, ◌||◌, ◌==◌, arith, eqb-true, get_or, length, map, nat_eq, take}
 use Rattle.std.proofs.Math.Bool.{and-true}
 use Rattle.std.proofs.Math.Seq.{take-suc}
-use Rattle.std.proofs.Math.Utf8.{scalar, scalars}
-use Rattle.std.proofs.lemmas.Bool.{and_parts}
 use Rattle.std.proofs.lemmas.List.{map-append}
 use Rattle.std.specs.declared.string.String.{String}
 use Rattle.std.specs.declared.alloc.Global.{Global}
 use Rattle.base_ast.specs.Ast.{text_of}
-use Rattle.base_language.specs.Language.Matching.{any_begins, begins, distance, starts_in}
-use Rattle.base_language.specs.Language.State.{None', Success, moved}
+use Rattle.base_language.specs.Language.Matching.{any_begins, begins, starts_in}
 use Rattle.base_language.specs.Language.Text.{Text}
-use Rattle.matcher_code.specs.Failures.{in_silence}
-use Rattle.matcher_code.specs.declared.code.Code.{Code}
-use Rattle.matcher_code.specs.declared.code.Op.TheVariants as op
-use Rattle.matcher_code.specs.Reading.{is_covered}
-use Rattle.matcher_code.specs.Sets.{IsSetOf}
-use Rattle.matcher_code.specs.Laid.{Performs, at_label, span_of}
-use Rattle.matcher_code.specs.Reached.{Comes}
-use Rattle.matcher_code.proofs.CharacterSets.{all_performs, below}
-use Rattle.matcher_sets.proofs.Leaves.{rest_scalars}
 
 pub any-append : (ts us : List Text) (v : Text) → any_begins (ts ++ us) v ≡ (any_begins ts v || any_begins us v)
 any-append [] us v = refl

@@ -1,9 +1,8 @@
 -- Ranges of forms that match one character, or that take some where one of these is next.
-use Rattle.std.specs.Prelude.{◌≡◌, ◌⊎◌, ℕ, suc, Bool, true, false, List, nat_le, if◌then◌else◌}
-use Rattle.base_language.specs.Language.Expression.{Grammar}
+use Rattle.std.specs.Prelude.{◌≡◌, ◌⊎◌, ℕ, suc, Bool, true, List, nat_le, if◌then◌else◌}
 use Rattle.base_language.specs.Language.Matching.{character_outcome, starts_in}
-use Rattle.base_language.specs.Language.Meaning.{Does, Run, Task}
-use Rattle.base_language.specs.Language.State.{Classes, Failure, None', Outcome, State, Success}
+use Rattle.base_language.specs.Language.Meaning.{Run}
+use Rattle.base_language.specs.Language.State.{Classes, Failure, None', State, Success}
 use Rattle.matcher_code.specs.Failures.{in_silence}
 use Rattle.matcher_code.specs.Sets.{IsSetOf}
 use Rattle.matcher_code.specs.declared.code.Code.{Code}

@@ -500,8 +500,9 @@ pub(crate) fn form_head(
         Form::NegPred(body) => spared_head(alloc, program, heads, body, mode, less),
         Form::Tag(body, _) => wrapped_head(alloc, program, heads, body, mode, less),
         Form::Restore(body) => wrapped_head(alloc, program, heads, body, mode, less),
-        Form::Range(_, _) | Form::One(_) | Form::Set(_) | Form::Property(_, _) | Form::Newline =>
-            { leaf_head(alloc, program, form, mode) }
+        Form::Range(_, _) | Form::One(_) | Form::Set(_) | Form::Property(_, _) | Form::Newline => {
+            leaf_head(alloc, program, form, mode)
+        }
         _ => Ok(None),
     }
 }

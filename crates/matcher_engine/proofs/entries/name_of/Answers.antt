@@ -2,7 +2,7 @@ use Rattle.std.proofs.Common.{◌∙◌, ap, arith, chars, codes, sym}
 use Rattle.std.proofs.lemmas.List.{get_or_past, length-map}
 use Rattle.base_ast.specs.Ast.{text_of}
 use Rattle.matcher_program.specs.Programs.{names_of}
-use Rattle.matcher_engine.proofs.FromEntries.{eoi_text}
+use Rattle.matcher_engine.proofs.Known.{eoi_text}
 use Rattle.matcher_engine.proofs.entries.name_of.Goals as goal
 
 pub returns-then-number-rows-clause-name : goal.returns-then-number-rows-clause-name

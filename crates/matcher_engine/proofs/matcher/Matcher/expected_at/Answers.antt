@@ -1,5 +1,18 @@
-use Rattle.matcher_engine.proofs.Sound.{names_in}
+use Rattle.std.proofs.Common.{subst, ◌∙◌, IfErr, IfOk, chars}
+use Rattle.std.proofs.lemmas.Str.{IsCharBoundary-start}
+use Rattle.matcher_program.specs.Answers.{AreExpectedFrom, IsUnansweredFrom}
+use Rattle.matcher_engine.specs.Matchers.{grammar_in, properties_in}
+use Rattle.matcher_engine.proofs.Results.{first_state}
 use Rattle.matcher_engine.proofs.matcher.Matcher.expected_at.Goals as goal
 
-pub expected_at-requires : goal.expected_at-requires
-expected_at-requires c = record { sound = names_in c.args.self.now }
+pub of-requires-clause-starts_at_character : goal.of-requires-clause-starts_at_character
+of-requires-clause-starts_at_character c = IsCharBoundary-start c.args.text.now c.utf8.text
+
+pub of-requires-clause-ends_at_character : goal.of-requires-clause-ends_at_character
+of-requires-clause-ends_at_character c = IsCharBoundary-start c.args.text.now c.utf8.text
+
+pub returns-clause-expected : goal.returns-clause-expected
+returns-clause-expected c = subst (λ s. IfOk c.expected_from.result (λ names. AreExpectedFrom (grammar_in c.args.self.now) (properties_in c.args.self.now) (chars c.args.rule.now) s c.args.place names.items)) (first_state c.start_pos.result c.args.text.now (c.start_pos.ensures.text ∙ c.of.ensures.text) (c.start_pos.ensures.place ∙ c.of.ensures.start)) c.expected_from.ensures.expected
+
+pub returns-clause-refused : goal.returns-clause-refused
+returns-clause-refused c = subst (λ s. IfErr c.expected_from.result (IsUnansweredFrom (grammar_in c.args.self.now) (properties_in c.args.self.now) (chars c.args.rule.now) s c.args.steps)) (first_state c.start_pos.result c.args.text.now (c.start_pos.ensures.text ∙ c.of.ensures.text) (c.start_pos.ensures.place ∙ c.of.ensures.start)) c.expected_from.ensures.refused
