@@ -92,7 +92,8 @@ IsPublication uri version diagnostics body = IsMessage (notification_data
     (codes "textDocument/publishDiagnostics") (publication_data uri version diagnostics)) body
 
 -- warnings of an earlier text stay in a text that is refused with these diagnostics
-pub record AreStaying (earlier : Diagnosis) (text : List ℕ) (diagnostics others : List Diagnostic) : Type 0 where
+pub record AreStaying (earlier : Diagnosis) (text : List ℕ) (diagnostics others : List Diagnostic)
+    : Type 0 where
   pub refused : list_any is_error diagnostics ≡ true
   pub stay : All (StaysAmong (string_bytes earlier.text) text earlier.diagnostics.items) others
 
