@@ -1,3 +1,4 @@
 pub mod Acting
 pub mod Finding
 pub mod Knowing
+pub mod Staying

@@ -3,7 +3,6 @@ ghost use Rattle.std.specs.List.{list_any};
 ghost use Rattle.std.specs.Prelude.{◌≡◌, ℕ, List, [], IfOk, IfSome, None, OnErr, OnOk, option_and_then, Some, option_copied, string_bytes};
 ghost use Rattle.lint_diagnostics.specs.Diagnosis.{IsDiagnosis};
 ghost use Rattle.lint_findings.specs.Reports as reports;
-ghost use Rattle.server_features.specs.Diagnoses.{if_of};
 
 use lint_diagnostics::{Diagnostic, Options, Severity, diagnose};
 use std::alloc::{AllocError, Global};
@@ -54,7 +53,7 @@ pub struct Diagnoses {
 }
 
 impl Diagnoses {
-    ghost use Rattle.server_features.specs.Diagnoses.{IsUnchanged, accepted_in, diagnosis_of, last_accepted};
+    ghost use Rattle.server_features.specs.Diagnoses.{IsUnchanged, accepted_in, diagnosis_of, if_of, last_accepted};
 
     /// Returns no diagnoses.
     pub fn new(alloc: Global) -> Diagnoses
@@ -71,9 +70,9 @@ impl Diagnoses {
         ensures found { option_copied result ≡ diagnosis_of self.now uri.now text.now }
         ensures text { IfSome result (λ diagnosis. string_bytes diagnosis.now.text ≡ text.now) }
     {
-        match if_of(self.refused.get(uri), text) {
+        match Diagnoses::filter_by_text(self.refused.get(uri), text) {
             Some(diagnosis) => Some(diagnosis),
-            None => if_of(self.accepted.get(uri), text),
+            None => Diagnoses::filter_by_text(self.accepted.get(uri), text),
         }
     }
 
@@ -110,18 +109,18 @@ impl Diagnoses {
         let _ = self.accepted.remove(uri);
         let _ = self.refused.remove(uri);
     }
-}
 
-/// Returns a diagnosis, if it is of this text.
-fn if_of<'d>(diagnosis: Option<&'d Diagnosis>, text: &str) -> Option<&'d Diagnosis>
-    ensures found { option_copied result
-        ≡ option_and_then (if_of text.now) (option_copied diagnosis.entry) }
-    ensures text { IfSome result (λ diagnosis. string_bytes diagnosis.now.text ≡ text.now) }
-{
-    let diagnosis = diagnosis?;
-    if diagnosis.text.as_str() == text {
-        Some(diagnosis)
-    } else {
-        None
+    /// Returns a diagnosis, if it is of this text.
+    fn filter_by_text<'d>(diagnosis: Option<&'d Diagnosis>, text: &str) -> Option<&'d Diagnosis>
+        ensures found { option_copied result
+            ≡ option_and_then (if_of text.now) (option_copied diagnosis.entry) }
+        ensures text { IfSome result (λ diagnosis. string_bytes diagnosis.now.text ≡ text.now) }
+    {
+        let diagnosis = diagnosis?;
+        if diagnosis.text.as_str() == text {
+            Some(diagnosis)
+        } else {
+            None
+        }
     }
 }
