@@ -172,8 +172,8 @@ impl Matcher {
     /// they are first called there. Where `parse` refuses a text by `NoMatch` of that position, they are the
     /// rules that could have let the run get further.
     ///
-    /// The rule is compiled once more, and run as by `parse`. Errors are those of `parse`, but a text on
-    /// which the rule fails has an answer.
+    /// The rules are compiled once more, and the rule is run as by `parse`. Errors are those of `parse`, but
+    /// a text on which the rule fails has an answer; more than 65,535 names count as an allocation failure.
     pub fn expected_at<'a>(
         &'a self,
         alloc: Global,
