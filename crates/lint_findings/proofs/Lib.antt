@@ -2,4 +2,4 @@ pub mod Allowed
 pub mod Helping
 pub mod Named
 pub mod Zips
-pub mod Choices
+pub mod Telling

@@ -5,7 +5,7 @@ ghost use Rattle.front_spanned.specs.Nodes.{piece_of, rule_views};
 ghost use Rattle.lint_findings.specs.Codes as spec;
 ghost use Rattle.lint_findings.specs.Codes.{all_warnings_of, severity_of, warnings_of};
 ghost use Rattle.lint_findings.specs.Reports.{ReportsWarning};
-ghost use Rattle.lint_findings.specs.declared.codes.Code.TheVariants as code;
+ghost use Rattle.lint_findings.specs.declared.codes.Code.TheVariants as variant;
 ghost use Rattle.lint_findings.specs.declared.codes.Severity.TheVariants as severity;
 ghost use Rattle.lint_warnings.specs.Lists.{texts_of};
 
@@ -157,7 +157,7 @@ fn diagnose_spans(
     starts: &[&str],
 ) -> Result<Vec<Diagnostic>, AllocError>
     requires warning { severity_of code ≡ severity.Warning }
-    requires other { code ≢ code.Unreachable }
+    requires other { code ≢ variant.Unreachable }
     ensures { IfOk result (λ diagnostics. AllZip ReportsWarning
         (spec.warnings_with (texts_of starts.now) (rule_views rules.now) code) diagnostics.items) }
 {
@@ -171,7 +171,7 @@ pub fn diagnose_list(
     name: Span<'_>,
     notes: Vec<Related>,
 ) -> Result<Diagnostic, AllocError>
-    ensures warning { IfOk result (ReportsWarning (spec.warning code.RewrittenList (piece_of name.entry))) }
+    ensures warning { IfOk result (ReportsWarning (spec.warning variant.RewrittenList (piece_of name.entry))) }
     ensures notes { IfOk result (λ diagnostic. diagnostic.related ≡ notes) }
 {
     let mut diagnostic = report_span(alloc, Code::RewrittenList, name, false)?;
@@ -219,7 +219,7 @@ fn spans_of<'i>(
     rules: &[ParserRule<'i>],
     starts: &[&str],
 ) -> Result<Vec<Span<'i>>, AllocError>
-    requires { code ≢ code.Unreachable }
+    requires { code ≢ variant.Unreachable }
     ensures { IfOk result (λ spans. map piece_of spans.items
         ≡ spec.spans_of code (texts_of starts.now) (rule_views rules.now)) }
 {

@@ -1,6 +1,6 @@
 use Rattle.std.proofs.Common.{take}
 use Rattle.lint_findings.specs.declared.codes.Code.TheVariants as code
-use Rattle.lint_findings.proofs.Choices.{all_told, choice_told, choices_told}
+use Rattle.lint_findings.proofs.Telling.{all_told, choice_told, choices_told}
 use Rattle.lint_findings.proofs.choices.diagnose_choices.Goals as goal
 
 pub loop-choice-init : goal.loop-choice-init
