@@ -8,11 +8,11 @@ use pest_meta::parse_and_optimize;
 use std::alloc::{AllocError, Global};
 use std::io;
 
-/// How many rules stand before the pairs in a grammar that the matcher does not compile.
+/// How many rules stand before the pairs in a large grammar.
 const OTHER_RULES: usize = 4096;
 
-/// A grammar of rules that refuse the characters of many ranges. `nested` ends soon on a long text only if the
-/// grammar is compiled, since calls are remembered then.
+/// A grammar of rules that refuse the characters of many ranges. `nested` ends soon on a long text, since calls
+/// are remembered.
 const MANY_RANGES: &str = "sign = @{ !XID_START ~ ANY }
 signs = @{ (!LETTER ~ ANY)* }
 word = { (!LETTER ~ ANY)* ~ \"x\" }
@@ -99,7 +99,7 @@ fn print_many_ranges(rt: &HostRuntime) -> io::Result<()> {
     )
 }
 
-/// Prints trees and refusals of a matcher that is compiled, and of one that is interpreted.
+/// Prints trees and refusals by a grammar of few rules, and by one of thousands.
 pub fn print_examples(rt: &HostRuntime) -> io::Result<()> {
     print_pairs(rt, PAIRS)?;
     print_empty_stack(rt)?;
