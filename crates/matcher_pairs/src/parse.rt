@@ -13,8 +13,7 @@ ghost use Rattle.matcher_pairs.specs.Parses.{IsErrorAt, IsMatch, IsMatchFrom, Is
 use crate::trees::build_trees;
 use base_language::runtime::{Error, ErrorVariant, Fault, Pairs, Position, Span};
 use matcher_engine::matcher::Matcher;
-use matcher_program::answers::Stop;
-use matcher_program::answers::{Found, Refusal, whole_text};
+use matcher_program::answers::{Found, Refusal, Stop, whole_text};
 use matcher_support::expectations::failure_message;
 use std::alloc::{AllocError, Global};
 

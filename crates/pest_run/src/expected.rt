@@ -10,8 +10,7 @@ ghost use Rattle.pest_run.specs.Steps.{name_limit};
 use crate::arguments::Format;
 use crate::messages::is_more;
 use matcher_engine::matcher::Matcher;
-use matcher_program::answers::Stop;
-use matcher_program::answers::{Found, Refusal};
+use matcher_program::answers::{Found, Refusal, Stop};
 use std::alloc::Global;
 
 /// Names that are expected at a position, or why they are unknown.

@@ -9,9 +9,8 @@ ghost use Rattle.matcher_program.specs.Written.{seen};
 ghost use Rattle.front_syntax.specs.Entries.{entries_of};
 
 use base_ast::optimized::OptimizedRule;
-use matcher_program::answers::Entry;
-use matcher_program::answers::{Found, Refusal};
 use matcher_engine::matcher::Matcher;
+use matcher_program::answers::{Entry, Found, Refusal};
 use matcher_program::compile::Unfit;
 use matcher_program::properties::Properties;
 use std::alloc::{AllocError, Global};

@@ -7,8 +7,7 @@ ghost use Rattle.matcher_pairs.specs.TagParses.{HasTags, IsTaggedMatch};
 use crate::tags::pairs::{TaggedRule, tagged_pairs};
 use base_language::runtime::{Pairs, Span};
 use matcher_engine::matcher::Matcher;
-use matcher_program::answers::Stop;
-use matcher_program::answers::Refusal;
+use matcher_program::answers::{Refusal, Stop};
 use std::alloc::Global;
 
 /// The match of a rule.
