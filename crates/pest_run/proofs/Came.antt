@@ -1,5 +1,5 @@
 -- What comes of a rule that fails on a text, by what the matcher answers.
-use Rattle.std.proofs.Common.{◌≡◌, ◌⊎◌, ◌∙◌, ◌∷◌, ◌++◌, ◌&&◌, ◌<◌, ◌≤◌, ap, ap₂, arith, take, inl, inr, refl, sym, subst, ℕ, Bool, true, false, List, [], None, Option, Some, drop, if◌then◌else◌, length, nat_le}
+use Rattle.std.proofs.Common.{◌≡◌, ◌⊎◌, ◌∙◌, ◌∷◌, ◌++◌, ◌&&◌, ◌<◌, ◌≤◌, ap, ap₂, arith, inl, inr, refl, sym, subst, ℕ, Bool, true, false, List, [], None, Option, Some, drop, if◌then◌else◌, length, nat_le}
 use Rattle.std.specs.Prelude.{IsUtf8, option_map, string_bytes}
 use Rattle.std.proofs.lemmas.Bool.{true≢false}
 use Rattle.std.specs.Borrow.{Bor}
@@ -20,12 +20,11 @@ use Rattle.base_language.proofs.TreesAreNested.{fits as fits_in}
 use Rattle.matcher_program.specs.Refusals.{IsReason}
 use Rattle.matcher_program.specs.declared.compile.Unfit.{Unfit}
 use Rattle.matcher_program.specs.declared.compile.Unfit.TheVariants as no
-use Rattle.matcher_interpreter.proofs.Noting.{first_names}
 use Rattle.matcher_interpreter.specs.Answers.{AreExpectedAt, FailsAt, Has, IsMatched, IsStopped, start_of}
 use Rattle.matcher_interpreter.specs.declared.matcher.Found.{Found}
 use Rattle.matcher_interpreter.specs.declared.machine.Stop.{Stop}
 use Rattle.matcher_interpreter.specs.declared.machine.Stop.TheVariants as stop
-use Rattle.matcher_interpreter.specs.ExpectedNames.{each_once, name_texts}
+use Rattle.matcher_interpreter.specs.ExpectedNames.{each_once, is_among, name_texts, with_names}
 use Rattle.matcher_program.specs.Programs.{Fits}
 use Rattle.matcher_interpreter.specs.Written.{seen}
 use Rattle.front_syntax.specs.Entries.{entries_of}
@@ -62,10 +61,19 @@ looked_for : (g : Grammar) (ps : List Property) (n : Text) (text : List ℕ) (pl
 looked_for g ps n text place limit (expected_is.Names names) d fits a e = expects g ps n text place names.items d fits a e
 looked_for g ps n text place limit (expected_is.Unfound steps) {o = o} d fits a e = (a.0, a.1 is_in_property fits o d)
 
+-- names that are added to some leave some
+keeps_some : (m : Text) (ms ns : List Text) → with_names (m ∷ ms) ns ≡ [] → ⊥
+keeps_some m ms [] e = cc
+keeps_some m ms (n ∷ ns) e =
+    elim (is_among (m ∷ ms) n) as (λ b. with_names (if b then m ∷ ms else m ∷ (ms ++ n ∷ [])) ns ≡ [] → ⊥) [
+      | true ↦ keeps_some m ms ns
+      | false ↦ keeps_some m (ms ++ n ∷ []) ns
+    ] e
+
 -- where each name once is none, there is none
 none_once : (ns : List Text) → [] ≡ each_once ns → ns ≡ []
 none_once [] e = refl
-none_once (n ∷ ns) e = let first : take 1 (each_once (n ∷ ns)) ≡ n ∷ [] = first_names (n ∷ []) ns in absurd (let no : [] ≡ n ∷ [] = ap (λ l. take 1 l) e ∙ first in cc)
+none_once (n ∷ ns) e = absurd (keeps_some n [] ns (sym e))
 
 -- where there is no text of names, there are no names
 no_texts : (names : List (Bor (List ℕ))) → name_texts names ≡ [] → names ≡ []
