@@ -6,5 +6,5 @@ use Rattle.pest_run.proofs.failures.find_earlier.Given as goal
 
 -- no name is expected at the positions that were visited
 abbrev pub invariant-loop-back : goal.invariant-loop-back
-invariant-loop-back l = (q : ℕ) → l.furthest < q + l.back → q < l.furthest → IsCharBoundary l.text.now q
-    → ExpectsNone (grammar_in l.matcher.now) (properties_in l.matcher.now) (chars l.rule.now) l.text.now q
+invariant-loop-back l = (q : ℕ) → l.furthest < q + l.back → q < l.furthest → IsCharBoundary l.text q
+    → ExpectsNone (grammar_in l.matcher) (properties_in l.matcher) (chars l.rule) l.text q

@@ -1,0 +1,42 @@
+use Rattle.std.proofs.Common.{◌≡◌, ◌-◌, ◌<◌, ◌≤◌, ℕ, [], arith, chars, rules}
+use Rattle.std.specs.Str.{IsCharBoundary}
+use Rattle.matcher_engine.specs.Matchers.{grammar_in, properties_in}
+use Rattle.pest_run.specs.Failures.{ExpectsNone}
+use Rattle.pest_run.specs.declared.expected.Expected.TheVariants as expected_is
+use Rattle.pest_run.proofs.Failing.{none_at, one_back}
+use Rattle.pest_run.proofs.failures.find_earlier.Goals as goal
+use Rattle.pest_run.proofs.failures.find_earlier.Goals.{then-is_char_boundary+in_ok-names+in-Names+else-not-is_empty, else-is_char_boundary}
+
+pub returns-then-not-is_empty-clause-found : goal.returns-then-not-is_empty-clause-found
+returns-then-not-is_empty-clause-found c =
+    let place = c.args.furthest - c.loop-back.back in
+    let inside : c.loop-back.back < c.args.furthest = omega (arith, c.if-back-furthest.false) in
+    let visited : 1 ≤ c.loop-back.back = omega (arith, c.loop-back.auto.back) in
+    let here : IsCharBoundary c.args.text.now place = search rules in
+    let some : c.in-Names.names.items ≡ [] → ⊥ = search rules in
+    record {
+      after_start = omega (arith, inside);
+      earlier = omega (arith, visited, inside);
+      here = here;
+      are = rw c.in-Names.is at c.in_ok-names.ensures.expected;
+      some = some;
+      last = λ q above below. c.loop-back.invariant q (omega (arith, above, inside)) below;
+    }
+
+pub loop-back-preserved : goal.loop-back-preserved
+loop-back-preserved c =
+    let g = grammar_in c.args.matcher.now in
+    let ps = properties_in c.args.matcher.now in
+    let n = chars c.args.rule.now in
+    let text = c.args.text.now in
+    let place = c.args.furthest - c.loop-back.back in
+    let P : ℕ → Type 0 = λ q. IsCharBoundary text q → ExpectsNone g ps n text q in
+    let inside : c.loop-back.back < c.args.furthest = omega (arith, c.if-back-furthest.false) in
+    let at : P place =
+    elim c.if-is_char_boundary.branch [
+      | then-is_char_boundary+in_ok-names+in-Names+else-not-is_empty w ↦ λ here.
+          (let none : w.in-Names.names.items ≡ [] = search rules in
+          none_at g ps n text place c.args.steps (expected_is.Names w.in-Names.names) none (rw w.in-Names.is at w.in_ok-names.ensures.expected))
+      | else-is_char_boundary w ↦ λ here. (let no : ⊥ = search rules in absurd no)
+    ] in
+    one_back P c.args.furthest c.loop-back.back inside at c.loop-back.invariant
