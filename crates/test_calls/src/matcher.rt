@@ -1,10 +1,11 @@
 //! The matcher, and its trees as text.
 ghost use Rattle.std.specs.Prelude.{IfErr, IfOk, chars, string_bytes, ◌≡◌};
-ghost use Rattle.matcher_program.specs.Programs.{Fits, grammar_of};
+ghost use Rattle.matcher_program.specs.Programs.{Fits};
 ghost use Rattle.matcher_support.specs.Shown.{shown};
 ghost use Rattle.base_ast.specs.Optimized.{optimized_rules_of};
 ghost use Rattle.base_language.specs.Language.State.{Trees};
-ghost use Rattle.matcher_program.specs.Answers.{IsMatched, IsRefused, IsSoundMatcher};
+ghost use Rattle.matcher_program.specs.Answers.{IsMatched, IsRefused};
+ghost use Rattle.matcher_engine.specs.Matchers.{grammar_in, properties_in};
 ghost use Rattle.matcher_program.specs.Written.{seen};
 ghost use Rattle.front_syntax.specs.Entries.{entries_of};
 
@@ -21,10 +22,8 @@ pub fn matcher_of<P: Properties>(
     rules: &[OptimizedRule],
     properties: &P,
 ) -> Result<Matcher, Unfit>
-    ensures sound { IfOk result IsSoundMatcher }
-    ensures means { IfOk result (λ matcher.
-        grammar_of matcher.program.rows.items ≡ optimized_rules_of rules.now) }
-    ensures fits { IfOk result (λ matcher. Fits matcher.program.properties.items P.classes) }
+    ensures means { IfOk result (λ matcher. grammar_in matcher ≡ optimized_rules_of rules.now) }
+    ensures fits { IfOk result (λ matcher. Fits (properties_in matcher) P.classes) }
 {
     Matcher::new(alloc, rules, properties)
 }
@@ -37,11 +36,10 @@ pub fn match_text<'a>(
     text: &'a str,
     steps: u64,
 ) -> Result<Found<'a>, Refusal<'a>>
-    requires sound { IsSoundMatcher matcher.now }
-    ensures matched { IfOk result (λ found. IsMatched (grammar_of matcher.entry.now.program.rows.items)
-        matcher.entry.now.program.properties.items (chars rule.entry.now) text.entry.now found) }
-    ensures refused { IfErr result (IsRefused (grammar_of matcher.entry.now.program.rows.items)
-        matcher.entry.now.program.properties.items (chars rule.entry.now) text.entry.now steps) }
+    ensures matched { IfOk result (λ found. IsMatched (grammar_in matcher.entry.now)
+        (properties_in matcher.entry.now) (chars rule.entry.now) text.entry.now found) }
+    ensures refused { IfErr result (IsRefused (grammar_in matcher.entry.now)
+        (properties_in matcher.entry.now) (chars rule.entry.now) text.entry.now steps) }
 {
     matcher.parse(alloc, rule, text, steps)
 }
