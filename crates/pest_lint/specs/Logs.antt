@@ -8,7 +8,7 @@ use Rattle.lint_findings.specs.declared.diagnostic.Diagnostic.{Diagnostic}
 use Rattle.lint_output.specs.Json.{json_line}
 use Rattle.lint_output.specs.Sarif.{log_data, result_data}
 use Rattle.lint_diagnostics.specs.Diagnosis.{IsDiagnosisWith}
-use Rattle.pest_lint.specs.Shows.{Asked, GainsWithEnd, IsReadable, status_of}
+use Rattle.pest_lint.specs.Shows.{Asked, GainsAll, IsReadable, status_of}
 use Rattle.pest_lint.specs.declared.arguments.Format.{Format}
 use Rattle.pest_lint.specs.declared.arguments.Format.TheVariants as format
 use Rattle.pest_lint.specs.declared.lint.Source.{Source}
@@ -53,6 +53,5 @@ pub record GainsLog (asked : Asked) (sources : List Source) (status : ℕ) (old 
 
 -- a writer gained all of that
 abbrev pub GainsIn : Format → Asked → List Source → ℕ → Option (List ℕ) → Option (List ℕ) → Type 0
-GainsIn (format.Stream style) asked sources status old new =
-    GainsWithEnd asked style sources status old new
+GainsIn (format.Stream style) asked sources status old new = GainsAll asked style sources status old new
 GainsIn format.Log asked sources status old new = GainsLog asked sources status old new
