@@ -252,5 +252,5 @@ stopped g ps rule name text format limit stop.OutOfSteps is.Bound fits h t = abs
 -- rules that can't be run call an unknown name, or have a wrong bound
 pub unfit : (g : Grammar) (rule name text : List ℕ) (format : Format) (limit : ℕ) (why : Unfit) → IsReason has_set g why → IsOutcome g rule name text format limit (unfit_outcome why)
 unfit g rule name text format limit no.Memory h = tt
-unfit g rule name text format limit (no.UnknownName name) h = (text_of name, h.0, h.1)
+unfit g rule name text format limit (no.UnknownName called) h = (text_of called, h.0, h.1)
 unfit g rule name text format limit (no.Bound bound) h = (text_of bound, h.0, h.1)

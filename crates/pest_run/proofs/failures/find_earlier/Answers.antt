@@ -1,4 +1,5 @@
-use Rattle.std.proofs.Common.{◌≡◌, ◌-◌, ◌<◌, ◌≤◌, ℕ, [], arith, chars, rules}
+use Rattle.std.proofs.Common.{◌≡◌, ◌∙◌, ◌-◌, ◌<◌, ◌≤◌, ℕ, Bool, List, [], arith, chars, eqb-true, length, nat_eq, rules, sym, true, vec_len}
+use Rattle.std.proofs.lemmas.List.{nil_from_length}
 use Rattle.std.specs.Str.{IsCharBoundary}
 use Rattle.matcher_engine.specs.Matchers.{grammar_in, properties_in}
 use Rattle.pest_run.specs.Failures.{ExpectsNone}
@@ -6,6 +7,10 @@ use Rattle.pest_run.specs.declared.expected.Expected.TheVariants as expected_is
 use Rattle.pest_run.proofs.Failing.{none_at, one_back}
 use Rattle.pest_run.proofs.failures.find_earlier.Goals as goal
 use Rattle.pest_run.proofs.failures.find_earlier.Goals.{then-is_char_boundary+in_ok-names+in-Names+else-not-is_empty, else-is_char_boundary}
+
+-- a list of no length
+none_there : {X : Type 0} (xs : List X) (n : ℕ) (b : Bool) → n ≡ length xs → b ≡ nat_eq n 0 → b ≡ true → xs ≡ []
+none_there xs n b l p q = nil_from_length xs (sym l ∙ eqb-true n 0 (sym p ∙ q))
 
 pub returns-then-not-is_empty-clause-found : goal.returns-then-not-is_empty-clause-found
 returns-then-not-is_empty-clause-found c =
@@ -35,7 +40,8 @@ loop-back-preserved c =
     let at : P place =
     elim c.if-is_char_boundary.branch [
       | then-is_char_boundary+in_ok-names+in-Names+else-not-is_empty w ↦ λ here.
-          (let none : w.in-Names.names.items ≡ [] = search rules in
+          (let long : vec_len w.in-Names.names ≡ length w.in-Names.names.items = search rules in
+          let none = none_there w.in-Names.names.items (vec_len w.in-Names.names) w.is_empty.result long w.is_empty.ensures w.if-not-is_empty.false in
           none_at g ps n text place c.args.steps (expected_is.Names w.in-Names.names) none (rw w.in-Names.is at w.in_ok-names.ensures.expected))
       | else-is_char_boundary w ↦ λ here. (let no : ⊥ = search rules in absurd no)
     ] in

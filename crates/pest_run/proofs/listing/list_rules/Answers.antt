@@ -29,8 +29,8 @@ returns-in-Ok-clause-reason g c =
     λ one. absurd (only c.args.grammar.now (optimized_rules_of c.in-Ok.rules.items) c.print_outcome.result.write_result _ c.print_outcome.result.status _ _ _ _
     c.list_outcome-outcome.result 1 comes c.print_outcome.ensures.ends one (omega arith) (omega arith) (omega arith))
 
-pub returns-clause-reason : goal.returns-clause-reason
-returns-clause-reason g c =
+pub returns-in-Err-Grammar-clause-reason : goal.returns-in-Err-Grammar-clause-reason
+returns-in-Err-Grammar-clause-reason g c =
     let told = c.report_refusal in
     let refusal = rw (c.in-Err-Grammar.is ∙ ap Err c.in-Err-Grammar.field-0-is) at c.parse_as_written.ensures.refused in
     λ one. record {

@@ -42,8 +42,8 @@ returns-in-Ok-clause-stopped g c =
     λ five. subst S c.step_limit-steps.ensures
     (stops c.outcome_of-outcome.result c.args.name.now c.args.grammar.now c.args.request.rule.now c.args.text.now c.args.request.format c.args.request.form (optimized_rules_of c.in-Ok.rules.items) c.step_limit-steps.result c.print_outcome.result.write_result _ c.print_outcome.result.status _ _ _ _ answers comes c.print_outcome.ensures.ends five)
 
-pub returns-clause-reason : goal.returns-clause-reason
-returns-clause-reason g c =
+pub returns-in-Err-Grammar-clause-reason : goal.returns-in-Err-Grammar-clause-reason
+returns-in-Err-Grammar-clause-reason g c =
     let told = c.report_refusal in
     let errors = c.deref.result.now in
     let refusal = rw (c.in-Err-Grammar.is ∙ ap Err c.in-Err-Grammar.field-0-is) at c.read_rules.ensures.refused in
