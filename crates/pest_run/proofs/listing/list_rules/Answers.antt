@@ -34,7 +34,7 @@ returns-in-Err-Grammar-clause-reason g c =
     let told = c.report_refusal in
     let refusal = rw (c.in-Err-Grammar.is ∙ ap Err c.in-Err-Grammar.field-0-is) at c.parse_as_written.ensures.refused in
     λ one. record {
-      errors = c.deref.result.now;
-      refused = subst (IsRefusedWith c.args.grammar.now) (sym c.deref.ensures.value) refusal;
+      errors = c.deref-in-Err-Grammar.result.now;
+      refused = subst (IsRefusedWith c.args.grammar.now) (sym c.deref-in-Err-Grammar.ensures.value) refusal;
       tells = told.ensures.tells one;
     }
