@@ -1,5 +1,4 @@
-use Rattle.std.proofs.Common.{◌≡◌, ◌∙◌, ◌++◌, ℕ, List, ap, ap₂, append_assoc, codes, string_bytes, Result, Ok, Err, OnOk}
-use Rattle.std.specs.Bool.{if◌then◌else◌}
+use Rattle.std.proofs.Common.{◌≡◌, ◌∙◌, ◌++◌, ℕ, Err, List, Ok, OnOk, Result, ap, ap₂, append_assoc, codes, if◌then◌else◌, string_bytes}
 use Rattle.std.specs.Result.{is_ok}
 use Rattle.base_language.specs.Pieces.LineColumn.{line_column}
 use Rattle.program_support.proofs.LineParts.{on_ok}
@@ -11,10 +10,10 @@ three_added : (old a t b x y z : List ℕ) → x ≡ old ++ a → y ≡ x ++ t �
 three_added old a t b x y z f g h =
     h ∙ ap (λ l. l ++ b) (g ∙ ap (λ l. l ++ t) f) ∙ append_assoc (old ++ a) t b ∙ append_assoc old a (t ++ b)
 
--- what a call that can fail has added where it succeeds
-if_added : {X E : Type 0} (r : Result X E) (x y z : List ℕ) → x ≡ (if is_ok r then y else z) → OnOk r (x ≡ y)
-if_added (Ok v) x y z h = h
-if_added (Err e) x y z h = tt
+-- what a text is where it could be added to
+where_ok : {X E : Type 0} (r : Result X E) (x y z : List ℕ) → x ≡ (if is_ok r then y else z) → OnOk r (x ≡ y)
+where_ok (Ok v) x y z e = e
+where_ok (Err v) x y z e = tt
 
 pub returns : goal.returns
 returns c =
@@ -27,4 +26,4 @@ returns c =
     on_ok c.push_str-3.result _ _
     (λ added. three_added (string_bytes c.args.message.now) before (place_text place) after _ _ _
     c.in_ok-push_str.ensures.bytes (c.in_ok-push_str-2.ensures.bytes ∙ ap (λ t. string_bytes c.push_str.new.self ++ t) shown) added)
-    (if_added c.push_str-3.result _ _ _ c.push_str-3.ensures.bytes)
+    (where_ok c.push_str-3.result _ _ _ c.push_str-3.ensures.bytes)
