@@ -155,8 +155,8 @@ all_codes = code.Syntax ∷ code.EscapeValue ∷ code.NumberRange ∷ code.ZeroR
     ∷ code.DuplicateRule ∷ code.UndefinedRule ∷ code.MissingProperty ∷ code.LeftRecursion
     ∷ code.EndlessRepetition ∷ code.UnreachableChoice ∷ code.TagWithoutToken ∷ code.UnusedAllowance
     ∷ code.UncalledRule ∷ code.MissingEnd ∷ code.Unreachable ∷ code.ReversedRange ∷ code.ReversedCount
-    ∷ code.IdleTest ∷ code.NeverMatches ∷ code.BlanksInToken ∷ code.ManyCopies ∷ code.RepeatedAlternative ∷ code.RewrittenList
-    ∷ code.KeywordName ∷ code.BuiltinName ∷ code.RepeatedBody ∷ []
+    ∷ code.IdleTest ∷ code.NeverMatches ∷ code.BlanksInToken ∷ code.ManyCopies ∷ code.RepeatedAlternative
+    ∷ code.RewrittenList ∷ code.KeywordName ∷ code.BuiltinName ∷ code.RepeatedBody ∷ []
 
 -- how each of their names begins
 abbrev pub pest : List ℕ

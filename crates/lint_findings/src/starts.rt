@@ -41,7 +41,7 @@ pub fn named_starts<'t>(alloc: Global, text: &'t str) -> Result<Vec<&'t str>, Al
     Ok(names)
 }
 
-/// What a comment has between its brackets.
+/// The text of a comment between its brackets.
 fn inside_of(text: &str, comment: StartComment) -> &str {
     text.get(comment.inside..comment.close).unwrap_or("")
 }

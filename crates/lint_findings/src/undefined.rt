@@ -18,7 +18,7 @@ pub(crate) struct Definitions<'t> {
     first: HashMap<&'t str, (usize, usize)>,
     /// The names in order.
     names: Vec<&'t str>,
-    /// Each definition's first byte, and its name, in order.
+    /// The first byte of each definition, and its name, in order.
     places: Vec<(usize, &'t str)>,
     /// The names of builtins that are no Unicode properties.
     builtins: Vec<&'static str>,

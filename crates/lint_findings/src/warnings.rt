@@ -171,7 +171,8 @@ pub fn diagnose_list(
     name: Span<'_>,
     notes: Vec<Related>,
 ) -> Result<Diagnostic, AllocError>
-    ensures warning { IfOk result (ReportsWarning (spec.warning variant.RewrittenList (piece_of name.entry))) }
+    ensures warning { IfOk result
+        (ReportsWarning (spec.warning variant.RewrittenList (piece_of name.entry))) }
     ensures notes { IfOk result (λ diagnostic. diagnostic.related ≡ notes) }
 {
     let mut diagnostic = report_span(alloc, Code::RewrittenList, name, false)?;

@@ -158,7 +158,7 @@ pub fn is_pest_property(name: &str) -> bool
     is_among(pest_properties(), name)
 }
 
-/// What is said of a call of such a property.
+/// The message on a call of such a property.
 pub fn pest_property_text() -> &'static str
     ensures { result.now ≡ spec.pest_property_text }
 {

@@ -22,9 +22,9 @@ const LONGEST_CHAIN: usize = 32;
 
 /// The spans of the names of starts that never ask for the end of a text, so that matching leaves the rest of
 /// some texts, in order. A start is a rule that no other rule calls, if it calls `SOI` or is the only such
-/// rule of several. It asks for the end by `EOI`, `!ANY`, `ANY*` or `ANY+`, by itself or by a chain of at
-/// most 32 calls. Where `starts` names several rules and no rule asks for the end, there are none. The only error is an
-/// allocation failure. The time is linear in the rules.
+/// rule of several. `EOI`, `!ANY`, `ANY*` and `ANY+` ask for the end, in it or by a chain of at most 32
+/// calls. Where `starts` names several rules and no rule asks for the end, there are none. The only error is
+/// an allocation failure. The time is linear in the rules.
 pub fn open_starts<'n, 'i>(
     alloc: Global,
     rules: &'n [ParserRule<'i>],

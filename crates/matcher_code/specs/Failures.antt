@@ -29,10 +29,10 @@ end_failures place s o = record {
   names = told true (codes "EOI") place s o [];
 }
 
--- those of two parts
+-- failures of two parts
 abbrev pub both : Failures → Failures → Failures
 both f g = record { furthest = max f.furthest g.furthest; names = f.names ++ g.names }
 
--- those of a part below a `!`
+-- failures of a part below a `!`
 abbrev pub unnamed : Failures → Failures
 unnamed f = record f { names = [] }

@@ -43,7 +43,7 @@ pub fn runs_that_end_have_outcomes()
 
 /// In such code, let a point go on at `Halt`, and at `Lose` where its task fails. A run from the start of a
 /// text that comes to `Halt` has the end and the trees of the task's success; one that comes to `Lose` has
-/// the furthest failure of its failure; each of them has the rows of the names that are expected where they
+/// the furthest failure of its failure; both have the rows of the names that are expected where they
 /// are asked for; and one that has not ended has taken fewer than eight steps for each rule of the relation
 /// of matching that any derivation applies.
 pub fn runs_have_results()

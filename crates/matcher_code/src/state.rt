@@ -10,7 +10,7 @@ pub struct TreeNode {
     pub after: usize,
 }
 
-/// What the end of a continuation frame's part records.
+/// The records of the end of a continuation frame's part.
 #[derive(Clone, Copy, Debug)]
 pub enum Failing {
     /// Nothing.

@@ -18,8 +18,8 @@ use matcher_sets::heads::Heads;
 use std::alloc::Global;
 
 impl<'p> Plan<'p> {
-    /// Plans a lookahead: it begins with an operation that pushes a slot, and where its body matches, the run
-    /// goes on at `found`.
+    /// Plans a lookahead. An operation pushes a slot first, and where the body matches, the run goes on at
+    /// `found`.
     pub(crate) fn lookahead(
         &mut self,
         program: &Program,

@@ -51,7 +51,7 @@ pub(crate) fn last_rows(alloc: Global, program: &Program) -> Result<Vec<usize>, 
     Ok(lasts)
 }
 
-/// Each name that failures record is that of a rule, or `EOI`, and such names have numbers of their own.
+/// A name that failures record is that of a rule, or `EOI`, and such names have numbers of their own.
 pub fn expected_names_have_own_numbers()
     ensures numbers { (g : Grammar) (classes : Classes) (k : Task) (s : State) (o : Outcome) (place : ℕ)
         → (d : Does g classes k s o) → HaveNumbers g (expected_at place d) }

@@ -1,4 +1,4 @@
--- What a matcher is.
+-- The grammar and the properties of a matcher.
 use Rattle.std.specs.Prelude.{List}
 use Rattle.base_language.specs.Language.Expression.{Grammar}
 use Rattle.matcher_program.specs.declared.form.Property.{Property}

@@ -37,7 +37,7 @@ state_at p = record {
 abbrev pub HasAt : Grammar → Text → State → Classes → Outcome → Type 0
 HasAt g n s classes o = Matches g classes (Ident n) NonAtomicMode s o
 
--- the same at the start of the text
+-- so it has at the start of the text
 abbrev pub Has : Grammar → Text → List ℕ → Classes → Outcome → Type 0
 Has g n text classes o = HasAt g n (start_of text) classes o
 

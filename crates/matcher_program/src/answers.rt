@@ -1,4 +1,4 @@
-//! What a run of a rule answers.
+//! The answers of a run of a rule.
 ghost use Rattle.std.specs.Prelude.{◌≡◌};
 ghost use Rattle.base_language.specs.Pieces.Span.{position_text};
 ghost use Rattle.matcher_program.specs.declared.answers.Stop.TheVariants.{Memory};

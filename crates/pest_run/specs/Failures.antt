@@ -18,7 +18,7 @@ use Rattle.pest_run.specs.declared.failures.Earlier.{Earlier}
 use Rattle.pest_run.specs.declared.failures.Failure.{Failure}
 
 -- of a derivation: names that are expected at a position before the furthest failure, and after the start;
--- it is the last position with names that is between two characters
+-- no later position between two characters has names
 pub record AreLast {g : Grammar} {classes : Classes} {k : Task} {s : State} {o : Result}
     (d : Does g classes k s o) (text : List ℕ) (place : ℕ) (names : List Text) : Type 0 where
   pub after_start : 0 < place
@@ -27,13 +27,13 @@ pub record AreLast {g : Grammar} {classes : Classes} {k : Task} {s : State} {o :
   pub some : names ≢ []
   pub last : (q : ℕ) → place < q → q ≤ furthest d → IsCharBoundary text q → expected_at q d ≡ []
 
--- names that are told of a failure: those at the furthest position, or those at such an earlier one
+-- the names of a failure's report, at the furthest position or at such an earlier one
 abbrev pub AreTold : {g : Grammar} {classes : Classes} {k : Task} {s : State} {o : Result}
     → Does g classes k s o → List ℕ → (limit place : ℕ) → Names → Type 0
 AreTold d text limit place names = ((place ≡ furthest d) × AreNamesOf d limit names)
     ⊎ ((ns : List Text) × (names ≡ known ns) × AreLast d text place ns)
 
--- it is known that no name is expected
+-- known is that no name is expected
 abbrev pub HasNoNames : Expected → Type 0
 HasNoNames (expected_is.Names names) = names.items ≡ []
 HasNoNames (expected_is.Unfound steps) = ⊥
@@ -62,7 +62,7 @@ pub record IsFoundEarlier (g : Grammar) (ps : List Property) (n : Text) (text : 
   pub names : names_of it.names ≡ known (name_texts earlier.names.items)
   pub none : ExpectsNone g ps n text it.furthest
 
--- what was looked for of a failure at this furthest position, in so many steps at most
+-- a failure was looked into at this furthest position, in so many steps at most
 pub record IsFound (g : Grammar) (ps : List Property) (n : Text) (text : List ℕ) (furthest limit : ℕ)
     (it : Failure) : Type 0 where
   pub furthest_is : it.furthest ≡ furthest

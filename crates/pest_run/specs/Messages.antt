@@ -55,12 +55,12 @@ abbrev pub names_text : Names → List ℕ
 names_text (known names) = known_text names
 names_text (unfound steps) = unfound_text steps
 
--- that a failure is told of an earlier position than this one, the furthest
+-- that a failure is reported at an earlier position than this one, the furthest
 abbrev pub further_text : ℕ × ℕ → List ℕ
 further_text place =
     codes "; what failed further on, up to " ++ (place_text place ++ codes ", stands below a `!`")
 
--- the message on a failure that is told of a position
+-- the message on a failure at a position
 abbrev pub failure_text : List ℕ → (place furthest : ℕ) → Names → List ℕ
 failure_text text place furthest names = names_text names
     ++ (if nat_lt place furthest then further_text (line_column text furthest) else [])

@@ -24,7 +24,7 @@ pub struct Failure<'a> {
     pub furthest: usize,
     /// The position that is shown, at or before it.
     pub place: usize,
-    /// What is known of the names that are expected there.
+    /// The names that are expected there, as far as they are known.
     pub names: Expected<'a>,
 }
 

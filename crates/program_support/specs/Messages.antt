@@ -12,7 +12,7 @@ abbrev pub placed_lines : List ℕ → ℕ × ℕ → List ℕ → List ℕ
 placed_lines prefix start lines = margin start.0 ++ (codes "--> " ++ (prefix ++ (decimal start.0
     ++ (codes ":" ++ (decimal start.1 ++ (codes "\n" ++ lines))))))
 
--- the same, and a message
+-- such lines, and a message
 abbrev pub error_lines : List ℕ → ℕ × ℕ → List ℕ → List ℕ → List ℕ
 error_lines prefix start lines message = placed_lines prefix start lines
     ++ (margin start.0 ++ (codes " |\n" ++ (margin start.0 ++ (codes " = " ++ message))))

@@ -39,14 +39,14 @@ abbrev pub IsMovedPart : List ℕ → List ℕ → Related → Related → Type 
 IsMovedPart before after old new = IsMoved before after old.start old.end new.start new.end
     × (string_bytes new.message ≡ string_bytes old.message)
 
--- it is one of these parts that is moved
+-- one of these parts is moved to it
 abbrev pub IsMovedAmong : List ℕ → List ℕ → List Related → Related → Type 0
 IsMovedAmong before after olds new = Any (λ old. IsMovedPart before after old new) olds
 
 abbrev pub help_message : Option Help → Option (List ℕ)
 help_message help = option_map (λ h. string_bytes h.message) help
 
--- a warning of the earlier text stays in the later one: it says the same of the same bytes
+-- a warning of the earlier text stays in the later one, and says the same of the same bytes
 pub record Stays (before after : List ℕ) (old new : Diagnostic) : Type 0 where
   pub warns : is_error old ≡ false
   pub severity : new.severity ≡ old.severity
@@ -56,6 +56,6 @@ pub record Stays (before after : List ℕ) (old new : Diagnostic) : Type 0 where
   pub place : IsMoved before after old.start old.end new.start new.end
   pub related : All (IsMovedAmong before after old.related.items) new.related.items
 
--- it is one of these diagnostics, a warning that stays
+-- one of these diagnostics is a warning that stays as it
 abbrev pub StaysAmong : List ℕ → List ℕ → List Diagnostic → Diagnostic → Type 0
 StaysAmong before after olds new = Any (λ old. Stays before after old new) olds

@@ -46,9 +46,9 @@ pub(crate) fn is_error(diagnostic: &Diagnostic) -> bool
 /// The last diagnoses of documents, by their URIs.
 #[derive(Drop)]
 pub struct Diagnoses {
-    /// Those of the last accepted texts.
+    /// The diagnoses of the last accepted texts.
     accepted: BTreeMap<String, Diagnosis>,
-    /// Those of the last texts that are refused, of documents without an accepted text since.
+    /// The diagnoses of the last texts that are refused, of documents without an accepted text since.
     refused: BTreeMap<String, Diagnosis>,
 }
 

@@ -19,8 +19,8 @@ use server_protocol::values::{location_value, range_value};
 use server_symbols::Extent;
 use std::alloc::{AllocError, Global};
 
-/// Returns the notification of a document's diagnostics: those of its text, and with errors those warnings
-/// of the last accepted text that stay. A text whose diagnosis is kept is not diagnosed again, and a new
+/// Returns the notification of a document's diagnostics, of its text, and with errors the warnings of the
+/// last accepted text that stay. A text whose diagnosis is kept is not diagnosed again, and a new
 /// diagnosis is kept if there is memory for that.
 pub fn publish(
     alloc: Global,
