@@ -207,11 +207,11 @@ class Matching(unittest.TestCase):
 
     def test_a_failure_takes_no_exponential_time(self):
         ambiguous = Matcher('s = { a ~ EOI } a = { "x" ~ a ~ "y" | "x" ~ a ~ "z" | "x" }')
-        with self.assertRaisesRegex(RunError, "s takes more than 1060000 steps"):
-            ambiguous.parse("s", "x" * 60)
         self.assertEqual(ambiguous.parse("a", "x" * 20_000).end, 1)
-        with self.assertRaises(MatchError):
-            ambiguous.parse("s", "x" * 10, steps=2**64 - 1)
+        for length in (10, 60, 20_000):
+            with self.assertRaises(MatchError) as caught:
+                ambiguous.parse("s", "x" * length, steps=2**64 - 1)
+            self.assertEqual((caught.exception.position, caught.exception.expected), (length, ("a",)))
 
     def test_long_and_deep_texts(self):
         matcher = Matcher('a = { "(" ~ a ~ ")" | "x"* }')
