@@ -40,8 +40,7 @@ pub fn name_limit(steps: u64, length: usize) -> u64
 }
 
 /// Looks for the names that are expected at a byte position, in so many steps at most: the text is read
-/// again, by the interpreter, which remembers no calls. Errors are those of `Matcher::expected_at`, but none
-/// is for the steps.
+/// again. Errors are those of `Matcher::expected_at`, but none is for the steps.
 pub fn find_names<'a>(
     alloc: Global,
     matcher: &'a Matcher,
