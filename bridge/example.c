@@ -9,6 +9,7 @@
 #include <pest_meta.h>
 
 #include <stdio.h>
+#include <stdlib.h>
 #include <string.h>
 
 static uint8_t out[65536];
@@ -77,6 +78,60 @@ static void run_prepared(const uint8_t *rules, size_t length, const char *rule)
     show_numbers("match_prepared by no rules", status, needed);
 }
 
+/* A grammar that is compiled once, and run: what a program keeps in a file or as a constant is `block`. */
+static void run_block(const uint8_t *grammar, size_t grammar_len)
+{
+    const char *texts[] = {"1,23", "1,x"};
+    pest_meta_bytes block = {PEST_META_EMPTY, 0};
+    uint8_t status = pest_meta_compile(grammar, grammar_len, &block);
+
+    printf("compile: status %d, begins with %.4s\n", status, (const char *)block.at);
+    for (int i = 0; i < 2; i++) {
+        const uint8_t *text = (const uint8_t *)texts[i];
+        size_t length = strlen(texts[i]), end = 0;
+        pest_meta_node_list nodes = {PEST_META_EMPTY, 0};
+        pest_meta_row_list rows = {PEST_META_EMPTY, 0};
+        status = pest_meta_run(block.at, block.count, 0, text, length, 0, UINT64_MAX, &nodes, &end);
+        printf("run: status %d, end %zu\n", status, end);
+        for (size_t at = 0; at < nodes.count; at++) {
+            const pest_meta_node *node = &nodes.at[at];
+            printf("  rule %u from %u to %u, next %u\n", (unsigned)node->row, (unsigned)node->start,
+                   (unsigned)node->end, (unsigned)node->after);
+        }
+        if (nodes.count)
+            free((void *)nodes.at);
+        if (status != PEST_META_REFUSED)
+            continue;
+        status = pest_meta_expected(block.at, block.count, 0, text, length, 0, end, UINT64_MAX, &rows);
+        printf("expected: status %d", status);
+        for (size_t at = 0; at < rows.count; at++)
+            printf(", rule %u", (unsigned)rows.at[at]);
+        printf("\n");
+        if (rows.count)
+            free((void *)rows.at);
+    }
+    if (block.count)
+        free((void *)block.at);
+}
+
+/* What is no grammar, and bytes that are no block, are told by a status. */
+static void run_no_block(const uint8_t *wrong, const uint8_t *prepared, size_t prepared_len)
+{
+    pest_meta_bytes block = {PEST_META_EMPTY, 0};
+    pest_meta_node_list nodes = {PEST_META_EMPTY, 0};
+    size_t end = 0;
+    uint8_t status = pest_meta_compile(wrong, strlen((const char *)wrong), &block);
+
+    printf("compile of no grammar: status %d\n", status);
+    status = pest_meta_compile_prepared(prepared, prepared_len, &block);
+    printf("compile_prepared: status %d, begins with %.4s\n", status, (const char *)block.at);
+    status = pest_meta_run(block.at, block.count, 7, wrong, 0, 0, UINT64_MAX, &nodes, &end);
+    printf("run by an unknown rule: status %d\n", status);
+    status = pest_meta_run(block.at + 1, block.count - 1, 0, wrong, 0, 0, UINT64_MAX, &nodes, &end);
+    printf("run of no block: status %d\n", status);
+    free((void *)block.at);
+}
+
 int main(void)
 {
     const uint8_t *text = (const uint8_t *)"a = @{ \"x\"? ~ b | 'a'..'z' } b = { ASCII_DIGIT{2} ~ a* }";
@@ -84,6 +139,7 @@ int main(void)
     const uint8_t *loop = (const uint8_t *)"a = { (\"\")* }";
     const uint8_t *bytes = (const uint8_t *)"\xff";
     const uint8_t *list = (const uint8_t *)"[{\"name\":\"a\",\"type\":\"normal\",\"expr\":[[\"rep_once\"],[\"str\",\"x\"]]}]";
+    const uint8_t *numbered = (const uint8_t *)"list = { item ~ (\",\" ~ item)* ~ EOI } item = { ASCII_DIGIT+ }";
     const uint8_t *warned = (const uint8_t *)"a = { 'z'..'a' }";
     const uint8_t *rules = (const uint8_t *)"[{\"name\":\"a\",\"type\":\"normal\",\"expr\":[[\"rep_exact\",2],[\"str\",\"x\"]]}]";
     size_t length = strlen((const char *)text);
@@ -144,6 +200,9 @@ int main(void)
     run_prepared(list, strlen((const char *)list), "a");
     status = pest_meta_prepare(rules, strlen((const char *)rules), out, sizeof out, &needed);
     show("prepare of rules that are not optimized", status, needed);
+    run_block(numbered, strlen((const char *)numbered));
+    status = pest_meta_prepare(list, strlen((const char *)list), out, sizeof out, &needed);
+    run_no_block(wrong, out, needed);
     status = pest_meta_diagnostics(warned, strlen((const char *)warned), out, sizeof out, &needed);
     show_lines("diagnostics", status, needed);
     status = pest_meta_diagnostics(wrong, strlen((const char *)wrong), out, sizeof out, &needed);

@@ -15,6 +15,9 @@
     >>> [list] = matcher.parse("list", "a,bc").trees
     >>> [(tree.rule, tree.text) for tree in list.children]
     [('item', 'a'), ('item', 'bc'), ('EOI', '')]
+    >>> block = pest_meta.compile('a = { "x"* }')
+    >>> pest_meta.load(block).parse("a", "xx").end
+    2
 
 A refused grammar raises GrammarError, which has all that is wrong with it, but for diagnostics, which returns that;
 and a text that a rule does not match raises MatchError. Positions are bytes of the grammar's UTF-8, counted from 0, as
@@ -46,7 +49,9 @@ __all__ = [
     "Token",
     "Tree",
     "check",
+    "compile",
     "diagnostics",
+    "load",
     "optimize",
     "optimize_rules",
     "rules",
@@ -57,7 +62,7 @@ __all__ = [
 _LIBRARY = "libpest_meta_c.so.1"
 _FORMAT = 1
 _ANSWERED, _REFUSED, _MEMORY, _NO_TEXT, _NO_ROOM = range(5)
-_UNFIT, _NO_RULE, _OUT_OF_STEPS, _EMPTY_STACK = range(6, 10)
+_NO_BLOCK, _UNFIT, _NO_RULE, _OUT_OF_STEPS, _EMPTY_STACK, _LONG_TEXT, _OTHER_VERSION = range(5, 12)
 _MOST_STEPS = 2**64 - 1
 # The steps that each byte of a text is allowed where no limit is given, and the bytes by which each counts for longer.
 _STEPS_PER_BYTE = _MORE_BYTES = 1_000
@@ -239,30 +244,69 @@ class Token(NamedTuple):
     """The number of the tree's other token."""
 
 
+class _Nodes:
+    """The nodes of a match: four numbers each, as docs/FORMAT.md has them."""
+
+    __slots__ = ("numbers", "source", "names")
+
+    def __init__(self, nodes: bytes, source: bytes, names: Sequence[str]) -> None:
+        self.numbers = memoryview(nodes).cast("I")
+        self.source = source
+        self.names = names
+
+    def trees(self, at: int, end: int) -> List["Tree"]:
+        """The trees from a node on and before another, without those inside them."""
+        trees, numbers = [], self.numbers
+        while at < end:
+            trees.append(Tree(self, at))
+            at = numbers[4 * at + 3]
+        return trees
+
+
 class Tree:
-    """A token pair of a matched text: its rule, its span in bytes, and the trees inside it."""
+    """A token pair of a matched text: its rule, its span in bytes, and the trees inside it, which are made when asked for."""
 
-    __slots__ = ("rule", "start", "end", "children", "_source")
+    __slots__ = ("_nodes", "_at")
 
-    def __init__(self, rule: str, start: int, source: bytes) -> None:
-        self.rule = rule
-        self.start = start
-        self.end = start
-        self.children: List["Tree"] = []
-        self._source = source
+    def __init__(self, nodes: _Nodes, at: int) -> None:
+        self._nodes = nodes
+        self._at = at
+
+    @property
+    def rule(self) -> str:
+        """The name of its rule."""
+        return self._nodes.names[self._nodes.numbers[4 * self._at]]
+
+    @property
+    def start(self) -> int:
+        """The byte where it starts."""
+        return self._nodes.numbers[4 * self._at + 1]
+
+    @property
+    def end(self) -> int:
+        """The byte after it."""
+        return self._nodes.numbers[4 * self._at + 2]
+
+    @property
+    def children(self) -> List["Tree"]:
+        """The trees inside it, in the order of the text."""
+        return self._nodes.trees(self._at + 1, self._nodes.numbers[4 * self._at + 3])
 
     @property
     def text(self) -> str:
         """The part of the text that it spans."""
-        return self._source[self.start : self.end].decode()
+        return self._nodes.source[self.start : self.end].decode()
 
     def walk(self) -> Iterator["Tree"]:
         """The tree and all trees inside it, each before its children."""
-        left = [self]
-        while left:
-            tree = left.pop()
-            yield tree
-            left.extend(reversed(tree.children))
+        nodes = self._nodes
+        return (Tree(nodes, at) for at in range(self._at, nodes.numbers[4 * self._at + 3]))
+
+    def __eq__(self, other: object) -> bool:
+        return isinstance(other, Tree) and self._nodes is other._nodes and self._at == other._at
+
+    def __hash__(self) -> int:
+        return hash((id(self._nodes), self._at))
 
     def __repr__(self) -> str:
         return f"<Tree {self.rule} {self.start}..{self.end}>"
@@ -297,17 +341,18 @@ class RunError(RuntimeError):
 
 
 class Matcher:
-    """Rules of a grammar, to run them on texts.
-
-    The library gets the rules in binary form, and compiles them at each call of parse.
-    """
+    """Rules of a grammar, compiled once, to run them on texts. Any number of threads may use one."""
 
     def __init__(self, grammar: str) -> None:
-        """Reads, checks and optimizes a grammar. Raises GrammarError where anything is wrong with it."""
-        rules = _ask("pest_meta_parse_and_optimize", grammar)["rules"]
-        self.names = tuple(rule["name"] for rule in rules)
+        """Reads, checks, optimizes and compiles a grammar. Raises GrammarError where anything is wrong with it."""
+        self._take(compile(grammar))
+
+    def _take(self, block: bytes) -> None:
+        self._block = block
+        self.names = tuple(_names(block))
         """The names of the rules, in the order of the grammar."""
-        self._rules = _fill("pest_meta_prepare", json.dumps(rules))[1]
+        self._rows = {name: row for row, name in enumerate(self.names)}
+        self._all_names = (*self.names, "EOI")
 
     def parse(self, rule: str, text: str, steps: Optional[int] = None) -> Match:
         """Matches a text by the rule of a name, from the text's start on.
@@ -322,50 +367,103 @@ class Matcher:
         source = text.encode()
         if steps is None:
             steps = min(_STEPS_PER_BYTE * (len(source) + _MORE_BYTES), _MOST_STEPS)
-        status, numbers = self._run(rule.encode(), source, steps)
-        if status == _ANSWERED:
-            return Match(numbers[0], self._trees(numbers[1:], source))
-        if status == _REFUSED:
-            raise MatchError(numbers[0], sorted(map(self._name, numbers[1:])), source)
-        if status == _NO_RULE:
+        row = self._rows.get(rule)
+        if row is None:
             raise ValueError(f"no rule has the name {rule!r}")
-        if status == _UNFIT:
-            raise ValueError("a range of the grammar has a bound that is not one character")
-        if status == _OUT_OF_STEPS:
-            raise RunError(f"{rule} takes more than {steps} steps")
-        if status == _EMPTY_STACK:
-            raise RunError(f"{rule} has no outcome: PEEK or POP met the empty stack")
-        if status == _MEMORY:
-            raise MemoryError("there is no memory for this text")
-        raise LibraryError(f"pest_meta_match_prepared: status {status} is none of this file's release")
+        nodes, end = _List(), ctypes.c_size_t()
+        words = [self._block, len(self._block), row, source, len(source), 0]
+        status = _library().pest_meta_run(*words, steps, ctypes.byref(nodes), ctypes.byref(end))
+        if status == _ANSWERED:
+            found = _Nodes(_taken(nodes, 16), source, self._all_names)
+            return Match(end.value, found.trees(0, len(found.numbers) // 4))
+        if status == _REFUSED:
+            raise MatchError(end.value, self._expected([*words, end.value, steps]), source)
+        raise _stop(status, "pest_meta_run", rule, steps)
 
-    def _run(self, rule: bytes, source: bytes, steps: int) -> Tuple[int, List[int]]:
-        """The status of a run, and its numbers."""
-        function = _library().pest_meta_match_prepared
-        needed = ctypes.c_size_t(256 + len(source))
-        status = _NO_ROOM
-        while status == _NO_ROOM:
-            room = (ctypes.c_size_t * needed.value)()
-            words = [self._rules, len(self._rules), rule, len(rule), source, len(source), steps]
-            status = function(*words, room, len(room), ctypes.byref(needed))
-        return status, room[: needed.value]
+    def _expected(self, words: List[Any]) -> List[str]:
+        """The rules that are expected at a place of a run that fails, sorted by name."""
+        rows = _List()
+        status = _library().pest_meta_expected(*words, ctypes.byref(rows))
+        if status != _ANSWERED:
+            raise _stop(status, "pest_meta_expected", self.names[words[2]], words[-1])
+        return sorted({self._all_names[row] for row in memoryview(_taken(rows, 4)).cast("I")})
 
-    def _name(self, number: int) -> str:
-        """The name of a rule's number."""
-        return self.names[number - 1] if number <= len(self.names) else "EOI"
 
-    def _trees(self, numbers: Sequence[int], source: bytes) -> List[Tree]:
-        """The trees of entries, three numbers each."""
-        root = Tree("", 0, source)
-        around = [root]
-        for rule, position in zip(numbers[::3], numbers[1::3]):
-            if rule:
-                tree = Tree(self._name(rule), position, source)
-                around[-1].children.append(tree)
-                around.append(tree)
-            else:
-                around.pop().end = position
-        return root.children
+def compile(grammar: str) -> bytes:
+    """A grammar, read, checked, optimized and compiled: a block of bytes for load (docs/FORMAT.md).
+
+    A program can keep it in a file: nothing of the grammar is looked at when it is loaded. Raises GrammarError where
+    anything is wrong with the grammar.
+    """
+    source, block = grammar.encode(), _List()
+    status = _library().pest_meta_compile(source, len(source), ctypes.byref(block))
+    if status == _REFUSED:
+        check(grammar)
+    if status == _UNFIT:
+        raise ValueError("a range of the grammar has a bound that is not one character")
+    if status != _ANSWERED:
+        raise _stop(status, "pest_meta_compile", "the grammar", 0)
+    return _taken(block, 1)
+
+
+def load(block: bytes) -> Matcher:
+    """The matcher of a compiled grammar. Raises ValueError where the bytes are none of this version."""
+    head = block[:8]
+    if head[:4] != b"pest":
+        raise ValueError("the bytes are no compiled grammar")
+    if head != b"pest\1\0\0\0":
+        raise ValueError("the grammar was compiled by another version: compile it again")
+    matcher = Matcher.__new__(Matcher)
+    matcher._take(bytes(block))
+    return matcher
+
+
+def _names(block: bytes) -> Iterator[str]:
+    """The names of the rules of a block."""
+    names = _section(block[8:], 2)
+    count = int.from_bytes(names[:4], "little") // 4 - 1
+    return (_section(names, number).decode() for number in range(count))
+
+
+def _section(part: bytes, number: int) -> bytes:
+    """A section of a part of a block."""
+    start, end = (int.from_bytes(part[at : at + 4], "little") for at in (4 * number, 4 * number + 4))
+    return part[start:end]
+
+
+class _List(ctypes.Structure):
+    """A list that the library hands out: where it lies, and how long it is."""
+
+    _fields_ = [("at", ctypes.c_void_p), ("count", ctypes.c_size_t)]
+
+    def __init__(self) -> None:
+        super().__init__(ctypes.addressof(_SOMEWHERE), 0)
+
+
+# An empty list lies at an address that is not null.
+_SOMEWHERE = ctypes.c_uint64()
+
+
+def _taken(found: _List, size: int) -> bytes:
+    """The bytes of a list with elements of a size, whose memory is given back."""
+    if not found.count:
+        return b""
+    taken = ctypes.string_at(found.at, found.count * size)
+    _free(found.at)
+    return taken
+
+
+def _stop(status: int, function: str, rule: str, steps: int) -> Exception:
+    """The exception for a call that has no answer."""
+    if status == _OUT_OF_STEPS:
+        return RunError(f"{rule} takes more than {steps} steps")
+    if status == _EMPTY_STACK:
+        return RunError(f"{rule} has no outcome: PEEK or POP met the empty stack")
+    if status == _LONG_TEXT:
+        return ValueError("the text has 4 GiB or more")
+    if status == _MEMORY:
+        return MemoryError("there is no memory for this text")
+    return LibraryError(f"{function}: status {status} is none of this file's release")
 
 
 def check(grammar: str) -> List[str]:
@@ -512,7 +610,6 @@ def _folders() -> Iterator[str]:
 _FUNCTIONS = {
     "pest_meta_version": 0,
     "pest_meta_diagnostics": 1,
-    "pest_meta_prepare": 1,
     "pest_meta_rules": 1,
     "pest_meta_optimize": 1,
     "pest_meta_parse_and_optimize": 1,
@@ -527,13 +624,21 @@ def _declare(function: Any, texts: int) -> None:
     function.restype = ctypes.c_uint8
 
 
-def _declare_match(function: Any) -> None:
-    """Declares what pest_meta.h says of pest_meta_match_prepared: three texts, the steps, and room for numbers."""
-    text = [ctypes.c_char_p, ctypes.c_size_t]
-    room = [ctypes.POINTER(ctypes.c_size_t), ctypes.c_size_t, ctypes.POINTER(ctypes.c_size_t)]
-    function.argtypes = [*(3 * text), ctypes.c_uint64, *room]
-    function.restype = ctypes.c_uint8
+def _declare_runs(library: Any) -> None:
+    """Declares what pest_meta.h says of compiled grammars."""
+    text, found = [ctypes.c_char_p, ctypes.c_size_t], ctypes.POINTER(_List)
+    rule, place = ctypes.c_uint32, ctypes.c_size_t
+    run = [*text, rule, *text, place]
+    library.pest_meta_compile.argtypes = [*text, found]
+    library.pest_meta_run.argtypes = [*run, ctypes.c_uint64, found, ctypes.POINTER(ctypes.c_size_t)]
+    library.pest_meta_expected.argtypes = [*run, place, ctypes.c_uint64, found]
+    for function in (library.pest_meta_compile, library.pest_meta_run, library.pest_meta_expected):
+        function.restype = ctypes.c_uint8
 
+
+# What the library hands out is freed by the C library.
+_free = ctypes.CDLL(None).free
+_free.argtypes, _free.restype = [ctypes.c_void_p], None
 
 _loaded: Any = None
 
@@ -555,7 +660,7 @@ def _load() -> Any:
         library = ctypes.CDLL(found[0] if found else fallback)
         for function, texts in _FUNCTIONS.items():
             _declare(getattr(library, function), texts)
-        _declare_match(library.pest_meta_match_prepared)
+        _declare_runs(library)
         answer = _call(library, "pest_meta_version")
     except (OSError, AttributeError) as error:
         looked = ", ".join(os.path.normpath(os.path.dirname(path)) for path in paths)

@@ -21,7 +21,6 @@
 use std::fmt::Debug;
 use std::hash::Hash;
 
-mod engine;
 pub mod error;
 pub mod iterators;
 #[doc(hidden)]

@@ -1,54 +1,100 @@
-//! What the derive macro's code calls. No part of the interface.
+//! What the derive macro's code and the crate pest_vm call. No part of the interface.
+
+use kingorewa_library::code::{self, Node, Nodes, Unmatched};
 
 use crate::error::{Error, ErrorVariant};
-use crate::iterators::{Pairs, Tree};
-use crate::{engine, Position, RuleType};
+use crate::iterators::{Pairs, Rules, Tree};
+use crate::{Position, RuleType};
 
-/// A grammar as a constant of a program.
+/// A compiled grammar, as a constant of a program.
 pub struct Grammar<R: 'static> {
-    /// The optimized rules in binary form.
-    pub code: &'static [u8],
-    /// The rules in the order of the grammar, and then `EOI`, if the grammar uses it.
+    /// The block that the library compiles.
+    pub block: &'static [u8],
+    /// The rules by their rows: those of the grammar in its order, and then `EOI`, if the grammar uses it.
     pub rules: &'static [R],
-    /// Their names.
-    pub names: &'static [&'static str],
-    /// The rule of an index.
-    pub rule: fn(u32) -> R,
+    /// The row of `EOI`.
+    pub end: u32,
 }
 
-/// Runs a rule of a grammar from the start of a text.
+/// Runs the rule of a row from the start of a text.
 ///
 /// # Panics
 /// Where there is no memory for the text.
 pub fn parse<'i, R: RuleType>(
     grammar: &'static Grammar<R>,
-    rule: R,
+    row: u32,
     text: &'i str,
 ) -> Result<Pairs<'i, R>, Error<R>> {
-    let index = grammar.rules.iter().position(|it| *it == rule).expect("the rule is one of the grammar");
-    let found = match grammar.names[index] {
-        "EOI" => engine::run_end(index as u32, text),
-        name => engine::run(grammar.code, name, text),
-    };
-    match found {
-        Ok(nodes) => {
-            let tree = Tree::new(text, nodes, grammar.rule);
-            let len = tree.len();
-            Ok(Pairs::new(tree, 0, len))
-        }
-        Err(engine::Failure::Failed { pos, expected }) => {
-            let mut positives: Vec<R> = expected.into_iter().map(grammar.rule).collect();
+    if row == grammar.end {
+        return end(row, text, grammar.rules);
+    }
+    let nodes = run(grammar.block, row, text, |row| grammar.rules[row as usize])?;
+    Ok(pairs(nodes, text, Rules::Table(grammar.rules)))
+}
+
+/// Runs the rule of a row of a compiled grammar from the start of a text. `rules` has the rules of all rows, that of `EOI`
+/// too.
+///
+/// # Panics
+/// Where there is no memory for the text, and where the bytes are no compiled grammar with that row.
+pub fn parse_block<'i, R: RuleType>(
+    block: &[u8],
+    row: u32,
+    text: &'i str,
+    rules: Box<[R]>,
+) -> Result<Pairs<'i, R>, Error<R>> {
+    let nodes = run(block, row, text, |row| rules[row as usize])?;
+    Ok(pairs(nodes, text, Rules::List(rules)))
+}
+
+/// Runs the rule of a row of a compiled grammar from the start of a text.
+fn run<R: RuleType>(block: &[u8], row: u32, text: &str, rule: impl Fn(u32) -> R) -> Result<Nodes, Error<R>> {
+    let steps = code::most_steps(text);
+    match code::run(block, row, text, steps) {
+        Ok(nodes) => Ok(nodes),
+        Err(Unmatched::Failed { pos }) => {
+            let rows = code::expected(block, row, text, pos, steps);
+            let mut positives: Vec<R> = rows.into_iter().map(rule).collect();
             positives.sort_unstable();
             positives.dedup();
             Err(error_at(text, pos, ErrorVariant::ParsingError { positives, negatives: Vec::new() }))
         }
-        Err(engine::Failure::Other(message)) => {
-            Err(error_at(text, 0, ErrorVariant::CustomError { message: message.to_owned() }))
+        Err(Unmatched::EmptyStack) => Err(custom(text, "PEEK or POP was called on the empty stack")),
+        Err(Unmatched::OutOfSteps) => Err(custom(text, "the rule takes too many steps")),
+        Err(Unmatched::TooLong) => Err(custom(text, "texts of 4 GiB and more are not parsed")),
+        Err(why @ (Unmatched::NoBlock | Unmatched::NoRule)) => {
+            panic!("the bytes are those of a compiled grammar that has the rule: {why:?}")
         }
     }
+}
+
+/// Runs `EOI`, of a row, from the start of a text. The library runs rules of the grammar alone.
+fn end<'i, R: RuleType>(row: u32, text: &'i str, rules: &'static [R]) -> Result<Pairs<'i, R>, Error<R>> {
+    match text.is_empty() {
+        true => Ok(pairs(
+            Nodes::of(Box::new([Node { row, start: 0, end: 0, after: 1 }])),
+            text,
+            Rules::Table(rules),
+        )),
+        false => {
+            let positives = vec![rules[row as usize]];
+            Err(error_at(text, 0, ErrorVariant::ParsingError { positives, negatives: Vec::new() }))
+        }
+    }
+}
+
+fn pairs<'i, R: RuleType>(nodes: Nodes, text: &'i str, rules: Rules<'i, R>) -> Pairs<'i, R> {
+    let tree = Tree::new(text, nodes, rules);
+    let len = tree.len();
+    Pairs::new(tree, 0, len)
 }
 
 /// An error at a byte of a text.
 fn error_at<R: RuleType>(text: &str, pos: usize, variant: ErrorVariant<R>) -> Error<R> {
     Error::new_from_pos(variant, Position::new(text, pos).expect("the library answers positions of the text"))
+}
+
+/// An error at the start of a text.
+fn custom<R: RuleType>(text: &str, message: &str) -> Error<R> {
+    error_at(text, 0, ErrorVariant::CustomError { message: message.to_owned() })
 }

@@ -1,6 +1,5 @@
 //! The code of a parser.
 
-use pest_meta::matching;
 use proc_macro2::{Ident, Literal, Span, TokenStream};
 use quote::{format_ident, quote};
 use syn::DeriveInput;
@@ -11,8 +10,8 @@ use crate::grammar::{self, Grammar};
 pub(crate) fn parser(input: &DeriveInput) -> syn::Result<TokenStream> {
     let grammar = grammar::of_attributes(input)?;
     let mut variants = Vec::new();
-    for rule in &grammar.rules {
-        variants.push(variant(&rule.name)?);
+    for name in &grammar.names {
+        variants.push(variant(name)?);
     }
     let is_open = input.attrs.iter().any(|attribute| attribute.path.is_ident("non_exhaustive"));
     let rules = rule_enum(&grammar, &variants, is_open);
@@ -73,8 +72,8 @@ fn rule_enum(grammar: &Grammar, variants: &[Ident], is_open: bool) -> TokenStrea
             EOI,
         )
     });
-    let rules = grammar.rules.iter().zip(variants).map(|(rule, variant)| {
-        let docs = grammar.rule_docs.iter().find(|(name, _)| *name == rule.name);
+    let rules = grammar.names.iter().zip(variants).map(|(rule, variant)| {
+        let docs = grammar.rule_docs.iter().find(|(name, _)| name == rule);
         let docs = docs.into_iter().flat_map(|(_, docs)| docs);
         quote!(#(#[doc = #docs])* #variant,)
     });
@@ -101,10 +100,15 @@ fn rule_enum(grammar: &Grammar, variants: &[Ident], is_open: bool) -> TokenStrea
 fn parser_impl(input: &DeriveInput, grammar: &Grammar, variants: &[Ident]) -> TokenStream {
     let name = &input.ident;
     let (impl_generics, type_generics, where_clause) = input.generics.split_for_impl();
-    let code = Literal::byte_string(&matching::prepared(&grammar.rules));
+    let block = Literal::byte_string(&grammar.block);
     let end = grammar.uses_eoi.then(|| format_ident!("EOI"));
     let rules: Vec<&Ident> = variants.iter().chain(&end).collect();
-    let names = grammar.rules.iter().map(|rule| &rule.name[..]).chain(grammar.uses_eoi.then_some("EOI"));
+    let count = variants.len() as u32;
+    // `EOI` is the first of the enum and the last of the rows.
+    let row = match grammar.uses_eoi {
+        true => quote!((rule as u32).checked_sub(1).unwrap_or(#count)),
+        false => quote!(rule as u32),
+    };
     quote! {
         #[allow(clippy::all)]
         impl #impl_generics ::pest::Parser<Rule> for #name #type_generics #where_clause {
@@ -112,14 +116,12 @@ fn parser_impl(input: &DeriveInput, grammar: &Grammar, variants: &[Ident]) -> To
                 rule: Rule,
                 input: &'i str,
             ) -> ::core::result::Result<::pest::iterators::Pairs<'i, Rule>, ::pest::error::Error<Rule>> {
-                const RULES: &[Rule] = &[#(Rule::#rules),*];
                 static GRAMMAR: ::pest::machine::Grammar<Rule> = ::pest::machine::Grammar {
-                    code: #code,
-                    rules: RULES,
-                    names: &[#(#names),*],
-                    rule: |index| RULES[index as usize],
+                    block: #block,
+                    rules: &[#(Rule::#rules),*],
+                    end: #count,
                 };
-                ::pest::machine::parse(&GRAMMAR, rule, input)
+                ::pest::machine::parse(&GRAMMAR, #row, input)
             }
         }
     }

@@ -6,7 +6,7 @@ use std::{env, fs};
 use pest::error::{Error, ErrorVariant};
 use pest::{Position, Span};
 use pest_meta::diagnostics::{self, Diagnostic, Severity};
-use pest_meta::optimizer::OptimizedRule;
+use pest_meta::matching;
 use pest_meta::parser::{self, Rule};
 use syn::spanned::Spanned;
 use syn::{Attribute, DeriveInput, Lit, Meta, MetaNameValue};
@@ -22,8 +22,10 @@ struct Source {
 pub(crate) struct Grammar {
     /// The files that have it.
     pub(crate) files: Vec<PathBuf>,
-    /// Its rules.
-    pub(crate) rules: Vec<OptimizedRule>,
+    /// The names of its rules, in their order.
+    pub(crate) names: Vec<String>,
+    /// Its rules, compiled.
+    pub(crate) block: Vec<u8>,
     /// Whether it uses `EOI`.
     pub(crate) uses_eoi: bool,
     /// What it says of itself, a line each.
@@ -52,9 +54,13 @@ pub(crate) fn of_attributes(input: &DeriveInput) -> syn::Result<Grammar> {
     match pest_meta::parse_and_optimize(&text) {
         Ok((builtins, rules)) => {
             let uses_eoi = builtins.contains(&"EOI");
+            let block = matching::compile(&rules);
+            let block =
+                block.map_err(|_| syn::Error::new(place, "grammar error: a rule can't be compiled"))?;
+            let names = rules.into_iter().map(|rule| rule.name).collect();
             let (docs, rule_docs) = docs(&text);
             let files = sources.into_iter().filter_map(|source| source.file).collect();
-            Ok(Grammar { files, rules, uses_eoi, docs, rule_docs })
+            Ok(Grammar { files, names, block, uses_eoi, docs, rule_docs })
         }
         Err(errors) => {
             let errors = errors.into_iter().map(|error| error.renamed_rules(parser::rename_meta_rule));

@@ -1,41 +1,21 @@
 //! What the library is asked, and what its answers say.
-#![forbid(unsafe_code)]
 
 use std::fmt;
 use std::mem::size_of;
 use std::sync::OnceLock;
 
+use kingorewa_library::{foreign as library, Call};
 use pest::error::{Error, ErrorVariant};
 use pest::Span;
 
 use crate::ast::RuleType;
 use crate::json::{self, Malformed, Reader, Reading};
-use crate::library;
 use crate::nodes::{self, Node};
 use crate::parser::Rule;
 use crate::recent;
 
 /// The number of the format that is read here.
 const FORMAT: i64 = 1;
-
-/// A function of the library over one text.
-#[derive(Clone, Copy)]
-pub(crate) enum Call {
-    /// The builtins that a grammar uses, or the errors of its names.
-    Names,
-    /// The errors of a name as a keyword of Rust.
-    RustKeyword,
-    /// The rules of a grammar, or its errors.
-    Rules,
-    /// The rules of a grammar with their places, or why they can't be read.
-    Nodes,
-    /// The optimized rules of rules in JSON.
-    Optimize,
-    /// The used builtins and the optimized rules of a grammar, or its errors.
-    ParseAndOptimize,
-    /// The diagnostics of a grammar, in lines.
-    Diagnostics,
-}
 
 /// A rule whose body is a flat list of nodes, each before its operands. The places are empty but for the
 /// rules of [`Call::Nodes`].

@@ -1,5 +1,4 @@
 //! Rules and expressions as they stand in a grammar, without their places.
-#![forbid(unsafe_code)]
 
 use std::fmt;
 

@@ -1,5 +1,4 @@
 //! Rules and names in binary form, as the library writes them, and rules written so.
-#![forbid(unsafe_code)]
 
 use crate::answers::FlatRule;
 use crate::ast::RuleType;

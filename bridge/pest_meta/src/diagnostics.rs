@@ -10,7 +10,6 @@
 //! assert_eq!(error.help.as_deref(), Some("a sequence is written with `~`"));
 //! assert_eq!(error.fix.unwrap().apply(grammar), r#"a = { "x" ~ "y" }"#);
 //! ```
-#![forbid(unsafe_code)]
 
 use std::fmt;
 use std::ops::Range;

@@ -1,6 +1,5 @@
 //! JSON as the library writes and reads it: read from left to right, straight into what it says, and written
 //! by appending. No value of a general kind stands between.
-#![forbid(unsafe_code)]
 
 use std::borrow::Cow;
 use std::fmt::{self, Write};

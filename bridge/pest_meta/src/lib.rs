@@ -23,7 +23,7 @@
 //! It ends at the calls of the library. This crate hands texts over and makes Rust's values of the answers,
 //! which is tested and not proved:
 //!
-//! - `library`: the calls over C, the only `unsafe` code;
+//! - the crate `kingorewa_library`: the calls over C, with all `unsafe` code;
 //! - `binary`, `json`, `nodes`, `answers`, [`diagnostics`]: answers in binary form and in JSON, read into rules,
 //!   errors, entries of trees, and diagnostics;
 //! - `recent`: each thread keeps the answer for the last grammar that it asked about;
@@ -46,9 +46,8 @@
 //! library is of a later release and answers what this crate doesn't know, a call that returns errors returns
 //! one which says so, and [`optimizer::optimize`] and [`diagnostics::diagnose`] panic. pest's parser state and what Rust derives for trees
 //! take stack by the depth of an expression, as in the original crate; the library takes none.
+#![forbid(unsafe_code)]
 #![warn(missing_docs, rust_2018_idioms, unused_qualifications)]
-// Each file but that of the library forbids it.
-#![deny(unsafe_code)]
 // The signatures are those of the original, and the errors pest's.
 #![allow(clippy::result_large_err)]
 
@@ -63,9 +62,6 @@ pub mod ast;
 mod binary;
 pub mod diagnostics;
 mod json;
-#[allow(unsafe_code)]
-#[cfg_attr(pest_meta_unlinked, path = "unlinked.rs")]
-mod library;
 #[doc(hidden)]
 pub mod matching;
 mod nodes;

@@ -1,6 +1,5 @@
 //! Expressions as flat lists of nodes, each before its operands, and trees of them. All ways between the two
 //! are loops, so that no depth of an expression takes stack.
-#![forbid(unsafe_code)]
 
 use crate::json::{write_list, write_text, Malformed, Reader, Reading};
 

@@ -1,5 +1,4 @@
 //! Optimized rules, as a code generator wants them.
-#![forbid(unsafe_code)]
 
 use std::fmt;
 

@@ -1,13 +1,13 @@
 //! Grammars as token trees, and as rules with the place of each node.
-#![forbid(unsafe_code)]
 
+use kingorewa_library::Call;
 use pest::error::Error;
 #[cfg(not(feature = "grammar-extras"))]
 use pest::error::ErrorVariant;
 use pest::iterators::Pairs;
 use pest::{ParseResult, ParserState, Span};
 
-use crate::answers::{self, part, Call, Entries, Entry, FlatRule};
+use crate::answers::{self, part, Entries, Entry, FlatRule};
 use crate::ast::{Rule as AstRule, RuleType};
 use crate::json::{Malformed, Reading};
 use crate::nodes::{tree, Node, Operands, Tree};

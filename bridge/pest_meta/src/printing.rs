@@ -1,5 +1,4 @@
 //! Expressions as the text of a grammar.
-#![forbid(unsafe_code)]
 
 use std::borrow::Cow;
 use std::fmt::Write;

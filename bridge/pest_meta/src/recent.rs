@@ -3,7 +3,6 @@
 //! A derive reads the names of a grammar, its rules and its optimized rules by a call each. The library answers all
 //! three at once, so the later calls find the answer here. An answer is that of its text, whoever asks, and a text has
 //! one at most.
-#![forbid(unsafe_code)]
 
 use std::cell::RefCell;
 

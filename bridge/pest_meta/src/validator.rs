@@ -3,15 +3,15 @@
 //! Each call asks the proved front end. The calls over spans and over rules write what they are handed as a
 //! grammar, ask about that, and tell what is said of its pieces where the pieces stand. So they speak of what
 //! they are handed, and of nothing else in the text.
-#![forbid(unsafe_code)]
 
 use std::ops::Range;
 
+use kingorewa_library::Call;
 use pest::error::{Error, ErrorVariant, InputLocation};
 use pest::iterators::Pairs;
 use pest::Span;
 
-use crate::answers::{self, whole, Call, Entry};
+use crate::answers::{self, whole, Entry};
 use crate::ast::RuleType;
 use crate::nodes::{flat, Node, Tree};
 use crate::parser::{grammar_of, ParserNode, ParserRule, Rule};

@@ -2,10 +2,9 @@
 //! are put together from pieces.
 use std::fmt::Debug;
 
-use pest::error::{ErrorVariant, InputLocation};
-use pest::iterators::Pairs;
-use pest::{RuleType, Token};
+use pest::RuleType;
 use pest_vm::Vm;
+use runtime::error::{ErrorVariant, InputLocation};
 
 /// How many texts each grammar gets.
 const TEXTS: usize = 2000;
@@ -20,13 +19,17 @@ impl Numbers {
     }
 }
 
-/// The starts and the ends of tokens, with the names of their rules.
-fn tokens<R: RuleType>(pairs: Pairs<'_, R>, name: impl Fn(R) -> String) -> Vec<(String, bool, usize)> {
-    let token = |token| match token {
-        Token::Start { rule, pos } => (name(rule), true, pos.pos()),
-        Token::End { rule, pos } => (name(rule), false, pos.pos()),
+/// The starts and the ends of the tokens of pairs, with the names of their rules.
+macro_rules! tokens {
+    ($runtime:ident, $pairs:expr, $name:expr) => {
+        $pairs
+            .tokens()
+            .map(|token| match token {
+                $runtime::Token::Start { rule, pos } => ($name(rule), true, pos.pos()),
+                $runtime::Token::End { rule, pos } => ($name(rule), false, pos.pos()),
+            })
+            .collect::<Vec<(String, bool, usize)>>()
     };
-    pairs.tokens().map(token).collect()
 }
 
 fn machine(grammar: &str) -> Vm {
@@ -72,13 +75,13 @@ fn compare<R: RuleType + Debug, P: pest::Parser<R>>(
         };
         match (vm.parse(name, &text), P::parse(rule, &text)) {
             (Ok(here), Ok(derived)) => {
-                let here = tokens(here, str::to_owned);
-                assert_eq!(here, tokens(derived, |rule| format!("{rule:?}")), "{text:?}");
+                let derived = tokens!(pest, derived, |rule| format!("{rule:?}"));
+                assert_eq!(tokens!(runtime, here, str::to_owned), derived, "{text:?}");
                 agreement.matched += 1;
             }
             (Err(here), Err(derived)) => {
                 agreement.failed += 1;
-                if place(&here.location) != place(&derived.location) {
+                if pest::error::InputLocation::Pos(place(&here.location)) != derived.location {
                     agreement.elsewhere.push(text);
                 }
             }
@@ -207,7 +210,7 @@ fn a_listener_hears_of_tokens_and_stops_them() {
     let (_, rules) = pest_meta::parse_and_optimize(include_str!("grammars/lists.pest")).unwrap();
     let heard = std::sync::Arc::new(std::sync::Mutex::new(Vec::new()));
     let hears = std::sync::Arc::clone(&heard);
-    let listener = move |rule: String, pos: &pest::Position<'_>| {
+    let listener = move |rule: String, pos: &runtime::Position<'_>| {
         let is_last = rule == "word";
         hears.lock().unwrap().push((rule, pos.pos()));
         is_last

@@ -1,14 +1,12 @@
 -- A text's diagnostics, by the outcome of its front end.
-use Rattle.std.proofs.Common.{◌≡◌, ◌≢◌, ◌⊎◌, All, inl, inr, ◌∙◌, ℕ, List, [], ◌∷◌, ◌++◌, ◌==◌, Bool, true, false, ◌||◌, Result, Ok, Err, IfOk, Vec, Global, arith, chars, eqb-true, length, map, refl, subst, sym, ap}
+use Rattle.std.proofs.Common.{◌≡◌, ◌≢◌, ◌⊎◌, inl, inr, ◌∙◌, ℕ, List, [], ◌∷◌, ◌++◌, Bool, true, false, ◌||◌, Result, Ok, Err, IfOk, Vec, Global, filter, map, refl, subst, sym, ap}
 use Rattle.std.specs.Borrow.{Bor}
-use Rattle.std.proofs.lemmas.List.{map-append}
-use Rattle.front_names.specs.Builtins.{name_of}
-use Rattle.front_names.specs.declared.builtin.Builtin.TheVariants.{Soi}
-use Rattle.lint_warnings.proofs.Sets.{name_characters}
 use Rattle.std.specs.List.{AllZip, list_any}
-use Rattle.lint_findings.specs.Starts.{IsNamedStart}
-use Rattle.lint_warnings.specs.Lists.{texts_of}
-use Rattle.lint_findings.specs.Reports.{ReportsError, is_error, is_severe}
+use Rattle.lint_findings.specs.Codes.{warning}
+use Rattle.lint_findings.specs.Fragments.{Fragment}
+use Rattle.lint_findings.specs.Starts.{is_unknown, names_of, place_of, stated_starts}
+use Rattle.lint_findings.specs.declared.codes.Code.TheVariants as code
+use Rattle.lint_findings.specs.Reports.{ReportsError, ReportsWarning, is_error, is_severe}
 use Rattle.lint_findings.specs.declared.diagnostic.Diagnostic.{Diagnostic}
 use Rattle.base_language.specs.Language.Text.{Text}
 use Rattle.base_language.specs.declared.grammar.Rule.{Rule}
@@ -16,9 +14,10 @@ use Rattle.base_language.specs.declared.runtime.errors.Error.{Error}
 use Rattle.lint_diagnostics.specs.Diagnosis.{IfSpells, IsDiagnosisWith, ReportRules, ReportWarnings, accepted, all_starts, refused}
 use Rattle.front_names.proofs.Places.{tell_none}
 use Rattle.front_spanned.specs.Spanned.{SpannedRule}
-use Rattle.lint_findings.specs.Allowances.{LeavesOutAllowed}
+use Rattle.lint_findings.specs.Allowances.{ArePartsOf, LeavesOutAllowed}
 use Rattle.pest_meta.specs.Spelling.{HasAnswer, HasWrongRules, IsMisnamed, AreFlawed, HaveFindings, IsRefusedWith, complaints_in}
 use Rattle.pest_meta.specs.WithSpans.{SpellsWithSpans}
+use Rattle.lint_diagnostics.proofs.Parts.{rules_text}
 use Rattle.pest_meta.proofs.Accepted.{spelled_have_answers}
 
 one_some : {X : Type 0} (xs : List X) (x : X) → xs ≡ x ∷ [] → xs ≢ []
@@ -73,42 +72,19 @@ answered text builtins rules (Ok ds) s = λ none. spelled_have_answers text buil
 answered text builtins rules (Err x) s = tt
 
 -- warnings of the rules that a text spells are those of the text
-pub of_rules : {E : Type 0} (has_all : Bool) (starts : List Text) (text : List ℕ) (rules : List SpannedRule) (named : List (Bor (List ℕ))) (all : List Diagnostic) (result : Result (Vec Diagnostic Global) E)
-    → All (λ name. IsNamedStart text name.now) named → ReportRules has_all (all_starts starts (texts_of named)) text rules all → IfOk result (λ ds. LeavesOutAllowed text rules all ds.items)
-    → IfOk result (λ ds. IfSpells text rules (ReportWarnings has_all starts text ds.items))
-of_rules has_all starts text rules named all (Ok ds) stated each left = λ builtins s. record {
+pub of_rules : (has_all : Bool) (starts : List Text) (text : List ℕ) (rules : List SpannedRule) (stated : List Fragment) (strays all shown whole : List Diagnostic) → stated ≡ stated_starts text
+    → AllZip ReportsWarning (map (warning code.UnknownStart) (map (place_of text) (filter (is_unknown rules) stated))) strays → ReportRules has_all (all_starts starts (names_of stated)) text rules all
+    → (ArePartsOf text rules → LeavesOutAllowed text rules all shown) → whole ≡ strays ++ shown → IfSpells text rules (ReportWarnings has_all starts text whole)
+of_rules has_all starts text rules stated strays all shown whole same unknown each left together = λ builtins s. record {
   trees = s.trees;
   of_text = s.of_text;
   rules = rules;
   read = s.read;
+  strays = strays;
+  unknown = subst (λ ns. AllZip ReportsWarning (map (warning code.UnknownStart) (map (place_of text) (filter (is_unknown rules) ns))) strays) same unknown;
   all = all;
-  named = named;
-  stated = stated;
-  each = each;
-  left = left;
+  each = subst (λ ns. ReportRules has_all (all_starts starts (names_of ns)) text rules all) same each;
+  shown = shown;
+  left = left (rules_text text s.read);
+  whole = together;
 }
-of_rules has_all starts text rules named all (Err x) stated each left = tt
-
--- warnings of rules with starts that a comment names
-pub from_starts : {E : Type 0} (has_all : Bool) (starts : List Text) (text : List ℕ) (rules : List SpannedRule) (named : List (Bor (List ℕ))) (all : List Text) (result : Result (Vec Diagnostic Global) E)
-    → All (λ name. IsNamedStart text name.now) named → all ≡ all_starts starts (texts_of named) → IfOk result (λ ds. ReportRules has_all all text rules ds.items)
-    → IfOk result (λ ds. (names : List (Bor (List ℕ))) × All (λ name. IsNamedStart text name.now) names × ReportRules has_all (all_starts starts (texts_of names)) text rules ds.items)
-from_starts has_all starts text rules named all (Ok ds) stated e h =
-    let P : List Text → Type 0 = λ s. ReportRules has_all s text rules ds.items in
-    (named, stated, subst P e h)
-from_starts has_all starts text rules named all (Err x) stated e h = tt
-
--- none is named, or some
-pub none_named : (starts : List Text) (named : List (Bor (List ℕ))) → (length named == 0) ≡ true → starts ≡ all_starts starts (texts_of named)
-none_named starts [] h = refl
-none_named starts (n ∷ ns) h = let z = eqb-true (length (n ∷ ns)) 0 h in absurd (omega arith)
-
-pub some_named : (starts named all : List (Bor (List ℕ))) (last : Bor (List ℕ)) → (length named == 0) ≡ false → all ≡ (starts ++ named) ++ last ∷ [] → last.now ≡ name_of Soi
-    → texts_of all ≡ all_starts (texts_of starts) (texts_of named)
-some_named starts [] all last h e s = absurd (let z : true ≡ false = h in cc)
-some_named starts (n ∷ ns) all last h e s =
-    let now : Bor (List ℕ) → Text = λ t. chars t.now in
-    ap texts_of e
-    ∙ (map-append now (starts ++ n ∷ ns) (last ∷ [])
-    ∙ (ap (λ l. l ++ chars last.now ∷ []) (map-append now starts (n ∷ ns))
-    ∙ ap (λ t. (texts_of starts ++ texts_of (n ∷ ns)) ++ t ∷ []) (name_characters Soi last.now s)))

@@ -1,4 +1,6 @@
 pub mod Diagnosing
-pub mod Listing
 pub mod Ends
 pub mod Forms
+pub mod Joining
+pub mod Listing
+pub mod Parts

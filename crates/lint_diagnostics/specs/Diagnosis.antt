@@ -1,11 +1,11 @@
 -- The diagnostics of a text.
-use Rattle.std.specs.Prelude.{ℕ, List, [], ◌∷◌, Bool, false, true, ◌++◌, All, chars, drop, length, map, string_bytes}
+use Rattle.std.specs.Prelude.{◌≡◌, ℕ, List, [], ◌∷◌, Bool, false, true, ◌++◌, All, chars, drop, length, map, string_bytes}
 use Rattle.std.specs.Borrow.{Bor}
 use Rattle.std.specs.List.{AllZip}
 use Rattle.lint_findings.specs.Allowances.{LeavesOutAllowed}
 use Rattle.lint_findings.specs.Codes.{chosen_warnings, warning}
 use Rattle.lint_findings.specs.Reports.{ReportsError, ReportsWarning}
-use Rattle.lint_findings.specs.Starts.{IsNamedStart}
+use Rattle.lint_findings.specs.Starts.{names_of, stated_starts, unknown_starts}
 use Rattle.lint_findings.specs.declared.codes.Code.TheVariants as code
 use Rattle.lint_findings.specs.declared.diagnostic.Diagnostic.{Diagnostic}
 use Rattle.base_language.specs.Language.State.{Trees}
@@ -18,7 +18,6 @@ use Rattle.front_names.specs.declared.builtin.Builtin.TheVariants.{Soi}
 use Rattle.front_reader.specs.Reading.{ReadsRules}
 use Rattle.lint_diagnostics.specs.Messages.{ReportsDifference}
 use Rattle.lint_hints.specs.declared.help.Related.{Related}
-use Rattle.lint_warnings.specs.Lists.{texts_of}
 use Rattle.lint_patterns.specs.Rewritten.{FindsLists, is_optional_name}
 use Rattle.front_spanned.specs.Spanned.{Span, SpannedRule}
 use Rattle.pest_meta.specs.Spelling.{HasAnswer, HasTrees, IsRefusedWith}
@@ -45,24 +44,27 @@ pub record ReportRules (has_all : Bool) (starts : List Text) (text : List ℕ) (
   pub last : AllZip (ReportsList text) lists
       (drop (length (chosen_warnings has_all starts rules)) diagnostics)
 
--- these starts, and those that a comment names; with them the first rule is not taken for one
+-- these starts, and those that a text states; with them the first rule is not taken for one
 abbrev pub all_starts : List Text → List Text → List Text
 all_starts starts [] = starts
 all_starts starts (n ∷ ns) = starts ++ (n ∷ ns) ++ name_of Soi ∷ []
 
--- the diagnostics report the warnings of the rules that a text's trees are read as, all of them or not, but
--- for those that its comments allow; starts are also those that a comment names
+-- the diagnostics report the starts that a text states and no rule has, and then the warnings of the rules
+-- that its trees are read as, all of them or not, but for those that its comments allow; starts are also
+-- those that the text states
 pub record ReportWarnings (has_all : Bool) (starts : List Text) (text : List ℕ)
     (diagnostics : List Diagnostic) : Type 0 where
   pub trees : Trees
   pub of_text : HasTrees text trees
   pub rules : List SpannedRule
   pub read : ReadsRules text trees rules
+  pub strays : List Diagnostic
+  pub unknown : AllZip ReportsWarning (map (warning code.UnknownStart) (unknown_starts text rules)) strays
   pub all : List Diagnostic
-  pub named : List (Bor (List ℕ))
-  pub stated : All (λ name. IsNamedStart text name.now) named
-  pub each : ReportRules has_all (all_starts starts (texts_of named)) text rules all
-  pub left : LeavesOutAllowed text rules all diagnostics
+  pub each : ReportRules has_all (all_starts starts (names_of (stated_starts text))) text rules all
+  pub shown : List Diagnostic
+  pub left : LeavesOutAllowed text rules all shown
+  pub whole : diagnostics ≡ strays ++ shown
 
 -- this holds where the text is accepted and spells these rules
 abbrev pub IfSpells : List ℕ → List SpannedRule → Type 0 → Type 0

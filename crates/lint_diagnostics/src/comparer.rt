@@ -131,7 +131,7 @@ fn end_of(
     ensures { IfOk result (λ found.
         IfSome found (EndsAs (grammar_in matcher.now) (chars rule.now) text.now)) }
 {
-    match matcher.parse(alloc, rule, text, MOST_STEPS) {
+    match matcher.match_text(alloc, rule, text, MOST_STEPS) {
         Ok(found) => Ok(Some(RuleEnd::At(found.end))),
         Err(Refusal::NoMatch(_)) => Ok(Some(RuleEnd::Failure)),
         Err(Refusal::Stopped(Stop::Memory)) => Err(AllocError),

@@ -7,12 +7,12 @@ mod difference;
 mod samples;
 mod texts;
 
-ghost use Rattle.std.specs.Prelude.{◌≡◌, ℕ, All, Bool, IfOk, IfSome, List, chars, false, string_bytes, true};
-ghost use Rattle.std.specs.Borrow.{Bor};
+ghost use Rattle.std.specs.Prelude.{◌≡◌, IfOk, IfSome, chars, false, map, string_bytes, true};
 ghost use Rattle.std.specs.List.{AllZip, list_any};
 ghost use Rattle.lint_findings.specs.Codes.{chosen_warnings};
 ghost use Rattle.lint_findings.specs.Reports.{ReportsError, ReportsWarning, is_error};
-ghost use Rattle.lint_findings.specs.Starts.{IsNamedStart};
+ghost use Rattle.lint_findings.specs.Fragments.{fragment_of};
+ghost use Rattle.lint_findings.specs.Starts.{names_of};
 ghost use Rattle.lint_diagnostics.specs.Diagnosis.{IsDiagnosis, IsDiagnosisWith, IsFullDiagnosis};
 ghost use Rattle.lint_diagnostics.specs.Diagnosis.{AreTrueNotes, IfSpells, ReportRules, ReportWarnings, all_starts};
 ghost use Rattle.lint_diagnostics.specs.Diagnosis.{ReportsList};
@@ -31,8 +31,8 @@ use front_names::Builtin;
 use front_spanned::ParserRule;
 pub use lint_findings::{ALL_CODES, Code, Diagnostic, Fix, Help, Options, Related, Severity};
 use lint_findings::{
-    diagnose_all_rules, diagnose_errors, diagnose_list, diagnose_rules, leave_out_allowed,
-    named_starts,
+    Fragment, diagnose_all_rules, diagnose_errors, diagnose_list, diagnose_rules, diagnose_starts,
+    leave_out_allowed, stated_starts,
 };
 use lint_patterns::rewritten_lists;
 use pest_meta::parse_with_spans;
@@ -140,45 +140,50 @@ fn diagnose_accepted(
         (ReportWarnings has_all (texts_of starts.now) text.now diagnostics.items)) }
 {
     let rules = Deep { value: rules };
-    let diagnostics = warn_from(alloc, text, &rules.value, starts, has_all)?;
-    leave_out_allowed(alloc, text, &rules.value, diagnostics)
+    let stated = stated_starts(alloc, text)?;
+    let mut diagnostics = diagnose_starts(alloc, &rules.value, &stated)?;
+    let warnings = warn_from(alloc, text, &rules.value, starts, &stated, has_all)?;
+    let mut left = leave_out_allowed(alloc, text, &rules.value, warnings)?;
+    diagnostics.append(&mut left)?;
+    Ok(diagnostics)
 }
 
-/// The warnings of rules that a text spells, all of them or not, where starts are also those that a comment
-/// of the text names.
+/// The warnings of rules that a text spells, all of them or not, where starts are also those that it states
+/// itself.
 fn warn_from(
     alloc: Global,
     text: &str,
     rules: &[ParserRule<'_>],
     starts: &[&str],
+    stated: &[Fragment<'_>],
     has_all: bool,
 ) -> Result<Vec<Diagnostic>, AllocError>
-    ensures { IfOk result (λ diagnostics. (named : List (Bor (List ℕ)))
-        × All (λ name. IsNamedStart text.now name.now) named
-        × ReportRules has_all (all_starts (texts_of starts.now) (texts_of named)) text.now
+    ensures { IfOk result (λ diagnostics. ReportRules has_all
+        (all_starts (texts_of starts.now) (names_of (map fragment_of stated.now))) text.now
         (rule_views rules.now) diagnostics.items) }
 {
-    let named = named_starts(alloc, text)?;
-    let all = join_starts(alloc, starts, &named)?;
+    let all = join_starts(alloc, starts, stated)?;
     warn_of(alloc, text, rules, &all, has_all)
 }
 
-/// Starts, and those that a comment names. Where it names some, `SOI` is among them, so that the first rule
-/// is not taken for a start.
+/// Starts, and those that a text states itself. Where it states some, `SOI` is among them, so that the first
+/// rule is not taken for a start.
 fn join_starts<'s>(
     alloc: Global,
     starts: &[&'s str],
-    named: &[&'s str],
+    stated: &[Fragment<'s>],
 ) -> Result<Vec<&'s str>, AllocError>
-    ensures { IfOk result (λ all.
-        texts_of all.items ≡ all_starts (texts_of starts.now) (texts_of named.now)) }
+    ensures { IfOk result (λ all. texts_of all.items
+        ≡ all_starts (texts_of starts.now) (names_of (map fragment_of stated.now))) }
 {
     let mut all = Vec::new(alloc);
     all.extend_from_slice(starts)?;
-    if named.is_empty() {
+    if stated.is_empty() {
         return Ok(all);
     }
-    all.extend_from_slice(named)?;
+    for name in stated {
+        all.push(name.text)?;
+    }
     all.push(Builtin::Soi.name())?;
     Ok(all)
 }

@@ -1,8 +1,8 @@
 -- Helps of errors.
-use Rattle.std.proofs.Common.{◌≡◌, ◌∙◌, ◌+◌, ◌<◌, ℕ, List, [], ◌∷◌, ◌++◌, Bor, Err, IfOk, IfSome, None, Ok, Option, Result, Some, ap, ap₂, get_or, inl, inr, length, map, string_bytes, sym, take}
+use Rattle.std.proofs.Common.{◌≡◌, ◌∙◌, ◌+◌, ◌<◌, ℕ, List, [], ◌∷◌, ◌++◌, Bor, Err, IfOk, IfSome, None, Ok, Option, Result, Some, ap, ap₂, get_or, length, map, string_bytes, sym, take}
 use Rattle.std.proofs.lemmas.List.{map-append, take_more}
 use Rattle.std.specs.Prelude.{IsSomeAnd, codes}
-use Rattle.lint_findings.specs.Helps.{IsCustomHelp, IsListedHelp, IsSuggestion}
+use Rattle.lint_findings.specs.Helps.{IsCustomHelp, IsSuggestion}
 use Rattle.lint_findings.specs.declared.codes.Code.{Code}
 use Rattle.lint_findings.specs.declared.codes.Code.TheVariants as code
 use Rattle.front_names.specs.Builtins.{name_of}
@@ -12,14 +12,14 @@ use Rattle.lint_hints.specs.declared.help.Fix.{Fix}
 use Rattle.lint_hints.specs.declared.help.Help.{Help}
 
 -- a suggestion is a help for an undefined name
-pub suggested : {E : Type 0} (c : Code) (result : Result (Option Help) E) → c ≡ code.UndefinedRule → IfOk result (λ help. IfSome help IsSuggestion) → IfOk result (IsCustomHelp c)
-suggested c (Ok help) e s = inr (e, s)
-suggested c (Err x) e s = tt
+pub suggested : {E : Type 0} (c : Code) (result : Result (Option Help) E) → IfOk result (λ help. IfSome help IsSuggestion) → IfOk result (IsCustomHelp c)
+suggested c (Ok help) s = λ e. s
+suggested c (Err x) s = tt
 
--- and one that is listed for its code
-pub listed : {E : Type 0} (c : Code) (result : Result (Option Help) E) → IfOk result (IsListedHelp c) → IfOk result (IsCustomHelp c)
-listed c (Ok help) l = inl l
-listed c (Err x) l = tt
+-- and another code needs none
+pub unsuggested : {E : Type 0} (c : Code) (result : Result (Option Help) E) → (c ≡ code.UndefinedRule → ⊥) → IfOk result (IsCustomHelp c)
+unsuggested c (Ok help) n = λ e. absurd (n e)
+unsuggested c (Err x) n = tt
 
 -- the message has the text of the fix
 pub suggests : (fix : Option Fix) (message : List ℕ) (start end : ℕ) (name : List ℕ) → IsSomeAnd fix (IsReplacement start end name) → message ≡ codes "did you mean `" ++ (name ++ codes "`?")

@@ -1,5 +1,8 @@
+pub mod Above
 pub mod Allowed
 pub mod Helping
 pub mod Named
-pub mod Zips
+pub mod Placing
+pub mod Straying
 pub mod Telling
+pub mod Zips

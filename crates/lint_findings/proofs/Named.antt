@@ -51,18 +51,19 @@ each_of f code.TagWithoutToken all = all.1.1.1.1.1.1.1.1.1.1.1.0
 each_of f code.UnusedAllowance all = all.1.1.1.1.1.1.1.1.1.1.1.1.0
 each_of f code.UncalledRule all = all.1.1.1.1.1.1.1.1.1.1.1.1.1.0
 each_of f code.MissingEnd all = all.1.1.1.1.1.1.1.1.1.1.1.1.1.1.0
-each_of f code.Unreachable all = all.1.1.1.1.1.1.1.1.1.1.1.1.1.1.1.0
-each_of f code.ReversedRange all = all.1.1.1.1.1.1.1.1.1.1.1.1.1.1.1.1.0
-each_of f code.ReversedCount all = all.1.1.1.1.1.1.1.1.1.1.1.1.1.1.1.1.1.0
-each_of f code.IdleTest all = all.1.1.1.1.1.1.1.1.1.1.1.1.1.1.1.1.1.1.0
-each_of f code.NeverMatches all = all.1.1.1.1.1.1.1.1.1.1.1.1.1.1.1.1.1.1.1.0
-each_of f code.BlanksInToken all = all.1.1.1.1.1.1.1.1.1.1.1.1.1.1.1.1.1.1.1.1.0
-each_of f code.ManyCopies all = all.1.1.1.1.1.1.1.1.1.1.1.1.1.1.1.1.1.1.1.1.1.0
-each_of f code.RepeatedAlternative all = all.1.1.1.1.1.1.1.1.1.1.1.1.1.1.1.1.1.1.1.1.1.1.0
-each_of f code.RewrittenList all = all.1.1.1.1.1.1.1.1.1.1.1.1.1.1.1.1.1.1.1.1.1.1.1.0
-each_of f code.KeywordName all = all.1.1.1.1.1.1.1.1.1.1.1.1.1.1.1.1.1.1.1.1.1.1.1.1.0
-each_of f code.BuiltinName all = all.1.1.1.1.1.1.1.1.1.1.1.1.1.1.1.1.1.1.1.1.1.1.1.1.1.0
-each_of f code.RepeatedBody all = all.1.1.1.1.1.1.1.1.1.1.1.1.1.1.1.1.1.1.1.1.1.1.1.1.1.1.0
+each_of f code.UnknownStart all = all.1.1.1.1.1.1.1.1.1.1.1.1.1.1.1.0
+each_of f code.Unreachable all = all.1.1.1.1.1.1.1.1.1.1.1.1.1.1.1.1.0
+each_of f code.ReversedRange all = all.1.1.1.1.1.1.1.1.1.1.1.1.1.1.1.1.1.0
+each_of f code.ReversedCount all = all.1.1.1.1.1.1.1.1.1.1.1.1.1.1.1.1.1.1.0
+each_of f code.IdleTest all = all.1.1.1.1.1.1.1.1.1.1.1.1.1.1.1.1.1.1.1.0
+each_of f code.NeverMatches all = all.1.1.1.1.1.1.1.1.1.1.1.1.1.1.1.1.1.1.1.1.0
+each_of f code.BlanksInToken all = all.1.1.1.1.1.1.1.1.1.1.1.1.1.1.1.1.1.1.1.1.1.0
+each_of f code.ManyCopies all = all.1.1.1.1.1.1.1.1.1.1.1.1.1.1.1.1.1.1.1.1.1.1.0
+each_of f code.RepeatedAlternative all = all.1.1.1.1.1.1.1.1.1.1.1.1.1.1.1.1.1.1.1.1.1.1.1.0
+each_of f code.RewrittenList all = all.1.1.1.1.1.1.1.1.1.1.1.1.1.1.1.1.1.1.1.1.1.1.1.1.0
+each_of f code.KeywordName all = all.1.1.1.1.1.1.1.1.1.1.1.1.1.1.1.1.1.1.1.1.1.1.1.1.1.0
+each_of f code.BuiltinName all = all.1.1.1.1.1.1.1.1.1.1.1.1.1.1.1.1.1.1.1.1.1.1.1.1.1.1.0
+each_of f code.RepeatedBody all = all.1.1.1.1.1.1.1.1.1.1.1.1.1.1.1.1.1.1.1.1.1.1.1.1.1.1.1.0
 
 -- a name that none of all codes has
 pub unknown : (name : List ℕ) → list_any (λ c. has_name c name) all_codes ≡ false → IsUnknown name

@@ -1,9 +1,11 @@
 -- Comments that allow warnings of the rule below them.
-use Rattle.std.specs.Prelude.{◌≡◌, ◌≤◌, ℕ, List, ◌++◌, All, Any, Bool, false, ◌&&◌, not, IfSome, None, Option, Some, bytes_eq, codes, filter, nat_le, nat_lt, slice_range, string_bytes}
-use Rattle.std.specs.List.{AllZip, list_any}
-use Rattle.front_spanned.specs.Spanned.{SpannedRule, end_of}
-use Rattle.lint_findings.specs.Codes.{code_name, is_optional, message_of}
-use Rattle.lint_findings.specs.Helps.{IsListedHelp}
+use Rattle.std.specs.Prelude.{◌≡◌, ◌+◌, ◌-◌, ℕ, List, [], ◌∷◌, ◌++◌, All, Bool, false, ◌&&◌, not, None, Option, Some, bytes_eq, codes, drop, filter, find, if◌then◌else◌, length, map, nat_eq, nat_le, nat_lt, slice_get, take}
+use Rattle.std.specs.List.{AllZip, list_any, starts_with, suffix_len}
+use Rattle.std.specs.Option.{option_map_or}
+use Rattle.front_spanned.specs.Spanned.{SpannedRule, end_of, span_of}
+use Rattle.lint_findings.specs.Codes.{all_codes, code_name, is_optional}
+use Rattle.lint_findings.specs.Fragments.{Fragment, between, parts_at}
+use Rattle.lint_findings.specs.Starts.{is_blank, is_comment}
 use Rattle.lint_findings.specs.declared.allowances.Allowance.{Allowance}
 use Rattle.lint_findings.specs.declared.codes.Code.{Code}
 use Rattle.lint_findings.specs.declared.codes.Code.TheVariants as code
@@ -14,19 +16,48 @@ use Rattle.lint_findings.specs.declared.diagnostic.Diagnostic.{Diagnostic}
 abbrev pub comment_of : Code → List ℕ
 comment_of c = codes "// pest-lint: allow(" ++ (code_name c ++ codes ")")
 
--- an allowance of a code is written in the text
-abbrev pub IsWritten : List ℕ → Allowance → Type 0
-IsWritten text a = IfSome a.code (λ c. slice_range text a.start a.end ≡ comment_of c)
+-- the code that a comment allows, if it is such a comment
+abbrev pub code_in : List ℕ → Option Code
+code_in comment = find (λ c. bytes_eq comment (comment_of c)) all_codes
 
--- an allowance is above the rule, and goes for the bytes from its name to its body's end
-pub record IsAbove (allowance : Allowance) (rule : SpannedRule) : Type 0 where
-  pub above : allowance.end ≤ allowance.first
-  pub first : allowance.first ≡ rule.span.start
-  pub last : allowance.last ≡ end_of rule.body
+-- a comment above a rule goes for the bytes from its name to its body's end
+abbrev pub allowance_of : SpannedRule → Fragment → Allowance
+allowance_of rule comment = record {
+  code = code_in comment.text;
+  start = comment.start;
+  end = comment.start + length comment.text;
+  first = rule.span.start;
+  last = end_of rule.body;
+}
 
-pub record IsAllowance (text : List ℕ) (rules : List SpannedRule) (allowance : Allowance) : Type 0 where
-  pub written : IsWritten text allowance
-  pub above : Any (IsAbove allowance) rules
+-- the comments that stand last among lines
+abbrev pub last_comments : List Fragment → List Fragment
+last_comments lines = drop (length lines - suffix_len is_comment lines) lines
+
+abbrev pub has_blank_end : List Fragment → Bool
+has_blank_end lines = option_map_or is_blank (slice_get lines (length lines - 1)) false
+
+-- the comments right above the last of some lines, which has nothing before a rule's name
+abbrev pub comments_above : List Fragment → List Fragment
+comments_above lines =
+    if has_blank_end lines then last_comments (take (length lines - 1) lines) else []
+
+abbrev pub is_allowance : Fragment → Bool
+is_allowance comment = starts_with nat_eq comment.text (codes "// pest-lint:")
+
+-- the allowances right above a rule, from a byte on
+abbrev pub allowances_above : List ℕ → ℕ → SpannedRule → List Allowance
+allowances_above text from rule = map (allowance_of rule)
+    (filter is_allowance (comments_above (parts_at 10 (between text from rule.span.start))))
+
+-- the allowances above each of some rules, from a byte on
+abbrev pub allowances_from : List ℕ → ℕ → List SpannedRule → List Allowance
+allowances_from text from [] = []
+allowances_from text from (rule ∷ rules) =
+    allowances_above text from rule ++ allowances_from text (end_of rule.body) rules
+
+abbrev pub allowances_in : List ℕ → List SpannedRule → List Allowance
+allowances_in text rules = allowances_from text 0 rules
 
 -- a diagnostic is allowed that has the code and begins in the rule
 abbrev pub has_code : Option Code → Code → Bool
@@ -57,18 +88,26 @@ is_unused diagnostics a = not (is_of_option a.code) && not (is_used diagnostics 
 
 -- the diagnostic warns of a comment that allows nothing
 pub record WarnsOf (allowance : Allowance) (diagnostic : Diagnostic) : Type 0 where
-  pub help : IsListedHelp code.UnusedAllowance diagnostic.help
   pub severity : diagnostic.severity ≡ severity.Warning
   pub code : diagnostic.code ≡ code.UnusedAllowance
   pub start : diagnostic.start ≡ allowance.start
   pub end : diagnostic.end ≡ allowance.end
-  pub message : string_bytes diagnostic.message ≡ message_of diagnostic.code
 
--- of all diagnostics those are left that nothing allows, and comments that allow nothing are warned of
+-- of all comments that allow warnings the first 256 count; useless are others, and all that allow nothing
+abbrev pub counted : List ℕ → List SpannedRule → List Allowance
+counted text rules = take 256 (allowances_in text rules)
+
+abbrev pub useless : List ℕ → List SpannedRule → List Diagnostic → List Allowance
+useless text rules all = filter (is_unused all) (counted text rules) ++ drop 256 (allowances_in text rules)
+
+-- of all diagnostics those are left that no comment allows, and comments that allow nothing are warned of
 pub record LeavesOutAllowed (text : List ℕ) (rules : List SpannedRule) (all left : List Diagnostic)
     : Type 0 where
-  pub allowances : List Allowance
-  pub each : All (IsAllowance text rules) allowances
   pub unused : List Diagnostic
-  pub warned : AllZip WarnsOf (filter (is_unused all) allowances) unused
-  pub rest : left ≡ filter (is_left allowances) all ++ unused
+  pub warned : AllZip WarnsOf (useless text rules all) unused
+  pub rest : left ≡ filter (is_left (counted text rules)) all ++ unused
+
+-- the names and the bodies of rules are parts of the text
+abbrev pub ArePartsOf : List ℕ → List SpannedRule → Type 0
+ArePartsOf text rules =
+    All (λ rule. (rule.span.text ≡ text) × ((span_of rule.body).text ≡ text)) rules

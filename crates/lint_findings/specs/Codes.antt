@@ -1,4 +1,4 @@
--- Codes of warnings: their messages, and the spans at which a grammar has them.
+-- Codes, and the spans at which a grammar has those of warnings.
 use Rattle.std.specs.Prelude.{◌≡◌, ℕ, List, [], ◌∷◌, ◌++◌, Bool, true, false, ◌||◌, bytes_eq, codes, flat_map, if◌then◌else◌, map, take}
 use Rattle.base_language.specs.Language.Text.{Text}
 use Rattle.base_language.specs.Pieces.Saying.{Span}
@@ -24,6 +24,7 @@ abbrev pub severity_of : Code → Severity
 severity_of code.UnusedAllowance = severity.Warning
 severity_of code.UncalledRule = severity.Warning
 severity_of code.MissingEnd = severity.Warning
+severity_of code.UnknownStart = severity.Warning
 severity_of code.Unreachable = severity.Warning
 severity_of code.ReversedRange = severity.Warning
 severity_of code.ReversedCount = severity.Warning
@@ -98,28 +99,6 @@ all_warnings_of starts rules =
 abbrev pub chosen_warnings : Bool → List Text → List SpannedRule → List Warning
 chosen_warnings all starts rules = if all then all_warnings_of starts rules else warnings_of starts rules
 
--- the message of a warning
-abbrev pub message_of : Code → List ℕ
-message_of code.UnusedAllowance = codes "this allows nothing in the rule below"
-message_of code.UncalledRule = codes "no other rule calls this one"
-message_of code.MissingEnd = codes "this start never asks for the end of the text: what follows may be left"
-message_of code.Unreachable =
-    codes "this alternative is never taken: one before it begins all that it matches"
-message_of code.ReversedRange =
-    codes "this range matches nothing: its first character is above its last"
-message_of code.ReversedCount = codes "the first number is above the last, which alone counts"
-message_of code.IdleTest = codes "this changes nothing, since what it holds cannot fail"
-message_of code.NeverMatches = codes "this never matches"
-message_of code.BlanksInToken = codes "blanks are skipped between these characters"
-message_of code.ManyCopies = codes "the optimizer makes 10,000 copies or more of what this repeats"
-message_of code.RepeatedAlternative =
-    codes "this alternative is never taken: it is the same as one before it"
-message_of code.RewrittenList = codes "pest runs a list `(x ~ y)* ~ x` of this rule as `x ~ (y ~ x)*`"
-message_of code.KeywordName = codes "Rust keeps this name for itself"
-message_of code.BuiltinName = codes "this name is that of a builtin"
-message_of code.RepeatedBody = codes "a rule before this one has the same type and body"
-message_of _ = []
-
 -- names of codes and severities
 abbrev pub code_name : Code → List ℕ
 code_name code.Syntax = codes "pest::syntax"
@@ -137,6 +116,7 @@ code_name code.TagWithoutToken = codes "pest::tag_without_token"
 code_name code.UnusedAllowance = codes "pest::unused_allowance"
 code_name code.UncalledRule = codes "pest::uncalled_rule"
 code_name code.MissingEnd = codes "pest::missing_end"
+code_name code.UnknownStart = codes "pest::unknown_start"
 code_name code.Unreachable = codes "pest::unreachable"
 code_name code.ReversedRange = codes "pest::reversed_range"
 code_name code.ReversedCount = codes "pest::reversed_count"
@@ -151,12 +131,13 @@ code_name code.BuiltinName = codes "pest::builtin_name"
 code_name code.RepeatedBody = codes "pest::repeated_body"
 
 abbrev pub all_codes : List Code
-all_codes = code.Syntax ∷ code.EscapeValue ∷ code.NumberRange ∷ code.ZeroRepetition ∷ code.ReservedName
-    ∷ code.DuplicateRule ∷ code.UndefinedRule ∷ code.MissingProperty ∷ code.LeftRecursion
-    ∷ code.EndlessRepetition ∷ code.UnreachableChoice ∷ code.TagWithoutToken ∷ code.UnusedAllowance
-    ∷ code.UncalledRule ∷ code.MissingEnd ∷ code.Unreachable ∷ code.ReversedRange ∷ code.ReversedCount
-    ∷ code.IdleTest ∷ code.NeverMatches ∷ code.BlanksInToken ∷ code.ManyCopies ∷ code.RepeatedAlternative
-    ∷ code.RewrittenList ∷ code.KeywordName ∷ code.BuiltinName ∷ code.RepeatedBody ∷ []
+all_codes = code.Syntax ∷ code.EscapeValue ∷ code.NumberRange ∷ code.ZeroRepetition ∷ code.ReservedName ∷
+    code.DuplicateRule ∷ code.UndefinedRule ∷ code.MissingProperty ∷ code.LeftRecursion ∷
+    code.EndlessRepetition ∷ code.UnreachableChoice ∷ code.TagWithoutToken ∷ code.UnusedAllowance ∷
+    code.UncalledRule ∷ code.MissingEnd ∷ code.UnknownStart ∷ code.Unreachable ∷ code.ReversedRange ∷
+    code.ReversedCount ∷ code.IdleTest ∷ code.NeverMatches ∷ code.BlanksInToken ∷ code.ManyCopies ∷
+    code.RepeatedAlternative ∷ code.RewrittenList ∷ code.KeywordName ∷ code.BuiltinName ∷
+    code.RepeatedBody ∷ []
 
 -- how each of their names begins
 abbrev pub pest : List ℕ

@@ -6,13 +6,13 @@ use Rattle.base_language.specs.declared.runtime.errors.ErrorVariant.{ErrorVarian
 use Rattle.base_language.specs.declared.runtime.errors.ErrorVariant.TheVariants as variant
 use Rattle.base_language.specs.declared.runtime.errors.InputLocation.{InputLocation}
 use Rattle.base_language.specs.declared.runtime.errors.InputLocation.TheVariants as at
-use Rattle.lint_findings.specs.Codes.{Warning, message_of}
+use Rattle.lint_findings.specs.Codes.{Warning}
 use Rattle.lint_findings.specs.declared.codes.Code.{Code}
 use Rattle.lint_findings.specs.declared.codes.Code.TheVariants as code
 use Rattle.lint_findings.specs.declared.codes.Severity.{Severity}
 use Rattle.lint_findings.specs.declared.codes.Severity.TheVariants as severity
 use Rattle.lint_findings.specs.declared.diagnostic.Diagnostic.{Diagnostic}
-use Rattle.lint_findings.specs.Helps.{IsCustomHelp, IsKnownHelp, IsListedHelp}
+use Rattle.lint_findings.specs.Helps.{IsCustomHelp, IsKnownHelp}
 use Rattle.lint_hints.specs.declared.help.Help.{Help}
 
 -- an error's own message; a syntax error has none
@@ -51,11 +51,9 @@ pub record ReportsError (error : Error Rule) (diagnostic : Diagnostic) : Type 0 
   pub message : IsMessageOf error.variant (string_bytes diagnostic.message)
   pub help : IsHelpOf error.variant diagnostic.code diagnostic.help
 
--- the diagnostic reports a warning
+-- the diagnostic reports a warning; messages and helps are tested by examples/lint
 pub record ReportsWarning (warning : Warning) (diagnostic : Diagnostic) : Type 0 where
   pub severity : diagnostic.severity ≡ severity.Warning
   pub code : diagnostic.code ≡ warning.code
   pub start : diagnostic.start ≡ warning.span.start
   pub end : diagnostic.end ≡ warning.span.end
-  pub message : string_bytes diagnostic.message ≡ message_of warning.code
-  pub help : IsListedHelp warning.code diagnostic.help

@@ -1,16 +1,59 @@
--- Starts that a comment names.
-use Rattle.std.specs.Prelude.{◌≡◌, ◌≤◌, ℕ, List, codes, slice_range}
+-- Starts that a comment of a text names.
+use Rattle.std.specs.Prelude.{ℕ, ◌+◌, ◌==◌, List, [], Bool, ◌||◌, not, None, Option, Some, codes, chars, drop, filter, find, length, map, nat_eq}
+use Rattle.std.specs.List.{before_first, starts_with, take_while}
+use Rattle.base_language.specs.Language.Builtins.{is_one_of}
+use Rattle.base_language.specs.Language.Text.{Text}
+use Rattle.base_language.specs.Pieces.Saying.{Span, piece}
+use Rattle.front_spanned.specs.Spanned.{SpannedRule}
+use Rattle.lint_findings.specs.Fragments.{Fragment, parts_at, whole}
 
--- a name between the brackets of a comment `//! pest-lint: start(..)` of the text
-pub record IsNamedStart (text name : List ℕ) : Type 0 where
-  pub start : ℕ
-  pub inside : ℕ
-  pub first : ℕ
-  pub last : ℕ
-  pub close : ℕ
-  pub end : ℕ
-  pub begins : slice_range text start inside ≡ codes "//! pest-lint: start("
-  pub behind : inside ≤ first
-  pub named : slice_range text first last ≡ name
-  pub before : last ≤ close
-  pub ends : slice_range text close end ≡ codes ")"
+abbrev pub is_blank : Fragment → Bool
+is_blank line = length line.text == 0
+
+abbrev pub is_comment : Fragment → Bool
+is_comment line = starts_with nat_eq line.text (codes "//")
+
+abbrev pub is_remark : Fragment → Bool
+is_remark line = is_blank line || is_comment line
+
+-- how a comment that names starts begins
+abbrev pub start_prefix : List ℕ
+start_prefix = codes "//! pest-lint: start("
+
+abbrev pub has_starts : Fragment → Bool
+has_starts line = starts_with nat_eq line.text start_prefix
+
+-- the comment before the rules of a text that names starts: the first such line, where all lines before it
+-- are blank or comments
+abbrev pub start_comment : List ℕ → Option Fragment
+start_comment text = find has_starts (take_while is_remark (parts_at 10 (whole text)))
+
+-- the part of such a comment behind its bracket, up to the next one or to its end
+abbrev pub inside : Fragment → Fragment
+inside comment = record {
+  start = comment.start + length start_prefix;
+  text = before_first (λ b. b == 41) (drop (length start_prefix) comment.text);
+}
+
+-- the names in it, between commas
+abbrev pub names_in : Option Fragment → List Fragment
+names_in None = []
+names_in (Some comment) = filter (λ name. not (is_blank name)) (parts_at 44 (inside comment))
+
+abbrev pub stated_starts : List ℕ → List Fragment
+stated_starts text = names_in (start_comment text)
+
+-- their characters
+abbrev pub names_of : List Fragment → List Text
+names_of names = map (λ name. chars name.text) names
+
+-- no rule has the name
+abbrev pub is_unknown : List SpannedRule → Fragment → Bool
+is_unknown rules name = not (is_one_of (map (λ rule. rule.name) rules) (chars name.text))
+
+-- the place of a fragment in a text
+abbrev pub place_of : List ℕ → Fragment → Span
+place_of text name = piece text name.start (name.start + length name.text)
+
+abbrev pub unknown_starts : List ℕ → List SpannedRule → List Span
+unknown_starts text rules = map (place_of text) (filter (is_unknown rules) (stated_starts text))

@@ -1,14 +1,18 @@
 //! Comments that allow warnings.
-ghost use Rattle.std.specs.Prelude.{◌≡◌, ℕ, List, All, Any, IfOk, IfSome, OnOk, filter, true};
-ghost use Rattle.std.specs.List.{AllZip};
+ghost use Rattle.std.specs.Prelude.{◌≡◌, ◌∷◌, ◌++◌, [], ◌-◌, ◌<◌, ◌≤◌, IfOk, OnOk};
+ghost use Rattle.std.specs.Prelude.{bytes_eq, filter, length, map, true};
+ghost use Rattle.std.specs.List.{AllZip, suffix_len};
 ghost use Rattle.lint_findings.specs.Allowances as spec;
-ghost use Rattle.lint_findings.specs.Allowances.{IsAbove, IsAllowance, IsWritten, LeavesOutAllowed, WarnsOf};
+ghost use Rattle.lint_findings.specs.Allowances.{ArePartsOf, LeavesOutAllowed, WarnsOf};
+ghost use Rattle.lint_findings.specs.Fragments.{fragment_of, parts_at};
+ghost use Rattle.lint_findings.specs.Starts.{is_comment};
 ghost use Rattle.front_spanned.specs.Nodes.{rule_view, rule_views};
-ghost use Rattle.front_spanned.specs.Spanned.{SpannedRule};
 
-use crate::codes::{ALL_CODES, Code};
+use crate::codes::{Code, all_codes};
 use crate::diagnostic::Diagnostic;
+use crate::fragments::Fragment;
 use crate::helps::allowance_help;
+use crate::starts::is_comment;
 use crate::warnings::message_of;
 use front_spanned::ParserRule;
 use std::alloc::{AllocError, Global};
@@ -16,7 +20,7 @@ use std::alloc::{AllocError, Global};
 /// How a comment that allows warnings begins.
 const PREFIX: &str = "// pest-lint:";
 
-/// The most comments of a text that allow warnings.
+/// The most comments of a text that count.
 const MOST_ALLOWANCES: usize = 256;
 
 /// A comment that allows warnings of a code in the rule below it. Positions are bytes.
@@ -36,22 +40,25 @@ pub struct Allowance {
 
 /// Leaves out the warnings that comments in a text of these rules allow, and adds one for each such comment
 /// that allows nothing. A comment `// pest-lint: allow(CODE)` allows the warnings of a code that begin in a
-/// rule. Only the lines that begin with `//` right above the line of the rule's name count, and the first 256
-/// such comments of a text. The only error is an allocation failure.
+/// rule. Only the lines that begin with `//` right above the line of the rule's name count, and of a text the
+/// first 256 such comments; further ones are told as comments that allow nothing. The only error is an
+/// allocation failure.
 pub fn leave_out_allowed(
     alloc: Global,
     text: &str,
     rules: &[ParserRule<'_>],
     diagnostics: Vec<Diagnostic>,
 ) -> Result<Vec<Diagnostic>, AllocError>
-    ensures { IfOk result (λ left.
-        LeavesOutAllowed text.now (rule_views rules.now) diagnostics.items left.items) }
+    ensures { IfOk result (λ left. ArePartsOf text.now (rule_views rules.now)
+        → LeavesOutAllowed text.now (rule_views rules.now) diagnostics.items left.items) }
 {
     let allowances = find_allowances(alloc, text, rules)?;
-    let useless = unused_among(alloc, &allowances, &diagnostics)?;
-    let mut warnings = warn_of(alloc, &useless)?;
+    let (counted, others) = allowances.split_at(allowances.len().min(MOST_ALLOWANCES));
+    let useless = unused_among(alloc, counted, &diagnostics)?;
+    let mut warnings = warn_of(alloc, &useless, true)?;
+    warnings.append(&mut warn_of(alloc, others, false)?)?;
     let mut left = diagnostics;
-    retain_others(&allowances, &mut left);
+    retain_others(counted, &mut left);
     left.append(&mut warnings)?;
     Ok(left)
 }
@@ -62,117 +69,118 @@ fn find_allowances(
     text: &str,
     rules: &[ParserRule<'_>],
 ) -> Result<Vec<Allowance>, AllocError>
-    ensures { IfOk result (λ found. All (IsAllowance text.now (rule_views rules.now)) found.items) }
+    ensures { IfOk result (λ found. ArePartsOf text.now (rule_views rules.now)
+        → found.items ≡ spec.allowances_in text.now (rule_views rules.now)) }
 {
     let mut found = Vec::new(alloc);
     let mut from = 0;
     for rule in rules {
-        let comments = comments_above(alloc, text, from, rule.span.start())?;
-        add_allowances(alloc, text, rule, &comments, &mut found)?;
+        let gap = Fragment::between(text, from, rule.span.start());
+        add_allowances(alloc, gap, rule, &mut found)?;
         from = rule.node.span.end();
     }
     Ok(found)
 }
 
-/// The bytes of the lines with `//` right above the line of a byte, without the blanks around each, from
-/// another byte on.
-fn comments_above(
-    alloc: Global,
-    text: &str,
-    from: usize,
-    to: usize,
-) -> Result<Vec<(usize, usize)>, AllocError> {
-    let mut comments = Vec::new(alloc);
-    let gap = text.get(from..to).unwrap_or("");
-    let (above, own) = gap.rsplit_once('\n').unwrap_or(("", gap));
-    let is_own = own.trim().is_empty();
-    let mut at = from;
-    for line in above.split('\n') {
-        let comment = line.trim();
-        if is_own && comment.starts_with("//") {
-            let blanks = line.len().saturating_sub(line.trim_start().len());
-            let start = at.saturating_add(blanks);
-            comments.push((start, start.saturating_add(comment.len())))?;
-        } else {
-            comments.clear();
-        }
-        at = at.saturating_add(line.len()).saturating_add(1);
-    }
-    Ok(comments)
-}
-
-/// Adds the allowances among comments above a rule.
+/// Adds what the comments right above a rule allow, which are in the text before its name.
 fn add_allowances(
     alloc: Global,
-    text: &str,
+    gap: Fragment<'_>,
     rule: &ParserRule<'_>,
-    comments: &[(usize, usize)],
     found: &mut Vec<Allowance>,
 ) -> Result<(), AllocError>
-    ensures { OnOk result ((rules : List SpannedRule) → Any (λ other. other ≡ rule_view rule.now) rules
-        → All (IsAllowance text.now rules) found.old.items
-        → All (IsAllowance text.now rules) found.new.items) }
+    ensures { OnOk result (found.new.items ≡ found.old.items ++ map (spec.allowance_of (rule_view rule.now))
+        (filter spec.is_allowance (spec.comments_above (parts_at 10 (fragment_of gap.entry))))) }
 {
-    for comment in comments {
-        let (start, end) = *comment;
-        let allowance = allowance_at(alloc, text, rule, start, end)?;
-        push_allowance(allowance, found)?;
+    let lines = gap.split(alloc, '\n')?;
+    for comment in comments_above(&lines) {
+        add_allowance(alloc, *comment, rule, found)?;
     }
     Ok(())
 }
 
-/// Adds an allowance, if it is one and they are not too many.
-fn push_allowance(
-    allowance: Option<Allowance>,
-    found: &mut Vec<Allowance>,
-) -> Result<(), AllocError>
-    ensures { OnOk result ((text : List ℕ) (rules : List SpannedRule)
-        → IfSome allowance (IsAllowance text rules)
-        → All (IsAllowance text rules) found.old.items
-        → All (IsAllowance text rules) found.new.items) }
-{
-    if let Some(allowance) = allowance {
-        if found.len() < MOST_ALLOWANCES {
-            found.push(allowance)?;
-        }
-    }
-    Ok(())
-}
-
-/// The allowance that the bytes `start..end` above a rule are, if they begin as one.
-fn allowance_at(
+/// Adds what a comment above a rule allows, if it is one that allows warnings.
+fn add_allowance(
     alloc: Global,
-    text: &str,
+    comment: Fragment<'_>,
     rule: &ParserRule<'_>,
-    start: usize,
-    end: usize,
-) -> Result<Option<Allowance>, AllocError>
-    ensures written { IfOk result (λ answer. IfSome answer (IsWritten text.now)) }
-    ensures above { IfOk result (λ answer. IfSome answer (λ allowance.
-        IsAbove allowance (rule_view rule.now))) }
+    found: &mut Vec<Allowance>,
+) -> Result<(), AllocError>
+    ensures { OnOk result (found.new.items ≡ found.old.items ++ map (spec.allowance_of (rule_view rule.now))
+        (filter spec.is_allowance (fragment_of comment.entry ∷ []))) }
 {
-    let first = rule.span.start();
-    let Some(comment) = text.get(start..end) else {
-        return Ok(None);
-    };
-    if end > first || !comment.starts_with(PREFIX) {
-        return Ok(None);
+    if !is_allowance(comment) {
+        return Ok(());
     }
-    let code = code_in(alloc, comment)?;
-    Ok(Some(Allowance {
-        code,
-        start,
-        end,
-        first,
+    let allowance = allowance_of(alloc, comment, rule)?;
+    found.push(allowance)?;
+    Ok(())
+}
+
+/// Whether a comment is one that allows warnings.
+fn is_allowance(comment: Fragment<'_>) -> bool
+    ensures { result ≡ spec.is_allowance (fragment_of comment.entry) }
+{
+    comment.text.starts_with(PREFIX)
+}
+
+/// The comments right above the last of some lines, which has nothing before a rule's name.
+fn comments_above<'l, 't>(lines: &'l [Fragment<'t>]) -> &'l [Fragment<'t>]
+    ensures { map fragment_of result.now ≡ spec.comments_above (map fragment_of lines.entry.now) }
+{
+    if !has_blank_end(lines) {
+        return &lines[..0];
+    }
+    let above = &lines[..lines.len() - 1];
+    &above[first_of_comments(above)..]
+}
+
+/// Whether the last of some lines is blank.
+fn has_blank_end(lines: &[Fragment<'_>]) -> bool
+    ensures within { result ≡ true → 0 < length lines.now }
+    ensures blank { result ≡ spec.has_blank_end (map fragment_of lines.now) }
+{
+    match lines.last() {
+        Some(line) => line.text.is_empty(),
+        None => false,
+    }
+}
+
+/// The index of the first of the comments that stand last among lines.
+fn first_of_comments(lines: &[Fragment<'_>]) -> usize
+    ensures within { result ≤ length lines.now }
+    ensures first { result ≡ length lines.now - suffix_len is_comment (map fragment_of lines.now) }
+{
+    let mut first = lines.len();
+    while first > 0 && is_comment(lines[first - 1]) {
+        first -= 1;
+    }
+    first
+}
+
+/// The allowance that a comment above a rule is.
+fn allowance_of(
+    alloc: Global,
+    comment: Fragment<'_>,
+    rule: &ParserRule<'_>,
+) -> Result<Allowance, AllocError>
+    ensures { IfOk result (λ allowance.
+        allowance ≡ spec.allowance_of (rule_view rule.now) (fragment_of comment.entry)) }
+{
+    Ok(Allowance {
+        code: code_in(alloc, comment.text)?,
+        start: comment.start,
+        end: comment.end,
+        first: rule.span.start(),
         last: rule.node.span.end(),
-    }))
+    })
 }
 
 /// The code that a comment allows, if it is such a comment.
 fn code_in(alloc: Global, comment: &str) -> Result<Option<Code>, AllocError>
-    ensures { IfOk result (λ answer. IfSome answer (λ code. comment.now ≡ spec.comment_of code)) }
+    ensures { IfOk result (λ answer. answer ≡ spec.code_in comment.now) }
 {
-    for code in &ALL_CODES {
+    for code in all_codes() {
         if is_comment_of(alloc, comment, *code)? {
             return Ok(Some(*code));
         }
@@ -182,7 +190,7 @@ fn code_in(alloc: Global, comment: &str) -> Result<Option<Code>, AllocError>
 
 /// Whether a comment is the one that allows a code.
 fn is_comment_of(alloc: Global, comment: &str, code: Code) -> Result<bool, AllocError>
-    ensures { IfOk result (λ answer. answer ≡ true → comment.now ≡ spec.comment_of code) }
+    ensures { IfOk result (λ answer. answer ≡ bytes_eq comment.now (spec.comment_of code)) }
 {
     let name = code.name();
     let expected = format!(in alloc; "// pest-lint: allow({name})")?;
@@ -259,25 +267,33 @@ fn retain_others(allowances: &[Allowance], diagnostics: &mut Vec<Diagnostic>)
     diagnostics.retain(|diagnostic| !is_allowed(allowances, diagnostic));
 }
 
-/// The warnings of allowances that allow nothing.
-fn warn_of(alloc: Global, allowances: &[Allowance]) -> Result<Vec<Diagnostic>, AllocError>
+/// The warnings of allowances that allow nothing, or that do not count.
+fn warn_of(
+    alloc: Global,
+    allowances: &[Allowance],
+    are_counted: bool,
+) -> Result<Vec<Diagnostic>, AllocError>
     ensures { IfOk result (λ warnings. AllZip WarnsOf allowances.now warnings.items) }
 {
     let mut warnings = Vec::new(alloc);
     for allowance in allowances {
-        let warning = warning_of(alloc, *allowance)?;
+        let warning = warning_of(alloc, *allowance, are_counted)?;
         warnings.push(warning)?;
     }
     Ok(warnings)
 }
 
-/// The warning of an allowance that allows nothing.
-fn warning_of(alloc: Global, allowance: Allowance) -> Result<Diagnostic, AllocError>
+/// The warning of such an allowance.
+fn warning_of(
+    alloc: Global,
+    allowance: Allowance,
+    is_counted: bool,
+) -> Result<Diagnostic, AllocError>
     ensures { IfOk result (WarnsOf allowance) }
 {
     let code = Code::UnusedAllowance;
     let message = message_of(code);
     let mut warning = Diagnostic::new(alloc, code, allowance.start, allowance.end, message)?;
-    warning.help = allowance_help(alloc, allowance.code)?;
+    warning.help = allowance_help(alloc, allowance.code, is_counted)?;
     Ok(warning)
 }

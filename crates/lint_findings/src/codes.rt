@@ -58,6 +58,8 @@ pub enum Code {
     UncalledRule,
     /// A rule with which matching starts never asks for the end of the text.
     MissingEnd,
+    /// A comment gives a start that is no rule.
+    UnknownStart,
     /// A literal or a call before an alternative begins all that it matches.
     Unreachable,
     /// A range matches nothing.
@@ -85,7 +87,7 @@ pub enum Code {
 }
 
 /// All codes.
-pub const ALL_CODES: [Code; 27] = [
+pub const ALL_CODES: [Code; 28] = [
     Code::Syntax,
     Code::EscapeValue,
     Code::NumberRange,
@@ -101,6 +103,7 @@ pub const ALL_CODES: [Code; 27] = [
     Code::UnusedAllowance,
     Code::UncalledRule,
     Code::MissingEnd,
+    Code::UnknownStart,
     Code::Unreachable,
     Code::ReversedRange,
     Code::ReversedCount,
@@ -136,6 +139,7 @@ impl Code {
             Code::UnusedAllowance => "pest::unused_allowance",
             Code::UncalledRule => "pest::uncalled_rule",
             Code::MissingEnd => "pest::missing_end",
+            Code::UnknownStart => "pest::unknown_start",
             Code::Unreachable => "pest::unreachable",
             Code::ReversedRange => "pest::reversed_range",
             Code::ReversedCount => "pest::reversed_count",
@@ -187,7 +191,7 @@ impl Code {
         ensures { result ≡ severity_of self }
     {
         match self {
-            Code::UnusedAllowance | Code::MissingEnd => Severity::Warning,
+            Code::UnusedAllowance | Code::UnknownStart | Code::MissingEnd => Severity::Warning,
             Code::UncalledRule | Code::Unreachable | Code::ReversedRange => Severity::Warning,
             Code::ReversedCount | Code::IdleTest | Code::NeverMatches => Severity::Warning,
             Code::BlanksInToken | Code::ManyCopies => Severity::Warning,
@@ -200,7 +204,7 @@ impl Code {
 }
 
 /// All codes.
-fn all_codes() -> &'static [Code]
+pub(crate) fn all_codes() -> &'static [Code]
     ensures { result.now ≡ spec.all_codes }
 {
     &ALL_CODES

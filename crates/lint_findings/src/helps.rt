@@ -1,9 +1,4 @@
 //! Helps for codes.
-ghost use Rattle.std.specs.Prelude.{◌≡◌, [], IfOk, MatchOption, true};
-ghost use Rattle.base_language.specs.Language.Builtins.{is_one_of};
-ghost use Rattle.lint_findings.specs.Helps.{IsListedHelp, helps_of};
-ghost use Rattle.lint_findings.specs.declared.codes.Code.TheVariants as code;
-
 use crate::codes::{Code, Severity};
 use lint_hints::{Help, pest_property_text};
 use lint_warnings::{is_blank_name, is_blank_name_in_any_case};
@@ -16,9 +11,7 @@ pub(crate) fn listed_help(
     code: Code,
     about: &str,
     is_repeat: bool,
-) -> Result<Option<Help>, AllocError>
-    ensures { IfOk result (IsListedHelp code) }
-{
+) -> Result<Option<Help>, AllocError> {
     match help_text(code, about, is_repeat) {
         None => Ok(None),
         Some(text) => Ok(Some(Help::new(alloc, text)?)),
@@ -26,9 +19,7 @@ pub(crate) fn listed_help(
 }
 
 /// The text of such a help.
-fn help_text(code: Code, about: &str, is_repeat: bool) -> Option<&'static str>
-    ensures { MatchOption result (helps_of code ≡ []) (λ text. is_one_of (helps_of code) text.now ≡ true) }
-{
+fn help_text(code: Code, about: &str, is_repeat: bool) -> Option<&'static str> {
     match code {
         Code::Syntax | Code::UndefinedRule => None,
         Code::MissingProperty => Some(pest_property_text()),
@@ -50,6 +41,7 @@ fn help_text(code: Code, about: &str, is_repeat: bool) -> Option<&'static str>
         Code::UnusedAllowance => Some("take the comment away"),
         Code::UncalledRule => Some(uncalled_text(about)),
         Code::MissingEnd => Some("end its body with `~ EOI`, where the whole text is to match"),
+        Code::UnknownStart => Some("give the names of rules of this grammar"),
         Code::Unreachable => Some(unreachable_text(is_repeat)),
         Code::ReversedRange => Some("let its bounds change places"),
         Code::ReversedCount => Some("let its numbers change places"),
@@ -72,9 +64,7 @@ fn help_text(code: Code, about: &str, is_repeat: bool) -> Option<&'static str>
 }
 
 /// The help for a number, by the message of its error.
-fn number_text(message: &str) -> &'static str
-    ensures { is_one_of (helps_of code.NumberRange) result.now ≡ true }
-{
+fn number_text(message: &str) -> &'static str {
     if message.ends_with("i32") {
         "a bound of `PEEK[..]` has 32 bits with its sign"
     } else {
@@ -83,9 +73,7 @@ fn number_text(message: &str) -> &'static str
 }
 
 /// The help for an endless repetition, by the message of its error.
-fn endless_text(message: &str) -> &'static str
-    ensures { is_one_of (helps_of code.EndlessRepetition) result.now ≡ true }
-{
+fn endless_text(message: &str) -> &'static str {
     if is_of_blanks(message) {
         "it is repeated by itself: match one turn, which takes a character"
     } else {
@@ -94,9 +82,7 @@ fn endless_text(message: &str) -> &'static str
 }
 
 /// The help for a rule of this name that no other calls.
-fn uncalled_text(name: &str) -> &'static str
-    ensures { is_one_of (helps_of code.UncalledRule) result.now ≡ true }
-{
+fn uncalled_text(name: &str) -> &'static str {
     if is_blank_name_in_any_case(name) {
         "what is skipped between expressions has the name in capitals"
     } else {
@@ -105,9 +91,7 @@ fn uncalled_text(name: &str) -> &'static str
 }
 
 /// The help for an alternative that is never taken, which may be the same as one before it.
-fn unreachable_text(is_repeat: bool) -> &'static str
-    ensures { is_one_of (helps_of code.Unreachable) result.now ≡ true }
-{
+fn unreachable_text(is_repeat: bool) -> &'static str {
     if is_repeat {
         "it is the same alternative twice: take this one away"
     } else {
@@ -116,9 +100,7 @@ fn unreachable_text(is_repeat: bool) -> &'static str
 }
 
 /// The help for this test or option of an expression that cannot fail.
-fn idle_text(test: &str) -> &'static str
-    ensures { is_one_of (helps_of code.IdleTest) result.now ≡ true }
-{
+fn idle_text(test: &str) -> &'static str {
     if test.starts_with('&') {
         "what `&` tests cannot fail: test one turn, as `&e`, or take it away"
     } else if test.ends_with("*?") {
@@ -129,9 +111,7 @@ fn idle_text(test: &str) -> &'static str
 }
 
 /// The help for this expression, which never matches.
-fn never_text(expression: &str) -> &'static str
-    ensures { is_one_of (helps_of code.NeverMatches) result.now ≡ true }
-{
+fn never_text(expression: &str) -> &'static str {
     if expression.starts_with('!') {
         "what `!` refuses cannot fail"
     } else if repeats_once(expression) {
@@ -150,9 +130,7 @@ fn repeats_once(expression: &str) -> bool {
 }
 
 /// The help for a rule of this name, which a builtin has, or had in pest 1.
-fn builtin_text(name: &str) -> &'static str
-    ensures { is_one_of (helps_of code.BuiltinName) result.now ≡ true }
-{
+fn builtin_text(name: &str) -> &'static str {
     if is_small(name) {
         "this is a rule like others: the builtin's name is in capitals since pest 2"
     } else {
@@ -160,20 +138,22 @@ fn builtin_text(name: &str) -> &'static str
     }
 }
 
-/// The help for an allowance of a code that allows nothing.
+/// The help for an allowance of a code that allows nothing, or that does not count.
 pub(crate) fn allowance_help(
     alloc: Global,
     allowed: Option<Code>,
-) -> Result<Option<Help>, AllocError>
-    ensures { IfOk result (IsListedHelp code.UnusedAllowance) }
-{
-    Ok(Some(Help::new(alloc, allowance_text(allowed))?))
+    is_counted: bool,
+) -> Result<Option<Help>, AllocError> {
+    let text = if is_counted {
+        allowance_text(allowed)
+    } else {
+        "of such comments the first 256 of a text count"
+    };
+    Ok(Some(Help::new(alloc, text)?))
 }
 
-/// The text of such a help.
-fn allowance_text(allowed: Option<Code>) -> &'static str
-    ensures { is_one_of (helps_of code.UnusedAllowance) result.now ≡ true }
-{
+/// The help for an allowance that allows nothing.
+fn allowance_text(allowed: Option<Code>) -> &'static str {
     match allowed.map(|code| code.severity()) {
         Some(Severity::Warning) => "take the comment away",
         Some(Severity::Error) => "an error is mended, and not allowed",

@@ -1,107 +1,94 @@
 //! Starts that a comment names.
-ghost use Rattle.std.specs.Prelude.{All, IfOk, IfSome, List, OnOk, ℕ};
-ghost use Rattle.lint_findings.specs.Starts.{IsNamedStart};
+ghost use Rattle.std.specs.Prelude.{◌≡◌, IfOk, IfSome, filter, find, map, not, true};
+ghost use Rattle.std.specs.List.{take_while};
+ghost use Rattle.std.specs.Option.{option_map};
+ghost use Rattle.lint_findings.specs.Fragments.{fragment_of, parts_at};
+ghost use Rattle.lint_findings.specs.Starts as spec;
 
+use crate::fragments::Fragment;
 use std::alloc::{AllocError, Global};
 
 /// How a comment that names starts begins.
 const PREFIX: &str = "//! pest-lint: start(";
 
-/// The most starts that a comment names.
-const MOST_STARTS: usize = 256;
-
-/// The places of a comment that names starts, in bytes: where it begins, where the names begin, where the
-/// bracket after them is, and where that ends.
-#[derive(Clone, Copy)]
-struct StartComment {
-    start: usize,
-    inside: usize,
-    close: usize,
-    end: usize,
-}
-
 /// The rules with which matching starts, as a text says itself: the names in the first line
-/// `//! pest-lint: start(a, b)` before its rules, in order; none where there is no such line. The first 256
-/// count. The only error is an allocation failure.
-pub fn named_starts<'t>(alloc: Global, text: &'t str) -> Result<Vec<&'t str>, AllocError>
-    ensures { IfOk result (λ names. All (λ name. IsNamedStart text.entry.now name.now) names.items) }
+/// `//! pest-lint: start(a, b)` before its rules, in order; none where there is no such line. The time is
+/// linear in the text. The only error is an allocation failure.
+pub fn stated_starts<'t>(alloc: Global, text: &'t str) -> Result<Vec<Fragment<'t>>, AllocError>
+    ensures { IfOk result (λ names. map fragment_of names.items ≡ spec.stated_starts text.now) }
 {
-    let mut names = Vec::new(alloc);
-    let Some(comment) = find_comment(text) else {
-        return Ok(names);
-    };
-    let mut at = comment.inside;
-    for part in inside_of(text, comment).split(',').take(MOST_STARTS) {
-        let blanks = part.len().saturating_sub(part.trim_start().len());
-        let first = at.saturating_add(blanks);
-        let last = first.saturating_add(part.trim().len());
-        push_name(name_at(text, comment, first, last), &mut names)?;
-        at = at.saturating_add(part.len()).saturating_add(1);
+    let lines = Fragment::whole(text).split(alloc, '\n')?;
+    match start_comment(&lines) {
+        Some(comment) => names_in(alloc, comment),
+        None => Ok(Vec::new(alloc)),
     }
-    Ok(names)
 }
 
-/// The text of a comment between its brackets.
-fn inside_of(text: &str, comment: StartComment) -> &str {
-    text.get(comment.inside..comment.close).unwrap_or("")
-}
-
-/// The first comment before the rules of a text that names starts.
-fn find_comment(text: &str) -> Option<StartComment> {
-    let mut at: usize = 0;
-    for line in text.split('\n') {
-        let comment = line.trim();
-        let blanks = line.len().saturating_sub(line.trim_start().len());
-        if comment.starts_with(PREFIX) {
-            return comment_at(comment, at.saturating_add(blanks));
-        }
-        if !comment.is_empty() && !comment.starts_with("//") {
+/// The comment among lines that names starts, before what is no comment.
+fn start_comment<'t>(lines: &[Fragment<'t>]) -> Option<Fragment<'t>>
+    ensures named { IfSome result (λ comment. spec.has_starts (fragment_of comment) ≡ true) }
+    ensures first { option_map fragment_of result ≡ find spec.has_starts
+        (take_while spec.is_remark (map fragment_of lines.now)) }
+{
+    for line in lines {
+        if !is_remark(*line) {
             return None;
         }
-        at = at.saturating_add(line.len()).saturating_add(1);
+        if has_starts(*line) {
+            return Some(*line);
+        }
     }
     None
 }
 
-/// The places of a comment that begins at a byte of its text, if it has a bracket after its names.
-fn comment_at(comment: &str, start: usize) -> Option<StartComment> {
-    let (before, _) = comment.split_once(')')?;
-    let close = start.saturating_add(before.len());
-    Some(StartComment {
+/// Whether a line is blank or a comment.
+fn is_remark(line: Fragment<'_>) -> bool
+    ensures { result ≡ spec.is_remark (fragment_of line.entry) }
+{
+    line.text.is_empty() || is_comment(line)
+}
+
+/// Whether a line without white space around it is a comment.
+pub(crate) fn is_comment(line: Fragment<'_>) -> bool
+    ensures { result ≡ spec.is_comment (fragment_of line.entry) }
+{
+    line.text.starts_with("//")
+}
+
+/// Whether a line is a comment that names starts.
+fn has_starts(line: Fragment<'_>) -> bool
+    ensures { result ≡ spec.has_starts (fragment_of line.entry) }
+{
+    line.text.starts_with(PREFIX)
+}
+
+/// The names in such a comment.
+fn names_in<'t>(alloc: Global, comment: Fragment<'t>) -> Result<Vec<Fragment<'t>>, AllocError>
+    requires { spec.has_starts (fragment_of comment) ≡ true }
+    ensures { IfOk result (λ names. map fragment_of names.items
+        ≡ spec.names_in (Some (fragment_of comment.entry))) }
+{
+    let mut names = inside_of(comment).split(alloc, ',')?;
+    names.retain(|name| !name.text.is_empty());
+    Ok(names)
+}
+
+/// The part of such a comment behind its bracket, up to the next one or to its end.
+fn inside_of<'t>(comment: Fragment<'t>) -> Fragment<'t>
+    requires { spec.has_starts (fragment_of comment) ≡ true }
+    ensures { fragment_of result ≡ spec.inside (fragment_of comment.entry) }
+{
+    let Some(rest) = comment.text.strip_prefix(PREFIX) else {
+        unreachable!()
+    };
+    let text = match rest.split_once(')') {
+        Some((names, _)) => names,
+        None => rest,
+    };
+    let start = comment.start + PREFIX.len();
+    Fragment {
         start,
-        inside: start.saturating_add(PREFIX.len()),
-        close,
-        end: close.saturating_add(1),
-    })
-}
-
-/// The name at these bytes of a text, if it stands between the brackets of a comment that names starts.
-fn name_at(text: &str, comment: StartComment, first: usize, last: usize) -> Option<&str>
-    ensures { IfSome result (λ name. IsNamedStart text.entry.now name.now) }
-{
-    let Some(prefix) = text.get(comment.start..comment.inside) else {
-        return None;
-    };
-    let Some(bracket) = text.get(comment.close..comment.end) else {
-        return None;
-    };
-    let Some(name) = text.get(first..last) else {
-        return None;
-    };
-    if prefix != PREFIX || bracket != ")" || first < comment.inside || comment.close < last {
-        return None;
+        end: start + text.len(),
+        text,
     }
-    Some(name)
-}
-
-/// Adds a name, if it is there.
-fn push_name<'t>(name: Option<&'t str>, names: &mut Vec<&'t str>) -> Result<(), AllocError>
-    ensures { OnOk result ((text : List ℕ) → IfSome name.entry (λ name. IsNamedStart text name.now)
-        → All (λ name. IsNamedStart text name.now) names.old.items
-        → All (λ name. IsNamedStart text name.now) names.new.items) }
-{
-    if let Some(name) = name {
-        names.push(name)?;
-    }
-    Ok(())
 }

@@ -243,15 +243,14 @@ fn spans_of<'i>(
 }
 
 /// The message of a warning.
-pub(crate) fn message_of(code: Code) -> &'static str
-    ensures { result.now ≡ spec.message_of code }
-{
+pub(crate) fn message_of(code: Code) -> &'static str {
     match code {
         Code::UnusedAllowance => "this allows nothing in the rule below",
         Code::UncalledRule => "no other rule calls this one",
         Code::MissingEnd => {
             "this start never asks for the end of the text: what follows may be left"
         }
+        Code::UnknownStart => "no rule has this name",
         Code::Unreachable => {
             "this alternative is never taken: one before it begins all that it matches"
         }

@@ -1,20 +1,21 @@
 -- What is written has no floats, so its text is what the library's clause says.
-use Rattle.std.proofs.Common.{◌≡◌, ℕ, Bool, false, ◌||◌, ◌++◌, Bor, List, [], ◌∷◌, None, Option, Some, map, refl}
+use Rattle.std.proofs.Common.{◌≡◌, ℕ, Bool, false, ◌||◌, ◌++◌, Bor, List, [], ◌∷◌, None, Option, Some, ap, map, refl, string_bytes}
 use Rattle.std.proofs.lemmas.Bool.{or_from}
 use Rattle.serde_json.specs.Data.{Data, Items, string}
 use Rattle.serde_json.specs.View.{items_of}
 use Rattle.serde_json.specs.Written.{has_float, items_have_float}
 use Rattle.base_language.proofs.Basics.{first_of_neither, second_of_neither}
+use Rattle.lint_findings.specs.declared.codes.Code.{Code}
 use Rattle.lint_findings.specs.declared.diagnostic.Diagnostic.{Diagnostic}
 use Rattle.lint_hints.specs.declared.help.Fix.{Fix}
 use Rattle.lint_hints.specs.declared.help.Help.{Help}
 use Rattle.lint_hints.specs.declared.help.Related.{Related}
-use Rattle.lint_output.specs.Json.{fix_data, help_data, line_data, mended_data, part_data, related_data}
-use Rattle.lint_output.specs.Locations.{location_at}
-use Rattle.lint_output.specs.Sarif.{log_data, result_data}
+use Rattle.lint_output.specs.Json.{fix_data, help_data, line_data, mended_data, related_data}
+use Rattle.lint_output.specs.Sarif.{IsRule, fixes_for, fixes_of, log_data, result_data}
 
-pub log_without_floats : (results : Items) → items_have_float results ≡ false → has_float (log_data results) ≡ false
-log_without_floats results none = rw none refl
+pub log_without_floats : (rules results : Items) → items_have_float rules ≡ false → items_have_float results ≡ false
+    → has_float (log_data rules results) ≡ false
+log_without_floats rules results no_rule none = rw (no_rule, none) refl
 
 map_free : {A : Type 0} (f : A → Data) → ((x : A) → has_float (f x) ≡ false) → (xs : List A) → items_have_float (items_of (map f xs)) ≡ false
 map_free f h [] = refl
@@ -49,5 +50,20 @@ pub append_free : (ds es : List Data) → items_have_float (items_of ds) ≡ fal
 append_free [] es h k = k
 append_free (d ∷ ds) es h k = or_from (has_float d) _ (first_of_neither (has_float d) _ h) (append_free ds es (second_of_neither (has_float d) _ h) k)
 
+file_fix_free : (name text message : List ℕ) (fix : Option Fix) → items_have_float (fixes_for name text message fix) ≡ false
+file_fix_free name text message None = refl
+file_fix_free name text message (Some fix) = refl
+
+fixes_free : (name text : List ℕ) (help : Option Help) → items_have_float (fixes_of name text help) ≡ false
+fixes_free name text None = refl
+fixes_free name text (Some help) = file_fix_free name text (string_bytes help.message) help.fix
+
+result_free : (name text : List ℕ) (d : Diagnostic) → has_float (result_data name text d) ≡ false
+result_free name text d = or_from (items_have_float (fixes_of name text d.help)) _ (fixes_free name text d.help) refl
+
+-- a rule has none either
+pub rule_free : (code : Code) (page : List ℕ) (d : Data) → IsRule code page d → has_float d ≡ false
+rule_free code page d rule = ap has_float rule.1
+
 pub results_free : (name text : List ℕ) (ds : List Diagnostic) → items_have_float (items_of (map (result_data name text) ds)) ≡ false
-results_free name text ds = map_free (result_data name text) (λ d. refl) ds
+results_free name text ds = map_free (result_data name text) (λ d. result_free name text d) ds

@@ -1,6 +1,6 @@
 -- What holds at locations that are found holds at those of the text.
 use Rattle.std.proofs.Common.{◌≡◌, ◌∙◌, ◌++◌, Bool, List, ℕ, Err, IfOk, Ok, Result, ap, append_assoc, codes, false, string_bytes, subst, sym}
-use Rattle.serde_json.specs.Data.{Data}
+use Rattle.serde_json.specs.Data.{Data, array}
 use Rattle.serde_json.specs.Written.{has_float}
 use Rattle.lint_findings.specs.Codes.{code_name, severity_name}
 use Rattle.lint_findings.specs.declared.diagnostic.Diagnostic.{Diagnostic}
@@ -8,6 +8,7 @@ use Rattle.lint_output.specs.Annotations.{located_command, message_text, place_t
 use Rattle.lint_output.specs.Json.{json_line, line_data, located_line, related_data}
 use Rattle.lint_output.specs.Locations.{location_at}
 use Rattle.lint_output.specs.Prints.{IsAnnotation, IsBlock, IsPlacedBlock, block, heading, top_lines}
+use Rattle.lint_output.specs.Sarif.{fixes_of, located_data, result_data}
 use Rattle.lint_output.specs.declared.lines.Location.{Location}
 use Rattle.lint_output.proofs.Floats.{line_without_floats}
 
@@ -16,6 +17,14 @@ pub placed_twice : {X E : Type 0} (result : Result X E) (P : Type 0) (R : Locati
     → IfOk result (λ x. P → R start end_ x)
 placed_twice (Ok x) P R first last start end_ h same then = λ p. subst (λ l. R start l x) (then p) (subst (λ l. R l last x) (same p) h)
 placed_twice (Err e) P R first last start end_ h same then = tt
+
+-- a result of a log
+pub placed_result : {X E : Type 0} (result : Result X E) (shown : X → Data) (P : Type 0) (name text : List ℕ) (d : Diagnostic) (fixes : Data) (first last : Location) → IfOk result (λ x. shown x ≡ located_data name d fixes first last)
+    → (P → fixes ≡ array (fixes_of name text d.help)) → (P → first ≡ location_at text d.start) → (P → last ≡ location_at text d.end) → IfOk result (λ x. P → shown x ≡ result_data name text d)
+placed_result (Ok x) shown P name text d fixes first last h mends start end_ = λ p.
+    let all = array (fixes_of name text d.help) in
+    h ∙ ap (λ f. located_data name d f first last) (mends p) ∙ ap (λ l. located_data name d all l last) (start p) ∙ ap (λ l. located_data name d all (location_at text d.start) l) (end_ p)
+placed_result (Err e) shown P name text d fixes first last h mends start end_ = tt
 
 -- a line of JSON
 pub line_text : {X E : Type 0} (result : Result X E) (bytes : X → List ℕ) (P : Type 0) (name text : List ℕ) (d : Diagnostic) (related value : Data) (first last : Location) → value ≡ located_line name d related first last

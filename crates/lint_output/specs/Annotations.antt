@@ -1,5 +1,5 @@
 -- Workflow commands of GitHub.
-use Rattle.std.specs.Prelude.{ℕ, List, [], ◌++◌, ◌==◌, None, Option, Some, codes, decimal, if◌then◌else◌, string_bytes}
+use Rattle.std.specs.Prelude.{ℕ, List, ◌++◌, ◌==◌, None, Option, Some, codes, decimal, if◌then◌else◌, string_bytes}
 use Rattle.lint_findings.specs.Codes.{code_name, severity_name}
 use Rattle.lint_findings.specs.declared.diagnostic.Diagnostic.{Diagnostic}
 use Rattle.lint_hints.specs.declared.help.Help.{Help}

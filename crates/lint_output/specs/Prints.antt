@@ -1,5 +1,5 @@
 -- The bytes by which a diagnostic is printed.
-use Rattle.std.specs.Prelude.{◌≡◌, ℕ, List, [], ◌∷◌, ◌++◌, Bool, codes, decimal, if◌then◌else◌, string_bytes}
+use Rattle.std.specs.Prelude.{◌≡◌, ℕ, List, ◌∷◌, ◌++◌, Bool, codes, decimal, if◌then◌else◌, string_bytes}
 use Rattle.lint_findings.specs.Codes.{code_name, severity_name}
 use Rattle.lint_findings.specs.declared.codes.Severity.{Severity}
 use Rattle.lint_findings.specs.declared.codes.Severity.TheVariants as severity

@@ -69,7 +69,7 @@ fn escape_message(alloc: Global, text: &str) -> Result<String, AllocError>
 }
 
 /// The message of a diagnostic and of its help.
-fn full_message(alloc: Global, diagnostic: &Diagnostic) -> Result<String, AllocError>
+pub(crate) fn full_message(alloc: Global, diagnostic: &Diagnostic) -> Result<String, AllocError>
     ensures { IfOk result (λ text.
         string_bytes text ≡ with_help (string_bytes diagnostic.now.message) diagnostic.now.help) }
 {

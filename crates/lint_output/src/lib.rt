@@ -15,7 +15,7 @@ mod visible;
 
 pub use crate::fixes::{Mended, mend};
 pub use crate::lines::{LineIndex, Location};
-pub use crate::sarif::{sarif_log, sarif_result};
+pub use crate::sarif::{sarif_log, sarif_result, sarif_rule};
 pub use crate::styles::print_diagnostic;
 pub use crate::visible::to_visible;
 

@@ -3,6 +3,7 @@ pub mod SetLemmas
 pub mod Trees
 pub mod Reaching
 pub mod Forward
+pub mod LastNames
 pub mod Leaves
 pub mod CharacterSets
 pub mod Branching
@@ -17,5 +18,9 @@ pub mod Stacks
 pub mod Between
 pub mod StackReads
 pub mod Gaps
+pub mod CalledReads
 pub mod Searching
+pub mod Pieces
+pub mod Parts
 pub mod Expected
+pub mod Fusing

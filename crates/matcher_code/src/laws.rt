@@ -1,5 +1,5 @@
 //! Laws over the definitions alone.
-ghost use Rattle.std.specs.Prelude.{◌≡◌, ◌<◌, ◌*◌, ◌==◌, ◌&&◌, ◌||◌, ℕ, ℤ, Bool, List, [], IsUtf8, Option, Some, chars, codes, false, get_or, if◌then◌else◌, nat_eq, not, true};
+ghost use Rattle.std.specs.Prelude.{◌≡◌, ◌<◌, ◌*◌, ◌==◌, ◌&&◌, ◌||◌, ℕ, ℤ, Bool, List, [], IsUtf8, Option, Some, chars, codes, false, get_or, if◌then◌else◌, map, nat_eq, not, true};
 ghost use Rattle.std.specs.Char.{eq_ignore_ascii_case};
 ghost use Rattle.base_language.specs.Language.Expression.{Choice, Expression, Grammar, Ident, NegPred, Rep, Rule, Seq, rule_of};
 ghost use Rattle.base_language.specs.Language.Meaning.{Does, Run, Task, body_mode, gives_token, seen_from, with_top};
@@ -7,13 +7,17 @@ ghost use Rattle.base_language.specs.Language.State.{AtomicMode, Classes, Failur
 ghost use Rattle.base_language.specs.Language.Text.{Text};
 ghost use Rattle.base_language.specs.Language.Matching.{character_outcome, concatenated, distance, drop_outcome, end_outcome, newline_outcome, peek_outcome, pop_outcome, slice_outcome, text_outcome, with_stack};
 ghost use Rattle.matcher_code.specs.Failures.{end_failures, failures_at, in_silence};
-ghost use Rattle.matcher_code.specs.Reading.{is_covered, text_of};
+ghost use Rattle.matcher_code.specs.Reading.{text_of};
 ghost use Rattle.matcher_code.specs.Sets.{IsSetOf};
 ghost use Rattle.matcher_code.specs.Steps.{Config, jump, op_at, steps};
-ghost use Rattle.matcher_code.specs.declared.code.Code.{Code};
+ghost use Rattle.matcher_code.specs.Lists.{CodeLists, is_covered};
 ghost use Rattle.matcher_code.specs.declared.code.Op.TheVariants as op;
+ghost use Rattle.base_language.specs.Language.WellFormed.{InRules};
+ghost use Rattle.matcher_code.specs.Begun.{ComesTo, IsEmptyRead};
 ghost use Rattle.matcher_code.specs.Endings.{IsFound, IsOver};
 ghost use Rattle.matcher_code.specs.Laid.{AreLaid, HasOutcome, IsEnd, IsPoint, IsTight, MatchesText, MayPerform, Performs, Point, Searches, skip_set};
+ghost use Rattle.base_language.specs.Language.Expected.{expected_at};
+ghost use Rattle.matcher_code.specs.Paths.{last_name, paths_at};
 ghost use Rattle.matcher_code.specs.Reached.{Comes, IsAt, IsGuarded, MayAsk};
 ghost use Rattle.matcher_code.specs.Results.{HasFailed, HasSucceeded, start_config, start_of};
 ghost use Rattle.matcher_code.specs.Sizes.{least_steps, size};
@@ -22,9 +26,9 @@ ghost use Rattle.matcher_code.specs.Sizes.{least_steps, size};
 /// point does its task: from each state, and for each outcome of the task there, the machine comes to where
 /// the outcome goes on, with its trees, the furthest position of its failures and the rows of the names that
 /// are expected where they are asked for, in at most eight steps for each rule of the relation of matching
-/// that the derivation applies. Code that is not exact is asked for names at no place of the text.
+/// that the derivation applies. CodeLists that is not exact is asked for names at no place of the text.
 pub fn laid_code_does_its_task()
-    ensures { (exact : Bool) (g : Grammar) (classes : Classes) (code : Code) (number : Text → ℕ)
+    ensures { (exact : Bool) (g : Grammar) (classes : Classes) (code : CodeLists) (number : Text → ℕ)
         (points : List Point) → op_at code [] 0 ≡ op.Fail → AreLaid exact g classes code number points
         → (k : Task) (l n w : ℕ) → IsPoint points k l n w
         → (text : List ℕ) (s : State) (c : Config) → IsAt text s c.at c.stack → MayAsk exact text c.asked
@@ -34,7 +38,7 @@ pub fn laid_code_does_its_task()
 
 /// In such code, a run from a point that comes to an end has an outcome of the point's task.
 pub fn runs_that_end_have_outcomes()
-    ensures { (exact : Bool) (g : Grammar) (classes : Classes) (code : Code) (number : Text → ℕ)
+    ensures { (exact : Bool) (g : Grammar) (classes : Classes) (code : CodeLists) (number : Text → ℕ)
         (points : List Point) → op_at code [] 0 ≡ op.Fail → AreLaid exact g classes code number points
         → (k : Task) (l n w : ℕ) → IsPoint points k l n w
         → (text : List ℕ) (s : State) (c : Config) → IsAt text s c.at c.stack → MayAsk exact text c.asked
@@ -47,7 +51,7 @@ pub fn runs_that_end_have_outcomes()
 /// are asked for; and one that has not ended has taken fewer than eight steps for each rule of the relation
 /// of matching that any derivation applies.
 pub fn runs_have_results()
-    ensures halts { (exact : Bool) (g : Grammar) (classes : Classes) (code : Code) (number : Text → ℕ)
+    ensures halts { (exact : Bool) (g : Grammar) (classes : Classes) (code : CodeLists) (number : Text → ℕ)
         (points : List Point) → op_at code [] 0 ≡ op.Fail → AreLaid exact g classes code number points
         → (k : Task) (l n w : ℕ) → IsPoint points k l n w → 0 < w
         → op_at code [] n ≡ op.Halt → op_at code [] w ≡ op.Lose
@@ -55,7 +59,7 @@ pub fn runs_have_results()
         → (asked : ℕ) → MayAsk exact text asked
         → (m : ℕ) → op_at code [] (steps code text m (start_config l asked)).pc ≡ op.Halt
         → HasSucceeded g classes number k text (steps code text m (start_config l asked)) }
-    ensures loses { (exact : Bool) (g : Grammar) (classes : Classes) (code : Code) (number : Text → ℕ)
+    ensures loses { (exact : Bool) (g : Grammar) (classes : Classes) (code : CodeLists) (number : Text → ℕ)
         (points : List Point) → op_at code [] 0 ≡ op.Fail → AreLaid exact g classes code number points
         → (k : Task) (l n w : ℕ) → IsPoint points k l n w → 0 < w
         → op_at code [] n ≡ op.Halt → op_at code [] w ≡ op.Lose
@@ -63,7 +67,7 @@ pub fn runs_have_results()
         → (asked : ℕ) → MayAsk exact text asked
         → (m : ℕ) → op_at code [] (steps code text m (start_config l asked)).pc ≡ op.Lose
         → HasFailed g classes number k text (steps code text m (start_config l asked)) }
-    ensures goes_on { (exact : Bool) (g : Grammar) (classes : Classes) (code : Code) (number : Text → ℕ)
+    ensures goes_on { (exact : Bool) (g : Grammar) (classes : Classes) (code : CodeLists) (number : Text → ℕ)
         (points : List Point) → op_at code [] 0 ≡ op.Fail → AreLaid exact g classes code number points
         → (k : Task) (l n w : ℕ) → IsPoint points k l n w → 0 < w
         → op_at code [] n ≡ op.Halt → op_at code [] w ≡ op.Lose
@@ -73,10 +77,23 @@ pub fn runs_have_results()
         → (o : Outcome) (d : Does g classes k (start_of text) o) → m < 8 * size d }
 {}
 
+/// A call of a rule comes to `PEEK` or `POP` on the empty stack only where a rule calls that.
+pub fn only_rules_read_stack()
+    ensures { (g : Grammar) (classes : Classes) (m k : Mode) (n x : Text) (r : Rule) → rule_of g n ≡ Some r
+        → (s t : State) (i : ℕ) → ComesTo g classes (Run m (Ident n)) s i (Run k (Ident x)) t
+        → IsEmptyRead g x t → InRules g (Ident x) }
+{}
+
+/// The last names of the paths of a failure are the names that are expected, in the same order.
+pub fn paths_end_in_expected_names()
+    ensures { (g : Grammar) (classes : Classes) (k : Task) (s : State) (o : Outcome) (place : ℕ)
+        → (d : Does g classes k s o) → map last_name (paths_at place d) ≡ expected_at place d }
+{}
+
 /// Where the operation 0 is `Fail`, the operation `Text` of a text matches it as the expression of a literal
 /// does.
 pub fn text_operation_matches_literal()
-    ensures { (code : Code) (number : Text → ℕ) → op_at code [] 0 ≡ op.Fail
+    ensures { (code : CodeLists) (number : Text → ℕ) → op_at code [] 0 ≡ op.Fail
         → (l n w i : ℕ) (b : List ℕ) → IsUtf8 b → text_of code i ≡ b → op_at code [] l ≡ op.Text i n w
         → Performs code number l n w (text_outcome nat_eq (chars b)) in_silence }
 {}
@@ -84,7 +101,7 @@ pub fn text_operation_matches_literal()
 /// Where the operation 0 is `Fail`, the operation `AnyCase` of a text matches it as a literal in any case
 /// does.
 pub fn any_case_operation_matches_literal()
-    ensures { (code : Code) (number : Text → ℕ) → op_at code [] 0 ≡ op.Fail
+    ensures { (code : CodeLists) (number : Text → ℕ) → op_at code [] 0 ≡ op.Fail
         → (l n w i : ℕ) (b : List ℕ) → IsUtf8 b → text_of code i ≡ b → op_at code [] l ≡ op.AnyCase i n w
         → Performs code number l n w (text_outcome eq_ignore_ascii_case (chars b)) in_silence }
 {}
@@ -92,14 +109,14 @@ pub fn any_case_operation_matches_literal()
 /// Where the operation 0 is `Fail`, three operations `Text` match a newline: of a line feed, of a carriage
 /// return before one, and of a carriage return.
 pub fn text_operations_match_newline()
-    ensures { (code : Code) (number : Text → ℕ) → op_at code [] 0 ≡ op.Fail → (l j k n w : ℕ)
+    ensures { (code : CodeLists) (number : Text → ℕ) → op_at code [] 0 ≡ op.Fail → (l j k n w : ℕ)
         → MatchesText code l (codes "\n") n j → MatchesText code j (codes "\r\n") n k
         → MatchesText code k (codes "\r") n w → Performs code number l n w newline_outcome in_silence }
 {}
 
 /// Where the operation 0 is `Fail`, the operation `Until` of some texts goes on to the first of them.
 pub fn until_operation_finds_text()
-    ensures { (code : Code) (firsts list : ℕ) (ts : List Text) → Searches code firsts list ts
+    ensures { (code : CodeLists) (firsts list : ℕ) (ts : List Text) → Searches code firsts list ts
         → (number : Text → ℕ) → op_at code [] 0 ≡ op.Fail → (l n w : ℕ)
         → op_at code [] l ≡ op.Until firsts list n
         → Performs code number l n w (λ s. Success (moved (distance ts s.rest) s) None') in_silence }
@@ -107,21 +124,21 @@ pub fn until_operation_finds_text()
 
 /// Where the operation 0 is `Fail`, the operation `One` of a set matches one character of it.
 pub fn one_operation_matches_character()
-    ensures { (code : Code) (set : ℕ) (ranges : List (ℕ × ℕ)) → IsSetOf code set ranges
+    ensures { (code : CodeLists) (set : ℕ) (ranges : List (ℕ × ℕ)) → IsSetOf code set ranges
         → (number : Text → ℕ) → op_at code [] 0 ≡ op.Fail → (l n w : ℕ) → op_at code [] l ≡ op.One set n w
         → Performs code number l n w (character_outcome (is_covered ranges)) in_silence }
 {}
 
 /// Where the operation 0 is `Fail`, the operation `All` of a set matches the characters of it that follow.
 pub fn all_operation_matches_span()
-    ensures { (code : Code) (set : ℕ) (ranges : List (ℕ × ℕ)) → IsSetOf code set ranges
+    ensures { (code : CodeLists) (set : ℕ) (ranges : List (ℕ × ℕ)) → IsSetOf code set ranges
         → (number : Text → ℕ) → op_at code [] 0 ≡ op.Fail → (l n w : ℕ) → op_at code [] l ≡ op.All set n
         → Performs code number l n w (skip_set (is_covered ranges)) in_silence }
 {}
 
 /// Where the operation 0 is `Fail`, the operation `Start` matches at the start of a text alone.
 pub fn start_operation_matches_start()
-    ensures { (code : Code) (number : Text → ℕ) → op_at code [] 0 ≡ op.Fail
+    ensures { (code : CodeLists) (number : Text → ℕ) → op_at code [] 0 ≡ op.Fail
         → (l n w : ℕ) → op_at code [] l ≡ op.Start n w
         → Performs code number l n w (λ s. if s.position == 0 then Success s None' else Failure) in_silence }
 {}
@@ -129,7 +146,7 @@ pub fn start_operation_matches_start()
 /// Where the operation 0 is `Fail`, the operation `End` matches at the end of a text alone, as `EOI` does in
 /// Atomic.
 pub fn end_operation_matches_end()
-    ensures { (code : Code) (number : Text → ℕ) → op_at code [] 0 ≡ op.Fail
+    ensures { (code : CodeLists) (number : Text → ℕ) → op_at code [] 0 ≡ op.Fail
         → (l n w : ℕ) → op_at code [] l ≡ op.End n w
         → Performs code number l n w (λ s. end_outcome AtomicMode s.rest s) in_silence }
 {}
@@ -137,7 +154,7 @@ pub fn end_operation_matches_end()
 /// Where the operation 0 is `Fail`, the operations `End`, `Open`, `Close` and `Miss` match the end of a text
 /// as `EOI` does in a mode that gives its tree.
 pub fn end_operations_give_tree()
-    ensures { (code : Code) (number : Text → ℕ) → op_at code [] 0 ≡ op.Fail
+    ensures { (code : CodeLists) (number : Text → ℕ) → op_at code [] 0 ≡ op.Fail
         → (m : Mode) (l n w begin close note : ℕ) → seen_from m ≡ true → op_at code [] l ≡ op.End begin note
         → op_at code [] begin ≡ op.Open (number (codes "EOI")) close → op_at code [] close ≡ op.Close n
         → op_at code [] note ≡ op.Miss (number (codes "EOI")) w
@@ -148,26 +165,26 @@ pub fn end_operations_give_tree()
 /// Where the operation 0 is `Fail`, the operations on the stack match what the expressions do. `Peek` and
 /// `Pop` stay where they are on the empty stack, where `PEEK` and `POP` have no outcome.
 pub fn stack_operations_match_stack()
-    ensures push_text { (code : Code) (number : Text → ℕ) → op_at code [] 0 ≡ op.Fail
+    ensures push_text { (code : CodeLists) (number : Text → ℕ) → op_at code [] 0 ≡ op.Fail
         → (l n w i : ℕ) (b : List ℕ) → IsUtf8 b → text_of code i ≡ b → op_at code [] l ≡ op.PushText i n
         → Performs code number l n w (λ s. Success (with_top (chars b) s) None') in_silence }
-    ensures peek { (code : Code) (number : Text → ℕ) → op_at code [] 0 ≡ op.Fail
+    ensures peek { (code : CodeLists) (number : Text → ℕ) → op_at code [] 0 ≡ op.Fail
         → (l n w : ℕ) → op_at code [] l ≡ op.Peek n w
         → MayPerform code number l n w (λ s. peek_outcome s.stack s) }
-    ensures pop { (code : Code) (number : Text → ℕ) → op_at code [] 0 ≡ op.Fail
+    ensures pop { (code : CodeLists) (number : Text → ℕ) → op_at code [] 0 ≡ op.Fail
         → (l n w : ℕ) → op_at code [] l ≡ op.Pop n w
         → MayPerform code number l n w (λ s. pop_outcome s.stack s) }
-    ensures discard { (code : Code) (number : Text → ℕ) → op_at code [] 0 ≡ op.Fail
+    ensures discard { (code : CodeLists) (number : Text → ℕ) → op_at code [] 0 ≡ op.Fail
         → (l n w : ℕ) → op_at code [] l ≡ op.Discard n w
         → Performs code number l n w (λ s. drop_outcome s.stack s) in_silence }
-    ensures peek_all { (code : Code) (number : Text → ℕ) → op_at code [] 0 ≡ op.Fail
+    ensures peek_all { (code : CodeLists) (number : Text → ℕ) → op_at code [] 0 ≡ op.Fail
         → (l n w : ℕ) → op_at code [] l ≡ op.PeekAll n w
         → Performs code number l n w (λ s. text_outcome nat_eq (concatenated s.stack) s) in_silence }
-    ensures pop_all { (code : Code) (number : Text → ℕ) → op_at code [] 0 ≡ op.Fail
+    ensures pop_all { (code : CodeLists) (number : Text → ℕ) → op_at code [] 0 ≡ op.Fail
         → (l n w : ℕ) → op_at code [] l ≡ op.PopAll n w
         → Performs code number l n w
         (λ s. with_stack [] (text_outcome nat_eq (concatenated s.stack) s)) in_silence }
-    ensures slice { (code : Code) (number : Text → ℕ) → op_at code [] 0 ≡ op.Fail
+    ensures slice { (code : CodeLists) (number : Text → ℕ) → op_at code [] 0 ≡ op.Fail
         → (l n w : ℕ) (i : ℤ) (j : Option ℤ) → op_at code [] l ≡ op.Slice i j n w
         → Performs code number l n w (slice_outcome i j) in_silence }
 {}

@@ -2,9 +2,14 @@
 //! does which task of a grammar.
 #![tactic(auto)]
 
+pub mod bytecode;
 pub mod code;
+pub mod fused;
+mod halves;
 pub mod laws;
+mod operations;
 pub mod ranges;
 pub mod reading;
 pub mod sets;
 pub mod state;
+pub mod words;

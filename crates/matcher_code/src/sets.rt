@@ -1,6 +1,7 @@
 //! Sets of characters, by rows of flags and ranges.
 ghost use Rattle.std.specs.Prelude.{◌≡◌, ◌<◌, ◌^◌, ◌&&◌, ℕ, IfOk, OnErr, OnOk, get_or, if◌then◌else◌, length, nat_lt};
 ghost use Rattle.base_language.specs.Language.Builtins.{is_between};
+ghost use Rattle.matcher_code.specs.Lists.{lists_of};
 ghost use Rattle.matcher_code.specs.Sets.{IsAligned, IsRowOf, IsSetOf, KeepsSets};
 
 use crate::code::Code;
@@ -39,7 +40,7 @@ pub fn add_set(code: &mut Code, ranges: Ranges) -> Result<u32, AllocError>
     requires aligned { IsAligned code.old }
     requires few { length code.old.ranges.items < 2 ^ 32 }
     ensures number { IfOk result (λ set. set ≡ length code.old.ranges.items) }
-    ensures means { IfOk result (λ set. IsSetOf code.new set ranges.items) }
+    ensures means { IfOk result (λ set. IsSetOf (lists_of code.new) set ranges.items) }
     ensures keeps { OnOk result (KeepsSets code.old code.new) }
     ensures aligned { OnOk result (IsAligned code.new) }
     ensures unchanged { OnErr result (code.new.rows.items ≡ code.old.rows.items) }

@@ -2,12 +2,13 @@
 
 /// A tree, followed by its descendants. `start` and `end` are positions in bytes, and `after` is the number
 /// of trees up to its last descendant.
+#[repr(C)]
 #[derive(Clone, Copy, Debug)]
 pub struct TreeNode {
     pub row: u32,
-    pub start: usize,
-    pub end: usize,
-    pub after: usize,
+    pub start: u32,
+    pub end: u32,
+    pub after: u32,
 }
 
 /// The records of the end of a continuation frame's part.

@@ -7,7 +7,7 @@ use Rattle.base_language.specs.Language.FurthestFailure.{is_eoi}
 use Rattle.base_language.specs.Language.Meaning.{Run, body_mode, mode_in}
 use Rattle.base_language.specs.Language.State.{Mode}
 use Rattle.base_language.specs.Language.Text.{Text}
-use Rattle.matcher_code.specs.declared.code.Code.{Code}
+use Rattle.matcher_code.specs.Lists.{CodeLists}
 use Rattle.matcher_code.specs.declared.code.Op.TheVariants as op
 use Rattle.matcher_code.specs.Laid as lay
 use Rattle.matcher_code.specs.Laid.{IsPart, IsPoint, at_label}
@@ -28,13 +28,13 @@ no_place (r ∷ g) n h = go (no_place g n) (rule_of g n) refl (bytes_eq r.name n
     go ih None e true f = let z : Some r ≡ None = sym (ap₂ (λ x y. or_else x (if y then Some r else None)) e f) ∙ h in cc
     go ih None e false f = rw (ih e, f) refl
 
-pub open_row : (code : Code) (l : ℕ) {a b close : ℕ} → a ≡ b → at_label code l ≡ op.Open a close → at_label code l ≡ op.Open b close
+pub open_row : (code : CodeLists) (l : ℕ) {a b close : ℕ} → a ≡ b → at_label code l ≡ op.Open a close → at_label code l ≡ op.Open b close
 open_row code l {close = close} e h = h ∙ ap (λ k. op.Open k close) e
 
-pub miss_row : (code : Code) (l : ℕ) {a b next : ℕ} → a ≡ b → at_label code l ≡ op.Miss a next → at_label code l ≡ op.Miss b next
+pub miss_row : (code : CodeLists) (l : ℕ) {a b next : ℕ} → a ≡ b → at_label code l ≡ op.Miss a next → at_label code l ≡ op.Miss b next
 miss_row code l {next = next} e h = h ∙ ap (λ k. op.Miss k next) e
 
-pub call_row : (code : Code) (l : ℕ) {first a b next fail : ℕ} {counts : Bool} → a ≡ b → at_label code l ≡ op.Call first a next fail counts
+pub call_row : (code : CodeLists) (l : ℕ) {first a b next fail : ℕ} {counts : Bool} → a ≡ b → at_label code l ≡ op.Call first a next fail counts
     → at_label code l ≡ op.Call first b next fail counts
 call_row code l {first = first} {next = next} {fail = fail} {counts = counts} e h = h ∙ ap (λ k. op.Call first k next fail counts) e
 

@@ -6,8 +6,9 @@ use Rattle.std.proofs.lemmas.List.{get_or-map, length-map}
 use Rattle.base_language.specs.Language.Expression.{Ident}
 use Rattle.base_language.specs.Language.Meaning.{Run, Task}
 use Rattle.base_language.specs.Language.State.{Classes, NonAtomicMode}
+use Rattle.matcher_code.specs.Lists.{CodeLists, is_covered, lists_of}
 use Rattle.matcher_code.specs.declared.code.Code.{Code}
-use Rattle.matcher_code.specs.Reading.{char_len, wide_len}
+use Rattle.matcher_code.specs.Reading.{char_len, no_characters, wide_len}
 use Rattle.matcher_code.specs.Laid as lay
 use Rattle.matcher_code.specs.Laid.{IsPoint, Lays, no_point}
 use Rattle.matcher_program.specs.declared.form.Program.{Program}
@@ -37,10 +38,10 @@ point_made p points i d h = record {
   lower = omega arith;
 }
 
-pub meets_plan : (p : Program) (plan : Plan) (code : Code) → HasEnds code → AreMet code plan.points.items plan.demands.items
-    → ((set b : ℕ) (bs : List ℕ) → set < length plan.sets.ranges.items → b < 256 → char_len code set (b ∷ bs) ≡ char_len plan.sets set (b ∷ bs))
-    → ((i : ℕ) → i < length plan.texts.items → get_or (map (λ v. v.items) code.texts.items) i [] ≡ get_or (map (λ v. v.items) plan.texts.items) i [])
-    → ((i : ℕ) → i < length plan.lists.items → get_or (map (λ v. v.items) code.lists.items) i [] ≡ get_or (map (λ v. v.items) plan.lists.items) i [])
+pub meets_plan : (p : Program) (plan : Plan) (code : CodeLists) → HasEnds code → AreMet code plan.points.items plan.demands.items
+    → ((set b : ℕ) (bs : List ℕ) → set < length plan.sets.ranges.items → b < 256 → char_len code set (b ∷ bs) ≡ char_len (lists_of plan.sets) set (b ∷ bs))
+    → ((i : ℕ) → i < length plan.texts.items → get_or code.texts i [] ≡ get_or (map (λ v. v.items) plan.texts.items) i [])
+    → ((i : ℕ) → i < length plan.lists.items → get_or code.lists i [] ≡ get_or (map (λ v. v.items) plan.lists.items) i [])
     → Meets p plan code (map (laid_point p) plan.points.items)
 meets_plan p plan code ends met sets texts lists = record {
   fail = ends.fail;
@@ -55,7 +56,7 @@ abbrev some_point : Point
 some_point = record { part = part.Gap; at = record { mode = mode.Atomic; label = 0; next = 0; way = 0; rank = 0; around = 0 } }
 
 -- the same point
-laid_as : (exact : Bool) (p : Program) (classes : Classes) (code : Code) (laid : List lay.Point) (x : Point) (k : Task) (l n w rank : ℕ)
+laid_as : (exact : Bool) (p : Program) (classes : Classes) (code : CodeLists) (laid : List lay.Point) (x : Point) (k : Task) (l n w rank : ℕ)
     → laid_point p x ≡ record { task = k; label = l; next = n; way = w; rank = rank }
     → Lays exact (grammar_in p) classes code (number_in (grammar_in p)) laid x.at.rank (task_in p x.part (mode_of x.at.mode)) x.at.label x.at.next x.at.way
     → Lays exact (grammar_in p) classes code (number_in (grammar_in p)) laid rank k l n w
@@ -63,7 +64,7 @@ laid_as exact p classes code laid x k l n w rank e y =
     let P : lay.Point → Type 0 = λ q. Lays exact (grammar_in p) classes code (number_in (grammar_in p)) laid q.rank q.task q.label q.next q.way in
     subst P e y
 
-pub code_of : (p : Program) (plan : Plan) (code : Code) → HasEnds code → Meets p plan code (map (laid_point p) plan.points.items)
+pub code_of : (p : Program) (plan : Plan) (code : CodeLists) → HasEnds code → Meets p plan code (map (laid_point p) plan.points.items)
     → ((i : ℕ) (d : Point) → i < length plan.points.items → LaysPoint p plan (get_or plan.points.items i d))
     → HasEntries p plan (length p.rows.items) → IsCodeOf (is_exact code) p code
 code_of p plan code ends m lays entries = record {
@@ -84,7 +85,7 @@ none_bound p plan e i d h =
     absurd (omega (arith, l, h))
 
 pub entries_more : (p : Program) (old new : Plan) (n : ℕ) → IsLater p old new → HasEntries p old n
-    → ((code : Code) (laid : List lay.Point) → Meets p new code laid
+    → ((code : CodeLists) (laid : List lay.Point) → Meets p new code laid
     → IsPoint laid (Run NonAtomicMode (Ident (name_at (names_of p.rows.items) n))) (n + 3) 1 2) → HasEntries p new (n + 1)
 entries_more p old new n later has one code laid m i h = elim (cases_lt i n) [
   | inl k ↦ has code laid (later.met code laid m) i k
@@ -136,7 +137,7 @@ same_demand [] j a b l = absurd (omega (arith, l))
 same_demand (x ∷ xs) zero a b l = refl
 same_demand (x ∷ xs) (suc j) a b l = same_demand xs j a b (omega (arith, l))
 
-pub one_demand : (code : Code) (points : List Point) (demands : List Demand) (n : ℕ) (x : Demand) → (n < length demands)
+pub one_demand : (code : CodeLists) (points : List Point) (demands : List Demand) (n : ℕ) (x : Demand) → (n < length demands)
     → ((p : Program) (i : ℕ) (d : Demand) → i < n → IsMet p code (map (laid_point p) points) (get_or demands i d))
     → ((p : Program) → IsMet p code (map (laid_point p) points) (get_or demands n x))
     → (p : Program) (i : ℕ) (d : Demand) → i < n + 1 → IsMet p code (map (laid_point p) points) (get_or demands i d)
@@ -149,8 +150,8 @@ one_demand code points demands n x within before here p i d h = elim (cases_lt i
 ]
 
 -- a set of a program with the same sets
-pub len_kept : {a b : Code} → KeepsData a b → (set : ℕ) (bs : List ℕ) → char_len b set bs ≡ char_len a set bs
+pub len_kept : {a b : Code} → KeepsData a b → (set : ℕ) (bs : List ℕ) → char_len (lists_of b) set bs ≡ char_len (lists_of a) set bs
 len_kept k set [] = refl
 len_kept k set (x ∷ xs) = ap₂ (λ rows ranges.
     let f = get_or rows.items (set * 256 + x) 0 in
-    if nat_lt 4 f then wide_len (get_or (map (λ v. v.ranges.items) ranges.items) set []) (x ∷ xs) else f) k.rows k.ranges
+    if nat_lt 4 f then wide_len (get_or (map (λ v. is_covered v.ranges.items) ranges.items) set no_characters) (x ∷ xs) else f) k.rows k.ranges

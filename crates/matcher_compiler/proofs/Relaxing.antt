@@ -4,14 +4,14 @@ use Rattle.base_language.specs.Language.Expression.{Grammar}
 use Rattle.base_language.specs.Language.Meaning.{Task}
 use Rattle.base_language.specs.Language.State.{Classes}
 use Rattle.base_language.specs.Language.Text.{Text}
-use Rattle.matcher_code.specs.declared.code.Code.{Code}
+use Rattle.matcher_code.specs.Lists.{CodeLists}
 use Rattle.matcher_code.specs.Laid as lay
 use Rattle.matcher_code.specs.Laid.{Enters, EntersTurn, HasGap, HasTable, HasTest, Lays}
 use Rattle.matcher_code.specs.Reached.{MayAsk}
 use Rattle.matcher_program.specs.declared.form.Program.{Program}
 use Rattle.matcher_compiler.specs.Compiled.{IsCodeOf}
 
-module _ (exact : Bool) (g : Grammar) (classes : Classes) (code : Code) where
+module _ (exact : Bool) (g : Grammar) (classes : Classes) (code : CodeLists) where
   enters : (k : Task) (l j w : ℕ) → Enters exact g classes code k l j w → Enters false g classes code k l j w
   enters k l j w (inl e) = inl e
   enters k l j w (inr t) = inr (record {
@@ -54,7 +54,7 @@ module _ (exact : Bool) (g : Grammar) (classes : Classes) (code : Code) where
   module _ (number : Text → ℕ) (laid : List lay.Point) (rank : ℕ) where
     pub lays : {k : Task} {l n w : ℕ} → Lays exact g classes code number laid rank k l n w → Lays false g classes code number laid rank k l n w
     lays (lay.leaf f failures has performs) = lay.leaf f failures has performs
-    lays (lay.read f free has performs) = lay.read f free has performs
+    lays (lay.read f free reads has performs) = lay.read f free reads has performs
     lays (lay.nothing t) = lay.nothing t
     lays (lay.call r first last counts h t i a p z) = lay.call r first last counts h t i a p z
     lays (lay.sub r first last h t a p z) = lay.sub r first last h t a p z
@@ -79,7 +79,7 @@ module _ (exact : Bool) (g : Grammar) (classes : Classes) (code : Code) where
     lays (lay.skips p) = lay.skips p
     lays (lay.routine first last a p z) = lay.routine first last a p z
 
-pub relaxed : (exact : Bool) (p : Program) (code : Code) → IsCodeOf exact p code → IsCodeOf false p code
+pub relaxed : (exact : Bool) (p : Program) (code : CodeLists) → IsCodeOf exact p code → IsCodeOf false p code
 relaxed exact p code h = record {
   ends = h.ends;
   points = h.points;

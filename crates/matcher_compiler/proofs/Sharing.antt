@@ -4,8 +4,9 @@ use Rattle.std.proofs.Math.ListN.{get_or-append}
 use Rattle.std.proofs.lemmas.Bool.{and_parts, cases_lt}
 use Rattle.std.proofs.lemmas.List.{length-append}
 use Rattle.std.specs.Cmp.Lexicographic.{pointwise}
+use Rattle.matcher_code.specs.Lists.{is_covered, lists_of}
 use Rattle.matcher_code.specs.declared.code.Code.{Code}
-use Rattle.matcher_code.specs.Reading.{wide_len}
+use Rattle.matcher_code.specs.Reading.{no_characters, wide_len}
 use Rattle.matcher_code.specs.Sets.{KeepsSets}
 use Rattle.matcher_compiler.specs.declared.sets.KnownSet.{KnownSet}
 use Rattle.matcher_compiler.specs.Sets.{AreKnownIn, IsKnownIn}
@@ -27,7 +28,7 @@ same_ranges (x ∷ xs) (y ∷ ys) e =
 -- a program with the same rows and ranges
 pub same_sets : (old new : Code) → new.rows.items ≡ old.rows.items → new.ranges.items ≡ old.ranges.items → KeepsSets old new
 same_sets old new e f set b bs h k =
-    ap₂ (λ rows ranges. if nat_lt 4 (get_or rows (set * 256 + b) 0) then wide_len (get_or (map (λ v. v.ranges.items) ranges) set []) (b ∷ bs) else get_or rows (set * 256 + b) 0) e f
+    ap₂ (λ rows ranges. if nat_lt 4 (get_or rows (set * 256 + b) 0) then wide_len (get_or (map (λ v. is_covered v.ranges.items) ranges) set no_characters) (b ∷ bs) else get_or rows (set * 256 + b) 0) e f
 
 -- a program with more sets
 known_on : (old new : Code) → length old.ranges.items ≤ length new.ranges.items → KeepsSets old new → (x : KnownSet)

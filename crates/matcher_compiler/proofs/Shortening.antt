@@ -10,7 +10,7 @@ use Rattle.base_language.specs.Language.Meaning as by
 use Rattle.base_language.specs.Language.Meaning.{Does, Run, Task}
 use Rattle.base_language.specs.Language.State.{Failure, Mode, None', Success, moved}
 use Rattle.base_language.specs.Language.Text.{Text}
-use Rattle.matcher_code.specs.Reading.{is_covered}
+use Rattle.matcher_code.specs.Lists.{is_covered}
 use Rattle.matcher_code.specs.Laid.{Hits, IsSilent, Misses}
 use Rattle.matcher_code.proofs.Characters.{not_and_then}
 use Rattle.matcher_program.specs.declared.form.Form.{Form}

@@ -8,6 +8,7 @@ use Rattle.base_language.specs.Language.Meaning.{Does, Run, Skipping, body_mode,
 use Rattle.base_language.specs.Language.State.{AtomicMode, Between, Classes, CompoundAtomicMode, Failure, NonAtomicMode, None', State, Success, moved}
 use Rattle.base_language.specs.Language.Text.{Text}
 use Rattle.base_language.proofs.Basics.{same_some}
+use Rattle.matcher_code.specs.Lists.{CodeLists}
 use Rattle.matcher_code.specs.Failures.{both, in_silence, no_failure}
 use Rattle.matcher_code.specs.declared.code.Code.{Code}
 use Rattle.matcher_code.specs.Laid as lay
@@ -99,11 +100,11 @@ skips_ready p sets set true none is = is
 skips_ready p sets set false none is = (none refl, is)
 
 module _ (g : Grammar) (classes : Classes) (x : Text) (r : Rule) (h : rule_of g x ≡ Some r) (b : (bytes_eq r.name whitespace || bytes_eq r.name comment) ≡ true) where
-  module _ (exact : Bool) (code : Code) (number : Text → ℕ) (points : List lay.Point) where
+  module _ (exact : Bool) (code : CodeLists) (number : Text → ℕ) (points : List lay.Point) where
     pub laid_between : {rank l n w : ℕ} → lay.Lays exact g classes code number points rank (Run NonAtomicMode (Ident x)) l n w → lay.Lays exact g classes code number points rank (Run Between (Ident x)) l n w
     laid_between (lay.leaf f failures has performs) =
         lay.leaf f failures (λ s. let y = has s in let z = does_between g classes x r h b s (f s) y.0 in (z.0, λ place. z.1 place ∙ y.1 place)) performs
-    laid_between (lay.read f free has performs) = absurd (taken (sym h ∙ free))
+    laid_between (lay.read f free reads has performs) = absurd (taken (sym h ∙ free))
       where
         taken : Some r ≡ None → ⊥
         taken e = cc
@@ -130,7 +131,7 @@ no_comments g classes m s =
 
 -- a rule that is called in the implicit skipping
 module _ (p : Program) (x : Text) (i : ℕ) (meant : IsRuleOf (grammar_in p) x i) (blank : IsSkipName x) where
-  pub skipped_laid : (exact : Bool) (classes : Classes) (code : Code) (number : Text → ℕ) (points : List lay.Point) {rank l n w : ℕ}
+  pub skipped_laid : (exact : Bool) (classes : Classes) (code : CodeLists) (number : Text → ℕ) (points : List lay.Point) {rank l n w : ℕ}
       → lay.Lays exact (grammar_in p) classes code number points rank (Run NonAtomicMode (Ident (name_at (names_of p.rows.items) i))) l n w
       → lay.Lays exact (grammar_in p) classes code number points rank (Run Between (Ident x)) l n w
   skipped_laid exact classes code number points {rank = rank} {l = l} {n = n} {w = w} y =

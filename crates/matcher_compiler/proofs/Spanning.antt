@@ -16,7 +16,7 @@ use Rattle.base_language.specs.Language.Meaning as by
 use Rattle.base_language.specs.Language.Meaning.{Does, Run, Task}
 use Rattle.base_language.specs.Language.State.{Mode, None', Success, moved}
 use Rattle.base_language.specs.Language.Text.{Text}
-use Rattle.matcher_code.specs.Reading.{is_covered}
+use Rattle.matcher_code.specs.Lists.{is_covered}
 use Rattle.matcher_code.specs.Laid.{IsSilent, span_of}
 use Rattle.matcher_code.proofs.Characters.{span_of_set}
 use Rattle.matcher_code.proofs.CharacterSets.{below}

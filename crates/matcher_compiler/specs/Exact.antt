@@ -1,7 +1,7 @@
 -- Code that records the name of each failure that counts.
 use Rattle.std.specs.Prelude.{◌≡◌, Bool, true, false, ◌&&◌, not}
 use Rattle.std.specs.List.{list_any}
-use Rattle.matcher_code.specs.declared.code.Code.{Code}
+use Rattle.matcher_code.specs.Lists.{CodeLists}
 use Rattle.matcher_code.specs.declared.code.Op.{Op}
 use Rattle.matcher_code.specs.declared.code.Op.TheVariants as op
 
@@ -11,9 +11,9 @@ is_note (op.Note next) = true
 is_note _ = false
 
 -- whether no operation of the code does
-abbrev pub is_exact : Code → Bool
-is_exact code = not (list_any is_note code.ops.items)
+abbrev pub is_exact : CodeLists → Bool
+is_exact code = not (list_any is_note code.ops)
 
 -- a test in the code may note a failure without a name, or does not
-abbrev pub IsAllowed : Code → Bool → Type 0
+abbrev pub IsAllowed : CodeLists → Bool → Type 0
 IsAllowed code noted = (is_exact code && noted) ≡ false

@@ -5,6 +5,7 @@ use Rattle.base_language.specs.Language.Meaning.{Does, Run, Skipping, Task, once
 use Rattle.base_language.specs.Language.State as language
 use Rattle.base_language.specs.Language.Text.{Text}
 use Rattle.base_language.specs.Language.State.{Between, Classes, Failure, NonAtomicMode, State}
+use Rattle.matcher_code.specs.Lists.{CodeLists, lists_of}
 use Rattle.matcher_code.specs.declared.code.Code.{Code}
 use Rattle.matcher_code.specs.declared.code.Op.TheVariants as op
 use Rattle.matcher_code.specs.Failures.{in_silence}
@@ -13,7 +14,7 @@ use Rattle.matcher_code.specs.Sets.{IsSetOf}
 use Rattle.matcher_program.specs.declared.form.Program.{Program}
 use Rattle.matcher_program.specs.Programs.{Fits, name_at, names_of}
 use Rattle.matcher_code.specs.Laid as lay
-use Rattle.matcher_code.specs.Laid.{Branches, Continues, Enters, FailsOutside, HasOutcome, HasTable, Hits, IsEnd, IsPart, IsPoint, IsSilent, IsTight, Lays, TakesNone, TakesOne, at_label, skip_set}
+use Rattle.matcher_code.specs.Laid.{Branches, Continues, Enters, FailsOutside, HasOutcome, GoesOn, HasTable, Hits, IsPart, IsPoint, IsSilent, IsTight, Lays, TakesNone, TakesOne, at_label, skip_set}
 use Rattle.matcher_compiler.specs.declared.plan.Plan.{Plan}
 use Rattle.matcher_compiler.specs.declared.plan.Skips.{Skips}
 use Rattle.matcher_compiler.specs.declared.plan.Skips.TheVariants as skips
@@ -88,10 +89,10 @@ abbrev pub IsTightIn : Program → Atomicity → Type 0
 IsTightIn p m = (classes : Classes) → IsTight (grammar_in p) classes (mode_of m)
 
 -- a choice goes on at a label for a first byte; its table has such labels
-abbrev pub ContinuesAs : Code → Branch → Option ℕ → ℕ → Type 0
+abbrev pub ContinuesAs : CodeLists → Branch → Option ℕ → ℕ → Type 0
 ContinuesAs code b head t = Continues code head b.set b.noted b.first b.second b.next b.way t
 
-abbrev pub HasBranch : Code → Branch → Type 0
+abbrev pub HasBranch : CodeLists → Branch → Type 0
 HasBranch code b = Branches code b.table b.set b.noted b.first b.second b.next b.way
 
 -- a program has the sets and the texts of another one
@@ -102,29 +103,29 @@ pub record KeepsData (old new : Code) : Type 0 where
   pub lists : new.lists ≡ old.lists
 
 -- the program has what is demanded
-abbrev pub IsMet : Program → Code → List lay.Point → Demand → Type 0
+abbrev pub IsMet : Program → CodeLists → List lay.Point → Demand → Type 0
 IsMet p code laid (demand.Operation l o) = at_label code l ≡ o
 IsMet p code laid (demand.Body i m first last point) =
     IsPoint laid (Run (mode_of m) (body_in p i)) first last 0
-IsMet p code laid (demand.GoesOn l) = IsEnd code l → ⊥
+IsMet p code laid (demand.GoesOn l) = GoesOn code l
 IsMet p code laid (demand.Branch b) = HasBranch code b × IsAllowed code b.noted
 
 -- the program has the points, what is demanded, the sets, the texts and the lists of a plan
-pub record Meets (p : Program) (plan : Plan) (code : Code) (laid : List lay.Point) : Type 0 where
+pub record Meets (p : Program) (plan : Plan) (code : CodeLists) (laid : List lay.Point) : Type 0 where
   pub fail : at_label code 0 ≡ op.Fail
   pub points : (i : ℕ) (d : Point) → i < length plan.points.items
       → IsPointOf p laid (get_or plan.points.items i d)
   pub demands : (i : ℕ) (d : Demand) → i < length plan.demands.items
       → IsMet p code laid (get_or plan.demands.items i d)
   pub sets : (set b : ℕ) (bs : List ℕ) → set < length plan.sets.ranges.items → b < 256
-      → char_len code set (b ∷ bs) ≡ char_len plan.sets set (b ∷ bs)
+      → char_len code set (b ∷ bs) ≡ char_len (lists_of plan.sets) set (b ∷ bs)
   pub texts : (i : ℕ) → i < length plan.texts.items
-      → get_or (map (λ v. v.items) code.texts.items) i [] ≡ get_or (map (λ v. v.items) plan.texts.items) i []
+      → get_or code.texts i [] ≡ get_or (map (λ v. v.items) plan.texts.items) i []
   pub lists : (i : ℕ) → i < length plan.lists.items
-      → get_or (map (λ v. v.items) code.lists.items) i [] ≡ get_or (map (λ v. v.items) plan.lists.items) i []
+      → get_or code.lists i [] ≡ get_or (map (λ v. v.items) plan.lists.items) i []
 
 -- the texts of some numbers, as characters
-pub record AreTexts (code : Code) (numbers : List ℕ) (ts : List Text) : Type 0 where
+pub record AreTexts (code : CodeLists) (numbers : List ℕ) (ts : List Text) : Type 0 where
   pub valid : All IsUtf8 (map (text_of code) numbers)
   pub same : map chars (map (text_of code) numbers) ≡ ts
 
@@ -145,13 +146,13 @@ AreBlanks p ranges = TakesSpanIn p (Run Between blanks) ranges
 pub record IsBlankSet (p : Program) (sets : Code) (set : ℕ) : Type 0 where
   pub ranges : List (ℕ × ℕ)
   pub within : set < length sets.ranges.items
-  pub is : IsSetOf sets set ranges
+  pub is : IsSetOf (lists_of sets) set ranges
   pub blank : AreBlanks p ranges
 
 -- a set has no characters
 pub record IsEmptySet (sets : Code) (set : ℕ) : Type 0 where
   pub within : set < length sets.ranges.items
-  pub is : IsSetOf sets set []
+  pub is : IsSetOf (lists_of sets) set []
 
 -- what the implicit skipping takes: nothing, the characters of a set, or these and comments; of calls of the
 -- rules nothing is said
@@ -173,21 +174,21 @@ AreBound p plan = (i : ℕ) (d : Point) → i < length plan.points.items
 pub record IsLater (p : Program) (old new : Plan) : Type 0 where
   pub kept : (i : ℕ) (d : Point) → i < length old.points.items
       → (i < length new.points.items) × (get_or new.points.items i d ≡ get_or old.points.items i d)
-  pub met : (code : Code) (laid : List lay.Point) → Meets p new code laid → Meets p old code laid
+  pub met : (code : CodeLists) (laid : List lay.Point) → Meets p new code laid → Meets p old code laid
   pub bound : AreBound p old → AreBound p new
   pub ready : IsReady p old → IsReady p new
 
 -- a program that meets the plan has code for the task at the place
 abbrev pub LaysAt : Program → Plan → Task → Place → Type 0
 LaysAt p plan k at = (classes : Classes) → Fits p.properties.items classes
-    → (code : Code) (laid : List lay.Point) → Meets p plan code laid
+    → (code : CodeLists) (laid : List lay.Point) → Meets p plan code laid
     → Lays (is_exact code) (grammar_in p) classes code (number_in (grammar_in p)) laid at.rank k
     at.label at.next at.way
 
 -- so it goes on from the place to the task at a label
 abbrev pub EntersAt : Program → Plan → Task → Place → ℕ → Type 0
 EntersAt p plan k at first = (classes : Classes) → Fits p.properties.items classes
-    → (code : Code) (laid : List lay.Point) → Meets p plan code laid
+    → (code : CodeLists) (laid : List lay.Point) → Meets p plan code laid
     → Enters (is_exact code) (grammar_in p) classes code k at.label first at.way
 
 -- where no character of a head is next, the task fails, and records a failure there or none
@@ -203,7 +204,7 @@ TakesNoneIn p k h = (classes : Classes) → Fits p.properties.items classes
 -- so a table at the place leads on to the task at a label, or, where that fails, to another label
 abbrev pub BranchesAt : Program → Plan → Task → Place → (first second : ℕ) → Type 0
 BranchesAt p plan k at first second = (classes : Classes) → Fits p.properties.items classes
-    → (code : Code) (laid : List lay.Point) → Meets p plan code laid
+    → (code : CodeLists) (laid : List lay.Point) → Meets p plan code laid
     → HasTable (is_exact code) (grammar_in p) classes code k at.label first second at.next at.way
 
 -- where a character of the ranges is next, the task takes it alone, and records no failure
@@ -218,7 +219,7 @@ FailsBefore p k ranges rest = (classes : Classes) → Fits p.properties.items cl
     → Hits ranges s.rest × ((d : Does (grammar_in p) classes k s Failure) × IsSilent d)
 
 -- so it goes on from the place to a point that does the task
-pub record IsEntered (g : Grammar) (classes : Classes) (code : Code) (laid : List lay.Point) (k : Task)
+pub record IsEntered (g : Grammar) (classes : Classes) (code : CodeLists) (laid : List lay.Point) (k : Task)
     (at : Place) : Type 0 where
   pub first : ℕ
   pub entered : Enters (is_exact code) g classes code k at.label first at.way
@@ -226,7 +227,7 @@ pub record IsEntered (g : Grammar) (classes : Classes) (code : Code) (laid : Lis
 
 abbrev pub BeginsAt : Program → Plan → Task → Place → Type 0
 BeginsAt p plan k at = (classes : Classes) → Fits p.properties.items classes
-    → (code : Code) (laid : List lay.Point) → Meets p plan code laid
+    → (code : CodeLists) (laid : List lay.Point) → Meets p plan code laid
     → IsEntered (grammar_in p) classes code laid k at
 
 -- so it has code for the task of a point
@@ -243,12 +244,12 @@ pub record AreParts (p : Program) (laid : List lay.Point) (first second : Part) 
 
 -- a program that meets the plan has them
 abbrev pub HasParts : Program → Plan → Part → Part → Place → Type 0
-HasParts p plan first second at = (code : Code) (laid : List lay.Point) → Meets p plan code laid
+HasParts p plan first second at = (code : CodeLists) (laid : List lay.Point) → Meets p plan code laid
     → AreParts p laid first second at
 
 -- so it has code for the turns of a repetition, of which the first begins at a label
 abbrev pub HasTurns : Program → Plan → Expression → Place → ℕ → Type 0
-HasTurns p plan e at start = (classes : Classes) (code : Code) (laid : List lay.Point)
+HasTurns p plan e at start = (classes : Classes) (code : CodeLists) (laid : List lay.Point)
     → Meets p plan code laid
     → Enters (is_exact code) (grammar_in p) classes code (Run (mode_of at.mode) e) at.label start at.next
     → Lays (is_exact code) (grammar_in p) classes code (number_in (grammar_in p)) laid at.rank

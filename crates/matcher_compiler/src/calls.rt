@@ -3,7 +3,7 @@ ghost use Rattle.std.specs.Prelude.{◌≡◌, ◌<◌, ◌^◌, IfOk, List, OnO
 ghost use Rattle.base_ast.specs.Ast.{rule_type_of};
 ghost use Rattle.base_language.specs.Language.Expression.{Ident};
 ghost use Rattle.base_language.specs.Language.Meaning.{Run, gives_token};
-ghost use Rattle.matcher_code.specs.declared.code.Code.{Code};
+ghost use Rattle.matcher_code.specs.Lists.{CodeLists};
 ghost use Rattle.matcher_code.specs.Laid as lay;
 ghost use Rattle.matcher_code.specs.Laid.{IsPoint};
 ghost use Rattle.matcher_program.specs.Programs.{IsRuleOf, name_at, names_of};
@@ -106,7 +106,7 @@ impl<'p> Plan<'p> {
     ) -> Result<(u32, u32), NotCompiled>
         requires within { rule < length program.now.rows.items }
         ensures later { OnOk result (IsLater program.now self.old self.new) }
-        ensures has { IfOk result (λ labels. (code : Code) (laid : List lay.Point)
+        ensures has { IfOk result (λ labels. (code : CodeLists) (laid : List lay.Point)
             → Meets program.now self.new code laid
             → IsPoint laid (Run (mode_of mode) (body_in program.now rule)) labels.0 labels.1 0) }
     {

@@ -1,7 +1,8 @@
 //! The comparison of a program with its demands.
 ghost use Rattle.std.specs.Prelude.{◌≡◌, map, true};
 ghost use Rattle.base_language.specs.Language.Meaning.{Run};
-ghost use Rattle.matcher_code.specs.Laid.{IsEnd, IsPoint, at_label};
+ghost use Rattle.matcher_code.specs.Lists.{lists_of};
+ghost use Rattle.matcher_code.specs.Laid.{GoesOn, IsPoint, at_label};
 ghost use Rattle.matcher_program.specs.declared.form.Program.{Program};
 ghost use Rattle.matcher_compiler.specs.Compiled.{AreMet, HasEnds};
 ghost use Rattle.matcher_sets.specs.Modes.{mode_of};
@@ -310,7 +311,7 @@ fn is_same(one: Op, other: Op) -> bool
 
 /// Returns whether a label has an operation.
 fn has_operation(code: &Code, label: u32, op: Op) -> bool
-    ensures { result ≡ true → at_label code.now label ≡ op }
+    ensures { result ≡ true → at_label (lists_of code.now) label ≡ op }
 {
     match code.ops.get(label as usize) {
         Some(here) => is_same(*here, op),
@@ -318,12 +319,16 @@ fn has_operation(code: &Code, label: u32, op: Op) -> bool
     }
 }
 
-/// Returns whether the operation of a label does not end a run.
+/// Returns whether the operation of a label does not end a run, and pops no slot.
 fn goes_on(code: &Code, label: u32) -> bool
-    ensures { result ≡ true → IsEnd code.now label → ⊥ }
+    ensures { result ≡ true → GoesOn (lists_of code.now) label }
 {
     match code.ops.get(label as usize) {
-        Some(op) => !matches!(op, Op::Halt | Op::Lose),
+        Some(op) => match *op {
+            Op::Halt | Op::Lose | Op::Fail | Op::Return | Op::Back => false,
+            Op::Ahead { .. } | Op::Push { .. } => false,
+            _ => true,
+        },
         None => false,
     }
 }
@@ -375,7 +380,7 @@ fn is_note(op: Op) -> bool
 
 /// Returns whether no operation of a program records a failure without a name.
 pub(crate) fn is_exact(code: &Code) -> bool
-    ensures { result ≡ is_exact code.now }
+    ensures { result ≡ is_exact (lists_of code.now) }
 {
     for op in &code.ops {
         if is_note(*op) {
@@ -388,9 +393,9 @@ pub(crate) fn is_exact(code: &Code) -> bool
 /// Returns whether a table has the labels of a choice, and leads over no noted failure in exact code.
 /// `exact`: whether the code is so.
 fn has_table(code: &Code, exact: bool, branch: Branch) -> bool
-    requires { exact ≡ is_exact code.now }
-    ensures branches { result ≡ true → HasBranch code.now branch }
-    ensures allowed { result ≡ true → IsAllowed code.now branch.noted }
+    requires { exact ≡ is_exact (lists_of code.now) }
+    ensures branches { result ≡ true → HasBranch (lists_of code.now) branch }
+    ensures allowed { result ≡ true → IsAllowed (lists_of code.now) branch.noted }
 {
     if exact && branch.noted {
         return false;
@@ -400,8 +405,9 @@ fn has_table(code: &Code, exact: bool, branch: Branch) -> bool
 
 /// Returns whether a program has what is demanded. `exact`: whether it is exact.
 fn meets(code: &Code, exact: bool, points: &[Point<'_>], demand: Demand) -> bool
-    requires { exact ≡ is_exact code.now }
-    ensures { result ≡ true → (p : Program) → IsMet p code.now (map (laid_point p) points.now) demand }
+    requires { exact ≡ is_exact (lists_of code.now) }
+    ensures { result ≡ true → (p : Program)
+        → IsMet p (lists_of code.now) (map (laid_point p) points.now) demand }
 {
     match demand {
         Demand::Operation { label, op } => has_operation(code, label, op),
@@ -419,7 +425,7 @@ fn meets(code: &Code, exact: bool, points: &[Point<'_>], demand: Demand) -> bool
 
 /// Returns whether a program has all that is demanded.
 pub(crate) fn meets_all(code: &Code, points: &[Point<'_>], demands: &[Demand]) -> bool
-    ensures { result ≡ true → AreMet code.now points.now demands.now }
+    ensures { result ≡ true → AreMet (lists_of code.now) points.now demands.now }
 {
     let exact = is_exact(code);
     for demand in demands {
@@ -432,7 +438,7 @@ pub(crate) fn meets_all(code: &Code, points: &[Point<'_>], demands: &[Demand]) -
 
 /// Returns whether a program begins with the operations that fail and that end a run.
 pub(crate) fn has_ends(code: &Code) -> bool
-    ensures { result ≡ true → HasEnds code.now }
+    ensures { result ≡ true → HasEnds (lists_of code.now) }
 {
     has_operation(code, 0, Op::Fail)
         && has_operation(code, 1, Op::Halt)

@@ -2,6 +2,7 @@
 ghost use Rattle.std.specs.Prelude.{◌≡◌, ◌<◌, ◌^◌, IfOk, IfSome, None, OnOk, Some, [], false, get_or, if◌then◌else◌, length, map, true};
 ghost use Rattle.base_ast.specs.Ast.{rule_type_of};
 ghost use Rattle.base_language.specs.Language.Expression.{Silent};
+ghost use Rattle.matcher_code.specs.Lists.{lists_of};
 ghost use Rattle.matcher_code.specs.Sets.{IsAligned};
 ghost use Rattle.matcher_program.specs.declared.form.Program.{Program};
 ghost use Rattle.matcher_compiler.specs.Compiled.{AreMet, HasEnds, HasEntries, IsCodeOf, IsEmpty};
@@ -276,8 +277,8 @@ fn write(alloc: Global, demands: &[Demand]) -> Result<Vec<Op>, NotCompiled> {
 /// Returns a program if it has what is demanded.
 fn compare(code: Code, points: &[Point<'_>], demands: &[Demand]) -> Result<Code, NotCompiled>
     ensures same { IfOk result (λ made. made ≡ code) }
-    ensures ends { IfOk result HasEnds }
-    ensures met { IfOk result (λ made. AreMet made points.now demands.now) }
+    ensures ends { IfOk result (λ made. HasEnds (lists_of made)) }
+    ensures met { IfOk result (λ made. AreMet (lists_of made) points.now demands.now) }
 {
     if !has_ends(&code) {
         return Err(NotCompiled::Unsupported);
@@ -291,9 +292,9 @@ fn compare(code: Code, points: &[Point<'_>], demands: &[Demand]) -> Result<Code,
 
 /// Makes the program of a plan, and compares it with what is demanded.
 fn finish(alloc: Global, plan: Plan<'_>) -> Result<Code, NotCompiled>
-    ensures ends { IfOk result HasEnds }
+    ensures ends { IfOk result (λ made. HasEnds (lists_of made)) }
     ensures meets { IfOk result (λ code. (p : Program)
-        → Meets p plan.entry code (map (laid_point p) plan.entry.points.items)) }
+        → Meets p plan.entry (lists_of code) (map (laid_point p) plan.entry.points.items)) }
 {
     let Plan {
         points,
@@ -337,7 +338,7 @@ fn finish(alloc: Global, plan: Plan<'_>) -> Result<Code, NotCompiled>
 /// failure.
 pub fn compile(alloc: Global, program: &Program) -> Result<Code, NotCompiled>
     requires sound { IsSoundProgram program.now }
-    ensures { IfOk result (IsCodeOf false program.now) }
+    ensures { IfOk result (λ code. IsCodeOf false program.now (lists_of code)) }
 {
     let code = compile_with(alloc, program, false)?;
     Ok(code)
@@ -347,7 +348,7 @@ pub fn compile(alloc: Global, program: &Program) -> Result<Code, NotCompiled>
 /// names that are expected.
 pub fn compile_for_names(alloc: Global, program: &Program) -> Result<Code, NotCompiled>
     requires sound { IsSoundProgram program.now }
-    ensures { IfOk result (IsCodeOf true program.now) }
+    ensures { IfOk result (λ code. IsCodeOf true program.now (lists_of code)) }
 {
     let code = compile_with(alloc, program, true)?;
     if is_exact(&code) {
@@ -360,7 +361,7 @@ pub fn compile_for_names(alloc: Global, program: &Program) -> Result<Code, NotCo
 /// Makes a program, with calls of all rules whose failures are recorded, or without those that a test spares.
 fn compile_with(alloc: Global, program: &Program, calls_all: bool) -> Result<Code, NotCompiled>
     requires sound { IsSoundProgram program.now }
-    ensures { IfOk result (λ code. IsCodeOf (is_exact code) program.now code) }
+    ensures { IfOk result (λ code. IsCodeOf (is_exact (lists_of code)) program.now (lists_of code)) }
 {
     if program.rows.len() >= TOO_MANY_RULES {
         return Err(NotCompiled::Unsupported);

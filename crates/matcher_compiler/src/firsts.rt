@@ -1,7 +1,7 @@
 //! Tests before expressions.
 ghost use Rattle.std.specs.Prelude.{IfOk, IfSome, List, OnOk};
 ghost use Rattle.base_language.specs.Language.Meaning.{Run, Task};
-ghost use Rattle.matcher_code.specs.declared.code.Code.{Code};
+ghost use Rattle.matcher_code.specs.Lists.{CodeLists};
 ghost use Rattle.matcher_code.specs.Laid as lay;
 ghost use Rattle.matcher_code.specs.Laid.{GoesTo};
 ghost use Rattle.matcher_program.specs.declared.form.Program.{Program};
@@ -118,7 +118,7 @@ impl<'p> Plan<'p> {
     /// recorded.
     pub(crate) fn miss(&mut self, noted: bool, way: u32, note: u32) -> Result<u32, NotCompiled>
         ensures later { OnOk result ((p : Program) → IsLater p self.old self.new) }
-        ensures goes { IfOk result (λ miss. (p : Program) (code : Code) (laid : List lay.Point)
+        ensures goes { IfOk result (λ miss. (p : Program) (code : CodeLists) (laid : List lay.Point)
             → Meets p self.new code laid → GoesTo code noted miss way) }
     {
         if noted {

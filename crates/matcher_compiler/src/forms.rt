@@ -3,8 +3,7 @@ ghost use Rattle.std.specs.Prelude.{◌≡◌, ◌<◌, ◌^◌, ◌&&◌, ℕ, 
 ghost use Rattle.base_language.specs.Language.Expression.{Ident, Insens, Seq, Str, rule_of};
 ghost use Rattle.base_language.specs.Language.Meaning.{Run, seen_from};
 ghost use Rattle.base_language.specs.Language.State.{AtomicMode};
-ghost use Rattle.matcher_code.specs.Reading.{is_covered};
-ghost use Rattle.matcher_code.specs.declared.code.Code.{Code};
+ghost use Rattle.matcher_code.specs.Lists.{CodeLists, is_covered};
 ghost use Rattle.matcher_code.specs.Laid as lay;
 ghost use Rattle.matcher_code.specs.Laid.{MatchesText};
 ghost use Rattle.matcher_program.specs.declared.form.Program.{Program};
@@ -86,7 +85,7 @@ impl<'p> Plan<'p> {
         ranges: Ranges,
     ) -> Result<u32, NotCompiled>
         ensures later { OnOk result ((p : Program) → IsLater p self.old self.new) }
-        ensures means { IfOk result (λ set. (p : Program) (code : Code) (laid : List lay.Point)
+        ensures means { IfOk result (λ set. (p : Program) (code : CodeLists) (laid : List lay.Point)
             → Meets p self.new code laid
             → HasSet code set (λ c. not (is_covered others.now.items c) && is_covered ranges.items c)) }
     {
@@ -184,7 +183,7 @@ impl<'p> Plan<'p> {
         fail: u32,
     ) -> Result<(), NotCompiled>
         ensures later { OnOk result ((p : Program) → IsLater p self.old self.new) }
-        ensures has { OnOk result ((p : Program) (code : Code) (laid : List lay.Point)
+        ensures has { OnOk result ((p : Program) (code : CodeLists) (laid : List lay.Point)
             → Meets p self.new code laid → MatchesText code label text.now next fail) }
     {
         let number = self.text(alloc, text)?;

@@ -1,4 +1,5 @@
 //! Plans of programs.
+ghost use Rattle.matcher_code.specs.Lists.{CodeLists};
 ghost use Rattle.matcher_code.specs.Sets.{IsAligned};
 ghost use Rattle.matcher_compiler.specs.Sets.{AreKnownIn};
 
@@ -52,7 +53,6 @@ impl<'p> Plan<'p> {
     ghost use Rattle.std.specs.Prelude.{◌≡◌, IfOk, List, OnOk, false, map, true};
     ghost use Rattle.base_ast.specs.Ast.{text_of as characters_of};
     ghost use Rattle.base_language.specs.Language.State.{NonAtomicMode};
-    ghost use Rattle.matcher_code.specs.declared.code.Code.{Code};
     ghost use Rattle.matcher_code.specs.Reading.{list_of, text_of};
     ghost use Rattle.matcher_code.specs.Sets.{IsSetOf};
     ghost use Rattle.matcher_code.specs.Laid as lay;
@@ -81,7 +81,7 @@ impl<'p> Plan<'p> {
     /// Adds a demand.
     pub(crate) fn demand(&mut self, demand: Demand) -> Result<(), NotCompiled>
         ensures later { OnOk result ((p : Program) → IsLater p self.old self.new) }
-        ensures met { OnOk result ((p : Program) (code : Code) (laid : List lay.Point)
+        ensures met { OnOk result ((p : Program) (code : CodeLists) (laid : List lay.Point)
             → Meets p self.new code laid → IsMet p code laid demand) }
     {
         if self.demands.push(demand).is_err() {
@@ -93,7 +93,7 @@ impl<'p> Plan<'p> {
     /// Demands the operation of a label.
     pub(crate) fn operation(&mut self, label: u32, op: Op) -> Result<(), NotCompiled>
         ensures later { OnOk result ((p : Program) → IsLater p self.old self.new) }
-        ensures met { OnOk result ((p : Program) (code : Code) (laid : List lay.Point)
+        ensures met { OnOk result ((p : Program) (code : CodeLists) (laid : List lay.Point)
             → Meets p self.new code laid → at_label code label ≡ op) }
     {
         self.demand(Demand::Operation { label, op })
@@ -103,7 +103,7 @@ impl<'p> Plan<'p> {
     pub(crate) fn point(&mut self, part: Part<'p>, at: Place) -> Result<(), NotCompiled>
         ensures later { OnOk result ((p : Program) → IsBoundPart p part.entry
             → IsLater p self.old self.new) }
-        ensures has { OnOk result ((p : Program) (code : Code) (laid : List lay.Point)
+        ensures has { OnOk result ((p : Program) (code : CodeLists) (laid : List lay.Point)
             → Meets p self.new code laid
             → IsPart laid at.rank (task_in p part.entry (mode_of at.mode)) at.label at.next at.way) }
     {
@@ -124,7 +124,7 @@ impl<'p> Plan<'p> {
     /// Adds a set of the characters in some ranges, and returns its number.
     fn new_set(&mut self, ranges: Ranges) -> Result<u32, NotCompiled>
         ensures later { OnOk result ((p : Program) → IsLater p self.old self.new) }
-        ensures means { IfOk result (λ set. (p : Program) (code : Code) (laid : List lay.Point)
+        ensures means { IfOk result (λ set. (p : Program) (code : CodeLists) (laid : List lay.Point)
             → Meets p self.new code laid → IsSetOf code set ranges.items) }
     {
         let before = self.sets.ranges.len();
@@ -153,7 +153,7 @@ impl<'p> Plan<'p> {
     /// Returns the number of a set of the characters in some ranges, which is added if there is none.
     pub(crate) fn set(&mut self, ranges: Ranges) -> Result<u32, NotCompiled>
         ensures later { OnOk result ((p : Program) → IsLater p self.old self.new) }
-        ensures means { IfOk result (λ set. (p : Program) (code : Code) (laid : List lay.Point)
+        ensures means { IfOk result (λ set. (p : Program) (code : CodeLists) (laid : List lay.Point)
             → Meets p self.new code laid → IsSetOf code set ranges.items) }
     {
         match known_set(self.known.as_slice(), &ranges) {
@@ -165,7 +165,7 @@ impl<'p> Plan<'p> {
     /// Adds a text, and returns its number.
     pub(crate) fn text(&mut self, alloc: Global, text: &str) -> Result<u32, NotCompiled>
         ensures later { OnOk result ((p : Program) → IsLater p self.old self.new) }
-        ensures means { IfOk result (λ number. (p : Program) (code : Code) (laid : List lay.Point)
+        ensures means { IfOk result (λ number. (p : Program) (code : CodeLists) (laid : List lay.Point)
             → Meets p self.new code laid → text_of code number ≡ text.now) }
     {
         let number = self.texts.len();
@@ -182,7 +182,7 @@ impl<'p> Plan<'p> {
     /// Adds a list of numbers of texts, and returns its number.
     fn list(&mut self, numbers: Vec<u32>) -> Result<u32, NotCompiled>
         ensures later { OnOk result ((p : Program) → IsLater p self.old self.new) }
-        ensures means { IfOk result (λ number. (p : Program) (code : Code) (laid : List lay.Point)
+        ensures means { IfOk result (λ number. (p : Program) (code : CodeLists) (laid : List lay.Point)
             → Meets p self.new code laid → list_of code number ≡ numbers.items) }
     {
         let number = self.lists.len();
@@ -198,7 +198,7 @@ impl<'p> Plan<'p> {
     /// Adds some texts, and returns their numbers.
     fn text_numbers(&mut self, alloc: Global, texts: &Vec<String>) -> Result<Vec<u32>, NotCompiled>
         ensures later { OnOk result ((p : Program) → IsLater p self.old self.new) }
-        ensures means { IfOk result (λ numbers. (p : Program) (code : Code) (laid : List lay.Point)
+        ensures means { IfOk result (λ numbers. (p : Program) (code : CodeLists) (laid : List lay.Point)
             → Meets p self.new code laid
             → AreTexts code numbers.items (map characters_of texts.now.items)) }
     {
@@ -219,7 +219,7 @@ impl<'p> Plan<'p> {
         texts: &Vec<String>,
     ) -> Result<u32, NotCompiled>
         ensures later { OnOk result ((p : Program) → IsLater p self.old self.new) }
-        ensures means { IfOk result (λ number. (p : Program) (code : Code) (laid : List lay.Point)
+        ensures means { IfOk result (λ number. (p : Program) (code : CodeLists) (laid : List lay.Point)
             → Meets p self.new code laid
             → AreTexts code (list_of code number) (map characters_of texts.now.items)) }
     {

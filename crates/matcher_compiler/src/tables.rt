@@ -1,22 +1,32 @@
 //! Tables by the first byte.
 ghost use Rattle.std.specs.Prelude.{◌≡◌, ◌<◌, ◌≤◌, IfSome, List, MatchOption, OnOk, Some, false, nat_eq, true, ℕ};
 ghost use Rattle.base_language.specs.Language.Matching.{begins};
+ghost use Rattle.matcher_code.specs.Lists.{lists_of};
 ghost use Rattle.matcher_code.specs.declared.code.Op.TheVariants as op;
-ghost use Rattle.matcher_code.specs.Reading.{char_len, text_of};
+ghost use Rattle.matcher_code.specs.Reading.{char_len, flag, text_of};
 ghost use Rattle.matcher_code.specs.Laid.{Moves, Notes, Skips, at_label, head_of, label_for};
 ghost use Rattle.matcher_compiler.specs.Plans.{ContinuesAs, HasBranch, KeepsData};
 
 use crate::points::{Branch, Demand, NotCompiled};
 use matcher_code::code::{Code, Op};
-use matcher_code::reading::flag;
 use std::alloc::{AllocError, Global};
 
 /// How many labels a table has: one for each byte, and the last for the end.
 pub(crate) const TABLE_SIZE: u32 = 257;
 
+/// Returns the flag of a byte in a row.
+fn flag(code: &Code, row: u32, byte: u8) -> u8
+    ensures { result ≡ flag (lists_of code.now) row byte }
+{
+    match code.rows.get(row as usize * 256 + byte as usize) {
+        Some(flag) => *flag,
+        None => 0,
+    }
+}
+
 /// Returns the flag of a first byte in a row, or 0 at the end.
 fn flag_at(code: &Code, row: u32, head: Option<u8>) -> u8
-    ensures { result ≤ 4 → (bs : List ℕ) → head_of bs ≡ head → char_len code.now row bs ≡ result }
+    ensures { result ≤ 4 → (bs : List ℕ) → head_of bs ≡ head → char_len (lists_of code.now) row bs ≡ result }
 {
     match head {
         Some(byte) => flag(code, row, byte),
@@ -37,7 +47,7 @@ fn index_of(head: Option<u8>) -> usize
 
 /// Returns the label that a table has for a first byte, or for the end.
 fn label_for(code: &Code, table: u32, head: Option<u8>) -> u32
-    ensures { result ≡ label_for code.now table head }
+    ensures { result ≡ label_for (lists_of code.now) table head }
 {
     match code.tables.get(table as usize + index_of(head)) {
         Some(label) => *label,
@@ -47,7 +57,7 @@ fn label_for(code: &Code, table: u32, head: Option<u8>) -> u32
 
 /// Returns the first byte of a text.
 fn first_byte(code: &Code, text: u32) -> Option<u8>
-    ensures { result ≡ head_of (text_of code.now text) }
+    ensures { result ≡ head_of (text_of (lists_of code.now) text) }
 {
     match code.texts.get(text as usize) {
         Some(bytes) => match bytes.as_slice() {
@@ -61,7 +71,7 @@ fn first_byte(code: &Code, text: u32) -> Option<u8>
 /// Returns whether a text is not empty, and begins with another byte.
 fn begins_otherwise(code: &Code, text: u32, head: Option<u8>) -> bool
     ensures { result ≡ true → (bs : List ℕ) → head_of bs ≡ head
-        → begins nat_eq (text_of code.now text) bs ≡ false }
+        → begins nat_eq (text_of (lists_of code.now) text) bs ≡ false }
 {
     match first_byte(code, text) {
         Some(first) => match head {
@@ -81,7 +91,8 @@ fn label_after_test(
     fail: u32,
     head: Option<u8>,
 ) -> Option<u32>
-    ensures { at_label code.now label ≡ op.IsOne set next fail → IfSome result (Moves code.now head label) }
+    ensures { at_label (lists_of code.now) label ≡ op.IsOne set next fail
+        → IfSome result (Moves (lists_of code.now) head label) }
 {
     let flag = flag_at(code, set, head);
     if flag == 0 {
@@ -95,7 +106,7 @@ fn label_after_test(
 
 /// Returns the operation of a label.
 fn operation_at(code: &Code, label: u32) -> Op
-    ensures { result ≡ at_label code.now label }
+    ensures { result ≡ at_label (lists_of code.now) label }
 {
     match code.ops.get(label as usize) {
         Some(here) => *here,
@@ -106,7 +117,8 @@ fn operation_at(code: &Code, label: u32) -> Op
 /// Returns the label at which the operation of a label goes on for a first byte, if it does nothing else.
 #[inline(always)]
 fn next_label(code: &Code, label: u32, here: Op, head: Option<u8>) -> Option<u32>
-    ensures { at_label code.now label ≡ here → IfSome result (Moves code.now head label) }
+    ensures { at_label (lists_of code.now) label ≡ here
+        → IfSome result (Moves (lists_of code.now) head label) }
 {
     match here {
         Op::Switch { table } => Some(label_for(code, table, head)),
@@ -135,7 +147,7 @@ fn next_label(code: &Code, label: u32, here: Op, head: Option<u8>) -> Option<u32
 
 /// Returns the label after the operation of a label, if that records a failure.
 fn label_after_note(code: &Code, label: u32) -> Option<u32>
-    ensures { IfSome result (λ next. at_label code.now label ≡ op.Note next) }
+    ensures { IfSome result (λ next. at_label (lists_of code.now) label ≡ op.Note next) }
 {
     match code.ops.get(label as usize) {
         Some(Op::Note { next }) => Some(*next),
@@ -146,7 +158,8 @@ fn label_after_note(code: &Code, label: u32) -> Option<u32>
 /// Returns whether the operation of a label goes on at another one for a first byte, and does nothing else.
 #[inline(always)]
 fn moves(code: &Code, from: u32, here: Op, head: Option<u8>, to: u32) -> bool
-    ensures { at_label code.now from ≡ here → result ≡ true → Moves code.now head from to }
+    ensures { at_label (lists_of code.now) from ≡ here → result ≡ true
+        → Moves (lists_of code.now) head from to }
 {
     match next_label(code, from, here, head) {
         Some(next) => next == to,
@@ -157,7 +170,8 @@ fn moves(code: &Code, from: u32, here: Op, head: Option<u8>, to: u32) -> bool
 /// Returns whether a label is another one, or where the operation of that one goes on for a first byte.
 #[inline(always)]
 fn skips(code: &Code, from: u32, here: Op, head: Option<u8>, to: u32) -> bool
-    ensures { at_label code.now from ≡ here → result ≡ true → Skips code.now head from to }
+    ensures { at_label (lists_of code.now) from ≡ here → result ≡ true
+        → Skips (lists_of code.now) head from to }
 {
     to == from || moves(code, from, here, head, to)
 }
@@ -166,8 +180,8 @@ fn skips(code: &Code, from: u32, here: Op, head: Option<u8>, to: u32) -> bool
 /// given.
 #[inline(always)]
 fn has_note(code: &Code, branch: Branch, second: Op, head: Option<u8>, to: u32) -> bool
-    ensures { at_label code.now branch.second ≡ second → result ≡ true
-        → Notes code.now head branch.second branch.next branch.way to }
+    ensures { at_label (lists_of code.now) branch.second ≡ second → result ≡ true
+        → Notes (lists_of code.now) head branch.second branch.next branch.way to }
 {
     let behind = match label_after_note(code, to) {
         Some(behind) => behind,
@@ -186,8 +200,10 @@ fn has_note(code: &Code, branch: Branch, second: Op, head: Option<u8>, to: u32) 
 /// the alternatives begin.
 #[inline(always)]
 fn has_label(code: &Code, branch: Branch, first: Op, second: Op, head: Option<u8>) -> bool
-    ensures { at_label code.now branch.first ≡ first → at_label code.now branch.second ≡ second
-        → result ≡ true → ContinuesAs code.now branch head (label_for code.now branch.table head) }
+    ensures { at_label (lists_of code.now) branch.first ≡ first
+        → at_label (lists_of code.now) branch.second ≡ second
+        → result ≡ true
+        → ContinuesAs (lists_of code.now) branch head (label_for (lists_of code.now) branch.table head) }
 {
     let to = label_for(code, branch.table, head);
     if flag_at(code, branch.set, head) != 0 {
@@ -202,7 +218,7 @@ fn has_label(code: &Code, branch: Branch, first: Op, second: Op, head: Option<u8
 /// Returns whether a text is not empty, and begins with a byte of ASCII.
 fn begins_in_ascii(code: &Code, text: u32) -> bool
     ensures { result ≡ true → (b : ℕ) (bs : List ℕ) → 128 ≤ b → head_of bs ≡ Some b
-        → begins nat_eq (text_of code.now text) bs ≡ false }
+        → begins nat_eq (text_of (lists_of code.now) text) bs ≡ false }
 {
     match first_byte(code, text) {
         Some(first) => first < 128,
@@ -213,8 +229,8 @@ fn begins_in_ascii(code: &Code, text: u32) -> bool
 /// Returns the label at which the operation of a label goes on for each first byte above ASCII, the label
 /// itself if that does more, or `None` if that is not known.
 fn wide_label(code: &Code, label: u32, here: Op) -> Option<u32>
-    ensures { at_label code.now label ≡ here → IfSome result (λ to. (b : ℕ) → 128 ≤ b
-        → Skips code.now (Some b) label to) }
+    ensures { at_label (lists_of code.now) label ≡ here → IfSome result (λ to. (b : ℕ) → 128 ≤ b
+        → Skips (lists_of code.now) (Some b) label to) }
 {
     match here {
         Op::Switch { table: _ } => None,
@@ -235,7 +251,8 @@ fn wide_label(code: &Code, label: u32, here: Op) -> Option<u32>
 
 /// Returns whether a table has one label for all first bytes above ASCII.
 fn is_wide(code: &Code, table: u32, to: u32) -> bool
-    ensures { result ≡ true → (b : ℕ) → 128 ≤ b → b < 256 → label_for code.now table (Some b) ≡ to }
+    ensures { result ≡ true → (b : ℕ) → 128 ≤ b → b < 256
+        → label_for (lists_of code.now) table (Some b) ≡ to }
 {
     for byte in 128..256u32 {
         if label_for(code, table, Some(byte as u8)) != to {
@@ -249,9 +266,11 @@ fn is_wide(code: &Code, table: u32, to: u32) -> bool
 /// The operations are those at which the alternatives begin.
 fn has_labels(code: &Code, branch: Branch, first: Op, second: Op, from: u32, to: u32) -> bool
     requires { to ≤ 256 }
-    ensures { at_label code.now branch.first ≡ first → at_label code.now branch.second ≡ second
+    ensures { at_label (lists_of code.now) branch.first ≡ first
+        → at_label (lists_of code.now) branch.second ≡ second
         → result ≡ true → (b : ℕ) → from ≤ b → b < to
-        → ContinuesAs code.now branch (Some b) (label_for code.now branch.table (Some b)) }
+        → ContinuesAs (lists_of code.now) branch (Some b) (label_for (lists_of code.now) branch.table
+        (Some b)) }
 {
     for byte in from..to {
         if !has_label(code, branch, first, second, Some(byte as u8)) {
@@ -263,9 +282,11 @@ fn has_labels(code: &Code, branch: Branch, first: Op, second: Op, from: u32, to:
 
 /// Returns whether the table of a choice has the labels for all first bytes above ASCII.
 fn has_wide(code: &Code, branch: Branch, first: Op, second: Op) -> bool
-    ensures { at_label code.now branch.first ≡ first → at_label code.now branch.second ≡ second
+    ensures { at_label (lists_of code.now) branch.first ≡ first
+        → at_label (lists_of code.now) branch.second ≡ second
         → result ≡ true → (b : ℕ) → 128 ≤ b → b < 256
-        → ContinuesAs code.now branch (Some b) (label_for code.now branch.table (Some b)) }
+        → ContinuesAs (lists_of code.now) branch (Some b) (label_for (lists_of code.now) branch.table
+        (Some b)) }
 {
     match wide_label(code, branch.first, first) {
         Some(to) => {
@@ -277,7 +298,7 @@ fn has_wide(code: &Code, branch: Branch, first: Op, second: Op) -> bool
 
 /// Returns whether the table of a choice has the labels for all first bytes and for the end.
 pub(crate) fn has_branch(code: &Code, branch: Branch) -> bool
-    ensures { result ≡ true → HasBranch code.now branch }
+    ensures { result ≡ true → HasBranch (lists_of code.now) branch }
 {
     let first = operation_at(code, branch.first);
     let second = operation_at(code, branch.second);

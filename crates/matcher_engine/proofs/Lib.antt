@@ -8,5 +8,7 @@ pub mod Results
 pub mod Rows
 pub mod RuleSets
 pub mod Sound
+pub mod TreeNames
 pub mod Totals
 pub mod Uniqueness
+pub mod Walking

@@ -28,6 +28,7 @@ use Rattle.matcher_engine.specs.declared.matcher.Preorder.{Preorder}
 use Rattle.matcher_engine.proofs.OneDerivation.{Answer, one_answer}
 use Rattle.matcher_engine.proofs.Uniqueness.{one_trees}
 use Rattle.matcher_machine.specs.declared.machine.Machine.{Machine}
+use Rattle.matcher_engine.specs.Reasons.{HasReason}
 use Rattle.matcher_engine.specs.Runs.{HasFound, IsRun}
 use Rattle.base_language.specs.Language.Expected.{expected_at}
 use Rattle.matcher_code.specs.Steps.{with_rows}
@@ -111,9 +112,19 @@ module _ (g : Grammar) (ps : List Property) (n : Text) (s : State) where
   stop_prop steps stop.Memory = Unit-prop
   stop_prop steps stop.OutOfSteps = hlevel (props, le_prop)
   stop_prop steps stop.EmptyStack = hlevel props
+  stop_prop steps stop.TextTooLong = le_prop
 
   pub one_stop : (steps : ℕ) (why : Stop) → ∥ IsStoppedFrom g ps n s steps why ∥₁ → IsStoppedFrom g ps n s steps why
   one_stop steps why stopped = ∥∥₁_elim stopped (stop_prop steps why) (λ x. x)
+
+  reason_prop : (steps : ℕ) (why : Stop) → IsProp (HasReason g ps n s steps why)
+  reason_prop steps stop.Memory = Unit-prop
+  reason_prop steps stop.TextTooLong = Unit-prop
+  reason_prop steps stop.OutOfSteps = hlevel props
+  reason_prop steps stop.EmptyStack = hlevel props
+
+  pub one_reason : (steps : ℕ) (why : Stop) → ∥ HasReason g ps n s steps why ∥₁ → HasReason g ps n s steps why
+  one_reason steps why reason = ∥∥₁_elim reason (reason_prop steps why) (λ x. x)
 
 -- the names of a run
 pub has_names : (p : Program) (n : Text) (s : State) (steps place : ℕ) (m : Machine) (x : Option ℕ) → IsRun p n s steps place m (Ok x) → (classes : Classes) → Fits p.properties.items classes

@@ -1,11 +1,11 @@
 -- What a run of compiled rules says of a rule on a text.
-use Rattle.std.proofs.Common.{◌≡◌, refl, sym, ◌∙◌, ap, subst, ℕ, ◌+◌, ◌-◌, ◌*◌, ◌<◌, ◌≤◌, List, [], Some, chars, drop, length, inl, inr, arith, zero, suc, Bool, map}
+use Rattle.std.proofs.Common.{◌≡◌, refl, sym, ◌∙◌, ap, subst, ℕ, ◌+◌, ◌-◌, ◌*◌, ◌<◌, ◌≤◌, List, [], Some, chars, drop, length, inl, inr, arith, Bool, map}
 use Rattle.std.specs.Prelude.{IsUtf8, max}
 use Rattle.std.specs.Str.{IsCharBoundary}
 use Rattle.std.proofs.lemmas.Bool.{cases_lt}
-use Rattle.std.proofs.lemmas.List.{length-map}
+use Rattle.std.proofs.lemmas.List.{length-drop, length-map}
 use Rattle.std.proofs.lemmas.List.Elements.{All-nil}
-use Rattle.std.proofs.lemmas.Str.{IsUtf8-drop}
+use Rattle.std.proofs.lemmas.Str.{IsUtf8-drop, encodes-chars}
 use Rattle.base_language.specs.Language.Expression.{Ident, last_place}
 use Rattle.base_language.specs.Language.FurthestFailure.{furthest}
 use Rattle.base_language.specs.Language.Meaning.{Does, Run, Task}
@@ -13,23 +13,23 @@ use Rattle.base_language.specs.Language.State.{Classes, Failure, NonAtomicMode, 
 use Rattle.base_language.specs.Language.Text.{Text}
 use Rattle.base_language.specs.Pieces.Span.{position_offset, position_text}
 use Rattle.base_language.specs.declared.runtime.places.Position.{Position}
-use Rattle.matcher_code.specs.declared.code.Code.{Code}
+use Rattle.matcher_code.specs.Lists.{CodeLists}
 use Rattle.matcher_code.specs.declared.code.Op.TheVariants as op
-use Rattle.matcher_code.specs.Steps.{Config, jump, op_at, steps, step, with_rows}
+use Rattle.matcher_code.specs.Steps.{Config, LacksText, StopsAt, jump, op_at, steps, with_rows}
 use Rattle.matcher_code.specs.Endings.{IsFound}
 use Rattle.matcher_code.specs.Laid.{IsEnd, IsPoint}
 use Rattle.matcher_code.specs.Reached.{IsAt, Reaches, with_failure, with_success, MayAsk}
 use Rattle.matcher_code.specs.Sizes.{size}
-use Rattle.matcher_code.proofs.Existence.{finds, stays_ended}
+use Rattle.matcher_code.proofs.Existence.{Goes, begun, end_stops, finds, found, goes, lacks, stays_ended}
 use Rattle.matcher_code.proofs.Forward.{comes, fail_forward, guard_forward}
-use Rattle.matcher_code.proofs.Reaching.{reaching, steps_add, within}
+use Rattle.matcher_code.proofs.Reaching.{lacks_stops, reaching, stays_stopped, steps_add, within}
 use Rattle.matcher_machine.specs.declared.machine.Machine.{Machine}
 use Rattle.matcher_machine.specs.declared.machine.RunEnd.TheVariants as ended
 use Rattle.matcher_machine.specs.Machines.{EndsAtLast, config}
 use Rattle.matcher_program.specs.declared.form.Program.{Program}
 use Rattle.matcher_program.specs.Programs.{Fits, name_at, names_of, rule_of_row}
 use Rattle.matcher_program.specs.declared.answers.Stop.TheVariants as stop
-use Rattle.matcher_program.specs.Answers.{IsStoppedFrom, start_of, state_at}
+use Rattle.matcher_program.specs.Answers.{IsStoppedFrom, start_of, state_at, text_size}
 use Rattle.matcher_compiler.specs.Compiled.{IsCodeOf}
 use Rattle.matcher_compiler.specs.Names.{number_in}
 use Rattle.matcher_sets.specs.Forms.{grammar_in}
@@ -38,6 +38,8 @@ use Rattle.matcher_engine.proofs.Known.{named_map, no_rule, placed}
 use Rattle.matcher_engine.proofs.Totals.{same_size}
 use Rattle.base_language.specs.Language.Expected.{expected_at}
 use Rattle.matcher_code.specs.Failures.{failures_at}
+use Rattle.matcher_engine.specs.Reasons as longer
+use Rattle.matcher_engine.specs.Reasons.{HasReason, IsLonger, ReadsEmptyStack}
 use Rattle.matcher_engine.specs.Runs.{HasFailed, HasFound, IsFresh}
 use Rattle.matcher_machine.specs.declared.machine.RunEnd.{RunEnd}
 
@@ -46,7 +48,7 @@ abbrev pub start_at : ℕ → ℕ → ℕ → Config
 start_at from asked l = record { pc = l; at = from; slots = []; trees = []; stack = []; furthest = 0; asked = asked; names = [] }
 
 -- a machine before its first step
-pub fresh : (code : Code) (text : List ℕ) (m : Machine) (l from : ℕ) → IsFresh m → config code text m l from ≡ start_at from m.asked l
+pub fresh : (code : CodeLists) (text : List ℕ) (m : Machine) (l from : ℕ) → IsFresh m → config code text m l from ≡ start_at from m.asked l
 fresh code text m l from f =
     let a = f.slots in
     let b = f.trees in
@@ -62,6 +64,13 @@ stands_at p text from e h u b =
     let v : IsUtf8 (position_text p) = rw e at u in
     rw (e, h) (record { position = refl; rest = refl; within = b.0; valid = IsUtf8-drop (position_text p) (position_offset p) v b; bytes = bytes_of_text (position_text p) v; texts = refl; valid_texts = All-nil IsUtf8 })
 
+-- the bytes up to a position, and those behind it
+pub whole_size : (p : Position) → IsUtf8 (position_text p) → IsCharBoundary (position_text p) (position_offset p) → text_size (state_at p) ≡ length (position_text p)
+whole_size p u b =
+    let text = position_text p in
+    let from = position_offset p in
+    omega (arith, ap length (encodes-chars (drop from text) (IsUtf8-drop text from u b)), length-drop from text, b.0)
+
 -- the start of a text is a position of it
 abbrev state_behind : List ℕ → ℕ → State
 state_behind text i = record { position = i; rest = chars (drop i text); stack = [] }
@@ -70,7 +79,7 @@ pub first_state : (p : Position) (text : List ℕ) → position_text p ≡ text 
 first_state p text e h = ap (λ t. state_behind t (position_offset p)) e ∙ ap (λ i. state_behind text i) h
 
 -- a run that has ended stands where it comes to
-same_end : (code : Code) (text : List ℕ) (m : ℕ) {i j : ℕ} {c d : Config} (x : Reaches code text i j c d) → IsEnd code d.pc → IsEnd code (steps code text m c).pc
+same_end : (code : CodeLists) (text : List ℕ) (m : ℕ) {i j : ℕ} {c d : Config} (x : Reaches code text i j c d) → IsEnd code d.pc → IsEnd code (steps code text m c).pc
     → steps code text m c ≡ d
 same_end code text m {c = c} {d = d} x e h =
     let z : m + x.taken ≡ x.taken + m = omega arith in
@@ -78,19 +87,14 @@ same_end code text m {c = c} {d = d} x e h =
     ∙ (ap (λ k. steps code text k c) z ∙ (steps_add code text x.taken m c ∙ (ap (steps code text m) x.same ∙ stays_ended code text d e m)))
 
 -- a run has ended after so many steps as it takes to come to an end
-ends_by : (code : Code) (text : List ℕ) (m : ℕ) {i j : ℕ} {c d : Config} (x : Reaches code text i j c d) → x.taken ≤ m → IsEnd code d.pc → IsEnd code (steps code text m c).pc
+ends_by : (code : CodeLists) (text : List ℕ) (m : ℕ) {i j : ℕ} {c d : Config} (x : Reaches code text i j c d) → x.taken ≤ m → IsEnd code d.pc → IsEnd code (steps code text m c).pc
 ends_by code text m {c = c} {d = d} x l e =
     let z : x.taken + (m - x.taken) ≡ m = omega (arith, l) in
     let q : steps code text m c ≡ d =
     ap (λ k. steps code text k c) (sym z) ∙ (steps_add code text x.taken (m - x.taken) c ∙ (ap (steps code text (m - x.taken)) x.same ∙ stays_ended code text d e (m - x.taken))) in
     subst (λ y. IsEnd code y.pc) (sym q) e
 
--- a run that stays where it is
-stays_there : (code : Code) (text : List ℕ) (n : ℕ) (c : Config) → step code text c ≡ c → steps code text n c ≡ c
-stays_there code text zero c h = refl
-stays_there code text (suc n) c h = ap (steps code text n) h ∙ stays_there code text n c h
-
-module _ (p : Program) (exact : Bool) (code : Code) (is : IsCodeOf exact p code) (n : Text) (i : ℕ) (meant : last_place (grammar_in p) n ≡ Some i)
+module _ (p : Program) (exact : Bool) (code : CodeLists) (is : IsCodeOf exact p code) (n : Text) (i : ℕ) (meant : last_place (grammar_in p) n ≡ Some i)
     (text : List ℕ) (s : State) (from asked : ℕ) (stands : IsAt text s from []) (asks : MayAsk exact text asked) where
   abbrev task : Task
   task = Run NonAtomicMode (Ident n)
@@ -100,6 +104,9 @@ module _ (p : Program) (exact : Bool) (code : Code) (is : IsCodeOf exact p code)
 
   abbrev after : ℕ → Config
   after m = steps code text m start
+
+  abbrev HasStopped : Config → Type 0
+  HasStopped c = StopsAt (op_at code text c.pc) c
 
   abbrev rows_at : {classes : Classes} {o : Outcome} → Does (grammar_in p) classes task s o → List ℕ
   rows_at d = with_rows [] (map (number_in (grammar_in p)) (expected_at asked d))
@@ -129,6 +136,9 @@ module _ (p : Program) (exact : Bool) (code : Code) (is : IsCodeOf exact p code)
         let x = comes code text (number_in (grammar_in p)) is.ends.fail exact (grammar_in p) classes is.points laid d (laid task (i + 3) 1 2 entry) start stands asks (guard_forward 2 0 start up) in
         within code text 0 (8 * size d) (reaching code text x.reaches (fail_forward 2 (with_failure (number_in (grammar_in p)) (failures_at asked d) start) up)) (omega arith) (omega arith)
 
+    goes_here : (m : ℕ) → Goes code text (grammar_in p) classes 0 m task s start
+    goes_here m = goes code text (number_in (grammar_in p)) is.ends.fail exact (grammar_in p) classes is.points (is.laid classes fits) entry s start stands asks (guard_forward 2 0 start up) m
+
     outcome_of : (m : ℕ) → IsEnd code (after m).pc → IsFound (grammar_in p) classes task s
     outcome_of m h = finds code text (number_in (grammar_in p)) is.ends.fail exact (grammar_in p) classes is.points (is.laid classes fits) entry s start stands asks (guard_forward 2 0 start up) m (record { ended = h })
 
@@ -141,9 +151,9 @@ module _ (p : Program) (exact : Bool) (code : Code) (is : IsCodeOf exact p code)
         elim (cases_lt m (8 * size d)) [ inl a ↦ a | inr a ↦ absurd (h (ends_by code text m x (omega (arith, x.below, a)) (inr is.ends.lose))) ]
 
     -- a run that stays at an operation that is no end has no outcome to come to
-    never : (m : ℕ) → step code text (after m) ≡ after m → (IsEnd code (after m).pc → ⊥) → (o : Outcome) → Does (grammar_in p) classes task s o → ⊥
+    never : (m : ℕ) → HasStopped (after m) → (IsEnd code (after m).pc → ⊥) → (o : Outcome) → Does (grammar_in p) classes task s o → ⊥
     never m fixed live o d =
-        let e : after (m + 8 * size d) ≡ after m = steps_add code text m (8 * size d) start ∙ stays_there code text (8 * size d) (after m) fixed in
+        let e : after (m + 8 * size d) ≡ after m = steps_add code text m (8 * size d) start ∙ stays_stopped code text (8 * size d) (after m) fixed in
         let l = unfinished (m + 8 * size d) (λ z. live (subst (λ c. IsEnd code c.pc) e z)) o d in
         absurd (omega (arith, l))
 
@@ -205,23 +215,64 @@ module _ (p : Program) (exact : Bool) (code : Code) (is : IsCodeOf exact p code)
     no_end m pc at q h k e = elim e [ inl a ↦ h (subst (λ c. op_at code [] c.pc ≡ op.Halt) q a) | inr a ↦ k (subst (λ c. op_at code [] c.pc ≡ op.Lose) q a) ]
 
     -- of a run that was stopped
-    pub stopped_as : (limit : ℕ) → 4 * limit ≤ most → EndsAtLast code text most (config code text old (i + 3) from) new ended.OutOfSteps
+    stopped_as : (limit : ℕ) → 4 * limit ≤ most → EndsAtLast code text most (config code text old (i + 3) from) new ended.OutOfSteps
         → IsStoppedFrom (grammar_in p) p.properties.items n s limit stop.OutOfSteps
     stopped_as limit l x classes fits o d =
         let q : after x.taken ≡ config code text new x.ends.0 x.ends.1 = ap (λ c. steps code text x.taken c) (sym same) ∙ x.ends.2 in
-        let less = unfinished classes fits x.taken (no_end x.taken x.ends.0 x.ends.1 q x.ends.4 x.ends.5) o d in
+        let less = unfinished classes fits x.taken (λ z. x.ends.4 (subst HasStopped q (end_stops code text (after x.taken) z))) o d in
         omega (arith, less, x.ends.3, l, same_size d)
 
+    longer_as : (limit : ℕ) → 4 * limit ≤ most → EndsAtLast code text most (config code text old (i + 3) from) new ended.OutOfSteps
+        → (classes : Classes) → Fits p.properties.items classes → IsLonger (grammar_in p) classes n s limit
+    longer_as limit l x classes fits = go (goes_here classes fits x.taken)
+      where
+        stopped : (j : ℕ) → j ≤ x.taken → LacksText (op_at code text (after j).pc) (after j) → ⊥
+        stopped j h z =
+            let q : after x.taken ≡ config code text new x.ends.0 x.ends.1 = ap (λ c. steps code text x.taken c) (sym same) ∙ x.ends.2 in
+            let e : j + (x.taken - j) ≡ x.taken = omega (arith, h) in
+            let w = lacks_stops code text (op_at code text (after j).pc) (after j) z in
+            let f : after x.taken ≡ after j =
+            ap (λ k. steps code text k start) (sym e) ∙ (steps_add code text j (x.taken - j) start ∙ stays_stopped code text (x.taken - j) (after j) w) in
+            x.ends.4 (subst HasStopped (sym f ∙ q) w)
+
+        go : Goes code text (grammar_in p) classes 0 x.taken task s start → IsLonger (grammar_in p) classes n s limit
+        go (found y) = longer.ends y.found (stopped_as limit l x classes fits y.outcome y.found)
+        go (begun w less live) = longer.comes w (omega (arith, less, x.ends.3, l))
+        go (lacks w r j less z) =
+            elim (cases_lt x.taken j) [ inl a ↦ longer.comes w (omega (arith, less, a, x.ends.3, l)) | inr a ↦ absurd (stopped j a z) ]
+
+    pub run_limited : (limit : ℕ) → 4 * limit ≤ most → EndsAtLast code text most (config code text old (i + 3) from) new ended.OutOfSteps
+        → IsStoppedFrom (grammar_in p) p.properties.items n s limit stop.OutOfSteps × HasReason (grammar_in p) p.properties.items n s limit stop.OutOfSteps
+    run_limited limit l x = (stopped_as limit l x, λ classes fits. ∣ longer_as limit l x classes fits ∣₁)
+
     -- of a run that takes a text from the empty stack
-    pub stuck_as : (limit : ℕ) → EndsAtLast code text most (config code text old (i + 3) from) new ended.Stuck
+    stuck_as : (limit : ℕ) → EndsAtLast code text most (config code text old (i + 3) from) new ended.Stuck
         → IsStoppedFrom (grammar_in p) p.properties.items n s limit stop.EmptyStack
     stuck_as limit x classes fits o d =
         let q : after x.taken ≡ config code text new x.ends.0 x.ends.1 = ap (λ c. steps code text x.taken c) (sym same) ∙ x.ends.2 in
-        let fixed : step code text (after x.taken) ≡ after x.taken = subst (λ c. step code text c ≡ c) (sym q) x.ends.4 in
-        never classes fits x.taken fixed (no_end x.taken x.ends.0 x.ends.1 q x.ends.5 x.ends.6) o d
+        let h = subst HasStopped (sym q) x.ends.3 in
+        never classes fits x.taken h (no_end x.taken x.ends.0 x.ends.1 q x.ends.4 x.ends.5) o d
+
+    empty_as : EndsAtLast code text most (config code text old (i + 3) from) new ended.Stuck
+        → (classes : Classes) → Fits p.properties.items classes → ReadsEmptyStack (grammar_in p) classes n s
+    empty_as x classes fits = go (goes_here classes fits x.taken)
+      where
+        h : HasStopped (after x.taken)
+        h =
+            let q : after x.taken ≡ config code text new x.ends.0 x.ends.1 = ap (λ c. steps code text x.taken c) (sym same) ∙ x.ends.2 in
+            subst HasStopped (sym q) x.ends.3
+
+        go : Goes code text (grammar_in p) classes 0 x.taken task s start → ReadsEmptyStack (grammar_in p) classes n s
+        go (found y) = absurd (stuck_as 0 x classes fits y.outcome y.found)
+        go (begun w less live) = absurd (live h)
+        go (lacks w r j less z) = record { applied = _; mode = _; name = _; state = _; comes = w; read = r }
+
+    pub run_emptied : (limit : ℕ) → EndsAtLast code text most (config code text old (i + 3) from) new ended.Stuck
+        → IsStoppedFrom (grammar_in p) p.properties.items n s limit stop.EmptyStack × HasReason (grammar_in p) p.properties.items n s limit stop.EmptyStack
+    run_emptied limit x = (stuck_as limit x, λ classes fits. ∣ empty_as x classes fits ∣₁)
 
 -- the results of a run from a position of a text
-module _ (p : Program) (exact : Bool) (code : Code) (is : IsCodeOf exact p code) (n : Text) (i : ℕ) (meant : last_place (grammar_in p) n ≡ Some i)
+module _ (p : Program) (exact : Bool) (code : CodeLists) (is : IsCodeOf exact p code) (n : Text) (i : ℕ) (meant : last_place (grammar_in p) n ≡ Some i)
     (start : Position) (text : List ℕ) (from : ℕ) (e : text ≡ position_text start) (h : from ≡ position_offset start) (u : IsUtf8 text)
     (b : IsCharBoundary (position_text start) (position_offset start)) (old new : Machine) (f : IsFresh old) (asks : MayAsk exact (position_text start) old.asked)
     (entry most : ℕ) (k : entry ≡ i + 3) where
@@ -231,21 +282,21 @@ module _ (p : Program) (exact : Bool) (code : Code) (is : IsCodeOf exact p code)
   entered : (r : RunEnd) → EndsAtLast code text most (config code text old entry from) new r → EndsAtLast code text most (config code text old (i + 3) from) new r
   entered r x = subst (λ l. EndsAtLast code text most (config code text old l from) new r) k x
 
-  begun : config code text old (i + 3) from ≡ start_at from old.asked (i + 3)
-  begun = fresh code text old (i + 3) from f
+  started : config code text old (i + 3) from ≡ start_at from old.asked (i + 3)
+  started = fresh code text old (i + 3) from f
 
   pub run_found : (end : ℕ) → EndsAtLast code text most (config code text old entry from) new (ended.Found end)
       → (classes : Classes) → Fits p.properties.items classes → HasFound (grammar_in p) n (state_at start) classes old.asked new end
-  run_found end x = found_as p exact code is n i meant text (state_at start) from old.asked (stands_at start text from e h u b) asks_here old new most begun end (entered _ x)
+  run_found end x = found_as p exact code is n i meant text (state_at start) from old.asked (stands_at start text from e h u b) asks_here old new most started end (entered _ x)
 
   pub run_failed : EndsAtLast code text most (config code text old entry from) new ended.Failed
       → (classes : Classes) → Fits p.properties.items classes → HasFailed (grammar_in p) n (state_at start) classes old.asked new
-  run_failed x = failed_as p exact code is n i meant text (state_at start) from old.asked (stands_at start text from e h u b) asks_here old new most begun (entered _ x)
+  run_failed x = failed_as p exact code is n i meant text (state_at start) from old.asked (stands_at start text from e h u b) asks_here old new most started (entered _ x)
 
   pub run_stopped : (limit : ℕ) → 4 * limit ≤ most → EndsAtLast code text most (config code text old entry from) new ended.OutOfSteps
-      → IsStoppedFrom (grammar_in p) p.properties.items n (state_at start) limit stop.OutOfSteps
-  run_stopped limit l x = stopped_as p exact code is n i meant text (state_at start) from old.asked (stands_at start text from e h u b) asks_here old new most begun limit l (entered _ x)
+      → IsStoppedFrom (grammar_in p) p.properties.items n (state_at start) limit stop.OutOfSteps × HasReason (grammar_in p) p.properties.items n (state_at start) limit stop.OutOfSteps
+  run_stopped limit l x = run_limited p exact code is n i meant text (state_at start) from old.asked (stands_at start text from e h u b) asks_here old new most started limit l (entered _ x)
 
   pub run_stuck : (limit : ℕ) → EndsAtLast code text most (config code text old entry from) new ended.Stuck
-      → IsStoppedFrom (grammar_in p) p.properties.items n (state_at start) limit stop.EmptyStack
-  run_stuck limit x = stuck_as p exact code is n i meant text (state_at start) from old.asked (stands_at start text from e h u b) asks_here old new most begun limit (entered _ x)
+      → IsStoppedFrom (grammar_in p) p.properties.items n (state_at start) limit stop.EmptyStack × HasReason (grammar_in p) p.properties.items n (state_at start) limit stop.EmptyStack
+  run_stuck limit x = run_emptied p exact code is n i meant text (state_at start) from old.asked (stands_at start text from e h u b) asks_here old new most started limit (entered _ x)

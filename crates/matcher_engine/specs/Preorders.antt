@@ -7,7 +7,7 @@ use Rattle.base_language.specs.Language.Text.{Text}
 use Rattle.matcher_code.specs.Reached.{nodes_of}
 use Rattle.matcher_program.specs.declared.form.Property.{Property}
 use Rattle.matcher_program.specs.Programs.{Fits}
-use Rattle.matcher_program.specs.Answers.{HasAt}
+use Rattle.matcher_program.specs.Answers.{HasAt, start_of}
 use Rattle.matcher_compiler.specs.Names.{number_in}
 use Rattle.matcher_engine.specs.Matchers.{grammar_in}
 use Rattle.matcher_engine.specs.declared.matcher.Matcher.{Matcher}
@@ -26,6 +26,10 @@ pub record HasPreorder (g : Grammar) (n : Text) (s : State) (classes : Classes) 
 -- so it does for all fitting classes
 abbrev pub IsPreorderFrom : Grammar → List Property → Text → State → Preorder → Type 0
 IsPreorderFrom g ps n s it = (classes : Classes) → Fits ps classes → HasPreorder g n s classes it
+
+-- from the start of a text
+abbrev pub IsPreorder : Grammar → List Property → Text → List ℕ → Preorder → Type 0
+IsPreorder g ps n text it = IsPreorderFrom g ps n (start_of text) it
 
 -- the name of each rule of this number is the text
 abbrev pub HasName : Matcher → ℕ → Text → Type 0

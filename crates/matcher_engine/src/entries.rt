@@ -122,25 +122,26 @@ fn start<'a>(
         return Ok(false);
     };
     let start = entries.len();
-    let Some(partner) = partner_of(start, number, node.after) else {
+    let after = node.after as usize;
+    let Some(partner) = partner_of(start, number, after) else {
         return Ok(false);
     };
     let first = Entry::Start {
         rule,
-        pos: node.start,
+        pos: node.start as usize,
         partner,
     };
     add(entries, first)?;
-    if node.after.saturating_sub(number) > 1 {
+    if after.saturating_sub(number) > 1 {
         let tree = OpenTree {
-            end: node.end,
-            after: node.after,
+            end: node.end as usize,
+            after,
             start,
         };
         add_open(pending, tree)?;
     } else {
         let end = Entry::End {
-            pos: node.end,
+            pos: node.end as usize,
             partner: start,
         };
         add(entries, end)?;

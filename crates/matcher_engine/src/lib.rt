@@ -1,5 +1,7 @@
 //! A matcher that runs compiled rules.
 #![tactic(auto)]
 
+pub mod codes;
 mod entries;
 pub mod matcher;
+pub mod walk;

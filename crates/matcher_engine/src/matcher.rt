@@ -1,25 +1,32 @@
 //! The matcher.
-ghost use Rattle.std.specs.Prelude.{◌≡◌, ◌<◌, ◌+◌, ℕ, Bool, List, Some, IfErr, IfNone, IfOk, IfSome, chars, length, map};
+ghost use Rattle.std.specs.Prelude.{◌≡◌, ◌<◌, ◌≤◌, ◌+◌, ◌^◌, ℕ, Bool, List, Some, IfErr, IfNone, IfOk, IfSome, chars, false, length, map, true};
 ghost use Rattle.base_ast.specs.Optimized.{optimized_rules_of};
 ghost use Rattle.matcher_program.specs.Programs.{Fits};
 ghost use Rattle.matcher_program.specs.Refusals.{IsReason};
 ghost use Rattle.base_language.specs.Language.Expression.{last_place};
+ghost use Rattle.base_language.specs.Language.State.{Classes, State};
 ghost use Rattle.base_language.specs.Language.Text.{Text};
 ghost use Rattle.base_language.specs.Pieces.Span.{position_text};
-ghost use Rattle.matcher_program.specs.Answers.{state_at};
+ghost use Rattle.matcher_program.specs.Answers.{state_at, text_size};
 ghost use Rattle.matcher_program.specs.declared.form.Program.{Program};
+ghost use Rattle.format_code.specs.Codes.{lists_at};
+ghost use Rattle.matcher_code.specs.Bytecodes.{lists_in};
+ghost use Rattle.matcher_code.specs.Fused.{CanRunAll, IsFusionOf};
 ghost use Rattle.matcher_code.specs.Reached.{MayAsk};
 ghost use Rattle.matcher_sets.specs.Forms as forms;
 ghost use Rattle.matcher_compiler.specs.Compiled.{IsCodeOf};
 ghost use Rattle.matcher_engine.specs.Runs.{IsFresh, IsRun};
 ghost use Rattle.matcher_engine.specs.Soundness.{IsSound};
 
+use crate::codes::{code_bytes, fuse_bytes, name_code_bytes};
 use crate::entries::{entries_of, name_of};
+use crate::walk::TreeWalk;
 use base_ast::optimized::OptimizedRule;
 use base_language::runtime::{Position, Span};
-use matcher_code::code::Code;
+use format_code::code::read_code;
+use matcher_code::bytecode::Bytecode;
+use matcher_code::fused::{Fused, fuse};
 use matcher_code::state::TreeNode;
-use matcher_compiler::compile::{compile, compile_for_names};
 use matcher_compiler::names::last_index;
 use matcher_machine::machine::{Machine, RunEnd};
 use matcher_program::answers::{Found, Refusal, Stop, whole_text};
@@ -35,8 +42,10 @@ const OPERATIONS: u64 = 4;
 #[derive(Drop)]
 pub struct Matcher {
     program: Program,
-    code: Code,
-    ghost sound: { ∥ IsSound program code ∥₁ },
+    /// The code, from which it is run in place.
+    code: Vec<u8>,
+    fused: Vec<Fused>,
+    ghost sound: { ∥ IsSound program (lists_at code.items) fused.items ∥₁ },
 }
 
 /// A match by its trees in preorder.
@@ -51,11 +60,13 @@ pub struct Preorder {
 }
 
 impl Matcher {
-    ghost use Rattle.matcher_program.specs.Answers.{AreExpectedAt, AreExpectedFrom, IsMatched, IsMatchedFrom, IsRefused, IsRefusedFrom, IsUnanswered, IsUnansweredFrom, state_at};
+    ghost use Rattle.matcher_program.specs.Answers.{AreExpectedAt, AreExpectedFrom, IsMatched, IsMatchedFrom, IsRefused, IsRefusedFrom, IsUnanswered, IsUnansweredFrom, start_of, state_at};
     ghost use Rattle.matcher_program.specs.ExpectedNames.{name_texts};
     ghost use Rattle.matcher_compiler.specs.Names.{HaveNumbers, number_in};
     ghost use Rattle.matcher_engine.specs.Matchers.{grammar_in, properties_in};
-    ghost use Rattle.matcher_engine.specs.Preorders.{HasName, IsPreorderFrom};
+    ghost use Rattle.matcher_engine.specs.Preorders.{HasName, HasPreorder, IsPreorder, IsPreorderFrom};
+    ghost use Rattle.matcher_engine.specs.Reasons.{HasReason, StopsFor};
+    ghost use Rattle.matcher_engine.specs.Walks.{visits, visits_left};
 
     /// Compiles rules, and resolves every name once, to the last rule of that name, or to a builtin if no
     /// rule has it. Errors: a name in a body that is neither, or a property's that `properties` does not
@@ -71,10 +82,24 @@ impl Matcher {
         ensures refused { IfErr result (IsReason P.knows (optimized_rules_of rules.now)) }
     {
         let program = program_of(alloc, rules, properties)?;
-        match compile(alloc, &program) {
-            Ok(code) => Ok(Matcher { program, code }),
+        let Ok(code) = code_bytes(alloc, &program) else {
+            return Err(Unfit::Memory);
+        };
+        match fuse_bytes(alloc, &code) {
+            Ok(fused) => Ok(Matcher {
+                program,
+                code,
+                fused,
+            }),
             Err(_) => Err(Unfit::Memory),
         }
+    }
+
+    /// Returns the code.
+    fn code(&self) -> Bytecode<'_>
+        ensures { lists_in result ≡ lists_at self.entry.now.code.items }
+    {
+        read_code(&self.code)
     }
 
     /// Matches the rule of a name in NonAtomic from a position of a text on, with the empty stack, in at most
@@ -90,16 +115,19 @@ impl Matcher {
             (properties_in self.entry.now) (chars rule.entry.now) (state_at start.entry)) }
         ensures refused { IfErr result (IsRefusedFrom (grammar_in self.entry.now)
             (properties_in self.entry.now) (chars rule.entry.now) (state_at start.entry) steps) }
+        ensures reason { IfErr result (StopsFor (HasReason (grammar_in self.entry.now)
+            (properties_in self.entry.now) (chars rule.entry.now) (state_at start.entry) steps)) }
     {
         let Some(number) = last_index(self.program.rows.as_slice(), rule) else {
             return Err(Refusal::UnknownRule(rule));
         };
-        let mut machine = Machine::new(alloc);
-        // names are asked for behind the text
-        if whole_text(start).len() >= machine.asked {
-            return Err(Refusal::Stopped(Stop::Memory));
+        if has_long_text(start) {
+            return Err(Refusal::Stopped(Stop::TextTooLong));
         }
-        match run_rule(&mut machine, alloc, &self.code, number, start, steps) {
+        let mut machine = Machine::new(alloc);
+        let code = self.code();
+        let fused = self.fused.as_slice();
+        match run_rule(&mut machine, alloc, &code, fused, number, start, steps) {
             Ok(Some(end)) => {
                 let place = machine.furthest;
                 let Machine { trees, .. } = machine;
@@ -111,6 +139,38 @@ impl Matcher {
             }
             Ok(None) => Err(Refusal::NoMatch(machine.furthest)),
             Err(stop) => Err(Refusal::Stopped(stop)),
+        }
+    }
+
+    /// Matches as `parse_preorder` from the start of a text on.
+    pub fn match_text<'a>(
+        &'a self,
+        alloc: Global,
+        rule: &'a str,
+        text: &'a str,
+        steps: u64,
+    ) -> Result<Preorder, Refusal<'a>>
+        ensures matched { IfOk result (IsPreorder (grammar_in self.entry.now)
+            (properties_in self.entry.now) (chars rule.entry.now) text.entry.now) }
+        ensures refused { IfErr result (IsRefused (grammar_in self.entry.now)
+            (properties_in self.entry.now) (chars rule.entry.now) text.entry.now steps) }
+        ensures reason { IfErr result (StopsFor (HasReason (grammar_in self.entry.now)
+            (properties_in self.entry.now) (chars rule.entry.now) (start_of text.entry.now) steps)) }
+    {
+        self.parse_preorder(alloc, rule, Span::of(text, 0, 0).start_pos(), steps)
+    }
+
+    /// Begins a walk over the trees of a match that this matcher has found.
+    pub fn walk<'m, 't>(&'m self, alloc: Global, found: &'t Preorder) -> TreeWalk<'m, 't>
+        ensures { (n : Text) (s : State) (classes : Classes)
+            → (x : HasPreorder (grammar_in self.entry.now) n s classes found.entry.now)
+            → visits_left result ≡ visits (number_in (grammar_in self.entry.now)) 0 0 x.trees }
+    {
+        TreeWalk {
+            rows: &self.program.rows,
+            trees: &found.trees,
+            number: 0,
+            pending: Vec::new(alloc),
         }
     }
 
@@ -127,7 +187,8 @@ impl Matcher {
     ///
     /// If the rule has an outcome on the text, the run finds it, unless an allocation fails, in two steps
     /// for each application of a rule of the matching relation in a derivation of the outcome. `PEEK` or
-    /// `POP` on the empty stack is met only where there is no outcome.
+    /// `POP` on the empty stack is met only where there is no outcome. Where there is none, too, a run is out
+    /// of steps only if it goes on for more, and meets the empty stack only by a rule that calls them.
     pub fn parse<'a>(
         &'a self,
         alloc: Global,
@@ -139,6 +200,8 @@ impl Matcher {
             (properties_in self.entry.now) (chars rule.entry.now) text.entry.now found) }
         ensures refused { IfErr result (IsRefused (grammar_in self.entry.now)
             (properties_in self.entry.now) (chars rule.entry.now) text.entry.now steps) }
+        ensures reason { IfErr result (StopsFor (HasReason (grammar_in self.entry.now)
+            (properties_in self.entry.now) (chars rule.entry.now) (start_of text.entry.now) steps)) }
     {
         self.parse_from(alloc, rule, Span::of(text, 0, 0).start_pos(), steps)
     }
@@ -156,6 +219,8 @@ impl Matcher {
             (properties_in self.entry.now) (chars rule.entry.now) (state_at start.entry) found) }
         ensures refused { IfErr result (IsRefusedFrom (grammar_in self.entry.now)
             (properties_in self.entry.now) (chars rule.entry.now) (state_at start.entry) steps) }
+        ensures reason { IfErr result (StopsFor (HasReason (grammar_in self.entry.now)
+            (properties_in self.entry.now) (chars rule.entry.now) (state_at start.entry) steps)) }
     {
         let found = self.parse_preorder(alloc, rule, start, steps)?;
         match entries_of(alloc, &self.program.rows, &found.trees) {
@@ -186,6 +251,8 @@ impl Matcher {
             (properties_in self.entry.now) (chars rule.entry.now) text.entry.now place names.items) }
         ensures refused { IfErr result (IsUnanswered (grammar_in self.entry.now)
             (properties_in self.entry.now) (chars rule.entry.now) text.entry.now steps) }
+        ensures reason { IfErr result (StopsFor (HasReason (grammar_in self.entry.now)
+            (properties_in self.entry.now) (chars rule.entry.now) (start_of text.entry.now) steps)) }
     {
         self.expected_from(alloc, rule, Span::of(text, 0, 0).start_pos(), place, steps)
     }
@@ -204,16 +271,33 @@ impl Matcher {
             (properties_in self.entry.now) (chars rule.entry.now) (state_at start.entry) place names.items) }
         ensures refused { IfErr result (IsUnansweredFrom (grammar_in self.entry.now)
             (properties_in self.entry.now) (chars rule.entry.now) (state_at start.entry) steps) }
+        ensures reason { IfErr result (StopsFor (HasReason (grammar_in self.entry.now)
+            (properties_in self.entry.now) (chars rule.entry.now) (state_at start.entry) steps)) }
     {
         let Some(number) = last_index(self.program.rows.as_slice(), rule) else {
             return Err(Refusal::UnknownRule(rule));
         };
-        let Ok(code) = compile_for_names(alloc, &self.program) else {
+        if has_long_text(start) {
+            return Err(Refusal::Stopped(Stop::TextTooLong));
+        }
+        let Ok(bytes) = name_code_bytes(alloc, &self.program) else {
+            return Err(Refusal::Stopped(Stop::Memory));
+        };
+        let code = read_code(&bytes);
+        let Ok(fused) = fuse(alloc, &code) else {
             return Err(Refusal::Stopped(Stop::Memory));
         };
         let mut machine = Machine::new(alloc);
         machine.asked = place;
-        match run_rule(&mut machine, alloc, &code, number, start, steps) {
+        match run_rule(
+            &mut machine,
+            alloc,
+            &code,
+            fused.as_slice(),
+            number,
+            start,
+            steps,
+        ) {
             Ok(_) => match self.names_of(alloc, &machine.names) {
                 Ok(names) => Ok(names),
                 Err(_) => Err(Refusal::Stopped(Stop::Memory)),
@@ -238,6 +322,14 @@ impl Matcher {
     }
 }
 
+/// Returns whether the text of a position has more bytes than a tree can count.
+pub fn has_long_text(start: Position<'_>) -> bool
+    ensures long { result ≡ true → 2 ^ 32 ≤ text_size (state_at start.entry) }
+    ensures short { result ≡ false → length (position_text start.entry) < 2 ^ 32 }
+{
+    whole_text(start).len() > u32::MAX as usize
+}
+
 /// Returns the label of the call of the rule of a number from outside, if a `u32` holds it.
 fn entry_of(number: usize) -> Option<u32>
     ensures { IfSome result (λ entry. entry ≡ number + 3) }
@@ -245,17 +337,20 @@ fn entry_of(number: usize) -> Option<u32>
     u32::try_from(number.checked_add(3)?).ok()
 }
 
-/// Runs code for the rule of a number from a position of a text on, in at most `steps` steps. Returns the end
-/// of the match, or `None` where the rule fails.
-fn run_rule(
+/// Runs code, fused, for the rule of a number from a position of a text on, in at most `steps` steps. Returns
+/// the end of the match, or `None` where the rule fails.
+pub fn run_rule(
     machine: &mut Machine,
     alloc: Global,
-    code: &Code,
+    code: &Bytecode<'_>,
+    fused: &[Fused],
     number: usize,
     start: Position<'_>,
     steps: u64,
 ) -> Result<Option<usize>, Stop>
-    ensures { (p : Program) (exact : Bool) → IsCodeOf exact p code.now
+    requires can { CanRunAll (lists_in code.now) fused.now }
+    ensures { (p : Program) (exact : Bool) → IsCodeOf exact p (lists_in code.now)
+        → IsFusionOf (lists_in code.now) fused.now
         → (n : Text) → last_place (forms.grammar_in p) n ≡ Some number → IsFresh machine.old
         → MayAsk exact (position_text start.entry) machine.old.asked
         → IsRun p n (state_at start.entry) steps machine.old.asked machine.new result }
@@ -265,7 +360,7 @@ fn run_rule(
     };
     let most = steps.saturating_mul(OPERATIONS);
     let text = whole_text(start);
-    match machine.run_with_memory(alloc, code, text, entry, start.pos(), most) {
+    match machine.run_with_memory(alloc, code, fused, text, entry, start.pos(), most) {
         Ok(RunEnd::Found(end)) => Ok(Some(end)),
         Ok(RunEnd::Failed) => Ok(None),
         Ok(RunEnd::OutOfSteps) => {

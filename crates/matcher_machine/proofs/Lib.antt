@@ -1,4 +1,3 @@
-pub mod Stepping
 pub mod Stopping
 pub mod Naming
 pub mod Stacking

@@ -1,6 +1,8 @@
 //! Programs of operations, run on texts.
 #![tactic(auto)]
 
+mod fused_operations;
+mod fused_running;
 pub mod laws;
 pub mod machine;
 mod memory;

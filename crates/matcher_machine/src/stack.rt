@@ -3,7 +3,7 @@ ghost use Rattle.std.specs.Prelude.{◌≤◌, length, reverse};
 ghost use Rattle.matcher_machine.specs.Links.{IsLinked, IsLinked-prop};
 
 use crate::texts::{end_of, index_of, match_between, match_held};
-use matcher_code::code::Code;
+use matcher_code::bytecode::Bytecode;
 use std::alloc::{AllocError, Global};
 
 /// A text on the stack: that of the input between two positions, or one of the program.
@@ -33,6 +33,8 @@ pub struct TextStack {
 impl TextStack {
     ghost use Rattle.std.specs.Prelude.{◌≡◌, ◌-◌, List, [], IfOk, IfSome, OnOk, drop, map, ℕ};
     ghost use Rattle.base_language.specs.Language.Matching.{concatenated};
+    ghost use Rattle.matcher_code.specs.Bytecodes.{lists_in};
+    ghost use Rattle.matcher_code.specs.Lists.{CodeLists};
     ghost use Rattle.matcher_code.specs.Steps.{slice_bytes};
     ghost use Rattle.matcher_machine.specs.Stacks.{IsPushed, IsTop, bytes_of, length_if, length_of_slice, texts_in};
 
@@ -88,9 +90,9 @@ impl TextStack {
     }
 
     /// Returns the length of all texts, one after another from the top, if they are next.
-    pub(crate) fn match_all(&self, code: &Code, text: &str, at: usize) -> Option<usize>
+    pub(crate) fn match_all(&self, code: &Bytecode<'_>, text: &str, at: usize) -> Option<usize>
         ensures value { result
-            ≡ length_if (concatenated (texts_in code.now text.now self.now)) (drop at text.now) }
+            ≡ length_if (concatenated (texts_in (lists_in code.now) text.now self.now)) (drop at text.now) }
         ensures within { IfSome result (λ size. size ≤ length text.now - at) }
     {
         let mut number = self.top;
@@ -107,7 +109,7 @@ impl TextStack {
 
     /// Returns all texts, from the top.
     fn texts(&self) -> Result<Vec<StackText>, AllocError>
-        ensures { IfOk result (λ texts. (code : Code) (text : List ℕ)
+        ensures { IfOk result (λ texts. (code : CodeLists) (text : List ℕ)
             → map (bytes_of code text) texts.items ≡ texts_in code text self.now) }
     {
         let mut texts = Vec::new(*self.pushed.allocator());
@@ -123,14 +125,14 @@ impl TextStack {
     /// if the slice is inside the stack.
     pub(crate) fn match_slice(
         &self,
-        code: &Code,
+        code: &Bytecode<'_>,
         text: &str,
         from: i32,
         to: Option<i32>,
         at: usize,
     ) -> Result<Option<usize>, AllocError>
         ensures value { IfOk result (λ size. size ≡ length_of_slice
-            (slice_bytes from to (texts_in code.now text.now self.now)) (drop at text.now)) }
+            (slice_bytes from to (texts_in (lists_in code.now) text.now self.now)) (drop at text.now)) }
         ensures within { IfOk result (λ found. IfSome found (λ size. size ≤ length text.now - at)) }
     {
         let texts = self.texts()?;

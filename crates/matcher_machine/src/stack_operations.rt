@@ -1,13 +1,14 @@
 //! One function for each kind of operation on the stack.
 ghost use Rattle.std.specs.Prelude.{◌≡◌, ℕ, List, IfOk};
-ghost use Rattle.matcher_code.specs.declared.code.Code.{Code};
+ghost use Rattle.matcher_code.specs.Bytecodes.{lists_in};
+ghost use Rattle.matcher_code.specs.Lists.{CodeLists};
 ghost use Rattle.matcher_code.specs.declared.code.Op.TheVariants as op;
 ghost use Rattle.matcher_machine.specs.Machines.{Follows, config};
 
 use crate::machine::{Machine, Next};
 use crate::stack::StackText;
 use crate::texts::match_held;
-use matcher_code::code::Code;
+use matcher_code::bytecode::Bytecode;
 use std::alloc::AllocError;
 
 /// The bounds of a slice of the stack.
@@ -21,7 +22,7 @@ impl Machine {
     /// Pops a slot, and pushes the text from its position to here on the stack.
     #[inline(always)]
     pub(crate) fn push_input(&mut self, next: u32, at: usize) -> Result<Next, AllocError>
-        ensures { IfOk result (λ answer. (code : Code) (text : List ℕ) (pc : ℕ)
+        ensures { IfOk result (λ answer. (code : CodeLists) (text : List ℕ) (pc : ℕ)
             → Follows code text (op.Push next) (config code text self.old pc at) self.new answer) }
     {
         match self.pop() {
@@ -44,7 +45,7 @@ impl Machine {
         next: u32,
         at: usize,
     ) -> Result<Next, AllocError>
-        ensures { IfOk result (λ answer. (code : Code) (text : List ℕ) (pc : ℕ)
+        ensures { IfOk result (λ answer. (code : CodeLists) (text : List ℕ) (pc : ℕ)
             → Follows code text (op.PushText number next)
             (config code text self.old pc at) self.new answer) }
     {
@@ -54,9 +55,16 @@ impl Machine {
 
     /// Takes the text on top of the stack.
     #[inline(always)]
-    pub(crate) fn peek(&self, code: &Code, text: &str, next: u32, fail: u32, at: usize) -> Next
-        ensures { (pc : ℕ) → Follows code.now text.now (op.Peek next fail)
-            (config code.now text.now self.now pc at) self.now result }
+    pub(crate) fn peek(
+        &self,
+        code: &Bytecode<'_>,
+        text: &str,
+        next: u32,
+        fail: u32,
+        at: usize,
+    ) -> Next
+        ensures { (pc : ℕ) → Follows (lists_in code.now) text.now (op.Peek next fail)
+            (config (lists_in code.now) text.now self.now pc at) self.now result }
     {
         match self.stack.last() {
             Some(last) => match match_held(code, text, last.text, at) {
@@ -71,14 +79,14 @@ impl Machine {
     #[inline(always)]
     pub(crate) fn pop_text(
         &mut self,
-        code: &Code,
+        code: &Bytecode<'_>,
         text: &str,
         next: u32,
         fail: u32,
         at: usize,
     ) -> Next
-        ensures { (pc : ℕ) → Follows code.now text.now (op.Pop next fail)
-            (config code.now text.now self.old pc at) self.new result }
+        ensures { (pc : ℕ) → Follows (lists_in code.now) text.now (op.Pop next fail)
+            (config (lists_in code.now) text.now self.old pc at) self.new result }
     {
         match self.stack.last() {
             Some(last) => match match_held(code, text, last.text, at) {
@@ -95,7 +103,7 @@ impl Machine {
     /// Pops the text on top of the stack.
     #[inline(always)]
     pub(crate) fn discard(&mut self, next: u32, fail: u32, at: usize) -> Next
-        ensures { (code : Code) (text : List ℕ) (pc : ℕ)
+        ensures { (code : CodeLists) (text : List ℕ) (pc : ℕ)
             → Follows code text (op.Discard next fail)
             (config code text self.old pc at) self.new result }
     {
@@ -110,9 +118,16 @@ impl Machine {
 
     /// Takes all texts of the stack.
     #[inline(always)]
-    pub(crate) fn peek_all(&self, code: &Code, text: &str, next: u32, fail: u32, at: usize) -> Next
-        ensures { (pc : ℕ) → Follows code.now text.now (op.PeekAll next fail)
-            (config code.now text.now self.now pc at) self.now result }
+    pub(crate) fn peek_all(
+        &self,
+        code: &Bytecode<'_>,
+        text: &str,
+        next: u32,
+        fail: u32,
+        at: usize,
+    ) -> Next
+        ensures { (pc : ℕ) → Follows (lists_in code.now) text.now (op.PeekAll next fail)
+            (config (lists_in code.now) text.now self.now pc at) self.now result }
     {
         match self.stack.match_all(code, text, at) {
             Some(size) => Next::At(next, at + size),
@@ -125,14 +140,14 @@ impl Machine {
     #[tactic(auto, using(crate::proofs::Stacking::at_bottom))]
     pub(crate) fn pop_all(
         &mut self,
-        code: &Code,
+        code: &Bytecode<'_>,
         text: &str,
         next: u32,
         fail: u32,
         at: usize,
     ) -> Next
-        ensures { (pc : ℕ) → Follows code.now text.now (op.PopAll next fail)
-            (config code.now text.now self.old pc at) self.new result }
+        ensures { (pc : ℕ) → Follows (lists_in code.now) text.now (op.PopAll next fail)
+            (config (lists_in code.now) text.now self.old pc at) self.new result }
     {
         match self.stack.match_all(code, text, at) {
             Some(size) => {
@@ -147,7 +162,7 @@ impl Machine {
     #[inline(always)]
     pub(crate) fn slice(
         &self,
-        code: &Code,
+        code: &Bytecode<'_>,
         text: &str,
         taken: Slice,
         next: u32,
@@ -155,8 +170,8 @@ impl Machine {
         at: usize,
     ) -> Result<Next, AllocError>
         ensures { IfOk result (λ answer. (pc : ℕ)
-            → Follows code.now text.now (op.Slice taken.from taken.to next fail)
-            (config code.now text.now self.now pc at) self.now answer) }
+            → Follows (lists_in code.now) text.now (op.Slice taken.from taken.to next fail)
+            (config (lists_in code.now) text.now self.now pc at) self.now answer) }
     {
         match self
             .stack

@@ -1,16 +1,17 @@
 //! Texts of the stack.
+ghost use Rattle.matcher_code.specs.Bytecodes.{lists_in};
 ghost use Rattle.std.specs.Prelude.{◌≡◌, ◌≤◌, ◌-◌, IfSome, drop, length, map, reverse, take};
 ghost use Rattle.base_language.specs.Language.Matching.{concatenated, end_place, place};
 ghost use Rattle.matcher_machine.specs.Stacks.{bytes_of, length_if};
 
 use crate::stack::StackText;
-use matcher_code::code::Code;
+use matcher_code::bytecode::Bytecode;
 use matcher_code::reading::{bytes_between, match_bytes, text_of};
 
 /// Returns the bytes of a text on the stack.
 #[inline(always)]
-fn bytes_of<'a>(code: &'a Code, text: &'a str, held: StackText) -> &'a [u8]
-    ensures { result.now ≡ bytes_of code.entry.now text.entry.now held }
+fn bytes_of<'a>(code: &Bytecode<'a>, text: &'a str, held: StackText) -> &'a [u8]
+    ensures { result.now ≡ bytes_of (lists_in code.now) text.entry.now held }
 {
     match held {
         StackText::Input { from, to } => bytes_between(text, from, to),
@@ -20,8 +21,13 @@ fn bytes_of<'a>(code: &'a Code, text: &'a str, held: StackText) -> &'a [u8]
 
 /// Returns the length of a text of the stack, if it is next.
 #[inline(always)]
-pub(crate) fn match_held(code: &Code, text: &str, held: StackText, at: usize) -> Option<usize>
-    ensures value { result ≡ length_if (bytes_of code.now text.now held) (drop at text.now) }
+pub(crate) fn match_held(
+    code: &Bytecode<'_>,
+    text: &str,
+    held: StackText,
+    at: usize,
+) -> Option<usize>
+    ensures value { result ≡ length_if (bytes_of (lists_in code.now) text.now held) (drop at text.now) }
     ensures within { IfSome result (λ size. size ≤ length text.now - at) }
 {
     match_bytes(bytes_of(code, text, held), text, at)
@@ -57,7 +63,7 @@ pub(crate) fn end_of(count: usize, number: Option<i32>) -> Option<usize>
 /// Returns the length of the texts between two indices, counted from the last one, one after another, if they
 /// are next.
 pub(crate) fn match_between(
-    code: &Code,
+    code: &Bytecode<'_>,
     text: &str,
     texts: &[StackText],
     start: usize,
@@ -66,7 +72,7 @@ pub(crate) fn match_between(
 ) -> Option<usize>
     requires within { end ≤ length texts.now }
     ensures value { result ≡ length_if (concatenated
-        (take (end - start) (drop start (reverse (map (bytes_of code.now text.now) texts.now)))))
+        (take (end - start) (drop start (reverse (map (bytes_of (lists_in code.now) text.now) texts.now)))))
         (drop at text.now) }
     ensures within { IfSome result (λ size. size ≤ length text.now - at) }
 {

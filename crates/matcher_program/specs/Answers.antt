@@ -1,5 +1,5 @@
 -- Outcomes of a rule on a text, and the refusals of a run.
-use Rattle.std.specs.Prelude.{◌≡◌, ◌<◌, List, [], ℕ, None, chars, drop, ⊤}
+use Rattle.std.specs.Prelude.{◌≡◌, ◌<◌, ◌≤◌, ◌+◌, ◌^◌, List, [], ℕ, None, chars, drop, encode_utf8_all, length, ⊤}
 use Rattle.std.specs.Borrow.{Bor}
 use Rattle.base_language.specs.declared.runtime.places.Position.{Position}
 use Rattle.base_language.specs.Pieces.Span.{position_offset, position_text}
@@ -53,14 +53,20 @@ pub record IsMatchedFrom (g : Grammar) (ps : List Property) (n : Text) (s : Stat
 abbrev pub IsMatched : Grammar → List Property → Text → List ℕ → Found → Type 0
 IsMatched g ps n text it = IsMatchedFrom g ps n (start_of text) it
 
+-- the bytes of a text up to a state, and those that are left
+abbrev pub text_size : State → ℕ
+text_size s = s.position + length (encode_utf8_all s.rest)
+
 -- an allocation failed; or every outcome of the rule takes more steps than were allowed; or, where the
--- stack was empty for `PEEK` or `POP`, the rule has no outcome, for all fitting classes
+-- stack was empty for `PEEK` or `POP`, the rule has no outcome, for all fitting classes; or the text
+-- has 4 GiB
 abbrev pub IsStoppedFrom : Grammar → List Property → Text → State → ℕ → Stop → Type 0
 IsStoppedFrom g ps n s steps stop.Memory = ⊤
 IsStoppedFrom g ps n s steps stop.OutOfSteps =
     (classes : Classes) → Fits ps classes → (o : Outcome) (d : HasAt g n s classes o) → steps < most_steps d
 IsStoppedFrom g ps n s steps stop.EmptyStack =
     (classes : Classes) → Fits ps classes → (o : Outcome) → HasAt g n s classes o → ⊥
+IsStoppedFrom g ps n s steps stop.TextTooLong = 2 ^ 32 ≤ text_size s
 
 abbrev pub IsStopped : Grammar → List Property → Text → List ℕ → ℕ → Stop → Type 0
 IsStopped g ps n text steps why = IsStoppedFrom g ps n (start_of text) steps why

@@ -51,6 +51,8 @@ pub enum Stop {
     OutOfSteps,
     /// `PEEK` or `POP` on the empty stack.
     EmptyStack,
+    /// The text has 2^32 bytes or more.
+    TextTooLong,
 }
 
 impl From<AllocError> for Stop {

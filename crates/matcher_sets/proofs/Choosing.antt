@@ -1,7 +1,7 @@
 -- Ranges of choices.
+use Rattle.matcher_code.specs.Lists.{is_covered}
 use Rattle.std.proofs.Common.{◌≡◌, inl, inr, refl, subst, sym, ◌∙◌, ℕ, ◌<◌, List, [], Bool, true, false, ◌||◌}
 use Rattle.base_language.specs.Language.Expression.{Choice}
-use Rattle.matcher_code.specs.Reading.{is_covered}
 use Rattle.matcher_program.specs.declared.form.Form.{Form}
 use Rattle.matcher_program.specs.declared.form.Program.{Program}
 use Rattle.matcher_sets.specs.Differences.{AreSides, ByMore, ByRanges}

@@ -16,7 +16,7 @@ use Rattle.base_language.specs.Language.Meaning as by
 use Rattle.base_language.specs.Language.Meaning.{Does, Run, Skipping, body_mode, gives_token, mode_in, seen_from}
 use Rattle.base_language.specs.Language.State.{Classes, Failure, Mode, NonAtomicMode, None', State, Success, moved}
 use Rattle.base_language.specs.Language.Text.{Text}
-use Rattle.matcher_code.specs.Reading.{is_covered}
+use Rattle.matcher_code.specs.Lists.{is_covered}
 use Rattle.matcher_code.specs.Laid.{FailsOutside, IsTight, Misses, NamesNone, TakesNone}
 use Rattle.matcher_program.specs.declared.form.Form.{Form}
 use Rattle.matcher_program.specs.declared.form.Program.{Program}

@@ -14,9 +14,8 @@ use Rattle.base_language.specs.Language.Meaning as by
 use Rattle.base_language.specs.Language.Meaning.{Does, Run, seen_from}
 use Rattle.base_language.specs.Language.State.{AtomicMode, Classes, Failure, None', Outcome, State, Success, moved}
 use Rattle.base_language.specs.Language.Text.{Text}
-use Rattle.matcher_code.specs.declared.code.Code.{Code}
+use Rattle.matcher_code.specs.Lists.{CodeLists, is_covered}
 use Rattle.matcher_code.specs.declared.code.Op.TheVariants as op
-use Rattle.matcher_code.specs.Reading.{is_covered}
 use Rattle.matcher_code.specs.Sets.{IsSetOf}
 use Rattle.matcher_code.specs.Laid.{HasOutcome, IsSilent, Performs, at_label, skip_set, span_of}
 use Rattle.matcher_code.specs.Failures.{Failures, end_failures, in_silence, no_failure}
@@ -50,7 +49,7 @@ module _ (ranges : List (ℕ × ℕ)) (set : ℕ → Bool) (covers : Covers rang
   pub rest_scalars : {stack : List (List ℕ)} (text : List ℕ) (s : State) (at : ℕ) → IsAt text s at stack → scalars s.rest ≡ true
   rest_scalars text s at h = ap scalars h.rest ∙ scalars-chars (drop at text) h.valid
 
-  module _ (code : Code) (number : Text → ℕ) (fail : at_label code 0 ≡ op.Fail) (i : ℕ) (is : IsSetOf code i ranges) where
+  module _ (code : CodeLists) (number : Text → ℕ) (fail : at_label code 0 ≡ op.Fail) (i : ℕ) (is : IsSetOf code i ranges) where
     pub one_as : (l n w : ℕ) → at_label code l ≡ op.One i n w → Performs code number l n w (character_outcome set) in_silence
     one_as l n w h text s c at safe =
         subst (λ o. Comes code text number l n w o no_failure 1 8 c)

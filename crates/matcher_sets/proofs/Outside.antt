@@ -1,10 +1,10 @@
 -- Parts of ranges that are outside of others.
+use Rattle.matcher_code.specs.Lists.{is_covered}
 use Rattle.std.proofs.Common.{◌≡◌, refl, sym, ◌∙◌, ap, ap₂, ℕ, zero, suc, ◌+◌, ◌-◌, ◌<◌, ◌≤◌, ◌⊎◌, inl, inr, List, [], ◌∷◌, Bool, true, false, ◌||◌, ◌&&◌, arith, get_or, length, nat_le, take}
 use Rattle.std.specs.Prelude.{max, min, not}
 use Rattle.std.proofs.Math.Seq.{take-suc}
 use Rattle.std.proofs.lemmas.Bool.{and_parts, cases_lt, leb-true}
 use Rattle.base_language.specs.Language.Builtins.{is_between}
-use Rattle.matcher_code.specs.Reading.{is_covered}
 use Rattle.matcher_sets.proofs.Ranging.{covered-append, or_none}
 use Rattle.matcher_sets.specs.Differences.{is_above, is_below}
 use Rattle.matcher_sets.specs.Ranges.{Adds, Covers}

@@ -1,4 +1,5 @@
 -- Properties as sets of characters.
+use Rattle.matcher_code.specs.Lists.{is_covered}
 use Rattle.std.proofs.Common.{◌≡◌, refl, sym, ◌∙◌, ap, ℕ, ◌<◌, List, [], ◌∷◌, ◌++◌, Bool, true, false, ◌||◌, Some, codes, get_or, length}
 use Rattle.std.proofs.lemmas.Slice.Eq.{bytes_eq-Decides}
 use Rattle.base_ast.specs.Ast.{text_of}
@@ -7,7 +8,6 @@ use Rattle.base_language.specs.Language.FurthestFailure.{is_eoi}
 use Rattle.base_language.specs.Language.Matching.{character_outcome}
 use Rattle.base_language.specs.Language.State.{Classes}
 use Rattle.base_language.specs.Language.Text.{Text}
-use Rattle.matcher_code.specs.Reading.{is_covered}
 use Rattle.matcher_program.specs.declared.form.Form.TheVariants as form
 use Rattle.matcher_program.specs.declared.form.Program.{Program}
 use Rattle.matcher_program.specs.declared.form.Property.{Property}

@@ -1,9 +1,9 @@
 -- Ranges and the characters that they cover.
+use Rattle.matcher_code.specs.Lists.{is_covered}
 use Rattle.std.proofs.Common.{◌≡◌, refl, sym, ◌∙◌, ap, ℕ, ◌<◌, List, [], ◌∷◌, ◌++◌, Bool, true, false, ◌||◌, ◌&&◌, ◌≤◌, ◌⊎◌, inl, inr, ap₂, arith, nat_eq, nat_le}
 use Rattle.std.proofs.Math.Bool.{and-false}
 use Rattle.std.proofs.lemmas.Bool.{cases_lt}
 use Rattle.base_language.specs.Language.Builtins.{is_between}
-use Rattle.matcher_code.specs.Reading.{is_covered}
 use Rattle.matcher_sets.specs.Ranges.{Adds}
 
 pub or_assoc : (a b c : Bool) → (a || (b || c)) ≡ ((a || b) || c)

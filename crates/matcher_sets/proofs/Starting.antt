@@ -9,7 +9,7 @@ use Rattle.base_ast.specs.Ast as ast
 use Rattle.base_language.specs.Language.Builtins.{is_between}
 use Rattle.base_language.specs.Language.Matching.{any_begins, begins, starts_in}
 use Rattle.base_language.specs.Language.Text.{Text}
-use Rattle.matcher_code.specs.Reading.{is_covered}
+use Rattle.matcher_code.specs.Lists.{is_covered}
 use Rattle.matcher_code.specs.Laid.{StartIn}
 use Rattle.matcher_sets.specs.Ranges.{Adds}
 use Rattle.matcher_sets.proofs.Ranging.{between_same}

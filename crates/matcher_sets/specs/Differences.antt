@@ -3,9 +3,9 @@ use Rattle.std.specs.Prelude.{◌≡◌, ◌⊎◌, ℕ, suc, Bool, true, List, 
 use Rattle.base_language.specs.Language.Matching.{character_outcome, starts_in}
 use Rattle.base_language.specs.Language.Meaning.{Run}
 use Rattle.base_language.specs.Language.State.{Classes, Failure, None', State, Success}
+use Rattle.matcher_code.specs.Lists.{CodeLists}
 use Rattle.matcher_code.specs.Failures.{in_silence}
 use Rattle.matcher_code.specs.Sets.{IsSetOf}
-use Rattle.matcher_code.specs.declared.code.Code.{Code}
 use Rattle.matcher_code.specs.Laid.{HasOutcome, TakesSome}
 use Rattle.matcher_program.specs.declared.form.Form.{Form}
 use Rattle.matcher_program.specs.declared.form.Program.{Program}
@@ -36,7 +36,7 @@ abbrev pub IsIncluded : Form → Form → Type 0
 IsIncluded f set = (p : Program) → IsBoundIn p f → IsIncludedIn p f set
 
 -- a set of a program has these characters
-pub record HasSet (code : Code) (set : ℕ) (characters : ℕ → Bool) : Type 0 where
+pub record HasSet (code : CodeLists) (set : ℕ) (characters : ℕ → Bool) : Type 0 where
   pub ranges : List (ℕ × ℕ)
   pub is : IsSetOf code set ranges
   pub covers : Covers ranges characters

@@ -1,6 +1,6 @@
 -- Ranges and the characters that they have.
+use Rattle.matcher_code.specs.Lists.{is_covered}
 use Rattle.std.specs.Prelude.{◌≡◌, ◌<◌, ◌||◌, ℕ, Bool, List}
-use Rattle.matcher_code.specs.Reading.{is_covered}
 
 -- the ranges have the characters of a set
 abbrev pub Covers : List (ℕ × ℕ) → (ℕ → Bool) → Type 0

@@ -1,7 +1,7 @@
 //! Differences of sets.
+ghost use Rattle.matcher_code.specs.Lists.{is_covered};
 ghost use Rattle.std.specs.Prelude.{◌≡◌, ◌==◌, ◌&&◌, ◌||◌, IfOk, IfSome, OnOk, chars, length, nat_eq, not, true};
 ghost use Rattle.base_language.specs.Language.Builtins.{is_between};
-ghost use Rattle.matcher_code.specs.Reading.{is_covered};
 ghost use Rattle.matcher_program.specs.Programs.{is_set};
 ghost use Rattle.matcher_program.specs.declared.form.Program.{Program};
 ghost use Rattle.matcher_program.specs.declared.form.Form.TheVariants as form;

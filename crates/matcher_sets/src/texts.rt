@@ -3,7 +3,7 @@ ghost use Rattle.std.specs.Prelude.{◌≡◌, ◌<◌, ◌∷◌, ◌==◌, ℕ
 ghost use Rattle.base_ast.specs.Ast.{text_of};
 ghost use Rattle.base_language.specs.Language.Matching.{any_begins};
 ghost use Rattle.base_language.specs.Language.Text.{Text};
-ghost use Rattle.matcher_code.specs.Reading.{is_covered};
+ghost use Rattle.matcher_code.specs.Lists.{is_covered};
 ghost use Rattle.matcher_code.specs.Laid.{StartIn};
 
 use crate::ranges::{first_character, push_first, push_range};

@@ -1,6 +1,6 @@
--- Token trees as JSON, entry by entry.
-use Rattle.std.specs.Prelude.{ℕ, ◌+◌, ◌==◌, Bool, false, true, List, [], ◌∷◌, ◌++◌, codes, decimal, drop, encode_utf8_all, get_or, if◌then◌else◌}
-use Rattle.front_syntax.specs.Entries.{Entry, Starts, Ends}
+-- Token trees as JSON, visit by visit.
+use Rattle.std.specs.Prelude.{ℕ, ◌+◌, ◌==◌, Bool, false, true, List, [], ◌∷◌, ◌++◌, codes, decimal, drop, encode_utf8_all, if◌then◌else◌}
+use Rattle.matcher_engine.specs.Walks.{Enters, Leaves, Visit, Visited}
 use Rattle.matcher_support.specs.Shown.{part}
 use Rattle.matcher_support.specs.Values.{leaf_data}
 use Rattle.serde_json.specs.Data.{Data, number, unsigned, string, object, member, no_members}
@@ -19,26 +19,23 @@ head end_ = codes "{\"end\":" ++ decimal end_ ++ codes ",\"trees\":["
 
 -- the text of a leaf, or that of another tree after its children
 abbrev pub closing : List ℕ → Bool → List ℕ → ℕ → ℕ → List ℕ
-closing text is_leaf rule i j =
-    if is_leaf then compact_text (leaf_data rule i j (part text i j))
+closing text leaf rule i j =
+    if leaf then compact_text (leaf_data rule i j (part text i j))
     else codes "]," ++ drop 1 (compact_text (own_data rule i j))
 
--- the same by the tree's start entry, where k is its number and n that of the end
-abbrev pub closing_of : List ℕ → ℕ → ℕ → ℕ → Entry → List ℕ
-closing_of text n k j (Starts r i m) = closing text (n == k + 1) (encode_utf8_all r) i j
-closing_of text n k j (Ends i m) = []
+abbrev pub is_leaf : Visited → Bool
+is_leaf t = t.node.after == t.number + 1
 
-abbrev pub is_end : Entry → Bool
-is_end (Starts r i m) = false
-is_end (Ends j k) = true
+abbrev pub is_left : Visit → Bool
+is_left (Enters t) = false
+is_left (Leaves t) = true
 
--- the text of the entry of the number n, where `later` says whether the end of a tree precedes it
-abbrev pub piece : List ℕ → List Entry → ℕ → Bool → Entry → List ℕ
-piece text es n later (Starts r i m) =
-    comma_if later ++ (if m == n + 1 then [] else codes "{\"children\":[")
-piece text es n later (Ends j k) = closing_of text n k j (get_or es k (Ends 0 0))
+-- the part that a visit adds, where `later` says whether a tree was left before it
+abbrev pub piece : List ℕ → Bool → Visit → List ℕ
+piece text later (Enters t) = comma_if later ++ (if is_leaf t then [] else codes "{\"children\":[")
+piece text later (Leaves t) = closing text (is_leaf t) (encode_utf8_all t.rule) t.node.start t.node.end
 
--- the text of entries from the number n on
-abbrev pub flat : List ℕ → List Entry → ℕ → Bool → List Entry → List ℕ
-flat text es n later [] = []
-flat text es n later (e ∷ rest) = piece text es n later e ++ flat text es (n + 1) (is_end e) rest
+-- the parts that the visits of a walk add
+abbrev pub flat : List ℕ → Bool → List Visit → List ℕ
+flat text later [] = []
+flat text later (v ∷ vs) = piece text later v ++ flat text (is_left v) vs

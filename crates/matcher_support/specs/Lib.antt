@@ -5,3 +5,14 @@ pub mod Sets
 pub mod Json
 pub mod Lines
 pub mod Expectations
+pub mod Trees
+pub mod Parses
+pub mod TagEntries
+pub mod TagTrees
+pub mod TagMatches
+pub mod TagParses
+pub mod Names
+pub mod Wrapped
+pub mod Frames
+pub mod Tags
+pub mod Spliced

@@ -1,19 +1,19 @@
-//! Token trees as JSON, written one entry after another.
-ghost use Rattle.std.specs.Prelude.{◌≡◌, ◌++◌, ◌<◌, IfOk, OnOk, chars, encode_utf8_all, length, string_bytes};
+//! Token trees as JSON, written one visit after another.
+ghost use Rattle.std.specs.Prelude.{◌≡◌, ℕ, ◌++◌, IfOk, OnOk, chars, encode_utf8_all, string_bytes};
 ghost use Rattle.base_language.specs.Language.State.{Trees};
-ghost use Rattle.front_syntax.specs.Entries.{entries_of};
-ghost use Rattle.matcher_program.specs.Written.{entry_of, seen};
-ghost use Rattle.matcher_support.specs.Json.{closing, head, is_end, own_data, piece};
+ghost use Rattle.base_language.specs.Language.Text.{Text};
+ghost use Rattle.matcher_engine.specs.Walks.{visit_of, visited_of, visits, visits_left};
+ghost use Rattle.matcher_support.specs.Json.{closing, head, is_leaf, is_left, own_data, piece};
 ghost use Rattle.matcher_support.specs.Values.{answer_data, leaf_data};
 ghost use Rattle.serde_json.specs.View.{view};
 ghost use Rattle.serde_json.specs.Written.{compact_text};
 
 use crate::shown::part_of;
-use matcher_program::answers::Entry;
+use matcher_engine::walk::{TreeWalk, Visit, VisitedTree};
 use serde_json::{Value, json};
 use std::alloc::{AllocError, Global};
 
-/// Returns the trees of a text, from the list of their starts and ends, and the end of the match as JSON.
+/// Returns the trees of a walk, of a text, and the end of the match as JSON.
 ///
 /// The JSON is an object with `end` and the array `trees`. A tree is an object with `rule`, `start` and
 /// `end`; an inner tree has `children` too, and a leaf has `text`, its part of the text. Positions are in
@@ -21,18 +21,19 @@ use std::alloc::{AllocError, Global};
 pub fn tree_json(
     alloc: Global,
     text: &str,
-    entries: &[Entry<'_>],
+    mut walk: TreeWalk<'_, '_>,
     end: usize,
 ) -> Result<String, AllocError>
-    ensures { IfOk result (λ json. (trees : Trees) → seen entries.now ≡ entries_of 0 trees
+    ensures { IfOk result (λ json. (row : Text → ℕ) (trees : Trees)
+        → visits_left walk.entry ≡ visits row 0 0 trees
         → string_bytes json ≡ compact_text (answer_data text.now end trees)) }
 {
     let mut json = String::new(alloc);
     write_head(&mut json, end)?;
     let mut later = false;
-    for (number, entry) in entries.iter().enumerate() {
-        write_entry(alloc, &mut json, text, entries, number, later, entry)?;
-        later = is_end(entry);
+    'visits: while let Some(visit) = walk.next_visit()? {
+        write_visit(alloc, &mut json, text, later, &visit)?;
+        later = is_left(&visit);
     }
     json.push_str("]}")?;
     Ok(json)
@@ -45,50 +46,51 @@ fn write_head(json: &mut String, end: usize) -> Result<(), AllocError>
     write!(json, "{{\"end\":{end},\"trees\":[")
 }
 
-/// Returns whether an entry is the end of a tree.
-fn is_end(entry: &Entry<'_>) -> bool
-    ensures { result ≡ is_end (entry_of entry.now) }
+/// Returns whether a visit is that out of a tree.
+fn is_left(visit: &Visit<'_>) -> bool
+    ensures { result ≡ is_left (visit_of visit.now) }
 {
-    match entry {
-        Entry::Start { .. } => false,
-        Entry::End { .. } => true,
+    match visit {
+        Visit::Enter(_) => false,
+        Visit::Leave(_) => true,
     }
 }
 
-/// Writes the text of the entry of a number, where `later` says whether the end of a tree precedes it.
-fn write_entry(
+/// Returns whether a tree holds no other.
+fn is_leaf(tree: &VisitedTree<'_>) -> bool
+    ensures { result ≡ is_leaf (visited_of tree.now) }
+{
+    match tree.number.checked_add(1) {
+        Some(next) => tree.node.after as usize == next,
+        None => false,
+    }
+}
+
+/// Writes what a visit adds, where `later` says whether a tree was left before it.
+fn write_visit(
     alloc: Global,
     json: &mut String,
     text: &str,
-    entries: &[Entry<'_>],
-    number: usize,
     later: bool,
-    entry: &Entry<'_>,
+    visit: &Visit<'_>,
 ) -> Result<(), AllocError>
-    requires { number < length entries.now }
     ensures { OnOk result (string_bytes json.new
-        ≡ string_bytes json.old ++ piece text.now (seen entries.now) number later (entry_of entry.now)) }
+        ≡ string_bytes json.old ++ piece text.now later (visit_of visit.now)) }
 {
-    match *entry {
-        Entry::Start { partner, .. } => {
+    match visit {
+        Visit::Enter(tree) => {
             if later {
                 json.push_str(",")?;
             }
-            if partner != number + 1 {
+            if !is_leaf(tree) {
                 json.push_str("{\"children\":[")?;
             }
             Ok(())
         }
-        Entry::End { pos, partner } => match entries.get(partner) {
-            Some(
-                Entry::Start {
-                    rule,
-                    pos: from,
-                    ..
-                },
-            ) => { write_end(alloc, json, text, rule, *from, pos, number == partner + 1) }
-            _ => Ok(()),
-        },
+        Visit::Leave(tree) => {
+            let (from, to) = (tree.node.start as usize, tree.node.end as usize);
+            write_end(alloc, json, text, tree.rule, from, to, is_leaf(tree))
+        }
     }
 }
 

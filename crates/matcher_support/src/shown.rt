@@ -1,93 +1,100 @@
 //! Token trees as lines of text.
-ghost use Rattle.std.specs.Prelude.{◌≡◌, ◌+◌, ◌<◌, ◌≤◌, ◌^◌, ◌++◌, IfOk, OnOk, encode_utf8_all, string_bytes};
+ghost use Rattle.std.specs.Prelude.{◌≡◌, ℕ, ◌+◌, ◌++◌, IfOk, OnOk, encode_utf8_all, option_map, string_bytes};
 ghost use Rattle.std.specs.Str.{chars};
 ghost use Rattle.base_language.specs.Language.State.{Trees};
-ghost use Rattle.front_syntax.specs.Entries.{entries_of};
-ghost use Rattle.matcher_program.specs.Written.{entry_of, seen};
-ghost use Rattle.matcher_support.specs.Flat.{before_of, level_after, opening, piece};
+ghost use Rattle.base_language.specs.Language.Text.{Text};
+ghost use Rattle.matcher_engine.specs.Walks.{visit_of, visited_of, visits, visits_left};
+ghost use Rattle.matcher_support.specs.Flat.{level_after, opening, piece};
 ghost use Rattle.matcher_support.specs.Shown.{leaf, line_start, part, shown};
 
 use crate::literal::Literal;
-use matcher_program::answers::Entry;
+use matcher_engine::walk::{TreeWalk, Visit, VisitedTree};
 use std::alloc::{AllocError, Global};
 
-/// The entry before an entry of a list: none, the start of a tree, or the end of one. Starts and ends have
-/// the index of their partner.
-#[derive(Clone, Copy)]
-enum Before {
-    Nothing,
-    Start { from: usize, partner: usize },
-    End { partner: usize },
-}
-
-/// Writes the trees of a text, given as the list of their starts and ends, as lines of text.
+/// Writes the trees of a walk, of a text, as lines of text.
 ///
 /// A tree has a line of its own, two blanks further in than the one that holds it. A tree that another
 /// holds alone follows that on the same line. A tree that holds no other is followed by its part of the
 /// text in quotes. The only error is an allocation failure.
-pub fn tree_text(alloc: Global, text: &str, entries: &[Entry<'_>]) -> Result<String, AllocError>
-    ensures { IfOk result (λ lines. (trees : Trees) → seen entries.now ≡ entries_of 0 trees
-        → string_bytes lines ≡ shown text.now 0 trees) }
+pub fn tree_text(
+    alloc: Global,
+    text: &str,
+    mut walk: TreeWalk<'_, '_>,
+) -> Result<String, AllocError>
+    ensures { IfOk result (λ lines. (row : Text → ℕ) (trees : Trees)
+        → visits_left walk.entry ≡ visits row 0 0 trees → string_bytes lines ≡ shown text.now 0 trees) }
 {
     let mut lines = String::new(alloc);
     let mut level = 0;
-    let mut before = Before::Nothing;
-    for entry in entries {
-        write_entry(alloc, &mut lines, text, level, before, entry)?;
-        level = level_behind(level, before, entry);
-        before = seen_as(entry);
+    let mut before = None;
+    'visits: while let Some(visit) = walk.next_visit()? {
+        write_visit(alloc, &mut lines, text, level, &before, &visit)?;
+        level = level_behind(level, &before, &visit)?;
+        before = Some(visit);
     }
     Ok(lines)
 }
 
-/// Writes the lines of an entry of a list.
-fn write_entry(
+/// Writes what a visit adds after another.
+fn write_visit(
     alloc: Global,
     lines: &mut String,
     text: &str,
     level: usize,
-    before: Before,
-    entry: &Entry<'_>,
+    before: &Option<Visit<'_>>,
+    visit: &Visit<'_>,
 ) -> Result<(), AllocError>
-    requires { level < 2 ^ 63 }
-    ensures { OnOk result (string_bytes lines.new
-        ≡ string_bytes lines.old ++ piece text.now level before (entry_of entry.now)) }
+    ensures { OnOk result (string_bytes lines.new ≡ string_bytes lines.old
+        ++ piece text.now level (option_map visit_of before.now) (visit_of visit.now)) }
 {
-    match *entry {
-        Entry::Start { rule, partner, .. } => {
-            write_opening(alloc, lines, level, before, partner)?;
-            write_name(lines, rule)
+    match visit {
+        Visit::Enter(tree) => {
+            write_opening(alloc, lines, level, before, tree)?;
+            write_name(lines, tree.rule)
         }
-        Entry::End { pos, .. } => match before {
-            Before::Start { from, .. } => write_leaf(lines, text, from, pos),
-            Before::Nothing | Before::End { .. } => Ok(()),
+        Visit::Leave(tree) => match before {
+            Some(Visit::Enter(_)) => {
+                write_leaf(
+                    lines,
+                    text,
+                    tree.node.start as usize,
+                    tree.node.end as usize,
+                )
+            }
+            Some(Visit::Leave(_)) | None => Ok(()),
         },
     }
 }
 
-/// Writes the text before the name of a tree whose end has an index.
+/// Writes the text before the name of a tree.
 fn write_opening(
     alloc: Global,
     lines: &mut String,
     level: usize,
-    before: Before,
-    end: usize,
+    before: &Option<Visit<'_>>,
+    tree: &VisitedTree<'_>,
 ) -> Result<(), AllocError>
-    requires { level < 2 ^ 63 }
-    ensures { OnOk result (string_bytes lines.new
-        ≡ string_bytes lines.old ++ opening level before end) }
+    ensures { OnOk result (string_bytes lines.new ≡ string_bytes lines.old
+        ++ opening level (option_map visit_of before.now) (visited_of tree.now)) }
 {
     match before {
-        Before::Nothing | Before::End { .. } => write_line_start(alloc, lines, level),
-        Before::Start { partner, .. } => {
-            if partner.saturating_sub(1) == end {
+        Some(Visit::Enter(parent)) => {
+            if parent.node.after == tree.node.after {
                 lines.push_str(" > ")
             } else {
                 lines.push_str("\n")?;
-                write_line_start(alloc, lines, level + 1)
+                write_line_start(alloc, lines, next_level(level)?)
             }
         }
+        Some(Visit::Leave(_)) | None => write_line_start(alloc, lines, level),
     }
+}
+
+/// Returns the next level. Errors: a `usize` does not hold it, which counts as an allocation failure.
+fn next_level(level: usize) -> Result<usize, AllocError>
+    ensures { IfOk result (λ next. next ≡ level + 1) }
+{
+    level.checked_add(1).ok_or(AllocError)
 }
 
 /// Writes the name of a tree.
@@ -126,37 +133,31 @@ pub(crate) fn part_of(text: &str, from: usize, to: usize) -> &str
     }
 }
 
-/// Returns the level after an entry of a list.
-fn level_behind(level: usize, before: Before, entry: &Entry<'_>) -> usize
-    requires { level < 2 ^ 63 }
-    ensures value { result ≡ level_after level before (entry_of entry.now) }
-    ensures small { result ≤ level + 1 }
+/// Returns the level after a visit. Errors: a `usize` does not hold it, which counts as an allocation
+/// failure.
+fn level_behind(
+    level: usize,
+    before: &Option<Visit<'_>>,
+    visit: &Visit<'_>,
+) -> Result<usize, AllocError>
+    ensures { IfOk result (λ next. next
+        ≡ level_after level (option_map visit_of before.now) (visit_of visit.now)) }
 {
-    match (before, *entry) {
-        (Before::Start { partner: end, .. }, Entry::Start { partner, .. }) => {
-            if end.saturating_sub(1) == partner {
-                level
+    match (before, visit) {
+        (Some(Visit::Enter(parent)), Visit::Enter(tree)) => {
+            if parent.node.after == tree.node.after {
+                Ok(level)
             } else {
-                level + 1
+                next_level(level)
             }
         }
-        (Before::End { partner: first }, Entry::End { partner, .. }) => {
-            if first.saturating_sub(1) == partner {
-                level
+        (Some(Visit::Leave(last)), Visit::Leave(tree)) => {
+            if last.number == next_level(tree.number)? {
+                Ok(level)
             } else {
-                level.saturating_sub(1)
+                Ok(level.saturating_sub(1))
             }
         }
-        _ => level,
-    }
-}
-
-/// Converts an entry to the one before the next.
-fn seen_as(entry: &Entry<'_>) -> Before
-    ensures { result ≡ before_of (entry_of entry.now) }
-{
-    match *entry {
-        Entry::Start { pos, partner, .. } => Before::Start { from: pos, partner },
-        Entry::End { partner, .. } => Before::End { partner },
+        _ => Ok(level),
     }
 }

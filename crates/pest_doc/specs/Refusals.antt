@@ -1,19 +1,28 @@
 -- The message that a grammar is refused.
-use Rattle.std.specs.Prelude.{◌≡◌, ℕ, List, ◌++◌, codes}
-use Rattle.lint_findings.specs.Reports.{IsMessageOf}
+use Rattle.std.specs.Prelude.{◌≡◌, ℕ, List, [], ◌++◌, None, Option, Some, codes, string_bytes}
+use Rattle.lint_findings.specs.Reports.{ReportsError}
+use Rattle.lint_findings.specs.declared.diagnostic.Diagnostic.{Diagnostic}
+use Rattle.lint_hints.specs.declared.help.Help.{Help}
 use Rattle.base_language.specs.Pieces.PrintedError.{error_text}
 use Rattle.base_language.specs.declared.grammar.Rule.{Rule}
 use Rattle.base_language.specs.declared.runtime.errors.Error.{Error}
 use Rattle.program_support.specs.Escapes.{escaped_lines}
 use Rattle.program_support.specs.Messages.{ArePartsOf, IsPlaced}
 
--- an error's own message, or another one where it has none, and the error's place
+-- the line of a help, if there is one
+abbrev pub help_line : Option Help → List ℕ
+help_line None = []
+help_line (Some help) = codes "help: " ++ (string_bytes help.message ++ codes "\n")
+
+-- the part of an error: its own message, or another one where it has none, its place, and the help for
+-- the code that it has
 pub record ShowsError (name : List ℕ) (error : Error Rule) (part : List ℕ) : Type 0 where
-  pub what : List ℕ
+  pub diagnostic : Diagnostic
+  pub reported : ReportsError error diagnostic
   pub placed : List ℕ
-  pub said : IsMessageOf error.variant what
   pub at_place : IsPlaced name (error_text error) placed
-  pub whole : part ≡ codes "error: " ++ (what ++ (codes "\n" ++ placed))
+  pub whole : part ≡ codes "error: " ++ (string_bytes diagnostic.message
+      ++ (codes "\n" ++ (placed ++ help_line diagnostic.help)))
 
 -- a message of errors, without hidden characters
 abbrev pub IsRefusal : List ℕ → List (Error Rule) → List ℕ → Type 0

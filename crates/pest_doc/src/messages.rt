@@ -2,16 +2,16 @@
 ghost use Rattle.std.specs.Prelude.{◌≡◌, ◌++◌, IfOk, codes, string_bytes};
 ghost use Rattle.program_support.specs.Escapes.{escaped_bytes};
 ghost use Rattle.std.specs.List.{AllZip};
-ghost use Rattle.lint_findings.specs.Reports.{IsMessageOf, ReportsError};
+ghost use Rattle.lint_findings.specs.Reports.{ReportsError};
 ghost use Rattle.pest_doc.specs.Messages.{IsAbsence, IsNamedAbsence};
-ghost use Rattle.pest_doc.specs.Refusals.{IsRefusal, ShowsError};
+ghost use Rattle.pest_doc.specs.Refusals.{IsRefusal, ShowsError, help_line};
 ghost use Rattle.program_support.specs.Messages.{ArePartsOf};
 
 use base_language::grammar::Rule;
 use base_language::runtime::Error;
 use front_reader::rules::common_name;
 use front_syntax::grammar::PestParser;
-use lint_findings::{Diagnostic, diagnose_errors};
+use lint_findings::{Diagnostic, Help, diagnose_errors};
 use lint_hints::nearest_name;
 use program_support::escape::{escape, escape_lines};
 use program_support::messages::place_error;
@@ -64,7 +64,8 @@ fn has_no_rules(alloc: Global, file: &str) -> Result<String, AllocError>
     format!(in alloc; "{file} has no rules\n")
 }
 
-/// Returns the message that a grammar is refused: for each error what is wrong, the place, and the line.
+/// Returns the message that a grammar is refused: for each error what is wrong, the
+/// place and the line, and how it may be mended.
 pub fn refusal_message(
     alloc: Global,
     name: &str,
@@ -93,25 +94,39 @@ fn show_errors(
 {
     let mut text = String::new(alloc);
     for (i, error) in errors.iter().enumerate() {
-        let message = diagnostics[i].message.as_str();
-        let part = show_error(alloc, name, error, message)?;
+        let part = show_error(alloc, name, error, &diagnostics[i])?;
         text.push_str(part.as_str())?;
     }
     Ok(text)
 }
 
-/// Shows what is wrong, and the place and the line of an error.
+/// Shows what is wrong, the place and the line of an error, and how it may be mended.
 fn show_error(
     alloc: Global,
     name: &str,
     error: &Error<Rule>,
-    what: &str,
+    diagnostic: &Diagnostic,
 ) -> Result<String, AllocError>
-    ensures { IfOk result (λ part. IsMessageOf error.now.variant what.now
-        → ShowsError name.now error.now (string_bytes part)) }
+    requires { ReportsError error.now diagnostic.now }
+    ensures { IfOk result (λ part. ShowsError name.now error.now (string_bytes part)) }
 {
     let placed = place_error(alloc, name, error)?;
-    format!(in alloc; "error: {what}\n{placed}")
+    let help = help_line(alloc, &diagnostic.help)?;
+    let what = diagnostic.message.as_str();
+    format!(in alloc; "error: {what}\n{placed}{help}")
+}
+
+/// The line of a help, if there is one.
+fn help_line(alloc: Global, help: &Option<Help>) -> Result<String, AllocError>
+    ensures { IfOk result (λ line. string_bytes line ≡ help_line help.now) }
+{
+    match help {
+        Some(help) => {
+            let message = help.message.as_str();
+            format!(in alloc; "help: {message}\n")
+        }
+        None => Ok(String::new(alloc)),
+    }
 }
 
 /// Returns the names of the rules that are expected where a text is refused.

@@ -1,14 +1,20 @@
 -- What is logged of files, one after another.
-use Rattle.std.proofs.Common.{◌≡◌, ◌∙◌, ℕ, ◌+◌, ◌<◌, ◌≤◌, List, [], ◌∷◌, ◌++◌, false, length, drop, get_or, map, max, sym, ap, append_assoc, append-nil, string_bytes, subst, arith, refl}
+use Rattle.std.proofs.Common.{◌≡◌, ◌∙◌, ℕ, ◌+◌, ◌<◌, ◌≤◌, List, [], ◌∷◌, ◌++◌, false, length, drop, get_or, map, max, sym, ap, append_assoc, append-nil, string_bytes, subst, take, arith, refl}
+use Rattle.std.proofs.lemmas.Bool.{or_from}
+use Rattle.std.proofs.lemmas.List.{map-append, take_more}
+use Rattle.std.proofs.lemmas.Slice.Zip.{all_zipped_more}
 use Rattle.std.specs.List.{AllZip}
 use Rattle.serde_json.specs.Data.{Data}
-use Rattle.serde_json.specs.View.{items_of}
-use Rattle.serde_json.specs.Written.{items_have_float}
+use Rattle.serde_json.specs.View.{items_of, view}
+use Rattle.serde_json.specs.declared.value.Value.{Value}
+use Rattle.serde_json.specs.Written.{has_float, items_have_float}
 use Rattle.lint_findings.specs.declared.diagnostic.Diagnostic.{Diagnostic}
-use Rattle.lint_output.specs.Sarif.{result_data}
-use Rattle.lint_output.proofs.Floats.{append_free, results_free}
+use Rattle.lint_output.specs.Sarif.{IsRule, result_data}
+use Rattle.lint_findings.specs.declared.codes.Code.{Code}
+use Rattle.pest_lint.specs.Pages.{page_of}
+use Rattle.lint_output.proofs.Floats.{append_free, results_free, rule_free}
 use Rattle.lint_diagnostics.specs.Diagnosis.{IsDiagnosisWith}
-use Rattle.pest_lint.specs.Logs.{AreLogged, Logs, Part, all_results, highest_part, read, results_of, unread}
+use Rattle.pest_lint.specs.Logs.{AreLogged, AreRules, Logs, Part, all_results, highest_part, read, results_of, unread}
 use Rattle.pest_lint.specs.Shows.{Asked, IsReadable, status_of}
 use Rattle.pest_lint.specs.declared.lint.Source.{Source}
 use Rattle.pest_lint.proofs.Printing.{zip_end, zip_next}
@@ -58,3 +64,20 @@ all_free asked (s ∷ ss) (p ∷ ps) h = append_free p.results (all_results ps) 
 
 pub logged_free : (asked : Asked) (sources : List Source) (status : ℕ) (results : List Data) → AreLogged asked sources status results → items_have_float (items_of results) ≡ false
 logged_free asked sources status results h = ap (λ t. items_have_float (items_of t)) h.in_order ∙ all_free asked sources h.parts h.each
+
+-- rules have none either
+pub rules_free : (codes : List Code) (rules : List Data) → AreRules codes rules → items_have_float (items_of rules) ≡ false
+rules_free [] [] h = refl
+rules_free [] (r ∷ rs) h = absurd h
+rules_free (k ∷ ks) [] h = absurd h
+rules_free (k ∷ ks) (r ∷ rs) h = or_from (has_float r) _ (rule_free k (page_of k) r h.0) (rules_free ks rs h.1)
+
+-- the rule of one code more
+pub one_rule_more : (codes : List Code) (i : ℕ) (code : Code) (old new : List Value) (rule : Value) → i < length codes → AreRules (take i codes) (map view old)
+    → IsRule (get_or codes i code) (page_of (get_or codes i code)) (view rule) → new ≡ old ++ rule ∷ [] → AreRules (take (i + 1) codes) (map view new)
+one_rule_more codes i code old new rule l before is e =
+    let P : Code → Data → Type 0 = λ k r. IsRule k (page_of k) r in
+    let values : map view new ≡ map view old ++ view rule ∷ [] = ap (map view) e ∙ map-append view old (rule ∷ []) in
+    subst (λ rs. AllZip P (take (i + 1) codes) rs) (sym values)
+    (subst (λ ks. AllZip P ks (map view old ++ view rule ∷ [])) (sym (take_more codes i code l))
+    (all_zipped_more P (take i codes) (map view old) (get_or codes i code) (view rule) before is))

@@ -2,13 +2,16 @@
 use Rattle.std.specs.Prelude.{◌≡◌, ℕ, List, [], ◌∷◌, ◌++◌, Option, map, max, string_bytes}
 use Rattle.std.specs.List.{AllZip}
 use Rattle.std.specs.Io.KnownBytes.{Appends}
-use Rattle.serde_json.specs.Data.{Data}
+use Rattle.serde_json.specs.Data.{Data, Items}
 use Rattle.serde_json.specs.View.{items_of}
 use Rattle.lint_findings.specs.declared.diagnostic.Diagnostic.{Diagnostic}
 use Rattle.lint_output.specs.Json.{json_line}
-use Rattle.lint_output.specs.Sarif.{log_data, result_data}
+use Rattle.lint_output.specs.Sarif.{IsRule, log_data, result_data}
+use Rattle.lint_findings.specs.Codes.{all_codes}
+use Rattle.lint_findings.specs.declared.codes.Code.{Code}
+use Rattle.pest_lint.specs.Pages.{page_of}
 use Rattle.lint_diagnostics.specs.Diagnosis.{IsDiagnosisWith}
-use Rattle.pest_lint.specs.Shows.{Asked, GainsAll, IsReadable, status_of}
+use Rattle.pest_lint.specs.Shows.{Asked, GainsWithEnd, IsReadable, status_of}
 use Rattle.pest_lint.specs.declared.arguments.Format.{Format}
 use Rattle.pest_lint.specs.declared.arguments.Format.TheVariants as format
 use Rattle.pest_lint.specs.declared.lint.Source.{Source}
@@ -44,14 +47,25 @@ pub record AreLogged (asked : Asked) (sources : List Source) (status : ℕ) (res
   pub whole : status ≡ highest_part parts
   pub in_order : results ≡ all_results parts
 
+-- these are the rules of codes, with their pages
+abbrev pub AreRules : List Code → List Data → Type 0
+AreRules codes rules = AllZip (λ code rule. IsRule code (page_of code) rule) codes rules
+
+-- a writer gained a log with the rules of all codes, and these results
+pub record GainsRules (results : Items) (old new : Option (List ℕ)) : Type 0 where
+  pub rules : List Data
+  pub pages : AreRules all_codes rules
+  pub gained : Appends old new (json_line (log_data (items_of rules) results))
+
 -- a writer gained a log with the results of each file
 pub record GainsLog (asked : Asked) (sources : List Source) (status : ℕ) (old new : Option (List ℕ))
     : Type 0 where
   pub results : List Data
   pub logged : AreLogged asked sources status results
-  pub gained : Appends old new (json_line (log_data (items_of results)))
+  pub gained : GainsRules (items_of results) old new
 
 -- a writer gained all of that
 abbrev pub GainsIn : Format → Asked → List Source → ℕ → Option (List ℕ) → Option (List ℕ) → Type 0
-GainsIn (format.Stream style) asked sources status old new = GainsAll asked style sources status old new
+GainsIn (format.Stream style) asked sources status old new =
+    GainsWithEnd asked style sources status old new
 GainsIn format.Log asked sources status old new = GainsLog asked sources status old new

@@ -23,6 +23,7 @@ page_of code.TagWithoutToken = page.TAG_WITHOUT_TOKEN.now
 page_of code.UnusedAllowance = page.UNUSED_ALLOWANCE.now
 page_of code.UncalledRule = page.UNCALLED_RULE.now
 page_of code.MissingEnd = page.MISSING_END.now
+page_of code.UnknownStart = page.UNKNOWN_START.now
 page_of code.Unreachable = page.UNREACHABLE.now
 page_of code.ReversedRange = page.REVERSED_RANGE.now
 page_of code.ReversedCount = page.REVERSED_COUNT.now

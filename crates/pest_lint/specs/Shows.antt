@@ -1,11 +1,12 @@
 -- The bytes that the program writes of files, and its status.
-use Rattle.std.specs.Prelude.{◌≡◌, ℕ, List, [], ◌∷◌, ◌++◌, Bool, ◌||◌, None, Option, IsUtf8, if◌then◌else◌, max, string_bytes}
+use Rattle.std.specs.Prelude.{◌≡◌, ℕ, List, [], ◌∷◌, ◌++◌, Bool, ◌||◌, None, Option, IsUtf8, if◌then◌else◌, max, string_bytes, ⊤}
 use Rattle.std.specs.List.{AllZip, list_any}
 use Rattle.std.specs.Io.KnownBytes.{Appends}
 use Rattle.lint_findings.specs.Reports.{is_error}
 use Rattle.lint_findings.specs.declared.diagnostic.Diagnostic.{Diagnostic}
 use Rattle.lint_output.specs.Prints.{IsExact}
 use Rattle.lint_output.specs.declared.Style.{Style}
+use Rattle.lint_output.specs.declared.Style.TheVariants as style
 use Rattle.base_language.specs.Language.Text.{Text}
 use Rattle.lint_diagnostics.specs.Diagnosis.{IsDiagnosisWith}
 use Rattle.lint_warnings.specs.Lists.{texts_of}
@@ -90,3 +91,18 @@ pub record GainsAll (asked : Asked) (style : Style) (sources : List Source) (sta
   pub each : AllZip (λ source look. Shows asked style source look.bytes look.status) sources looks
   pub whole : status ≡ highest looks
   pub gained : Appends old new (bytes_of looks)
+
+-- JSON and annotations have nothing at their end; the end of text is tested by examples/lint
+abbrev pub IsEnd : Style → List ℕ → Type 0
+IsEnd style.Json end = end ≡ []
+IsEnd style.Github end = end ≡ []
+IsEnd (style.Text coloured) end = ⊤
+
+-- a writer gained what is shown of each file, and an end
+pub record GainsWithEnd (asked : Asked) (style : Style) (sources : List Source) (status : ℕ)
+    (old new : Option (List ℕ)) : Type 0 where
+  pub between : Option (List ℕ)
+  pub shown : GainsAll asked style sources status old between
+  pub end : List ℕ
+  pub ends : IsEnd style end
+  pub gained : Appends between new end

@@ -55,7 +55,7 @@ fn page_text(alloc: Global, code: Code) -> Result<String, AllocError>
 
 /// The page of a code: when it is reported, an example, and how to mend it.
 #[tactic(auto, unfolding(crate::specs::Pages::page_of))]
-fn explanation(code: Code) -> &'static str
+pub fn explanation(code: Code) -> &'static str
     ensures { result.now ≡ page_of code }
 {
     match code {
@@ -74,6 +74,7 @@ fn explanation(code: Code) -> &'static str
         Code::UnusedAllowance => UNUSED_ALLOWANCE,
         Code::UncalledRule => UNCALLED_RULE,
         Code::MissingEnd => MISSING_END,
+        Code::UnknownStart => UNKNOWN_START,
         Code::Unreachable => UNREACHABLE,
         Code::ReversedRange => REVERSED_RANGE,
         Code::ReversedCount => REVERSED_COUNT,
@@ -150,6 +151,9 @@ const MISSING_END: &str =
      SOI or is the only such rule of several. EOI, !ANY, ANY* or ANY+ ask for the end, in it or by a \
      chain of at most 32 calls. Nothing is reported where several starts are named and no rule asks for \
      the end.";
+
+const UNKNOWN_START: &str = "A comment `//! pest-lint: start(a, b)` gives a start that is no rule \
+of the grammar. Write the name of a rule, as it is defined.";
 
 const UNREACHABLE: &str =
     "A literal or a call before an alternative begins all that it matches, so it is never \

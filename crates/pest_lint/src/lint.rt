@@ -1,5 +1,5 @@
 //! Diagnosing files.
-ghost use Rattle.std.specs.Prelude.{◌≡◌, ◌≢◌, ◌≤◌, ◌⊎◌, ◌↔◌, ℕ, List, All, IfOk, IfSome, IsSome, false, true};
+ghost use Rattle.std.specs.Prelude.{◌≡◌, ◌≢◌, ◌≤◌, ◌⊎◌, ◌↔◌, ℕ, List, All, IfOk, IfSome, IsSome, false, string_bytes, true};
 ghost use Rattle.std.specs.Io.KnownBytes.{Appends};
 ghost use Rattle.std.specs.List.{list_any};
 ghost use Rattle.lint_findings.specs.Reports.{is_error};
@@ -8,10 +8,11 @@ ghost use Rattle.lint_diagnostics.specs.Diagnosis.{IsDiagnosisWith};
 ghost use Rattle.lint_warnings.specs.Lists.{texts_of};
 ghost use Rattle.pest_lint.specs.Reports.{Tells, memory_line, reason, unreadable_line};
 ghost use Rattle.pest_lint.specs.Shows as spec;
-ghost use Rattle.pest_lint.specs.Shows.{ArePrinted, Gains, GainsAll, IsClean, IsReadable, ShowsText, asked_of};
+ghost use Rattle.pest_lint.specs.Shows.{ArePrinted, Gains, GainsAll, GainsWithEnd, IsClean, IsEnd, IsReadable, ShowsText, asked_of};
 ghost use Rattle.pest_meta.specs.Spelling.{HasAnswer};
 
 use crate::arguments::{Format, Settings};
+use crate::counts::Counts;
 use lint_diagnostics::{Diagnostic, Options, Severity, diagnose, diagnose_all};
 use lint_output::{LineIndex, Origin, Style, print_diagnostic, to_visible};
 use program_support::output::Output;
@@ -38,15 +39,57 @@ pub struct Source {
 }
 
 /// Diagnoses each file, and prints what is found to `out`, in order. The status is the highest of theirs: 1
-/// where there are errors, or warnings that are denied.
+/// where there are errors, or warnings that are denied. Text ends with a line that counts them.
 ///
 /// A file that can't be read is reported on `err`, and the others are diagnosed all the same (3). Where an
 /// allocation fails (2) or `out` refuses a write (4), the run ends.
-pub fn print_files<W: Write, E: Write>(
+pub fn print_sources<W: Write, E: Write>(
     alloc: Global,
     sources: &[Source],
     settings: Settings<'_>,
     style: Style,
+    out: &mut Output<W>,
+    err: &mut Output<E>,
+) -> u8
+    ensures known { result ≤ 4 }
+    ensures clean { result ≡ 0 → All IsClean sources.now }
+    ensures shows { result ≢ 2 → result ≢ 4
+        → GainsWithEnd (asked_of settings.entry) style sources.now result
+        (W.contents out.old.writer) (W.contents out.new.writer) }
+    ensures taken { result ≢ 4 → out.new.refused ≡ out.old.refused }
+    ensures refused_write { result ≡ 4 → out.new.refused ≡ true }
+{
+    let mut counts = Counts::default();
+    let status = print_files(alloc, sources, settings, style, &mut counts, out, err);
+    if status == MEMORY || status == UNWRITABLE {
+        return status;
+    }
+    let Ok(end) = end_of(alloc, style, counts) else {
+        return MEMORY;
+    };
+    let Ok(()) = out.write_text(end.as_str()) else {
+        return UNWRITABLE;
+    };
+    status
+}
+
+/// The end of a stream, below all files: of text a line of counts, if there is something to count.
+fn end_of(alloc: Global, style: Style, counts: Counts) -> Result<String, AllocError>
+    ensures { IfOk result (λ end. IsEnd style (string_bytes end)) }
+{
+    match style {
+        Style::Text(_) => counts.line(alloc),
+        Style::Json | Style::Github => Ok(String::new(alloc)),
+    }
+}
+
+/// Diagnoses each file, prints what is found, counts it, and answers the highest status.
+fn print_files<W: Write, E: Write>(
+    alloc: Global,
+    sources: &[Source],
+    settings: Settings<'_>,
+    style: Style,
+    counts: &mut Counts,
     out: &mut Output<W>,
     err: &mut Output<E>,
 ) -> u8
@@ -60,7 +103,7 @@ pub fn print_files<W: Write, E: Write>(
 {
     let mut status = CLEAN;
     for source in sources {
-        let one = print_file(alloc, source, settings, style, out, err);
+        let one = print_file(alloc, source, settings, style, counts, out, err);
         status = status.max(one);
         if one == MEMORY || one == UNWRITABLE {
             return one;
@@ -69,12 +112,13 @@ pub fn print_files<W: Write, E: Write>(
     status
 }
 
-/// Diagnoses a file, prints what is found, and answers its status.
+/// Diagnoses a file, prints what is found, counts it, and answers its status.
 fn print_file<W: Write, E: Write>(
     alloc: Global,
     source: &Source,
     settings: Settings<'_>,
     style: Style,
+    counts: &mut Counts,
     out: &mut Output<W>,
     err: &mut Output<E>,
 ) -> u8
@@ -89,7 +133,15 @@ fn print_file<W: Write, E: Write>(
     let Some(text) = text_of(source) else {
         return report_unreadable(alloc, source, err);
     };
-    let status = print_text(alloc, source.name.as_str(), text, settings, style, out);
+    let status = print_text(
+        alloc,
+        source.name.as_str(),
+        text,
+        settings,
+        style,
+        counts,
+        out,
+    );
     if status == MEMORY {
         report_memory(alloc, source, err);
     }
@@ -144,13 +196,14 @@ pub fn report_memory<E: Write>(alloc: Global, source: &Source, err: &mut Output<
     let _ = err.write_line(&["out of memory at ", name]);
 }
 
-/// Diagnoses a text, prints what is found, and answers its status.
+/// Diagnoses a text, prints what is found, counts it, and answers its status.
 fn print_text<W: Write>(
     alloc: Global,
     name: &str,
     text: &str,
     settings: Settings<'_>,
     style: Style,
+    counts: &mut Counts,
     out: &mut Output<W>,
 ) -> u8
     ensures known { (result ≡ 0) ⊎ ((result ≡ 1) ⊎ ((result ≡ 2) ⊎ (result ≡ 4))) }
@@ -176,6 +229,7 @@ fn print_text<W: Write>(
     if status != CLEAN {
         return status;
     }
+    counts.add(&diagnostics);
     status_of(&diagnostics, settings.deny_warnings)
 }
 

@@ -1,21 +1,20 @@
 //! One log of all files, as SARIF.
-ghost use Rattle.std.specs.Prelude.{◌≡◌, ◌≢◌, ◌≤◌, ◌++◌, All, List, OnOk, false, map, true};
-ghost use Rattle.std.specs.Io.KnownBytes.{Appends};
+ghost use Rattle.std.specs.Prelude.{◌≡◌, ◌≢◌, ◌≤◌, ◌++◌, All, IfOk, List, OnOk, false, map, true};
 ghost use Rattle.serde_json.specs.Data.{Data};
 ghost use Rattle.serde_json.specs.View.{items_view, view};
 ghost use Rattle.serde_json.specs.Written.{items_have_float};
-ghost use Rattle.lint_output.specs.Json.{json_line};
-ghost use Rattle.lint_output.specs.Sarif.{log_data, result_data};
-ghost use Rattle.pest_lint.specs.Logs.{GainsLog, Logs};
+ghost use Rattle.lint_output.specs.Sarif.{result_data};
+ghost use Rattle.pest_lint.specs.Logs.{AreRules, GainsLog, GainsRules, Logs};
 ghost use Rattle.pest_lint.specs.Shows.{IsClean, asked_of};
 
 use crate::arguments::Settings;
+use crate::explain::explanation;
 use crate::lint::{
     CLEAN, MEMORY, Source, UNWRITABLE, diagnose_text, report_memory, report_unreadable, status_of,
     text_of,
 };
-use lint_diagnostics::Diagnostic;
-use lint_output::{LineIndex, Origin, sarif_log, sarif_result};
+use lint_diagnostics::{ALL_CODES, Code, Diagnostic};
+use lint_output::{LineIndex, Origin, sarif_log, sarif_result, sarif_rule};
 use program_support::output::Output;
 use serde_json::Value;
 use std::alloc::{AllocError, Global};
@@ -106,16 +105,32 @@ fn print_log<W: Write>(alloc: Global, results: Vec<Value>, out: &mut Output<W>) 
     ensures known { result ≤ 4 }
     ensures done { result ≢ 2 → result ≢ 4 → result ≡ 0 }
     ensures logs { result ≡ 0 → items_have_float (items_view results.items) ≡ false
-        → Appends (W.contents out.old.writer) (W.contents out.new.writer)
-        (json_line (log_data (items_view results.items))) }
+        → GainsRules (items_view results.items)
+        (W.contents out.old.writer) (W.contents out.new.writer) }
     ensures taken { result ≢ 4 → out.new.refused ≡ out.old.refused }
     ensures refused_write { result ≡ 4 → out.new.refused ≡ true }
 {
-    let Ok(text) = sarif_log(alloc, results) else {
+    let Ok(rules) = rules_of(alloc, &ALL_CODES) else {
+        return MEMORY;
+    };
+    let Ok(text) = sarif_log(alloc, rules, results) else {
         return MEMORY;
     };
     let Ok(()) = out.write_text(text.as_str()) else {
         return UNWRITABLE;
     };
     CLEAN
+}
+
+/// Codes as rules, with their pages, in order.
+fn rules_of(alloc: Global, codes: &[Code]) -> Result<Vec<Value>, AllocError>
+    ensures { IfOk result (λ rules. AreRules codes.now (map view rules.items)) }
+{
+    let mut rules = Vec::new(alloc);
+    for code in codes {
+        let page = explanation(*code);
+        let rule = sarif_rule(alloc, *code, page)?;
+        rules.push(rule)?;
+    }
+    Ok(rules)
 }

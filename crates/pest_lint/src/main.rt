@@ -12,11 +12,13 @@ ghost use Rattle.pest_lint.specs.Starts.{names_of, values_of};
 
 mod arguments;
 mod colours;
+mod counts;
 mod explain;
 mod fixes;
 mod lint;
 mod log;
 mod sources;
+mod starts;
 
 use arguments::{Format, Settings, command, is_all, settings_of};
 use clap::ArgMatches;
@@ -24,10 +26,11 @@ use colours::is_coloured;
 use explain::print_page;
 use fixes::fix_files;
 use front_names::Builtin;
-use lint::{CLEAN, MEMORY, Source, UNREADABLE, print_files};
+use lint::{CLEAN, MEMORY, Source, UNREADABLE, print_sources};
 use log::log_files;
 use program_support::output::Output;
 use sources::read_sources;
+use starts::{named_starts, report_start, unknown_start};
 use std::alloc::{AllocError, Global};
 use std::env;
 use std::io::IsTerminal;
@@ -56,7 +59,7 @@ fn lint_files(rt: &HostRuntime, sources: &[Source], settings: Settings<'_>) -> u
     let mut err = Output::new(rt.stderr());
     match settings.format {
         Format::Stream(style) => {
-            print_files(rt.alloc(), sources, settings, style, &mut out, &mut err)
+            print_sources(rt.alloc(), sources, settings, style, &mut out, &mut err)
         }
         Format::Log => log_files(rt.alloc(), sources, settings, &mut out, &mut err),
     }
@@ -93,19 +96,6 @@ fn starts_of<'a>(alloc: Global, matches: &'a ArgMatches<'_>) -> Result<Vec<&'a s
     Ok(starts)
 }
 
-/// The names that `--start` gives.
-fn named_starts<'a>(alloc: Global, matches: &'a ArgMatches<'_>) -> Result<Vec<&'a str>, AllocError>
-    ensures { IfOk result (λ starts.
-        names_of starts.items ≡ values_of matches.entry.now (codes "start")) }
-{
-    let names = matches.get_strs("start").unwrap_or(&[]);
-    let mut starts = Vec::new(alloc);
-    for name in names {
-        starts.push(*name)?;
-    }
-    Ok(starts)
-}
-
 /// The status for a command line that was parsed.
 fn run(rt: &HostRuntime, matches: &ArgMatches<'_>) -> Result<u8, AllocError> {
     if let Some(name) = matches.get_str("explain") {
@@ -119,6 +109,9 @@ fn run(rt: &HostRuntime, matches: &ArgMatches<'_>) -> Result<u8, AllocError> {
     let starts = starts_of(rt.alloc(), matches)?;
     let settings = settings_of(matches, has_colour(rt, matches.get_str("color")), &starts);
     let mut sources = read_sources(rt, names)?;
+    if let Some(name) = unknown_start(rt.alloc(), &sources, &starts)? {
+        return report_start(rt, &sources, name);
+    }
     let fixed = fix_asked(rt, matches, &mut sources)?;
     Ok(fixed.max(lint_files(rt, &sources, settings)))
 }

@@ -43,6 +43,8 @@ extern "C" {
 #define PEST_META_NO_RULE 7
 #define PEST_META_OUT_OF_STEPS 8
 #define PEST_META_EMPTY_STACK 9
+#define PEST_META_LONG_TEXT 10
+#define PEST_META_OTHER_VERSION 11
 
 /* The tokens of the text for the rule of the meta-grammar of that name, from
  * the text's start on ("Tokens"). Refused with a list of one error, or with an
@@ -112,8 +114,9 @@ uint8_t pest_meta_grammar(const uint8_t *text, size_t text_len, uint8_t *out, si
  *   7  no rule has the name
  *   8  the run would take more steps
  *   9  PEEK or POP met the empty stack: the rule has no outcome
+ *  10  the text has 4 GiB or more
  *
- * and 2, 3 and 4 are as above. With 5 to 9 nothing is written, and `*needed` is
+ * and 2, 3 and 4 are as above. With 5 to 10 nothing is written, and `*needed` is
  * 0. A rule's number is one more than its index in the list; of rules of one
  * name, the last is meant. EOI has the number after all rules. */
 uint8_t pest_meta_match(const uint8_t *rules, size_t rules_len, const uint8_t *rule, size_t rule_len,
@@ -138,6 +141,59 @@ typedef struct pest_meta_entry {
     size_t pos;     /* the position, in bytes */
     size_t partner; /* the index of the entry at the other end of the token */
 } pest_meta_entry;
+
+/* Compiled grammars: a block of bytes that is made once, lent at each run, and
+ * read in place ("Compiled grammars"). What a call hands out takes memory by
+ * malloc: free `at` by free() where `count` is not 0. Before a call `at` may
+ * not be null: begin with PEST_META_EMPTY and count 0. After another status
+ * than 0 what was there stays. */
+typedef struct pest_meta_bytes {
+    const uint8_t *at;
+    size_t count;
+} pest_meta_bytes;
+
+/* A token, before those within it. Rules count from 0, in the grammar's order;
+ * `EOI` has the number of rules. `after` is the index behind its last
+ * descendant: the next token that is not within this one. */
+typedef struct pest_meta_node {
+    uint32_t row, start, end, after;
+} pest_meta_node;
+
+typedef struct pest_meta_node_list {
+    const pest_meta_node *at;
+    size_t count;
+} pest_meta_node_list;
+
+typedef struct pest_meta_row_list {
+    const uint32_t *at;
+    size_t count;
+} pest_meta_row_list;
+
+#define PEST_META_EMPTY ((const void *)"\0\0\0\0\0\0\0")
+
+/* The block of a grammar. Status 1: the grammar has errors, which
+ * pest_meta_parse_and_optimize writes; 6: it cannot be run. */
+uint8_t pest_meta_compile(const uint8_t *grammar, size_t grammar_len, pest_meta_bytes *block);
+
+/* The block of optimized rules in binary form (pest_meta_prepare). Status 5:
+ * the bytes are none; 6: the rules cannot be run. */
+uint8_t pest_meta_compile_prepared(const uint8_t *rules, size_t rules_len, pest_meta_bytes *block);
+
+/* Runs the rule of a number from the byte `from` of the text on. Status 0: it
+ * matches; `*nodes` are its tokens, and `*end` is its end. 1: it fails, and
+ * `*end` is the furthest position of a failure. 3: the text is not UTF-8, or
+ * `from` is inside a character or behind the text; 5: no block; 7: no rule has
+ * the number; 8 to 10 as above; 11: a block of another version. Any bytes may
+ * be handed over. */
+uint8_t pest_meta_run(const uint8_t *block, size_t block_len, uint32_t rule, const uint8_t *text,
+                      size_t text_len, size_t from, uint64_t steps, pest_meta_node_list *nodes,
+                      size_t *end);
+
+/* The rules that are expected at `place` in such a run, each once, in the order
+ * in which they are first called there. */
+uint8_t pest_meta_expected(const uint8_t *block, size_t block_len, uint32_t rule,
+                           const uint8_t *text, size_t text_len, size_t from, size_t place,
+                           uint64_t steps, pest_meta_row_list *rows);
 
 /* The diagnostics of a grammar, as pest-lint prints them in JSON ("Diagnostics"):
  * the errors with which it is refused, or else its warnings, a line for each.

@@ -89,6 +89,7 @@ is_match_text match_is.Unfit old new needed status g e = let s : status ≡ 6 = 
 is_match_text match_is.NoRule old new needed status g e = let s : status ≡ 7 = g.0 in omega arith
 is_match_text match_is.OutOfSteps old new needed status g e = let s : status ≡ 8 = g.0 in omega arith
 is_match_text match_is.EmptyStack old new needed status g e = let s : status ≡ 9 = g.0 in omega arith
+is_match_text match_is.LongText old new needed status g e = let s : status ≡ 10 = g.0 in omega arith
 is_match_text match_is.Memory old new needed status g e = let s : status ≡ 2 = g.0 in omega arith
 
 -- an outcome of a rule

@@ -1,11 +1,14 @@
 -- The outcome of a rule, by the answers of the matcher.
-use Rattle.std.proofs.Common.{◌≡◌, ◌∙◌, ap, ap₂, sym, ℕ, List}
+use Rattle.std.proofs.Common.{◌≡◌, ◌+◌, ◌∙◌, ap, ap₂, arith, chars, length, sym, ℕ, List}
+use Rattle.std.specs.Prelude.{IsUtf8}
+use Rattle.std.proofs.Math.Utf8.{encodes}
+use Rattle.std.proofs.lemmas.Str.{encodes-chars}
 use Rattle.std.specs.Borrow.{Bor}
 use Rattle.base_ast.specs.Optimized.{optimized_rules_of}
 use Rattle.base_ast.specs.declared.optimized.OptimizedRule.{OptimizedRule}
 use Rattle.base_language.specs.Language.Expression.{Grammar}
 use Rattle.base_language.specs.Language.Expected.{expected, expected_at}
-use Rattle.base_language.specs.Language.State.{Trees}
+use Rattle.base_language.specs.Language.State.{Classes, State}
 use Rattle.base_language.specs.Language.Text.{Text}
 use Rattle.base_language.proofs.ExpectedOnce.{one_list}
 use Rattle.matcher_program.specs.Programs.{Fits}
@@ -14,10 +17,9 @@ use Rattle.matcher_program.specs.declared.compile.Unfit.{Unfit}
 use Rattle.matcher_program.specs.declared.compile.Unfit.TheVariants as no
 use Rattle.matcher_program.specs.declared.form.Property.{Property}
 use Rattle.matcher_support.specs.Sets.{has_set, is_in_property}
-use Rattle.matcher_program.specs.Answers.{AreExpectedAt, FailsAt, IsMatched, IsStopped}
-use Rattle.matcher_program.specs.Written.{seen}
-use Rattle.matcher_program.specs.declared.answers.Found.{Found}
-use Rattle.front_syntax.specs.Entries.{entries_of}
+use Rattle.matcher_engine.specs.Preorders.{HasPreorder, IsPreorder}
+use Rattle.matcher_engine.specs.declared.matcher.Preorder.{Preorder}
+use Rattle.matcher_program.specs.Answers.{AreExpectedAt, FailsAt, IsStopped, start_of}
 use Rattle.matcher_program.specs.ExpectedNames.{each_once, name_texts}
 use Rattle.matcher_program.specs.declared.answers.Stop.{Stop}
 use Rattle.matcher_program.specs.declared.answers.Stop.TheVariants as stop
@@ -27,11 +29,12 @@ use Rattle.pest_meta_c.specs.declared.matching.outcome.MatchOutcome.{MatchOutcom
 use Rattle.pest_meta_c.specs.declared.matching.outcome.MatchOutcome.TheVariants as is
 
 -- the end of the match, and its tokens
-pub matched : (g : Grammar) (ps : List Property) (rule : Text) (text : List ℕ) (it : Found) (numbers : List ℕ)
-    → Fits ps is_in_property → IsMatched g ps rule text it → ((trees : Trees) → seen it.entries.items ≡ entries_of 0 trees → numbers ≡ match_numbers g it.end trees) → HasMatched g rule text numbers
+pub matched : (g : Grammar) (ps : List Property) (rule : Text) (text : List ℕ) (it : Preorder) (numbers : List ℕ)
+    → Fits ps is_in_property → IsPreorder g ps rule text it
+    → ((n : Text) (s : State) (classes : Classes) (x : HasPreorder g n s classes it) → numbers ≡ match_numbers g it.end x.trees) → HasMatched g rule text numbers
 matched g ps rule text it numbers fits m w =
-    let found = m.found is_in_property fits in
-    record { end_ = found.0; trees = m.trees; matches = found.2; numbered = w m.trees m.entries ∙ ap (λ n. match_numbers g n m.trees) (sym found.1) }
+    let x = m is_in_property fits in
+    record { end_ = x.state; trees = x.trees; matches = x.found; numbered = w rule (start_of text) is_in_property x ∙ ap (λ n. match_numbers g n x.trees) x.ends }
 
 -- the position of the failure, and the rules that are expected there
 pub failed : (g : Grammar) (ps : List Property) (rule : Text) (text : List ℕ) (steps place : ℕ) (names : List (Bor (List ℕ))) (o : MatchOutcome)
@@ -47,13 +50,17 @@ failed g ps rule text steps place names is.Unfit fits f a t = absurd t
 failed g ps rule text steps place names is.NoRule fits f a t = absurd t
 failed g ps rule text steps place names is.OutOfSteps fits f a t = absurd t
 failed g ps rule text steps place names is.EmptyStack fits f a t = absurd t
+failed g ps rule text steps place names is.LongText fits f a t = absurd t
 failed g ps rule text steps place names is.Memory fits f a t = tt
 
 -- a run that was stopped
-pub stopped : (g : Grammar) (ps : List Property) (rule : Text) (text : List ℕ) (steps : ℕ) (why : Stop) → Fits ps is_in_property → IsStopped g ps rule text steps why → IsRunOutcome g rule text steps (stopped_outcome why)
-stopped g ps rule text steps stop.Memory fits h = tt
-stopped g ps rule text steps stop.OutOfSteps fits h = λ o found. h is_in_property fits o found
-stopped g ps rule text steps stop.EmptyStack fits h = λ o found. h is_in_property fits o found
+pub stopped : (g : Grammar) (ps : List Property) (rule : Text) (text : List ℕ) (steps : ℕ) (why : Stop) → IsUtf8 text → Fits ps is_in_property → IsStopped g ps rule text steps why → IsRunOutcome g rule text steps (stopped_outcome why)
+stopped g ps rule text steps stop.Memory utf8 fits h = tt
+stopped g ps rule text steps stop.OutOfSteps utf8 fits h = λ o found. h is_in_property fits o found
+stopped g ps rule text steps stop.EmptyStack utf8 fits h = λ o found. h is_in_property fits o found
+stopped g ps rule text steps stop.TextTooLong utf8 fits h =
+    let size : 0 + length (encodes (chars text)) ≡ length text = omega (arith, ap length (encodes-chars text utf8)) in
+    omega (arith, h, size)
 
 -- rules that can't be run
 pub unfit : (g : Grammar) (rule : Text) (text : List ℕ) (steps : ℕ) (why : Unfit) → IsReason has_set g why → IsRunOutcome g rule text steps (unfit_outcome why)
@@ -71,4 +78,5 @@ of_rules Are Unread rules rule text steps is.Unfit r h = record { rules = rules;
 of_rules Are Unread rules rule text steps is.NoRule r h = record { rules = rules; read = r; holds = h }
 of_rules Are Unread rules rule text steps is.OutOfSteps r h = record { rules = rules; read = r; holds = h }
 of_rules Are Unread rules rule text steps is.EmptyStack r h = record { rules = rules; read = r; holds = h }
+of_rules Are Unread rules rule text steps is.LongText r h = record { rules = rules; read = r; holds = h }
 of_rules Are Unread rules rule text steps is.Memory r h = tt

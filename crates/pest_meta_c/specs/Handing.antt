@@ -92,6 +92,7 @@ IsMatchHandedOver match_is.Unfit old new needed status = IsNothing 6 old new nee
 IsMatchHandedOver match_is.NoRule old new needed status = IsNothing 7 old new needed status
 IsMatchHandedOver match_is.OutOfSteps old new needed status = IsNothing 8 old new needed status
 IsMatchHandedOver match_is.EmptyStack old new needed status = IsNothing 9 old new needed status
+IsMatchHandedOver match_is.LongText old new needed status = IsNothing 10 old new needed status
 IsMatchHandedOver match_is.Memory old new needed status = IsNothing 2 old new needed status
 
 -- the result is that of an outcome with this property

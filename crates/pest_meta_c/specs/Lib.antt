@@ -1,3 +1,4 @@
+pub mod Compiled
 pub mod Answers
 pub mod Diagnostics
 pub mod Handing

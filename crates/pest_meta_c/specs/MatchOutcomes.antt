@@ -1,5 +1,5 @@
 -- The outcome of a rule on a text.
-use Rattle.std.specs.Prelude.{◌≡◌, ◌<◌, All, List, ℕ, None, ⊤}
+use Rattle.std.specs.Prelude.{◌≡◌, ◌<◌, ◌≤◌, ◌^◌, All, List, ℕ, None, length, ⊤}
 use Rattle.base_ast.specs.Optimized.{optimized_rules_of}
 use Rattle.base_ast.specs.declared.optimized.OptimizedRule.{OptimizedRule}
 use Rattle.base_language.specs.Language.Expected.{expected}
@@ -68,6 +68,7 @@ IsRunOutcome g rule text steps is.Unfit = AreUnfit g
 IsRunOutcome g rule text steps is.NoRule = rule_of g rule ≡ None
 IsRunOutcome g rule text steps is.OutOfSteps = TakesMoreSteps g rule text steps
 IsRunOutcome g rule text steps is.EmptyStack = HasNoOutcome g rule text
+IsRunOutcome g rule text steps is.LongText = 2 ^ 32 ≤ length text
 IsRunOutcome g rule text steps is.Memory = ⊤
 
 -- there are such rules, with this property
@@ -105,6 +106,7 @@ abbrev pub stopped_outcome : Stop → MatchOutcome
 stopped_outcome stop.Memory = is.Memory
 stopped_outcome stop.OutOfSteps = is.OutOfSteps
 stopped_outcome stop.EmptyStack = is.EmptyStack
+stopped_outcome stop.TextTooLong = is.LongText
 
 -- the outcome of rules that can't be run
 abbrev pub unfit_outcome : Unfit → MatchOutcome

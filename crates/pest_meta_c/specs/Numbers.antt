@@ -1,9 +1,10 @@
 -- Tokens, and the rules that are expected at a failure, as numbers.
-use Rattle.std.specs.Prelude.{ℕ, suc, List, [], ◌∷◌, ◌++◌, Option, Some, None, length, map}
+use Rattle.std.specs.Prelude.{ℕ, suc, ◌+◌, ◌-◌, ◌*◌, List, [], ◌∷◌, ◌++◌, Option, Some, None, length, map}
 use Rattle.base_language.specs.Language.Expression.{Grammar, last_place}
 use Rattle.base_language.specs.Language.State.{Trees}
 use Rattle.base_language.specs.Language.Text.{Text}
 use Rattle.front_syntax.specs.Entries.{Entry, Starts, Ends, entries_of}
+use Rattle.matcher_engine.specs.Walks.{Enters, Leaves, Visit}
 
 -- one more than an index, or than a count if there is no index
 abbrev pub number_of : Option ℕ → ℕ → ℕ
@@ -27,6 +28,16 @@ entry_numbers g (Ends j partner) = 0 ∷ j ∷ partner ∷ []
 abbrev pub token_numbers : Grammar → List Entry → List ℕ
 token_numbers g [] = []
 token_numbers g (e ∷ es) = entry_numbers g e ++ token_numbers g es
+
+-- a visit of a tree as an entry: the index of its partner is given by the tree's number and its depth, since
+-- each tree before it has two entries, but those that hold it one
+abbrev pub visit_numbers : Visit → List ℕ
+visit_numbers (Enters t) = (t.node.row + 1) ∷ t.node.start ∷ (2 * t.node.after - t.depth - 1) ∷ []
+visit_numbers (Leaves t) = 0 ∷ t.node.end ∷ (2 * t.number - t.depth) ∷ []
+
+abbrev pub numbers_of : List Visit → List ℕ
+numbers_of [] = []
+numbers_of (v ∷ vs) = visit_numbers v ++ numbers_of vs
 
 -- the position after a match, and its tokens
 abbrev pub match_numbers : Grammar → ℕ → Trees → List ℕ

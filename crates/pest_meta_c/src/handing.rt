@@ -25,6 +25,8 @@ const NO_RULE: u8 = 7;
 const OUT_OF_STEPS: u8 = 8;
 /// The stack was empty for `PEEK` or `POP`.
 const EMPTY_STACK: u8 = 9;
+/// The text has 4 GiB or more.
+const LONG_TEXT: u8 = 10;
 
 /// Writes an outcome to the buffer `out`, its length to `needed`, and returns its status.
 pub(crate) fn hand_over(out: &mut [u8], needed: &mut usize, outcome: Outcome) -> u8
@@ -79,6 +81,7 @@ pub(crate) fn hand_over_match(out: &mut [usize], needed: &mut usize, outcome: Ma
         MatchOutcome::NoRule => nothing(needed, NO_RULE),
         MatchOutcome::OutOfSteps => nothing(needed, OUT_OF_STEPS),
         MatchOutcome::EmptyStack => nothing(needed, EMPTY_STACK),
+        MatchOutcome::LongText => nothing(needed, LONG_TEXT),
         MatchOutcome::Memory => nothing(needed, MEMORY),
     }
 }

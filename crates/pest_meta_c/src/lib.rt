@@ -11,6 +11,7 @@
 #![tactic(auto)]
 
 mod calls;
+mod compiled;
 mod diagnostics;
 mod handing;
 mod matching;

@@ -9,7 +9,7 @@ use Rattle.matcher_support.specs.Sets.{is_in_property}
 use Rattle.matcher_program.specs.Answers.{start_of}
 use Rattle.pest_run.specs.Messages.{no_rule_text, steps_text}
 use Rattle.pest_run.specs.Outcomes.{IsOutcome, IsShown}
-use Rattle.pest_run.specs.Written.{AreMatched, AreRun, NotesEnd, PrintsTrees, ReportsReason, ReportsRefusal, ReportsStop, WritesLine, empty_stack, no_match, no_rule, refused, too_many_steps, unknown_name, wide_bound}
+use Rattle.pest_run.specs.Written.{AreMatched, AreRun, NotesEnd, PrintsTrees, ReportsReason, ReportsRefusal, ReportsStop, WritesLine, empty_stack, long_text, no_match, no_rule, refused, too_many_steps, unknown_name, wide_bound}
 use Rattle.pest_run.specs.declared.arguments.Format.{Format}
 use Rattle.pest_run.specs.declared.arguments.RuleForm.{RuleForm}
 use Rattle.pest_run.specs.declared.arguments.RuleForm.TheVariants as form_is
@@ -58,6 +58,7 @@ prints (is.Failed report) name grammar rule text format form rules limit told sa
 prints (is.NoRule said) name grammar rule text format form rules limit told same status old_out new_out old new a i e zero = absurd (apart status 0 1 zero e.0 (omega arith))
 prints (is.OutOfSteps said) name grammar rule text format form rules limit told same status old_out new_out old new a i e zero = absurd (apart status 0 5 zero e.0 (omega arith))
 prints is.EmptyStack name grammar rule text format form rules limit told same status old_out new_out old new a i e zero = absurd (apart status 0 5 zero e.0 (omega arith))
+prints is.LongText name grammar rule text format form rules limit told same status old_out new_out old new a i e zero = absurd (apart status 0 5 zero e.0 (omega arith))
 prints is.UnknownName name grammar rule text format form rules limit told same status old_out new_out old new a i e zero = absurd (apart status 0 5 zero e.0 (omega arith))
 prints is.Bound name grammar rule text format form rules limit told same status old_out new_out old new a i e zero = absurd (apart status 0 5 zero e.0 (omega arith))
 prints is.Memory name grammar rule text format form rules limit told same status old_out new_out old new a i e zero = absurd (apart status 0 2 zero e (omega arith))
@@ -65,13 +66,14 @@ prints is.Memory name grammar rule text format form rules limit told same status
 -- and the note on their end was written
 pub notes : {X E : Type 0} (o : Outcome) (name grammar rule text : List ℕ) (format : Format) (form : RuleForm) (rules : Grammar) (limit : ℕ) (told : Result X E) (same : Type 0) (status : ℕ)
     (old_out new_out old new : Option (List ℕ)) → AreRun form grammar rules → IsOutcome rules rule name text format limit o
-    → EndsAs o same status told old_out new_out old new → status ≡ 0 → NotesEnd form grammar rule text format limit same told old new
+    → EndsAs o same status told old_out new_out old new → status ≡ 0 → NotesEnd form grammar rule text format same told old new
 notes (is.Shown lines note) name grammar rule text format form rules limit told same status old_out new_out old new a i e zero =
     record { rules = rules; are = a; note = option_map string_bytes note; noted = i.1; line = e.2 zero }
 notes (is.Failed report) name grammar rule text format form rules limit told same status old_out new_out old new a i e zero = absurd (apart status 0 1 zero e.0 (omega arith))
 notes (is.NoRule said) name grammar rule text format form rules limit told same status old_out new_out old new a i e zero = absurd (apart status 0 1 zero e.0 (omega arith))
 notes (is.OutOfSteps said) name grammar rule text format form rules limit told same status old_out new_out old new a i e zero = absurd (apart status 0 5 zero e.0 (omega arith))
 notes is.EmptyStack name grammar rule text format form rules limit told same status old_out new_out old new a i e zero = absurd (apart status 0 5 zero e.0 (omega arith))
+notes is.LongText name grammar rule text format form rules limit told same status old_out new_out old new a i e zero = absurd (apart status 0 5 zero e.0 (omega arith))
 notes is.UnknownName name grammar rule text format form rules limit told same status old_out new_out old new a i e zero = absurd (apart status 0 5 zero e.0 (omega arith))
 notes is.Bound name grammar rule text format form rules limit told same status old_out new_out old new a i e zero = absurd (apart status 0 5 zero e.0 (omega arith))
 notes is.Memory name grammar rule text format form rules limit told same status old_out new_out old new a i e zero = absurd (apart status 0 2 zero e (omega arith))
@@ -79,7 +81,7 @@ notes is.Memory name grammar rule text format form rules limit told same status 
 -- where it is 1, a reason was told
 pub tells : {X E : Type 0} (o : Outcome) (name grammar rule text : List ℕ) (format : Format) (form : RuleForm) (rules : Grammar) (limit : ℕ) (told : Result X E) (same : Type 0) (status : ℕ)
     (old_out new_out old new : Option (List ℕ)) → AreRun form grammar rules → IsOutcome rules rule name text format limit o
-    → EndsAs o same status told old_out new_out old new → status ≡ 1 → ReportsReason form grammar rule name text limit told old new
+    → EndsAs o same status told old_out new_out old new → status ≡ 1 → ReportsReason form grammar rule name text told old new
 tells (is.Shown lines _) name grammar rule text format form rules limit told same status old_out new_out old new a i e one = absurd (neither status 1 e.0 one (omega arith) (omega arith))
 tells (is.Failed report) name grammar rule text format form rules limit told same status old_out new_out old new a i e one =
     record { message = string_bytes report; reason = no_match rules (string_bytes report) a i; line = e.1 }
@@ -88,6 +90,7 @@ tells (is.NoRule said) name grammar rule text format form rules limit told same 
     record { message = no_rule_text rules rule; reason = no_rule rules a i.0; line = subst P i.1 e.1 }
 tells (is.OutOfSteps said) name grammar rule text format form rules limit told same status old_out new_out old new a i e one = absurd (apart status 1 5 one e.0 (omega arith))
 tells is.EmptyStack name grammar rule text format form rules limit told same status old_out new_out old new a i e one = absurd (apart status 1 5 one e.0 (omega arith))
+tells is.LongText name grammar rule text format form rules limit told same status old_out new_out old new a i e one = absurd (apart status 1 5 one e.0 (omega arith))
 tells is.UnknownName name grammar rule text format form rules limit told same status old_out new_out old new a i e one = absurd (apart status 1 5 one e.0 (omega arith))
 tells is.Bound name grammar rule text format form rules limit told same status old_out new_out old new a i e one = absurd (apart status 1 5 one e.0 (omega arith))
 tells is.Memory name grammar rule text format form rules limit told same status old_out new_out old new a i e one = absurd (apart status 1 2 one e (omega arith))
@@ -103,12 +106,13 @@ stops (is.OutOfSteps said) name grammar rule text format form rules limit told s
     let P : List ℕ → Type 0 = λ t. WritesLine t told old new in
     record { rules = rules; are = a; message = steps_text limit; stop = too_many_steps i.0; line = subst P i.1 e.1 }
 stops is.EmptyStack name grammar rule text format form rules limit told same status old_out new_out old new a i e five = record { rules = rules; are = a; message = codes "PEEK or POP found nothing on the stack"; stop = empty_stack i; line = e.1 }
+stops is.LongText name grammar rule text format form rules limit told same status old_out new_out old new a i e five = record { rules = rules; are = a; message = codes "the text has 4 GiB or more"; stop = long_text i; line = e.1 }
 stops is.UnknownName name grammar rule text format form rules limit told same status old_out new_out old new a i e five = record { rules = rules; are = a; message = codes "the grammar calls a rule that is not known"; stop = unknown_name i; line = e.1 }
 stops is.Bound name grammar rule text format form rules limit told same status old_out new_out old new a i e five = record { rules = rules; are = a; message = codes "a range of the grammar has a bound that is no character"; stop = wide_bound i; line = e.1 }
 stops is.Memory name grammar rule text format form rules limit told same status old_out new_out old new a i e five = absurd (apart status 2 5 e five (omega arith))
 
 -- a refusal is a reason
-pub refusal_is_reason : {X E : Type 0} (form : RuleForm) (grammar rule name text : List ℕ) (limit : ℕ) (told : Result X E) (old new : Option (List ℕ))
-    → ReportsRefusal grammar told old new → ReportsReason form grammar rule name text limit told old new
-refusal_is_reason form grammar rule name text limit told old new r =
+pub refusal_is_reason : {X E : Type 0} (form : RuleForm) (grammar rule name text : List ℕ) (told : Result X E) (old new : Option (List ℕ))
+    → ReportsRefusal grammar told old new → ReportsReason form grammar rule name text told old new
+refusal_is_reason form grammar rule name text told old new r =
     record { message = r.tells.report; reason = refused r.errors r.tells.report r.refused r.tells.shows; line = r.tells.line }

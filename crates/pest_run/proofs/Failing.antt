@@ -1,20 +1,11 @@
 -- Earlier positions of a failure.
-use Rattle.std.proofs.Common.{◌≡◌, ◌+◌, ◌-◌, ◌<◌, inl, inr, ℕ, List, arith, subst}
+use Rattle.std.proofs.Common.{◌≡◌, ◌∙◌, ◌+◌, ◌-◌, ◌<◌, Bool, List, [], arith, eqb-true, inl, inr, length, nat_eq, subst, sym, true, ℕ}
+use Rattle.std.proofs.lemmas.List.{nil_from_length}
 use Rattle.base_language.proofs.Surveys.{order}
-use Rattle.base_language.specs.Language.Expression.{Grammar}
-use Rattle.base_language.specs.Language.Text.{Text}
-use Rattle.matcher_program.specs.Answers.{AreExpectedAt}
-use Rattle.matcher_program.specs.declared.form.Property.{Property}
-use Rattle.pest_run.specs.Failures.{ExpectsNone, HasNoNames}
-use Rattle.pest_run.specs.Names.{AreLookedFor}
-use Rattle.pest_run.specs.declared.expected.Expected.{Expected}
-use Rattle.pest_run.specs.declared.expected.Expected.TheVariants as expected_is
 
--- where no name was found, none is expected
-pub none_at : (g : Grammar) (ps : List Property) (n : Text) (text : List ℕ) (place limit : ℕ) (names : Expected) → HasNoNames names
-    → AreLookedFor g ps n text place limit names → ExpectsNone g ps n text place
-none_at g ps n text place limit (expected_is.Names names) h a = subst (λ ns. AreExpectedAt g ps n text place ns) h a
-none_at g ps n text place limit (expected_is.Unfound steps) h a = absurd h
+-- a list of no length
+pub none_there : {X : Type 0} (xs : List X) (n : ℕ) (b : Bool) → n ≡ length xs → b ≡ nat_eq n 0 → b ≡ true → xs ≡ []
+none_there xs n b l p q = nil_from_length xs (sym l ∙ eqb-true n 0 (sym p ∙ q))
 
 -- what holds at the positions that were visited, and at the next one before them
 pub one_back : (P : ℕ → Type 0) (furthest back : ℕ) → back < furthest → P (furthest - back)

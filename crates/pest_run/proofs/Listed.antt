@@ -28,6 +28,7 @@ module _ {X E : Type 0} (grammar : List ℕ) (rules : Grammar) (told : Result X 
   lists (is.NoRule message) a i e zero = absurd i
   lists (is.OutOfSteps said) a i e zero = absurd i
   lists is.EmptyStack a i e zero = absurd i
+  lists is.LongText a i e zero = absurd i
   lists is.UnknownName a i e zero = absurd i
   lists is.Bound a i e zero = absurd i
   lists is.Memory a i e zero = absurd (apart status 0 2 zero e (omega arith))
@@ -41,6 +42,7 @@ module _ {X E : Type 0} (grammar : List ℕ) (rules : Grammar) (told : Result X 
   silent (is.NoRule message) i e zero = absurd i
   silent (is.OutOfSteps said) i e zero = absurd i
   silent is.EmptyStack i e zero = absurd i
+  silent is.LongText i e zero = absurd i
   silent is.UnknownName i e zero = absurd i
   silent is.Bound i e zero = absurd i
   silent is.Memory i e zero = absurd (apart status 0 2 zero e (omega arith))
@@ -52,6 +54,7 @@ module _ {X E : Type 0} (grammar : List ℕ) (rules : Grammar) (told : Result X 
   only (is.NoRule message) k i e one z t f = absurd i
   only (is.OutOfSteps said) k i e one z t f = absurd i
   only is.EmptyStack k i e one z t f = absurd i
+  only is.LongText k i e one z t f = absurd i
   only is.UnknownName k i e one z t f = absurd i
   only is.Bound k i e one z t f = absurd i
   only is.Memory k i e one z t f = t (sym one ∙ e)

@@ -24,6 +24,8 @@ EndsAs (is.OutOfSteps message) same status told old_out new_out old new =
     (status ≡ 5) × WritesLine (string_bytes message) told old new
 EndsAs is.EmptyStack same status told old_out new_out old new =
     (status ≡ 5) × WritesLine (codes "PEEK or POP found nothing on the stack") told old new
+EndsAs is.LongText same status told old_out new_out old new =
+    (status ≡ 5) × WritesLine (codes "the text has 4 GiB or more") told old new
 EndsAs is.UnknownName same status told old_out new_out old new =
     (status ≡ 5) × WritesLine (codes "the grammar calls a rule that is not known") told old new
 EndsAs is.Bound same status told old_out new_out old new =

@@ -1,19 +1,15 @@
 -- The position of a failure that a report shows, and the names that are expected there.
 use Rattle.std.specs.Prelude.{◌≡◌, ◌≢◌, ◌⊎◌, ◌<◌, ◌≤◌, ℕ, List, []}
 use Rattle.std.specs.Str.{IsCharBoundary}
-use Rattle.base_language.specs.Language.Expected.{expected_at}
+use Rattle.base_language.specs.Language.Expected.{expected, expected_at}
 use Rattle.base_language.specs.Language.Expression.{Grammar}
 use Rattle.base_language.specs.Language.FurthestFailure.{furthest}
 use Rattle.base_language.specs.Language.Meaning.{Does, Task}
 use Rattle.base_language.specs.Language.State.{Classes, Outcome as Result, State}
 use Rattle.base_language.specs.Language.Text.{Text}
 use Rattle.matcher_program.specs.Answers.{AreExpectedAt}
-use Rattle.matcher_program.specs.ExpectedNames.{each_once, name_texts}
+use Rattle.matcher_program.specs.ExpectedNames.{each_once}
 use Rattle.matcher_program.specs.declared.form.Property.{Property}
-use Rattle.pest_run.specs.Messages.{Names, known}
-use Rattle.pest_run.specs.Names.{AreLookedFor, AreNamesOf, names_of}
-use Rattle.pest_run.specs.declared.expected.Expected.{Expected}
-use Rattle.pest_run.specs.declared.expected.Expected.TheVariants as expected_is
 use Rattle.pest_run.specs.declared.failures.Earlier.{Earlier}
 use Rattle.pest_run.specs.declared.failures.Failure.{Failure}
 
@@ -29,14 +25,9 @@ pub record AreLast {g : Grammar} {classes : Classes} {k : Task} {s : State} {o :
 
 -- the names of a failure's report, at the furthest position or at such an earlier one
 abbrev pub AreTold : {g : Grammar} {classes : Classes} {k : Task} {s : State} {o : Result}
-    → Does g classes k s o → List ℕ → (limit place : ℕ) → Names → Type 0
-AreTold d text limit place names = ((place ≡ furthest d) × AreNamesOf d limit names)
-    ⊎ ((ns : List Text) × (names ≡ known ns) × AreLast d text place ns)
-
--- known is that no name is expected
-abbrev pub HasNoNames : Expected → Type 0
-HasNoNames (expected_is.Names names) = names.items ≡ []
-HasNoNames (expected_is.Unfound steps) = ⊥
+    → Does g classes k s o → List ℕ → ℕ → List Text → Type 0
+AreTold d text place names =
+    ((place ≡ furthest d) × (names ≡ each_once (expected d))) ⊎ AreLast d text place names
 
 -- no name is expected at a position where the rule is run on a text
 abbrev pub ExpectsNone : Grammar → List Property → Text → List ℕ → ℕ → Type 0
@@ -59,13 +50,13 @@ pub record IsFoundEarlier (g : Grammar) (ps : List Property) (n : Text) (text : 
   pub earlier : Earlier
   pub is_earlier : IsEarlier g ps n text it.furthest earlier
   pub place : it.place ≡ earlier.place
-  pub names : names_of it.names ≡ known (name_texts earlier.names.items)
+  pub names : it.names.items ≡ earlier.names.items
   pub none : ExpectsNone g ps n text it.furthest
 
--- a failure was looked into at this furthest position, in so many steps at most
-pub record IsFound (g : Grammar) (ps : List Property) (n : Text) (text : List ℕ) (furthest limit : ℕ)
-    (it : Failure) : Type 0 where
+-- a failure was looked into at this furthest position
+pub record IsFound (g : Grammar) (ps : List Property) (n : Text) (text : List ℕ) (furthest : ℕ) (it : Failure)
+    : Type 0 where
   pub furthest_is : it.furthest ≡ furthest
   pub here : IsCharBoundary text it.place
-  pub told : ((it.place ≡ furthest) × AreLookedFor g ps n text furthest limit it.names)
+  pub told : ((it.place ≡ furthest) × AreExpectedAt g ps n text furthest it.names.items)
       ⊎ IsFoundEarlier g ps n text it

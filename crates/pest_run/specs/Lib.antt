@@ -1,7 +1,6 @@
 pub mod Steps
 pub mod RuleNames
 pub mod Messages
-pub mod Names
 pub mod Failures
 pub mod Outcomes
 pub mod Written

@@ -36,24 +36,10 @@ abbrev pub note_between : ℕ × ℕ → ℕ × ℕ → List ℕ
 note_between end_ last =
     codes "note: matched up to " ++ place_text end_ ++ codes ", the text ends at " ++ place_text last
 
--- names that are expected at a position: these; or so many steps did not find them
-pub data Names : Type 0 where
-  known : List Text → Names
-  unfound : ℕ → Names
-
--- that so many steps did not find expected names
-abbrev pub unfound_text : ℕ → List ℕ
-unfound_text steps = codes "the expected names were not found in " ++ (decimal steps ++ codes " steps")
-
 -- the message that these names are expected, in pest's words if there are any
-abbrev pub known_text : List Text → List ℕ
-known_text [] = codes "no rule is expected here: what failed gives no token, or stands below a `!`"
-known_text names = failure_message names
-
--- the message on expected names
-abbrev pub names_text : Names → List ℕ
-names_text (known names) = known_text names
-names_text (unfound steps) = unfound_text steps
+abbrev pub names_text : List Text → List ℕ
+names_text [] = codes "no rule is expected here: what failed gives no token, or stands below a `!`"
+names_text names = failure_message names
 
 -- that a failure is reported at an earlier position than this one, the furthest
 abbrev pub further_text : ℕ × ℕ → List ℕ
@@ -61,19 +47,18 @@ further_text place =
     codes "; what failed further on, up to " ++ (place_text place ++ codes ", stands below a `!`")
 
 -- the message on a failure at a position
-abbrev pub failure_text : List ℕ → (place furthest : ℕ) → Names → List ℕ
+abbrev pub failure_text : List ℕ → (place furthest : ℕ) → List Text → List ℕ
 failure_text text place furthest names = names_text names
     ++ (if nat_lt place furthest then further_text (line_column text furthest) else [])
 
--- that these names are expected at a position, if there are any; or that they were not found
-abbrev pub expected_text : ℕ × ℕ → Names → List ℕ
-expected_text place (known []) = []
-expected_text place (known names) = codes "; " ++ failure_message names ++ codes " at " ++ place_text place
-expected_text place (unfound steps) = codes "; at " ++ place_text place ++ codes " " ++ unfound_text steps
+-- that these names are expected at a position, if there are any
+abbrev pub expected_text : ℕ × ℕ → List Text → List ℕ
+expected_text place [] = []
+expected_text place names = codes "; " ++ failure_message names ++ codes " at " ++ place_text place
 
 -- that a match ends at a byte position of a text; and, if its furthest failure is no earlier, the names that
--- are expected there, or that they were not found
-abbrev pub end_text : List ℕ → (end_ place : ℕ) → Names → List ℕ
+-- are expected there
+abbrev pub end_text : List ℕ → (end_ place : ℕ) → List Text → List ℕ
 end_text text end_ place names =
     note_between (line_column text end_) (line_column text (length text))
     ++ (if nat_le end_ place then expected_text (line_column text place) names else [])

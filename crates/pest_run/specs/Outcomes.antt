@@ -1,7 +1,8 @@
 -- The outcome of a rule on a text.
-use Rattle.std.specs.Prelude.{◌≡◌, ◌<◌, ◌&&◌, ℕ, List, ◌++◌, Option, Some, None, Bool, false, codes, drop, if◌then◌else◌, length, nat_le, option_map, string_bytes, ⊤}
+use Rattle.std.specs.Prelude.{◌≡◌, ◌<◌, ◌≤◌, ◌^◌, ◌&&◌, ℕ, List, ◌++◌, Option, Some, None, Bool, false, codes, drop, if◌then◌else◌, length, nat_le, option_map, string_bytes, ⊤}
 use Rattle.std.specs.Str.{chars}
 use Rattle.base_language.specs.Language.Expression.{Grammar, Ident, rule_of}
+use Rattle.base_language.specs.Language.Expected.{expected}
 use Rattle.base_language.specs.Language.FurthestFailure.{furthest}
 use Rattle.base_language.specs.Language.State.{State, Trees, Outcome as Result, Success, Failure}
 use Rattle.base_language.specs.Language.Text.{Text}
@@ -16,6 +17,7 @@ use Rattle.matcher_program.specs.declared.compile.Unfit.{Unfit}
 use Rattle.matcher_program.specs.declared.compile.Unfit.TheVariants as unfit
 use Rattle.matcher_program.specs.declared.form.Property.{Property}
 use Rattle.matcher_program.specs.Answers.{Has}
+use Rattle.matcher_program.specs.ExpectedNames.{each_once, name_texts}
 use Rattle.matcher_program.specs.Sizes.{most_steps}
 use Rattle.matcher_program.specs.declared.answers.Stop.{Stop}
 use Rattle.matcher_program.specs.declared.answers.Stop.TheVariants as stop
@@ -25,10 +27,8 @@ use Rattle.matcher_support.specs.Shown.{shown}
 use Rattle.matcher_support.specs.Values.{answer_data}
 use Rattle.program_support.specs.Escapes.{escaped_json, escaped_lines}
 use Rattle.program_support.specs.Messages.{ShowsError}
-use Rattle.pest_run.specs.Messages.{Names, end_text, failure_text, is_more, no_rule_text, steps_text}
+use Rattle.pest_run.specs.Messages.{end_text, failure_text, is_more, no_rule_text, steps_text}
 use Rattle.pest_run.specs.Failures.{AreTold}
-use Rattle.pest_run.specs.Names.{AreNamesOf, names_of}
-use Rattle.pest_run.specs.Steps.{name_limit}
 use Rattle.pest_run.specs.declared.arguments.Format.{Format}
 use Rattle.pest_run.specs.declared.arguments.Format.TheVariants as format_is
 use Rattle.pest_run.specs.declared.failures.Failure as code
@@ -43,9 +43,9 @@ trees_text format_is.Lines text end_ trees = lines_of 0 trees
 trees_text format_is.Json text end_ trees =
     escaped_json (compact_text (answer_data text end_ trees)) ++ codes "\n"
 
--- the note on a match that ends at a position, and has its furthest failure at another, where this is known
--- of expected names: as text, where more than a line's end of the text is left
-abbrev pub end_note : Format → List ℕ → (end_ place : ℕ) → Names → Option (List ℕ)
+-- the note on a match that ends at a position, and has its furthest failure at another, where these names
+-- are expected: as text, where more than a line's end of the text is left
+abbrev pub end_note : Format → List ℕ → (end_ place : ℕ) → List Text → Option (List ℕ)
 end_note format_is.Text text end_ place names =
     if is_more (drop end_ text) then Some (end_text text end_ place names) else None
 end_note format_is.Json text end_ place names = None
@@ -66,19 +66,17 @@ pub record IsShown (g : Grammar) (rule text : List ℕ) (format : Format) (lines
   pub lines_show : lines ≡ trees_text format text end_.position trees
 
 -- the rule, called at the start of the text, succeeds, and the note, if there is one, tells where it ends,
--- and the names that are expected at its furthest failure, or that they were not found
-pub record IsNoted (g : Grammar) (rule text : List ℕ) (format : Format) (limit : ℕ)
-    (note : Option (List ℕ)) : Type 0 where
+-- and the names that are expected at its furthest failure
+pub record IsNoted (g : Grammar) (rule text : List ℕ) (format : Format) (note : Option (List ℕ))
+    : Type 0 where
   pub end_ : State
   pub trees : Trees
   pub matches : Has g (chars rule) text is_in_property (Success end_ trees)
-  pub names : Names
-  pub are : AreNamesOf matches (name_limit limit (length text)) names
-  pub tells : note ≡ end_note format text end_.position (furthest matches) names
+  pub tells : note ≡ end_note format text end_.position (furthest matches) (each_once (expected matches))
 
--- a report of an error at a position of the text of a file, whose furthest failure is at another, where this
--- is known of the names that are expected at the first
-pub record ReportsFailure (name text : List ℕ) (place furthest : ℕ) (names : Names) (report : List ℕ)
+-- a report of an error at a position of the text of a file, where these names are expected, and whose
+-- furthest failure is at another
+pub record ReportsFailure (name text : List ℕ) (place furthest : ℕ) (names : List Text) (report : List ℕ)
     : Type 0 where
   pub error : Error Rule
   pub says : message_of error.variant ≡ failure_text text place furthest names
@@ -87,13 +85,12 @@ pub record ReportsFailure (name text : List ℕ) (place furthest : ℕ) (names :
   pub shows : ShowsError (Some name) error report
 
 -- the rule, called at the start of the text of a file, fails, and the report shows the furthest position of a
--- failure, or the last one before it that has names, and the names that are expected there, or that they were
--- not found
-pub record HasFailed (g : Grammar) (rule name text : List ℕ) (limit : ℕ) (report : List ℕ) : Type 0 where
+-- failure, or the last one before it that has names, and the names that are expected there
+pub record HasFailed (g : Grammar) (rule name text report : List ℕ) : Type 0 where
   pub fails : Has g (chars rule) text is_in_property Failure
   pub place : ℕ
-  pub names : Names
-  pub are : AreTold fails text (name_limit limit (length text)) place names
+  pub names : List Text
+  pub are : AreTold fails text place names
   pub reports : ReportsFailure name text place (furthest fails) names report
 
 -- no rule has the name
@@ -121,6 +118,7 @@ HasWrongBound g = (t : Text) × IsBoundOf (InSomeRule g) t × IsNoCharacter t
 abbrev pub IsStopReport : Stop → ℕ → Outcome → Type 0
 IsStopReport stop.Memory limit o = o ≡ is.Memory
 IsStopReport stop.EmptyStack limit o = o ≡ is.EmptyStack
+IsStopReport stop.TextTooLong limit o = o ≡ is.LongText
 IsStopReport stop.OutOfSteps limit (is.OutOfSteps message) = string_bytes message ≡ steps_text limit
 IsStopReport stop.OutOfSteps limit is.Memory = ⊤
 IsStopReport stop.OutOfSteps limit _ = ⊥
@@ -134,13 +132,14 @@ unfit_outcome (unfit.Bound text) = is.Bound
 -- the outcome reports a failure on the text of a file, or an allocation failure
 abbrev pub IsFailureReport : List ℕ → List ℕ → code.Failure → Outcome → Type 0
 IsFailureReport name text failure (is.Failed report) =
-    ReportsFailure name text failure.place failure.furthest (names_of failure.names) (string_bytes report)
+    ReportsFailure name text failure.place failure.furthest (name_texts failure.names.items)
+    (string_bytes report)
 IsFailureReport name text failure is.Memory = ⊤
 IsFailureReport name text failure _ = ⊥
 
 -- the outcome shows the trees of a match that ends at a position, and has its furthest failure at another,
--- where this is known of expected names; or it reports an allocation failure
-abbrev pub IsMatchReport : List ℕ → Format → (end_ place : ℕ) → Names → Trees → Outcome → Type 0
+-- where these names are expected; or it reports an allocation failure
+abbrev pub IsMatchReport : List ℕ → Format → (end_ place : ℕ) → List Text → Trees → Outcome → Type 0
 IsMatchReport text format end_ place names trees (is.Shown lines note) =
     (string_bytes lines ≡ trees_text format text end_ trees)
     × (option_map string_bytes note ≡ end_note format text end_ place names)
@@ -158,9 +157,8 @@ IsNoRuleReport g rule _ = ⊥
 abbrev pub IsOutcome : Grammar → (rule name text : List ℕ) → Format → ℕ → Outcome → Type 0
 IsOutcome g rule name text format limit (is.Shown lines note) =
     IsShown g rule text format (string_bytes lines)
-    × IsNoted g rule text format limit (option_map string_bytes note)
-IsOutcome g rule name text format limit (is.Failed report) =
-    HasFailed g rule name text limit (string_bytes report)
+    × IsNoted g rule text format (option_map string_bytes note)
+IsOutcome g rule name text format limit (is.Failed report) = HasFailed g rule name text (string_bytes report)
 IsOutcome g rule name text format limit (is.NoRule message) =
     HasNoRule g rule × (string_bytes message ≡ no_rule_text g rule)
 IsOutcome g rule name text format limit (is.OutOfSteps message) =
@@ -168,4 +166,5 @@ IsOutcome g rule name text format limit (is.OutOfSteps message) =
 IsOutcome g rule name text format limit is.EmptyStack = HasNoOutcome g rule text
 IsOutcome g rule name text format limit is.UnknownName = CallsUnknownName g
 IsOutcome g rule name text format limit is.Bound = HasWrongBound g
+IsOutcome g rule name text format limit is.LongText = 2 ^ 32 ≤ length text
 IsOutcome g rule name text format limit is.Memory = ⊤

@@ -12,8 +12,3 @@ CountsSteps text steps = let digits = without_leading_plus text in
 abbrev pub step_limit : Option ℕ → ℕ → ℕ
 step_limit (Some steps) length = steps
 step_limit None length = min (100000 * (length + 1000)) (2 ^ 64 - 1)
-
--- the greatest number of steps in which expected names are looked for, by that of a match and the length of
--- the text
-abbrev pub name_limit : ℕ → ℕ → ℕ
-name_limit steps length = min steps (min (1000 * (length + 1000)) (2 ^ 64 - 1))

@@ -1,5 +1,5 @@
 -- The texts that the program writes.
-use Rattle.std.specs.Prelude.{◌≡◌, ◌⊎◌, ℕ, List, [], ◌∷◌, ◌++◌, Option, Some, None, Result, OnOk, IsUtf8, codes, string_bytes}
+use Rattle.std.specs.Prelude.{◌≡◌, ◌⊎◌, ◌≤◌, ◌^◌, ℕ, List, [], ◌∷◌, ◌++◌, Option, Some, None, Result, OnOk, IsUtf8, codes, length, string_bytes}
 use Rattle.std.specs.Borrow.{Bor}
 use Rattle.std.specs.Io.KnownBytes.{Appends}
 use Rattle.base_ast.specs.Optimized.{optimized_rules_of}
@@ -92,36 +92,38 @@ WritesNote (Some note) same written old new = WritesLine note written old new
 
 -- the rule of the grammar matches the text, and the note on its end was written
 pub record NotesEnd {X E : Type 0} (form : RuleForm) (grammar rule text : List ℕ) (format : Format)
-    (limit : ℕ) (same : Type 0) (written : Result X E) (old new : Option (List ℕ)) : Type 0 where
+    (same : Type 0) (written : Result X E) (old new : Option (List ℕ)) : Type 0 where
   pub rules : Grammar
   pub are : AreRun form grammar rules
   pub note : Option (List ℕ)
-  pub noted : IsNoted rules rule text format limit note
+  pub noted : IsNoted rules rule text format note
   pub line : WritesNote note same written old new
 
 -- the reason why there are no trees, and its text: the grammar is refused, and its report is the text; or
 -- it has no rule of that name; or the rule fails, and the text reports that on the text of the file
-pub data IsReason (form : RuleForm) (grammar rule name text : List ℕ) (limit : ℕ) : List ℕ → Type 0 where
+pub data IsReason (form : RuleForm) (grammar rule name text : List ℕ) : List ℕ → Type 0 where
   refused : (errors : List (Error Rule)) (report : List ℕ) → IsRefusedWith grammar errors
-      → IsReport errors report → IsReason form grammar rule name text limit report
+      → IsReport errors report → IsReason form grammar rule name text report
   no_rule : (rules : Grammar) → AreRun form grammar rules → HasNoRule rules rule
-      → IsReason form grammar rule name text limit (no_rule_text rules rule)
+      → IsReason form grammar rule name text (no_rule_text rules rule)
   no_match : (rules : Grammar) (report : List ℕ) → AreRun form grammar rules
-      → HasFailed rules rule name text limit report → IsReason form grammar rule name text limit report
+      → HasFailed rules rule name text report → IsReason form grammar rule name text report
 
 -- there is such a reason, and it is the line
-pub record ReportsReason {X E : Type 0} (form : RuleForm) (grammar rule name text : List ℕ) (limit : ℕ)
+pub record ReportsReason {X E : Type 0} (form : RuleForm) (grammar rule name text : List ℕ)
     (written : Result X E) (old new : Option (List ℕ)) : Type 0 where
   pub message : List ℕ
-  pub reason : IsReason form grammar rule name text limit message
+  pub reason : IsReason form grammar rule name text message
   pub line : WritesLine message written old new
 
 -- the reason why the matcher was stopped on the text, and its text: too many steps; or the rule has no
--- outcome and `PEEK` or `POP` met the empty stack; or the rules can't be run, for an unknown name or a bound
+-- outcome and `PEEK` or `POP` met the empty stack; or the text has 4 GiB; or the rules can't be run, for an
+-- unknown name or a bound
 pub data IsStop (g : Grammar) (rule text : List ℕ) (limit : ℕ) : List ℕ → Type 0 where
   too_many_steps : TakesTooManySteps g rule text limit → IsStop g rule text limit (steps_text limit)
   empty_stack : HasNoOutcome g rule text
       → IsStop g rule text limit (codes "PEEK or POP found nothing on the stack")
+  long_text : 2 ^ 32 ≤ length text → IsStop g rule text limit (codes "the text has 4 GiB or more")
   unknown_name : CallsUnknownName g
       → IsStop g rule text limit (codes "the grammar calls a rule that is not known")
   wide_bound : HasWrongBound g

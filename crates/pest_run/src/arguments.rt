@@ -88,8 +88,7 @@ fn steps_argument<'a>(alloc: Global) -> Arg<'a>
 {
     let help =
         "Stop a match after N steps; where it is not given, after 100000 for each byte of the text \
-                and 100000000 more. Expected names are looked for in 1000 for each byte and 1000000 \
-                more at most";
+                and 100000000 more";
     option(alloc, "steps", help)
         .value_name("N")
         .value_parser(ValueParser::unsigned(1, u64::MAX))

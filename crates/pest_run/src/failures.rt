@@ -1,21 +1,20 @@
-//! The position of a failure that a report shows: the furthest one, or, where no name is expected there, the
-//! last before it at which names are.
+//! Names that are expected at a failure, and the position that a report shows: the furthest one, or, where no
+//! name is expected there, the last before it at which names are.
 ghost use Rattle.std.specs.Prelude.{◌≡◌, ℕ, IfErr, IfOk, IfSome, chars, true};
 ghost use Rattle.std.specs.Str.{IsCharBoundary};
 ghost use Rattle.matcher_engine.specs.Matchers.{grammar_in, properties_in};
-ghost use Rattle.matcher_program.specs.Answers.{IsUnanswered};
-ghost use Rattle.pest_run.specs.Failures.{HasNoNames, IsEarlier, IsFound};
+ghost use Rattle.matcher_program.specs.Answers.{AreExpectedAt, IsUnanswered};
+ghost use Rattle.pest_run.specs.Failures.{IsEarlier, IsFound};
+ghost use Rattle.pest_run.specs.Outcomes.{tells_expected};
 
-use crate::expected::{Expected, find_names};
-use matcher_engine::matcher::Matcher;
+use crate::arguments::Format;
+use crate::messages::is_more;
+use matcher_engine::matcher::{Matcher, Preorder};
 use matcher_program::answers::Refusal;
 use std::alloc::Global;
 
 /// How many bytes before the furthest failure an earlier position with names is looked for.
 const MOST_BACK: usize = 64;
-
-/// The part of the steps for expected names that the run for each of these positions may take.
-const STEPS_PART: u64 = 8;
 
 /// The failure of a rule on a text. Positions are bytes between two characters.
 #[derive(Drop)]
@@ -24,8 +23,8 @@ pub struct Failure<'a> {
     pub furthest: usize,
     /// The position that is shown, at or before it.
     pub place: usize,
-    /// The names that are expected there, as far as they are known.
-    pub names: Expected<'a>,
+    /// The names that are expected there.
+    pub names: Vec<&'a str>,
 }
 
 /// A position before the furthest failure, and the names that are expected there.
@@ -35,9 +34,9 @@ pub struct Earlier<'a> {
     pub names: Vec<&'a str>,
 }
 
-/// Looks for the names that are expected at the furthest failure, in so many steps at most; where there are
-/// none, for the last position before it, but not the text's start, that has names. That one is looked for in
-/// 64 bytes, by a run for each position in an eighth of the steps. Errors are those of `find_names`.
+/// Looks for the names that are expected at the furthest failure; where there are none, for the last position
+/// before it, but not the text's start, that has names. That one is looked for in 64 bytes, by a run for each
+/// position. A run takes so many steps at most. Errors are those of `Matcher::expected_at`.
 pub fn find_failure<'a>(
     alloc: Global,
     matcher: &'a Matcher,
@@ -48,18 +47,17 @@ pub fn find_failure<'a>(
 ) -> Result<Failure<'a>, Refusal<'a>>
     requires { IsCharBoundary text.now furthest }
     ensures found { IfOk result (IsFound (grammar_in matcher.entry.now) (properties_in matcher.entry.now)
-        (chars rule.entry.now) text.entry.now furthest steps) }
-    ensures refused { IfErr result (λ why. (limit : ℕ) → IsUnanswered (grammar_in matcher.entry.now)
-        (properties_in matcher.entry.now) (chars rule.entry.now) text.entry.now limit why) }
+        (chars rule.entry.now) text.entry.now furthest) }
+    ensures refused { IfErr result (IsUnanswered (grammar_in matcher.entry.now)
+        (properties_in matcher.entry.now) (chars rule.entry.now) text.entry.now steps) }
 {
-    let names = find_names(alloc, matcher, rule, text, furthest, steps)?;
-    if has_none(&names) {
-        let steps = steps / STEPS_PART;
+    let names = matcher.expected_at(alloc, rule, text, furthest, steps)?;
+    if names.is_empty() {
         if let Some(earlier) = find_earlier(alloc, matcher, rule, text, furthest, steps)? {
             return Ok(Failure {
                 furthest,
                 place: earlier.place,
-                names: Expected::Names(earlier.names),
+                names: earlier.names,
             });
         }
     }
@@ -70,19 +68,9 @@ pub fn find_failure<'a>(
     })
 }
 
-/// Returns whether it is known that no name is expected.
-fn has_none(names: &Expected<'_>) -> bool
-    ensures { result ≡ true → HasNoNames names.now }
-{
-    match names {
-        Expected::Names(names) => names.is_empty(),
-        Expected::Unfound(_) => false,
-    }
-}
-
 /// Looks for the last position before the furthest failure, but not the text's start, at which names are
-/// expected, in so many steps at most for each. Returns none where it is not in 64 bytes, or a run took more
-/// steps. Errors are those of `find_names`.
+/// expected, in so many steps at most for each. Returns none where it is not in 64 bytes. Errors are those of
+/// `Matcher::expected_at`.
 fn find_earlier<'a>(
     alloc: Global,
     matcher: &'a Matcher,
@@ -93,8 +81,8 @@ fn find_earlier<'a>(
 ) -> Result<Option<Earlier<'a>>, Refusal<'a>>
     ensures found { IfOk result (λ found. IfSome found (IsEarlier (grammar_in matcher.entry.now)
         (properties_in matcher.entry.now) (chars rule.entry.now) text.entry.now furthest)) }
-    ensures refused { IfErr result (λ why. (limit : ℕ) → IsUnanswered (grammar_in matcher.entry.now)
-        (properties_in matcher.entry.now) (chars rule.entry.now) text.entry.now limit why) }
+    ensures refused { IfErr result (IsUnanswered (grammar_in matcher.entry.now)
+        (properties_in matcher.entry.now) (chars rule.entry.now) text.entry.now steps) }
 {
     for back in 1..=MOST_BACK {
         if back >= furthest {
@@ -102,14 +90,38 @@ fn find_earlier<'a>(
         }
         let place = furthest - back;
         if text.is_char_boundary(place) {
-            let Expected::Names(names) = find_names(alloc, matcher, rule, text, place, steps)?
-            else {
-                return Ok(None);
-            };
+            let names = matcher.expected_at(alloc, rule, text, place, steps)?;
             if !names.is_empty() {
                 return Ok(Some(Earlier { place, names }));
             }
         }
     }
     Ok(None)
+}
+
+/// Looks for the names that are expected at the furthest failure of a match, in so many steps at most, if the
+/// note on its end tells them. Errors are those of `Matcher::expected_at`.
+pub fn names_after<'a>(
+    alloc: Global,
+    matcher: &'a Matcher,
+    rule: &'a str,
+    text: &'a str,
+    found: &Preorder,
+    format: Format,
+    steps: u64,
+) -> Result<Vec<&'a str>, Refusal<'a>>
+    requires { IsCharBoundary text.now found.now.end }
+    ensures expected { IfOk result (λ names.
+        tells_expected format text.entry.now found.now.end found.now.furthest ≡ true
+        → AreExpectedAt (grammar_in matcher.entry.now) (properties_in matcher.entry.now)
+        (chars rule.entry.now) text.entry.now found.now.furthest names.items) }
+    ensures refused { IfErr result (IsUnanswered (grammar_in matcher.entry.now)
+        (properties_in matcher.entry.now) (chars rule.entry.now) text.entry.now steps) }
+{
+    match format {
+        Format::Text if found.furthest >= found.end && is_more(&text[found.end..]) => {
+            matcher.expected_at(alloc, rule, text, found.furthest, steps)
+        }
+        _ => Ok(Vec::new(alloc)),
+    }
 }

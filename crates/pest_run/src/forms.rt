@@ -9,7 +9,6 @@ use crate::arguments::{Request, RuleForm, step_limit};
 use crate::run::read_rules;
 use crate::sources::{Source, text_of};
 use base_ast::optimized::{OptimizedRule, release};
-use base_language::runtime::Span;
 use matcher_engine::matcher::Matcher;
 use matcher_support::unicode_properties::UnicodeProperties;
 use program_support::output::{Output, RefusedWrite};
@@ -70,8 +69,7 @@ fn has_match(alloc: Global, rules: &[OptimizedRule], rule: &str, text: &str, ste
     let Ok(matcher) = Matcher::new(alloc, rules, &UnicodeProperties) else {
         return false;
     };
-    let start = Span::of(text, 0, 0).start_pos();
-    matcher.parse_preorder(alloc, rule, start, steps).is_ok()
+    matcher.match_text(alloc, rule, text, steps).is_ok()
 }
 
 /// Writes the note to `err`.

@@ -9,7 +9,6 @@ ghost use Rattle.pest_run.specs.Written.{IsReadable, PrintsTrees};
 
 mod arguments;
 mod ends;
-mod expected;
 mod failures;
 mod forms;
 mod listing;

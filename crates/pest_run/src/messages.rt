@@ -3,11 +3,9 @@ ghost use Rattle.std.specs.Prelude.{◌≡◌, ◌++◌, IfOk, OnOk, string_byte
 ghost use Rattle.std.specs.Str.{IsCharBoundary};
 ghost use Rattle.matcher_program.specs.ExpectedNames.{name_texts};
 ghost use Rattle.base_ast.specs.Optimized.{optimized_rules_of};
-ghost use Rattle.pest_run.specs.Messages.{end_text, expected_text, failure_text, further_text, is_more, known, known_text, names_text, no_rule_text, note_between, place_text, steps_text, suggestion, unfound, unfound_text, unread_text};
+ghost use Rattle.pest_run.specs.Messages.{end_text, expected_text, failure_text, further_text, is_more, names_text, no_rule_text, note_between, place_text, steps_text, suggestion, unread_text};
 ghost use Rattle.base_language.specs.Pieces.LineColumn.{line_column};
-ghost use Rattle.pest_run.specs.Names.{names_of};
 
-use crate::expected::Expected;
 use crate::failures::Failure;
 use crate::rule_names::near_names;
 use base_ast::optimized::OptimizedRule;
@@ -84,17 +82,6 @@ pub fn is_more(rest: &str) -> bool
 const NONE_EXPECTED: &str =
     "no rule is expected here: what failed gives no token, or stands below a `!`";
 
-/// Returns the message on expected names, in pest's words if there are any. The only error is an allocation
-/// failure.
-fn expected_message(alloc: Global, names: &Expected<'_>) -> Result<String, AllocError>
-    ensures { IfOk result (λ message. string_bytes message ≡ names_text (names_of names.now)) }
-{
-    match names {
-        Expected::Names(names) => known_message(alloc, names),
-        Expected::Unfound(steps) => unfound_message(alloc, *steps),
-    }
-}
-
 /// Returns the message on a failure on a text. The only error is an allocation failure.
 pub fn describe_failure(
     alloc: Global,
@@ -103,9 +90,9 @@ pub fn describe_failure(
 ) -> Result<String, AllocError>
     requires { IsCharBoundary text.now failure.now.furthest }
     ensures { IfOk result (λ message. string_bytes message ≡ failure_text text.now failure.now.place
-        failure.now.furthest (names_of failure.now.names)) }
+        failure.now.furthest (name_texts failure.now.names.items)) }
 {
-    let mut message = expected_message(alloc, &failure.names)?;
+    let mut message = names_message(alloc, &failure.names)?;
     if failure.place < failure.furthest {
         add_further(alloc, text, failure.furthest, &mut message)?;
     }
@@ -132,9 +119,10 @@ fn add_further(
     message.push_str(", stands below a `!`")
 }
 
-/// Returns the message that these names are expected. The only error is an allocation failure.
-fn known_message(alloc: Global, names: &[&str]) -> Result<String, AllocError>
-    ensures { IfOk result (λ message. string_bytes message ≡ known_text (name_texts names.now)) }
+/// Returns the message that these names are expected, in pest's words if there are any. The only error
+/// is an allocation failure.
+fn names_message(alloc: Global, names: &[&str]) -> Result<String, AllocError>
+    ensures { IfOk result (λ message. string_bytes message ≡ names_text (name_texts names.now)) }
 {
     match names {
         [] => String::from_str(alloc, NONE_EXPECTED),
@@ -142,27 +130,19 @@ fn known_message(alloc: Global, names: &[&str]) -> Result<String, AllocError>
     }
 }
 
-/// Returns the message that so many steps did not find the expected names. The only error is an allocation
-/// failure.
-fn unfound_message(alloc: Global, steps: u64) -> Result<String, AllocError>
-    ensures { IfOk result (λ message. string_bytes message ≡ unfound_text steps) }
-{
-    format!(in alloc; "the expected names were not found in {steps} steps")
-}
-
 /// Returns the note that a match ends at a byte position, and where the text ends; and, if the furthest
-/// failure, at another byte position, is no earlier, the names that are expected there, or that they were
-/// not found. Both positions are between two characters. The only error is an allocation failure.
+/// failure, at another byte position, is no earlier, the names that are expected there. Both positions are
+/// between two characters. The only error is an allocation failure.
 pub fn end_message(
     alloc: Global,
     text: &str,
     end: usize,
     place: usize,
-    names: &Expected<'_>,
+    names: &[&str],
 ) -> Result<String, AllocError>
     requires end { IsCharBoundary text.now end }
     requires place { IsCharBoundary text.now place }
-    ensures { IfOk result (λ note. string_bytes note ≡ end_text text.now end place (names_of names.now)) }
+    ensures { IfOk result (λ note. string_bytes note ≡ end_text text.now end place (name_texts names.now)) }
 {
     let Some(ended) = Position::new(text, end) else {
         unreachable!()
@@ -180,31 +160,15 @@ pub fn end_message(
     Ok(note)
 }
 
-/// Adds to a note the names that are expected at a position, if there are any, or that they were not found.
-fn add_expected(
-    alloc: Global,
-    note: &mut String,
-    place: (usize, usize),
-    names: &Expected<'_>,
-) -> Result<(), AllocError>
-    ensures { OnOk result (string_bytes note.new
-        ≡ string_bytes note.old ++ expected_text place (names_of names.now)) }
-{
-    match names {
-        Expected::Names(names) => add_names_at(alloc, note, place, names),
-        Expected::Unfound(steps) => add_unfound(alloc, note, place, *steps),
-    }
-}
-
 /// Adds to a note the names that are expected at a position, if there are any.
-fn add_names_at(
+fn add_expected(
     alloc: Global,
     note: &mut String,
     place: (usize, usize),
     names: &[&str],
 ) -> Result<(), AllocError>
     ensures { OnOk result (string_bytes note.new
-        ≡ string_bytes note.old ++ expected_text place (known (name_texts names.now))) }
+        ≡ string_bytes note.old ++ expected_text place (name_texts names.now)) }
 {
     if names.is_empty() {
         return Ok(());
@@ -215,24 +179,6 @@ fn add_names_at(
     note.push_str(message.as_str())?;
     note.push_str(" at ")?;
     note.push_str(shown.as_str())
-}
-
-/// Adds to a note that so many steps did not find the names that are expected at a position.
-fn add_unfound(
-    alloc: Global,
-    note: &mut String,
-    place: (usize, usize),
-    steps: u64,
-) -> Result<(), AllocError>
-    ensures { OnOk result (string_bytes note.new
-        ≡ string_bytes note.old ++ expected_text place (unfound steps)) }
-{
-    let message = unfound_message(alloc, steps)?;
-    let shown = show_place(alloc, place)?;
-    note.push_str("; at ")?;
-    note.push_str(shown.as_str())?;
-    note.push_str(" ")?;
-    note.push_str(message.as_str())
 }
 
 /// Returns the note that a match ends at the first of two positions, and its text at the second. The only

@@ -1,22 +1,24 @@
 //! The outcome of a rule on a text.
-ghost use Rattle.std.specs.Prelude.{◌≡◌, IfOk, option_map, string_bytes};
+ghost use Rattle.std.specs.Prelude.{◌≡◌, ℕ, IfOk, option_map, string_bytes};
 ghost use Rattle.base_ast.specs.Optimized.{optimized_rules_of};
-ghost use Rattle.base_language.specs.Language.State.{Trees};
-ghost use Rattle.matcher_program.specs.Written.{seen};
-ghost use Rattle.front_syntax.specs.Entries.{entries_of};
+ghost use Rattle.base_language.specs.Language.State.{Classes, State, Trees};
+ghost use Rattle.base_language.specs.Language.Text.{Text};
+ghost use Rattle.matcher_engine.specs.Matchers.{grammar_in};
+ghost use Rattle.matcher_engine.specs.Preorders.{HasPreorder};
+ghost use Rattle.matcher_engine.specs.Walks.{visits, visits_left};
+ghost use Rattle.matcher_program.specs.ExpectedNames.{name_texts};
 ghost use Rattle.std.specs.Str.{IsCharBoundary};
 ghost use Rattle.matcher_support.specs.Shown.{shown};
 ghost use Rattle.program_support.specs.Escapes.{escaped_lines};
 ghost use Rattle.pest_run.specs.Outcomes.{IsFailureReport, IsMatchReport, IsNoRuleReport, IsOutcome, IsStopReport, ReportsFailure, end_note, trees_text, unfit_outcome};
-ghost use Rattle.pest_run.specs.Names.{names_of};
 
 use crate::arguments::Format;
-use crate::expected::{Expected, name_limit, names_after};
-use crate::failures::{Failure, find_failure};
+use crate::failures::{Failure, find_failure, names_after};
 use crate::messages::{describe_failure, end_message, is_more, no_rule_message, steps_message};
 use base_language::runtime::{Error, ErrorVariant, Fault, Position};
-use matcher_engine::matcher::Matcher;
-use matcher_program::answers::{Entry, Found, Refusal, Stop};
+use matcher_engine::matcher::{Matcher, Preorder};
+use matcher_engine::walk::TreeWalk;
+use matcher_program::answers::{Refusal, Stop};
 use matcher_program::compile::Unfit;
 use matcher_support::json::tree_json;
 use matcher_support::lines::tree_lines;
@@ -33,7 +35,7 @@ use std::alloc::{AllocError, Global};
 pub enum Outcome {
     /// The rule matches, and these lines show the trees. The note says that the match ends before the text.
     Shown { lines: String, note: Option<String> },
-    /// The rule fails; the report has the position and the expected set, or that it was not found in time.
+    /// The rule fails; the report has the position and the expected set.
     Failed(String),
     /// The grammar has no rule of that name, and the message says so.
     NoRule(String),
@@ -41,6 +43,8 @@ pub enum Outcome {
     OutOfSteps(String),
     /// `PEEK` or `POP` met the empty stack, and the rule has no outcome on the text.
     EmptyStack,
+    /// The text has 4 GiB or more.
+    LongText,
     /// The rules call a name that is neither a rule's nor a builtin's.
     UnknownName,
     /// A bound of a range is not one character.
@@ -65,17 +69,16 @@ pub fn outcome_of(
         Ok(matcher) => matcher,
         Err(unfit) => return unfit_outcome(unfit),
     };
-    let most = name_limit(steps, text.len());
-    match matcher.parse(alloc, rule, text, steps) {
-        Ok(found) => match names_after(alloc, &matcher, rule, text, &found, format, most) {
-            Ok(names) => shown_outcome(alloc, text, &found, &names, format),
+    match matcher.match_text(alloc, rule, text, steps) {
+        Ok(found) => match names_after(alloc, &matcher, rule, text, &found, format, steps) {
+            Ok(names) => shown_outcome(alloc, &matcher, text, &found, &names, format),
             Err(Refusal::UnknownRule(_)) => no_rule_outcome(alloc, rules, rule),
             Err(Refusal::NoMatch(_)) => unreachable!(),
             Err(Refusal::Stopped(stop)) => stopped_outcome(alloc, stop, steps),
         },
         Err(Refusal::UnknownRule(_)) => no_rule_outcome(alloc, rules, rule),
         Err(Refusal::NoMatch(furthest)) => {
-            match find_failure(alloc, &matcher, rule, text, furthest, most) {
+            match find_failure(alloc, &matcher, rule, text, furthest, steps) {
                 Ok(failure) => failed_outcome(alloc, name, text, &failure),
                 Err(Refusal::UnknownRule(_)) => no_rule_outcome(alloc, rules, rule),
                 Err(Refusal::NoMatch(_)) => unreachable!(),
@@ -87,20 +90,24 @@ pub fn outcome_of(
 }
 
 /// Returns the outcome of a rule that matches a text, up to a byte position between two characters, where
-/// this is known of the names that are expected at the furthest failure.
+/// these names are expected at the furthest failure.
 fn shown_outcome(
     alloc: Global,
+    matcher: &Matcher,
     text: &str,
-    found: &Found<'_>,
-    names: &Expected<'_>,
+    found: &Preorder,
+    names: &[&str],
     format: Format,
 ) -> Outcome
     requires end { IsCharBoundary text.now found.now.end }
     requires place { IsCharBoundary text.now found.now.furthest }
-    ensures { (trees : Trees) → seen found.now.entries.items ≡ entries_of 0 trees
-        → IsMatchReport text.now format found.now.end found.now.furthest (names_of names.now) trees result }
+    ensures { (n : Text) (s : State) (classes : Classes)
+        → (x : HasPreorder (grammar_in matcher.now) n s classes found.now)
+        → IsMatchReport text.now format found.now.end found.now.furthest
+        (name_texts names.now) x.trees result }
 {
-    match lines_of(alloc, text, found, format) {
+    let walk = matcher.walk(alloc, found);
+    match lines_of(alloc, text, walk, found.end, format) {
         Ok(lines) => match note_of(alloc, text, found, names, format) {
             Ok(note) => Outcome::Shown { lines, note },
             Err(_) => Outcome::Memory,
@@ -114,14 +121,14 @@ fn shown_outcome(
 fn note_of(
     alloc: Global,
     text: &str,
-    found: &Found<'_>,
-    names: &Expected<'_>,
+    found: &Preorder,
+    names: &[&str],
     format: Format,
 ) -> Result<Option<String>, AllocError>
     requires end { IsCharBoundary text.now found.now.end }
     requires place { IsCharBoundary text.now found.now.furthest }
     ensures { IfOk result (λ note. option_map string_bytes note
-        ≡ end_note format text.now found.now.end found.now.furthest (names_of names.now)) }
+        ≡ end_note format text.now found.now.end found.now.furthest (name_texts names.now)) }
 {
     match format {
         Format::Text => text_note(alloc, text, found.end, found.furthest, names),
@@ -136,12 +143,12 @@ fn text_note(
     text: &str,
     end: usize,
     place: usize,
-    names: &Expected<'_>,
+    names: &[&str],
 ) -> Result<Option<String>, AllocError>
     requires end { IsCharBoundary text.now end }
     requires place { IsCharBoundary text.now place }
     ensures { IfOk result (λ note. option_map string_bytes note
-        ≡ end_note Format.Text text.now end place (names_of names.now)) }
+        ≡ end_note Format.Text text.now end place (name_texts names.now)) }
 {
     if is_more(&text[end..]) {
         Ok(Some(end_message(alloc, text, end, place, names)?))
@@ -154,26 +161,29 @@ fn text_note(
 fn lines_of(
     alloc: Global,
     text: &str,
-    found: &Found<'_>,
+    walk: TreeWalk<'_, '_>,
+    end: usize,
     format: Format,
 ) -> Result<String, AllocError>
-    ensures { IfOk result (λ lines. (trees : Trees) → seen found.now.entries.items ≡ entries_of 0 trees
-        → string_bytes lines ≡ trees_text format text.now found.now.end trees) }
+    ensures { IfOk result (λ lines. (row : Text → ℕ) (trees : Trees)
+        → visits_left walk.entry ≡ visits row 0 0 trees
+        → string_bytes lines ≡ trees_text format text.now end trees) }
 {
     match format {
-        Format::Text => shown_lines(alloc, text, &found.entries),
-        Format::Json => json_line(alloc, text, &found.entries, found.end),
-        Format::Lines => tree_lines(alloc, &found.entries),
+        Format::Text => shown_lines(alloc, text, walk),
+        Format::Json => json_line(alloc, text, walk, end),
+        Format::Lines => tree_lines(alloc, walk),
     }
 }
 
 /// Returns trees as lines of text, with escapes of hidden characters. The only error is an allocation
 /// failure.
-fn shown_lines(alloc: Global, text: &str, entries: &[Entry<'_>]) -> Result<String, AllocError>
-    ensures { IfOk result (λ lines. (trees : Trees) → seen entries.now ≡ entries_of 0 trees
+fn shown_lines(alloc: Global, text: &str, walk: TreeWalk<'_, '_>) -> Result<String, AllocError>
+    ensures { IfOk result (λ lines. (row : Text → ℕ) (trees : Trees)
+        → visits_left walk.entry ≡ visits row 0 0 trees
         → string_bytes lines ≡ escaped_lines (shown text.now 0 trees)) }
 {
-    let lines = tree_text(alloc, text, entries)?;
+    let lines = tree_text(alloc, text, walk)?;
     escape_lines(alloc, lines.as_str())
 }
 
@@ -181,13 +191,14 @@ fn shown_lines(alloc: Global, text: &str, entries: &[Entry<'_>]) -> Result<Strin
 fn json_line(
     alloc: Global,
     text: &str,
-    entries: &[Entry<'_>],
+    walk: TreeWalk<'_, '_>,
     end: usize,
 ) -> Result<String, AllocError>
-    ensures { IfOk result (λ line. (trees : Trees) → seen entries.now ≡ entries_of 0 trees
+    ensures { IfOk result (λ line. (row : Text → ℕ) (trees : Trees)
+        → visits_left walk.entry ≡ visits row 0 0 trees
         → string_bytes line ≡ trees_text Format.Json text.now end trees) }
 {
-    let json = tree_json(alloc, text, entries, end)?;
+    let json = tree_json(alloc, text, walk, end)?;
     let mut line = escape_json(alloc, json.as_str())?;
     line.push_str("\n")?;
     Ok(line)
@@ -225,7 +236,7 @@ fn report_failure(
     requires place { IsCharBoundary text.now failure.now.place }
     requires furthest { IsCharBoundary text.now failure.now.furthest }
     ensures { IfOk result (λ report. ReportsFailure name.now text.now failure.now.place
-        failure.now.furthest (names_of failure.now.names) (string_bytes report)) }
+        failure.now.furthest (name_texts failure.now.names.items) (string_bytes report)) }
 {
     let Some(place) = Position::new(text, failure.place) else {
         unreachable!()
@@ -246,6 +257,7 @@ fn stopped_outcome(alloc: Global, stop: Stop, steps: u64) -> Outcome
             Err(_) => Outcome::Memory,
         },
         Stop::EmptyStack => Outcome::EmptyStack,
+        Stop::TextTooLong => Outcome::LongText,
     }
 }
 

@@ -41,13 +41,11 @@ pub fn run_files<W: Write, E: Write>(
     ensures refused_write { result.status ≡ 4 → out.new.refused ≡ true }
     ensures noted { result.status ≡ 0
         → NotesEnd request.entry.form grammar.now.bytes.items request.entry.rule.now
-        text.now.bytes.items request.entry.format
-        (step_limit request.entry.steps (length text.now.bytes.items)) (err.new ≡ err.old) result.write_result
+        text.now.bytes.items request.entry.format (err.new ≡ err.old) result.write_result
         (E.contents err.old.writer) (E.contents err.new.writer) }
     ensures reason { result.status ≡ 1
         → ReportsReason request.entry.form grammar.now.bytes.items request.entry.rule.now text.now.name.now
-        text.now.bytes.items (step_limit request.entry.steps (length text.now.bytes.items))
-        result.write_result (E.contents err.old.writer) (E.contents err.new.writer) }
+        text.now.bytes.items result.write_result (E.contents err.old.writer) (E.contents err.new.writer) }
     ensures tells_memory { result.status ≡ 2
         → WritesLine (codes "out of memory") result.write_result
         (E.contents err.old.writer) (E.contents err.new.writer) }
@@ -79,7 +77,7 @@ pub fn run_files<W: Write, E: Write>(
 ///
 /// Otherwise one text with a line break at its end goes to `err`: the report of a grammar that is refused,
 /// that the grammar has no such rule, or the furthest position at which the rule fails with the expected set
-/// there, or that the set was not found in time (1); `out of memory` (2); `cannot write` where `out` refuses
+/// there (1); `out of memory` (2); `cannot write` where `out` refuses
 /// a write (4); why the run was stopped (5). A write that `err` refuses changes no status.
 pub fn run<W: Write, E: Write>(
     alloc: Global,
@@ -99,11 +97,11 @@ pub fn run<W: Write, E: Write>(
     ensures refused_write { result.status ≡ 4 → out.new.refused ≡ true }
     ensures noted { result.status ≡ 0
         → NotesEnd request.entry.form grammar.now request.entry.rule.now text.now request.entry.format
-        (step_limit request.entry.steps (length text.now)) (err.new ≡ err.old) result.write_result
+        (err.new ≡ err.old) result.write_result
         (E.contents err.old.writer) (E.contents err.new.writer) }
     ensures reason { result.status ≡ 1
         → ReportsReason request.entry.form grammar.now request.entry.rule.now name.now text.now
-        (step_limit request.entry.steps (length text.now)) result.write_result
+        result.write_result
         (E.contents err.old.writer) (E.contents err.new.writer) }
     ensures tells_memory { result.status ≡ 2
         → WritesLine (codes "out of memory") result.write_result
@@ -180,6 +178,7 @@ pub fn print_outcome<W: Write, E: Write>(
             "PEEK or POP found nothing on the stack",
             Status::Stopped,
         ),
+        Outcome::LongText => exit_with(err, "the text has 4 GiB or more", Status::Stopped),
         Outcome::UnknownName => exit_with(
             err,
             "the grammar calls a rule that is not known",

@@ -28,7 +28,7 @@ use Rattle.front_syntax.proofs.Lookup.{blank_name, defined_rule}
 use Rattle.front_syntax.proofs.Numerals.{middle}
 use Rattle.front_syntax.proofs.Taken.{Took, Stretch, EndsIn, took_both, took_nothing, one_taken}
 use Rattle.front_reader.specs.Reading.{characters_between}
-use Rattle.matcher_pairs.specs.Names.{tag_in}
+use Rattle.matcher_support.specs.Names.{tag_in}
 
 -- 1. texts without `#`
 abbrev pub IsUnmarked : Text → Type 0

@@ -12,7 +12,7 @@ use Rattle.front_reader.specs.Reading.{ReadsRules, end_of_input, grammar_doc, do
 use Rattle.front_spanned.specs.Erasure.{rules_without_spans}
 use Rattle.front_spanned.specs.Spanned.{SpannedRule}
 use Rattle.front_syntax.proofs.Naming.{rule_named}
-use Rattle.matcher_pairs.specs.Spliced.{HasNoMark}
+use Rattle.matcher_support.specs.Spliced.{HasNoMark}
 use Rattle.pest_meta.specs.Spelling.{AreReadAsRules, HasTrees, IsAnsweredBy, SpellsGrammar}
 use Rattle.pest_meta.specs.Written.{IsWritten}
 use Rattle.test_calling.proofs.NamesInTrees.{HoldNames, trees_hold}

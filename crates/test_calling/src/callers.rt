@@ -5,10 +5,10 @@ ghost use Rattle.front_spanned.specs.Nodes.{rule_views};
 ghost use Rattle.pest_meta.specs.Spelling.{IsAnswer};
 
 use matcher_engine::matcher::Matcher;
-use matcher_pairs::parse::{ParseError, parse as parse_text};
-use matcher_pairs::tags::pairs::as_node_tag;
-use matcher_pairs::tags::parse::parse_tagged;
 use matcher_program::compile::Unfit;
+use matcher_support::parse::{ParseError, parse as parse_text};
+use matcher_support::tags::pairs::as_node_tag;
+use matcher_support::tags::parse::parse_tagged;
 use matcher_support::unicode_properties::UnicodeProperties;
 use pest_meta::optimizer::OptimizedRule;
 use pest_meta::parser::{ParserRule, Rule, consume_rules_with_spans, parse};

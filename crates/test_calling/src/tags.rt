@@ -1,7 +1,7 @@
 //! Prints the tags of texts with a key and a value.
 use crate::callers::print_tags;
 use matcher_engine::matcher::Matcher;
-use matcher_pairs::tags::wrapped::wrap_rules;
+use matcher_support::tags::wrapped::wrap_rules;
 use matcher_support::unicode_properties::UnicodeProperties;
 use pest_meta::optimizer::release;
 use pest_meta::parse_and_optimize;

@@ -1,31 +1,39 @@
 //! Programs of operations.
 ghost use Rattle.std.specs.Prelude.{◌≡◌, ◌≤◌, ◌<◌, IfOk, drop, length};
+ghost use Rattle.matcher_code.specs.Bytecodes.{lists_in};
+ghost use Rattle.matcher_code.specs.Fused.{CanRunAll, IsFusionOf};
 ghost use Rattle.matcher_code.specs.Reading.{char_len};
-ghost use Rattle.matcher_machine.specs.Machines.{Ends, config};
+ghost use Rattle.matcher_machine.specs.Machines.{EndsAtLast, config};
 
-use matcher_code::code::Code;
+use matcher_code::bytecode::Bytecode;
+use matcher_code::fused::Fused;
 use matcher_machine::machine::{Machine, RunEnd};
-use std::alloc::AllocError;
+use std::alloc::{AllocError, Global};
 
 /// Returns how many bytes the character at a position has, or 0 if it is not in a set.
-pub fn bytes_in_set(code: &Code, set: u32, text: &str, at: usize) -> usize
-    ensures value { result ≡ char_len code.now set (drop at text.now) }
+pub fn bytes_in_set(code: &Bytecode<'_>, set: u32, text: &str, at: usize) -> usize
+    ensures value { result ≡ char_len (lists_in code.now) set (drop at text.now) }
     ensures small { result ≤ 4 }
     ensures here { 0 < result → at < length text.now }
 {
     matcher_code::reading::char_len(code, set, text, at)
 }
 
-/// Runs a program on a text, from an operation and the start of the text, for at most so many steps.
+/// Runs a program on a text, from an operation and a position in bytes, for at most so many turns.
 pub fn run(
+    alloc: Global,
     machine: &mut Machine,
-    code: &Code,
+    code: &Bytecode<'_>,
+    fused: &[Fused],
     text: &str,
     entry: u32,
+    from: usize,
     steps: u64,
 ) -> Result<RunEnd, AllocError>
-    ensures { IfOk result
-        (Ends code.now text.now steps (config code.now text.now machine.old entry 0) machine.new) }
+    requires can { CanRunAll (lists_in code.now) fused.now }
+    ensures { IfOk result (λ end. IsFusionOf (lists_in code.now) fused.now
+        → EndsAtLast (lists_in code.now) text.now steps
+        (config (lists_in code.now) text.now machine.old entry from) machine.new end) }
 {
-    machine.run(code, text, entry, steps)
+    machine.run_with_memory(alloc, code, fused, text, entry, from, steps)
 }

@@ -12,4 +12,4 @@ pub use pair::Pair;
 pub use pairs::Pairs;
 pub use tokens::Tokens;
 
-pub(crate) use tree::{Node, Tree};
+pub(crate) use tree::{Rules, Tree};

@@ -2,33 +2,30 @@ use std::hash::{Hash, Hasher};
 use std::ptr;
 use std::rc::Rc;
 
-/// A pair of a match. Nodes are listed each before what is inside it.
-#[derive(Clone, Copy, Debug, PartialEq)]
-pub(crate) struct Node {
-    /// The rule's index.
-    pub(crate) rule: u32,
-    /// The byte where the pair starts.
-    pub(crate) start: u32,
-    /// The byte where it ends.
-    pub(crate) end: u32,
-    /// The index of the next node that is not inside this one.
-    pub(crate) after: u32,
+use kingorewa_library::code::{self, Node};
+
+/// The rules by their rows. They are no function, so that pairs may be dropped after what they speak of, as pest's may.
+pub(crate) enum Rules<'i, R> {
+    /// Those of a derive.
+    Table(&'i [R]),
+    /// Those of a grammar that a program has at run time.
+    List(Box<[R]>),
 }
 
 /// The nodes of a match, with what they stand for.
 struct Nodes<'i, R> {
     text: &'i str,
-    list: Vec<Node>,
-    rule: fn(u32) -> R,
+    list: code::Nodes,
+    rules: Rules<'i, R>,
 }
 
 /// The nodes of a match, shared.
 pub(crate) struct Tree<'i, R>(Rc<Nodes<'i, R>>);
 
 impl<'i, R> Tree<'i, R> {
-    /// Makes a tree of the nodes of a text, and of a function that answers the rule of an index.
-    pub(crate) fn new(text: &'i str, list: Vec<Node>, rule: fn(u32) -> R) -> Tree<'i, R> {
-        Tree(Rc::new(Nodes { text, list, rule }))
+    /// Makes a tree of the nodes of a text, and of the rules of their rows.
+    pub(crate) fn new(text: &'i str, list: code::Nodes, rules: Rules<'i, R>) -> Tree<'i, R> {
+        Tree(Rc::new(Nodes { text, list, rules }))
     }
 
     pub(crate) fn text(&self) -> &'i str {
@@ -54,13 +51,19 @@ impl<'i, R> Tree<'i, R> {
         self.after(at) == at + 1
     }
 
-    pub(crate) fn rule(&self, at: u32) -> R {
-        (self.0.rule)(self.node(at).rule)
-    }
-
     /// The text between two bytes.
     pub(crate) fn text_between(&self, start: u32, end: u32) -> &'i str {
         &self.0.text[start as usize..end as usize]
+    }
+}
+
+impl<R: Copy> Tree<'_, R> {
+    pub(crate) fn rule(&self, at: u32) -> R {
+        let row = self.node(at).row;
+        match &self.0.rules {
+            Rules::Table(rules) => rules[row as usize],
+            Rules::List(rules) => rules[row as usize],
+        }
     }
 }
 

@@ -1,5 +1,4 @@
 //! The rules of the meta-grammar.
-#![forbid(unsafe_code)]
 
 /// Declares the enum, the list of all rules but `EOI`, and their names.
 macro_rules! rules {

@@ -1,14 +1,17 @@
 //! Tokens, and the rules that are expected at a failure, as numbers.
 ghost use Rattle.std.specs.Prelude.{◌≡◌, ◌∷◌, [], ◌++◌, IfOk, OnOk, chars};
 ghost use Rattle.base_ast.specs.Optimized.{optimized_rules_of};
-ghost use Rattle.base_language.specs.Language.State.{Trees};
+ghost use Rattle.base_language.specs.Language.State.{Classes, State};
+ghost use Rattle.base_language.specs.Language.Text.{Text};
+ghost use Rattle.matcher_engine.specs.Matchers.{grammar_in};
+ghost use Rattle.matcher_engine.specs.Preorders.{HasPreorder};
+ghost use Rattle.matcher_engine.specs.Walks.{visit_of, visits_left};
 ghost use Rattle.matcher_program.specs.ExpectedNames.{name_texts};
-ghost use Rattle.matcher_program.specs.Written.{entry_of, seen};
-ghost use Rattle.front_syntax.specs.Entries.{entries_of};
-ghost use Rattle.pest_meta_c.specs.Numbers.{entry_numbers, failure_numbers, match_numbers, rule_number, rule_numbers, token_numbers};
+ghost use Rattle.pest_meta_c.specs.Numbers.{failure_numbers, match_numbers, numbers_of, rule_number, rule_numbers, visit_numbers};
 
 use base_ast::optimized::OptimizedRule;
-use matcher_program::answers::Entry;
+use matcher_engine::matcher::{Matcher, Preorder};
+use matcher_engine::walk::{TreeWalk, Visit};
 use matcher_program::texts::same;
 use std::alloc::{AllocError, Global};
 
@@ -41,34 +44,35 @@ fn push_three(
     Ok(())
 }
 
-/// Appends the three numbers of an entry.
-fn push_entry(
-    numbers: &mut Vec<usize>,
-    rules: &[OptimizedRule],
-    entry: Entry<'_>,
-) -> Result<(), AllocError>
+/// Appends the three numbers of a visit. A tree's entries have the indices that its number and its depth
+/// tell, since each tree before it has two entries, but those that hold it one. Errors: allocation failed, or
+/// a `usize` does not hold a number.
+fn push_visit(numbers: &mut Vec<usize>, visit: Visit<'_>) -> Result<(), AllocError>
     ensures { OnOk result (numbers.new.items
-        ≡ numbers.old.items ++ entry_numbers (optimized_rules_of rules.now) (entry_of entry.entry)) }
+        ≡ numbers.old.items ++ visit_numbers (visit_of visit.entry)) }
 {
-    match entry {
-        Entry::Start { rule, pos, partner } => {
-            push_three(numbers, rule_number(rules, rule), pos, partner)
+    match visit {
+        Visit::Enter(tree) => {
+            let rule = tree.node.row as usize + 1;
+            let last = tree.node.after as usize * 2;
+            let partner = last.saturating_sub(tree.depth).saturating_sub(1);
+            push_three(numbers, rule, tree.node.start as usize, partner)
         }
-        Entry::End { pos, partner } => push_three(numbers, 0, pos, partner),
+        Visit::Leave(tree) => {
+            let twice = tree.number.checked_mul(2).ok_or(AllocError)?;
+            let partner = twice.saturating_sub(tree.depth);
+            push_three(numbers, 0, tree.node.end as usize, partner)
+        }
     }
 }
 
-/// Appends the numbers of entries.
-fn push_entries(
-    numbers: &mut Vec<usize>,
-    rules: &[OptimizedRule],
-    entries: &[Entry<'_>],
-) -> Result<(), AllocError>
+/// Appends the numbers of a walk.
+fn push_visits(numbers: &mut Vec<usize>, mut walk: TreeWalk<'_, '_>) -> Result<(), AllocError>
     ensures { OnOk result (numbers.new.items
-        ≡ numbers.old.items ++ token_numbers (optimized_rules_of rules.now) (seen entries.now)) }
+        ≡ numbers.old.items ++ numbers_of (visits_left walk.entry)) }
 {
-    for entry in entries {
-        push_entry(numbers, rules, *entry)?;
+    'visits: while let Some(visit) = walk.next_visit()? {
+        push_visit(numbers, visit)?;
     }
     Ok(())
 }
@@ -77,16 +81,16 @@ fn push_entries(
 /// failure.
 pub(crate) fn match_numbers(
     alloc: Global,
-    rules: &[OptimizedRule],
-    entries: &[Entry<'_>],
-    end: usize,
+    matcher: &Matcher,
+    found: &Preorder,
 ) -> Result<Vec<usize>, AllocError>
-    ensures { IfOk result (λ numbers. (trees : Trees) → seen entries.now ≡ entries_of 0 trees
-        → numbers.items ≡ match_numbers (optimized_rules_of rules.now) end trees) }
+    ensures { IfOk result (λ numbers. (n : Text) (s : State) (classes : Classes)
+        → (x : HasPreorder (grammar_in matcher.now) n s classes found.now)
+        → numbers.items ≡ match_numbers (grammar_in matcher.now) found.now.end x.trees) }
 {
     let mut numbers = Vec::new(alloc);
-    numbers.push(end)?;
-    push_entries(&mut numbers, rules, entries)?;
+    numbers.push(found.end)?;
+    push_visits(&mut numbers, matcher.walk(alloc, found))?;
     Ok(numbers)
 }
 

@@ -20,6 +20,8 @@ pub enum MatchOutcome {
     OutOfSteps,
     /// `PEEK` or `POP` met the empty stack, and the rule has no outcome on the text.
     EmptyStack,
+    /// The text has 4 GiB or more.
+    LongText,
     /// An allocation failed.
     Memory,
 }

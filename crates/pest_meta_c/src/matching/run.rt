@@ -56,8 +56,8 @@ fn run(alloc: Global, rules: &[OptimizedRule], rule: &str, text: &str, steps: u6
         Ok(matcher) => matcher,
         Err(unfit) => return unfit_outcome(unfit),
     };
-    match matcher.parse(alloc, rule, text, steps) {
-        Ok(found) => match match_numbers(alloc, rules, &found.entries, found.end) {
+    match matcher.match_text(alloc, rule, text, steps) {
+        Ok(found) => match match_numbers(alloc, &matcher, &found) {
             Ok(numbers) => MatchOutcome::Matched(numbers),
             Err(_) => MatchOutcome::Memory,
         },
@@ -97,6 +97,7 @@ fn stopped_outcome(stop: Stop) -> MatchOutcome
         Stop::Memory => MatchOutcome::Memory,
         Stop::OutOfSteps => MatchOutcome::OutOfSteps,
         Stop::EmptyStack => MatchOutcome::EmptyStack,
+        Stop::TextTooLong => MatchOutcome::LongText,
     }
 }
 

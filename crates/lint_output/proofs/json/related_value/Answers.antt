@@ -1,4 +1,4 @@
-use Rattle.std.proofs.Common.{◌≡◌, ◌∙◌, [], ap}
+use Rattle.std.proofs.Common.{◌∙◌, [], ap}
 use Rattle.lint_output.specs.Json.{part_data}
 use Rattle.lint_output.specs.Locations.{location_at}
 use Rattle.lint_output.proofs.Values.{one_more_value}

@@ -10,5 +10,5 @@ pub returns : goal.returns
 returns c =
     let built = c.in_ok-log.ensures in
     IfOk-weaker c.to_line.result _ _
-    (λ text h none. h (ap has_float built ∙ log_without_floats (items_view c.args.results.items) none) ∙ ap json_line built)
+    (λ text h no_rule none. h (ap has_float built ∙ log_without_floats (items_view c.args.rules.items) (items_view c.args.results.items) no_rule none) ∙ ap json_line built)
     c.to_line.ensures.text

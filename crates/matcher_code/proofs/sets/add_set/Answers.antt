@@ -1,6 +1,7 @@
 use Rattle.std.proofs.Common.{rules, arith, ap, ◌∙◌, ◌≡◌, ◌++◌, ◌∷◌, [], ◌*◌, length}
 use Rattle.std.proofs.lemmas.Grind.{common_steps}
 use Rattle.matcher_code.specs.declared.code.Code.{Code}
+use Rattle.matcher_code.specs.Lists.{is_covered, lists_of}
 use Rattle.matcher_code.specs.Sets.{IsRowOf}
 use Rattle.matcher_code.proofs.SetLemmas.{last_mapped, set_added}
 use Rattle.matcher_code.proofs.sets.add_set.Goals as goal
@@ -20,5 +21,5 @@ returns-clause-means c =
       texts = c.args.code.now.texts;
       lists = c.args.code.now.lists;
     } in
-    set_added new c.args.code.now.rows.items c.in_ok-row.row.items c.args.ranges.items c.len-set.result rows long told
-    (last_mapped (λ t. t.ranges.items) c.args.code.now.ranges.items c.push.new.self.items c.new.result c.len-set.result sets number ∙ ap (λ r. r.items) c.new.ensures)
+    set_added (lists_of new) c.args.code.now.rows.items c.in_ok-row.row.items c.args.ranges.items c.len-set.result rows long told
+    (last_mapped (λ t. is_covered t.ranges.items) c.args.code.now.ranges.items c.push.new.self.items c.new.result c.len-set.result sets number ∙ ap (λ r. is_covered r.items) c.new.ensures)

@@ -1,5 +1,5 @@
+use Rattle.matcher_code.specs.Lists.{is_covered}
 use Rattle.std.proofs.Common.{ap, false, subst}
-use Rattle.matcher_code.specs.Reading.{is_covered}
 use Rattle.base_language.specs.Language.Expression.{whitespace}
 use Rattle.matcher_program.specs.Programs.{IsSkippedRule}
 use Rattle.matcher_compiler.proofs.Skipping.{no_blanks}

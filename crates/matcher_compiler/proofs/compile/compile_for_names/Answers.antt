@@ -1,9 +1,10 @@
 use Rattle.std.proofs.Common.{◌≡◌, ◌∙◌, subst, sym, true}
+use Rattle.matcher_code.specs.Lists.{lists_of}
 use Rattle.matcher_compiler.specs.Compiled.{IsCodeOf}
 use Rattle.matcher_compiler.specs.Exact.{is_exact}
 use Rattle.matcher_compiler.proofs.compile.compile_for_names.Goals as goal
 
 pub returns-then-is_exact : goal.returns-then-is_exact
 returns-then-is_exact c =
-    let e : is_exact c.in_ok-code.code ≡ true = sym c.is_exact.ensures ∙ c.if-is_exact.true in
-    subst (λ b. IsCodeOf b c.args.program.now c.in_ok-code.code) e c.in_ok-code.ensures
+    let e : is_exact (lists_of c.in_ok-code.code) ≡ true = sym c.is_exact.ensures ∙ c.if-is_exact.true in
+    subst (λ b. IsCodeOf b c.args.program.now (lists_of c.in_ok-code.code)) e c.in_ok-code.ensures

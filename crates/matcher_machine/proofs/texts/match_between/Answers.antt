@@ -1,3 +1,4 @@
+use Rattle.matcher_code.specs.Bytecodes.{lists_in}
 use Rattle.std.proofs.Common.{refl, sym, arith, ◌+◌, ◌-◌, drop, length, map, reverse, take}
 use Rattle.base_language.specs.Language.Matching.{concatenated}
 use Rattle.matcher_machine.specs.Stacks.{bytes_of, length_if}
@@ -6,7 +7,7 @@ use Rattle.matcher_machine.proofs.texts.match_between.Goals as goal
 
 pub returns-in-None-clause-value : goal.returns-in-None-clause-value
 returns-in-None-clause-value c =
-    let code = c.args.code.now in
+    let code = lists_in c.args.code.now in
     let text = c.args.text.now in
     let xs = c.args.texts.now in
     let ys = reverse (map (bytes_of code text) xs) in
@@ -17,7 +18,7 @@ returns-in-None-clause-value c =
 
 pub loop-index-preserved : goal.loop-index-preserved
 loop-index-preserved c =
-    let code = c.args.code.now in
+    let code = lists_in c.args.code.now in
     let text = c.args.text.now in
     let xs = c.args.texts.now in
     let ys = reverse (map (bytes_of code text) xs) in

@@ -1,7 +1,7 @@
+use Rattle.matcher_code.specs.Lists.{is_covered}
 use Rattle.std.proofs.Common.{◌∙◌, ◌&&◌, ap, arith}
 use Rattle.std.specs.Prelude.{not}
 use Rattle.base_language.specs.Language.Builtins.{is_between}
-use Rattle.matcher_code.specs.Reading.{is_covered}
 use Rattle.matcher_sets.proofs.Outside.{range_kept, take_all}
 use Rattle.matcher_sets.proofs.difference.outside_range.Goals as goal
 

@@ -1,7 +1,7 @@
+use Rattle.matcher_code.specs.Lists.{is_covered}
 use Rattle.std.proofs.Common.{◌≡◌, ◌<◌, ◌&&◌, ℕ, take}
 use Rattle.std.specs.Prelude.{not}
 use Rattle.base_language.specs.Language.Builtins.{is_between}
-use Rattle.matcher_code.specs.Reading.{is_covered}
 use Rattle.matcher_sets.proofs.difference.outside_range.Given as goal
 
 abbrev pub invariant-loop-low : goal.invariant-loop-low

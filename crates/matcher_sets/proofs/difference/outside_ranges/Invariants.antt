@@ -1,6 +1,6 @@
+use Rattle.matcher_code.specs.Lists.{is_covered}
 use Rattle.std.proofs.Common.{◌≡◌, ◌<◌, ◌&&◌, ℕ, take}
 use Rattle.std.specs.Prelude.{not}
-use Rattle.matcher_code.specs.Reading.{is_covered}
 use Rattle.matcher_sets.proofs.difference.outside_ranges.Given as goal
 
 abbrev pub invariant-loop-from : goal.invariant-loop-from

@@ -2,8 +2,8 @@ use Rattle.std.proofs.Common.{◌≡◌, ◌∙◌, ◌++◌, ◌||◌, ap, arit
 use Rattle.std.proofs.lemmas.Grind.{common_steps}
 use Rattle.base_language.specs.Language.Matching.{character_outcome}
 use Rattle.base_language.specs.Language.Meaning.{Run}
+use Rattle.matcher_code.specs.Lists.{is_covered}
 use Rattle.matcher_code.specs.Failures.{in_silence}
-use Rattle.matcher_code.specs.Reading.{is_covered}
 use Rattle.matcher_code.specs.Laid.{HasOutcome}
 use Rattle.matcher_program.specs.Programs.{characters_of}
 use Rattle.matcher_sets.specs.Modes.{mode_of}

@@ -1,5 +1,5 @@
+use Rattle.matcher_code.specs.Lists.{is_covered}
 use Rattle.std.proofs.Common.{◌∙◌, ◌||◌, ap, ap₂, nat_eq, sym}
-use Rattle.matcher_code.specs.Reading.{is_covered}
 use Rattle.matcher_sets.proofs.Ranging.{between_same, or_assoc}
 use Rattle.matcher_sets.proofs.difference.push_newline.Goals as goal
 

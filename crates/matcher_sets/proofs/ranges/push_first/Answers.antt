@@ -1,5 +1,5 @@
+use Rattle.matcher_code.specs.Lists.{is_covered}
 use Rattle.std.proofs.Common.{◌∙◌, ap, sym, ◌||◌}
-use Rattle.matcher_code.specs.Reading.{is_covered}
 use Rattle.matcher_sets.proofs.Ranging.{between_same, or_none}
 use Rattle.matcher_sets.proofs.ranges.push_first.Goals as goal
 

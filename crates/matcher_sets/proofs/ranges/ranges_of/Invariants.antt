@@ -1,5 +1,5 @@
+use Rattle.matcher_code.specs.Lists.{is_covered}
 use Rattle.std.proofs.Common.{◌≡◌, ◌<◌, ◌||◌, ℕ, true}
-use Rattle.matcher_code.specs.Reading.{is_covered}
 use Rattle.matcher_program.specs.Programs.{characters_of, is_set}
 use Rattle.matcher_sets.proofs.ranges.ranges_of.Given as goal
 

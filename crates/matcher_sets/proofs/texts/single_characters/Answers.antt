@@ -1,8 +1,8 @@
+use Rattle.matcher_code.specs.Lists.{is_covered}
 use Rattle.std.proofs.Common.{◌≡◌, ◌+◌, arith, get_or, suc, true, ◌∙◌, ap, ◌∷◌, map, take}
 use Rattle.std.proofs.lemmas.Grind.{common_steps}
 use Rattle.base_ast.specs.Ast.{text_of}
 use Rattle.base_language.specs.Language.Matching.{any_begins}
-use Rattle.matcher_code.specs.Reading.{is_covered}
 use Rattle.matcher_sets.proofs.Searching.{one_text_more}
 use Rattle.matcher_sets.proofs.texts.single_characters.Goals as goal
 

@@ -1,8 +1,8 @@
+use Rattle.matcher_code.specs.Lists.{is_covered}
 use Rattle.std.proofs.Common.{◌≡◌, ◌<◌, ◌∷◌, ℕ, map, take}
 use Rattle.base_ast.specs.Ast.{text_of}
 use Rattle.base_language.specs.Language.Matching.{any_begins}
 use Rattle.base_language.specs.Language.Text.{Text}
-use Rattle.matcher_code.specs.Reading.{is_covered}
 use Rattle.matcher_sets.proofs.texts.single_characters.Given as goal
 
 abbrev pub invariant-loop-text : goal.invariant-loop-text

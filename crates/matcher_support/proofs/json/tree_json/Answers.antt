@@ -1,15 +1,15 @@
 use Rattle.std.proofs.Common.{string_bytes}
-use Rattle.matcher_program.specs.Written.{seen}
-use Rattle.matcher_support.proofs.JsonEntries.{all_json, all_written, one_more}
+use Rattle.matcher_support.proofs.JsonOfWalks.{all_json, all_written, one_more}
 use Rattle.matcher_support.proofs.json.tree_json.Goals as goal
 
-pub loop-number-preserved : goal.loop-number-preserved
-loop-number-preserved c =
-    one_more c.args.text.now _ (string_bytes c.loop-number.json) (string_bytes c.write_entry.new.json) c.loop-number.later c.is_end-later.result
-    c.args.entries.now c.loop-number.number _ c.loop-number-test.true c.loop-number.invariant c.in_ok-write_entry.ensures c.is_end-later.ensures
+pub visits-preserved : goal.visits-preserved
+visits-preserved c =
+    let next = rw c.in-Some.is at c.in_ok-visit.ensures in
+    one_more c.args.text.now _ (string_bytes c.visits.json) (string_bytes c.write_visit.new.json) c.visits.later c.is_left-later.result _ _ _ next c.visits.invariant c.in_ok-write_visit.ensures c.is_left-later.ensures
 
 pub returns : goal.returns
-returns c = λ trees e.
-    all_json c.args.text.now (string_bytes c.loop-number.json) (string_bytes c.push_str.new.self) c.args.end trees (seen c.args.entries.now) e
-    (all_written c.args.text.now _ (string_bytes c.loop-number.json) c.loop-number.later c.args.entries.now c.loop-number.number c.loop-number-test.false c.loop-number.invariant)
+returns c = λ row trees e.
+    let last = rw c.in_default.is at c.in_ok-visit.ensures in
+    all_json c.args.text.now row (string_bytes c.visits.json) (string_bytes c.push_str.new.self) c.args.end trees _ e
+    (all_written c.args.text.now _ (string_bytes c.visits.json) c.visits.later _ last c.visits.invariant)
     c.in_ok-push_str.ensures.bytes

@@ -1,9 +1,10 @@
-use Rattle.std.proofs.Common.{◌≡◌, ◌++◌, false, drop, string_bytes}
-use Rattle.matcher_program.specs.Written.{seen}
+use Rattle.std.proofs.Common.{◌≡◌, ◌++◌, false, length, string_bytes}
+use Rattle.matcher_engine.specs.Walks.{visits_left}
 use Rattle.matcher_support.specs.Json.{flat, head}
 use Rattle.matcher_support.proofs.json.tree_json.Given as goal
 
-abbrev pub invariant-loop-number : goal.invariant-loop-number
-invariant-loop-number l =
-    string_bytes l.json ++ flat l.text (seen l.entries) l.number l.later (seen (drop l.number l.entries))
-    ≡ head l.end ++ flat l.text (seen l.entries) 0 false (seen l.entries)
+abbrev pub invariant-visits : goal.invariant-visits
+invariant-visits l = string_bytes l.json ++ flat l.text l.later (visits_left l.walk) ≡ head l.end ++ flat l.text false (visits_left l.initial.walk)
+
+abbrev pub decreases-visits : goal.decreases-visits
+decreases-visits l = length (visits_left l.walk)

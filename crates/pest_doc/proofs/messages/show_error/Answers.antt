@@ -1,14 +1,16 @@
+use Rattle.std.proofs.Common.{◌∙◌, ◌++◌, ap₂, codes, string_bytes}
 use Rattle.std.proofs.lemmas.Result.{IfOk-weaker}
 use Rattle.pest_doc.proofs.messages.show_error.Goals as goal
 
 pub returns : goal.returns
 returns c =
+    let placed = string_bytes c.in_ok-placed.placed in
     IfOk-weaker c.format.result _ _
-    (λ part written said. record {
-      what = c.args.what.now;
-      placed = _;
-      said = said;
+    (λ part written. record {
+      diagnostic = c.args.diagnostic.now;
+      reported = c.requires;
+      placed = placed;
       at_place = c.in_ok-placed.ensures;
-      whole = written;
+      whole = written ∙ ap₂ (λ what help. codes "error: " ++ (what ++ (codes "\n" ++ (placed ++ help)))) c.as_str-what.ensures.value c.in_ok-help.ensures;
     })
     c.format.ensures.ok

@@ -1,16 +1,11 @@
-use Rattle.std.proofs.Common.{◌≡◌, ◌∙◌, ◌-◌, ◌<◌, ◌≤◌, ℕ, Bool, List, [], arith, chars, eqb-true, length, nat_eq, rules, sym, true, vec_len}
-use Rattle.std.proofs.lemmas.List.{nil_from_length}
+use Rattle.std.proofs.Common.{◌≡◌, ◌-◌, ◌<◌, ◌≤◌, ℕ, [], arith, chars, length, rules, subst, vec_len}
 use Rattle.std.specs.Str.{IsCharBoundary}
 use Rattle.matcher_engine.specs.Matchers.{grammar_in, properties_in}
 use Rattle.pest_run.specs.Failures.{ExpectsNone}
-use Rattle.pest_run.specs.declared.expected.Expected.TheVariants as expected_is
-use Rattle.pest_run.proofs.Failing.{none_at, one_back}
+use Rattle.matcher_program.specs.Answers.{AreExpectedAt}
+use Rattle.pest_run.proofs.Failing.{none_there, one_back}
 use Rattle.pest_run.proofs.failures.find_earlier.Goals as goal
-use Rattle.pest_run.proofs.failures.find_earlier.Goals.{then-is_char_boundary+in_ok-names+in-Names+else-not-is_empty, else-is_char_boundary}
-
--- a list of no length
-none_there : {X : Type 0} (xs : List X) (n : ℕ) (b : Bool) → n ≡ length xs → b ≡ nat_eq n 0 → b ≡ true → xs ≡ []
-none_there xs n b l p q = nil_from_length xs (sym l ∙ eqb-true n 0 (sym p ∙ q))
+use Rattle.pest_run.proofs.failures.find_earlier.Goals.{then-is_char_boundary+in_ok-names+else-not-is_empty, else-is_char_boundary}
 
 pub returns-then-not-is_empty-clause-found : goal.returns-then-not-is_empty-clause-found
 returns-then-not-is_empty-clause-found c =
@@ -18,12 +13,12 @@ returns-then-not-is_empty-clause-found c =
     let inside : c.loop-back.back < c.args.furthest = omega (arith, c.if-back-furthest.false) in
     let visited : 1 ≤ c.loop-back.back = omega (arith, c.loop-back.auto.back) in
     let here : IsCharBoundary c.args.text.now place = search rules in
-    let some : c.in-Names.names.items ≡ [] → ⊥ = search rules in
+    let some : c.in_ok-names.names.items ≡ [] → ⊥ = search rules in
     record {
       after_start = omega (arith, inside);
       earlier = omega (arith, visited, inside);
       here = here;
-      are = rw c.in-Names.is at c.in_ok-names.ensures.expected;
+      are = c.in_ok-names.ensures.expected;
       some = some;
       last = λ q above below. c.loop-back.invariant q (omega (arith, above, inside)) below;
     }
@@ -39,10 +34,10 @@ loop-back-preserved c =
     let inside : c.loop-back.back < c.args.furthest = omega (arith, c.if-back-furthest.false) in
     let at : P place =
     elim c.if-is_char_boundary.branch [
-      | then-is_char_boundary+in_ok-names+in-Names+else-not-is_empty w ↦ λ here.
-          (let long : vec_len w.in-Names.names ≡ length w.in-Names.names.items = search rules in
-          let none = none_there w.in-Names.names.items (vec_len w.in-Names.names) w.is_empty.result long w.is_empty.ensures w.if-not-is_empty.false in
-          none_at g ps n text place c.args.steps (expected_is.Names w.in-Names.names) none (rw w.in-Names.is at w.in_ok-names.ensures.expected))
+      | then-is_char_boundary+in_ok-names+else-not-is_empty w ↦ λ here.
+          (let long : vec_len w.in_ok-names.names ≡ length w.in_ok-names.names.items = search rules in
+          let none = none_there w.in_ok-names.names.items (vec_len w.in_ok-names.names) w.is_empty.result long w.is_empty.ensures w.if-not-is_empty.false in
+          subst (λ ns. AreExpectedAt g ps n text place ns) none w.in_ok-names.ensures.expected)
       | else-is_char_boundary w ↦ λ here. (let no : ⊥ = search rules in absurd no)
     ] in
     one_back P c.args.furthest c.loop-back.back inside at c.loop-back.invariant

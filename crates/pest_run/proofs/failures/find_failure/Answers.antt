@@ -1,7 +1,8 @@
-use Rattle.std.proofs.Common.{chars, inr, refl}
+use Rattle.std.proofs.Common.{◌≡◌, [], chars, inr, length, refl, rules, subst, vec_len}
 use Rattle.matcher_engine.specs.Matchers.{grammar_in, properties_in}
-use Rattle.pest_run.specs.Failures.{IsEarlier}
-use Rattle.pest_run.proofs.Failing.{none_at}
+use Rattle.matcher_program.specs.Answers.{AreExpectedAt}
+use Rattle.pest_run.specs.Failures.{ExpectsNone, IsEarlier}
+use Rattle.pest_run.proofs.Failing.{none_there}
 use Rattle.pest_run.proofs.failures.find_failure.Goals as goal
 
 pub returns-in-Some-clause-found : goal.returns-in-Some-clause-found
@@ -11,7 +12,9 @@ returns-in-Some-clause-found c =
     let n = chars c.args.rule.now in
     let text = c.args.text.now in
     let earlier : IsEarlier g ps n text c.args.furthest c.in-Some.earlier = rw c.in-Some.is at c.in_ok-earlier.ensures.found in
-    let none = none_at g ps n text c.args.furthest c.args.steps c.in_ok-names.names (c.has_none.ensures c.if-has_none.true) c.in_ok-names.ensures.expected in
+    let long : vec_len c.in_ok-names.names ≡ length c.in_ok-names.names.items = search rules in
+    let empty : c.in_ok-names.names.items ≡ [] = none_there c.in_ok-names.names.items (vec_len c.in_ok-names.names) c.is_empty.result long c.is_empty.ensures c.if-is_empty.true in
+    let none : ExpectsNone g ps n text c.args.furthest = subst (λ ns. AreExpectedAt g ps n text c.args.furthest ns) empty c.in_ok-names.ensures.expected in
     record {
       furthest_is = refl;
       here = earlier.here;

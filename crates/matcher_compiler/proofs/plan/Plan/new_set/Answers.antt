@@ -1,6 +1,7 @@
 use Rattle.std.proofs.Common.{◌≡◌, ◌∙◌, ◌<◌, ◌≤◌, [], refl, arith, length, subst, sym}
 use Rattle.std.specs.Prelude.{is_ok}
 use Rattle.std.proofs.lemmas.Grind.{common_steps}
+use Rattle.matcher_code.specs.Lists.{lists_of}
 use Rattle.matcher_code.specs.Sets.{IsSetOf}
 use Rattle.matcher_compiler.specs.declared.sets.KnownSet.{KnownSet}
 use Rattle.matcher_compiler.proofs.Sharing.{known_kept, known_pushed}
@@ -15,7 +16,7 @@ invariant_of-self-2-clause-are_known c =
     let s : c.in_ok-copy.copy.items ≡ c.args.ranges.items = grind (arith, common_steps) in
     let x : KnownSet = record { ranges = c.in_ok-copy.copy; number = c.in_ok-number.number } in
     known_pushed c.add_set.new.code old.known.items c.push.new.self.items x (is_ok c.push.result) c.push.ensures.items
-    (record { within = n; is = subst (IsSetOf c.add_set.new.code c.in_ok-number.number) (sym s) c.in_ok-number.ensures.means })
+    (record { within = n; is = subst (IsSetOf (lists_of c.add_set.new.code) c.in_ok-number.number) (sym s) c.in_ok-number.ensures.means })
     (known_kept old.sets c.add_set.new.code old.known.items l c.in_ok-number.ensures.keeps old.are_known)
 
 pub invariant_of-self-then-len-ge-MOST_KNOWN-clause-are_known : goal.invariant_of-self-then-len-ge-MOST_KNOWN-clause-are_known

@@ -2,6 +2,7 @@ use Rattle.std.proofs.Common.{subst, ◌∙◌, IfErr, IfOk, chars}
 use Rattle.std.proofs.lemmas.Str.{IsCharBoundary-start}
 use Rattle.matcher_program.specs.Answers.{AreExpectedFrom, IsUnansweredFrom}
 use Rattle.matcher_engine.specs.Matchers.{grammar_in, properties_in}
+use Rattle.matcher_engine.specs.Reasons.{HasReason, StopsFor}
 use Rattle.matcher_engine.proofs.Results.{first_state}
 use Rattle.matcher_engine.proofs.matcher.Matcher.expected_at.Goals as goal
 
@@ -16,3 +17,6 @@ returns-clause-expected c = subst (λ s. IfOk c.expected_from.result (λ names. 
 
 pub returns-clause-refused : goal.returns-clause-refused
 returns-clause-refused c = subst (λ s. IfErr c.expected_from.result (IsUnansweredFrom (grammar_in c.args.self.now) (properties_in c.args.self.now) (chars c.args.rule.now) s c.args.steps)) (first_state c.start_pos.result c.args.text.now (c.start_pos.ensures.text ∙ c.of.ensures.text) (c.start_pos.ensures.place ∙ c.of.ensures.start)) c.expected_from.ensures.refused
+
+pub returns-clause-reason : goal.returns-clause-reason
+returns-clause-reason c = subst (λ s. IfErr c.expected_from.result (StopsFor (HasReason (grammar_in c.args.self.now) (properties_in c.args.self.now) (chars c.args.rule.now) s c.args.steps))) (first_state c.start_pos.result c.args.text.now (c.start_pos.ensures.text ∙ c.of.ensures.text) (c.start_pos.ensures.place ∙ c.of.ensures.start)) c.expected_from.ensures.reason

@@ -1,3 +1,4 @@
+use Rattle.matcher_code.specs.Bytecodes.{lists_in}
 use Rattle.std.proofs.Common.{sym, arith, drop}
 use Rattle.base_language.specs.Language.Matching.{concatenated}
 use Rattle.matcher_machine.specs.Stacks.{bytes_of, length_if, texts_at, texts_in}
@@ -6,7 +7,7 @@ use Rattle.matcher_machine.proofs.stack.TextStack.match_all.Goals as goal
 
 pub returns-in-None-clause-value : goal.returns-in-None-clause-value
 returns-in-None-clause-value c =
-    let code = c.args.code.now in
+    let code = lists_in c.args.code.now in
     let text = c.args.text.now in
     let s = c.args.self.now in
     sym (ends (length_if (concatenated (texts_in code text s)) (drop c.args.at text)) (texts_at code text s c.loop-pushed.number) (texts_at code text s c.in-Some.pushed.below)
@@ -14,7 +15,7 @@ returns-in-None-clause-value c =
 
 pub loop-pushed-preserved : goal.loop-pushed-preserved
 loop-pushed-preserved c =
-    let code = c.args.code.now in
+    let code = lists_in c.args.code.now in
     let text = c.args.text.now in
     let s = c.args.self.now in
     let w = c.in-Some-match_held.ensures.within in

@@ -1,3 +1,4 @@
+use Rattle.matcher_code.specs.Bytecodes.{lists_in}
 use Rattle.std.proofs.Common.{◌≡◌, ◌∙◌, sym, ap, ap₂, map, length, drop, take, reverse, ◌-◌, Some, w32, FitsSigned, vec_len, rules}
 use Rattle.std.proofs.lemmas.List.{length-map}
 use Rattle.std.proofs.lemmas.Int.{to_z-of_z}
@@ -8,7 +9,7 @@ use Rattle.matcher_machine.proofs.stack.TextStack.match_slice.Goals as goal
 
 pub returns-in-Some-end_of : goal.returns-in-Some-end_of
 returns-in-Some-end_of c =
-    let code = c.args.code.now in
+    let code = lists_in c.args.code.now in
     let text = c.args.text.now in
     let v = c.in_ok-texts.texts in
     let f = bytes_of code text in

@@ -1,0 +1,104 @@
+//! Compiled grammars, run on texts.
+//!
+//! A block of bytes has the rules of a grammar as operations of the proved machine. It is made once, as while a program
+//! is built, and any number of threads may run it; nothing is compiled or copied then. A row is the index of a rule in
+//! the grammar; `EOI` has the one after all rules.
+#![forbid(unsafe_code)]
+
+use crate::foreign::{self, Given};
+pub use crate::Node;
+
+/// The nodes of a match, each before those inside it.
+pub type Nodes = Given<Node>;
+
+/// Why rules can't be compiled: they call a name that is neither a rule nor a builtin, or have a range with a bound that
+/// is no character.
+#[derive(Clone, Copy, Debug, PartialEq, Eq)]
+pub struct Uncompiled;
+
+/// Why a rule has no nodes on a text.
+#[derive(Clone, Copy, Debug, PartialEq, Eq)]
+pub enum Unmatched {
+    /// The rule fails: the furthest position of a failure, in bytes.
+    Failed {
+        /// The position, in bytes.
+        pos: usize,
+    },
+    /// The bytes are no block of this version of the library.
+    NoBlock,
+    /// The block has no rule of that row.
+    NoRule,
+    /// The rule takes more steps than it may.
+    OutOfSteps,
+    /// `PEEK` or `POP` met the empty stack.
+    EmptyStack,
+    /// The text has 4 GiB or more.
+    TooLong,
+}
+
+/// Compiles optimized rules in binary form to a block.
+///
+/// # Errors
+/// The rules can't be run.
+///
+/// # Panics
+/// Where the library has no memory, and where the bytes are no rules in binary form.
+pub fn compile_rules(rules: &[u8]) -> Result<Vec<u8>, Uncompiled> {
+    let mut block = Given::new();
+    match foreign::compile_prepared(rules, &mut block) {
+        0 => Ok(block.to_vec()),
+        6 => Err(Uncompiled),
+        status => no_answer(status),
+    }
+}
+
+/// The most steps that a run on a text may take, if its caller names no limit: 1,000 a byte, and 1,000,000 more.
+pub fn most_steps(text: &str) -> u64 {
+    (text.len() as u64).saturating_add(1_000).saturating_mul(1_000)
+}
+
+/// Runs the rule of a row from the start of a text, in so many steps at most.
+///
+/// # Errors
+/// The rule fails, or is stopped, or there is none.
+///
+/// # Panics
+/// Where the library has no memory.
+pub fn run(block: &[u8], row: u32, text: &str, steps: u64) -> Result<Nodes, Unmatched> {
+    let (mut nodes, mut end) = (Given::new(), 0);
+    match foreign::run(block, row, text, steps, &mut nodes, &mut end) {
+        0 => Ok(nodes),
+        1 => Err(Unmatched::Failed { pos: end }),
+        5 | 11 => Err(Unmatched::NoBlock),
+        7 => Err(Unmatched::NoRule),
+        8 => Err(Unmatched::OutOfSteps),
+        9 => Err(Unmatched::EmptyStack),
+        10 => Err(Unmatched::TooLong),
+        status => no_answer(status),
+    }
+}
+
+/// The rows of the rules that could have let a run get further than a position at which [`run`] fails, in the order in
+/// which they are first called there. There are none where the run is stopped.
+///
+/// # Panics
+/// Where the library has no memory.
+pub fn expected(block: &[u8], row: u32, text: &str, pos: usize, steps: u64) -> Vec<u32> {
+    let mut rows = Given::new();
+    match foreign::expected(block, row, text, pos, steps, &mut rows) {
+        0 => rows.to_vec(),
+        2 => no_answer(2),
+        _ => Vec::new(),
+    }
+}
+
+/// Ends a call that has no answer.
+///
+/// # Panics
+/// Always: where the library has no memory, and where it breaks its word.
+fn no_answer(status: u8) -> ! {
+    match status {
+        2 => panic!("the proved library has no memory"),
+        _ => panic!("the proved library answered with status {status}, which is none for this call"),
+    }
+}

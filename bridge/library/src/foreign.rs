@@ -1,0 +1,261 @@
+//! The functions of the proved static library. All `unsafe` code of the crates for Rust stands here.
+//!
+//! A function is handed texts and room for its answer, as a pointer and a length each, and keeps none of
+//! them. It answers a status, and leaves in `needed` how many bytes it wrote or, where the room was too
+//! small, wants to write. The calls over blocks hand out memory of their own, which `free` of the C library frees.
+use std::ffi::c_void;
+use std::ops::Deref;
+use std::{fmt, ptr, slice};
+
+use crate::{Call, Node};
+
+/// A list as C has it: where it lies, and how long it is.
+#[repr(C)]
+struct Lent<T> {
+    at: *const T,
+    count: usize,
+}
+
+/// A list in memory that the library handed out, or in a box. It is freed when this is dropped.
+pub struct Given<T> {
+    lent: Lent<T>,
+    held: Option<Box<[T]>>,
+}
+
+// SAFETY: nobody else knows of the memory, and it is freed once.
+unsafe impl<T: Send> Send for Given<T> {}
+// SAFETY: as above; the list is only read.
+unsafe impl<T: Sync> Sync for Given<T> {}
+
+impl<T> Given<T> {
+    /// An empty list.
+    pub fn new() -> Given<T> {
+        Given { lent: Lent { at: ptr::NonNull::dangling().as_ptr(), count: 0 }, held: None }
+    }
+
+    /// The list in a box.
+    pub fn of(held: Box<[T]>) -> Given<T> {
+        Given { lent: Lent { at: held.as_ptr(), count: held.len() }, held: Some(held) }
+    }
+}
+
+impl<T> Default for Given<T> {
+    fn default() -> Self {
+        Given::new()
+    }
+}
+
+impl<T> Deref for Given<T> {
+    type Target = [T];
+
+    fn deref(&self) -> &[T] {
+        // SAFETY: so many values lie there; where there are none, the pointer is aligned and not null.
+        unsafe { slice::from_raw_parts(self.lent.at, self.lent.count) }
+    }
+}
+
+impl<T: fmt::Debug> fmt::Debug for Given<T> {
+    fn fmt(&self, f: &mut fmt::Formatter<'_>) -> fmt::Result {
+        (**self).fmt(f)
+    }
+}
+
+impl<T> Drop for Given<T> {
+    fn drop(&mut self) {
+        if self.held.is_none() && self.lent.count > 0 {
+            // SAFETY: a list of the library that is not empty is a block of `malloc`, and this is its one owner.
+            unsafe { free(self.lent.at as *mut c_void) }
+        }
+    }
+}
+
+extern "C" {
+    fn free(at: *mut c_void);
+    fn pest_meta_tokens(
+        text: *const u8,
+        text_len: usize,
+        rule: *const u8,
+        rule_len: usize,
+        out: *mut u8,
+        out_len: usize,
+        needed: *mut usize,
+    ) -> u8;
+    fn pest_meta_token_numbers(
+        text: *const u8,
+        text_len: usize,
+        rule: *const u8,
+        rule_len: usize,
+        out: *mut usize,
+        out_len: usize,
+        needed: *mut usize,
+    ) -> u8;
+    fn pest_meta_grammar(text: *const u8, len: usize, out: *mut u8, room: usize, needed: *mut usize) -> u8;
+    fn pest_meta_names(text: *const u8, len: usize, out: *mut u8, room: usize, needed: *mut usize) -> u8;
+    fn pest_meta_rust_keyword(
+        name: *const u8,
+        len: usize,
+        out: *mut u8,
+        room: usize,
+        needed: *mut usize,
+    ) -> u8;
+    fn pest_meta_rules(text: *const u8, len: usize, out: *mut u8, room: usize, needed: *mut usize) -> u8;
+    fn pest_meta_nodes(text: *const u8, len: usize, out: *mut u8, room: usize, needed: *mut usize) -> u8;
+    fn pest_meta_optimize(text: *const u8, len: usize, out: *mut u8, room: usize, needed: *mut usize) -> u8;
+    fn pest_meta_parse_and_optimize(
+        text: *const u8,
+        len: usize,
+        out: *mut u8,
+        room: usize,
+        needed: *mut usize,
+    ) -> u8;
+    fn pest_meta_diagnostics(
+        text: *const u8,
+        len: usize,
+        out: *mut u8,
+        room: usize,
+        needed: *mut usize,
+    ) -> u8;
+    fn pest_meta_prepare(
+        rules: *const u8,
+        rules_len: usize,
+        out: *mut u8,
+        out_len: usize,
+        needed: *mut usize,
+    ) -> u8;
+    fn pest_meta_compile_prepared(rules: *const u8, rules_len: usize, block: *mut Lent<u8>) -> u8;
+    fn pest_meta_run(
+        block: *const u8,
+        block_len: usize,
+        rule: u32,
+        text: *const u8,
+        text_len: usize,
+        from: usize,
+        steps: u64,
+        nodes: *mut Lent<Node>,
+        end: *mut usize,
+    ) -> u8;
+    fn pest_meta_expected(
+        block: *const u8,
+        block_len: usize,
+        rule: u32,
+        text: *const u8,
+        text_len: usize,
+        from: usize,
+        place: usize,
+        steps: u64,
+        rows: *mut Lent<u32>,
+    ) -> u8;
+    fn pest_meta_version(out: *mut u8, out_len: usize, needed: *mut usize) -> u8;
+}
+
+/// The builtins of a grammar, its rules and its optimized rules in binary form, or its errors.
+pub fn grammar(text: &str, out: &mut [u8], needed: &mut usize) -> u8 {
+    // SAFETY: as below.
+    unsafe { pest_meta_grammar(text.as_ptr(), text.len(), out.as_mut_ptr(), out.len(), needed) }
+}
+
+/// Calls a function over one text.
+pub fn over_text(call: Call, text: &str, out: &mut [u8], needed: &mut usize) -> u8 {
+    let function = match call {
+        Call::Names => pest_meta_names,
+        Call::RustKeyword => pest_meta_rust_keyword,
+        Call::Rules => pest_meta_rules,
+        Call::Nodes => pest_meta_nodes,
+        Call::Optimize => pest_meta_optimize,
+        Call::ParseAndOptimize => pest_meta_parse_and_optimize,
+        Call::Diagnostics => pest_meta_diagnostics,
+    };
+    // SAFETY: each pointer stands before its length, and all are of live values of that many bytes, of which
+    // those that are written are borrowed as such.
+    unsafe { function(text.as_ptr(), text.len(), out.as_mut_ptr(), out.len(), needed) }
+}
+
+/// The entries of the trees that a text has by a rule of that name, or one error.
+pub fn tokens(text: &str, rule: &str, out: &mut [u8], needed: &mut usize) -> u8 {
+    // SAFETY: as above.
+    unsafe {
+        pest_meta_tokens(
+            text.as_ptr(),
+            text.len(),
+            rule.as_ptr(),
+            rule.len(),
+            out.as_mut_ptr(),
+            out.len(),
+            needed,
+        )
+    }
+}
+
+/// The same entries as numbers; nothing is written where there is an error.
+pub fn token_numbers(text: &str, rule: &str, out: &mut [usize], needed: &mut usize) -> u8 {
+    // SAFETY: as above.
+    unsafe {
+        pest_meta_token_numbers(
+            text.as_ptr(),
+            text.len(),
+            rule.as_ptr(),
+            rule.len(),
+            out.as_mut_ptr(),
+            out.len(),
+            needed,
+        )
+    }
+}
+
+/// Optimized rules in binary form, of those in JSON.
+pub fn prepare(rules: &str, out: &mut [u8], needed: &mut usize) -> u8 {
+    // SAFETY: as above.
+    unsafe { pest_meta_prepare(rules.as_ptr(), rules.len(), out.as_mut_ptr(), out.len(), needed) }
+}
+
+/// The block of optimized rules in binary form.
+pub fn compile_prepared(rules: &[u8], block: &mut Given<u8>) -> u8 {
+    *block = Given::new();
+    // SAFETY: as above; the empty list is a valid one, which the call replaces by one that it hands out.
+    unsafe { pest_meta_compile_prepared(rules.as_ptr(), rules.len(), &mut block.lent) }
+}
+
+/// Runs the rule of a row from the start of a text: the nodes and the end of a match, or the furthest position of a
+/// failure.
+pub fn run(block: &[u8], rule: u32, text: &str, steps: u64, nodes: &mut Given<Node>, end: &mut usize) -> u8 {
+    *nodes = Given::new();
+    // SAFETY: as above.
+    unsafe {
+        pest_meta_run(
+            block.as_ptr(),
+            block.len(),
+            rule,
+            text.as_ptr(),
+            text.len(),
+            0,
+            steps,
+            &mut nodes.lent,
+            end,
+        )
+    }
+}
+
+/// The rows of the rules that are expected at a position, where a rule is run as by [`run`].
+pub fn expected(block: &[u8], rule: u32, text: &str, place: usize, steps: u64, rows: &mut Given<u32>) -> u8 {
+    *rows = Given::new();
+    // SAFETY: as above.
+    unsafe {
+        pest_meta_expected(
+            block.as_ptr(),
+            block.len(),
+            rule,
+            text.as_ptr(),
+            text.len(),
+            0,
+            place,
+            steps,
+            &mut rows.lent,
+        )
+    }
+}
+
+/// The version of the library, and the number of its format.
+pub fn version(out: &mut [u8], needed: &mut usize) -> u8 {
+    // SAFETY: as above.
+    unsafe { pest_meta_version(out.as_mut_ptr(), out.len(), needed) }
+}

@@ -1,0 +1,77 @@
+//! Words, and lists of lists, as bytes.
+ghost use Rattle.std.specs.Prelude.{◌≡◌, ◌<◌, ◌*◌, ◌^◌, ◌++◌, ◌∷◌, IfOk, OnOk, flat_map, length, map};
+ghost use Rattle.std.specs.Int.{to_le_bytes, w32};
+ghost use Rattle.matcher_code.specs.Words.{pairs_in, words_in};
+ghost use Rattle.format_code.specs.Sections.{ends_from};
+
+use std::alloc::{AllocError, Global};
+
+/// Appends a word.
+pub(crate) fn push_word(bytes: &mut Vec<u8>, word: u32) -> Result<(), AllocError>
+    ensures bytes { OnOk result (bytes.new.items ≡ bytes.old.items ++ to_le_bytes w32 word) }
+    ensures fits { word < 2 ^ 32 }
+{
+    bytes.extend_from_slice(&word.to_le_bytes())
+}
+
+/// Returns words as bytes.
+pub(crate) fn words_bytes(alloc: Global, words: &[u32]) -> Result<Vec<u8>, AllocError>
+    ensures words { IfOk result (λ bytes. words_in bytes.items ≡ words.now) }
+    ensures size { IfOk result (λ bytes. length bytes.items ≡ length words.now * 4) }
+{
+    let mut bytes = Vec::new(alloc);
+    for word in words {
+        push_word(&mut bytes, *word)?;
+    }
+    Ok(bytes)
+}
+
+/// Returns pairs of words as bytes.
+pub(crate) fn pairs_bytes(alloc: Global, pairs: &[(u32, u32)]) -> Result<Vec<u8>, AllocError>
+    ensures { IfOk result (λ bytes. pairs_in bytes.items ≡ pairs.now) }
+{
+    let mut bytes = Vec::new(alloc);
+    for (low, high) in pairs {
+        push_word(&mut bytes, *low)?;
+        push_word(&mut bytes, *high)?;
+    }
+    Ok(bytes)
+}
+
+/// Returns the places where lists begin that stand one after another from a place on, and the place
+/// where they end. Errors: allocation failed, or a place does not fit.
+pub(crate) fn places_of<T>(
+    alloc: Global,
+    start: usize,
+    lists: &[&[T]],
+) -> Result<Vec<u32>, AllocError>
+    ensures fits { OnOk result (start < 2 ^ 32) }
+    ensures places { IfOk result (λ places. places.items ≡ start ∷ ends_from start (map
+        (λ l. l.now) lists.now)) }
+{
+    let Ok(first) = u32::try_from(start) else {
+        return Err(AllocError);
+    };
+    let mut places = Vec::new(alloc);
+    places.push(first)?;
+    let mut end = start;
+    for list in lists {
+        end = end.saturating_add(list.len());
+        if end > u32::MAX as usize {
+            return Err(AllocError);
+        }
+        places.push(end as u32)?;
+    }
+    Ok(places)
+}
+
+/// Returns lists as one, one after another.
+pub(crate) fn join<T: Copy>(alloc: Global, lists: &[&[T]]) -> Result<Vec<T>, AllocError>
+    ensures { IfOk result (λ items. items.items ≡ flat_map (λ l. l.now) lists.now) }
+{
+    let mut items = Vec::new(alloc);
+    for list in lists {
+        items.extend_from_slice(list)?;
+    }
+    Ok(items)
+}

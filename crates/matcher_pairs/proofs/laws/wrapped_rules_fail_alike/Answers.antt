@@ -1,5 +1,0 @@
-use Rattle.matcher_pairs.proofs.WrappedRules.{fails_alike}
-use Rattle.matcher_pairs.proofs.laws.wrapped_rules_fail_alike.Goals as goal
-
-pub returns : goal.returns
-returns c = λ g classes w n s o d e. fails_alike g classes w n s o d e

@@ -1,5 +1,0 @@
-use Rattle.matcher_pairs.proofs.WrappedRules.{shows_tags}
-use Rattle.matcher_pairs.proofs.laws.wrapped_rules_show_tags.Goals as goal
-
-pub returns : goal.returns
-returns c = λ g classes w n s o d. shows_tags g classes w n s o d

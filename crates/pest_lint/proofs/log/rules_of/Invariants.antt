@@ -1,0 +1,8 @@
+use Rattle.std.proofs.Common.{map, take}
+use Rattle.serde_json.specs.View.{view}
+use Rattle.pest_lint.specs.Logs.{AreRules}
+use Rattle.pest_lint.proofs.log.rules_of.Given as goal
+
+-- the rules of the codes so far
+abbrev pub invariant-loop-code : goal.invariant-loop-code
+invariant-loop-code l = AreRules (take l.code-index l.codes) (map view l.rules.items)

@@ -1,0 +1,55 @@
+-- Answers of the calls on compiled grammars.
+use Rattle.std.specs.Prelude.{◌≡◌, ℕ, List, [], Result, Ok, Err, Some, chars, drop}
+use Rattle.base_ast.specs.Optimized.{optimized_rules_of}
+use Rattle.base_ast.specs.declared.optimized.OptimizedRule.{OptimizedRule}
+use Rattle.base_language.specs.Language.Expression.{Grammar, last_place}
+use Rattle.base_language.specs.Language.State.{Classes, State}
+use Rattle.base_language.specs.Language.Text.{Text}
+use Rattle.matcher_block.specs.Blocks.{HasRules, IsBlockOf}
+use Rattle.matcher_block.specs.Runs.{AreExpected, IsOutcome}
+use Rattle.matcher_block.specs.declared.blocks.BlockFlaw.TheVariants as flaw
+use Rattle.matcher_block.specs.declared.runs.BlockStop.{BlockStop}
+use Rattle.matcher_block.specs.declared.runs.BlockStop.TheVariants as stop
+use Rattle.matcher_code.specs.declared.state.TreeNode.{TreeNode}
+use Rattle.matcher_engine.specs.declared.matcher.Preorder.{Preorder}
+use Rattle.matcher_program.specs.declared.answers.Stop.TheVariants as limit
+
+-- a place of a text, with the empty stack
+abbrev pub state_from : List ℕ → ℕ → State
+state_from text from = record { position = from; rest = chars (drop from text); stack = [] }
+
+-- the statuses of blocks that give no match
+abbrev pub status_of : BlockStop → ℕ
+status_of (stop.NoMatch place) = 1
+status_of (stop.Stopped limit.Memory) = 2
+status_of (stop.Flaw flaw.NoBlock) = 5
+status_of stop.NoRule = 7
+status_of (stop.Stopped limit.OutOfSteps) = 8
+status_of (stop.Stopped limit.EmptyStack) = 9
+status_of (stop.Stopped limit.TextTooLong) = 10
+status_of (stop.Flaw flaw.OtherVersion) = 11
+
+-- nodes, a position and a status report an outcome
+abbrev pub Tells : Result Preorder BlockStop → List TreeNode → ℕ → ℕ → Type 0
+Tells (Ok it) nodes end status = (status ≡ 0) × (nodes ≡ it.trees.items) × (end ≡ it.end)
+Tells (Err (stop.NoMatch place)) nodes end status = (status ≡ 1) × (end ≡ place)
+Tells (Err why) nodes end status = status ≡ status_of why
+
+-- they report the outcome of the rule of a number from a place of a text
+pub record IsTold (block : List ℕ) (rule : ℕ) (text : List ℕ) (from steps : ℕ) (nodes : List TreeNode)
+    (end status : ℕ) : Type 0 where
+  pub outcome : Result Preorder BlockStop
+  pub told : Tells outcome nodes end status
+  pub is : (g : Grammar) (classes : Classes) → IsBlockOf g classes block → (n : Text)
+      → last_place g n ≡ Some rule → IsOutcome g n (state_from text from) classes steps outcome
+
+-- the numbers of the rules that are expected at a place
+abbrev pub AreTold : (block : List ℕ) (rule : ℕ) (text : List ℕ) (from place steps : ℕ) → List ℕ → Type 0
+AreTold block rule text from place steps rows = (g : Grammar) (classes : Classes) → IsBlockOf g classes block
+    → (n : Text) → last_place g n ≡ Some rule
+    → AreExpected g n (state_from text from) classes steps place rows
+
+-- the block of optimized rules
+pub record IsCompiled (rules : List OptimizedRule) (classes : Classes) (block : List ℕ) : Type 0 where
+  pub code : IsBlockOf (optimized_rules_of rules) classes block
+  pub has : HasRules block rules

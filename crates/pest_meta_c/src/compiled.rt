@@ -1,0 +1,205 @@
+//! Compiled grammars: blocks that are made once, lent at each run, and freed by the caller.
+ghost use Rattle.std.specs.Prelude.{◌≡◌, ◌≢◌, Err, IfSome, List, ℕ};
+ghost use Rattle.std.specs.Borrow.{Bor};
+ghost use Rattle.base_ast.specs.declared.optimized.OptimizedRule.{OptimizedRule};
+ghost use Rattle.format_binary.specs.Format.{optimized_rules_bytes};
+ghost use Rattle.matcher_code.specs.declared.state.TreeNode.{TreeNode};
+ghost use Rattle.matcher_program.specs.Answers.{state_at};
+ghost use Rattle.matcher_support.specs.Sets.{is_in_property};
+ghost use Rattle.pest_meta_c.specs.Compiled.{AreTold, IsCompiled, IsTold, Tells, state_from};
+ghost use Rattle.pest_meta.specs.Spelling.{IsAnswer};
+
+use base_ast::deep::Deep;
+use base_ast::optimized::OptimizedRule;
+use base_language::runtime::{Fault, Position};
+use format_binary::{BinaryRefusal, read_optimized_rules};
+use matcher_block::{BlockFlaw, BlockStop, compile_block, expected_block, run_block};
+use matcher_code::state::TreeNode;
+use matcher_engine::matcher::Preorder;
+use matcher_program::answers::Stop;
+use matcher_program::compile::Unfit;
+use matcher_support::unicode_properties::UnicodeProperties;
+use std::alloc::Global;
+
+/// The call is answered.
+const ANSWERED: u8 = 0;
+/// The rule fails, or the grammar has errors.
+const REFUSED: u8 = 1;
+/// An allocation failed.
+const MEMORY: u8 = 2;
+/// An input is not UTF-8, or a place is not before a character.
+const NO_TEXT: u8 = 3;
+/// The bytes are no rules, or no block.
+const NO_RULES: u8 = 5;
+/// The rules can't be run.
+const UNFIT: u8 = 6;
+/// No rule has the number.
+const NO_RULE: u8 = 7;
+/// The run takes more steps than it may.
+const OUT_OF_STEPS: u8 = 8;
+/// The stack was empty for `PEEK` or `POP`.
+const EMPTY_STACK: u8 = 9;
+/// The text has 4 GiB or more.
+const LONG_TEXT: u8 = 10;
+/// The bytes are a block of another version.
+const OTHER_VERSION: u8 = 11;
+
+/// Hands out items, which the caller frees if there are any.
+fn hand_out<'a, T: Drop>(items: Vec<T>) -> &'a [T]
+    ensures { result.now ≡ items.items }
+{
+    if items.is_empty() {
+        return &[];
+    }
+    items.leak()
+}
+
+/// Returns a place of a text, if the bytes are a text and the place is before a character or at the end.
+fn start_in(text: &[u8], from: usize) -> Option<Position<'_>>
+    ensures { IfSome result (λ start. state_at start ≡ state_from text.entry.now from) }
+{
+    match str::from_utf8(text) {
+        Ok(text) => Position::new(text, from),
+        Err(_) => None,
+    }
+}
+
+/// Reports a block that gives no match: the place of a failure, and the status.
+fn tell_stop(stop: BlockStop, end: &mut usize) -> u8
+    ensures told { (nodes : List TreeNode) → Tells (Err stop) nodes end.new result }
+    ensures refused { result ≢ 0 }
+{
+    match stop {
+        BlockStop::NoMatch(place) => {
+            *end = place;
+            REFUSED
+        }
+        BlockStop::Stopped(Stop::Memory) => MEMORY,
+        BlockStop::Flaw(BlockFlaw::NoBlock) => NO_RULES,
+        BlockStop::NoRule => NO_RULE,
+        BlockStop::Stopped(Stop::OutOfSteps) => OUT_OF_STEPS,
+        BlockStop::Stopped(Stop::EmptyStack) => EMPTY_STACK,
+        BlockStop::Stopped(Stop::TextTooLong) => LONG_TEXT,
+        BlockStop::Flaw(BlockFlaw::OtherVersion) => OTHER_VERSION,
+    }
+}
+
+/// Hands out the block of optimized rules, and returns the status.
+fn put_block<'a>(alloc: Global, rules: &[OptimizedRule], block: &mut &'a [u8]) -> u8
+    ensures compiled { result ≡ 0 → IsCompiled rules.now is_in_property block.new.now }
+    ensures unchanged { result ≢ 0 → block.new ≡ block.old }
+{
+    match compile_block(alloc, rules, &UnicodeProperties) {
+        Ok(bytes) => {
+            *block = hand_out(bytes);
+            ANSWERED
+        }
+        Err(Unfit::Memory) => MEMORY,
+        Err(Unfit::UnknownName(_) | Unfit::Bound(_)) => UNFIT,
+    }
+}
+
+/// Hands out the block of the grammar that a text spells.
+#[unsafe(no_mangle)]
+pub extern "C" fn pest_meta_compile<'a>(alloc: Global, grammar: &[u8], block: &mut &'a [u8]) -> u8
+    ensures compiled { result ≡ 0 → (builtins : List (Bor (List ℕ))) × (rules : List OptimizedRule)
+        × IsAnswer grammar.now builtins rules × IsCompiled rules is_in_property block.new.now }
+    ensures unchanged { result ≢ 0 → block.new ≡ block.old }
+{
+    let Ok(text) = str::from_utf8(grammar) else {
+        return NO_TEXT;
+    };
+    match pest_meta::parse_and_optimize(alloc, text) {
+        Ok((_, rules)) => {
+            let rules = Deep { value: rules };
+            put_block(alloc, &rules.value, block)
+        }
+        Err(Fault::Memory(_)) => MEMORY,
+        Err(Fault::Grammar(_)) => REFUSED,
+    }
+}
+
+/// Hands out the block of optimized rules in binary form.
+#[unsafe(no_mangle)]
+pub extern "C" fn pest_meta_compile_prepared<'a>(
+    alloc: Global,
+    rules: &[u8],
+    block: &mut &'a [u8],
+) -> u8
+    ensures compiled { result ≡ 0 → (read : List OptimizedRule) × (rules.now ≡ optimized_rules_bytes read)
+        × IsCompiled read is_in_property block.new.now }
+    ensures unchanged { result ≢ 0 → block.new ≡ block.old }
+{
+    match read_optimized_rules(alloc, rules) {
+        Ok(rules) => {
+            let rules = Deep { value: rules };
+            put_block(alloc, &rules.value, block)
+        }
+        Err(BinaryRefusal::Memory) => MEMORY,
+        Err(BinaryRefusal::Form) => NO_RULES,
+    }
+}
+
+/// Runs the rule of a number from a byte of a text on, in at most `steps` steps, and hands out the nodes of a
+/// match. `end` is its end, or the furthest place of a failure.
+#[unsafe(no_mangle)]
+pub extern "C" fn pest_meta_run<'a>(
+    alloc: Global,
+    block: &[u8],
+    rule: u32,
+    text: &[u8],
+    from: usize,
+    steps: u64,
+    nodes: &mut &'a [TreeNode],
+    end: &mut usize,
+) -> u8
+    ensures told { result ≢ 3 → IsTold block.now rule text.now from steps nodes.new.now end.new result }
+    ensures unchanged { result ≢ 0 → nodes.new ≡ nodes.old }
+{
+    let Some(start) = start_in(text, from) else {
+        return NO_TEXT;
+    };
+    match run_block(alloc, block, rule, start, steps) {
+        Ok(found) => {
+            let Preorder {
+                trees,
+                end: place,
+                ..
+            } = found;
+            *nodes = hand_out(trees);
+            *end = place;
+            ANSWERED
+        }
+        Err(stop) => tell_stop(stop, end),
+    }
+}
+
+/// Hands out the numbers of the rules that are expected at a place, in a run as by `pest_meta_run`.
+#[unsafe(no_mangle)]
+pub extern "C" fn pest_meta_expected<'a>(
+    alloc: Global,
+    block: &[u8],
+    rule: u32,
+    text: &[u8],
+    from: usize,
+    place: usize,
+    steps: u64,
+    rows: &mut &'a [u32],
+) -> u8
+    ensures expected { result ≡ 0 → AreTold block.now rule text.now from place steps rows.new.now }
+    ensures unchanged { result ≢ 0 → rows.new ≡ rows.old }
+{
+    let Some(start) = start_in(text, from) else {
+        return NO_TEXT;
+    };
+    match expected_block(alloc, block, rule, start, place, steps) {
+        Ok(numbers) => {
+            *rows = hand_out(numbers);
+            ANSWERED
+        }
+        Err(stop) => {
+            let mut end = place;
+            tell_stop(stop, &mut end)
+        }
+    }
+}
