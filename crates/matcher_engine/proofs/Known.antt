@@ -1,6 +1,6 @@
 -- Names of known numbers.
 use Rattle.std.proofs.Common.{◌≡◌, refl, sym, ◌∙◌, ap, subst, ℕ, zero, suc, ◌<◌, ◌≤◌, List, [], ◌∷◌, Bool, true, false, Option, Some, None, chars, codes, bytes_eq, get_or, length, map, arith, if◌then◌else◌}
-use Rattle.std.proofs.lemmas.List.{length-map}
+use Rattle.std.proofs.lemmas.List.{get_or-map, length-map}
 use Rattle.std.proofs.lemmas.Slice.Eq.{bytes_eq-Decides}
 use Rattle.base_ast.specs.Ast.{text_of}
 use Rattle.base_language.specs.Language.Expression.{Grammar, Normal, Rule, Str, last_place, or_else, rule_of}
@@ -81,6 +81,22 @@ module _ (rows : List Row) (r : Text) where
 
   pub known_name : number_in (grammar_of rows) r ≤ length rows → name_in (names_of rows) (number_in (grammar_of rows) r) ≡ r
   known_name h = by_place (last_place (grammar_of rows) r) refl (is_eoi r) refl h
+
+-- the name of a known number, among the names of a grammar's rules
+module _ (g : Grammar) (r : Text) where
+  by_text : (o : Option ℕ) → last_place g r ≡ o → (b : Bool) → is_eoi r ≡ b → or_end o b (length g) ≤ length g
+      → get_or (map (λ w. w.name) g) (or_end o b (length g)) (codes "EOI") ≡ r
+  by_text (Some i) e b f k =
+      let x = placed g r i e in
+      get_or-map (λ w. w.name) g i no_rule (codes "EOI") x.0 ∙ x.1 no_rule
+  by_text None e true f k =
+      let n : length (map (λ w. w.name) g) ≡ length g = length-map g (λ w. w.name) in
+      let y : r ≡ codes "EOI" = (bytes_eq-Decides r (codes "EOI")).0 f in
+      past (map (λ w. w.name) g) (length g) (codes "EOI") (omega (arith, n)) ∙ sym y
+  by_text None e false f k = absurd (omega (arith, k))
+
+  pub known_text : number_in g r ≤ length g → name_in (map (λ w. w.name) g) (number_in g r) ≡ r
+  known_text h = by_text (last_place g r) refl (is_eoi r) refl h
 
 -- the name of a known number is that of each rule of the number
 pub names_rule : (rows : List Row) (row : ℕ) (name : Text) → row ≤ length rows → name ≡ name_in (names_of rows) row

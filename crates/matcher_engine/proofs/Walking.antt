@@ -1,13 +1,14 @@
 -- Walks over trees, by the trees in preorder.
 use Rattle.std.proofs.Common.{◌≡◌, refl, sym, ◌∙◌, ap, ap₂, ℕ, suc, ◌+◌, ◌-◌, ◌<◌, ◌≤◌, List, [], ◌∷◌, ◌++◌, true, false, drop, get_or, length, map, nat_le, reverse, subst, take, arith, if◌then◌else◌, append_assoc, append-nil}
 use Rattle.std.specs.Prelude.{⊤}
+use Rattle.base_language.specs.Language.Expression.{Grammar}
 use Rattle.base_language.specs.Language.Text.{Text}
 use Rattle.base_language.specs.Language.State.{Trees, None', Tree}
 use Rattle.matcher_code.specs.declared.state.TreeNode.{TreeNode}
 use Rattle.matcher_code.specs.Reached.{count_of, nodes_of}
 use Rattle.base_language.specs.Language.State.{Classes, State}
 use Rattle.matcher_compiler.specs.Names.{number_in}
-use Rattle.matcher_engine.proofs.Known.{known_name}
+use Rattle.matcher_engine.proofs.Known.{known_name, known_text}
 use Rattle.matcher_engine.proofs.Rows.{number_within}
 use Rattle.matcher_engine.proofs.TreeNames.{HaveTreeNumbers, trees_have}
 use Rattle.matcher_engine.specs.Preorders.{HasPreorder}
@@ -162,3 +163,16 @@ module _ (rows : List Row) where
   walk_of_match n s classes it x =
       ap (λ ts. remaining (names_of rows) ts 0 []) x.nodes
       ∙ walk_trees (names_of rows) (number_in (grammar_of rows)) x.trees (all_named x.trees (trees_have (grammar_of rows) x.found))
+
+-- the trees of a match, by the names of a grammar's rules
+module _ (g : Grammar) (names : List Text) (same : names ≡ map (λ r. r.name) g) where
+  all_texts : (us : Trees) → HaveTreeNumbers g us → AreNamed names (number_in g) us
+  all_texts None' h = tt
+  all_texts (Tree r i j inner others) h =
+      (ap (λ ns. name_in ns (number_in g r)) same ∙ known_text g r (number_within g r h.0), all_texts inner h.1, all_texts others h.2)
+
+  pub walk_of_names : (n : Text) (s : State) (classes : Classes) (it : Preorder) → (x : HasPreorder g n s classes it)
+      → remaining names it.trees.items 0 [] ≡ visits (number_in g) 0 0 x.trees
+  walk_of_names n s classes it x =
+      ap (λ ts. remaining names ts 0 []) x.nodes
+      ∙ walk_trees names (number_in g) x.trees (all_texts x.trees (trees_have g x.found))

@@ -19,7 +19,7 @@ ghost use Rattle.matcher_engine.specs.Runs.{IsFresh, IsRun};
 ghost use Rattle.matcher_engine.specs.Soundness.{IsSound};
 
 use crate::codes::{code_bytes, fuse_bytes, name_code_bytes};
-use crate::walk::{TreeWalk, name_of};
+use crate::walk::{RuleNames, TreeWalk, row_name};
 use base_ast::optimized::OptimizedRule;
 use base_language::runtime::{Position, Span};
 use format_code::code::read_code;
@@ -174,7 +174,7 @@ impl Matcher {
             → visits_left result ≡ visits (number_in (grammar_in self.entry.now)) 0 0 x.trees }
     {
         TreeWalk {
-            rows: &self.program.rows,
+            names: RuleNames::Rows(&self.program.rows),
             trees: &found.trees,
             number: 0,
             pending: Vec::new(alloc),
@@ -187,7 +187,7 @@ impl Matcher {
         ensures unknown { IfNone result (length (grammar_in self.entry.now) < row) }
     {
         if row as usize <= self.program.rows.len() {
-            Some(name_of(&self.program.rows, row))
+            Some(row_name(&self.program.rows, row))
         } else {
             None
         }

@@ -1,12 +1,19 @@
 //! Walks over trees in preorder.
 ghost use Rattle.std.specs.Prelude.{◌≡◌, ◌∷◌, IfOk, MatchOption, [], chars};
+ghost use Rattle.base_language.specs.Language.Expression.{Grammar};
+ghost use Rattle.base_language.specs.Language.State.{Classes, State};
+ghost use Rattle.base_language.specs.Language.Text.{Text};
+ghost use Rattle.matcher_compiler.specs.Names.{number_in};
+ghost use Rattle.matcher_engine.specs.Preorders.{HasPreorder};
+ghost use Rattle.matcher_program.specs.ExpectedNames.{name_texts};
 ghost use Rattle.matcher_program.specs.Programs.{names_of};
-ghost use Rattle.matcher_engine.specs.Walks.{name_in, visit_of, visits_left};
+ghost use Rattle.matcher_engine.specs.Walks.{AreNamesOf, name_in, names_in, visit_of, visits, visits_left};
 
+use crate::matcher::Preorder;
 use front_names::Builtin;
 use matcher_code::state::TreeNode;
 use matcher_program::form::Row;
-use std::alloc::AllocError;
+use std::alloc::{AllocError, Global};
 
 /// A tree that a walk comes to.
 #[derive(Clone, Copy, Debug)]
@@ -27,10 +34,17 @@ pub enum Visit<'m> {
     Leave(VisitedTree<'m>),
 }
 
-/// A walk over the trees of a match, with names of a matcher. Its list has the open trees.
+/// The names of rules, by their numbers.
+#[derive(Clone, Copy)]
+pub(crate) enum RuleNames<'m> {
+    Rows(&'m [Row]),
+    Texts(&'m [&'m str]),
+}
+
+/// A walk over the trees of a match, with the names of their rules. Its list has the open trees.
 #[derive(Drop)]
 pub struct TreeWalk<'m, 't> {
-    pub(crate) rows: &'m [Row],
+    pub(crate) names: RuleNames<'m>,
     pub(crate) trees: &'t [TreeNode],
     /// The number of the next tree.
     pub(crate) number: usize,
@@ -40,12 +54,52 @@ pub struct TreeWalk<'m, 't> {
 
 /// Returns the name of the rule of a number, or `EOI` for a number that is no rule's.
 #[inline(always)]
-pub(crate) fn name_of<'a>(rows: &'a [Row], row: u32) -> &'a str
+fn name_of<'a>(names: RuleNames<'a>, row: u32) -> &'a str
+    ensures { chars result.now ≡ name_in (names_in names.entry) row }
+{
+    match names {
+        RuleNames::Rows(rows) => row_name(rows, row),
+        RuleNames::Texts(texts) => text_name(texts, row),
+    }
+}
+
+/// Returns the name of the row of a number, or `EOI` for a number that is no row's.
+#[inline(always)]
+pub(crate) fn row_name<'a>(rows: &'a [Row], row: u32) -> &'a str
     ensures { chars result.now ≡ name_in (names_of rows.entry.now) row }
 {
     match rows.get(row as usize) {
         Some(row) => row.name.as_str(),
         None => Builtin::Eoi.name(),
+    }
+}
+
+/// Returns the name of a number among names, or `EOI` for a number that is none's.
+#[inline(always)]
+pub fn text_name<'a>(names: &'a [&'a str], row: u32) -> &'a str
+    ensures { chars result.now ≡ name_in (name_texts names.entry.now) row }
+{
+    match names.get(row as usize) {
+        Some(name) => name,
+        None => Builtin::Eoi.name(),
+    }
+}
+
+/// Begins a walk over the trees of a match, with the names of the rules in order.
+pub fn walk_names<'m, 't>(
+    alloc: Global,
+    names: &'m [&'m str],
+    found: &'t Preorder,
+) -> TreeWalk<'m, 't>
+    ensures { (g : Grammar) → AreNamesOf g names.entry.now → (n : Text) (s : State) (classes : Classes)
+        → (x : HasPreorder g n s classes found.entry.now)
+        → visits_left result ≡ visits (number_in g) 0 0 x.trees }
+{
+    TreeWalk {
+        names: RuleNames::Texts(names),
+        trees: &found.trees,
+        number: 0,
+        pending: Vec::new(alloc),
     }
 }
 
@@ -68,7 +122,7 @@ impl<'m> TreeWalk<'m, '_> {
             return Ok(None);
         };
         let tree = VisitedTree {
-            rule: name_of(self.rows, node.row),
+            rule: name_of(self.names, node.row),
             node: *node,
             number: self.number,
             depth: self.pending.len(),

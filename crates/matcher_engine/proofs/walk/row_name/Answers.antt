@@ -3,7 +3,7 @@ use Rattle.std.proofs.lemmas.List.{get_or_past, length-map}
 use Rattle.base_ast.specs.Ast.{text_of}
 use Rattle.matcher_program.specs.Programs.{names_of}
 use Rattle.matcher_engine.proofs.Known.{eoi_text}
-use Rattle.matcher_engine.proofs.walk.name_of.Goals as goal
+use Rattle.matcher_engine.proofs.walk.row_name.Goals as goal
 
 pub returns-in-None : goal.returns-in-None
 returns-in-None c =

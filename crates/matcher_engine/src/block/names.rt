@@ -1,0 +1,21 @@
+//! Names of the rules of a block.
+ghost use Rattle.std.specs.Prelude.{◌≡◌, length};
+ghost use Rattle.format_code.specs.Sections.{section};
+ghost use Rattle.matcher_engine.specs.Blocks.{part_of};
+
+use crate::block::head::part_of;
+use format_code::sections::section;
+
+/// Returns how many rules a block has.
+pub fn rule_count(block: &[u8]) -> usize
+    ensures { result ≡ length (part_of block.now 3) }
+{
+    part_of(block, 3).len()
+}
+
+/// Returns the bytes of the name of the rule of a number; none where no rule has it.
+pub fn rule_name(block: &[u8], number: u32) -> &[u8]
+    ensures { result.now ≡ section (part_of block.entry.now 2) number }
+{
+    section(part_of(block, 2), number)
+}
