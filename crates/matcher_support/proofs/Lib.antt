@@ -22,3 +22,7 @@ pub mod WrappedRules
 pub mod Rules
 pub mod Reading
 pub mod Untagged
+pub mod CompiledNames
+pub mod LineNumbers
+pub mod TagFailures
+pub mod CompiledRuns

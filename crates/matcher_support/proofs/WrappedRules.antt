@@ -1,5 +1,5 @@
 -- Matches by wrapped rules show the tagged trees of the plain ones.
-use Rattle.std.proofs.Common.{◌≡◌, ◌<◌, ◌+◌, ◌^◌, refl, sym, ◌∙◌, ap, subst, [], ◌++◌, Some, None, length, arith}
+use Rattle.std.proofs.Common.{◌≡◌, ◌<◌, ◌+◌, ◌^◌, refl, sym, ◌∙◌, ap, subst, [], ◌++◌, Option, Some, None, length, arith}
 use Rattle.std.specs.List.{AllByRecursion}
 use Rattle.std.proofs.lemmas.List.Elements.{recursion_from_All}
 use Rattle.base_language.specs.Language.Text.{Text}
@@ -70,3 +70,11 @@ module _ (g : Grammar) (classes : Classes) (c : CanWrap g) where
       → Does (wrapped_grammar g) classes (Run NonAtomicMode (Ident n)) s Failure → o ≡ Failure
   fails_alike n s Failure d e = refl
   fails_alike n s (Success t us) d e = let h = same (wrapped_grammar g) classes (shows_tags n s (Success t us) d).found e in cc
+
+  -- a name that no wrapped rule has is that of no rule
+  pub unknown_alike : (n : Text) → rule_of (wrapped_grammar g) n ≡ None → rule_of g n ≡ None
+  unknown_alike n h = go (rule_of g n) refl
+    where
+      go : (o : Option Rule) → rule_of g n ≡ o → rule_of g n ≡ None
+      go None e = e
+      go (Some r) e = let f = (rules n r e).found in cc

@@ -2,6 +2,7 @@ pub mod Shown
 pub mod Flat
 pub mod Values
 pub mod Sets
+pub mod Compiled
 pub mod Json
 pub mod Lines
 pub mod Expectations
@@ -11,6 +12,7 @@ pub mod TagEntries
 pub mod TagTrees
 pub mod TagMatches
 pub mod TagParses
+pub mod TagMatchers
 pub mod Names
 pub mod Wrapped
 pub mod Frames

@@ -1,11 +1,12 @@
 //! Token trees as flat lines.
-ghost use Rattle.std.specs.Prelude.{◌≡◌, ℕ, ◌++◌, IfOk, OnOk, string_bytes};
+ghost use Rattle.std.specs.Prelude.{◌≡◌, ℕ, ◌++◌, ◌≤◌, IfOk, OnOk, drop, replicate, string_bytes};
 ghost use Rattle.base_language.specs.Language.State.{Trees};
 ghost use Rattle.base_language.specs.Language.Text.{Text};
 ghost use Rattle.matcher_engine.specs.Walks.{visit_of, visits, visits_left};
 ghost use Rattle.matcher_support.specs.Lines.{lines_of, numbers, piece};
 
 use crate::shown::write_name;
+use itoa::write_digits;
 use matcher_engine::walk::{TreeWalk, Visit};
 use std::alloc::{AllocError, Global};
 
@@ -41,5 +42,21 @@ fn write_visit(lines: &mut String, visit: Visit<'_>) -> Result<(), AllocError>
 fn write_numbers(lines: &mut String, from: u32, to: u32, depth: usize) -> Result<(), AllocError>
     ensures { OnOk result (string_bytes lines.new ≡ string_bytes lines.old ++ numbers from to depth) }
 {
-    write!(lines, "{from} {to} {depth} ")
+    let mut bytes = [b' '; 64];
+    let start = format_numbers(&mut bytes, from, to, depth);
+    match str::from_utf8(&bytes[start..]) {
+        Ok(text) => lines.push_str(text),
+        Err(_) => unreachable!(),
+    }
+}
+
+/// Writes the positions of a tree and its depth at the end of 64 blanks, and returns where they begin.
+fn format_numbers(blanks: &mut [u8], from: u32, to: u32, depth: usize) -> usize
+    requires { blanks.old ≡ replicate 64 32 }
+    ensures start { result ≤ 64 }
+    ensures written { drop result blanks.new ≡ numbers from to depth }
+{
+    let third = write_digits(depth as u64, blanks, 63);
+    let second = write_digits(u64::from(to), blanks, third - 1);
+    write_digits(u64::from(from), blanks, second - 1)
 }

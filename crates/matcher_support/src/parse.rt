@@ -113,7 +113,7 @@ fn match_of<'a>(
 }
 
 /// Returns the error of a rule that fails at a byte position, or why there is none.
-fn failure_at<'a>(
+pub(crate) fn failure_at<'a>(
     alloc: Global,
     matcher: &'a Matcher,
     rule: &'a str,

@@ -4,5 +4,6 @@ mod entries;
 pub mod names;
 pub mod pairs;
 pub mod parse;
+pub mod tag_matcher;
 mod trees;
 pub mod wrapped;

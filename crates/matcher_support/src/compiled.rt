@@ -1,0 +1,177 @@
+//! Compiled grammars, run by the names of their rules.
+ghost use Rattle.std.specs.Prelude.{◌≡◌, List, ℕ, IfErr, IfOk, IsSomeAnd, Some, chars, map};
+ghost use Rattle.base_ast.specs.Optimized.{optimized_rules_of};
+ghost use Rattle.base_ast.specs.declared.optimized.OptimizedRule.{OptimizedRule};
+ghost use Rattle.base_language.specs.Language.Expression.{Grammar, last_place};
+ghost use Rattle.base_language.specs.Language.State.{Classes, State};
+ghost use Rattle.base_language.specs.Language.Text.{Text};
+ghost use Rattle.matcher_compiler.specs.Names.{HaveNumbers, number_in};
+ghost use Rattle.matcher_engine.specs.Preorders.{HasPreorder};
+ghost use Rattle.matcher_engine.specs.Walks.{AreNamesOf, visits, visits_left};
+ghost use Rattle.matcher_program.specs.Answers.{start_of};
+ghost use Rattle.matcher_program.specs.ExpectedNames.{name_texts};
+ghost use Rattle.matcher_support.specs.Compiled.{AreExpectedIn, IsCompiled, IsCompiledOf, IsRefusedBy, IsUnanswered};
+ghost use Rattle.matcher_support.specs.Sets.{is_in_property};
+
+use base_language::runtime::Span;
+use matcher_engine::block::{BlockStop, expected_block, rule_count, rule_name, run_block};
+use matcher_engine::matcher::Preorder;
+use matcher_engine::walk::{TreeWalk, text_name, walk_names};
+use matcher_program::answers::Stop;
+use matcher_program::texts::same;
+use std::alloc::{AllocError, Global};
+
+/// A compiled grammar: its block, and the names of its rules in order.
+#[derive(Drop)]
+pub struct CompiledRules<'b> {
+    block: &'b [u8],
+    names: Vec<&'b str>,
+}
+
+impl<'b> CompiledRules<'b> {
+    /// Returns the compiled grammar of a block, or `None` if a name is not UTF-8. The only error is an
+    /// allocation failure, as which 2^32 rules count.
+    pub fn read(alloc: Global, block: &'b [u8]) -> Result<Option<CompiledRules<'b>>, AllocError>
+        ensures { IfOk result (λ made. (rules : List OptimizedRule) → IsCompiled rules block.entry.now
+            → IsSomeAnd made (IsCompiledOf (optimized_rules_of rules))) }
+    {
+        match read_names(alloc, block)? {
+            Some(names) => Ok(Some(CompiledRules { block, names })),
+            None => Ok(None),
+        }
+    }
+
+    /// Returns the names of the rules in order.
+    pub fn rule_names(&self) -> &[&'b str]
+        ensures { (g : Grammar) → IsCompiledOf g self.entry.now → AreNamesOf g result.now }
+    {
+        &self.names
+    }
+
+    /// Returns the number of the last rule of a name. Errors: no rule has the name; a number that no `u32`
+    /// holds counts as an allocation failure.
+    fn find_rule(&self, rule: &str) -> Result<u32, BlockStop>
+        ensures found { (g : Grammar) → IsCompiledOf g self.now
+            → IfOk result (λ number. last_place g (chars rule.now) ≡ Some number) }
+        ensures refused { (g : Grammar) → IsCompiledOf g self.now → (text : List ℕ) (steps : ℕ)
+            → IfErr result (IsUnanswered g rule.now text steps) }
+    {
+        let Some(number) = last_number(&self.names, rule) else {
+            return Err(BlockStop::NoRule);
+        };
+        match u32::try_from(number) {
+            Ok(number) => Ok(number),
+            Err(_) => Err(BlockStop::Stopped(Stop::Memory)),
+        }
+    }
+
+    /// Runs the rule of a name from the start of a text, in at most `steps` steps. Errors: `NoRule` where no
+    /// rule has the name, a text on which the rule fails, a stopped run, and bytes that are no block.
+    pub fn match_text(
+        &self,
+        alloc: Global,
+        rule: &str,
+        text: &str,
+        steps: u64,
+    ) -> Result<Preorder, BlockStop>
+        ensures matched { (g : Grammar) → IsCompiledOf g self.now
+            → IfOk result (HasPreorder g (chars rule.now) (start_of text.now) is_in_property) }
+        ensures refused { (g : Grammar) → IsCompiledOf g self.now
+            → IfErr result (IsRefusedBy g rule.now text.now steps) }
+    {
+        let number = match self.find_rule(rule) {
+            Ok(number) => number,
+            Err(stop) => return Err(stop),
+        };
+        let start = Span::of(text, 0, 0).start_pos();
+        run_block(alloc, self.block, number, start, steps)
+    }
+
+    /// Returns the names that are expected at `place`, in bytes, each once, in the order in which they are
+    /// first called there, in a run as by `match_text`. Errors are those of `match_text`, but a text on which
+    /// the rule fails has an answer; more than 65,535 names count as an allocation failure.
+    pub fn expected_at(
+        &self,
+        alloc: Global,
+        rule: &str,
+        text: &str,
+        place: usize,
+        steps: u64,
+    ) -> Result<Vec<&str>, BlockStop>
+        ensures expected { (g : Grammar) → IsCompiledOf g self.entry.now
+            → IfOk result (λ names. AreExpectedIn g rule.entry.now text.entry.now place names.items) }
+        ensures refused { (g : Grammar) → IsCompiledOf g self.entry.now
+            → IfErr result (IsUnanswered g rule.entry.now text.entry.now steps) }
+    {
+        let number = match self.find_rule(rule) {
+            Ok(number) => number,
+            Err(stop) => return Err(stop),
+        };
+        let start = Span::of(text, 0, 0).start_pos();
+        match expected_block(alloc, self.block, number, start, place, steps) {
+            Ok(rows) => match names_of(alloc, &self.names, &rows) {
+                Ok(names) => Ok(names),
+                Err(_) => Err(BlockStop::Stopped(Stop::Memory)),
+            },
+            Err(stop) => Err(stop),
+        }
+    }
+
+    /// Begins a walk over the trees of a match that `match_text` has found.
+    pub fn walk<'m, 't>(&'m self, alloc: Global, found: &'t Preorder) -> TreeWalk<'m, 't>
+        ensures { (g : Grammar) → IsCompiledOf g self.entry.now → (n : Text) (s : State) (classes : Classes)
+            → (x : HasPreorder g n s classes found.entry.now)
+            → visits_left result ≡ visits (number_in g) 0 0 x.trees }
+    {
+        walk_names(alloc, &self.names, found)
+    }
+}
+
+/// Returns the names of the rules of a block in order, or `None` if one is not UTF-8. The only error is an
+/// allocation failure, as which 2^32 rules count.
+fn read_names<'b>(alloc: Global, block: &'b [u8]) -> Result<Option<Vec<&'b str>>, AllocError>
+    ensures { IfOk result (λ made. (rules : List OptimizedRule) → IsCompiled rules block.entry.now
+        → IsSomeAnd made (λ names. AreNamesOf (optimized_rules_of rules) names.items)) }
+{
+    let Ok(count) = u32::try_from(rule_count(block)) else {
+        return Err(AllocError);
+    };
+    let mut names = Vec::new(alloc);
+    for number in 0..count {
+        let Ok(name) = str::from_utf8(rule_name(block, number)) else {
+            return Ok(None);
+        };
+        names.push(name)?;
+    }
+    Ok(Some(names))
+}
+
+/// Returns the number of the last rule of a name, by the names of all rules in order.
+fn last_number(names: &[&str], name: &str) -> Option<usize>
+    ensures { (g : Grammar) → AreNamesOf g names.now → result ≡ last_place g (chars name.now) }
+{
+    let mut below = names.len();
+    while below > 0 {
+        below -= 1;
+        if same(names[below], name) {
+            return Some(below);
+        }
+    }
+    None
+}
+
+/// Returns the names of numbers. The only error is an allocation failure.
+fn names_of<'m>(
+    alloc: Global,
+    names: &'m [&'m str],
+    rows: &[u32],
+) -> Result<Vec<&'m str>, AllocError>
+    ensures { IfOk result (λ found. (g : Grammar) → AreNamesOf g names.entry.now → (ns : List Text)
+        → rows.entry.now ≡ map (number_in g) ns → HaveNumbers g ns → name_texts found.items ≡ ns) }
+{
+    let mut found = Vec::with_capacity(alloc, rows.len())?;
+    for row in rows {
+        found.push(text_name(names, *row))?;
+    }
+    Ok(found)
+}
