@@ -52,8 +52,8 @@ impl TagMatcher {
     }
 
     /// Parses a text by the rule of a name, from its start on, in at most `steps` steps for each run, and
-    /// returns its pairs with their tags. Where the rule fails, the grammar's own rules are run, too: the error
-    /// is at their furthest failure, and has the names that are expected there.
+    /// returns its pairs with their tags. Where the rule fails, the grammar's own rules are run, too: the
+    /// error is at their furthest failure, and has the names that are expected there.
     ///
     /// Errors: a name that no rule has, a text on which the rule fails, and a stopped run.
     pub fn parse<'a>(
