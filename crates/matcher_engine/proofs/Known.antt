@@ -1,6 +1,5 @@
 -- Names of known numbers.
-use Rattle.std.proofs.Common.{◌≡◌, refl, sym, ◌∙◌, ap, subst, ℕ, zero, suc, ◌<◌, ◌≤◌, List, [], ◌∷◌, Bool, true, false, Option, Some, None, IfSome, chars, codes, bytes_eq, get_or, length, map, arith, if◌then◌else◌}
-use Rattle.std.specs.Borrow.{Bor}
+use Rattle.std.proofs.Common.{◌≡◌, refl, sym, ◌∙◌, ap, subst, ℕ, zero, suc, ◌<◌, ◌≤◌, List, [], ◌∷◌, Bool, true, false, Option, Some, None, chars, codes, bytes_eq, get_or, length, map, arith, if◌then◌else◌}
 use Rattle.std.proofs.lemmas.List.{length-map}
 use Rattle.std.proofs.lemmas.Slice.Eq.{bytes_eq-Decides}
 use Rattle.base_ast.specs.Ast.{text_of}
@@ -10,7 +9,7 @@ use Rattle.base_language.specs.Language.Text.{Text}
 use Rattle.matcher_program.specs.declared.form.Row.{Row}
 use Rattle.matcher_program.specs.Programs.{grammar_of, names_of, rule_of_row}
 use Rattle.matcher_compiler.specs.Names.{number_in, or_end}
-use Rattle.matcher_engine.specs.Entries.{name_in}
+use Rattle.matcher_engine.specs.Walks.{name_in}
 use Rattle.std.proofs.lemmas.Str.{chars-IsAscii}
 use Rattle.std.proofs.lemmas.Str.Ascii.{IsAscii-cons, IsAscii-nil}
 
@@ -83,11 +82,10 @@ module _ (rows : List Row) (r : Text) where
   pub known_name : number_in (grammar_of rows) r ≤ length rows → name_in (names_of rows) (number_in (grammar_of rows) r) ≡ r
   known_name h = by_place (last_place (grammar_of rows) r) refl (is_eoi r) refl h
 
--- so is the name that is found for a number
-pub names_rule : (rows : List Row) (row : ℕ) (found : Option (Bor (List ℕ))) → IfSome found (λ name. row ≤ length rows) → IfSome found (λ name. chars name.now ≡ name_in (names_of rows) row)
-    → IfSome found (λ name. (r : Text) → number_in (grammar_of rows) r ≡ row → chars name.now ≡ r)
-names_rule rows row None h e = tt
-names_rule rows row (Some name) h e = λ r n. e ∙ (ap (name_in (names_of rows)) (sym n) ∙ known_name rows r (subst (λ k. k ≤ length rows) (sym n) h))
+-- the name of a known number is that of each rule of the number
+pub names_rule : (rows : List Row) (row : ℕ) (name : Text) → row ≤ length rows → name ≡ name_in (names_of rows) row
+    → (r : Text) → number_in (grammar_of rows) r ≡ row → name ≡ r
+names_rule rows row name h e r n = e ∙ (ap (name_in (names_of rows)) (sym n) ∙ known_name rows r (subst (λ k. k ≤ length rows) (sym n) h))
 
 pub eoi_text : chars (codes "EOI") ≡ codes "EOI"
 eoi_text = chars-IsAscii (codes "EOI") (IsAscii-cons 69 (79 ∷ 73 ∷ []) (omega arith) (IsAscii-cons 79 (73 ∷ []) (omega arith) (IsAscii-cons 73 [] (omega arith) IsAscii-nil)))

@@ -1,14 +1,13 @@
+pub mod BlockOutcomes
 pub mod Bytes
 pub mod Known
 pub mod OneAnswer
 pub mod OneDerivation
 pub mod OneSoundness
-pub mod Preorder
 pub mod Results
 pub mod Rows
 pub mod RuleSets
 pub mod Sound
 pub mod TreeNames
 pub mod Totals
-pub mod Uniqueness
 pub mod Walking

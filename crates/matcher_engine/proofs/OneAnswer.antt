@@ -11,22 +11,17 @@ use Rattle.base_language.specs.Language.FurthestFailure.{furthest}
 use Rattle.base_language.specs.Language.Meaning.{Run}
 use Rattle.base_language.specs.Language.State.{Classes, Failure, NonAtomicMode, State, Success, Trees, Outcome}
 use Rattle.base_language.specs.Language.Text.{Text}
-use Rattle.front_syntax.specs.Entries.{entries_of}
 use Rattle.matcher_code.specs.declared.state.TreeNode.{TreeNode}
 use Rattle.matcher_code.specs.Reached.{nodes_of}
 use Rattle.matcher_compiler.specs.Names.{number_in}
 use Rattle.matcher_program.specs.declared.form.Property.{Property}
 use Rattle.matcher_program.specs.Programs.{Fits}
-use Rattle.matcher_program.specs.Answers.{FailsWith, HasAt, IsMatchedFrom, IsStoppedFrom}
-use Rattle.matcher_program.specs.Classes.{classes_in}
-use Rattle.matcher_program.specs.Written.{seen}
-use Rattle.matcher_program.specs.declared.answers.Found.{Found}
+use Rattle.matcher_program.specs.Answers.{FailsWith, HasAt, IsStoppedFrom}
 use Rattle.matcher_program.specs.declared.answers.Stop.{Stop}
 use Rattle.matcher_program.specs.declared.answers.Stop.TheVariants as stop
 use Rattle.matcher_engine.specs.Preorders.{HasPreorder}
 use Rattle.matcher_engine.specs.declared.matcher.Preorder.{Preorder}
 use Rattle.matcher_engine.proofs.OneDerivation.{Answer, one_answer}
-use Rattle.matcher_engine.proofs.Uniqueness.{one_trees}
 use Rattle.matcher_machine.specs.declared.machine.Machine.{Machine}
 use Rattle.matcher_engine.specs.Reasons.{HasReason}
 use Rattle.matcher_engine.specs.Runs.{HasFound, IsRun}
@@ -64,22 +59,6 @@ module _ (g : Grammar) (ps : List Property) (n : Text) (s : State) where
         ∥∥₁_elim matched (Σ_prop (λ r q. one_answer g classes r q) (λ r. success_prop r))
         (λ m. ((Success m.state m.trees, m.found), (m.ends, (m.place, m.nodes)))) in
         parts x.0 x.1
-
-    -- the match with its entries, which tell the trees
-    pub with_entries : Fits ps (classes_in ps) → ((classes : Classes) → Fits ps classes → HasPreorder g n s classes it) → (found : Found) → found.end ≡ it.end → found.furthest ≡ it.furthest
-        → ((trees : Trees) → it.trees.items ≡ nodes_of (number_in g) 0 trees → seen found.entries.items ≡ entries_of 0 trees)
-        → IsMatchedFrom g ps n s found
-    with_entries fits has found e f w =
-        let x = has (classes_in ps) fits in
-        record {
-          trees = x.trees;
-          found = λ classes fit.
-              let y = has classes fit in
-              let same : y.trees ≡ x.trees = one_trees y.trees x.trees 0 (sym (w y.trees y.nodes) ∙ w x.trees x.nodes) in
-              let d = subst (λ us. (d : HasAt g n s classes (Success y.state us)) × (found.furthest ≡ furthest d)) same (y.found, f ∙ y.place) in
-              (y.state, sym (e ∙ y.ends), d.0, d.1);
-          entries = w x.trees x.nodes;
-        }
 
   -- what a machine has found, as a match
   pub in_preorder : {classes : Classes} {place end : ℕ} {m : Machine} → HasFound g n s classes place m end

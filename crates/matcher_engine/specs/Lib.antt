@@ -1,4 +1,6 @@
-pub mod Entries
+pub mod BlockRuns
+pub mod Blocks
+pub mod ExpectedRows
 pub mod Matchers
 pub mod Preorders
 pub mod Reasons

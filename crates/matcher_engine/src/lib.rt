@@ -1,7 +1,7 @@
-//! A matcher that runs compiled rules.
+//! A matcher that runs compiled rules, and compiled rules as blocks of bytes.
 #![tactic(auto)]
 
+pub mod block;
 pub mod codes;
-mod entries;
 pub mod matcher;
 pub mod walk;

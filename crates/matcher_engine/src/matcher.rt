@@ -19,8 +19,7 @@ ghost use Rattle.matcher_engine.specs.Runs.{IsFresh, IsRun};
 ghost use Rattle.matcher_engine.specs.Soundness.{IsSound};
 
 use crate::codes::{code_bytes, fuse_bytes, name_code_bytes};
-use crate::entries::{entries_of, name_of};
-use crate::walk::TreeWalk;
+use crate::walk::{TreeWalk, name_of};
 use base_ast::optimized::OptimizedRule;
 use base_language::runtime::{Position, Span};
 use format_code::code::read_code;
@@ -29,7 +28,7 @@ use matcher_code::fused::{Fused, fuse};
 use matcher_code::state::TreeNode;
 use matcher_compiler::names::last_index;
 use matcher_machine::machine::{Machine, RunEnd};
-use matcher_program::answers::{Found, Refusal, Stop, whole_text};
+use matcher_program::answers::{Refusal, Stop, whole_text};
 use matcher_program::compile::{Unfit, program_of};
 use matcher_program::form::Program;
 use matcher_program::properties::Properties;
@@ -60,9 +59,10 @@ pub struct Preorder {
 }
 
 impl Matcher {
-    ghost use Rattle.matcher_program.specs.Answers.{AreExpectedAt, AreExpectedFrom, IsMatched, IsMatchedFrom, IsRefused, IsRefusedFrom, IsUnanswered, IsUnansweredFrom, start_of, state_at};
+    ghost use Rattle.matcher_program.specs.Answers.{AreExpectedAt, AreExpectedFrom, IsRefused, IsRefusedFrom, IsUnanswered, IsUnansweredFrom, start_of, state_at};
     ghost use Rattle.matcher_program.specs.ExpectedNames.{name_texts};
     ghost use Rattle.matcher_compiler.specs.Names.{HaveNumbers, number_in};
+    ghost use Rattle.matcher_engine.specs.ExpectedRows.{AreExpectedRows};
     ghost use Rattle.matcher_engine.specs.Matchers.{grammar_in, properties_in};
     ghost use Rattle.matcher_engine.specs.Preorders.{HasName, HasPreorder, IsPreorder, IsPreorderFrom};
     ghost use Rattle.matcher_engine.specs.Reasons.{HasReason, StopsFor};
@@ -103,7 +103,14 @@ impl Matcher {
     }
 
     /// Matches the rule of a name in NonAtomic from a position of a text on, with the empty stack, in at most
-    /// `steps` steps, and returns the trees in preorder. Errors are those of `parse`.
+    /// `steps` steps, and returns the trees in preorder. Positions of trees, end and furthest failure are
+    /// counted from the start of the text, where alone `SOI` holds. Errors: a name that no rule has, a text
+    /// on which the rule fails, and a stopped run.
+    ///
+    /// If the rule has an outcome on the text, the run finds it, unless an allocation fails, in two steps
+    /// for each application of a rule of the matching relation in a derivation of the outcome. `PEEK` or
+    /// `POP` on the empty stack is met only where there is no outcome. Where there is none, too, a run is out
+    /// of steps only if it goes on for more, and meets the empty stack only by a rule that calls them.
     pub fn parse_preorder<'a>(
         &'a self,
         alloc: Global,
@@ -179,66 +186,20 @@ impl Matcher {
         ensures known { IfSome result (λ name. HasName self.entry.now row (chars name.now)) }
         ensures unknown { IfNone result (length (grammar_in self.entry.now) < row) }
     {
-        name_of(self.program.rows.as_slice(), row)
-    }
-
-    /// Matches the rule of a name in NonAtomic from the start of a text, with the empty stack, in at most
-    /// `steps` steps. Errors: a name that no rule has, a text on which the rule fails, and a stopped run.
-    ///
-    /// If the rule has an outcome on the text, the run finds it, unless an allocation fails, in two steps
-    /// for each application of a rule of the matching relation in a derivation of the outcome. `PEEK` or
-    /// `POP` on the empty stack is met only where there is no outcome. Where there is none, too, a run is out
-    /// of steps only if it goes on for more, and meets the empty stack only by a rule that calls them.
-    pub fn parse<'a>(
-        &'a self,
-        alloc: Global,
-        rule: &'a str,
-        text: &'a str,
-        steps: u64,
-    ) -> Result<Found<'a>, Refusal<'a>>
-        ensures matched { IfOk result (λ found. IsMatched (grammar_in self.entry.now)
-            (properties_in self.entry.now) (chars rule.entry.now) text.entry.now found) }
-        ensures refused { IfErr result (IsRefused (grammar_in self.entry.now)
-            (properties_in self.entry.now) (chars rule.entry.now) text.entry.now steps) }
-        ensures reason { IfErr result (StopsFor (HasReason (grammar_in self.entry.now)
-            (properties_in self.entry.now) (chars rule.entry.now) (start_of text.entry.now) steps)) }
-    {
-        self.parse_from(alloc, rule, Span::of(text, 0, 0).start_pos(), steps)
-    }
-
-    /// Matches as `parse`, but from a position of a text on. Positions of trees, end and furthest failure
-    /// are counted from the start of the text, where alone `SOI` holds.
-    pub fn parse_from<'a>(
-        &'a self,
-        alloc: Global,
-        rule: &'a str,
-        start: Position<'a>,
-        steps: u64,
-    ) -> Result<Found<'a>, Refusal<'a>>
-        ensures matched { IfOk result (λ found. IsMatchedFrom (grammar_in self.entry.now)
-            (properties_in self.entry.now) (chars rule.entry.now) (state_at start.entry) found) }
-        ensures refused { IfErr result (IsRefusedFrom (grammar_in self.entry.now)
-            (properties_in self.entry.now) (chars rule.entry.now) (state_at start.entry) steps) }
-        ensures reason { IfErr result (StopsFor (HasReason (grammar_in self.entry.now)
-            (properties_in self.entry.now) (chars rule.entry.now) (state_at start.entry) steps)) }
-    {
-        let found = self.parse_preorder(alloc, rule, start, steps)?;
-        match entries_of(alloc, &self.program.rows, &found.trees) {
-            Ok(Some(entries)) => Ok(Found {
-                entries,
-                end: found.end,
-                furthest: found.furthest,
-            }),
-            Ok(None) | Err(_) => Err(Refusal::Stopped(Stop::Memory)),
+        if row as usize <= self.program.rows.len() {
+            Some(name_of(&self.program.rows, row))
+        } else {
+            None
         }
     }
 
     /// Returns the names that are expected at `place`, in bytes, without duplicates, in the order in which
-    /// they are first called there. Where `parse` refuses a text by `NoMatch` of that position, they are the
-    /// rules that could have let the run get further.
+    /// they are first called there. Where `match_text` refuses a text by `NoMatch` of that position, they are
+    /// the rules that could have let the run get further.
     ///
-    /// The rules are compiled once more, and the rule is run as by `parse`. Errors are those of `parse`, but
-    /// a text on which the rule fails has an answer; more than 65,535 names count as an allocation failure.
+    /// The rules are compiled once more, and the rule is run as by `match_text`. Errors are those of
+    /// `match_text`, but a text on which the rule fails has an answer; more than 65,535 names count as an
+    /// allocation failure.
     pub fn expected_at<'a>(
         &'a self,
         alloc: Global,
@@ -257,7 +218,7 @@ impl Matcher {
         self.expected_from(alloc, rule, Span::of(text, 0, 0).start_pos(), place, steps)
     }
 
-    /// Returns the names as `expected_at`, in a run as by `parse_from`; `place` is counted from the start
+    /// Returns the names as `expected_at`, in a run as by `parse_preorder`; `place` is counted from the start
     /// of the text.
     pub fn expected_from<'a>(
         &'a self,
@@ -269,6 +230,51 @@ impl Matcher {
     ) -> Result<Vec<&'a str>, Refusal<'a>>
         ensures expected { IfOk result (λ names. AreExpectedFrom (grammar_in self.entry.now)
             (properties_in self.entry.now) (chars rule.entry.now) (state_at start.entry) place names.items) }
+        ensures refused { IfErr result (IsUnansweredFrom (grammar_in self.entry.now)
+            (properties_in self.entry.now) (chars rule.entry.now) (state_at start.entry) steps) }
+        ensures reason { IfErr result (StopsFor (HasReason (grammar_in self.entry.now)
+            (properties_in self.entry.now) (chars rule.entry.now) (state_at start.entry) steps)) }
+    {
+        let rows = self.rows_from(alloc, rule, start, place, steps)?;
+        match self.names_of(alloc, &rows) {
+            Ok(names) => Ok(names),
+            Err(_) => Err(Refusal::Stopped(Stop::Memory)),
+        }
+    }
+
+    /// Returns the numbers of the rules that `expected_at` names, in its order: the index of the last rule of
+    /// each name, and for `EOI`, if no rule has that name, the number of rules. Errors are those of
+    /// `expected_at`.
+    pub fn expected_rows<'a>(
+        &'a self,
+        alloc: Global,
+        rule: &'a str,
+        text: &'a str,
+        place: usize,
+        steps: u64,
+    ) -> Result<Vec<u32>, Refusal<'a>>
+        ensures expected { IfOk result (λ rows. AreExpectedRows (grammar_in self.entry.now)
+            (properties_in self.entry.now) (chars rule.entry.now) (start_of text.entry.now) place
+            rows.items) }
+        ensures refused { IfErr result (IsUnanswered (grammar_in self.entry.now)
+            (properties_in self.entry.now) (chars rule.entry.now) text.entry.now steps) }
+        ensures reason { IfErr result (StopsFor (HasReason (grammar_in self.entry.now)
+            (properties_in self.entry.now) (chars rule.entry.now) (start_of text.entry.now) steps)) }
+    {
+        self.rows_from(alloc, rule, Span::of(text, 0, 0).start_pos(), place, steps)
+    }
+
+    /// Returns the numbers of the rules that `expected_from` names, in its order.
+    fn rows_from<'a>(
+        &'a self,
+        alloc: Global,
+        rule: &'a str,
+        start: Position<'a>,
+        place: usize,
+        steps: u64,
+    ) -> Result<Vec<u32>, Refusal<'a>>
+        ensures expected { IfOk result (λ rows. AreExpectedRows (grammar_in self.entry.now)
+            (properties_in self.entry.now) (chars rule.entry.now) (state_at start.entry) place rows.items) }
         ensures refused { IfErr result (IsUnansweredFrom (grammar_in self.entry.now)
             (properties_in self.entry.now) (chars rule.entry.now) (state_at start.entry) steps) }
         ensures reason { IfErr result (StopsFor (HasReason (grammar_in self.entry.now)
@@ -298,10 +304,10 @@ impl Matcher {
             start,
             steps,
         ) {
-            Ok(_) => match self.names_of(alloc, &machine.names) {
-                Ok(names) => Ok(names),
-                Err(_) => Err(Refusal::Stopped(Stop::Memory)),
-            },
+            Ok(_) => {
+                let Machine { names, .. } = machine;
+                Ok(names)
+            }
             Err(stop) => Err(Refusal::Stopped(stop)),
         }
     }
@@ -323,7 +329,7 @@ impl Matcher {
 }
 
 /// Returns whether the text of a position has more bytes than a tree can count.
-pub fn has_long_text(start: Position<'_>) -> bool
+pub(crate) fn has_long_text(start: Position<'_>) -> bool
     ensures long { result ≡ true → 2 ^ 32 ≤ text_size (state_at start.entry) }
     ensures short { result ≡ false → length (position_text start.entry) < 2 ^ 32 }
 {
@@ -339,7 +345,7 @@ fn entry_of(number: usize) -> Option<u32>
 
 /// Runs code, fused, for the rule of a number from a position of a text on, in at most `steps` steps. Returns
 /// the end of the match, or `None` where the rule fails.
-pub fn run_rule(
+pub(crate) fn run_rule(
     machine: &mut Machine,
     alloc: Global,
     code: &Bytecode<'_>,

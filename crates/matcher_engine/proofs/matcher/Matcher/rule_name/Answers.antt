@@ -1,5 +1,7 @@
+use Rattle.std.proofs.Common.{ap, arith, length, sym}
 use Rattle.matcher_engine.proofs.Known.{names_rule}
 use Rattle.matcher_engine.proofs.matcher.Matcher.rule_name.Goals as goal
 
-pub returns-clause-known : goal.returns-clause-known
-returns-clause-known c = names_rule c.args.self.now.program.rows.items c.args.row c.name_of.result (rw c.as_slice.ensures.value at c.name_of.ensures.known) (rw c.as_slice.ensures.value at c.name_of.ensures.name)
+pub returns-then-row-self-clause-known : goal.returns-then-row-self-clause-known
+returns-then-row-self-clause-known c =
+    names_rule c.args.self.now.program.rows.items c.args.row _ (omega (arith, c.if-row-self.true)) (rw c.deref.ensures.value at c.name_of.ensures)

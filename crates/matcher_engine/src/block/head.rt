@@ -1,0 +1,100 @@
+//! The head of a block: its version, and the sum of its sections.
+ghost use Rattle.std.specs.Prelude.{◌≡◌, IfErr, IfNone, IfOk, IfSome, OnOk, drop};
+ghost use Rattle.matcher_engine.specs.Blocks.{BeginsOtherwise, HasFlaw, IsBlock, IsWhole, part_of, sum_of};
+
+use format_code::sections::section;
+use std::alloc::{AllocError, Global};
+
+/// The beginning of each block, `pest`.
+const MARK: [u8; 4] = [112, 101, 115, 116];
+
+/// The beginning of a block of this version: `pest`, and 2 as a word. The sum and the sections follow.
+const HEAD: [u8; 8] = [112, 101, 115, 116, 2, 0, 0, 0];
+
+/// Where the sum begins, in bytes.
+const SUM: usize = 8;
+
+/// Where the sections begin, in bytes.
+const SECTIONS: usize = 16;
+
+/// The reason why bytes are not a block.
+#[derive(Clone, Copy, Debug, PartialEq, Eq)]
+pub enum BlockFlaw {
+    /// They do not begin as a block, or the sum in the head is not that of the sections.
+    NoBlock,
+    /// They are a block of another version.
+    OtherVersion,
+}
+
+/// Returns the sum of bytes: FNV-1a of 64 bits.
+fn sum_of(bytes: &[u8]) -> u64
+    ensures { result ≡ sum_of bytes.now }
+{
+    let mut sum = 14_695_981_039_346_656_037;
+    for byte in bytes {
+        sum = (sum ^ u64::from(*byte)).wrapping_mul(1_099_511_628_211);
+    }
+    sum
+}
+
+/// Returns the bytes from a place on, in bytes; none where the place is past the end.
+fn bytes_from(block: &[u8], place: usize) -> &[u8]
+    ensures { result.now ≡ drop place block.entry.now }
+{
+    match block.get(place..) {
+        Some(bytes) => bytes,
+        None => &[],
+    }
+}
+
+/// Returns a section of a block.
+pub(crate) fn part_of(block: &[u8], number: u32) -> &[u8]
+    ensures { result.now ≡ part_of block.entry.now number }
+{
+    section(bytes_from(block, SECTIONS), number)
+}
+
+/// Returns the block of sections, with its head. The only error is an allocation failure.
+pub(crate) fn with_head(alloc: Global, sections: &[u8]) -> Result<Vec<u8>, AllocError>
+    ensures whole { IfOk result (λ block. IsWhole block.items) }
+    ensures sections { IfOk result (λ block. drop 16 block.items ≡ sections.now) }
+{
+    let mut block = Vec::new(alloc);
+    block.extend_from_slice(&HEAD)?;
+    block.extend_from_slice(&sum_of(sections).to_le_bytes())?;
+    block.extend_from_slice(sections)?;
+    Ok(block)
+}
+
+/// Returns why bytes are not the beginning of a block of this version, if they are not.
+pub(crate) fn find_flaw(block: &[u8]) -> Option<BlockFlaw>
+    ensures some { IfSome result (λ flaw. IsBlock block.now → ⊥) }
+    ensures flaw { IfSome result (λ flaw. BeginsOtherwise block.now flaw) }
+    ensures none { IfNone result (IsBlock block.now) }
+{
+    if block.starts_with(&HEAD) {
+        return None;
+    }
+    if block.starts_with(&MARK) {
+        Some(BlockFlaw::OtherVersion)
+    } else {
+        Some(BlockFlaw::NoBlock)
+    }
+}
+
+/// Checks that bytes are a block of this version, as it was made: that the sum in its head is that of its
+/// sections. A run does not look at the sum.
+pub fn check_block(block: &[u8]) -> Result<(), BlockFlaw>
+    ensures whole { OnOk result (IsWhole block.now) }
+    ensures flaw { IfErr result (λ flaw. HasFlaw block.now flaw) }
+{
+    if let Some(flaw) = find_flaw(block) {
+        return Err(flaw);
+    }
+    let sum = sum_of(bytes_from(block, SECTIONS)).to_le_bytes();
+    if bytes_from(block, SUM).starts_with(&sum) {
+        Ok(())
+    } else {
+        Err(BlockFlaw::NoBlock)
+    }
+}
