@@ -27,7 +27,8 @@ pub struct RuleSource<'i> {
 /// A grammar as it is written.
 #[derive(Drop)]
 pub struct GrammarSource<'i> {
-    /// The lines of its comment, without `//!`.
+    /// The lines of its comment, without `//!`. Those for pest-lint are no part of it, nor are empty lines at
+    /// its end.
     pub comment: Vec<&'i str>,
     /// Its rules, in order.
     pub rules: Vec<RuleSource<'i>>,
@@ -67,7 +68,8 @@ pub fn read_source<'i>(
         is_named: false,
     };
     reader.read_all(pairs)?;
-    let SourceReader { source, .. } = reader;
+    let SourceReader { mut source, .. } = reader;
+    drop_empty_end(&mut source.comment);
     Ok(source)
 }
 
@@ -90,7 +92,7 @@ impl<'i> SourceReader<'i> {
         match tree.rule {
             Rule::grammar_doc => {
                 let line = self.text_between(tree.start, tree.end);
-                self.source.comment.push(strip_marker(line, "//!"))?;
+                self.add_line(strip_marker(line, "//!"))?;
             }
             Rule::line_doc => {
                 let line = self.text_between(tree.start, tree.end);
@@ -103,6 +105,14 @@ impl<'i> SourceReader<'i> {
             }
             Rule::identifier => self.add_name(tree.start, tree.end)?,
             _ => {}
+        }
+        Ok(())
+    }
+
+    /// Adds a line to the grammar's comment, unless it is for pest-lint.
+    fn add_line(&mut self, line: &'i str) -> Result<(), AllocError> {
+        if !line.starts_with("pest-lint:") {
+            self.source.comment.push(line)?;
         }
         Ok(())
     }
@@ -152,6 +162,13 @@ impl<'i> SourceReader<'i> {
             return self.add_text(self.end);
         }
         Ok(())
+    }
+}
+
+/// Takes the empty lines away that end a comment.
+fn drop_empty_end(lines: &mut Vec<&str>) {
+    while lines.last().copied() == Some("") {
+        lines.pop();
     }
 }
 
