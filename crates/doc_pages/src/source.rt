@@ -27,8 +27,8 @@ pub struct RuleSource<'i> {
 /// A grammar as it is written.
 #[derive(Drop)]
 pub struct GrammarSource<'i> {
-    /// The lines of its comment, without `//!`. Those for pest-lint are no part of it, nor are empty lines at
-    /// its end.
+    /// The lines of its comment, without `//!`. Those for pest-lint are no part of it, nor are empty lines
+    /// before them.
     pub comment: Vec<&'i str>,
     /// Its rules, in order.
     pub rules: Vec<RuleSource<'i>>,
@@ -68,8 +68,7 @@ pub fn read_source<'i>(
         is_named: false,
     };
     reader.read_all(pairs)?;
-    let SourceReader { mut source, .. } = reader;
-    drop_empty_end(&mut source.comment);
+    let SourceReader { source, .. } = reader;
     Ok(source)
 }
 
@@ -109,9 +108,11 @@ impl<'i> SourceReader<'i> {
         Ok(())
     }
 
-    /// Adds a line to the grammar's comment, unless it is for pest-lint.
+    /// Adds a line to the grammar's comment, but for one for pest-lint.
     fn add_line(&mut self, line: &'i str) -> Result<(), AllocError> {
-        if !line.starts_with("pest-lint:") {
+        if line.starts_with("pest-lint:") {
+            drop_empty_end(&mut self.source.comment);
+        } else {
             self.source.comment.push(line)?;
         }
         Ok(())
@@ -165,9 +166,9 @@ impl<'i> SourceReader<'i> {
     }
 }
 
-/// Takes the empty lines away that end a comment.
+/// Takes an empty line away that ends a comment.
 fn drop_empty_end(lines: &mut Vec<&str>) {
-    while lines.last().copied() == Some("") {
+    if lines.last().copied() == Some("") {
         lines.pop();
     }
 }
