@@ -8,6 +8,7 @@ pub mod Results
 pub mod Rows
 pub mod RuleSets
 pub mod Sound
+pub mod Sums
 pub mod TreeNames
 pub mod Totals
 pub mod Walking

@@ -1,5 +1,5 @@
 -- There is one answer at most, so that what has some has that.
-use Rattle.std.proofs.Common.{◌≡◌, sym, ◌∙◌, subst, List, ℕ, [], Option, Some, None, Ok, map}
+use Rattle.std.proofs.Common.{◌≡◌, List, ℕ, [], Option, Some, None, Ok, map}
 use Rattle.std.proofs.Props.{props}
 use Rattle.std.proofs.Math.Bridge.{le_prop}
 use Rattle.std.proofs.Math.Logic.{∥∥₁_elim}
@@ -9,7 +9,7 @@ use mathlib.Core.HLevel.{Σ_prop, ⊥_prop}
 use Rattle.base_language.specs.Language.Expression.{Grammar, Ident}
 use Rattle.base_language.specs.Language.FurthestFailure.{furthest}
 use Rattle.base_language.specs.Language.Meaning.{Run}
-use Rattle.base_language.specs.Language.State.{Classes, Failure, NonAtomicMode, State, Success, Trees, Outcome}
+use Rattle.base_language.specs.Language.State.{Classes, Failure, NonAtomicMode, State, Success, Outcome}
 use Rattle.base_language.specs.Language.Text.{Text}
 use Rattle.matcher_code.specs.declared.state.TreeNode.{TreeNode}
 use Rattle.matcher_code.specs.Reached.{nodes_of}

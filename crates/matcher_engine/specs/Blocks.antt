@@ -1,5 +1,5 @@
 -- Blocks of rules.
-use Rattle.std.specs.Prelude.{◌≡◌, ◌<◌, ◌⊎◌, ◌*◌, ◌^◌, ◌%◌, ℕ, Bool, List, [], ◌∷◌, bit_xor, drop, false, fold, get_or, length, map, nat_eq, string_bytes, true}
+use Rattle.std.specs.Prelude.{◌≡◌, ◌<◌, ◌*◌, ◌^◌, ◌%◌, ℕ, Bool, List, [], ◌∷◌, bit_xor, drop, false, fold, get_or, length, map, nat_eq, string_bytes, true}
 use Rattle.std.specs.Int.{to_le_bytes, w64}
 use Rattle.std.specs.List.{starts_with}
 use Rattle.base_ast.specs.declared.optimized.OptimizedRule.{OptimizedRule}
@@ -42,16 +42,13 @@ pub record IsWhole (block : List ℕ) : Type 0 where
   pub head : IsBlock block
   pub sum : has_sum block ≡ true
 
--- why bytes do not begin as a block of this version
-abbrev pub BeginsOtherwise : List ℕ → BlockFlaw → Type 0
-BeginsOtherwise block flaw.NoBlock = starts_with nat_eq block mark ≡ false
-BeginsOtherwise block flaw.OtherVersion =
-    (starts_with nat_eq block mark ≡ true) × (starts_with nat_eq block head ≡ false)
-
--- why bytes are no whole block: they begin otherwise, or their sum is another
+-- why bytes are no whole block: they do not begin as one, or they are one of another version, or their sum is
+-- another
 abbrev pub HasFlaw : List ℕ → BlockFlaw → Type 0
-HasFlaw block why = BeginsOtherwise block why
-    ⊎ ((why ≡ flaw.NoBlock) × IsBlock block × (has_sum block ≡ false))
+HasFlaw block flaw.NoBlock = starts_with nat_eq block mark ≡ false
+HasFlaw block flaw.OtherVersion =
+    (starts_with nat_eq block mark ≡ true) × (starts_with nat_eq block head ≡ false)
+HasFlaw block flaw.Changed = IsBlock block × (has_sum block ≡ false)
 
 -- the sections after the head: code for matches, code for names, the names of rules as sections, and the
 -- types of rules

@@ -3,5 +3,6 @@
 
 pub mod block;
 pub mod codes;
+pub mod laws;
 pub mod matcher;
 pub mod walk;

@@ -45,6 +45,7 @@ extern "C" {
 #define PEST_META_EMPTY_STACK 9
 #define PEST_META_LONG_TEXT 10
 #define PEST_META_OTHER_VERSION 11
+#define PEST_META_CHANGED 12
 
 /* The tokens of the text for the rule of the meta-grammar of that name, from
  * the text's start on ("Tokens"). Refused with a list of one error, or with an
@@ -146,7 +147,7 @@ typedef struct pest_meta_entry {
  * read in place ("Compiled grammars"). What a call hands out takes memory by
  * malloc: free `at` by free() where `count` is not 0. Before a call `at` may
  * not be null: begin with PEST_META_EMPTY and count 0. After another status
- * than 0 what was there stays. */
+ * than 0 what was there stays. Status 2 says that an allocation failed. */
 typedef struct pest_meta_bytes {
     const uint8_t *at;
     size_t count;
@@ -172,25 +173,34 @@ typedef struct pest_meta_row_list {
 #define PEST_META_EMPTY ((const void *)"\0\0\0\0\0\0\0")
 
 /* The block of a grammar. Status 1: the grammar has errors, which
- * pest_meta_parse_and_optimize writes; 6: it cannot be run. */
+ * pest_meta_parse_and_optimize writes; 3: it is not UTF-8; 6: it cannot be
+ * run. */
 uint8_t pest_meta_compile(const uint8_t *grammar, size_t grammar_len, pest_meta_bytes *block);
 
 /* The block of optimized rules in binary form (pest_meta_prepare). Status 5:
  * the bytes are none; 6: the rules cannot be run. */
 uint8_t pest_meta_compile_prepared(const uint8_t *rules, size_t rules_len, pest_meta_bytes *block);
 
+/* Says whether bytes are a block as it was made, by its version and the sum in
+ * its head: for a program that reads a block from a file, before its first run.
+ * Status 0: they are; 5: they are no block; 11: they are a block of another
+ * version, so compile the grammar again; 12: they were changed. */
+uint8_t pest_meta_check(const uint8_t *block, size_t block_len);
+
 /* Runs the rule of a number from the byte `from` of the text on. Status 0: it
  * matches; `*nodes` are its tokens, and `*end` is its end. 1: it fails, and
  * `*end` is the furthest position of a failure. 3: the text is not UTF-8, or
  * `from` is inside a character or behind the text; 5: no block; 7: no rule has
- * the number; 8 to 10 as above; 11: a block of another version. Any bytes may
- * be handed over. */
+ * the number; 8 to 10 as above; 11: a block of another version. With another
+ * status than 0 and 1 `*end` stays. Any bytes may be handed over: the sum is not
+ * compared, and a changed block may match what it should not. */
 uint8_t pest_meta_run(const uint8_t *block, size_t block_len, uint32_t rule, const uint8_t *text,
                       size_t text_len, size_t from, uint64_t steps, pest_meta_node_list *nodes,
                       size_t *end);
 
 /* The rules that are expected at `place` in such a run, each once, in the order
- * in which they are first called there. */
+ * in which they are first called there. A rule that fails has an answer; the
+ * other statuses are those of pest_meta_run. */
 uint8_t pest_meta_expected(const uint8_t *block, size_t block_len, uint32_t rule,
                            const uint8_t *text, size_t text_len, size_t from, size_t place,
                            uint64_t steps, pest_meta_row_list *rows);

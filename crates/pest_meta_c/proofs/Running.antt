@@ -1,9 +1,8 @@
 -- The outcome of a rule, by the answers of the matcher.
-use Rattle.std.proofs.Common.{◌≡◌, ◌+◌, ◌∙◌, ap, ap₂, arith, chars, length, sym, ℕ, List}
+use Rattle.std.proofs.Common.{◌≡◌, ◌+◌, ◌∙◌, ◌∷◌, ap, ap₂, arith, chars, length, sym, ℕ, List}
 use Rattle.std.specs.Prelude.{IsUtf8}
 use Rattle.std.proofs.Math.Utf8.{encodes}
 use Rattle.std.proofs.lemmas.Str.{encodes-chars}
-use Rattle.std.specs.Borrow.{Bor}
 use Rattle.base_ast.specs.Optimized.{optimized_rules_of}
 use Rattle.base_ast.specs.declared.optimized.OptimizedRule.{OptimizedRule}
 use Rattle.base_language.specs.Language.Expression.{Grammar}
@@ -17,16 +16,20 @@ use Rattle.matcher_program.specs.declared.compile.Unfit.{Unfit}
 use Rattle.matcher_program.specs.declared.compile.Unfit.TheVariants as no
 use Rattle.matcher_program.specs.declared.form.Property.{Property}
 use Rattle.matcher_support.specs.Sets.{has_set, is_in_property}
+use Rattle.matcher_compiler.proofs.Numbering.{expected_have}
+use Rattle.matcher_engine.specs.ExpectedRows.{AreExpectedRows}
 use Rattle.matcher_engine.specs.Preorders.{HasPreorder, IsPreorder}
+use Rattle.matcher_engine.proofs.Rows.{have_once}
 use Rattle.matcher_engine.specs.declared.matcher.Preorder.{Preorder}
-use Rattle.matcher_program.specs.Answers.{AreExpectedAt, FailsAt, IsStopped, start_of}
-use Rattle.matcher_program.specs.ExpectedNames.{each_once, name_texts}
+use Rattle.matcher_program.specs.Answers.{FailsAt, IsStopped, start_of}
+use Rattle.matcher_program.specs.ExpectedNames.{each_once}
 use Rattle.matcher_program.specs.declared.answers.Stop.{Stop}
 use Rattle.matcher_program.specs.declared.answers.Stop.TheVariants as stop
-use Rattle.pest_meta_c.specs.Numbers.{failure_numbers, match_numbers}
+use Rattle.pest_meta_c.specs.Numbers.{match_numbers, row_numbers, rule_numbers}
 use Rattle.pest_meta_c.specs.MatchOutcomes.{HasMatched, IsFailureOutcome, IsOutcomeBy, IsRunOutcome, stopped_outcome, unfit_outcome}
 use Rattle.pest_meta_c.specs.declared.matching.outcome.MatchOutcome.{MatchOutcome}
 use Rattle.pest_meta_c.specs.declared.matching.outcome.MatchOutcome.TheVariants as is
+use Rattle.pest_meta_c.proofs.Numbering.{rows_numbered}
 
 -- the end of the match, and its tokens
 pub matched : (g : Grammar) (ps : List Property) (rule : Text) (text : List ℕ) (it : Preorder) (numbers : List ℕ)
@@ -37,21 +40,23 @@ matched g ps rule text it numbers fits m w =
     record { end_ = x.state; trees = x.trees; matches = x.found; numbered = w rule (start_of text) is_in_property x ∙ ap (λ n. match_numbers g n x.trees) x.ends }
 
 -- the position of the failure, and the rules that are expected there
-pub failed : (g : Grammar) (ps : List Property) (rule : Text) (text : List ℕ) (steps place : ℕ) (names : List (Bor (List ℕ))) (o : MatchOutcome)
-    → Fits ps is_in_property → FailsAt g ps rule text place → AreExpectedAt g ps rule text place names → IsFailureOutcome g place (name_texts names) o → IsRunOutcome g rule text steps o
-failed g ps rule text steps place names (is.Matched numbers) fits f a t = absurd t
-failed g ps rule text steps place names (is.Failed numbers) fits f a t =
+pub failed : (g : Grammar) (ps : List Property) (rule : Text) (text : List ℕ) (steps place : ℕ) (rows : List ℕ) (o : MatchOutcome)
+    → Fits ps is_in_property → FailsAt g ps rule text place → AreExpectedRows g ps rule (start_of text) place rows → IsFailureOutcome place rows o → IsRunOutcome g rule text steps o
+failed g ps rule text steps place rows (is.Matched numbers) fits f a t = absurd t
+failed g ps rule text steps place rows (is.Failed numbers) fits f a t =
     let fails = f is_in_property fits in
     let found = a is_in_property fits in
-    let same : name_texts names ≡ each_once (expected fails.0) = found.2 ∙ ap each_once (one_list g is_in_property place found.1 fails.0 ∙ ap (λ n. expected_at n fails.0) fails.1) in
-    record { fails = fails.0; numbered = t ∙ ap₂ (λ n ns. failure_numbers g n ns) fails.1 same }
-failed g ps rule text steps place names is.NoRules fits f a t = absurd t
-failed g ps rule text steps place names is.Unfit fits f a t = absurd t
-failed g ps rule text steps place names is.NoRule fits f a t = absurd t
-failed g ps rule text steps place names is.OutOfSteps fits f a t = absurd t
-failed g ps rule text steps place names is.EmptyStack fits f a t = absurd t
-failed g ps rule text steps place names is.LongText fits f a t = absurd t
-failed g ps rule text steps place names is.Memory fits f a t = tt
+    let names = expected_at place found.1 in
+    let same : names ≡ expected fails.0 = one_list g is_in_property place found.1 fails.0 ∙ ap (λ n. expected_at n fails.0) fails.1 in
+    let numbered : row_numbers rows ≡ rule_numbers g (each_once names) = ap row_numbers found.2 ∙ rows_numbered g (each_once names) (have_once g names (expected_have g place found.1)) in
+    record { fails = fails.0; numbered = t ∙ ap₂ (λ n ns. n ∷ ns) fails.1 (numbered ∙ ap (λ ns. rule_numbers g (each_once ns)) same) }
+failed g ps rule text steps place rows is.NoRules fits f a t = absurd t
+failed g ps rule text steps place rows is.Unfit fits f a t = absurd t
+failed g ps rule text steps place rows is.NoRule fits f a t = absurd t
+failed g ps rule text steps place rows is.OutOfSteps fits f a t = absurd t
+failed g ps rule text steps place rows is.EmptyStack fits f a t = absurd t
+failed g ps rule text steps place rows is.LongText fits f a t = absurd t
+failed g ps rule text steps place rows is.Memory fits f a t = tt
 
 -- a run that was stopped
 pub stopped : (g : Grammar) (ps : List Property) (rule : Text) (text : List ℕ) (steps : ℕ) (why : Stop) → IsUtf8 text → Fits ps is_in_property → IsStopped g ps rule text steps why → IsRunOutcome g rule text steps (stopped_outcome why)

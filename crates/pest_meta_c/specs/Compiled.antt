@@ -1,18 +1,23 @@
 -- Answers of the calls on compiled grammars.
-use Rattle.std.specs.Prelude.{◌≡◌, ℕ, List, [], Result, Ok, Err, Some, chars, drop}
+use Rattle.std.specs.Prelude.{◌≡◌, ◌⊎◌, ℕ, List, [], Result, Ok, Err, Some, chars, drop}
+use Rattle.std.specs.Str.{IsCharBoundary, IsUtf8}
 use Rattle.base_ast.specs.Optimized.{optimized_rules_of}
 use Rattle.base_ast.specs.declared.optimized.OptimizedRule.{OptimizedRule}
 use Rattle.base_language.specs.Language.Expression.{Grammar, last_place}
 use Rattle.base_language.specs.Language.State.{Classes, State}
 use Rattle.base_language.specs.Language.Text.{Text}
-use Rattle.matcher_block.specs.Blocks.{HasRules, IsBlockOf}
-use Rattle.matcher_block.specs.Runs.{AreExpected, IsOutcome}
-use Rattle.matcher_block.specs.declared.blocks.BlockFlaw.TheVariants as flaw
-use Rattle.matcher_block.specs.declared.runs.BlockStop.{BlockStop}
-use Rattle.matcher_block.specs.declared.runs.BlockStop.TheVariants as stop
 use Rattle.matcher_code.specs.declared.state.TreeNode.{TreeNode}
+use Rattle.matcher_engine.specs.Blocks.{HasRules, IsBlockOf, IsWhole}
+use Rattle.matcher_engine.specs.BlockRuns.{AreExpected, IsOutcome, IsRefusal}
+use Rattle.matcher_engine.specs.declared.block.head.BlockFlaw.TheVariants as flaw
+use Rattle.matcher_engine.specs.declared.block.runs.BlockStop.{BlockStop}
+use Rattle.matcher_engine.specs.declared.block.runs.BlockStop.TheVariants as stop
 use Rattle.matcher_engine.specs.declared.matcher.Preorder.{Preorder}
 use Rattle.matcher_program.specs.declared.answers.Stop.TheVariants as limit
+
+-- the bytes are a text, and the place is before one of its characters or at its end
+abbrev pub HasStart : List ℕ → ℕ → Type 0
+HasStart text from = IsUtf8 text × IsCharBoundary text from
 
 -- a place of a text, with the empty stack
 abbrev pub state_from : List ℕ → ℕ → State
@@ -28,6 +33,7 @@ status_of (stop.Stopped limit.OutOfSteps) = 8
 status_of (stop.Stopped limit.EmptyStack) = 9
 status_of (stop.Stopped limit.TextTooLong) = 10
 status_of (stop.Flaw flaw.OtherVersion) = 11
+status_of (stop.Flaw flaw.Changed) = 12
 
 -- nodes, a position and a status report an outcome
 abbrev pub Tells : Result Preorder BlockStop → List TreeNode → ℕ → ℕ → Type 0
@@ -49,7 +55,20 @@ AreTold block rule text from place steps rows = (g : Grammar) (classes : Classes
     → (n : Text) → last_place g n ≡ Some rule
     → AreExpected g n (state_from text from) classes steps place rows
 
+-- a status reports why a rule of a number has no answer from a place of a text
+pub record IsRefusalTold (block : List ℕ) (rule : ℕ) (text : List ℕ) (from steps status : ℕ) : Type 0 where
+  pub why : BlockStop
+  pub told : status ≡ status_of why
+  pub is : (g : Grammar) (classes : Classes) → IsBlockOf g classes block → (n : Text)
+      → last_place g n ≡ Some rule → IsRefusal g n (state_from text from) classes steps why
+
 -- the block of optimized rules
 pub record IsCompiled (rules : List OptimizedRule) (classes : Classes) (block : List ℕ) : Type 0 where
   pub code : IsBlockOf (optimized_rules_of rules) classes block
+  pub whole : IsWhole block
   pub has : HasRules block rules
+
+-- the statuses of optimized rules as a block: 0 for the block, 2 for an allocation failure, 6 for rules that
+-- can't be run
+abbrev pub IsBlockStatus : ℕ → Type 0
+IsBlockStatus status = (status ≡ 0) ⊎ ((status ≡ 2) ⊎ (status ≡ 6))

@@ -1,5 +1,5 @@
 -- The outcome of a rule on a text.
-use Rattle.std.specs.Prelude.{◌≡◌, ◌<◌, ◌≤◌, ◌^◌, All, List, ℕ, None, length, ⊤}
+use Rattle.std.specs.Prelude.{◌≡◌, ◌<◌, ◌≤◌, ◌^◌, ◌∷◌, All, List, ℕ, None, length, ⊤}
 use Rattle.base_ast.specs.Optimized.{optimized_rules_of}
 use Rattle.base_ast.specs.declared.optimized.OptimizedRule.{OptimizedRule}
 use Rattle.base_language.specs.Language.Expected.{expected}
@@ -8,6 +8,7 @@ use Rattle.base_language.specs.Language.FurthestFailure.{furthest}
 use Rattle.base_language.specs.Language.State.{State, Trees, Outcome, Success, Failure}
 use Rattle.base_language.specs.Language.Text.{Text}
 use Rattle.format_binary.specs.Format.{optimized_rules_bytes}
+use Rattle.format_binary.specs.Fronts.{AreOfNoRules}
 use Rattle.format_binary.specs.Indices.{HasIndices}
 use Rattle.format_json.specs.Reading.{AreOptimizedRules}
 use Rattle.format_json.specs.Refusals.{IsRefusedAsOptimized}
@@ -23,7 +24,7 @@ use Rattle.matcher_program.specs.ExpectedNames.{each_once}
 use Rattle.matcher_program.specs.Sizes.{most_steps}
 use Rattle.matcher_program.specs.declared.answers.Stop.{Stop}
 use Rattle.matcher_program.specs.declared.answers.Stop.TheVariants as stop
-use Rattle.pest_meta_c.specs.Numbers.{failure_numbers, match_numbers}
+use Rattle.pest_meta_c.specs.Numbers.{failure_numbers, match_numbers, row_numbers}
 use Rattle.pest_meta_c.specs.declared.matching.outcome.MatchOutcome.{MatchOutcome}
 use Rattle.pest_meta_c.specs.declared.matching.outcome.MatchOutcome.TheVariants as is
 
@@ -99,7 +100,7 @@ ArePrepared bytes rules = (bytes ≡ optimized_rules_bytes rules) × All (λ r. 
 
 -- the outcome is that of the rule of the rules in binary form on the text
 abbrev pub IsPreparedOutcome : List ℕ → Text → List ℕ → ℕ → MatchOutcome → Type 0
-IsPreparedOutcome bytes = IsOutcomeBy (ArePrepared bytes) ⊤
+IsPreparedOutcome bytes = IsOutcomeBy (ArePrepared bytes) (AreOfNoRules bytes)
 
 -- the outcome of a run that the matcher stopped
 abbrev pub stopped_outcome : Stop → MatchOutcome
@@ -114,8 +115,9 @@ unfit_outcome unfit.Memory = is.Memory
 unfit_outcome (unfit.UnknownName name) = is.Unfit
 unfit_outcome (unfit.Bound text) = is.Unfit
 
--- the outcome reports a failure at a position where these names are expected, or an allocation failure
-abbrev pub IsFailureOutcome : Grammar → ℕ → List Text → MatchOutcome → Type 0
-IsFailureOutcome g place names (is.Failed numbers) = numbers.items ≡ failure_numbers g place names
-IsFailureOutcome g place names is.Memory = ⊤
-IsFailureOutcome g place names _ = ⊥
+-- the outcome reports a failure at a position where the rules of these indices are expected, or an allocation
+-- failure
+abbrev pub IsFailureOutcome : ℕ → List ℕ → MatchOutcome → Type 0
+IsFailureOutcome place rows (is.Failed numbers) = numbers.items ≡ place ∷ row_numbers rows
+IsFailureOutcome place rows is.Memory = ⊤
+IsFailureOutcome place rows _ = ⊥

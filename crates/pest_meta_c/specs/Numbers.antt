@@ -19,6 +19,10 @@ rule_number g n = number_of (last_place g n) (length g)
 abbrev pub rule_numbers : Grammar → List Text → List ℕ
 rule_numbers g names = map (rule_number g) names
 
+-- the numbers of rules by their indices
+abbrev pub row_numbers : List ℕ → List ℕ
+row_numbers rows = map (λ row. row + 1) rows
+
 -- an entry: its rule's number, or 0 if it ends a token; its position; the index of its partner
 abbrev pub entry_numbers : Grammar → Entry → List ℕ
 entry_numbers g (Starts r i partner) = rule_number g r ∷ i ∷ partner ∷ []

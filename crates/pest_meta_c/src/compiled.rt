@@ -1,20 +1,27 @@
 //! Compiled grammars: blocks that are made once, lent at each run, and freed by the caller.
-ghost use Rattle.std.specs.Prelude.{◌≡◌, ◌≢◌, Err, IfSome, List, ℕ};
+ghost use Rattle.std.specs.Prelude.{◌≡◌, ◌≢◌, ◌⊎◌, Err, IfNone, IfSome, List, ℕ};
 ghost use Rattle.std.specs.Borrow.{Bor};
+ghost use Rattle.std.specs.Str.{IsUtf8};
+ghost use Rattle.base_ast.specs.Optimized.{optimized_rules_of};
 ghost use Rattle.base_ast.specs.declared.optimized.OptimizedRule.{OptimizedRule};
 ghost use Rattle.format_binary.specs.Format.{optimized_rules_bytes};
+ghost use Rattle.format_binary.specs.Fronts.{AreOfNoRules};
 ghost use Rattle.matcher_code.specs.declared.state.TreeNode.{TreeNode};
+ghost use Rattle.matcher_engine.specs.Blocks.{HasFlaw, IsWhole};
 ghost use Rattle.matcher_program.specs.Answers.{state_at};
 ghost use Rattle.matcher_support.specs.Sets.{is_in_property};
-ghost use Rattle.pest_meta_c.specs.Compiled.{AreTold, IsCompiled, IsTold, Tells, state_from};
-ghost use Rattle.pest_meta.specs.Spelling.{IsAnswer};
+ghost use Rattle.pest_meta_c.specs.Compiled.{AreTold, HasStart, IsBlockStatus, IsCompiled, IsRefusalTold, IsTold, Tells, state_from, status_of};
+ghost use Rattle.pest_meta_c.specs.MatchOutcomes.{AreUnfit};
+ghost use Rattle.pest_meta.specs.Spelling.{HasRefusal, IsAnswer};
 
 use base_ast::deep::Deep;
 use base_ast::optimized::OptimizedRule;
 use base_language::runtime::{Fault, Position};
 use format_binary::{BinaryRefusal, read_optimized_rules};
-use matcher_block::{BlockFlaw, BlockStop, compile_block, expected_block, run_block};
 use matcher_code::state::TreeNode;
+use matcher_engine::block::{
+    BlockFlaw, BlockStop, check_block, compile_block, expected_block, run_block,
+};
 use matcher_engine::matcher::Preorder;
 use matcher_program::answers::Stop;
 use matcher_program::compile::Unfit;
@@ -43,6 +50,8 @@ const EMPTY_STACK: u8 = 9;
 const LONG_TEXT: u8 = 10;
 /// The bytes are a block of another version.
 const OTHER_VERSION: u8 = 11;
+/// The bytes are a block that was changed.
+const CHANGED: u8 = 12;
 
 /// Hands out items, which the caller frees if there are any.
 fn hand_out<'a, T: Drop>(items: Vec<T>) -> &'a [T]
@@ -56,7 +65,9 @@ fn hand_out<'a, T: Drop>(items: Vec<T>) -> &'a [T]
 
 /// Returns a place of a text, if the bytes are a text and the place is before a character or at the end.
 fn start_in(text: &[u8], from: usize) -> Option<Position<'_>>
-    ensures { IfSome result (λ start. state_at start ≡ state_from text.entry.now from) }
+    ensures state { IfSome result (λ start. state_at start ≡ state_from text.entry.now from) }
+    ensures some { IfSome result (λ start. HasStart text.entry.now from) }
+    ensures none { IfNone result (HasStart text.entry.now from → ⊥) }
 {
     match str::from_utf8(text) {
         Ok(text) => Position::new(text, from),
@@ -68,6 +79,8 @@ fn start_in(text: &[u8], from: usize) -> Option<Position<'_>>
 fn tell_stop(stop: BlockStop, end: &mut usize) -> u8
     ensures told { (nodes : List TreeNode) → Tells (Err stop) nodes end.new result }
     ensures refused { result ≢ 0 }
+    ensures status { result ≡ status_of stop }
+    ensures unchanged { result ≢ 1 → end.new ≡ end.old }
 {
     match stop {
         BlockStop::NoMatch(place) => {
@@ -81,12 +94,15 @@ fn tell_stop(stop: BlockStop, end: &mut usize) -> u8
         BlockStop::Stopped(Stop::EmptyStack) => EMPTY_STACK,
         BlockStop::Stopped(Stop::TextTooLong) => LONG_TEXT,
         BlockStop::Flaw(BlockFlaw::OtherVersion) => OTHER_VERSION,
+        BlockStop::Flaw(BlockFlaw::Changed) => CHANGED,
     }
 }
 
 /// Hands out the block of optimized rules, and returns the status.
 fn put_block<'a>(alloc: Global, rules: &[OptimizedRule], block: &mut &'a [u8]) -> u8
     ensures compiled { result ≡ 0 → IsCompiled rules.now is_in_property block.new.now }
+    ensures unfit { result ≡ 6 → AreUnfit (optimized_rules_of rules.now) }
+    ensures known { IsBlockStatus result }
     ensures unchanged { result ≢ 0 → block.new ≡ block.old }
 {
     match compile_block(alloc, rules, &UnicodeProperties) {
@@ -104,6 +120,11 @@ fn put_block<'a>(alloc: Global, rules: &[OptimizedRule], block: &mut &'a [u8]) -
 pub extern "C" fn pest_meta_compile<'a>(alloc: Global, grammar: &[u8], block: &mut &'a [u8]) -> u8
     ensures compiled { result ≡ 0 → (builtins : List (Bor (List ℕ))) × (rules : List OptimizedRule)
         × IsAnswer grammar.now builtins rules × IsCompiled rules is_in_property block.new.now }
+    ensures refused { result ≡ 1 → HasRefusal grammar.now }
+    ensures no_text { result ≡ 3 → IsUtf8 grammar.now → ⊥ }
+    ensures unfit { result ≡ 6 → (builtins : List (Bor (List ℕ))) × (rules : List OptimizedRule)
+        × IsAnswer grammar.now builtins rules × AreUnfit (optimized_rules_of rules) }
+    ensures known { IsBlockStatus result ⊎ ((result ≡ 1) ⊎ (result ≡ 3)) }
     ensures unchanged { result ≢ 0 → block.new ≡ block.old }
 {
     let Ok(text) = str::from_utf8(grammar) else {
@@ -128,6 +149,10 @@ pub extern "C" fn pest_meta_compile_prepared<'a>(
 ) -> u8
     ensures compiled { result ≡ 0 → (read : List OptimizedRule) × (rules.now ≡ optimized_rules_bytes read)
         × IsCompiled read is_in_property block.new.now }
+    ensures no_rules { result ≡ 5 → AreOfNoRules rules.now }
+    ensures unfit { result ≡ 6 → (read : List OptimizedRule) × (rules.now ≡ optimized_rules_bytes read)
+        × AreUnfit (optimized_rules_of read) }
+    ensures known { IsBlockStatus result ⊎ (result ≡ 5) }
     ensures unchanged { result ≢ 0 → block.new ≡ block.old }
 {
     match read_optimized_rules(alloc, rules) {
@@ -137,6 +162,23 @@ pub extern "C" fn pest_meta_compile_prepared<'a>(
         }
         Err(BinaryRefusal::Memory) => MEMORY,
         Err(BinaryRefusal::Form) => NO_RULES,
+    }
+}
+
+/// Checks that bytes are a block of this version, as it was made.
+#[unsafe(no_mangle)]
+pub extern "C" fn pest_meta_check(block: &[u8]) -> u8
+    ensures whole { result ≡ 0 → IsWhole block.now }
+    ensures no_block { result ≡ 5 → HasFlaw block.now BlockFlaw.NoBlock }
+    ensures other_version { result ≡ 11 → HasFlaw block.now BlockFlaw.OtherVersion }
+    ensures changed { result ≡ 12 → HasFlaw block.now BlockFlaw.Changed }
+    ensures known { ((result ≡ 0) ⊎ (result ≡ 5)) ⊎ ((result ≡ 11) ⊎ (result ≡ 12)) }
+{
+    match check_block(block) {
+        Ok(()) => ANSWERED,
+        Err(BlockFlaw::NoBlock) => NO_RULES,
+        Err(BlockFlaw::OtherVersion) => OTHER_VERSION,
+        Err(BlockFlaw::Changed) => CHANGED,
     }
 }
 
@@ -154,7 +196,10 @@ pub extern "C" fn pest_meta_run<'a>(
     end: &mut usize,
 ) -> u8
     ensures told { result ≢ 3 → IsTold block.now rule text.now from steps nodes.new.now end.new result }
+    ensures start { result ≢ 3 → HasStart text.now from }
+    ensures no_start { result ≡ 3 → HasStart text.now from → ⊥ }
     ensures unchanged { result ≢ 0 → nodes.new ≡ nodes.old }
+    ensures end { result ≢ 0 → result ≢ 1 → end.new ≡ end.old }
 {
     let Some(start) = start_in(text, from) else {
         return NO_TEXT;
@@ -187,6 +232,9 @@ pub extern "C" fn pest_meta_expected<'a>(
     rows: &mut &'a [u32],
 ) -> u8
     ensures expected { result ≡ 0 → AreTold block.now rule text.now from place steps rows.new.now }
+    ensures refused { result ≢ 0 → result ≢ 3 → IsRefusalTold block.now rule text.now from steps result }
+    ensures start { result ≢ 3 → HasStart text.now from }
+    ensures no_start { result ≡ 3 → HasStart text.now from → ⊥ }
     ensures unchanged { result ≢ 0 → rows.new ≡ rows.old }
 {
     let Some(start) = start_in(text, from) else {

@@ -1,6 +1,6 @@
 //! The head of a block: its version, and the sum of its sections.
 ghost use Rattle.std.specs.Prelude.{◌≡◌, IfErr, IfNone, IfOk, IfSome, OnOk, drop};
-ghost use Rattle.matcher_engine.specs.Blocks.{BeginsOtherwise, HasFlaw, IsBlock, IsWhole, part_of, sum_of};
+ghost use Rattle.matcher_engine.specs.Blocks.{HasFlaw, IsBlock, IsWhole, part_of, sum_of};
 
 use format_code::sections::section;
 use std::alloc::{AllocError, Global};
@@ -17,13 +17,15 @@ const SUM: usize = 8;
 /// Where the sections begin, in bytes.
 const SECTIONS: usize = 16;
 
-/// The reason why bytes are not a block.
+/// The reason why bytes are not a block of this version, as it was made.
 #[derive(Clone, Copy, Debug, PartialEq, Eq)]
 pub enum BlockFlaw {
-    /// They do not begin as a block, or the sum in the head is not that of the sections.
+    /// They do not begin as a block.
     NoBlock,
     /// They are a block of another version.
     OtherVersion,
+    /// The sum in the head is not that of the sections.
+    Changed,
 }
 
 /// Returns the sum of bytes: FNV-1a of 64 bits.
@@ -69,7 +71,7 @@ pub(crate) fn with_head(alloc: Global, sections: &[u8]) -> Result<Vec<u8>, Alloc
 /// Returns why bytes are not the beginning of a block of this version, if they are not.
 pub(crate) fn find_flaw(block: &[u8]) -> Option<BlockFlaw>
     ensures some { IfSome result (λ flaw. IsBlock block.now → ⊥) }
-    ensures flaw { IfSome result (λ flaw. BeginsOtherwise block.now flaw) }
+    ensures flaw { IfSome result (λ flaw. HasFlaw block.now flaw) }
     ensures none { IfNone result (IsBlock block.now) }
 {
     if block.starts_with(&HEAD) {
@@ -95,6 +97,6 @@ pub fn check_block(block: &[u8]) -> Result<(), BlockFlaw>
     if bytes_from(block, SUM).starts_with(&sum) {
         Ok(())
     } else {
-        Err(BlockFlaw::NoBlock)
+        Err(BlockFlaw::Changed)
     }
 }

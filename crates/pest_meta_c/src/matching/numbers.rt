@@ -1,33 +1,15 @@
 //! Tokens, and the rules that are expected at a failure, as numbers.
-ghost use Rattle.std.specs.Prelude.{◌≡◌, ◌∷◌, [], ◌++◌, IfOk, OnOk, chars};
-ghost use Rattle.base_ast.specs.Optimized.{optimized_rules_of};
+ghost use Rattle.std.specs.Prelude.{◌≡◌, ◌∷◌, [], ◌++◌, IfOk, OnOk};
 ghost use Rattle.base_language.specs.Language.State.{Classes, State};
 ghost use Rattle.base_language.specs.Language.Text.{Text};
 ghost use Rattle.matcher_engine.specs.Matchers.{grammar_in};
 ghost use Rattle.matcher_engine.specs.Preorders.{HasPreorder};
 ghost use Rattle.matcher_engine.specs.Walks.{visit_of, visits_left};
-ghost use Rattle.matcher_program.specs.ExpectedNames.{name_texts};
-ghost use Rattle.pest_meta_c.specs.Numbers.{failure_numbers, match_numbers, numbers_of, rule_number, rule_numbers, visit_numbers};
+ghost use Rattle.pest_meta_c.specs.Numbers.{match_numbers, numbers_of, row_numbers, visit_numbers};
 
-use base_ast::optimized::OptimizedRule;
 use matcher_engine::matcher::{Matcher, Preorder};
 use matcher_engine::walk::{TreeWalk, Visit};
-use matcher_program::texts::same;
 use std::alloc::{AllocError, Global};
-
-/// Returns one more than the index of the last rule of a name, or the number after all rules if none has it.
-fn rule_number(rules: &[OptimizedRule], name: &str) -> usize
-    ensures { result ≡ rule_number (optimized_rules_of rules.now) (chars name.now) }
-{
-    let mut below = rules.len();
-    while below > 0 {
-        below -= 1;
-        if same(rules[below].name.as_str(), name) {
-            return below + 1;
-        }
-    }
-    rules.len() + 1
-}
 
 /// Appends three numbers.
 fn push_three(
@@ -94,34 +76,27 @@ pub(crate) fn match_numbers(
     Ok(numbers)
 }
 
-/// Appends the numbers of names.
-fn push_names(
-    numbers: &mut Vec<usize>,
-    rules: &[OptimizedRule],
-    names: &[&str],
-) -> Result<(), AllocError>
-    ensures { OnOk result (numbers.new.items
-        ≡ numbers.old.items ++ rule_numbers (optimized_rules_of rules.now) (name_texts names.now)) }
+/// Appends the numbers of rules, by their indices.
+fn push_rows(numbers: &mut Vec<usize>, rows: &[u32]) -> Result<(), AllocError>
+    ensures { OnOk result (numbers.new.items ≡ numbers.old.items ++ row_numbers rows.now) }
 {
-    for name in names {
-        numbers.push(rule_number(rules, name))?;
+    for row in rows {
+        numbers.push(*row as usize + 1)?;
     }
     Ok(())
 }
 
-/// Returns the position of a failure, and the numbers of the rules that are expected there. The only error is
-/// an allocation failure.
+/// Returns the position of a failure, and the numbers of the rules that are expected there, by their indices.
+/// The only error is an allocation failure.
 pub(crate) fn failure_numbers(
     alloc: Global,
-    rules: &[OptimizedRule],
     place: usize,
-    names: &[&str],
+    rows: &[u32],
 ) -> Result<Vec<usize>, AllocError>
-    ensures { IfOk result (λ numbers. numbers.items
-        ≡ failure_numbers (optimized_rules_of rules.now) place (name_texts names.now)) }
+    ensures { IfOk result (λ numbers. numbers.items ≡ place ∷ row_numbers rows.now) }
 {
     let mut numbers = Vec::new(alloc);
     numbers.push(place)?;
-    push_names(&mut numbers, rules, names)?;
+    push_rows(&mut numbers, rows)?;
     Ok(numbers)
 }

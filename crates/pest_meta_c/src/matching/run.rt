@@ -1,7 +1,6 @@
 //! A run of a rule on a text.
 ghost use Rattle.std.specs.Prelude.{◌≡◌, chars};
 ghost use Rattle.base_ast.specs.Optimized.{optimized_rules_of};
-ghost use Rattle.matcher_program.specs.ExpectedNames.{name_texts};
 ghost use Rattle.pest_meta_c.specs.MatchOutcomes.{IsFailureOutcome, IsMatchOutcome, IsPreparedOutcome, IsRunOutcome, stopped_outcome, unfit_outcome};
 
 use crate::matching::numbers::{failure_numbers, match_numbers};
@@ -63,8 +62,8 @@ fn run(alloc: Global, rules: &[OptimizedRule], rule: &str, text: &str, steps: u6
         },
         Err(Refusal::UnknownRule(_)) => MatchOutcome::NoRule,
         Err(Refusal::NoMatch(place)) => {
-            match matcher.expected_at(alloc, rule, text, place, steps) {
-                Ok(names) => failed_outcome(alloc, rules, place, &names),
+            match matcher.expected_rows(alloc, rule, text, place, steps) {
+                Ok(rows) => failed_outcome(alloc, place, &rows),
                 Err(Refusal::UnknownRule(_)) => MatchOutcome::NoRule,
                 Err(Refusal::NoMatch(_)) => unreachable!(),
                 Err(Refusal::Stopped(stop)) => stopped_outcome(stop),
@@ -74,16 +73,11 @@ fn run(alloc: Global, rules: &[OptimizedRule], rule: &str, text: &str, steps: u6
     }
 }
 
-/// Returns the outcome of a rule that fails at a position, where these names are expected.
-fn failed_outcome(
-    alloc: Global,
-    rules: &[OptimizedRule],
-    place: usize,
-    names: &[&str],
-) -> MatchOutcome
-    ensures { IsFailureOutcome (optimized_rules_of rules.now) place (name_texts names.now) result }
+/// Returns the outcome of a rule that fails at a position, where the rules of these indices are expected.
+fn failed_outcome(alloc: Global, place: usize, rows: &[u32]) -> MatchOutcome
+    ensures { IsFailureOutcome place rows.now result }
 {
-    match failure_numbers(alloc, rules, place, names) {
+    match failure_numbers(alloc, place, rows) {
         Ok(numbers) => MatchOutcome::Failed(numbers),
         Err(_) => MatchOutcome::Memory,
     }

@@ -1,4 +1,4 @@
-use Rattle.std.proofs.Common.{◌≡◌, ◌∙◌, ◌+◌, ◌<◌, List, ap, arith, get_or, length, suc, sym, take, ℕ}
+use Rattle.std.proofs.Common.{◌≡◌, ◌∙◌, ◌+◌, ◌<◌, List, [], ◌∷◌, ap, arith, get_or, length, refl, suc, sym, take, ℕ}
 use Rattle.std.proofs.Math.Seq.{take-length, take-suc}
 use Rattle.std.proofs.lemmas.List.Sums.{fold_push}
 use Rattle.matcher_engine.specs.Blocks.{next_sum, sum_of}
@@ -14,8 +14,19 @@ one_more bytes i sum l e =
     ∙ (sym (fold_push next_sum 14695981039346656037 (take i bytes) (get_or bytes i 0))
     ∙ (ap sum_of (sym (take-suc bytes i 0 l)) ∙ ap (λ k. sum_of (take k bytes)) next))
 
+-- the sum of no bytes
+none : (bytes : List ℕ) → 14695981039346656037 ≡ sum_of (take 0 bytes)
+unfolding sum_of
+none [] = refl
+none (b ∷ bytes) = refl
+
+pub loop-byte-init : goal.loop-byte-init
+loop-byte-init c = none c.args.bytes.now
+
 pub loop-byte-preserved : goal.loop-byte-preserved
-loop-byte-preserved c = one_more c.args.bytes.now c.loop-byte.byte-index c.loop-byte.sum c.loop-byte-test.true c.loop-byte.invariant
+loop-byte-preserved c =
+    ap (λ b. next_sum c.loop-byte.sum b) c.from.ensures
+    ∙ one_more c.args.bytes.now c.loop-byte.byte-index c.loop-byte.sum c.loop-byte-test.true c.loop-byte.invariant
 
 pub returns : goal.returns
 returns c =

@@ -1,9 +1,8 @@
-use Rattle.std.proofs.Common.{◌≡◌, ◌∙◌, ◌++◌, List, ap, ap₂, drop, nat_eq, refl, subst, sym, true, ℕ}
+use Rattle.std.proofs.Common.{◌≡◌, ◌∙◌, ◌++◌, List, ap, drop, refl, subst, sym, ℕ}
 use Rattle.std.specs.Int.{to_le_bytes, w64}
-use Rattle.std.specs.List.{starts_with}
 use Rattle.std.proofs.lemmas.Bool.Decides.{Decides-eqb}
 use Rattle.std.proofs.lemmas.Slice.Eq.{starts_is}
-use Rattle.matcher_engine.specs.Blocks.{IsWhole, has_sum, head, sum_of}
+use Rattle.matcher_engine.specs.Blocks.{IsWhole, head, sum_of}
 use Rattle.matcher_engine.proofs.block.head.with_head.Goals as goal
 
 -- a head, the sum and the sections are a whole block
@@ -21,11 +20,13 @@ pub returns-clause-whole : goal.returns-clause-whole
 returns-clause-whole c =
     let sections = c.args.sections.now in
     let front = c.in_ok-extend_from_slice.ensures.items ∙ ap (λ xs. xs ++ head) c.new-block.ensures.items in
-    let e = parts c.extend_from_slice-3.new.self.items c.extend_from_slice.new.self.items c.extend_from_slice-2.new.self.items (to_le_bytes w64 c.sum_of.result) sections front c.in_ok-extend_from_slice-2.ensures.items c.in_ok-extend_from_slice-3.ensures.items in
+    let sum = c.in_ok-extend_from_slice-2.ensures.items ∙ ap (λ bs. c.extend_from_slice.new.self.items ++ bs) c.to_le_bytes.ensures in
+    let e = parts c.extend_from_slice-3.new.self.items c.extend_from_slice.new.self.items c.extend_from_slice-2.new.self.items (to_le_bytes w64 c.sum_of.result) sections front sum c.in_ok-extend_from_slice-3.ensures.items in
     subst IsWhole (sym (e ∙ ap (λ n. (head ++ to_le_bytes w64 n) ++ sections) c.sum_of.ensures)) (whole sections)
 
 pub returns-clause-sections : goal.returns-clause-sections
 returns-clause-sections c =
     let sections = c.args.sections.now in
     let front = c.in_ok-extend_from_slice.ensures.items ∙ ap (λ xs. xs ++ head) c.new-block.ensures.items in
-    ap (drop 16) (parts c.extend_from_slice-3.new.self.items c.extend_from_slice.new.self.items c.extend_from_slice-2.new.self.items (to_le_bytes w64 c.sum_of.result) sections front c.in_ok-extend_from_slice-2.ensures.items c.in_ok-extend_from_slice-3.ensures.items)
+    let sum = c.in_ok-extend_from_slice-2.ensures.items ∙ ap (λ bs. c.extend_from_slice.new.self.items ++ bs) c.to_le_bytes.ensures in
+    ap (drop 16) (parts c.extend_from_slice-3.new.self.items c.extend_from_slice.new.self.items c.extend_from_slice-2.new.self.items (to_le_bytes w64 c.sum_of.result) sections front sum c.in_ok-extend_from_slice-3.ensures.items)

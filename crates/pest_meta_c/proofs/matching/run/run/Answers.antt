@@ -2,30 +2,27 @@ use Rattle.std.proofs.Common.{◌≡◌, subst, sym, chars}
 use Rattle.base_ast.specs.Optimized.{optimized_rules_of}
 use Rattle.base_language.specs.Language.Expression.{Grammar}
 use Rattle.matcher_engine.specs.Matchers.{grammar_in, properties_in}
-use Rattle.pest_meta_c.specs.MatchOutcomes.{HasMatched, IsRunOutcome, IsFailureOutcome, stopped_outcome}
+use Rattle.pest_meta_c.specs.MatchOutcomes.{HasMatched, IsRunOutcome, stopped_outcome}
 use Rattle.pest_meta_c.specs.declared.matching.outcome.MatchOutcome.{MatchOutcome}
-use Rattle.matcher_program.specs.ExpectedNames.{name_texts}
 use Rattle.pest_meta_c.proofs.Running.{failed, matched, stopped}
 use Rattle.pest_meta_c.proofs.matching.run.run.Goals as goal
 
-pub returns-in-Ok-expected_at : goal.returns-in-Ok-expected_at
-returns-in-Ok-expected_at c =
+pub returns-in-Ok-expected_rows : goal.returns-in-Ok-expected_rows
+returns-in-Ok-expected_rows c =
     let m = c.in-Ok.matcher in
     let refused = rw c.in-Err-NoMatch.field-0-is at c.in-Err-NoMatch.ensures.refused in
-    let names = c.in-Ok-expected_at.ensures.expected in
     let told = rw c.deref.ensures.value at c.failed_outcome.ensures in
-    let F : Grammar → Type 0 = λ g. IsFailureOutcome g c.in-Err-NoMatch.place (name_texts c.in-Ok-expected_at.names.items) c.failed_outcome.result in
     let P : Grammar → Type 0 = λ g. IsRunOutcome g (chars c.args.rule.now) c.args.text.now c.args.steps c.failed_outcome.result in
     subst P c.in-Ok.ensures.means
-    (failed (grammar_in m) (properties_in m) (chars c.args.rule.now) c.args.text.now c.args.steps c.in-Err-NoMatch.place c.in-Ok-expected_at.names.items c.failed_outcome.result c.in-Ok.ensures.fits refused names (subst F (sym c.in-Ok.ensures.means) told))
+    (failed (grammar_in m) (properties_in m) (chars c.args.rule.now) c.args.text.now c.args.steps c.in-Err-NoMatch.place c.in-Ok-expected_rows.rows.items c.failed_outcome.result c.in-Ok.ensures.fits refused c.in-Ok-expected_rows.ensures.expected told)
 
 -- a run that was stopped while names were looked for
 pub returns-in-Err-NoMatch : goal.returns-in-Err-NoMatch
 returns-in-Err-NoMatch c =
     let m = c.in-Ok.matcher in
-    let why = c.in-Err-Stopped-expected_at.stop in
-    let says = rw c.in-Err-Stopped-expected_at.field-0-is at c.in-Err-Stopped-expected_at.ensures.refused in
-    let same : c.stopped_outcome.result ≡ stopped_outcome why = rw c.in-Err-Stopped-expected_at.field-0-is at c.stopped_outcome.ensures in
+    let why = c.in-Err-Stopped-expected_rows.stop in
+    let says = rw c.in-Err-Stopped-expected_rows.field-0-is at c.in-Err-Stopped-expected_rows.ensures.refused in
+    let same : c.stopped_outcome.result ≡ stopped_outcome why = rw c.in-Err-Stopped-expected_rows.field-0-is at c.stopped_outcome.ensures in
     let P : MatchOutcome → Type 0 = λ o. IsRunOutcome (optimized_rules_of c.args.rules.now) (chars c.args.rule.now) c.args.text.now c.args.steps o in
     let Q : Grammar → Type 0 = λ g. IsRunOutcome g (chars c.args.rule.now) c.args.text.now c.args.steps (stopped_outcome why) in
     subst P (sym same) (subst Q c.in-Ok.ensures.means (stopped (grammar_in m) (properties_in m) (chars c.args.rule.now) c.args.text.now c.args.steps why c.utf8.text c.in-Ok.ensures.fits says))
