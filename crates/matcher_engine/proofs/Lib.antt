@@ -1,13 +1,13 @@
 pub mod Bytes
 pub mod Known
 pub mod OneAnswer
-pub mod OneDerivation
 pub mod OneSoundness
 pub mod Preorder
 pub mod Results
 pub mod Rows
 pub mod RuleSets
 pub mod Sound
+pub mod Traced
 pub mod TreeNames
 pub mod Totals
 pub mod Uniqueness

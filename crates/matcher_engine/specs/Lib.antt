@@ -5,3 +5,4 @@ pub mod Reasons
 pub mod Runs
 pub mod Soundness
 pub mod Walks
+pub mod FailurePaths

@@ -4,4 +4,5 @@
 pub mod codes;
 mod entries;
 pub mod matcher;
+pub mod paths;
 pub mod walk;
