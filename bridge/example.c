@@ -125,6 +125,12 @@ static void run_no_block(const uint8_t *wrong, const uint8_t *prepared, size_t p
     printf("compile of no grammar: status %d\n", status);
     status = pest_meta_compile_prepared(prepared, prepared_len, &block);
     printf("compile_prepared: status %d, begins with %.4s\n", status, (const char *)block.at);
+    status = pest_meta_check(block.at, block.count);
+    printf("check: status %d\n", status);
+    memcpy(out, block.at, block.count);
+    out[block.count - 1] ^= 1;
+    status = pest_meta_check(out, block.count);
+    printf("check of a changed block: status %d\n", status);
     status = pest_meta_run(block.at, block.count, 7, wrong, 0, 0, UINT64_MAX, &nodes, &end);
     printf("run by an unknown rule: status %d\n", status);
     status = pest_meta_run(block.at + 1, block.count - 1, 0, wrong, 0, 0, UINT64_MAX, &nodes, &end);

@@ -62,7 +62,7 @@ __all__ = [
 _LIBRARY = "libpest_meta_c.so.1"
 _FORMAT = 1
 _ANSWERED, _REFUSED, _MEMORY, _NO_TEXT, _NO_ROOM = range(5)
-_NO_BLOCK, _UNFIT, _NO_RULE, _OUT_OF_STEPS, _EMPTY_STACK, _LONG_TEXT, _OTHER_VERSION = range(5, 12)
+_NO_BLOCK, _UNFIT, _NO_RULE, _OUT_OF_STEPS, _EMPTY_STACK, _LONG_TEXT, _OTHER_VERSION, _CHANGED = range(5, 13)
 _MOST_STEPS = 2**64 - 1
 # The steps that each byte of a text is allowed where no limit is given, and the bytes by which each counts for longer.
 _STEPS_PER_BYTE = _MORE_BYTES = 1_000
@@ -407,20 +407,31 @@ def compile(grammar: str) -> bytes:
 
 
 def load(block: bytes) -> Matcher:
-    """The matcher of a compiled grammar. Raises ValueError where the bytes are none of this version."""
-    head = block[:8]
-    if head[:4] != b"pest":
-        raise ValueError("the bytes are no compiled grammar")
-    if head != b"pest\1\0\0\0":
-        raise ValueError("the grammar was compiled by another version: compile it again")
+    """The matcher of a compiled grammar. Raises ValueError where the bytes are none of this version, or were changed."""
+    block = bytes(block)
+    status = _library().pest_meta_check(block, len(block))
+    if status != _ANSWERED:
+        raise ValueError(_FLAWS[status])
     matcher = Matcher.__new__(Matcher)
-    matcher._take(bytes(block))
+    matcher._take(block)
     return matcher
+
+
+# Why bytes are not loaded, by the status.
+_FLAWS = {
+    _NO_BLOCK: "the bytes are no compiled grammar",
+    _OTHER_VERSION: "the grammar was compiled by another version: compile it again",
+    _CHANGED: "the bytes are those of a compiled grammar, changed",
+}
+
+
+# Bytes before the sections of a block: what it is, its version, and its sum.
+_HEAD_BYTES = 16
 
 
 def _names(block: bytes) -> Iterator[str]:
     """The names of the rules of a block."""
-    names = _section(block[8:], 2)
+    names = _section(block[_HEAD_BYTES:], 2)
     count = int.from_bytes(names[:4], "little") // 4 - 1
     return (_section(names, number).decode() for number in range(count))
 
@@ -630,10 +641,11 @@ def _declare_runs(library: Any) -> None:
     rule, place = ctypes.c_uint32, ctypes.c_size_t
     run = [*text, rule, *text, place]
     library.pest_meta_compile.argtypes = [*text, found]
+    library.pest_meta_check.argtypes = text
     library.pest_meta_run.argtypes = [*run, ctypes.c_uint64, found, ctypes.POINTER(ctypes.c_size_t)]
     library.pest_meta_expected.argtypes = [*run, place, ctypes.c_uint64, found]
-    for function in (library.pest_meta_compile, library.pest_meta_run, library.pest_meta_expected):
-        function.restype = ctypes.c_uint8
+    for name in ("compile", "check", "run", "expected"):
+        getattr(library, f"pest_meta_{name}").restype = ctypes.c_uint8
 
 
 # What the library hands out is freed by the C library.

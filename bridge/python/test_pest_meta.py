@@ -222,6 +222,27 @@ class Matching(unittest.TestCase):
         self.assertEqual(len(many.trees[0].children), 50_000)
 
 
+class Loading(unittest.TestCase):
+    def test_a_compiled_grammar_is_loaded(self):
+        block = pest_meta.compile("list = { item ~ (\",\" ~ item)* } item = @{ ASCII_DIGIT+ }")
+        matcher = pest_meta.load(block)
+        self.assertEqual(matcher.names, ("list", "item"))
+        trees = matcher.parse("list", "1,23").trees
+        self.assertEqual([tree.text for tree in trees[0].children], ["1", "23"])
+
+    def test_bytes_that_are_none_are_told_apart(self):
+        block = pest_meta.compile("a = { \"x\" }")
+        version = int.from_bytes(block[4:8], "little") + 1
+        other = block[:4] + version.to_bytes(4, "little") + block[8:]
+        for at in range(8, len(block)):
+            changed = block[:at] + bytes([block[at] ^ 1]) + block[at + 1 :]
+            with self.assertRaisesRegex(ValueError, "changed"):
+                pest_meta.load(changed)
+        for bytes_, why in ((other, "another version"), (b"", "no compiled grammar"), (block[1:], "no compiled grammar")):
+            with self.assertRaisesRegex(ValueError, why):
+                pest_meta.load(bytes_)
+
+
 class Limits(unittest.TestCase):
     def test_depth_is_no_matter(self):
         depth = 50_000

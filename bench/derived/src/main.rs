@@ -1,9 +1,10 @@
-//! How long the parsers take that pest_derive makes of the grammars of bench/matching: derived NAME TEXT [TURNS].
+//! How long the parsers take that pest_derive makes of the grammars of bench/matching: derived NAME TEXT [TURNS [walk]].
 //!
 //! NAME is a grammar's, or `by_hand` for the parser of JSON in `by_hand.rs`. TEXT names a file. Without TURNS it prints
 //! how many tokens the parser finds, and a checksum of them, or where it fails. With TURNS the text is parsed so many
 //! times, and a line has its bytes, the milliseconds of processor time that one parse takes, the least of all, and the
-//! million bytes a second. bench/matching writes the grammars.
+//! million bytes a second. With `walk` the rule and the span of each pair are read, too. bench/matching writes the
+//! grammars, and bridge/figures builds this program a second time, over the crates of bridge/.
 mod by_hand;
 
 use pest::error::InputLocation;
@@ -15,6 +16,17 @@ const FACTOR: u64 = 0x100_0000_01b3;
 
 /// What the checksum takes in for the end of a tree.
 const END: u64 = 256;
+
+/// What a run prints.
+#[derive(Clone, Copy)]
+enum Wanted {
+    /// What the parser finds.
+    Answer,
+    /// The time of so many parses.
+    Parse(u32),
+    /// The time of so many parses, with a walk over all pairs.
+    Walk(u32),
+}
 
 extern "C" {
     /// The processor time of this process, in microseconds.
@@ -77,18 +89,32 @@ fn measure<T>(text: &str, turns: u32, parse: impl Fn() -> Option<T>) {
     println!("{bytes:>9} bytes {milliseconds:>10.3} ms {rate:>8.1} MB/s");
 }
 
-fn run<P: Parser<R>, R: RuleType>(rule: R, text: &str, turns: Option<u32>) {
-    match turns {
-        Some(turns) => measure(text, turns, || P::parse(rule, text).ok()),
-        None => describe::<P, R>(rule, text),
+/// The sum of the lengths of all pairs whose rule is another than that of the pair before.
+fn walk<R: RuleType>(pairs: Pairs<R>) -> usize {
+    let (mut sum, mut before) = (0, None);
+    for pair in pairs.flatten() {
+        let (rule, span) = (pair.as_rule(), pair.as_span());
+        if before != Some(rule) {
+            sum += span.end() - span.start();
+        }
+        before = Some(rule);
+    }
+    sum
+}
+
+fn run<P: Parser<R>, R: RuleType>(rule: R, text: &str, wanted: Wanted) {
+    match wanted {
+        Wanted::Parse(turns) => measure(text, turns, || P::parse(rule, text).ok()),
+        Wanted::Walk(turns) => measure(text, turns, || P::parse(rule, text).ok().map(walk)),
+        Wanted::Answer => describe::<P, R>(rule, text),
     }
 }
 
 /// What `run` does, by the parser that is written by hand.
-fn run_by_hand(text: &str, turns: Option<u32>) {
-    match turns {
-        Some(turns) => measure(text, turns, || by_hand::read(text)),
-        None => match by_hand::read(text) {
+fn run_by_hand(text: &str, wanted: Wanted) {
+    match wanted {
+        Wanted::Parse(turns) | Wanted::Walk(turns) => measure(text, turns, || by_hand::read(text)),
+        Wanted::Answer => match by_hand::read(text) {
             Some(tokens) => println!("{} tokens, {}", tokens.len(), by_hand::checksum(&tokens, mix, END)),
             None => println!("no match"),
         },
@@ -103,9 +129,9 @@ macro_rules! parsers {
             pub struct Derived;
         })*
 
-        fn run_named(name: &str, text: &str, turns: Option<u32>) {
+        fn run_named(name: &str, text: &str, wanted: Wanted) {
             match name {
-                $(stringify!($name) => run::<$name::Derived, _>($name::Rule::$start, text, turns),)*
+                $(stringify!($name) => run::<$name::Derived, _>($name::Rule::$start, text, wanted),)*
                 _ => panic!("no grammar {name}"),
             }
         }
@@ -127,14 +153,16 @@ parsers! {
 
 fn main() {
     let words: Vec<String> = std::env::args().skip(1).collect();
-    let (name, file, turns) = match &words[..] {
-        [name, file] => (name, file, None),
-        [name, file, turns] => (name, file, Some(turns.parse().expect("the number of turns"))),
-        _ => panic!("derived NAME TEXT [TURNS]"),
+    let turns = |word: &String| word.parse().expect("the number of turns");
+    let (name, file, wanted) = match &words[..] {
+        [name, file] => (name, file, Wanted::Answer),
+        [name, file, times] => (name, file, Wanted::Parse(turns(times))),
+        [name, file, times, mode] if mode == "walk" => (name, file, Wanted::Walk(turns(times))),
+        _ => panic!("derived NAME TEXT [TURNS [walk]]"),
     };
     let text = std::fs::read_to_string(file).expect("a file of text");
     match name.as_str() {
-        "by_hand" => run_by_hand(&text, turns),
-        _ => run_named(name, &text, turns),
+        "by_hand" => run_by_hand(&text, wanted),
+        _ => run_named(name, &text, wanted),
     }
 }

@@ -2,5 +2,6 @@ pub mod Asking
 pub mod Gaining
 pub mod Indexing
 pub mod Linking
+pub mod Starting
 pub mod Waiting
 pub mod Warned

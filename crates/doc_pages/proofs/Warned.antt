@@ -6,7 +6,7 @@ use Rattle.std.proofs.lemmas.List.Quantifiers.{any-set}
 use Rattle.std.specs.Global.{Vec}
 use Rattle.std.specs.List.{All, Any}
 use Rattle.base_language.proofs.Surveys.{order}
-use Rattle.base_language.specs.Pieces.Saying.{Span, piece_of}
+use Rattle.base_language.specs.Pieces.Saying.{piece_of}
 use Rattle.base_language.specs.declared.runtime.places.Span as code_span
 use Rattle.doc_pages.specs.Warnings.{KeepsWarnings, Warns}
 use Rattle.doc_pages.specs.declared.warnings.RuleWarning.{RuleWarning}

@@ -4,7 +4,8 @@ ghost use Rattle.doc_pages.specs.Links.{AreFactsBelow};
 
 use crate::callers::find_callers;
 use crate::first_sets::{FirstSet, find_first_set, is_nullable};
-use crate::source::RuleSource;
+use crate::source::GrammarSource;
+use crate::starts::find_starts;
 use crate::warnings::{RuleWarning, find_warnings};
 use front_analysis::analyze;
 use front_spanned::ParserRule;
@@ -18,6 +19,8 @@ pub struct RuleFacts<'i> {
     pub callers: Vec<usize>,
     /// Whether it is called implicitly, between the items of sequences and repetitions.
     pub is_implicit: bool,
+    /// Whether a comment of the grammar names it as a start of matching.
+    pub is_start: bool,
     /// The terminals that may begin it.
     pub first_set: FirstSet,
     /// Whether it may match the empty text.
@@ -25,18 +28,25 @@ pub struct RuleFacts<'i> {
     pub warnings: Vec<RuleWarning<'i>>,
 }
 
-/// Finds the facts of rules. The only error is an allocation failure.
+/// Finds the facts of the rules of a text. The only error is an allocation failure.
 pub fn find_facts<'i>(
     alloc: Global,
-    sources: &[RuleSource<'i>],
+    text: &str,
+    source: &GrammarSource<'i>,
     rules: &[ParserRule<'i>],
 ) -> Result<Vec<RuleFacts<'i>>, AllocError>
     ensures each { IfOk result (λ facts. length facts.items ≡ length rules.now) }
     ensures below { IfOk result (λ facts. AreFactsBelow (length rules.now) facts.items) }
 {
     let analysis = analyze(alloc, rules)?;
-    let mut callers = find_callers(alloc, rules.len(), sources, &analysis.grammar.names.places)?;
-    let mut warnings = find_warnings(alloc, sources, rules)?;
+    let mut callers = find_callers(
+        alloc,
+        rules.len(),
+        &source.rules,
+        &analysis.grammar.names.places,
+    )?;
+    let mut warnings = find_warnings(alloc, &source.rules, rules)?;
+    let mut starts = find_starts(alloc, text, rules)?;
     let mut facts = Vec::new(alloc);
     for number in (0..rules.len()).rev() {
         let rule = &rules[number];
@@ -45,6 +55,7 @@ pub fn find_facts<'i>(
         facts.push(RuleFacts {
             callers: called_by,
             is_implicit: is_blank_name(rule.name.as_str()),
+            is_start: starts.pop().unwrap_or(false),
             first_set,
             is_nullable: is_nullable(&analysis, number),
             warnings: warnings.pop().unwrap_or(Vec::new(alloc)),

@@ -408,7 +408,7 @@ fn push_callers(markup: &mut MarkupBuilder<'_>, facts: &RuleFacts<'_>) -> Result
     markup.start(Tag::Dd)?;
     markup.put(Markup::Text(other_use(facts)))?;
     for (place, caller) in facts.callers.iter().enumerate() {
-        push_comma(markup, place > 0 || facts.is_implicit)?;
+        push_comma(markup, place > 0 || facts.is_implicit || facts.is_start)?;
         markup.rule_link(*caller)?;
     }
     markup.close(Tag::Dd)
@@ -418,6 +418,8 @@ fn push_callers(markup: &mut MarkupBuilder<'_>, facts: &RuleFacts<'_>) -> Result
 fn other_use(facts: &RuleFacts<'_>) -> &'static str {
     if facts.is_implicit {
         "sequences and repetitions, implicitly"
+    } else if facts.is_start {
+        "the start of matching"
     } else if facts.callers.is_empty() {
         "no other rule"
     } else {

@@ -9,6 +9,7 @@ mod html;
 mod markdown;
 mod read;
 mod source;
+mod starts;
 mod terms;
 mod warnings;
 

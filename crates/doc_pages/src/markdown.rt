@@ -288,7 +288,7 @@ impl<'t> MarkdownBuilder<'t> {
         self.item(MarkdownWord::UsedIn)?;
         self.other_use(facts)?;
         for (place, caller) in facts.callers.iter().enumerate() {
-            self.comma(place > 0 || facts.is_implicit)?;
+            self.comma(place > 0 || facts.is_implicit || facts.is_start)?;
             self.rule_link(*caller)?;
         }
         self.word(MarkdownWord::LineFeed)
@@ -300,6 +300,8 @@ impl<'t> MarkdownBuilder<'t> {
     {
         if facts.is_implicit {
             self.word(MarkdownWord::Implicitly)
+        } else if facts.is_start {
+            self.text("the start of matching")
         } else if facts.callers.is_empty() {
             self.word(MarkdownWord::NoOtherRule)
         } else {

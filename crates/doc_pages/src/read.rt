@@ -44,10 +44,11 @@ pub fn read_grammar<'i>(alloc: Global, pairs: Pairs<'i, Rule>) -> Result<Grammar
     ensures flawless { OnOk result (first_flaw_of pairs.entry ≡ None) }
     ensures refused { IfErr result (IsReadRefusal (first_flaw_of pairs.entry)) }
 {
+    let text = pairs.get_input();
     let source = read_source(alloc, &pairs)?;
     let spanned = consume_rules_with_spans(alloc, pairs)?;
     let spanned = Deep { value: spanned };
-    let facts = find_facts(alloc, &source.rules, &spanned.value)?;
+    let facts = find_facts(alloc, text, &source, &spanned.value)?;
     let names = names_of(alloc, &spanned.value)?;
     let rules = erase_spans(alloc, spanned.into_inner())?;
     Ok(GrammarDoc {

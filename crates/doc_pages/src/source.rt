@@ -27,7 +27,8 @@ pub struct RuleSource<'i> {
 /// A grammar as it is written.
 #[derive(Drop)]
 pub struct GrammarSource<'i> {
-    /// The lines of its comment, without `//!`.
+    /// The lines of its comment, without `//!`. Those for pest-lint are no part of it, nor are empty lines
+    /// before them.
     pub comment: Vec<&'i str>,
     /// Its rules, in order.
     pub rules: Vec<RuleSource<'i>>,
@@ -90,7 +91,7 @@ impl<'i> SourceReader<'i> {
         match tree.rule {
             Rule::grammar_doc => {
                 let line = self.text_between(tree.start, tree.end);
-                self.source.comment.push(strip_marker(line, "//!"))?;
+                self.add_line(strip_marker(line, "//!"))?;
             }
             Rule::line_doc => {
                 let line = self.text_between(tree.start, tree.end);
@@ -103,6 +104,16 @@ impl<'i> SourceReader<'i> {
             }
             Rule::identifier => self.add_name(tree.start, tree.end)?,
             _ => {}
+        }
+        Ok(())
+    }
+
+    /// Adds a line to the grammar's comment, but for one for pest-lint.
+    fn add_line(&mut self, line: &'i str) -> Result<(), AllocError> {
+        if line.starts_with("pest-lint:") {
+            drop_empty_end(&mut self.source.comment);
+        } else {
+            self.source.comment.push(line)?;
         }
         Ok(())
     }
@@ -152,6 +163,13 @@ impl<'i> SourceReader<'i> {
             return self.add_text(self.end);
         }
         Ok(())
+    }
+}
+
+/// Takes an empty line away that ends a comment.
+fn drop_empty_end(lines: &mut Vec<&str>) {
+    if lines.last().copied() == Some("") {
+        lines.pop();
     }
 }
 

@@ -1,28 +1,21 @@
 -- Fragments of a text, and the comment among lines that names starts.
 use Rattle.std.proofs.Common.{◌≡◌, ◌∙◌, ◌+◌, ◌<◌, ◌≤◌, ◌⊎◌, ℕ, Bool, List, None, Option, Some, [], ◌∷◌, ◌++◌, append_assoc, cond, drop, false, find, get_or, length, map, filter, true, refl, ap, sym, arith, inl, inr}
-use Rattle.std.specs.List.{onto_first, slice_split, take_while}
-use Rattle.std.proofs.lemmas.List.Sums.{take_while-cons}
+use Rattle.std.specs.List.{onto_first, slice_split}
 use Rattle.std.proofs.lemmas.List.{drop_more, map-append}
 use Rattle.std.proofs.Math.ListN.{get_or-map}
 use Rattle.lint_findings.specs.Fragments.{Fragment, fragment_of, placed_from, trimmed}
-use Rattle.lint_findings.specs.Starts.{has_starts, is_remark}
+use Rattle.lint_findings.specs.Starts.{has_starts}
 use Rattle.lint_findings.specs.declared.fragments.Fragment as code
 
 abbrev pub first_comment : List Fragment → Option Fragment
-first_comment lines = find has_starts (take_while is_remark lines)
+first_comment lines = find has_starts lines
 
 -- one line more
-pub first_comment-stop : (line : Fragment) (lines : List Fragment) → is_remark line ≡ false → first_comment (line ∷ lines) ≡ None
-first_comment-stop line lines e = ap (find has_starts) (take_while-cons is_remark line lines ∙ ap (λ b. cond b (line ∷ take_while is_remark lines) []) e)
+pub first_comment-found : (line : Fragment) (lines : List Fragment) → has_starts line ≡ true → first_comment (line ∷ lines) ≡ Some line
+first_comment-found line lines h = ap (λ b. cond b (Some line) (first_comment lines)) h
 
-first_of : (line : Fragment) (lines : List Fragment) → is_remark line ≡ true → first_comment (line ∷ lines) ≡ cond (has_starts line) (Some line) (first_comment lines)
-first_of line lines e = ap (find has_starts) (take_while-cons is_remark line lines ∙ ap (λ b. cond b (line ∷ take_while is_remark lines) []) e)
-
-pub first_comment-found : (line : Fragment) (lines : List Fragment) → is_remark line ≡ true → has_starts line ≡ true → first_comment (line ∷ lines) ≡ Some line
-first_comment-found line lines e h = first_of line lines e ∙ ap (λ b. cond b (Some line) (first_comment lines)) h
-
-pub first_comment-next : (line : Fragment) (lines : List Fragment) → is_remark line ≡ true → has_starts line ≡ false → first_comment (line ∷ lines) ≡ first_comment lines
-first_comment-next line lines e h = first_of line lines e ∙ ap (λ b. cond b (Some line) (first_comment lines)) h
+pub first_comment-next : (line : Fragment) (lines : List Fragment) → has_starts line ≡ false → first_comment (line ∷ lines) ≡ first_comment lines
+first_comment-next line lines h = ap (λ b. cond b (Some line) (first_comment lines)) h
 
 -- where the lines from one on have the comment, so have that line and those behind it
 pub next_line : (lines : List code.Fragment) (i : ℕ) (line : code.Fragment) → i < length lines → line ≡ get_or lines i line

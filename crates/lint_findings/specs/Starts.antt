@@ -1,6 +1,6 @@
 -- Starts that a comment of a text names.
-use Rattle.std.specs.Prelude.{ℕ, ◌+◌, ◌==◌, List, [], Bool, ◌||◌, not, None, Option, Some, codes, chars, drop, filter, find, length, map, nat_eq}
-use Rattle.std.specs.List.{before_first, starts_with, take_while}
+use Rattle.std.specs.Prelude.{ℕ, ◌+◌, ◌==◌, List, [], Bool, not, None, Option, Some, codes, chars, drop, filter, find, length, map, nat_eq}
+use Rattle.std.specs.List.{before_first, starts_with}
 use Rattle.base_language.specs.Language.Builtins.{is_one_of}
 use Rattle.base_language.specs.Language.Text.{Text}
 use Rattle.base_language.specs.Pieces.Saying.{Span, piece}
@@ -13,9 +13,6 @@ is_blank line = length line.text == 0
 abbrev pub is_comment : Fragment → Bool
 is_comment line = starts_with nat_eq line.text (codes "//")
 
-abbrev pub is_remark : Fragment → Bool
-is_remark line = is_blank line || is_comment line
-
 -- how a comment that names starts begins
 abbrev pub start_prefix : List ℕ
 start_prefix = codes "//! pest-lint: start("
@@ -23,10 +20,9 @@ start_prefix = codes "//! pest-lint: start("
 abbrev pub has_starts : Fragment → Bool
 has_starts line = starts_with nat_eq line.text start_prefix
 
--- the comment before the rules of a text that names starts: the first such line, where all lines before it
--- are blank or comments
+-- the comment of a text that names starts: the first such line
 abbrev pub start_comment : List ℕ → Option Fragment
-start_comment text = find has_starts (take_while is_remark (parts_at 10 (whole text)))
+start_comment text = find has_starts (parts_at 10 (whole text))
 
 -- the part of such a comment behind its bracket, up to the next one or to its end
 abbrev pub inside : Fragment → Fragment

@@ -1,6 +1,5 @@
 //! Starts that a comment names.
 ghost use Rattle.std.specs.Prelude.{◌≡◌, IfOk, IfSome, filter, find, map, not, true};
-ghost use Rattle.std.specs.List.{take_while};
 ghost use Rattle.std.specs.Option.{option_map};
 ghost use Rattle.lint_findings.specs.Fragments.{fragment_of, parts_at};
 ghost use Rattle.lint_findings.specs.Starts as spec;
@@ -11,9 +10,9 @@ use std::alloc::{AllocError, Global};
 /// How a comment that names starts begins.
 const PREFIX: &str = "//! pest-lint: start(";
 
-/// The rules with which matching starts, as a text says itself: the names in the first line
-/// `//! pest-lint: start(a, b)` before its rules, in order; none where there is no such line. The time is
-/// linear in the text. The only error is an allocation failure.
+/// The rules with which matching starts, as a text says itself: the names in its first line
+/// `//! pest-lint: start(a, b)`, in order; none where there is no such line. The time is linear in the text.
+/// The only error is an allocation failure.
 pub fn stated_starts<'t>(alloc: Global, text: &'t str) -> Result<Vec<Fragment<'t>>, AllocError>
     ensures { IfOk result (λ names. map fragment_of names.items ≡ spec.stated_starts text.now) }
 {
@@ -24,28 +23,17 @@ pub fn stated_starts<'t>(alloc: Global, text: &'t str) -> Result<Vec<Fragment<'t
     }
 }
 
-/// The comment among lines that names starts, before what is no comment.
+/// The first of some lines that names starts.
 fn start_comment<'t>(lines: &[Fragment<'t>]) -> Option<Fragment<'t>>
     ensures named { IfSome result (λ comment. spec.has_starts (fragment_of comment) ≡ true) }
-    ensures first { option_map fragment_of result ≡ find spec.has_starts
-        (take_while spec.is_remark (map fragment_of lines.now)) }
+    ensures first { option_map fragment_of result ≡ find spec.has_starts (map fragment_of lines.now) }
 {
     for line in lines {
-        if !is_remark(*line) {
-            return None;
-        }
         if has_starts(*line) {
             return Some(*line);
         }
     }
     None
-}
-
-/// Whether a line is blank or a comment.
-fn is_remark(line: Fragment<'_>) -> bool
-    ensures { result ≡ spec.is_remark (fragment_of line.entry) }
-{
-    line.text.is_empty() || is_comment(line)
 }
 
 /// Whether a line without white space around it is a comment.

@@ -1,6 +1,7 @@
 use Rattle.std.proofs.Common.{◌∙◌, ap, arith, length}
 use Rattle.std.proofs.lemmas.List.{length-append}
 use Rattle.std.proofs.lemmas.List.Elements.{All-pop}
+use Rattle.std.proofs.lemmas.List.Sorted.{All-permutation}
 use Rattle.std.specs.List.{All}
 use Rattle.std.specs.Prelude.{◌<◌}
 use Rattle.doc_pages.proofs.Linking.{callers_taken, facts_more}
@@ -19,3 +20,8 @@ loop-number-preserved c =
       facts = facts_more n c.loop-number.facts.items c.push.new.self.items _ c.in_ok-push.ensures.items c.loop-number.invariant.facts
           (callers_taken n c.pop.result c.new.result c.unwrap_or-called_by.result popped.1 c.new.ensures.items c.unwrap_or-called_by.ensures);
     }
+
+pub returns-clause-below : goal.returns-clause-below
+returns-clause-below c =
+    All-permutation (λ f. All (λ r. r < length c.args.rules.now) f.callers.items) c.loop-number.facts.items
+    c.reverse.new.self.items c.reverse.ensures.permutation c.loop-number.invariant.facts

@@ -1,10 +1,10 @@
-use Rattle.std.proofs.Common.{◌≡◌, ◌∙◌, ◌++◌, ap, arith, length, map, subst, sym}
-use Rattle.std.specs.Prelude.{chars, string_bytes}
+use Rattle.std.proofs.Common.{◌≡◌, ◌∙◌, ap, arith, length, subst, sym}
+use Rattle.std.specs.Prelude.{chars}
 use Rattle.std.proofs.lemmas.Grind.{common_steps}
 use Rattle.std.proofs.lemmas.List.{length-map}
 use Rattle.base_ast.specs.Ast.{rules_of}
 use Rattle.doc_markup.specs.Links.{links_of}
-use Rattle.doc_markup.specs.Pages.{AreIndexLinks, AreSections, IsPage}
+use Rattle.doc_markup.specs.Pages.{AreIndexLinks, AreSections}
 use Rattle.doc_pages.proofs.html.html_page.Goals as goal
 
 pub returns : goal.returns
