@@ -40,10 +40,12 @@ can_prop code pc (fused.All set next) = le_prop
 can_prop code pc (fused.ByteAll byte second next fail) = le_prop
 can_prop code pc (fused.CallSwitch table row next fail counts) = le_prop
 can_prop code pc (fused.Gap set stops next slow) = ×_prop le_prop le_prop
+can_prop code pc (fused.GapReturn set stops next slow) = ×_prop le_prop le_prop
 can_prop code pc (fused.OneAll set second next fail) = ×_prop le_prop le_prop
 can_prop code pc fused.Plain = Unit-prop
 can_prop code pc (fused.Byte byte next fail) = Unit-prop
 can_prop code pc (fused.IsByte byte next fail) = Unit-prop
+can_prop code pc (fused.CallCall to outer inner) = Unit-prop
 can_prop code pc (fused.Renew next fail) = Unit-prop
 
 module _ (m : Matcher) where
