@@ -14,6 +14,7 @@ use Rattle.base_language.specs.Language.Meaning as by
 use Rattle.base_language.specs.Language.Meaning.{Does, Run, Skipping, Task, Turns, body_mode, gives_token, seen_from, with_token}
 use Rattle.matcher_code.specs.Laid.{HasOutcome, IsTight, TakesSome, skip_set, span_of, IsSilent}
 use Rattle.matcher_code.specs.Failures.{Failures, both, in_silence, no_failure, unnamed}
+use Rattle.matcher_code.specs.Paths.{told_paths}
 
 -- a state by its parts
 abbrev here : ℕ → Text → List Text → State
@@ -135,10 +136,12 @@ module _ (g : Grammar) (classes : Classes) where
   silently : (m : Mode) (x : Text) (s : State) (r : Rule) (t : State) (p : Bool) → rule_of g x ≡ Some r → gives_token r.type_of m ≡ false
       → Quiet (Run (body_mode r m) r.body) s (either t p) → Quiet (Run m (Ident x)) s (either t p)
   silently m x s r t true h e d =
-      subst (λ us. Quiet (Run m (Ident x)) s (Success t us)) (ap (λ b. if b then Tree r.name s.position t.position None' None' else None') e) (by.call {m = m} h d.0, two_silent (λ place. refl) d.1)
+      let z : (seen_from m && gives_token r.type_of m) ≡ false = ap (λ b. seen_from m && b) e ∙ hidden (seen_from m) in
+      subst (λ us. Quiet (Run m (Ident x)) s (Success t us)) (ap (λ b. if b then Tree r.name s.position t.position None' None' else None') e)
+      (by.call {m = m} h d.0, λ place. ap₂ (λ b i. record { furthest = max (place_of b s (Success t None')) i.furthest; names = told b x place s (Success t None') i.names; paths = told_paths b x place s (Success t None') i.paths }) z (d.1 place))
   silently m x s r t false h e d =
       let z : (seen_from m && gives_token r.type_of m) ≡ false = ap (λ b. seen_from m && b) e ∙ hidden (seen_from m) in
-      (by.call {m = m} h d.0, λ place. ap₂ (λ b i. record { furthest = max (place_of b s Failure) i.furthest; names = told b x place s Failure i.names }) z (d.1 place))
+      (by.call {m = m} h d.0, λ place. ap₂ (λ b i. record { furthest = max (place_of b s Failure) i.furthest; names = told b x place s Failure i.names; paths = told_paths b x place s Failure i.paths }) z (d.1 place))
 
   pub silent_call_of_set : (m : Mode) (x : Text) (r : Rule) (f : ℕ → Bool) → rule_of g x ≡ Some r → gives_token r.type_of m ≡ false
       → HasOutcome g classes (Run (body_mode r m) r.body) (character_outcome f) in_silence → HasOutcome g classes (Run m (Ident x)) (character_outcome f) in_silence

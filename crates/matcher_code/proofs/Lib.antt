@@ -4,6 +4,8 @@ pub mod Trees
 pub mod Reaching
 pub mod Forward
 pub mod LastNames
+pub mod Tracing
+pub mod OneDerivation
 pub mod Leaves
 pub mod CharacterSets
 pub mod Branching

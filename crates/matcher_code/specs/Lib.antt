@@ -10,9 +10,9 @@ pub mod Steps
 pub mod Fused
 pub mod Begun
 pub mod Endings
+pub mod Paths
 pub mod Failures
 pub mod Laid
 pub mod Reached
-pub mod Paths
 pub mod Sizes
 pub mod Results

@@ -1,4 +1,4 @@
-//! Trees, and what a failure records.
+//! Trees, calls, and what a failure records.
 
 /// A tree, followed by its descendants. `start` and `end` are positions in bytes, and `after` is the number
 /// of trees up to its last descendant.
@@ -9,6 +9,13 @@ pub struct TreeNode {
     pub start: u32,
     pub end: u32,
     pub after: u32,
+}
+
+/// A call that counts: the row of its rule, and the position, in bytes, where it begins.
+#[derive(Clone, Copy, Debug, PartialEq, Eq)]
+pub struct OpenCall {
+    pub row: u32,
+    pub start: usize,
 }
 
 /// The records of the end of a continuation frame's part.

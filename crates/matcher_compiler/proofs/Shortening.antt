@@ -12,7 +12,9 @@ use Rattle.base_language.specs.Language.State.{Failure, Mode, None', Success, mo
 use Rattle.base_language.specs.Language.Text.{Text}
 use Rattle.matcher_code.specs.Lists.{is_covered}
 use Rattle.matcher_code.specs.Laid.{Hits, IsSilent, Misses}
+use Rattle.matcher_code.specs.Paths.{paths_at}
 use Rattle.matcher_code.proofs.Characters.{not_and_then}
+use Rattle.matcher_code.proofs.Tracing.{no_paths}
 use Rattle.matcher_program.specs.declared.form.Form.{Form}
 use Rattle.matcher_program.specs.declared.form.Program.{Program}
 use Rattle.matcher_sets.specs.declared.heads.Head.{Head}
@@ -51,8 +53,14 @@ fails_before p m form h ranges rest has q n covers classes fits s hit = go s.res
         let both : (not (is_covered h.ranges.items c) && is_covered ranges c) ≡ true = sym (covers c z.0) ∙ z.1 in
         let free : is_covered h.ranges.items c ≡ false = no_first (is_covered h.ranges.items c) (is_covered ranges c) both in
         let taken : is_covered ranges c ≡ true = second (is_covered h.ranges.items c) (is_covered ranges c) both in
-        let x = fails_outside p (mode_of m) (said p form) h has q classes fits s (misses_of h.ranges.items c cs s.rest e z.0 free) in
-        (subst (Hits ranges) (sym e) (z.0, taken), (x.0, λ place. ap₂ (λ i ns. record { furthest = i; names = ns }) (x.1 ∙ ap (λ b. place_of b s Failure) n) (x.2 n place)))
+        let x = fails_outside p (mode_of m) (said p form) h has q classes fits s (misses_of h.ranges.items c cs s.rest e z.0 free) in (
+          subst (Hits ranges) (sym e) (z.0, taken),
+          (
+            x.0,
+            λ place. ap₂ (λ i ns. record { furthest = i; names = ns; paths = paths_at place x.0 }) (x.1 ∙ ap (λ b. place_of b s Failure) n) (x.2 n place)
+                ∙ ap (λ ps. record { furthest = 0; names = []; paths = ps }) (no_paths place x.0 (x.2 n place)),
+          ),
+        )
 
 -- a form takes a character of its ranges
 ranges_take : (p : Program) (m : Atomicity) (form : Form) (ranges : List (ℕ × ℕ)) → HasRanges p form ranges

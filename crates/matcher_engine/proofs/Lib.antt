@@ -2,13 +2,13 @@ pub mod BlockOutcomes
 pub mod Bytes
 pub mod Known
 pub mod OneAnswer
-pub mod OneDerivation
 pub mod OneSoundness
 pub mod Results
 pub mod Rows
 pub mod RuleSets
 pub mod Sound
 pub mod Sums
+pub mod Traced
 pub mod TreeNames
 pub mod Totals
 pub mod Walking

@@ -21,7 +21,7 @@ use Rattle.matcher_program.specs.declared.answers.Stop.{Stop}
 use Rattle.matcher_program.specs.declared.answers.Stop.TheVariants as stop
 use Rattle.matcher_engine.specs.Preorders.{HasPreorder}
 use Rattle.matcher_engine.specs.declared.matcher.Preorder.{Preorder}
-use Rattle.matcher_engine.proofs.OneDerivation.{Answer, one_answer}
+use Rattle.matcher_code.proofs.OneDerivation.{Answer, one_answer}
 use Rattle.matcher_machine.specs.declared.machine.Machine.{Machine}
 use Rattle.matcher_engine.specs.Reasons.{HasReason}
 use Rattle.matcher_engine.specs.Runs.{HasFound, IsRun}

@@ -1,5 +1,5 @@
 -- What a run of compiled rules says of a rule on a text.
-use Rattle.std.proofs.Common.{◌≡◌, refl, sym, ◌∙◌, ap, subst, ℕ, ◌+◌, ◌-◌, ◌*◌, ◌<◌, ◌≤◌, List, [], Some, chars, drop, length, inl, inr, arith, Bool, map}
+use Rattle.std.proofs.Common.{◌≡◌, refl, sym, ◌∙◌, ap, subst, ℕ, ◌+◌, ◌-◌, ◌*◌, ◌<◌, ◌≤◌, List, [], None, Option, Some, chars, drop, length, inl, inr, arith, Bool, map}
 use Rattle.std.specs.Prelude.{IsUtf8, max}
 use Rattle.std.specs.Str.{IsCharBoundary}
 use Rattle.std.proofs.lemmas.Bool.{cases_lt}
@@ -15,17 +15,18 @@ use Rattle.base_language.specs.Pieces.Span.{position_offset, position_text}
 use Rattle.base_language.specs.declared.runtime.places.Position.{Position}
 use Rattle.matcher_code.specs.Lists.{CodeLists}
 use Rattle.matcher_code.specs.declared.code.Op.TheVariants as op
-use Rattle.matcher_code.specs.Steps.{Config, LacksText, StopsAt, jump, op_at, steps, with_rows}
+use Rattle.matcher_code.specs.Steps.{Config, LacksText, StopsAt, Trace, jump, op_at, steps, with_rows}
 use Rattle.matcher_code.specs.Endings.{IsFound}
+use Rattle.matcher_code.specs.Paths.{paths_at}
 use Rattle.matcher_code.specs.Laid.{IsEnd, IsPoint}
-use Rattle.matcher_code.specs.Reached.{IsAt, Reaches, with_failure, with_success, MayAsk}
+use Rattle.matcher_code.specs.Reached.{IsAt, Reaches, with_failure, with_paths, with_success, MayAsk}
 use Rattle.matcher_code.specs.Sizes.{size}
 use Rattle.matcher_code.proofs.Existence.{Goes, begun, end_stops, finds, found, goes, lacks, stays_ended}
 use Rattle.matcher_code.proofs.Forward.{comes, fail_forward, guard_forward}
 use Rattle.matcher_code.proofs.Reaching.{lacks_stops, reaching, stays_stopped, steps_add, within}
 use Rattle.matcher_machine.specs.declared.machine.Machine.{Machine}
 use Rattle.matcher_machine.specs.declared.machine.RunEnd.TheVariants as ended
-use Rattle.matcher_machine.specs.Machines.{EndsAtLast, config}
+use Rattle.matcher_machine.specs.Machines.{EndsAtLast, EndsIn, config}
 use Rattle.matcher_program.specs.declared.form.Program.{Program}
 use Rattle.matcher_program.specs.Programs.{Fits, name_at, names_of, rule_of_row}
 use Rattle.matcher_program.specs.declared.answers.Stop.TheVariants as stop
@@ -43,12 +44,12 @@ use Rattle.matcher_engine.specs.Reasons.{HasReason, IsLonger, ReadsEmptyStack}
 use Rattle.matcher_engine.specs.Runs.{HasFailed, HasFound, IsFresh}
 use Rattle.matcher_machine.specs.declared.machine.RunEnd.{RunEnd}
 
--- the configuration of a run from a position, where names are asked for at another one
-abbrev pub start_at : ℕ → ℕ → ℕ → Config
-start_at from asked l = record { pc = l; at = from; slots = []; trees = []; stack = []; furthest = 0; asked = asked; names = [] }
+-- the configuration of a run from a position, where names are asked for at another one, with a trace or none
+abbrev pub start_at : ℕ → ℕ → Option Trace → ℕ → Config
+start_at from asked trace l = record { pc = l; at = from; slots = []; trees = []; stack = []; furthest = 0; asked = asked; names = []; trace = trace }
 
 -- a machine before its first step
-pub fresh : (code : CodeLists) (text : List ℕ) (m : Machine) (l from : ℕ) → IsFresh m → config code text m l from ≡ start_at from m.asked l
+pub fresh : (code : CodeLists) (text : List ℕ) (m : Machine) (l from : ℕ) → IsFresh m → config code text m l from ≡ start_at from m.asked None l
 fresh code text m l from f =
     let a = f.slots in
     let b = f.trees in
@@ -95,12 +96,12 @@ ends_by code text m {c = c} {d = d} x l e =
     subst (λ y. IsEnd code y.pc) (sym q) e
 
 module _ (p : Program) (exact : Bool) (code : CodeLists) (is : IsCodeOf exact p code) (n : Text) (i : ℕ) (meant : last_place (grammar_in p) n ≡ Some i)
-    (text : List ℕ) (s : State) (from asked : ℕ) (stands : IsAt text s from []) (asks : MayAsk exact text asked) where
+    (text : List ℕ) (s : State) (from asked : ℕ) (trace : Option Trace) (stands : IsAt text s from []) (asks : MayAsk exact text asked) where
   abbrev task : Task
   task = Run NonAtomicMode (Ident n)
 
   abbrev start : Config
-  start = start_at from asked (i + 3)
+  start = start_at from asked trace (i + 3)
 
   abbrev after : ℕ → Config
   after m = steps code text m start
@@ -191,6 +192,16 @@ module _ (p : Program) (exact : Bool) (code : CodeLists) (is : IsCodeOf exact p 
         let e : op_at code [] (after m).pc ≡ op_at code [] 1 = ap (λ y. op_at code [] y.pc) q in
         let z : op.Halt ≡ op.Lose = sym is.ends.halt ∙ (sym e ∙ h) in cc
 
+  -- the trace of a run that has ended
+  pub traced_as : (m : ℕ) → IsEnd code (after m).pc → (classes : Classes) → Fits p.properties.items classes
+      → (o : Outcome) × (d : Does (grammar_in p) classes task s o) × ((after m).trace ≡ with_paths (number_in (grammar_in p)) (paths_at asked d) trace)
+  traced_as m h classes fits = let y = outcome_of classes fits m h in go y.outcome y.found
+    where
+      go : (o : Outcome) → Does (grammar_in p) classes task s o
+          → (o : Outcome) × (d : Does (grammar_in p) classes task s o) × ((after m).trace ≡ with_paths (number_in (grammar_in p)) (paths_at asked d) trace)
+      go (Success t us) d = (Success t us, d, ap (λ y. y.trace) (same_end code text m (succeeding classes fits d) (inl is.ends.halt) h))
+      go Failure d = (Failure, d, ap (λ y. y.trace) (same_end code text m (failing classes fits d) (inr is.ends.lose) h))
+
   module _ (old new : Machine) (most : ℕ) (same : config code text old (i + 3) from ≡ start) where
     -- the result of a run that found the end of a match
     pub found_as : (end : ℕ) → EndsAtLast code text most (config code text old (i + 3) from) new (ended.Found end)
@@ -210,30 +221,54 @@ module _ (p : Program) (exact : Bool) (code : CodeLists) (is : IsCodeOf exact p 
         let y = outcome_of classes fits x.taken (inr h) in
         lost x.taken new 0 classes fits h (ap (λ c. c.furthest) q) (ap (λ c. c.names) q) y.outcome y.found
 
+  module _ (first : Config) (d : ℕ → ℕ → Config) (stood : (pc at : ℕ) → (d pc at).pc ≡ pc) (most : ℕ) (same : first ≡ start) where
+    -- where a run stands
+    at_pc : (m pc at : ℕ) → steps code text m first ≡ d pc at → (after m).pc ≡ pc
+    at_pc m pc at q = ap (λ c. (steps code text m c).pc) (sym same) ∙ (ap (λ c. c.pc) q ∙ stood pc at)
+
+    -- it stops there, or goes on
+    stops_here : (m pc at : ℕ) → steps code text m first ≡ d pc at → StopsAt (op_at code text pc) (d pc at) → HasStopped (after m)
+    stops_here m pc at q h =
+        let e : after m ≡ d pc at = ap (λ c. steps code text m c) (sym same) ∙ q in
+        subst HasStopped (sym e) (subst (λ l. StopsAt (op_at code text l) (d pc at)) (sym (stood pc at)) h)
+
+    has_stopped : (m pc at : ℕ) → steps code text m first ≡ d pc at → HasStopped (after m) → StopsAt (op_at code text pc) (d pc at)
+    has_stopped m pc at q h =
+        let e : after m ≡ d pc at = ap (λ c. steps code text m c) (sym same) ∙ q in
+        subst (λ l. StopsAt (op_at code text l) (d pc at)) (stood pc at) (subst HasStopped e h)
+
+    -- the end of a run that found a match or failed
+    pub found_end : (end : ℕ) → (x : EndsIn code text most first d (ended.Found end)) → IsEnd code (after x.taken).pc
+    found_end end x = inl (subst (λ l. op_at code [] l ≡ op.Halt) (sym (at_pc x.taken x.ends.0 end x.ends.1)) x.ends.2)
+
+    pub failed_end : (x : EndsIn code text most first d ended.Failed) → IsEnd code (after x.taken).pc
+    failed_end x = inr (subst (λ l. op_at code [] l ≡ op.Lose) (sym (at_pc x.taken x.ends.0 x.ends.1 x.ends.2)) x.ends.3)
+
     -- where a run stands that has not ended
-    no_end : (m pc at : ℕ) → after m ≡ config code text new pc at → (op_at code text pc ≡ op.Halt → ⊥) → (op_at code text pc ≡ op.Lose → ⊥) → IsEnd code (after m).pc → ⊥
-    no_end m pc at q h k e = elim e [ inl a ↦ h (subst (λ c. op_at code [] c.pc ≡ op.Halt) q a) | inr a ↦ k (subst (λ c. op_at code [] c.pc ≡ op.Lose) q a) ]
+    no_end : (m pc at : ℕ) → steps code text m first ≡ d pc at → (op_at code text pc ≡ op.Halt → ⊥) → (op_at code text pc ≡ op.Lose → ⊥) → IsEnd code (after m).pc → ⊥
+    no_end m pc at q h k e = elim e [
+      | inl a ↦ h (subst (λ l. op_at code [] l ≡ op.Halt) (at_pc m pc at q) a)
+      | inr a ↦ k (subst (λ l. op_at code [] l ≡ op.Lose) (at_pc m pc at q) a)
+    ]
 
     -- of a run that was stopped
-    stopped_as : (limit : ℕ) → 4 * limit ≤ most → EndsAtLast code text most (config code text old (i + 3) from) new ended.OutOfSteps
+    stopped_as : (limit : ℕ) → 4 * limit ≤ most → EndsIn code text most first d ended.OutOfSteps
         → IsStoppedFrom (grammar_in p) p.properties.items n s limit stop.OutOfSteps
-    stopped_as limit l x classes fits o d =
-        let q : after x.taken ≡ config code text new x.ends.0 x.ends.1 = ap (λ c. steps code text x.taken c) (sym same) ∙ x.ends.2 in
-        let less = unfinished classes fits x.taken (λ z. x.ends.4 (subst HasStopped q (end_stops code text (after x.taken) z))) o d in
-        omega (arith, less, x.ends.3, l, same_size d)
+    stopped_as limit l x classes fits o found =
+        let less = unfinished classes fits x.taken (λ z. x.ends.4 (has_stopped x.taken x.ends.0 x.ends.1 x.ends.2 (end_stops code text (after x.taken) z))) o found in
+        omega (arith, less, x.ends.3, l, same_size found)
 
-    longer_as : (limit : ℕ) → 4 * limit ≤ most → EndsAtLast code text most (config code text old (i + 3) from) new ended.OutOfSteps
+    longer_as : (limit : ℕ) → 4 * limit ≤ most → EndsIn code text most first d ended.OutOfSteps
         → (classes : Classes) → Fits p.properties.items classes → IsLonger (grammar_in p) classes n s limit
     longer_as limit l x classes fits = go (goes_here classes fits x.taken)
       where
         stopped : (j : ℕ) → j ≤ x.taken → LacksText (op_at code text (after j).pc) (after j) → ⊥
         stopped j h z =
-            let q : after x.taken ≡ config code text new x.ends.0 x.ends.1 = ap (λ c. steps code text x.taken c) (sym same) ∙ x.ends.2 in
             let e : j + (x.taken - j) ≡ x.taken = omega (arith, h) in
             let w = lacks_stops code text (op_at code text (after j).pc) (after j) z in
             let f : after x.taken ≡ after j =
             ap (λ k. steps code text k start) (sym e) ∙ (steps_add code text j (x.taken - j) start ∙ stays_stopped code text (x.taken - j) (after j) w) in
-            x.ends.4 (subst HasStopped (sym f ∙ q) w)
+            x.ends.4 (has_stopped x.taken x.ends.0 x.ends.1 x.ends.2 (subst HasStopped (sym f) w))
 
         go : Goes code text (grammar_in p) classes 0 x.taken task s start → IsLonger (grammar_in p) classes n s limit
         go (found y) = longer.ends y.found (stopped_as limit l x classes fits y.outcome y.found)
@@ -241,33 +276,26 @@ module _ (p : Program) (exact : Bool) (code : CodeLists) (is : IsCodeOf exact p 
         go (lacks w r j less z) =
             elim (cases_lt x.taken j) [ inl a ↦ longer.comes w (omega (arith, less, a, x.ends.3, l)) | inr a ↦ absurd (stopped j a z) ]
 
-    pub run_limited : (limit : ℕ) → 4 * limit ≤ most → EndsAtLast code text most (config code text old (i + 3) from) new ended.OutOfSteps
+    pub run_limited : (limit : ℕ) → 4 * limit ≤ most → EndsIn code text most first d ended.OutOfSteps
         → IsStoppedFrom (grammar_in p) p.properties.items n s limit stop.OutOfSteps × HasReason (grammar_in p) p.properties.items n s limit stop.OutOfSteps
     run_limited limit l x = (stopped_as limit l x, λ classes fits. ∣ longer_as limit l x classes fits ∣₁)
 
     -- of a run that takes a text from the empty stack
-    stuck_as : (limit : ℕ) → EndsAtLast code text most (config code text old (i + 3) from) new ended.Stuck
+    stuck_as : (limit : ℕ) → EndsIn code text most first d ended.Stuck
         → IsStoppedFrom (grammar_in p) p.properties.items n s limit stop.EmptyStack
-    stuck_as limit x classes fits o d =
-        let q : after x.taken ≡ config code text new x.ends.0 x.ends.1 = ap (λ c. steps code text x.taken c) (sym same) ∙ x.ends.2 in
-        let h = subst HasStopped (sym q) x.ends.3 in
-        never classes fits x.taken h (no_end x.taken x.ends.0 x.ends.1 q x.ends.4 x.ends.5) o d
+    stuck_as limit x classes fits o found =
+        never classes fits x.taken (stops_here x.taken x.ends.0 x.ends.1 x.ends.2 x.ends.3) (no_end x.taken x.ends.0 x.ends.1 x.ends.2 x.ends.4 x.ends.5) o found
 
-    empty_as : EndsAtLast code text most (config code text old (i + 3) from) new ended.Stuck
+    empty_as : EndsIn code text most first d ended.Stuck
         → (classes : Classes) → Fits p.properties.items classes → ReadsEmptyStack (grammar_in p) classes n s
     empty_as x classes fits = go (goes_here classes fits x.taken)
       where
-        h : HasStopped (after x.taken)
-        h =
-            let q : after x.taken ≡ config code text new x.ends.0 x.ends.1 = ap (λ c. steps code text x.taken c) (sym same) ∙ x.ends.2 in
-            subst HasStopped (sym q) x.ends.3
-
         go : Goes code text (grammar_in p) classes 0 x.taken task s start → ReadsEmptyStack (grammar_in p) classes n s
         go (found y) = absurd (stuck_as 0 x classes fits y.outcome y.found)
-        go (begun w less live) = absurd (live h)
+        go (begun w less live) = absurd (live (stops_here x.taken x.ends.0 x.ends.1 x.ends.2 x.ends.3))
         go (lacks w r j less z) = record { applied = _; mode = _; name = _; state = _; comes = w; read = r }
 
-    pub run_emptied : (limit : ℕ) → EndsAtLast code text most (config code text old (i + 3) from) new ended.Stuck
+    pub run_emptied : (limit : ℕ) → EndsIn code text most first d ended.Stuck
         → IsStoppedFrom (grammar_in p) p.properties.items n s limit stop.EmptyStack × HasReason (grammar_in p) p.properties.items n s limit stop.EmptyStack
     run_emptied limit x = (stuck_as limit x, λ classes fits. ∣ empty_as x classes fits ∣₁)
 
@@ -282,21 +310,21 @@ module _ (p : Program) (exact : Bool) (code : CodeLists) (is : IsCodeOf exact p 
   entered : (r : RunEnd) → EndsAtLast code text most (config code text old entry from) new r → EndsAtLast code text most (config code text old (i + 3) from) new r
   entered r x = subst (λ l. EndsAtLast code text most (config code text old l from) new r) k x
 
-  started : config code text old (i + 3) from ≡ start_at from old.asked (i + 3)
+  started : config code text old (i + 3) from ≡ start_at from old.asked None (i + 3)
   started = fresh code text old (i + 3) from f
 
   pub run_found : (end : ℕ) → EndsAtLast code text most (config code text old entry from) new (ended.Found end)
       → (classes : Classes) → Fits p.properties.items classes → HasFound (grammar_in p) n (state_at start) classes old.asked new end
-  run_found end x = found_as p exact code is n i meant text (state_at start) from old.asked (stands_at start text from e h u b) asks_here old new most started end (entered _ x)
+  run_found end x = found_as p exact code is n i meant text (state_at start) from old.asked None (stands_at start text from e h u b) asks_here old new most started end (entered _ x)
 
   pub run_failed : EndsAtLast code text most (config code text old entry from) new ended.Failed
       → (classes : Classes) → Fits p.properties.items classes → HasFailed (grammar_in p) n (state_at start) classes old.asked new
-  run_failed x = failed_as p exact code is n i meant text (state_at start) from old.asked (stands_at start text from e h u b) asks_here old new most started (entered _ x)
+  run_failed x = failed_as p exact code is n i meant text (state_at start) from old.asked None (stands_at start text from e h u b) asks_here old new most started (entered _ x)
 
   pub run_stopped : (limit : ℕ) → 4 * limit ≤ most → EndsAtLast code text most (config code text old entry from) new ended.OutOfSteps
       → IsStoppedFrom (grammar_in p) p.properties.items n (state_at start) limit stop.OutOfSteps × HasReason (grammar_in p) p.properties.items n (state_at start) limit stop.OutOfSteps
-  run_stopped limit l x = run_limited p exact code is n i meant text (state_at start) from old.asked (stands_at start text from e h u b) asks_here old new most started limit l (entered _ x)
+  run_stopped limit l x = run_limited p exact code is n i meant text (state_at start) from old.asked None (stands_at start text from e h u b) asks_here (config code text old (i + 3) from) (config code text new) (λ pc at. refl) most started limit l (entered _ x)
 
   pub run_stuck : (limit : ℕ) → EndsAtLast code text most (config code text old entry from) new ended.Stuck
       → IsStoppedFrom (grammar_in p) p.properties.items n (state_at start) limit stop.EmptyStack × HasReason (grammar_in p) p.properties.items n (state_at start) limit stop.EmptyStack
-  run_stuck limit x = run_emptied p exact code is n i meant text (state_at start) from old.asked (stands_at start text from e h u b) asks_here old new most started limit (entered _ x)
+  run_stuck limit x = run_emptied p exact code is n i meant text (state_at start) from old.asked None (stands_at start text from e h u b) asks_here (config code text old (i + 3) from) (config code text new) (λ pc at. refl) most started limit (entered _ x)

@@ -7,3 +7,4 @@ pub mod Reasons
 pub mod Runs
 pub mod Soundness
 pub mod Walks
+pub mod FailurePaths

@@ -5,4 +5,5 @@ pub mod block;
 pub mod codes;
 pub mod laws;
 pub mod matcher;
+pub mod paths;
 pub mod walk;

@@ -35,12 +35,12 @@ use matcher_program::properties::Properties;
 use std::alloc::{AllocError, Global};
 
 /// How many operations of a program are run for each step that is allowed.
-const OPERATIONS: u64 = 4;
+pub(crate) const OPERATIONS: u64 = 4;
 
 /// Rules whose names are resolved, with their code.
 #[derive(Drop)]
 pub struct Matcher {
-    program: Program,
+    pub(crate) program: Program,
     /// The code, from which it is run in place.
     code: Vec<u8>,
     fused: Vec<Fused>,
@@ -337,7 +337,7 @@ pub(crate) fn has_long_text(start: Position<'_>) -> bool
 }
 
 /// Returns the label of the call of the rule of a number from outside, if a `u32` holds it.
-fn entry_of(number: usize) -> Option<u32>
+pub(crate) fn entry_of(number: usize) -> Option<u32>
     ensures { IfSome result (λ entry. entry ≡ number + 3) }
 {
     u32::try_from(number.checked_add(3)?).ok()

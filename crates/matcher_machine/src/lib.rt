@@ -8,7 +8,7 @@ pub mod machine;
 mod memory;
 mod operations;
 mod remembering;
-mod running;
+pub mod running;
 pub mod slot;
 pub mod stack;
 mod stack_operations;

@@ -19,6 +19,7 @@ use Rattle.matcher_code.specs.declared.code.Op.TheVariants as op
 use Rattle.matcher_code.specs.Sets.{IsSetOf}
 use Rattle.matcher_code.specs.Laid.{HasOutcome, IsSilent, Performs, at_label, skip_set, span_of}
 use Rattle.matcher_code.specs.Failures.{Failures, end_failures, in_silence, no_failure}
+use Rattle.matcher_code.specs.Paths.{told_paths}
 use Rattle.matcher_code.specs.Reached.{Comes, IsAt}
 use Rattle.matcher_code.proofs.Characters.{choice_of_sets}
 use Rattle.matcher_code.proofs.CharacterSets.{all_performs, below, one_performs}
@@ -110,10 +111,10 @@ eoi_builtin = refl
 
 -- the failures of a name that is no rule's, which counts or not
 abbrev pub other_failures : Bool → Text → ℕ → State → Outcome → Failures
-other_failures b n place s o = record { furthest = place_of b s o; names = told b n place s o [] }
+other_failures b n place s o = record { furthest = place_of b s o; names = told b n place s o []; paths = told_paths b n place s o [] }
 
 pub unseen : (b : Bool) (n : Text) (place : ℕ) (s : State) (o : Outcome) → b ≡ false → other_failures b n place s o ≡ no_failure
-unseen b n place s (Success t us) e = refl
+unseen b n place s (Success t us) e = ap (λ x. other_failures x n place s (Success t us)) e
 unseen b n place s Failure e = ap (λ x. other_failures x n place s Failure) e
 
 one_is_set : (f : Form) → is_one f ≡ true → is_set f ≡ true

@@ -5,7 +5,7 @@ use Rattle.base_language.specs.Language.FurthestFailure.{furthest}
 use Rattle.base_language.specs.Language.Meaning.{Does, Task}
 use Rattle.base_language.specs.Language.State.{Classes, Outcome, State}
 use Rattle.base_language.specs.Language.Text.{Text}
-use Rattle.matcher_code.specs.Failures.{Failures, both, no_failure}
+use Rattle.matcher_code.specs.Failures.{Failures, both, no_failure, unnamed}
 use Rattle.matcher_code.specs.Laid.{IsSilent, NamesNone}
 
 -- two that record nothing, and three; and a negation
@@ -16,9 +16,6 @@ two_silent x y place = ap₂ both (x place) (y place)
 pub three_silent : {f h i : ℕ → Failures} → ((place : ℕ) → f place ≡ no_failure) → ((place : ℕ) → h place ≡ no_failure)
     → ((place : ℕ) → i place ≡ no_failure) → (place : ℕ) → both (f place) (both (h place) (i place)) ≡ no_failure
 three_silent x y z place = ap₂ both (x place) (ap₂ both (y place) (z place))
-
-abbrev unnamed : Failures → Failures
-unnamed f = record { furthest = f.furthest; names = [] }
 
 pub negated_silent : {f : ℕ → Failures} → ((place : ℕ) → f place ≡ no_failure) → (place : ℕ) → unnamed (f place) ≡ no_failure
 negated_silent x place = ap unnamed (x place)

@@ -12,6 +12,7 @@ use Rattle.base_language.specs.Language.State.{Between, Classes, Failure, Mode, 
 use Rattle.base_language.specs.Language.Text.{Text}
 use Rattle.base_language.proofs.Basics.{same_some}
 use Rattle.matcher_code.specs.Failures.{Failures, failures_at}
+use Rattle.matcher_code.specs.Paths.{told_paths}
 use Rattle.matcher_code.specs.Laid.{FailsOutside, Misses}
 use Rattle.matcher_program.specs.declared.form.Program.{Program}
 use Rattle.matcher_program.specs.declared.form.Row.{Row}
@@ -78,7 +79,7 @@ module _ (g : Grammar) (classes : Classes) (x : Text) (r : Rule) (h : rule_of g 
   At m s o f = (d : Does g classes (Run m (Ident x)) s o) × ((place : ℕ) → failures_at place d ≡ f place)
 
   abbrev called : Bool → State → Outcome → (ℕ → Failures) → ℕ → Failures
-  called b s o f place = record { furthest = max (place_of b s o) (f place).furthest; names = told b x place s o (f place).names }
+  called b s o f place = record { furthest = max (place_of b s o) (f place).furthest; names = told b x place s o (f place).names; paths = told_paths b x place s o (f place).paths }
 
   call_between : (q : Rule) → q ≡ r → rule_of g x ≡ Some q → (s : State) (o : Outcome) (d : Does g classes (Run (body_mode q NonAtomicMode) q.body) s o)
       → At Between s (with_token q NonAtomicMode s o) (called (seen_from NonAtomicMode && gives_token q.type_of NonAtomicMode) s o (λ place. failures_at place d))

@@ -1,0 +1,124 @@
+//! Where in the grammar a text failed.
+ghost use Rattle.std.specs.Prelude.{◌≡◌, ◌+◌, IfErr, IfOk, Some, chars};
+ghost use Rattle.base_language.specs.Language.Expression.{last_place};
+ghost use Rattle.base_language.specs.Language.Text.{Text};
+ghost use Rattle.matcher_code.specs.Bytecodes.{lists_in};
+ghost use Rattle.matcher_compiler.specs.Compiled.{IsCodeOf};
+ghost use Rattle.matcher_program.specs.Answers.{IsUnanswered, IsUnansweredFrom, start_of, state_at};
+ghost use Rattle.matcher_program.specs.declared.form.Program.{Program};
+ghost use Rattle.matcher_sets.specs.Forms as forms;
+ghost use Rattle.matcher_paths.specs.Traces.{paths_in};
+ghost use Rattle.matcher_engine.specs.FailurePaths.{AreFailurePaths, ArePathsFrom, IsTracedRun};
+ghost use Rattle.matcher_engine.specs.Matchers.{grammar_in, properties_in};
+ghost use Rattle.matcher_engine.specs.Reasons.{HasReason, StopsFor};
+
+use crate::codes::name_code_bytes;
+use crate::matcher::{Matcher, OPERATIONS, entry_of, has_long_text};
+use base_language::runtime::{Position, Span};
+use format_code::code::read_code;
+use matcher_code::bytecode::Bytecode;
+use matcher_code::state::OpenCall;
+use matcher_compiler::names::last_index;
+use matcher_machine::machine::{Machine, RunEnd};
+use matcher_paths::tracer::Tracer;
+use matcher_program::answers::{Refusal, Stop, whole_text};
+use std::alloc::Global;
+
+impl Matcher {
+    /// Returns where in the grammar the names of `expected_at` are expected: lists of the calls that are open
+    /// there, the outermost first, each list once. Only calls that give tokens to a caller other than Atomic
+    /// are listed. `Matcher::rule_name` has the name of a `row`.
+    ///
+    /// Calls are not remembered, so a run may take more steps than one of `expected_at`. Errors are those of
+    /// `expected_at`; more than 1,024 lists count as an allocation failure.
+    pub fn failure_paths<'a>(
+        &'a self,
+        alloc: Global,
+        rule: &'a str,
+        text: &'a str,
+        place: usize,
+        steps: u64,
+    ) -> Result<Vec<Vec<OpenCall>>, Refusal<'a>>
+        ensures paths { IfOk result (λ paths. AreFailurePaths (grammar_in self.entry.now)
+            (properties_in self.entry.now) (chars rule.entry.now) text.entry.now place paths.items) }
+        ensures refused { IfErr result (IsUnanswered (grammar_in self.entry.now)
+            (properties_in self.entry.now) (chars rule.entry.now) text.entry.now steps) }
+        ensures reason { IfErr result (StopsFor (HasReason (grammar_in self.entry.now)
+            (properties_in self.entry.now) (chars rule.entry.now) (start_of text.entry.now) steps)) }
+    {
+        self.failure_paths_from(alloc, rule, Span::of(text, 0, 0).start_pos(), place, steps)
+    }
+
+    /// Returns the lists as `failure_paths`, in a run as by `parse_preorder`; `place` is counted from the start
+    /// of the text.
+    pub fn failure_paths_from<'a>(
+        &'a self,
+        alloc: Global,
+        rule: &'a str,
+        start: Position<'a>,
+        place: usize,
+        steps: u64,
+    ) -> Result<Vec<Vec<OpenCall>>, Refusal<'a>>
+        ensures paths { IfOk result (λ paths. ArePathsFrom (grammar_in self.entry.now)
+            (properties_in self.entry.now) (chars rule.entry.now) (state_at start.entry) place
+            (paths_in paths.items)) }
+        ensures refused { IfErr result (IsUnansweredFrom (grammar_in self.entry.now)
+            (properties_in self.entry.now) (chars rule.entry.now) (state_at start.entry) steps) }
+        ensures reason { IfErr result (StopsFor (HasReason (grammar_in self.entry.now)
+            (properties_in self.entry.now) (chars rule.entry.now) (state_at start.entry) steps)) }
+    {
+        let Some(number) = last_index(self.program.rows.as_slice(), rule) else {
+            return Err(Refusal::UnknownRule(rule));
+        };
+        if has_long_text(start) {
+            return Err(Refusal::Stopped(Stop::TextTooLong));
+        }
+        let Ok(bytes) = name_code_bytes(alloc, &self.program) else {
+            return Err(Refusal::Stopped(Stop::Memory));
+        };
+        let code = read_code(&bytes);
+        match trace_rule(alloc, &code, number, start, place, steps) {
+            Ok(paths) => Ok(paths),
+            Err(stop) => Err(Refusal::Stopped(stop)),
+        }
+    }
+}
+
+/// Runs code for the rule of a number from a position of a text on, in at most `steps` steps. Returns the
+/// calls that were open where a name was expected at `place`.
+fn trace_rule(
+    alloc: Global,
+    code: &Bytecode<'_>,
+    number: usize,
+    start: Position<'_>,
+    place: usize,
+    steps: u64,
+) -> Result<Vec<Vec<OpenCall>>, Stop>
+    ensures { (p : Program) → IsCodeOf true p (lists_in code.now)
+        → (n : Text) → last_place (forms.grammar_in p) n ≡ Some number
+        → IsTracedRun p n (state_at start.entry) steps place result }
+{
+    let Some(entry) = entry_of(number) else {
+        return Err(Stop::Memory);
+    };
+    let most = steps.saturating_mul(OPERATIONS);
+    let mut machine = Machine::new(alloc);
+    machine.asked = place;
+    let mut tracer = Tracer::new(alloc, machine);
+    let text = whole_text(start);
+    match tracer.run(alloc, code, text, entry, start.pos(), most) {
+        Ok(RunEnd::Found(_)) | Ok(RunEnd::Failed) => {
+            let Tracer { paths, .. } = tracer;
+            Ok(paths)
+        }
+        Ok(RunEnd::OutOfSteps) => {
+            if most / OPERATIONS == steps {
+                Err(Stop::OutOfSteps)
+            } else {
+                Err(Stop::Memory)
+            }
+        }
+        Ok(RunEnd::Stuck) => Err(Stop::EmptyStack),
+        Err(_) => Err(Stop::Memory),
+    }
+}

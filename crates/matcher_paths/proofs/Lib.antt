@@ -1,0 +1,2 @@
+pub mod Dressing
+pub mod Marking
