@@ -49,8 +49,8 @@ impl Matcher {
         self.failure_paths_from(alloc, rule, Span::of(text, 0, 0).start_pos(), place, steps)
     }
 
-    /// Returns the lists as `failure_paths`, in a run as by `parse_preorder`; `place` is counted from the start
-    /// of the text.
+    /// Returns the lists as `failure_paths`, in a run as by `parse_preorder`; `place` is counted from the
+    /// start of the text.
     pub fn failure_paths_from<'a>(
         &'a self,
         alloc: Global,
