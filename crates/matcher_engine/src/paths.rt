@@ -1,5 +1,5 @@
 //! Where in the grammar a text failed.
-ghost use Rattle.std.specs.Prelude.{◌≡◌, ◌+◌, IfErr, IfOk, Some, chars};
+ghost use Rattle.std.specs.Prelude.{◌≡◌, IfErr, IfOk, Some, chars, true};
 ghost use Rattle.base_language.specs.Language.Expression.{last_place};
 ghost use Rattle.base_language.specs.Language.Text.{Text};
 ghost use Rattle.matcher_code.specs.Bytecodes.{lists_in};
@@ -107,7 +107,11 @@ fn trace_rule(
     let mut tracer = Tracer::new(alloc, machine);
     let text = whole_text(start);
     match tracer.run(alloc, code, text, entry, start.pos(), most) {
-        Ok(RunEnd::Found(_)) | Ok(RunEnd::Failed) => {
+        Ok(RunEnd::Found(_)) => {
+            let Tracer { paths, .. } = tracer;
+            Ok(paths)
+        }
+        Ok(RunEnd::Failed) => {
             let Tracer { paths, .. } = tracer;
             Ok(paths)
         }

@@ -6,7 +6,7 @@ use Rattle.matcher_engine.specs.FailurePaths.{ArePathsFrom}
 use Rattle.matcher_engine.specs.Matchers.{grammar_in, properties_in}
 use Rattle.matcher_engine.specs.Reasons.{HasReason, StopsFor}
 use Rattle.matcher_engine.proofs.Results.{first_state}
-use Rattle.matcher_engine.proofs.paths.Matcher.failure_paths.Goals as goal
+use Rattle.matcher_engine.proofs.matcher.Matcher.failure_paths.Goals as goal
 
 pub of-requires-clause-starts_at_character : goal.of-requires-clause-starts_at_character
 of-requires-clause-starts_at_character c = IsCharBoundary-start c.args.text.now c.utf8.text

@@ -6,7 +6,7 @@ use Rattle.matcher_compiler.specs.Compiled.{IsCodeOf}
 use Rattle.matcher_engine.specs.Matchers.{grammar_in}
 use Rattle.matcher_engine.proofs.Known.{unnamed}
 use Rattle.matcher_engine.proofs.Sound.{names_in}
-use Rattle.matcher_engine.proofs.paths.Matcher.failure_paths_from.Goals as goal
+use Rattle.matcher_engine.proofs.matcher.Matcher.failure_paths_from.Goals as goal
 
 pub returns-in_default-clause-refused : goal.returns-in_default-clause-refused
 returns-in_default-clause-refused c =
