@@ -254,9 +254,9 @@ module _ (p : Program) (exact : Bool) (code : CodeLists) (is : IsCodeOf exact p 
     -- of a run that was stopped
     stopped_as : (limit : ℕ) → 4 * limit ≤ most → EndsIn code text most first d ended.OutOfSteps
         → IsStoppedFrom (grammar_in p) p.properties.items n s limit stop.OutOfSteps
-    stopped_as limit l x classes fits o found =
-        let less = unfinished classes fits x.taken (λ z. x.ends.4 (has_stopped x.taken x.ends.0 x.ends.1 x.ends.2 (end_stops code text (after x.taken) z))) o found in
-        omega (arith, less, x.ends.3, l, same_size found)
+    stopped_as limit l x classes fits o does =
+        let less = unfinished classes fits x.taken (λ z. x.ends.4 (has_stopped x.taken x.ends.0 x.ends.1 x.ends.2 (end_stops code text (after x.taken) z))) o does in
+        omega (arith, less, x.ends.3, l, same_size does)
 
     longer_as : (limit : ℕ) → 4 * limit ≤ most → EndsIn code text most first d ended.OutOfSteps
         → (classes : Classes) → Fits p.properties.items classes → IsLonger (grammar_in p) classes n s limit
@@ -283,8 +283,8 @@ module _ (p : Program) (exact : Bool) (code : CodeLists) (is : IsCodeOf exact p 
     -- of a run that takes a text from the empty stack
     stuck_as : (limit : ℕ) → EndsIn code text most first d ended.Stuck
         → IsStoppedFrom (grammar_in p) p.properties.items n s limit stop.EmptyStack
-    stuck_as limit x classes fits o found =
-        never classes fits x.taken (stops_here x.taken x.ends.0 x.ends.1 x.ends.2 x.ends.3) (no_end x.taken x.ends.0 x.ends.1 x.ends.2 x.ends.4 x.ends.5) o found
+    stuck_as limit x classes fits o does =
+        never classes fits x.taken (stops_here x.taken x.ends.0 x.ends.1 x.ends.2 x.ends.3) (no_end x.taken x.ends.0 x.ends.1 x.ends.2 x.ends.4 x.ends.5) o does
 
     empty_as : EndsIn code text most first d ended.Stuck
         → (classes : Classes) → Fits p.properties.items classes → ReadsEmptyStack (grammar_in p) classes n s

@@ -1,5 +1,5 @@
 //! Where in the grammar a text failed.
-ghost use Rattle.std.specs.Prelude.{◌≡◌, ◌+◌, IfErr, IfOk, Some, chars};
+ghost use Rattle.std.specs.Prelude.{◌≡◌, IfErr, IfOk, Some, chars, true};
 ghost use Rattle.base_language.specs.Language.Expression.{last_place};
 ghost use Rattle.base_language.specs.Language.Text.{Text};
 ghost use Rattle.matcher_code.specs.Bytecodes.{lists_in};
@@ -49,8 +49,8 @@ impl Matcher {
         self.failure_paths_from(alloc, rule, Span::of(text, 0, 0).start_pos(), place, steps)
     }
 
-    /// Returns the lists as `failure_paths`, in a run as by `parse_preorder`; `place` 0 is the start of the
-    /// text.
+    /// Returns the lists as `failure_paths`, in a run as by `parse_preorder`; `place` is counted from the
+    /// start of the text.
     pub fn failure_paths_from<'a>(
         &'a self,
         alloc: Global,
@@ -107,7 +107,11 @@ fn trace_rule(
     let mut tracer = Tracer::new(alloc, machine);
     let text = whole_text(start);
     match tracer.run(alloc, code, text, entry, start.pos(), most) {
-        Ok(RunEnd::Found(_)) | Ok(RunEnd::Failed) => {
+        Ok(RunEnd::Found(_)) => {
+            let Tracer { paths, .. } = tracer;
+            Ok(paths)
+        }
+        Ok(RunEnd::Failed) => {
             let Tracer { paths, .. } = tracer;
             Ok(paths)
         }
