@@ -10,7 +10,7 @@ use Rattle.base_ast.specs.Ast.{text_of}
 use Rattle.base_language.specs.Language.Expression.{Grammar}
 use Rattle.base_language.specs.Language.Expected.{expected, expected_at}
 use Rattle.base_language.specs.Language.FurthestFailure.{furthest}
-use Rattle.base_language.specs.Language.State.{Classes, Failure, Outcome as Result, State}
+use Rattle.base_language.specs.Language.State.{Outcome as Result}
 use Rattle.base_language.specs.Language.Places.{IsStateIn}
 use Rattle.base_language.specs.Language.Text.{Text}
 use Rattle.base_language.specs.Pieces.LineColumn.{line_column}
@@ -22,14 +22,14 @@ use Rattle.base_language.proofs.TreesAreNested.{fits as fits_in}
 use Rattle.matcher_program.specs.Refusals.{IsReason}
 use Rattle.matcher_program.specs.declared.compile.Unfit.{Unfit}
 use Rattle.matcher_program.specs.declared.compile.Unfit.TheVariants as no
-use Rattle.matcher_engine.specs.Preorders.{HasPreorder, IsPreorder}
+use Rattle.matcher_engine.specs.BlockRuns.{IsStopped}
+use Rattle.matcher_engine.specs.Preorders.{HasPreorder}
 use Rattle.matcher_engine.specs.declared.matcher.Preorder.{Preorder}
-use Rattle.matcher_program.specs.Answers.{AreExpectedAt, FailsAt, Has, IsStopped, start_of}
+use Rattle.matcher_program.specs.Answers.{Has, start_of}
 use Rattle.matcher_program.specs.declared.answers.Stop.{Stop}
 use Rattle.matcher_program.specs.declared.answers.Stop.TheVariants as stop
 use Rattle.matcher_program.specs.ExpectedNames.{each_once, is_among, name_texts, with_names}
-use Rattle.matcher_program.specs.Programs.{Fits}
-use Rattle.matcher_program.specs.declared.form.Property.{Property}
+use Rattle.matcher_support.specs.Compiled.{AreExpectedIn, FailsIn}
 use Rattle.matcher_support.specs.Sets.{has_set, is_in_property}
 use Rattle.pest_run.specs.Failures.{AreLast, ExpectsNone, IsFound, IsFoundEarlier}
 use Rattle.pest_run.specs.Outcomes.{HasNoRule, IsFailureReport, IsMatchReport, IsNoRuleReport, IsNoted, IsOutcome, IsStopReport, ReportsFailure, end_note, tells_expected, trees_text, unfit_outcome}
@@ -41,16 +41,15 @@ use Rattle.pest_run.specs.declared.outcomes.Outcome.{Outcome}
 use Rattle.pest_run.specs.declared.outcomes.Outcome.TheVariants as is
 
 -- the names that are expected at a position of a derivation
-expects_at : (g : Grammar) (ps : List Property) (n : Text) (text : List ℕ) (place : ℕ) (names : List (Bor (List ℕ))) {o : Result} (d : Has g n text is_in_property o)
-    → Fits ps is_in_property → AreExpectedAt g ps n text place names → name_texts names ≡ each_once (expected_at place d)
-expects_at g ps n text place names d fits a =
-    let told = a is_in_property fits in told.2 ∙ ap each_once (one_list g is_in_property place told.1 d)
+expects_at : (g : Grammar) (rule text : List ℕ) (place : ℕ) (names : List (Bor (List ℕ))) {o : Result} (d : Has g (chars rule) text is_in_property o)
+    → AreExpectedIn g rule text place names → name_texts names ≡ each_once (expected_at place d)
+expects_at g rule text place names d a = a.2 ∙ ap each_once (one_list g is_in_property place a.1 d)
 
 -- the names that are expected at the furthest failure of a derivation
-expects : (g : Grammar) (ps : List Property) (n : Text) (text : List ℕ) (place : ℕ) (names : List (Bor (List ℕ))) {o : Result} (d : Has g n text is_in_property o)
-    → Fits ps is_in_property → AreExpectedAt g ps n text place names → place ≡ furthest d → name_texts names ≡ each_once (expected d)
-expects g ps n text place names d fits a e =
-    expects_at g ps n text place names d fits a ∙ ap (λ p. each_once (expected_at p d)) e
+expects : (g : Grammar) (rule text : List ℕ) (place : ℕ) (names : List (Bor (List ℕ))) {o : Result} (d : Has g (chars rule) text is_in_property o)
+    → AreExpectedIn g rule text place names → place ≡ furthest d → name_texts names ≡ each_once (expected d)
+expects g rule text place names d a e =
+    expects_at g rule text place names d a ∙ ap (λ p. each_once (expected_at p d)) e
 
 -- names that are added to some leave some
 keeps_some : (m : Text) (ms ns : List Text) → with_names (m ∷ ms) ns ≡ [] → ⊥
@@ -72,51 +71,49 @@ no_texts [] e = refl
 no_texts (n ∷ ns) e = cc
 
 -- a position with names that is found before the furthest failure is the last one of a derivation
-last_place : (g : Grammar) (ps : List Property) (n : Text) (text : List ℕ) (it : code.Failure) {o : Result} (d : Has g n text is_in_property o)
-    → Fits ps is_in_property → it.furthest ≡ furthest d → IsFoundEarlier g ps n text it → AreLast d text it.place (name_texts it.names.items)
-last_place g ps n text it d fits e f =
+last_place : (g : Grammar) (rule text : List ℕ) (it : code.Failure) {o : Result} (d : Has g (chars rule) text is_in_property o)
+    → it.furthest ≡ furthest d → IsFoundEarlier g rule text it → AreLast d text it.place (name_texts it.names.items)
+last_place g rule text it d e f =
     let earlier = f.is_earlier in
-    let none : (q : ℕ) → ExpectsNone g ps n text q → expected_at q d ≡ [] =
-    λ q a. none_once (expected_at q d) (expects_at g ps n text q [] d fits a) in
+    let none : (q : ℕ) → ExpectsNone g rule text q → expected_at q d ≡ [] =
+    λ q a. none_once (expected_at q d) (expects_at g rule text q [] d a) in
     record {
       after_start = subst (λ p. 0 < p) (sym f.place) earlier.after_start;
       earlier = omega (arith, f.place, earlier.earlier, e);
-      are = ap name_texts f.names ∙ (expects_at g ps n text f.earlier.place f.earlier.names.items d fits earlier.are ∙ ap (λ p. each_once (expected_at p d)) (sym f.place));
+      are = ap name_texts f.names ∙ (expects_at g rule text f.earlier.place f.earlier.names.items d earlier.are ∙ ap (λ p. each_once (expected_at p d)) (sym f.place));
       some = λ e. earlier.some (sym f.names ∙ no_texts it.names.items e);
       last = λ q above below here.
           elim (order it.furthest q) [
             | inl above_all ↦ none q
-                (let same : it.furthest ≡ q = omega (arith, above_all, below, e) in subst (λ p. ExpectsNone g ps n text p) same f.none)
+                (let same : it.furthest ≡ q = omega (arith, above_all, below, e) in subst (λ p. ExpectsNone g rule text p) same f.none)
             | inr less ↦ none q (earlier.last q (omega (arith, above, f.place)) less here)
           ];
     }
 
 -- what is told of the place of the failure, and of what is expected there, is told of the failure
-pub failed : (g : Grammar) (ps : List Property) (rule name text : List ℕ) (format : Format) (limit : ℕ) (place : ℕ) (it : code.Failure) (o : Outcome)
-    → Fits ps is_in_property → ((classes : Classes) → Fits ps classes → (d : Has g (chars rule) text classes Failure) × (place ≡ furthest d))
-    → IsFound g ps (chars rule) text place it → IsFailureReport name text it o
+pub failed : (g : Grammar) (rule name text : List ℕ) (format : Format) (limit : ℕ) (place : ℕ) (it : code.Failure) (o : Outcome)
+    → FailsIn g rule text place → IsFound g rule text place it → IsFailureReport name text it o
     → IsOutcome g rule name text format limit o
-failed g ps rule name text format limit place it (is.Shown lines _) fits f a t = absurd t
-failed g ps rule name text format limit place it (is.Failed report) fits f a t =
-    let fails = f is_in_property fits in
-    let furthest_is : it.furthest ≡ furthest fails.0 = a.furthest_is ∙ fails.1 in
+failed g rule name text format limit place it (is.Shown lines _) f a t = absurd t
+failed g rule name text format limit place it (is.Failed report) f a t =
+    let furthest_is : it.furthest ≡ furthest f.0 = a.furthest_is ∙ f.1 in
     record {
-      fails = fails.0;
+      fails = f.0;
       place = it.place;
       names = name_texts it.names.items;
       are = elim a.told [
-        | inl at ↦ inl (at.0 ∙ fails.1, expects g ps (chars rule) text place it.names.items fails.0 fits at.1 fails.1)
-        | inr earlier ↦ inr (last_place g ps (chars rule) text it fails.0 fits furthest_is earlier)
+        | inl at ↦ inl (at.0 ∙ f.1, expects g rule text place it.names.items f.0 at.1 f.1)
+        | inr earlier ↦ inr (last_place g rule text it f.0 furthest_is earlier)
       ];
       reports = subst (λ n. ReportsFailure name text it.place n (name_texts it.names.items) (string_bytes report)) furthest_is t;
     }
-failed g ps rule name text format limit place it (is.NoRule message) fits f a t = absurd t
-failed g ps rule name text format limit place it (is.OutOfSteps said) fits f a t = absurd t
-failed g ps rule name text format limit place it is.EmptyStack fits f a t = absurd t
-failed g ps rule name text format limit place it is.LongText fits f a t = absurd t
-failed g ps rule name text format limit place it is.UnknownName fits f a t = absurd t
-failed g ps rule name text format limit place it is.Bound fits f a t = absurd t
-failed g ps rule name text format limit place it is.Memory fits f a t = tt
+failed g rule name text format limit place it (is.NoRule message) f a t = absurd t
+failed g rule name text format limit place it (is.OutOfSteps said) f a t = absurd t
+failed g rule name text format limit place it is.EmptyStack f a t = absurd t
+failed g rule name text format limit place it is.LongText f a t = absurd t
+failed g rule name text format limit place it is.UnknownName f a t = absurd t
+failed g rule name text format limit place it is.Bound f a t = absurd t
+failed g rule name text format limit place it is.Memory f a t = tt
 
 -- what is told of a name that no rule has
 pub unknown : (g : Grammar) (rule name text : List ℕ) (format : Format) (limit : ℕ) (o : Outcome) → HasNoRule g rule → IsNoRuleReport g rule o
@@ -150,10 +147,7 @@ same_note format_is.Json text end_ place ns ms h = refl
 same_note format_is.Lines text end_ place ns ms h = refl
 
 -- what is told of a match is told of what the rule gives
-module _ (g : Grammar) (ps : List Property) (rule name text : List ℕ) (format : Format) (limit : ℕ) (it : Preorder) (fits : Fits ps is_in_property) (m : IsPreorder g ps (chars rule) text it) where
-  abbrev found : HasPreorder g (chars rule) (start_of text) is_in_property it
-  found = m is_in_property fits
-
+module _ (g : Grammar) (rule name text : List ℕ) (format : Format) (limit : ℕ) (it : Preorder) (found : HasPreorder g (chars rule) (start_of text) is_in_property it) where
   -- where the note on it has these names
   noted : (names : List Text) (note : Option (List ℕ)) → names ≡ each_once (expected found.found)
       → note ≡ end_note format text it.end it.furthest names → IsNoted g rule text format note
@@ -167,31 +161,29 @@ module _ (g : Grammar) (ps : List Property) (rule name text : List ℕ) (format 
       }
 
   -- where the names are known if the note tells them
-  notes : (names : List (Bor (List ℕ))) (note : Option (List ℕ)) → (tells_expected format text it.end it.furthest ≡ true → AreExpectedAt g ps (chars rule) text it.furthest names)
+  notes : (names : List (Bor (List ℕ))) (note : Option (List ℕ)) → (tells_expected format text it.end it.furthest ≡ true → AreExpectedIn g rule text it.furthest names)
       → note ≡ end_note format text it.end it.furthest (name_texts names) → IsNoted g rule text format note
   notes names note a t =
       let all = each_once (expected found.found) in
       elim (told (tells_expected format text it.end it.furthest)) [
-        | inl h ↦ noted (name_texts names) note (expects g ps (chars rule) text it.furthest names found.found fits (a h) found.place) t
+        | inl h ↦ noted (name_texts names) note (expects g rule text it.furthest names found.found (a h) found.place) t
         | inr h ↦ noted all note refl (t ∙ same_note format text it.end it.furthest (name_texts names) all h)
       ]
 
-  pub shows : (names : List (Bor (List ℕ))) (o : Outcome)
-      → ((n : Text) (s : State) (classes : Classes) → (x : HasPreorder g n s classes it) → IsMatchReport text format it.end it.furthest (name_texts names) x.trees o)
-      → (tells_expected format text it.end it.furthest ≡ true → AreExpectedAt g ps (chars rule) text it.furthest names)
+  pub shows : (names : List (Bor (List ℕ))) (o : Outcome) → IsMatchReport text format it.end it.furthest (name_texts names) found.trees o
+      → (tells_expected format text it.end it.furthest ≡ true → AreExpectedIn g rule text it.furthest names)
       → IsOutcome g rule name text format limit o
-  shows names (is.Shown lines note) t a =
-      let told = t (chars rule) (start_of text) is_in_property found in (
-        record { end_ = found.state; trees = found.trees; matches = found.found; lines_show = told.0 ∙ ap (λ e. trees_text format text e found.trees) found.ends },
-        notes names (option_map string_bytes note) a told.1,
-      )
-  shows names (is.Failed report) t a = absurd (t (chars rule) (start_of text) is_in_property found)
-  shows names (is.NoRule message) t a = absurd (t (chars rule) (start_of text) is_in_property found)
-  shows names (is.OutOfSteps said) t a = absurd (t (chars rule) (start_of text) is_in_property found)
-  shows names is.EmptyStack t a = absurd (t (chars rule) (start_of text) is_in_property found)
-  shows names is.LongText t a = absurd (t (chars rule) (start_of text) is_in_property found)
-  shows names is.UnknownName t a = absurd (t (chars rule) (start_of text) is_in_property found)
-  shows names is.Bound t a = absurd (t (chars rule) (start_of text) is_in_property found)
+  shows names (is.Shown lines note) t a = (
+    record { end_ = found.state; trees = found.trees; matches = found.found; lines_show = t.0 ∙ ap (λ e. trees_text format text e found.trees) found.ends },
+    notes names (option_map string_bytes note) a t.1,
+  )
+  shows names (is.Failed report) t a = absurd t
+  shows names (is.NoRule message) t a = absurd t
+  shows names (is.OutOfSteps said) t a = absurd t
+  shows names is.EmptyStack t a = absurd t
+  shows names is.LongText t a = absurd t
+  shows names is.UnknownName t a = absurd t
+  shows names is.Bound t a = absurd t
   shows names is.Memory t a = tt
 
 -- the furthest failure of a derivation is one of the text
@@ -202,50 +194,44 @@ stands_here g n text place d utf8 e =
     subst (λ n. IsCharBoundary text n) (sym e) here
 
 -- a match ends between two characters, and so does its furthest failure
-pub ends_at_character : (g : Grammar) (ps : List Property) (n : Text) (text : List ℕ) (it : Preorder) → IsUtf8 text → Fits ps is_in_property → IsPreorder g ps n text it
+pub ends_at_character : (g : Grammar) (n : Text) (text : List ℕ) (it : Preorder) → IsUtf8 text → HasPreorder g n (start_of text) is_in_property it
     → IsCharBoundary text it.end
-ends_at_character g ps n text it utf8 fits m =
-    let x = m is_in_property fits in
+ends_at_character g n text it utf8 x =
     let start : IsStateIn (chars text) (start_of text) = record { front = []; split = refl; size = refl } in
     let inside = (fits_in (chars text) x.found start).0 in
     let here : IsCharBoundary text x.state.position = on_bytes text utf8 x.state.position (record { front = inside.front; back = x.state.rest; split = inside.split; size = inside.size }) in
     subst (λ n. IsCharBoundary text n) (sym x.ends) here
 
-pub stops_at_character : (g : Grammar) (ps : List Property) (n : Text) (text : List ℕ) (it : Preorder) → IsUtf8 text → Fits ps is_in_property → IsPreorder g ps n text it
+pub stops_at_character : (g : Grammar) (n : Text) (text : List ℕ) (it : Preorder) → IsUtf8 text → HasPreorder g n (start_of text) is_in_property it
     → IsCharBoundary text it.furthest
-stops_at_character g ps n text it utf8 fits m =
-    let x = m is_in_property fits in
-    stands_here g n text it.furthest x.found utf8 x.place
+stops_at_character g n text it utf8 x = stands_here g n text it.furthest x.found utf8 x.place
 
 -- the place of the failure is one of the text
-pub at_character : (g : Grammar) (ps : List Property) (n : Text) (text : List ℕ) (place : ℕ) → IsUtf8 text → Fits ps is_in_property → FailsAt g ps n text place
-    → IsCharBoundary text place
-at_character g ps n text place utf8 fits f =
-    let fails = f is_in_property fits in
-    stands_here g n text place fails.0 utf8 fails.1
+pub at_character : (g : Grammar) (rule text : List ℕ) (place : ℕ) → IsUtf8 text → FailsIn g rule text place → IsCharBoundary text place
+at_character g rule text place utf8 f = stands_here g (chars rule) text place f.0 utf8 f.1
 
 -- what comes of a run that was stopped is what the matcher says of it
-pub stopped : (g : Grammar) (ps : List Property) (rule name text : List ℕ) (format : Format) (limit : ℕ) (why : Stop) (o : Outcome) → IsUtf8 text → Fits ps is_in_property
-    → IsStopped g ps (chars rule) text limit why → IsStopReport why limit o → IsOutcome g rule name text format limit o
-stopped g ps rule name text format limit stop.Memory o utf8 fits h t =
+pub stopped : (g : Grammar) (rule name text : List ℕ) (format : Format) (limit : ℕ) (why : Stop) (o : Outcome) → IsUtf8 text
+    → IsStopped g (chars rule) (start_of text) is_in_property limit why → IsStopReport why limit o → IsOutcome g rule name text format limit o
+stopped g rule name text format limit stop.Memory o utf8 h t =
     let P : Outcome → Type 0 = λ o. IsOutcome g rule name text format limit o in
     subst P (sym t) tt
-stopped g ps rule name text format limit stop.EmptyStack o utf8 fits h t =
+stopped g rule name text format limit stop.EmptyStack o utf8 h t =
     let P : Outcome → Type 0 = λ o. IsOutcome g rule name text format limit o in
-    subst P (sym t) (λ o found. h is_in_property fits o found)
-stopped g ps rule name text format limit stop.TextTooLong o utf8 fits h t =
+    subst P (sym t) h
+stopped g rule name text format limit stop.TextTooLong o utf8 h t =
     let P : Outcome → Type 0 = λ o. IsOutcome g rule name text format limit o in
     let size : 0 + length (encodes (chars text)) ≡ length text = omega (arith, ap length (encodes-chars text utf8)) in
     subst P (sym t) (omega (arith, h, size))
-stopped g ps rule name text format limit stop.OutOfSteps (is.OutOfSteps said) utf8 fits h t = (λ o found. h is_in_property fits o found, t)
-stopped g ps rule name text format limit stop.OutOfSteps is.Memory utf8 fits h t = tt
-stopped g ps rule name text format limit stop.OutOfSteps (is.Shown lines _) utf8 fits h t = absurd t
-stopped g ps rule name text format limit stop.OutOfSteps (is.Failed report) utf8 fits h t = absurd t
-stopped g ps rule name text format limit stop.OutOfSteps (is.NoRule message) utf8 fits h t = absurd t
-stopped g ps rule name text format limit stop.OutOfSteps is.EmptyStack utf8 fits h t = absurd t
-stopped g ps rule name text format limit stop.OutOfSteps is.LongText utf8 fits h t = absurd t
-stopped g ps rule name text format limit stop.OutOfSteps is.UnknownName utf8 fits h t = absurd t
-stopped g ps rule name text format limit stop.OutOfSteps is.Bound utf8 fits h t = absurd t
+stopped g rule name text format limit stop.OutOfSteps (is.OutOfSteps said) utf8 h t = (h, t)
+stopped g rule name text format limit stop.OutOfSteps is.Memory utf8 h t = tt
+stopped g rule name text format limit stop.OutOfSteps (is.Shown lines _) utf8 h t = absurd t
+stopped g rule name text format limit stop.OutOfSteps (is.Failed report) utf8 h t = absurd t
+stopped g rule name text format limit stop.OutOfSteps (is.NoRule message) utf8 h t = absurd t
+stopped g rule name text format limit stop.OutOfSteps is.EmptyStack utf8 h t = absurd t
+stopped g rule name text format limit stop.OutOfSteps is.LongText utf8 h t = absurd t
+stopped g rule name text format limit stop.OutOfSteps is.UnknownName utf8 h t = absurd t
+stopped g rule name text format limit stop.OutOfSteps is.Bound utf8 h t = absurd t
 
 -- rules that can't be run call an unknown name, or have a wrong bound
 pub unfit : (g : Grammar) (rule name text : List ℕ) (format : Format) (limit : ℕ) (why : Unfit) → IsReason has_set g why → IsOutcome g rule name text format limit (unfit_outcome why)

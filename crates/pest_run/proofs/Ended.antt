@@ -9,7 +9,7 @@ use Rattle.matcher_support.specs.Sets.{is_in_property}
 use Rattle.matcher_program.specs.Answers.{start_of}
 use Rattle.pest_run.specs.Messages.{no_rule_text, steps_text}
 use Rattle.pest_run.specs.Outcomes.{IsOutcome, IsShown}
-use Rattle.pest_run.specs.Written.{AreMatched, AreRun, NotesEnd, PrintsTrees, ReportsReason, ReportsRefusal, ReportsStop, WritesLine, empty_stack, long_text, no_match, no_rule, refused, too_many_steps, unknown_name, wide_bound}
+use Rattle.pest_run.specs.Written.{AreMatched, AreRun, IsFormOutcome, NotesEnd, PrintsTrees, ReportsReason, ReportsRefusal, ReportsStop, WritesLine, empty_stack, long_text, no_match, no_rule, refused, too_many_steps, unknown_name, wide_bound}
 use Rattle.pest_run.specs.declared.arguments.Format.{Format}
 use Rattle.pest_run.specs.declared.arguments.RuleForm.{RuleForm}
 use Rattle.pest_run.specs.declared.arguments.RuleForm.TheVariants as form_is
@@ -116,3 +116,36 @@ pub refusal_is_reason : {X E : Type 0} (form : RuleForm) (grammar rule name text
     → ReportsRefusal grammar told old new → ReportsReason form grammar rule name text told old new
 refusal_is_reason form grammar rule name text told old new r =
     record { message = r.tells.report; reason = refused r.errors r.tells.report r.refused r.tells.shows; line = r.tells.line }
+
+-- the same of an outcome by the rules of a grammar
+module _ {X E : Type 0} (o : Outcome) (name grammar rule text : List ℕ) (format : Format) (form : RuleForm) (limit : ℕ) (told : Result X E) (same : Type 0) (status : ℕ)
+    (old_out new_out old new : Option (List ℕ)) (comes : IsFormOutcome form grammar rule name text format limit o) (e : EndsAs o same status told old_out new_out old new) where
+  -- an allocation failure has a status of its own
+  no_memory : (k : ℕ) → o ≡ is.Memory → status ≡ k → (k ≡ 2 → ⊥) → ⊥
+  no_memory k m s apart_ =
+      let two : status ≡ 2 = subst (λ o. EndsAs o same status told old_out new_out old new) m e in
+      apart_ (sym s ∙ two)
+
+  pub form_prints : status ≡ 0 → PrintsTrees form grammar rule text format old_out new_out
+  form_prints zero = elim comes [
+    | inl m ↦ absurd (no_memory 0 m zero (λ z. omega (arith, z)))
+    | inr x ↦ prints o name grammar rule text format form x.0 limit told same status old_out new_out old new x.1 x.2 e zero
+  ]
+
+  pub form_notes : status ≡ 0 → NotesEnd form grammar rule text format same told old new
+  form_notes zero = elim comes [
+    | inl m ↦ absurd (no_memory 0 m zero (λ z. omega (arith, z)))
+    | inr x ↦ notes o name grammar rule text format form x.0 limit told same status old_out new_out old new x.1 x.2 e zero
+  ]
+
+  pub form_tells : status ≡ 1 → ReportsReason form grammar rule name text told old new
+  form_tells one = elim comes [
+    | inl m ↦ absurd (no_memory 1 m one (λ z. omega (arith, z)))
+    | inr x ↦ tells o name grammar rule text format form x.0 limit told same status old_out new_out old new x.1 x.2 e one
+  ]
+
+  pub form_stops : status ≡ 5 → ReportsStop form grammar rule text limit told old new
+  form_stops five = elim comes [
+    | inl m ↦ absurd (no_memory 5 m five (λ z. omega (arith, z)))
+    | inr x ↦ stops o name grammar rule text format form x.0 limit told same status old_out new_out old new x.1 x.2 e five
+  ]

@@ -4,3 +4,6 @@ pub mod Ended
 pub mod Listed
 pub mod OptimizedMatch
 pub mod RuleNames
+pub mod ReadRules
+pub mod Undefined
+pub mod CodeFiles

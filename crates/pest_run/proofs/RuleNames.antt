@@ -44,20 +44,22 @@ module _ (rules : List OptimizedRule) (i : ℕ) (x : OptimizedRule) (within : i 
       ∙ flat_map-append name_line before (text_of x.name ∷ [])
       ∙ ap (λ l. flat_map name_line before ++ l) (append-nil (name_line (text_of x.name))))
 
-  -- the name of one rule more, where it passes a test
-  pub near_more : (f : Text → Bool) (b : Bool) (old new : List Text) → b ≡ f (text_of x.name) → new ≡ old ++ cond b (text_of x.name ∷ []) [] → old ≡ filter f before
-      → new ≡ filter f (rule_names (optimized_rules_of (take (i + 1) rules)))
-  near_more f b old new t e o =
-      e ∙ ap₂ (λ ns c. ns ++ cond c (text_of x.name ∷ []) []) o t
-      ∙ sym (ap (λ ns. filter f ns) names_more ∙ filter-append f before (text_of x.name ∷ []))
+-- one name more, which passes a test or not
+module _ (names : List (Bor (List ℕ))) (i : ℕ) (d : Bor (List ℕ)) (within : i < length names) (f : Text → Bool) where
+  one_text : name_texts (take (i + 1) names) ≡ name_texts (take i names) ++ chars (get_or names i d).now ∷ []
+  one_text = ap name_texts (take_more names i d within) ∙ map-append (λ (m : Bor (List ℕ)). chars m.now) (take i names) (get_or names i d ∷ [])
 
-  pub near_pushed : (f : Text → Bool) (old new : List (Bor (List ℕ))) (o : Bor (List ℕ)) → true ≡ f (text_of x.name) → o.now ≡ string_bytes x.name → new ≡ old ++ o ∷ []
-      → name_texts old ≡ filter f before → name_texts new ≡ filter f (rule_names (optimized_rules_of (take (i + 1) rules)))
-  near_pushed f old new o t n e h =
-      let added : name_texts new ≡ name_texts old ++ text_of x.name ∷ [] =
-      ap name_texts e ∙ map-append (λ (m : Bor (List ℕ)). chars m.now) old (o ∷ []) ∙ ap (λ b. name_texts old ++ chars b ∷ []) n in
-      near_more f true (name_texts old) (name_texts new) t added h
+  tested : (b : Bool) → b ≡ f (chars (get_or names i d).now) → (old : List Text) → old ≡ filter f (name_texts (take i names))
+      → old ++ cond b (chars (get_or names i d).now ∷ []) [] ≡ filter f (name_texts (take (i + 1) names))
+  tested b t old o =
+      ap₂ (λ ns c. ns ++ cond c (chars (get_or names i d).now ∷ []) []) o t
+      ∙ sym (ap (λ ns. filter f ns) one_text ∙ filter-append f (name_texts (take i names)) (chars (get_or names i d).now ∷ []))
 
-  pub near_passed : (f : Text → Bool) (old : List (Bor (List ℕ))) → false ≡ f (text_of x.name)
-      → name_texts old ≡ filter f before → name_texts old ≡ filter f (rule_names (optimized_rules_of (take (i + 1) rules)))
-  near_passed f old t h = near_more f false (name_texts old) (name_texts old) t (sym (append-nil (name_texts old))) h
+  pub text_pushed : (old new : List (Bor (List ℕ))) → true ≡ f (chars (get_or names i d).now) → new ≡ old ++ get_or names i d ∷ []
+      → name_texts old ≡ filter f (name_texts (take i names)) → name_texts new ≡ filter f (name_texts (take (i + 1) names))
+  text_pushed old new t e h =
+      ap name_texts e ∙ (map-append (λ (m : Bor (List ℕ)). chars m.now) old (get_or names i d ∷ []) ∙ tested true t (name_texts old) h)
+
+  pub text_passed : (old : List (Bor (List ℕ))) → false ≡ f (chars (get_or names i d).now)
+      → name_texts old ≡ filter f (name_texts (take i names)) → name_texts old ≡ filter f (name_texts (take (i + 1) names))
+  text_passed old t h = sym (append-nil (name_texts old)) ∙ tested false t (name_texts old) h

@@ -7,9 +7,8 @@ use Rattle.base_language.specs.Language.FurthestFailure.{furthest}
 use Rattle.base_language.specs.Language.Meaning.{Does, Task}
 use Rattle.base_language.specs.Language.State.{Classes, Outcome as Result, State}
 use Rattle.base_language.specs.Language.Text.{Text}
-use Rattle.matcher_program.specs.Answers.{AreExpectedAt}
 use Rattle.matcher_program.specs.ExpectedNames.{each_once}
-use Rattle.matcher_program.specs.declared.form.Property.{Property}
+use Rattle.matcher_support.specs.Compiled.{AreExpectedIn}
 use Rattle.pest_run.specs.declared.failures.Earlier.{Earlier}
 use Rattle.pest_run.specs.declared.failures.Failure.{Failure}
 
@@ -30,33 +29,29 @@ AreTold d text place names =
     ((place ≡ furthest d) × (names ≡ each_once (expected d))) ⊎ AreLast d text place names
 
 -- no name is expected at a position where the rule is run on a text
-abbrev pub ExpectsNone : Grammar → List Property → Text → List ℕ → ℕ → Type 0
-ExpectsNone g ps n text place = AreExpectedAt g ps n text place []
+abbrev pub ExpectsNone : Grammar → (rule text : List ℕ) → ℕ → Type 0
+ExpectsNone g rule text place = AreExpectedIn g rule text place []
 
 -- names are expected at an earlier position than the furthest one, and none at the positions after it that
 -- are between two characters
-pub record IsEarlier (g : Grammar) (ps : List Property) (n : Text) (text : List ℕ) (furthest : ℕ)
-    (it : Earlier) : Type 0 where
+pub record IsEarlier (g : Grammar) (rule text : List ℕ) (furthest : ℕ) (it : Earlier) : Type 0 where
   pub after_start : 0 < it.place
   pub earlier : it.place < furthest
   pub here : IsCharBoundary text it.place
-  pub are : AreExpectedAt g ps n text it.place it.names.items
+  pub are : AreExpectedIn g rule text it.place it.names.items
   pub some : it.names.items ≢ []
-  pub last : (q : ℕ) → it.place < q → q < furthest → IsCharBoundary text q → ExpectsNone g ps n text q
+  pub last : (q : ℕ) → it.place < q → q < furthest → IsCharBoundary text q → ExpectsNone g rule text q
 
 -- such a position, its names, and that none is expected at the furthest one
-pub record IsFoundEarlier (g : Grammar) (ps : List Property) (n : Text) (text : List ℕ) (it : Failure)
-    : Type 0 where
+pub record IsFoundEarlier (g : Grammar) (rule text : List ℕ) (it : Failure) : Type 0 where
   pub earlier : Earlier
-  pub is_earlier : IsEarlier g ps n text it.furthest earlier
+  pub is_earlier : IsEarlier g rule text it.furthest earlier
   pub place : it.place ≡ earlier.place
   pub names : it.names.items ≡ earlier.names.items
-  pub none : ExpectsNone g ps n text it.furthest
+  pub none : ExpectsNone g rule text it.furthest
 
 -- a failure was looked into at this furthest position
-pub record IsFound (g : Grammar) (ps : List Property) (n : Text) (text : List ℕ) (furthest : ℕ) (it : Failure)
-    : Type 0 where
+pub record IsFound (g : Grammar) (rule text : List ℕ) (furthest : ℕ) (it : Failure) : Type 0 where
   pub furthest_is : it.furthest ≡ furthest
-  pub here : IsCharBoundary text it.place
-  pub told : ((it.place ≡ furthest) × AreExpectedAt g ps n text furthest it.names.items)
-      ⊎ IsFoundEarlier g ps n text it
+  pub told : ((it.place ≡ furthest) × AreExpectedIn g rule text furthest it.names.items)
+      ⊎ IsFoundEarlier g rule text it

@@ -4,6 +4,9 @@ pub mod Messages
 pub mod Failures
 pub mod Outcomes
 pub mod Written
+pub mod Grammars
+pub mod Properties
+pub mod Codes
 pub mod Ends
 pub mod Listing
 pub mod Forms

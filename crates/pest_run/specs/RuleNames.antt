@@ -31,6 +31,10 @@ is_near name other =
     else if bytes_eq (map to_ascii_lowercase name) (map to_ascii_lowercase other) then true
     else nat_le (distance name other) (length name / 3)
 
+-- those of some names that are near a name, in order
+abbrev pub near_among : List Text → List ℕ → List Text
+near_among names name = filter (λ n. is_near name (encode_utf8_all n)) names
+
 -- the names of rules that are near a name, in order
 abbrev pub near_names : Grammar → List ℕ → List Text
-near_names g name = filter (λ n. is_near name (encode_utf8_all n)) (rule_names g)
+near_names g name = near_among (rule_names g) name

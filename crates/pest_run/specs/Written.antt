@@ -11,10 +11,12 @@ use Rattle.pest_meta.specs.Spelling.{IsAnswer, IsRefusedWith}
 use Rattle.pest_meta.specs.Written.{IsWritten, SpellsAccepted}
 use Rattle.program_support.specs.Messages.{IsReport}
 use Rattle.pest_run.specs.Messages.{no_rule_text, steps_text, unread_text}
-use Rattle.pest_run.specs.Outcomes.{CallsUnknownName, HasFailed, HasNoOutcome, HasNoRule, HasWrongBound, IsNoted, IsShown, TakesTooManySteps}
+use Rattle.pest_run.specs.Outcomes.{CallsUnknownName, HasFailed, HasNoOutcome, HasNoRule, HasWrongBound, IsNoted, IsOutcome, IsShown, TakesTooManySteps}
 use Rattle.pest_run.specs.declared.arguments.Format.{Format}
 use Rattle.pest_run.specs.declared.arguments.RuleForm.{RuleForm}
 use Rattle.pest_run.specs.declared.arguments.RuleForm.TheVariants as form_is
+use Rattle.pest_run.specs.declared.outcomes.Outcome.{Outcome}
+use Rattle.pest_run.specs.declared.outcomes.Outcome.TheVariants as is
 use Rattle.pest_run.specs.declared.sources.Source.{Source}
 
 -- the file could be read, and is text
@@ -74,6 +76,12 @@ AreMatched form_is.Optimized grammar rules = AreAnswered grammar rules
 abbrev pub AreRun : RuleForm → List ℕ → Grammar → Type 0
 AreRun form_is.Written grammar rules = IsWritten grammar rules
 AreRun form_is.Optimized grammar rules = AreAnswered grammar rules
+
+-- the outcome is that of the rule by the rules of the grammar, as they are run; an allocation failure is not
+-- constrained
+abbrev pub IsFormOutcome : RuleForm → (grammar rule name text : List ℕ) → Format → ℕ → Outcome → Type 0
+IsFormOutcome form grammar rule name text format limit outcome = (outcome ≡ is.Memory)
+    ⊎ ((rules : Grammar) × AreRun form grammar rules × IsOutcome rules rule name text format limit outcome)
 
 -- the rule of the grammar matches the text, and the writer's contents grew by the trees
 pub record PrintsTrees (form : RuleForm) (grammar rule text : List ℕ) (format : Format)

@@ -1,5 +1,5 @@
 //! The command line.
-ghost use Rattle.std.specs.Prelude.{◌≡◌, ◌∷◌, ℕ, List, [], IfOk, None, Some, codes, false, true};
+ghost use Rattle.std.specs.Prelude.{◌≡◌, ◌∷◌, ℕ, List, [], IfOk, None, Some, codes, false, option_map, true};
 ghost use Rattle.clap.specs.Matches.{first_value, found_of, one_text};
 ghost use Rattle.clap.specs.Simple.{app_of};
 ghost use Rattle.program_support.specs.Arguments.{HasForm, arguments_of, flag, option, positional};
@@ -42,15 +42,17 @@ pub struct Request<'a> {
 
 /// The exit statuses, as `--help` shows them.
 const STATUSES: &str =
-    "status: 0 the trees or the names were printed, 1 the grammar is refused, has no such rule, \
-     or does not match the text, 2 out of memory, 3 a file or the command line can't be read, \
-     4 output refused, 5 the run was stopped";
+    "status: 0 the trees or the names were printed, or the compiled grammar was written, \
+     1 the grammar is refused, has no such rule, or does not match the text, 2 out of memory, \
+     3 a file or the command line can't be read, 4 output refused, 5 the run was stopped, \
+     6 a file is no compiled grammar of this version, or was changed";
 
 /// Returns the command line that the program accepts.
 pub fn command<'a>(alloc: Global) -> Result<Command<'a>, AllocError>
     ensures name { IfOk result (λ command. (app_of command).top.name ≡ codes "pest-run") }
     ensures arguments { IfOk result (λ command. arguments_of command ≡ option (codes "format")
         ∷ flag (codes "optimized") ∷ option (codes "steps") ∷ flag (codes "list-rules")
+        ∷ option (codes "compile")
         ∷ positional (codes "GRAMMAR") ∷ positional (codes "RULE") ∷ positional (codes "TEXT") ∷ []) }
 {
     let about = "Matches a text by a rule of a pest grammar, and prints the trees";
@@ -59,6 +61,7 @@ pub fn command<'a>(alloc: Global) -> Result<Command<'a>, AllocError>
     let command = add_argument(command, optimized_argument(alloc))?;
     let command = add_argument(command, steps_argument(alloc))?;
     let command = add_argument(command, list_argument(alloc)?)?;
+    let command = add_argument(command, compile_argument(alloc)?)?;
     let command = add_argument(command, grammar_argument(alloc))?;
     let command = add_argument(command, rule_argument(alloc)?)?;
     add_argument(command, text_argument(alloc))
@@ -102,20 +105,35 @@ fn list_argument<'a>(alloc: Global) -> Result<Arg<'a>, AllocError>
     flag(alloc, "list-rules", help).conflicts_with("RULE")
 }
 
+/// Returns `--compile`.
+fn compile_argument<'a>(alloc: Global) -> Result<Arg<'a>, AllocError>
+    ensures { IfOk result (HasForm (option (codes "compile"))) }
+{
+    let help =
+        "Compile the optimized rules of the grammar to FILE, which then stands for the grammar; \
+                - is standard output";
+    let argument = option(alloc, "compile", help).value_name("FILE");
+    argument
+        .conflicts_with("RULE")?
+        .conflicts_with("list-rules")
+}
+
 /// Returns the argument for the grammar.
 fn grammar_argument<'a>(alloc: Global) -> Arg<'a>
     ensures { HasForm (positional (codes "GRAMMAR")) result }
 {
-    positional(alloc, "GRAMMAR", "The file of a grammar").required(true)
+    let help = "The file of a grammar, or of a compiled grammar";
+    positional(alloc, "GRAMMAR", help).required(true)
 }
 
 /// Returns the argument for the rule.
 fn rule_argument<'a>(alloc: Global) -> Result<Arg<'a>, AllocError>
     ensures { IfOk result (HasForm (positional (codes "RULE"))) }
 {
-    positional(alloc, "RULE", "The rule that the text is matched by").required_unless_present(
-        "list-rules",
-    )
+    let argument = positional(alloc, "RULE", "The rule that the text is matched by");
+    argument
+        .required_unless_present("list-rules")?
+        .required_unless_present("compile")
 }
 
 /// Returns the argument for the text.
@@ -168,6 +186,14 @@ pub fn asks_for_rules(matches: &ArgMatches<'_>) -> bool
     ensures missing { one_text (found_of matches.now) (codes "list-rules") ≡ None → result ≡ false }
 {
     matches.get_flag("list-rules")
+}
+
+/// Returns the file to which a command line asks to compile, if it does.
+pub fn compile_target<'m>(matches: &'m ArgMatches<'_>) -> Option<&'m str>
+    ensures { option_map (λ name. name.now) result
+        ≡ first_value (found_of matches.entry.now) (codes "compile") }
+{
+    matches.get_str("compile")
 }
 
 /// Returns the greatest number of steps that a command line asks for, if it does.

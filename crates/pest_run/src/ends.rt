@@ -81,9 +81,20 @@ pub fn exit_with<E: Write>(err: &mut Output<E>, message: &str, status: Status) -
     ensures told { IsOk result.write_result → err.new.refused ≡ err.old.refused }
     ensures refused_line { IsErr result.write_result → err.new.refused ≡ true }
 {
+    exit_with_code(err, message, status.code())
+}
+
+/// Ends a run with the status of this number, after writing a message and a line break to `err`.
+pub fn exit_with_code<E: Write>(err: &mut Output<E>, message: &str, code: u8) -> RunExit
+    ensures status { result.status ≡ code }
+    ensures tells { WritesLine message.now result.write_result
+        (E.contents err.old.writer) (E.contents err.new.writer) }
+    ensures told { IsOk result.write_result → err.new.refused ≡ err.old.refused }
+    ensures refused_line { IsErr result.write_result → err.new.refused ≡ true }
+{
     let write_result = err.write_line(&[message]);
     RunExit {
-        status: status.code(),
+        status: code,
         write_result,
     }
 }

@@ -1,16 +1,17 @@
 //! Names that are expected at a failure, and the position that a report shows: the furthest one, or, where no
 //! name is expected there, the last before it at which names are.
-ghost use Rattle.std.specs.Prelude.{◌≡◌, ℕ, IfErr, IfOk, IfSome, chars, true};
+ghost use Rattle.std.specs.Prelude.{◌≡◌, IfErr, IfOk, IfSome, true};
 ghost use Rattle.std.specs.Str.{IsCharBoundary};
-ghost use Rattle.matcher_engine.specs.Matchers.{grammar_in, properties_in};
-ghost use Rattle.matcher_program.specs.Answers.{AreExpectedAt, IsUnanswered};
+ghost use Rattle.base_language.specs.Language.Expression.{Grammar};
+ghost use Rattle.matcher_support.specs.Compiled.{AreExpectedIn, IsCompiledOf, IsUnanswered};
 ghost use Rattle.pest_run.specs.Failures.{IsEarlier, IsFound};
 ghost use Rattle.pest_run.specs.Outcomes.{tells_expected};
 
 use crate::arguments::Format;
 use crate::messages::is_more;
-use matcher_engine::matcher::{Matcher, Preorder};
-use matcher_program::answers::Refusal;
+use matcher_engine::block::BlockStop;
+use matcher_engine::matcher::Preorder;
+use matcher_support::compiled::CompiledRules;
 use std::alloc::Global;
 
 /// How many bytes before the furthest failure an earlier position with names is looked for.
@@ -36,24 +37,27 @@ pub struct Earlier<'a> {
 
 /// Looks for the names that are expected at the furthest failure; where there are none, for the last position
 /// before it, but not the text's start, that has names. That one is looked for in 64 bytes, by a run for each
-/// position. A run takes so many steps at most. Errors are those of `Matcher::expected_at`.
+/// position, of so many steps at most; nothing is compiled again. Errors are those of
+/// `CompiledRules::expected_at`.
 pub fn find_failure<'a>(
     alloc: Global,
-    matcher: &'a Matcher,
+    rules: &'a CompiledRules<'a>,
     rule: &'a str,
     text: &'a str,
     furthest: usize,
     steps: u64,
-) -> Result<Failure<'a>, Refusal<'a>>
+) -> Result<Failure<'a>, BlockStop>
     requires { IsCharBoundary text.now furthest }
-    ensures found { IfOk result (IsFound (grammar_in matcher.entry.now) (properties_in matcher.entry.now)
-        (chars rule.entry.now) text.entry.now furthest) }
-    ensures refused { IfErr result (IsUnanswered (grammar_in matcher.entry.now)
-        (properties_in matcher.entry.now) (chars rule.entry.now) text.entry.now steps) }
+    ensures place { IfOk result (λ failure. IsCharBoundary text.entry.now failure.place) }
+    ensures furthest { IfOk result (λ failure. failure.furthest ≡ furthest) }
+    ensures found { (g : Grammar) → IsCompiledOf g rules.entry.now
+        → IfOk result (IsFound g rule.entry.now text.entry.now furthest) }
+    ensures refused { (g : Grammar) → IsCompiledOf g rules.entry.now
+        → IfErr result (IsUnanswered g rule.entry.now text.entry.now steps) }
 {
-    let names = matcher.expected_at(alloc, rule, text, furthest, steps)?;
+    let names = rules.expected_at(alloc, rule, text, furthest, steps)?;
     if names.is_empty() {
-        if let Some(earlier) = find_earlier(alloc, matcher, rule, text, furthest, steps)? {
+        if let Some(earlier) = find_earlier(alloc, rules, rule, text, furthest, steps)? {
             return Ok(Failure {
                 furthest,
                 place: earlier.place,
@@ -70,19 +74,20 @@ pub fn find_failure<'a>(
 
 /// Looks for the last position before the furthest failure, but not the text's start, at which names are
 /// expected, in so many steps at most for each. Returns none where it is not in 64 bytes. Errors are those of
-/// `Matcher::expected_at`.
+/// `CompiledRules::expected_at`.
 fn find_earlier<'a>(
     alloc: Global,
-    matcher: &'a Matcher,
+    rules: &'a CompiledRules<'a>,
     rule: &'a str,
     text: &'a str,
     furthest: usize,
     steps: u64,
-) -> Result<Option<Earlier<'a>>, Refusal<'a>>
-    ensures found { IfOk result (λ found. IfSome found (IsEarlier (grammar_in matcher.entry.now)
-        (properties_in matcher.entry.now) (chars rule.entry.now) text.entry.now furthest)) }
-    ensures refused { IfErr result (IsUnanswered (grammar_in matcher.entry.now)
-        (properties_in matcher.entry.now) (chars rule.entry.now) text.entry.now steps) }
+) -> Result<Option<Earlier<'a>>, BlockStop>
+    ensures place { IfOk result (λ found. IfSome found (λ it. IsCharBoundary text.entry.now it.place)) }
+    ensures found { (g : Grammar) → IsCompiledOf g rules.entry.now
+        → IfOk result (λ found. IfSome found (IsEarlier g rule.entry.now text.entry.now furthest)) }
+    ensures refused { (g : Grammar) → IsCompiledOf g rules.entry.now
+        → IfErr result (IsUnanswered g rule.entry.now text.entry.now steps) }
 {
     for back in 1..=MOST_BACK {
         if back >= furthest {
@@ -90,7 +95,7 @@ fn find_earlier<'a>(
         }
         let place = furthest - back;
         if text.is_char_boundary(place) {
-            let names = matcher.expected_at(alloc, rule, text, place, steps)?;
+            let names = rules.expected_at(alloc, rule, text, place, steps)?;
             if !names.is_empty() {
                 return Ok(Some(Earlier { place, names }));
             }
@@ -100,27 +105,26 @@ fn find_earlier<'a>(
 }
 
 /// Looks for the names that are expected at the furthest failure of a match, in so many steps at most, if the
-/// note on its end tells them. Errors are those of `Matcher::expected_at`.
+/// note on its end tells them. Errors are those of `CompiledRules::expected_at`.
 pub fn names_after<'a>(
     alloc: Global,
-    matcher: &'a Matcher,
+    rules: &'a CompiledRules<'a>,
     rule: &'a str,
     text: &'a str,
     found: &Preorder,
     format: Format,
     steps: u64,
-) -> Result<Vec<&'a str>, Refusal<'a>>
+) -> Result<Vec<&'a str>, BlockStop>
     requires { IsCharBoundary text.now found.now.end }
-    ensures expected { IfOk result (λ names.
+    ensures expected { (g : Grammar) → IsCompiledOf g rules.entry.now → IfOk result (λ names.
         tells_expected format text.entry.now found.now.end found.now.furthest ≡ true
-        → AreExpectedAt (grammar_in matcher.entry.now) (properties_in matcher.entry.now)
-        (chars rule.entry.now) text.entry.now found.now.furthest names.items) }
-    ensures refused { IfErr result (IsUnanswered (grammar_in matcher.entry.now)
-        (properties_in matcher.entry.now) (chars rule.entry.now) text.entry.now steps) }
+        → AreExpectedIn g rule.entry.now text.entry.now found.now.furthest names.items) }
+    ensures refused { (g : Grammar) → IsCompiledOf g rules.entry.now
+        → IfErr result (IsUnanswered g rule.entry.now text.entry.now steps) }
 {
     match format {
         Format::Text if found.furthest >= found.end && is_more(&text[found.end..]) => {
-            matcher.expected_at(alloc, rule, text, found.furthest, steps)
+            rules.expected_at(alloc, rule, text, found.furthest, steps)
         }
         _ => Ok(Vec::new(alloc)),
     }

@@ -1,12 +1,13 @@
 //! The note on optimized rules.
-ghost use Rattle.std.specs.Prelude.{◌≡◌, IsErr, IsOk, true};
+ghost use Rattle.std.specs.Prelude.{◌≡◌, ℕ, List, IsErr, IsOk, true};
 ghost use Rattle.base_ast.specs.Optimized.{optimized_rules_of};
 ghost use Rattle.pest_run.specs.Forms.{HasMatch, IsMatchedBy, TellsForms};
+ghost use Rattle.pest_run.specs.Grammars.{IsReadFrom};
 ghost use Rattle.pest_run.specs.Messages.{optimized_text};
 ghost use Rattle.pest_run.specs.Written.{WritesLine};
 
 use crate::arguments::{Request, RuleForm, step_limit};
-use crate::run::read_rules;
+use crate::grammars::GrammarRules;
 use crate::sources::{Source, text_of};
 use base_ast::optimized::{OptimizedRule, release};
 use matcher_engine::matcher::Matcher;
@@ -23,36 +24,34 @@ const OPTIMIZED_MATCH: &str =
 /// rules fail as they are written. None is written after an allocation failure, or if the run is stopped.
 pub fn note_forms<E: Write>(
     alloc: Global,
-    grammar: &Source<'_>,
+    grammar: &GrammarRules,
     text: &Source<'_>,
     request: Request<'_>,
     err: &mut Output<E>,
 ) -> Result<(), RefusedWrite>
-    ensures tells { TellsForms grammar.now.bytes.items request.entry.rule.now text.now.bytes.items
+    ensures tells { (spelled : List ℕ) → IsReadFrom spelled grammar.now
+        → TellsForms spelled request.entry.rule.now text.now.bytes.items
         (err.new ≡ err.old) result (E.contents err.old.writer) (E.contents err.new.writer) }
     ensures told { IsOk result → err.new.refused ≡ err.old.refused }
     ensures refused_line { IsErr result → err.new.refused ≡ true }
 {
-    let Some(rules) = text_of(grammar) else {
-        return Ok(());
-    };
     let Some(input) = text_of(text) else {
         return Ok(());
     };
-    if are_matched(alloc, rules, input, request) {
+    if are_matched(alloc, grammar, input, request) {
         write_note(err)
     } else {
         Ok(())
     }
 }
 
-/// Returns whether the optimized rules of a grammar match a text. No match is found where the grammar is
-/// refused, an allocation failed or the run is stopped.
-fn are_matched(alloc: Global, grammar: &str, text: &str, request: Request<'_>) -> bool
-    ensures { result ≡ true
-        → IsMatchedBy RuleForm.Optimized grammar.now request.entry.rule.now text.now }
+/// Returns whether the optimized rules of a grammar match a text. No match is found where an allocation
+/// failed or the run is stopped.
+fn are_matched(alloc: Global, grammar: &GrammarRules, text: &str, request: Request<'_>) -> bool
+    ensures { (spelled : List ℕ) → IsReadFrom spelled grammar.now → result ≡ true
+        → IsMatchedBy RuleForm.Optimized spelled request.entry.rule.now text.now }
 {
-    let Ok(rules) = read_rules(alloc, grammar, RuleForm::Optimized) else {
+    let Ok(rules) = grammar.to_run(alloc, RuleForm::Optimized) else {
         return false;
     };
     let steps = step_limit(request.steps, text.len());

@@ -8,28 +8,39 @@ ghost use Rattle.pest_run.specs.Listing.{ListsRules};
 ghost use Rattle.pest_run.specs.Written.{IsReadable, PrintsTrees};
 
 mod arguments;
+mod codes;
 mod ends;
 mod failures;
 mod forms;
+mod grammars;
 mod listing;
 mod messages;
 mod outcomes;
+mod properties;
 mod rule_names;
 mod run;
 mod sources;
 
-use arguments::{Request, RuleForm, asks_for_rules, command, form_of, format_of, steps_of};
+use arguments::{
+    Request, RuleForm, asks_for_rules, command, compile_target, form_of, format_of, steps_of,
+};
 use clap::ArgMatches;
+use codes::{compile_file, is_code, run_code};
 use forms::note_forms;
+use grammars::Reading;
 use listing::list_file;
 use program_support::escape::escape_lines;
 use program_support::input::read_input;
+use program_support::messages::cannot_write;
 use program_support::output::Output;
 use program_support::status::Status;
+use properties::note_property;
 use run::run_files;
 use sources::Source;
 use std::alloc::AllocError;
 use std::env;
+use std::fs::File;
+use std::io::{self, Write};
 use std::process::ExitCode;
 
 /// Reads the file of that name, or standard input for `-`. The source has the bytes, or the reason why they
@@ -57,13 +68,74 @@ fn match_files(
         → PrintsTrees request.entry.form grammar.now.bytes.items request.entry.rule.now text.now.bytes.items
         request.entry.format None None }
 {
+    let alloc = rt.alloc();
     let mut out = Output::new(rt.stdout());
     let mut err = Output::new(rt.stderr());
-    let exit = run_files(rt.alloc(), grammar, text, request, &mut out, &mut err);
-    if exit.status == Status::Found.code() && matches!(request.form, RuleForm::Written) {
-        let _ = note_forms(rt.alloc(), grammar, text, request, &mut err);
+    let mut reading = Reading::Nothing;
+    let exit = run_files(
+        alloc,
+        grammar,
+        text,
+        request,
+        &mut reading,
+        &mut out,
+        &mut err,
+    );
+    if exit.status == Status::Found.code() {
+        let _ = match (&reading, request.form) {
+            (Reading::Accepted(rules), RuleForm::Written) => {
+                note_forms(alloc, rules, text, request, &mut err)
+            }
+            (Reading::Refused(errors), _) => note_property(alloc, errors, &mut err),
+            _ => Ok(()),
+        };
     }
     exit.status
+}
+
+/// Runs the program on a compiled grammar and a text with the process's own output, and returns the status.
+fn match_by_code(rt: &HostRuntime, code: &Source<'_>, text: &Source<'_>, request: Request<'_>) -> u8
+    ensures known { result ≤ 6 }
+    ensures read { result ≢ 3 → (code.now.why ≡ None) × IsReadable text.now }
+{
+    let mut out = Output::new(rt.stdout());
+    let mut err = Output::new(rt.stderr());
+    run_code(rt.alloc(), code, text, request, &mut out, &mut err).status
+}
+
+/// Compiles a grammar to the file of a name, with the process's own output, and returns the status.
+fn compile(rt: &HostRuntime, grammar: &Source<'_>, target: &str) -> Result<u8, AllocError> {
+    let alloc = rt.alloc();
+    let mut err = Output::new(rt.stderr());
+    let mut reading = Reading::Nothing;
+    match compile_file(alloc, grammar, &mut reading, &mut err) {
+        Ok(block) => match write_code(rt, target, &block) {
+            Ok(()) => Ok(Status::Done.code()),
+            Err(error) => {
+                let why = format!(in alloc; "{error}")?;
+                let message = cannot_write(alloc, target, why.as_str())?;
+                let _ = err.write_text(message.as_str());
+                Ok(Status::Unwritable.code())
+            }
+        },
+        Err(exit) => {
+            if let Reading::Refused(errors) = &reading {
+                let _ = note_property(alloc, errors, &mut err);
+            }
+            Ok(exit.status)
+        }
+    }
+}
+
+/// Writes bytes to the file of a name, or to standard output for `-`.
+fn write_code(rt: &HostRuntime, name: &str, bytes: &[u8]) -> io::Result<()> {
+    if name == "-" {
+        let mut stdout = rt.stdout();
+        stdout.write_all(bytes)?;
+        stdout.flush()
+    } else {
+        File::create(rt, name)?.write_all(bytes)
+    }
 }
 
 /// Lists the rules of a grammar with the process's own output, and returns the status.
@@ -100,6 +172,9 @@ fn print_usage(rt: &HostRuntime, error: &clap::Error) -> Result<Status, AllocErr
 /// Does what a command line asks for, and returns the status.
 fn answer_request(rt: &HostRuntime, matches: &ArgMatches<'_>) -> Result<u8, AllocError> {
     let grammar = source(rt, matches.get_str("GRAMMAR").unwrap_or(""))?;
+    if let Some(target) = compile_target(matches) {
+        return compile(rt, &grammar, target);
+    }
     if asks_for_rules(matches) {
         return Ok(list_names(rt, &grammar));
     }
@@ -110,6 +185,9 @@ fn answer_request(rt: &HostRuntime, matches: &ArgMatches<'_>) -> Result<u8, Allo
         form: form_of(matches),
         steps: steps_of(matches),
     };
+    if is_code(&grammar) {
+        return Ok(match_by_code(rt, &grammar, &text, request));
+    }
     Ok(match_files(rt, &grammar, &text, request))
 }
 

@@ -1,14 +1,15 @@
 //! Messages without hidden characters.
-ghost use Rattle.std.specs.Prelude.{◌≡◌, ◌++◌, IfOk, OnOk, string_bytes};
+ghost use Rattle.std.specs.Prelude.{◌≡◌, ◌++◌, IfOk, OnOk, codes, string_bytes};
 ghost use Rattle.std.specs.Str.{IsCharBoundary};
 ghost use Rattle.matcher_program.specs.ExpectedNames.{name_texts};
-ghost use Rattle.base_ast.specs.Optimized.{optimized_rules_of};
+ghost use Rattle.base_language.specs.Language.Expression.{Grammar};
+ghost use Rattle.matcher_engine.specs.Walks.{AreNamesOf};
+ghost use Rattle.program_support.specs.Escapes.{escaped_bytes};
 ghost use Rattle.pest_run.specs.Messages.{end_text, expected_text, failure_text, further_text, is_more, names_text, no_rule_text, note_between, place_text, steps_text, suggestion, unread_text};
 ghost use Rattle.base_language.specs.Pieces.LineColumn.{line_column};
 
 use crate::failures::Failure;
 use crate::rule_names::near_names;
-use base_ast::optimized::OptimizedRule;
 use base_language::runtime::Position;
 use matcher_support::expectations::{add_names, failure_message};
 use program_support::escape::escape;
@@ -17,17 +18,13 @@ use std::alloc::{AllocError, Global};
 /// The greatest number of names that a message suggests.
 const SUGGESTED: usize = 5;
 
-/// Returns the message that rules have no name, with the first of their names that are near it. The only
+/// Returns the message that no rule has a name, with the first of the rules' names that are near it. The only
 /// error is an allocation failure.
-pub fn no_rule_message(
-    alloc: Global,
-    rules: &[OptimizedRule],
-    name: &str,
-) -> Result<String, AllocError>
-    ensures { IfOk result (λ message. string_bytes message
-        ≡ no_rule_text (optimized_rules_of rules.now) name.now) }
+pub fn no_rule_message(alloc: Global, names: &[&str], name: &str) -> Result<String, AllocError>
+    ensures { IfOk result (λ message. (g : Grammar) → AreNamesOf g names.now
+        → string_bytes message ≡ no_rule_text g name.now) }
 {
-    let mut near = near_names(alloc, rules, name)?;
+    let mut near = near_names(alloc, names, name)?;
     near.truncate(SUGGESTED);
     let question = suggest(alloc, &near)?;
     let shown = escape(alloc, name)?;
@@ -61,6 +58,20 @@ pub fn unread_message(alloc: Global, name: &str, why: &str) -> Result<String, Al
     message.push_str(shown_name.as_str())?;
     message.push_str(": ")?;
     message.push_str(shown_why.as_str())?;
+    Ok(message)
+}
+
+/// Returns the message that a file is not run as a compiled grammar, and why. The only error is an allocation
+/// failure.
+pub fn code_message(alloc: Global, name: &str, why: &str) -> Result<String, AllocError>
+    ensures { IfOk result (λ message. string_bytes message
+        ≡ codes "cannot run " ++ escaped_bytes name.now ++ codes ": " ++ why.now) }
+{
+    let file = escape(alloc, name)?;
+    let mut message = String::from_str(alloc, "cannot run ")?;
+    message.push_str(file.as_str())?;
+    message.push_str(": ")?;
+    message.push_str(why)?;
     Ok(message)
 }
 

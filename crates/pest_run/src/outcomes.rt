@@ -1,13 +1,17 @@
 //! The outcome of a rule on a text.
-ghost use Rattle.std.specs.Prelude.{◌≡◌, ℕ, IfOk, option_map, string_bytes};
+ghost use Rattle.std.specs.Prelude.{◌≡◌, ℕ, List, IfOk, IsSomeAnd, IsUtf8, chars, option_map, string_bytes};
 ghost use Rattle.base_ast.specs.Optimized.{optimized_rules_of};
-ghost use Rattle.base_language.specs.Language.State.{Classes, State, Trees};
+ghost use Rattle.base_ast.specs.declared.optimized.OptimizedRule.{OptimizedRule};
+ghost use Rattle.base_language.specs.Language.Expression.{Grammar};
+ghost use Rattle.base_language.specs.Language.State.{Trees};
 ghost use Rattle.base_language.specs.Language.Text.{Text};
-ghost use Rattle.matcher_engine.specs.Matchers.{grammar_in};
 ghost use Rattle.matcher_engine.specs.Preorders.{HasPreorder};
-ghost use Rattle.matcher_engine.specs.Walks.{visits, visits_left};
+ghost use Rattle.matcher_engine.specs.Walks.{AreNamesOf, visits, visits_left};
+ghost use Rattle.matcher_program.specs.Answers.{start_of};
 ghost use Rattle.matcher_program.specs.ExpectedNames.{name_texts};
 ghost use Rattle.std.specs.Str.{IsCharBoundary};
+ghost use Rattle.matcher_support.specs.Compiled.{FailsIn, IsCompiled, IsCompiledOf, IsUnanswered};
+ghost use Rattle.matcher_support.specs.Sets.{is_in_property};
 ghost use Rattle.matcher_support.specs.Shown.{shown};
 ghost use Rattle.program_support.specs.Escapes.{escaped_lines};
 ghost use Rattle.pest_run.specs.Outcomes.{IsFailureReport, IsMatchReport, IsNoRuleReport, IsOutcome, IsStopReport, ReportsFailure, end_note, trees_text, unfit_outcome};
@@ -16,10 +20,12 @@ use crate::arguments::Format;
 use crate::failures::{Failure, find_failure, names_after};
 use crate::messages::{describe_failure, end_message, is_more, no_rule_message, steps_message};
 use base_language::runtime::{Error, ErrorVariant, Fault, Position};
-use matcher_engine::matcher::{Matcher, Preorder};
+use matcher_engine::block::{BlockStop, compile_block};
+use matcher_engine::matcher::Preorder;
 use matcher_engine::walk::TreeWalk;
-use matcher_program::answers::{Refusal, Stop};
+use matcher_program::answers::Stop;
 use matcher_program::compile::Unfit;
+use matcher_support::compiled::CompiledRules;
 use matcher_support::json::tree_json;
 use matcher_support::lines::tree_lines;
 use matcher_support::shown::tree_text;
@@ -65,48 +71,147 @@ pub fn outcome_of(
 ) -> Outcome
     ensures { IsOutcome (optimized_rules_of rules.now) rule.now name.now text.now format steps result }
 {
-    let matcher = match Matcher::new(alloc, rules, &UnicodeProperties) {
-        Ok(matcher) => matcher,
-        Err(unfit) => return unfit_outcome(unfit),
-    };
-    match matcher.match_text(alloc, rule, text, steps) {
-        Ok(found) => match names_after(alloc, &matcher, rule, text, &found, format, steps) {
-            Ok(names) => shown_outcome(alloc, &matcher, text, &found, &names, format),
-            Err(Refusal::UnknownRule(_)) => no_rule_outcome(alloc, rules, rule),
-            Err(Refusal::NoMatch(_)) => unreachable!(),
-            Err(Refusal::Stopped(stop)) => stopped_outcome(alloc, stop, steps),
+    match compile_block(alloc, rules, &UnicodeProperties) {
+        Ok(block) => match block_outcome(alloc, &block, rule, name, text, format, steps) {
+            Some(outcome) => outcome,
+            None => unreachable!(),
         },
-        Err(Refusal::UnknownRule(_)) => no_rule_outcome(alloc, rules, rule),
-        Err(Refusal::NoMatch(furthest)) => {
-            match find_failure(alloc, &matcher, rule, text, furthest, steps) {
-                Ok(failure) => failed_outcome(alloc, name, text, &failure),
-                Err(Refusal::UnknownRule(_)) => no_rule_outcome(alloc, rules, rule),
-                Err(Refusal::NoMatch(_)) => unreachable!(),
-                Err(Refusal::Stopped(stop)) => stopped_outcome(alloc, stop, steps),
-            }
+        Err(unfit) => unfit_outcome(unfit),
+    }
+}
+
+/// Runs the rule of that name of a compiled grammar on the text of a file, in so many steps at most, and
+/// returns the outcome. Returns none for bytes that are no compiled grammar.
+pub fn block_outcome(
+    alloc: Global,
+    block: &[u8],
+    rule: &str,
+    name: &str,
+    text: &str,
+    format: Format,
+    steps: u64,
+) -> Option<Outcome>
+    ensures { (rules : List OptimizedRule) → IsCompiled rules block.now → IsSomeAnd result
+        (IsOutcome (optimized_rules_of rules) rule.now name.now text.now format steps) }
+{
+    match CompiledRules::read(alloc, block) {
+        Ok(Some(rules)) => run_outcome(alloc, &rules, rule, name, text, format, steps),
+        Ok(None) => None,
+        Err(_) => Some(Outcome::Memory),
+    }
+}
+
+/// Runs the rule of that name, as `block_outcome`.
+fn run_outcome(
+    alloc: Global,
+    rules: &CompiledRules<'_>,
+    rule: &str,
+    name: &str,
+    text: &str,
+    format: Format,
+    steps: u64,
+) -> Option<Outcome>
+    ensures { (g : Grammar) → IsCompiledOf g rules.now → IsSomeAnd result
+        (IsOutcome g rule.now name.now text.now format steps) }
+{
+    match rules.match_text(alloc, rule, text, steps) {
+        Ok(found) => match_outcome(alloc, rules, rule, text, &found, format, steps),
+        Err(BlockStop::NoMatch(place)) => {
+            failure_outcome(alloc, rules, rule, name, text, place, steps)
         }
-        Err(Refusal::Stopped(stop)) => stopped_outcome(alloc, stop, steps),
+        Err(BlockStop::NoRule) => refusal_outcome(alloc, rules, rule, BlockStop::NoRule, steps),
+        Err(BlockStop::Stopped(stop)) => {
+            refusal_outcome(alloc, rules, rule, BlockStop::Stopped(stop), steps)
+        }
+        Err(BlockStop::Flaw(_)) => None,
+    }
+}
+
+/// Returns the outcome of a rule that matches a text. Returns none where the positions of the match are not
+/// between two characters.
+fn match_outcome(
+    alloc: Global,
+    rules: &CompiledRules<'_>,
+    rule: &str,
+    text: &str,
+    found: &Preorder,
+    format: Format,
+    steps: u64,
+) -> Option<Outcome>
+    ensures { (g : Grammar) → IsCompiledOf g rules.now → (name : List ℕ)
+        → HasPreorder g (chars rule.now) (start_of text.now) is_in_property found.now
+        → IsSomeAnd result (IsOutcome g rule.now name text.now format steps) }
+{
+    if !text.is_char_boundary(found.end) || !text.is_char_boundary(found.furthest) {
+        return None;
+    }
+    match names_after(alloc, rules, rule, text, found, format, steps) {
+        Ok(names) => {
+            let walk = rules.walk(alloc, found);
+            Some(shown_outcome(alloc, text, walk, found, &names, format))
+        }
+        Err(stop) => refusal_outcome(alloc, rules, rule, stop, steps),
+    }
+}
+
+/// Returns the outcome of a rule that fails on the text of a file, with its furthest failure at a byte
+/// position. Returns none where that is not between two characters.
+fn failure_outcome(
+    alloc: Global,
+    rules: &CompiledRules<'_>,
+    rule: &str,
+    name: &str,
+    text: &str,
+    place: usize,
+    steps: u64,
+) -> Option<Outcome>
+    ensures { (g : Grammar) → IsCompiledOf g rules.now → (format : Format)
+        → FailsIn g rule.now text.now place
+        → IsSomeAnd result (IsOutcome g rule.now name.now text.now format steps) }
+{
+    if !text.is_char_boundary(place) {
+        return None;
+    }
+    match find_failure(alloc, rules, rule, text, place, steps) {
+        Ok(failure) => Some(failed_outcome(alloc, name, text, &failure)),
+        Err(stop) => refusal_outcome(alloc, rules, rule, stop, steps),
+    }
+}
+
+/// Returns the outcome of a run without an answer. Returns none for bytes that are no compiled grammar.
+fn refusal_outcome(
+    alloc: Global,
+    rules: &CompiledRules<'_>,
+    rule: &str,
+    stop: BlockStop,
+    steps: u64,
+) -> Option<Outcome>
+    ensures { (g : Grammar) → IsCompiledOf g rules.now → (name text : List ℕ) → IsUtf8 text
+        → (format : Format) → IsUnanswered g rule.now text steps stop
+        → IsSomeAnd result (IsOutcome g rule.now name text format steps) }
+{
+    match stop {
+        BlockStop::NoRule => Some(no_rule_outcome(alloc, rules.rule_names(), rule)),
+        BlockStop::Stopped(stop) => Some(stopped_outcome(alloc, stop, steps)),
+        BlockStop::NoMatch(_) | BlockStop::Flaw(_) => None,
     }
 }
 
 /// Returns the outcome of a rule that matches a text, up to a byte position between two characters, where
-/// these names are expected at the furthest failure.
+/// these names are expected at the furthest failure. The walk is that over the trees of the match.
 fn shown_outcome(
     alloc: Global,
-    matcher: &Matcher,
     text: &str,
+    walk: TreeWalk<'_, '_>,
     found: &Preorder,
     names: &[&str],
     format: Format,
 ) -> Outcome
     requires end { IsCharBoundary text.now found.now.end }
     requires place { IsCharBoundary text.now found.now.furthest }
-    ensures { (n : Text) (s : State) (classes : Classes)
-        → (x : HasPreorder (grammar_in matcher.now) n s classes found.now)
-        → IsMatchReport text.now format found.now.end found.now.furthest
-        (name_texts names.now) x.trees result }
+    ensures { (row : Text → ℕ) (trees : Trees) → visits_left walk.entry ≡ visits row 0 0 trees
+        → IsMatchReport text.now format found.now.end found.now.furthest (name_texts names.now) trees result }
 {
-    let walk = matcher.walk(alloc, found);
     match lines_of(alloc, text, walk, found.end, format) {
         Ok(lines) => match note_of(alloc, text, found, names, format) {
             Ok(note) => Outcome::Shown { lines, note },
@@ -216,11 +321,11 @@ fn failed_outcome(alloc: Global, name: &str, text: &str, failure: &Failure<'_>) 
     }
 }
 
-/// Returns the outcome of a name that no rule has.
-fn no_rule_outcome(alloc: Global, rules: &[OptimizedRule], rule: &str) -> Outcome
-    ensures { IsNoRuleReport (optimized_rules_of rules.now) rule.now result }
+/// Returns the outcome of a name that no rule has, by the names of the rules.
+fn no_rule_outcome(alloc: Global, names: &[&str], rule: &str) -> Outcome
+    ensures { (g : Grammar) → AreNamesOf g names.now → IsNoRuleReport g rule.now result }
 {
-    match no_rule_message(alloc, rules, rule) {
+    match no_rule_message(alloc, names, rule) {
         Ok(message) => Outcome::NoRule(message),
         Err(_) => Outcome::Memory,
     }

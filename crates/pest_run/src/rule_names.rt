@@ -1,8 +1,8 @@
 //! Names of rules, and near names.
-ghost use Rattle.std.specs.Prelude.{◌≡◌, ◌++◌, IfOk, OnOk, codes, string_bytes};
+ghost use Rattle.std.specs.Prelude.{◌≡◌, ◌++◌, IfOk, OnOk, chars, codes, encode_utf8_all, string_bytes};
 ghost use Rattle.base_ast.specs.Optimized.{optimized_rules_of};
 ghost use Rattle.matcher_program.specs.ExpectedNames.{name_texts};
-ghost use Rattle.pest_run.specs.RuleNames.{is_near, name_lines, near_names};
+ghost use Rattle.pest_run.specs.RuleNames.{is_near, name_lines, near_among};
 
 use base_ast::optimized::OptimizedRule;
 use std::alloc::{AllocError, Global};
@@ -30,24 +30,28 @@ fn add_line(lines: &mut String, name: &str) -> Result<(), AllocError>
     lines.push_str("\n")
 }
 
-/// Returns the names of rules that are near a name, in the order of the rules. The only error is an
-/// allocation failure.
+/// Returns those of some names that are near a name, in their order. The only error is an allocation failure.
 pub fn near_names<'r>(
     alloc: Global,
-    rules: &'r [OptimizedRule],
+    names: &[&'r str],
     name: &str,
 ) -> Result<Vec<&'r str>, AllocError>
-    ensures { IfOk result (λ near. name_texts near.items
-        ≡ near_names (optimized_rules_of rules.entry.now) name.now) }
+    ensures { IfOk result (λ near. name_texts near.items ≡ near_among (name_texts names.now) name.now) }
 {
     let mut near = Vec::new(alloc);
-    for rule in rules {
-        let other = rule.name.as_str();
-        if is_near(alloc, name, other)? {
-            near.push(other)?;
+    for other in names {
+        if is_near_text(alloc, name, other)? {
+            near.push(*other)?;
         }
     }
     Ok(near)
+}
+
+/// Returns whether a name is near another, by its characters. The only error is an allocation failure.
+fn is_near_text(alloc: Global, name: &str, other: &str) -> Result<bool, AllocError>
+    ensures { IfOk result (λ near. near ≡ is_near name.now (encode_utf8_all (chars other.now))) }
+{
+    is_near(alloc, name, other)
 }
 
 /// Returns whether a name differs from another in the case of letters alone, or by edits, of which swapping

@@ -1,18 +1,17 @@
 //! The program on read files.
-ghost use Rattle.std.specs.Prelude.{◌≡◌, ◌≢◌, ◌≤◌, IfErr, IfOk, IsErr, IsOk, codes, length, true};
-ghost use Rattle.base_ast.specs.Optimized.{optimized_rules_of};
-ghost use Rattle.pest_meta.specs.Spelling.{IsRefusal};
+ghost use Rattle.std.specs.Prelude.{◌≡◌, ◌≢◌, ◌≤◌, ℕ, List, IsErr, IsOk, codes, length, true};
 ghost use Rattle.pest_run.specs.Ends.{EndsAs, IsStatus};
+ghost use Rattle.pest_run.specs.Grammars.{IsReadFrom, IsReadingOf};
 ghost use Rattle.pest_run.specs.Steps.{step_limit};
-ghost use Rattle.pest_run.specs.Written.{AreRun, IsReadable, NotesEnd, PrintsTrees, ReportsReason, ReportsStop, ReportsUnread, WritesLine};
+ghost use Rattle.pest_run.specs.Written.{IsFormOutcome, IsReadable, NotesEnd, PrintsTrees, ReportsReason, ReportsStop, ReportsUnread, WritesLine};
 
-use crate::arguments::{Request, RuleForm, step_limit};
+use crate::arguments::{Request, step_limit};
 use crate::ends::{RunExit, exit_after_write, exit_with, report_refusal};
+use crate::grammars::{GrammarRules, Reading, read_grammar};
 use crate::outcomes::{Outcome, outcome_of};
 use crate::sources::{Source, text_of, unreadable};
-use base_ast::optimized::{OptimizedRule, release};
+use base_ast::optimized::release;
 use base_language::runtime::Fault;
-use pest_meta::{parse_and_optimize, parse_as_written};
 use program_support::output::Output;
 use program_support::status::Status;
 use std::alloc::Global;
@@ -20,15 +19,17 @@ use std::io::Write;
 
 /// Matches a text by the requested rule of a grammar, both read from files, and prints the trees to `out`, as
 /// `run` does. A file that can't be read or is not UTF-8 is reported on `err` with its name and the reason
-/// (3).
+/// (3). `reading` is what was read of the grammar.
 pub fn run_files<W: Write, E: Write>(
     alloc: Global,
     grammar: &Source<'_>,
     text: &Source<'_>,
     request: Request<'_>,
+    reading: &mut Reading,
     out: &mut Output<W>,
     err: &mut Output<E>,
 ) -> RunExit
+    ensures reading { IsReadingOf grammar.now.bytes.items reading.new }
     ensures known { result.status ≤ 5 }
     ensures read { result.status ≢ 3 → IsReadable grammar.now × IsReadable text.now }
     ensures unread { IsReadable grammar.now → IsReadable text.now → result.status ≢ 3 }
@@ -62,13 +63,14 @@ pub fn run_files<W: Write, E: Write>(
     ensures told { IsOk result.write_result → err.new.refused ≡ err.old.refused }
     ensures refused_line { IsErr result.write_result → err.new.refused ≡ true }
 {
+    *reading = Reading::Nothing;
     let Some(rules) = text_of(grammar) else {
         return unreadable(alloc, grammar, err);
     };
     let Some(input) = text_of(text) else {
         return unreadable(alloc, text, err);
     };
-    run(alloc, rules, text.name, input, request, out, err)
+    run(alloc, rules, text.name, input, request, reading, out, err)
 }
 
 /// Matches the text of a file of that name by the requested rule of a grammar, and prints the trees to `out`
@@ -78,16 +80,19 @@ pub fn run_files<W: Write, E: Write>(
 /// Otherwise one text with a line break at its end goes to `err`: the report of a grammar that is refused,
 /// that the grammar has no such rule, or the furthest position at which the rule fails with the expected set
 /// there (1); `out of memory` (2); `cannot write` where `out` refuses
-/// a write (4); why the run was stopped (5). A write that `err` refuses changes no status.
+/// a write (4); why the run was stopped (5). A write that `err` refuses changes no status. `reading` is what
+/// was read of the grammar: the rules, or the errors of a refusal, or nothing where an allocation failed.
 pub fn run<W: Write, E: Write>(
     alloc: Global,
     grammar: &str,
     name: &str,
     text: &str,
     request: Request<'_>,
+    reading: &mut Reading,
     out: &mut Output<W>,
     err: &mut Output<E>,
 ) -> RunExit
+    ensures reading { IsReadingOf grammar.now reading.new }
     ensures known { IsStatus result.status }
     ensures printed { result.status ≡ 0
         → PrintsTrees request.entry.form grammar.now request.entry.rule.now text.now request.entry.format
@@ -116,30 +121,44 @@ pub fn run<W: Write, E: Write>(
     ensures told { IsOk result.write_result → err.new.refused ≡ err.old.refused }
     ensures refused_line { IsErr result.write_result → err.new.refused ≡ true }
 {
-    match read_rules(alloc, grammar, request.form) {
+    *reading = Reading::Nothing;
+    match read_grammar(alloc, grammar) {
+        Ok(rules) => {
+            let outcome = form_outcome(alloc, &rules, name, text, request);
+            *reading = Reading::Accepted(rules);
+            print_outcome(outcome, out, err)
+        }
+        Err(Fault::Memory(_)) => exit_with(err, "out of memory", Status::OutOfMemory),
+        Err(Fault::Grammar(errors)) => {
+            let exit = report_refusal(alloc, &errors, err);
+            *reading = Reading::Refused(errors);
+            exit
+        }
+    }
+}
+
+/// Runs the requested rule, in the requested form of a grammar's rules, on the text of a file, and returns
+/// the outcome.
+fn form_outcome(
+    alloc: Global,
+    grammar: &GrammarRules,
+    name: &str,
+    text: &str,
+    request: Request<'_>,
+) -> Outcome
+    ensures { (spelled : List ℕ) → IsReadFrom spelled grammar.now
+        → IsFormOutcome request.entry.form spelled request.entry.rule.now name.now text.now
+        request.entry.format (step_limit request.entry.steps (length text.now)) result }
+{
+    match grammar.to_run(alloc, request.form) {
         Ok(rules) => {
             let (rule, format) = (request.rule, request.format);
             let steps = step_limit(request.steps, text.len());
             let outcome = outcome_of(alloc, &rules, rule, name, text, format, steps);
             release(rules);
-            print_outcome(outcome, out, err)
+            outcome
         }
-        Err(Fault::Memory(_)) => exit_with(err, "out of memory", Status::OutOfMemory),
-        Err(Fault::Grammar(errors)) => report_refusal(alloc, &errors, err),
-    }
-}
-
-/// Returns the rules of a grammar in the form in which they are run. Fails where `parse_and_optimize` does.
-pub fn read_rules(alloc: Global, grammar: &str, form: RuleForm) -> Result<Vec<OptimizedRule>, Fault>
-    ensures rules { IfOk result (λ rules. AreRun form grammar.now (optimized_rules_of rules.items)) }
-    ensures refused { IfErr result (IsRefusal grammar.now) }
-{
-    match form {
-        RuleForm::Written => parse_as_written(alloc, grammar),
-        RuleForm::Optimized => match parse_and_optimize(alloc, grammar) {
-            Ok((_, rules)) => Ok(rules),
-            Err(fault) => Err(fault),
-        },
+        Err(_) => Outcome::Memory,
     }
 }
 

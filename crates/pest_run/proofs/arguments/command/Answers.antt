@@ -5,9 +5,9 @@ use Rattle.pest_run.proofs.arguments.command.Goals as goal
 
 pub returns-clause-name : goal.returns-clause-name
 returns-clause-name c =
-    IfOk-weaker c.add_argument-7.result _ _
-    (λ command same. same ∙ c.in_ok-command-7.ensures.name ∙ c.in_ok-command-6.ensures.name ∙ c.in_ok-command-5.ensures.name ∙ c.in_ok-command-4.ensures.name ∙ c.in_ok-command-3.ensures.name ∙ c.in_ok-command-2.ensures.name ∙ c.in_ok-command.ensures.name)
-    c.add_argument-7.ensures.name
+    IfOk-weaker c.add_argument-8.result _ _
+    (λ command same. same ∙ c.in_ok-command-8.ensures.name ∙ c.in_ok-command-7.ensures.name ∙ c.in_ok-command-6.ensures.name ∙ c.in_ok-command-5.ensures.name ∙ c.in_ok-command-4.ensures.name ∙ c.in_ok-command-3.ensures.name ∙ c.in_ok-command-2.ensures.name ∙ c.in_ok-command.ensures.name)
+    c.add_argument-8.ensures.name
 
 pub returns-clause-arguments : goal.returns-clause-arguments
 returns-clause-arguments c =
@@ -15,8 +15,9 @@ returns-clause-arguments c =
     let two = one_argument_more _ _ _ _ one (c.in_ok-command-3.ensures.arguments _ c.optimized_argument.ensures) in
     let three = one_argument_more _ _ _ _ two (c.in_ok-command-4.ensures.arguments _ c.steps_argument.ensures) in
     let four = one_argument_more _ _ _ _ three (c.in_ok-command-5.ensures.arguments _ c.in_ok-list_argument.ensures) in
-    let five = one_argument_more _ _ _ _ four (c.in_ok-command-6.ensures.arguments _ c.grammar_argument.ensures) in
-    let six = one_argument_more _ _ _ _ five (c.in_ok-command-7.ensures.arguments _ c.in_ok-rule_argument.ensures) in
-    IfOk-weaker c.add_argument-7.result _ _
-    (λ command adds. one_argument_more _ _ _ _ six adds)
-    (c.add_argument-7.ensures.arguments _ c.text_argument.ensures)
+    let five = one_argument_more _ _ _ _ four (c.in_ok-command-6.ensures.arguments _ c.in_ok-compile_argument.ensures) in
+    let six = one_argument_more _ _ _ _ five (c.in_ok-command-7.ensures.arguments _ c.grammar_argument.ensures) in
+    let seven = one_argument_more _ _ _ _ six (c.in_ok-command-8.ensures.arguments _ c.in_ok-rule_argument.ensures) in
+    IfOk-weaker c.add_argument-8.result _ _
+    (λ command adds. one_argument_more _ _ _ _ seven adds)
+    (c.add_argument-8.ensures.arguments _ c.text_argument.ensures)
