@@ -1,15 +1,15 @@
 -- The text that a success takes.
-use Rattle.std.proofs.Common.{◌≡◌, refl, sym, ◌∙◌, ap, ap₂, ℕ, ◌+◌, ◌-◌, ◌*◌, ◌≤◌, List, [], ◌∷◌, ◌++◌, true, length, take, drop, replicate, arith, length-append}
+use Rattle.std.proofs.Common.{◌≡◌, refl, sym, ◌∙◌, ap, ap₂, ℕ, ◌+◌, ◌-◌, ◌*◌, ◌≤◌, List, [], ◌∷◌, ◌++◌, true, length, take, drop, replicate, arith, length-append, length-drop}
 use Rattle.std.specs.Prelude.{encode_utf8_all}
 use Rattle.std.specs.Char.{len_utf8}
 use Rattle.std.proofs.Math.Seq.{take-append_seam}
 use Rattle.std.proofs.Math.Utf8.{scalars}
 use Rattle.std.proofs.lemmas.List.Folds.{sum_by-replicate}
 use Rattle.std.proofs.lemmas.List.Sums.{sum_by-append, sum_by-cons}
-use Rattle.std.proofs.lemmas.Str.{len_utf8_bounds, scalars-chars}
+use Rattle.std.proofs.lemmas.Str.{encodes-chars, len_utf8_bounds, scalars-chars}
 use Rattle.base_language.specs.Language.Expression.{Grammar}
 use Rattle.base_language.specs.Language.Meaning.{Does, Task}
-use Rattle.base_language.specs.Language.Places.{Nested}
+use Rattle.base_language.specs.Language.Places.{IsStateIn, Nested}
 use Rattle.base_language.specs.Language.State.{Classes, None', State, Success, Tree, Trees}
 use Rattle.base_language.specs.Language.Text.{Text, size_of}
 use Rattle.base_language.proofs.Beginnings.{scalars_parts}
@@ -63,6 +63,18 @@ pub record IsBetween (text : List ℕ) (s t : State) (at : ℕ) : Type 0 where
   pub taken : take (length s.rest - length t.rest) s.rest ≡ front
   pub valid : scalars front ≡ true
   pub bytes : take (t.position - at) (drop at text) ≡ encode_utf8_all front
+
+-- a place is one of a text of as many bytes
+pub stands_in : {stack : List (List ℕ)} (text : List ℕ) (s : State) (at : ℕ) → IsAt text s at stack → (whole : Text) × IsStateIn whole s × (size_of whole ≡ length text)
+stands_in text s at h =
+    let whole = some_text s.position ++ s.rest in
+    let k : size_of whole ≡ size_of (some_text s.position) + size_of s.rest = sum_by-append len_utf8 (some_text s.position) s.rest in
+    let r : encode_utf8_all s.rest ≡ drop at text = ap encode_utf8_all h.rest ∙ encodes-chars (drop at text) h.valid in
+    let n : length (encode_utf8_all s.rest) ≡ length (drop at text) = ap length r in (
+      whole,
+      record { front = some_text s.position; split = refl; size = sym (some_size s.position) },
+      omega (arith, k, n, sizes s.rest, some_size s.position, h.position, h.within, length-drop at text),
+    )
 
 pub between : {g : Grammar} {classes : Classes} {k : Task} {s t : State} {us : Trees} {text : List ℕ} {at : ℕ} {stack : List (List ℕ)}
     → Does g classes k s (Success t us) → IsAt text s at stack → IsBetween text s t at

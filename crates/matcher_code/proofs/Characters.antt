@@ -1,20 +1,18 @@
 -- Expressions that match one character of a set, and as many as there are.
 use Rattle.std.proofs.Common.{◌≡◌, refl, sym, ◌∙◌, ap, subst, ℕ, zero, suc, ◌+◌, ◌≤◌, List, [], ◌∷◌, Bool, true, false, ◌&&◌, ◌||◌, Some, arith, add-zero, length, take, drop, if◌then◌else◌, ap₂}
-use Rattle.std.specs.Prelude.{not, max}
+use Rattle.std.specs.Prelude.{not}
 use Rattle.std.specs.List.{sum_by}
 use Rattle.std.specs.Char.{len_utf8}
 use Rattle.std.proofs.lemmas.List.Sums.{sum_by-cons}
 use Rattle.base_language.specs.Language.Text.{Text, size_of}
 use Rattle.base_language.specs.Language.Expression.{Choice, Expression, Grammar, Ident, NegPred, Rep, Rule, Seq, rule_of}
-use Rattle.base_language.specs.Language.Expected.{told}
-use Rattle.base_language.specs.Language.FurthestFailure.{place_of}
 use Rattle.base_language.specs.Language.State.{Classes, Mode, None', Outcome, State, Success, Failure, Tree, moved}
 use Rattle.base_language.specs.Language.Matching.{character_outcome, starts_in}
 use Rattle.base_language.specs.Language.Meaning as by
 use Rattle.base_language.specs.Language.Meaning.{Does, Run, Skipping, Task, Turns, body_mode, gives_token, seen_from, with_token}
 use Rattle.matcher_code.specs.Laid.{HasOutcome, IsTight, TakesSome, skip_set, span_of, IsSilent}
 use Rattle.matcher_code.specs.Failures.{Failures, both, in_silence, no_failure, unnamed}
-use Rattle.matcher_code.specs.Paths.{told_paths}
+use Rattle.matcher_code.proofs.Attempting.{called}
 
 -- a state by its parts
 abbrev here : ℕ → Text → List Text → State
@@ -138,10 +136,10 @@ module _ (g : Grammar) (classes : Classes) where
   silently m x s r t true h e d =
       let z : (seen_from m && gives_token r.type_of m) ≡ false = ap (λ b. seen_from m && b) e ∙ hidden (seen_from m) in
       subst (λ us. Quiet (Run m (Ident x)) s (Success t us)) (ap (λ b. if b then Tree r.name s.position t.position None' None' else None') e)
-      (by.call {m = m} h d.0, λ place. ap₂ (λ b i. record { furthest = max (place_of b s (Success t None')) i.furthest; names = told b x place s (Success t None') i.names; paths = told_paths b x place s (Success t None') i.paths }) z (d.1 place))
+      (by.call {m = m} h d.0, λ place. ap₂ (λ b i. called b (gives_token r.type_of m) x place s (Success t None') i) z (d.1 place) ∙ ap (λ v. called false v x place s (Success t None') no_failure) e)
   silently m x s r t false h e d =
       let z : (seen_from m && gives_token r.type_of m) ≡ false = ap (λ b. seen_from m && b) e ∙ hidden (seen_from m) in
-      (by.call {m = m} h d.0, λ place. ap₂ (λ b i. record { furthest = max (place_of b s Failure) i.furthest; names = told b x place s Failure i.names; paths = told_paths b x place s Failure i.paths }) z (d.1 place))
+      (by.call {m = m} h d.0, λ place. ap₂ (λ b i. called b (gives_token r.type_of m) x place s Failure i) z (d.1 place) ∙ ap (λ v. called false v x place s Failure no_failure) e)
 
   pub silent_call_of_set : (m : Mode) (x : Text) (r : Rule) (f : ℕ → Bool) → rule_of g x ≡ Some r → gives_token r.type_of m ≡ false
       → HasOutcome g classes (Run (body_mode r m) r.body) (character_outcome f) in_silence → HasOutcome g classes (Run m (Ident x)) (character_outcome f) in_silence

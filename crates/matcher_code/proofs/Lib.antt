@@ -4,6 +4,7 @@ pub mod Trees
 pub mod Reaching
 pub mod Forward
 pub mod LastNames
+pub mod Attempting
 pub mod Tracing
 pub mod OneDerivation
 pub mod Leaves

@@ -10,6 +10,7 @@ pub mod Steps
 pub mod Fused
 pub mod Begun
 pub mod Endings
+pub mod Attempts
 pub mod Paths
 pub mod Failures
 pub mod Laid

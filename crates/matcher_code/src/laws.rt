@@ -19,7 +19,7 @@ ghost use Rattle.matcher_code.specs.Laid.{AreLaid, HasOutcome, IsEnd, IsPoint, I
 ghost use Rattle.base_language.specs.Language.Expected.{expected_at};
 ghost use Rattle.matcher_code.specs.Paths.{last_name, paths_at};
 ghost use Rattle.matcher_code.specs.Reached.{Comes, IsAt, IsGuarded, MayAsk};
-ghost use Rattle.matcher_code.specs.Results.{HasFailed, HasSucceeded, start_config, start_of};
+ghost use Rattle.matcher_code.specs.Results.{HasAttempts, HasFailed, HasSucceeded, start_config, start_of, traced_start};
 ghost use Rattle.matcher_code.specs.Sizes.{least_steps, size};
 
 /// Where the operation 0 is `Fail` and each point of a list is laid by points of the list, the code of a
@@ -75,6 +75,19 @@ pub fn runs_have_results()
         → (asked : ℕ) → MayAsk exact text asked
         → (m : ℕ) → (IsEnd code (steps code text m (start_config l asked)).pc → ⊥)
         → (o : Outcome) (d : Does g classes k (start_of text) o) → m < 8 * size d }
+{}
+
+/// In such code, a run from the start of a text that comes to an end, and whose calls are recorded, has the
+/// attempts of an outcome of the task at the place that is asked for: the rules that an error of pest names.
+pub fn runs_have_attempts()
+    ensures { (exact : Bool) (g : Grammar) (classes : Classes) (code : CodeLists) (number : Text → ℕ)
+        (points : List Point) → op_at code [] 0 ≡ op.Fail → AreLaid exact g classes code number points
+        → (k : Task) (l n w : ℕ) → IsPoint points k l n w → 0 < w
+        → op_at code [] n ≡ op.Halt → op_at code [] w ≡ op.Lose
+        → (text : List ℕ) → IsUtf8 text → ((i : ℕ) → get_or text i 0 < 256)
+        → (asked : ℕ) → MayAsk exact text asked
+        → (m : ℕ) → IsEnd code (steps code text m (traced_start l asked)).pc
+        → HasAttempts g classes number k text (steps code text m (traced_start l asked)) }
 {}
 
 /// A call of a rule comes to `PEEK` or `POP` on the empty stack only where a rule calls that.

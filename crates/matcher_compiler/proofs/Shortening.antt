@@ -1,10 +1,9 @@
 -- Characters that forms take alone.
-use Rattle.std.proofs.Common.{◌≡◌, refl, sym, ◌∙◌, ap, ap₂, subst, ℕ, ◌<◌, ◌&&◌, List, [], ◌∷◌, Bool, true, false, if◌then◌else◌}
+use Rattle.std.proofs.Common.{◌≡◌, refl, sym, ◌∙◌, ap, subst, ℕ, ◌<◌, ◌&&◌, List, [], ◌∷◌, Bool, true, false, if◌then◌else◌}
 use Rattle.std.specs.Prelude.{Err, IfOk, IfSome, None, Ok, Option, Result, Some, not}
 use Rattle.std.specs.declared.alloc.Global.{Global}
 use Rattle.std.specs.declared.vec.Vec.{Vec}
 use Rattle.base_language.specs.Language.Expression.{Choice, Expression, NegPred, Opt, Seq}
-use Rattle.base_language.specs.Language.FurthestFailure.{place_of}
 use Rattle.base_language.specs.Language.Matching.{starts_in}
 use Rattle.base_language.specs.Language.Meaning as by
 use Rattle.base_language.specs.Language.Meaning.{Does, Run, Task}
@@ -12,9 +11,7 @@ use Rattle.base_language.specs.Language.State.{Failure, Mode, None', Success, mo
 use Rattle.base_language.specs.Language.Text.{Text}
 use Rattle.matcher_code.specs.Lists.{is_covered}
 use Rattle.matcher_code.specs.Laid.{Hits, IsSilent, Misses}
-use Rattle.matcher_code.specs.Paths.{paths_at}
 use Rattle.matcher_code.proofs.Characters.{not_and_then}
-use Rattle.matcher_code.proofs.Tracing.{no_paths}
 use Rattle.matcher_program.specs.declared.form.Form.{Form}
 use Rattle.matcher_program.specs.declared.form.Program.{Program}
 use Rattle.matcher_sets.specs.declared.heads.Head.{Head}
@@ -57,8 +54,7 @@ fails_before p m form h ranges rest has q n covers classes fits s hit = go s.res
           subst (Hits ranges) (sym e) (z.0, taken),
           (
             x.0,
-            λ place. ap₂ (λ i ns. record { furthest = i; names = ns; paths = paths_at place x.0 }) (x.1 ∙ ap (λ b. place_of b s Failure) n) (x.2 n place)
-                ∙ ap (λ ps. record { furthest = 0; names = []; paths = ps }) (no_paths place x.0 (x.2 n place)),
+            λ place. x.2 n place,
           ),
         )
 

@@ -345,7 +345,7 @@ pub fn compile(alloc: Global, program: &Program) -> Result<Code, NotCompiled>
 }
 
 /// Makes a program as `compile`, which calls each rule whose failure is recorded, so that its runs find the
-/// names that are expected.
+/// names that are expected, and the attempts of pest's errors.
 pub fn compile_for_names(alloc: Global, program: &Program) -> Result<Code, NotCompiled>
     requires sound { IsSoundProgram program.now }
     ensures { IfOk result (λ code. IsCodeOf true program.now (lists_of code)) }

@@ -9,15 +9,16 @@ use Rattle.std.proofs.lemmas.List.{get_or-set_other, get_or-set_same}
 use Rattle.base_ast.specs.Ast.{rule_type_of}
 use Rattle.base_language.specs.Language.Builtins.{is_between}
 use Rattle.base_language.specs.Language.Expression.{Choice, Expression, Grammar, Ident, Insens, NegPred, NodeTag, Opt, Rep, RepOnce, RestoreOnErr, Rule, Seq, Str, rule_of}
-use Rattle.base_language.specs.Language.Expected.{told}
 use Rattle.base_language.specs.Language.FurthestFailure.{furthest, place_of}
 use Rattle.base_language.specs.Language.Matching.{begins, starts_in}
 use Rattle.base_language.specs.Language.Meaning as by
 use Rattle.base_language.specs.Language.Meaning.{Does, Run, Skipping, body_mode, gives_token, mode_in, seen_from}
 use Rattle.base_language.specs.Language.State.{Classes, Failure, Mode, NonAtomicMode, None', State, Success, moved}
 use Rattle.base_language.specs.Language.Text.{Text}
+use Rattle.matcher_code.specs.Failures.{no_failure}
 use Rattle.matcher_code.specs.Lists.{is_covered}
-use Rattle.matcher_code.specs.Laid.{FailsOutside, IsTight, Misses, NamesNone, TakesNone}
+use Rattle.matcher_code.proofs.Attempting.{called}
+use Rattle.matcher_code.specs.Laid.{FailsOutside, IsTight, Misses, IsSilentUnless, TakesNone}
 use Rattle.matcher_program.specs.declared.form.Form.{Form}
 use Rattle.matcher_program.specs.declared.form.Program.{Program}
 use Rattle.matcher_program.specs.declared.form.Row.{Row}
@@ -30,7 +31,7 @@ use Rattle.matcher_sets.specs.Heads.{AreHeadsIn, HasFront, HasHead, IsCall, IsGa
 use Rattle.matcher_sets.specs.Modes.{mode_of}
 use Rattle.matcher_sets.specs.Ranges.{Adds}
 use Rattle.matcher_sets.proofs.Ranging.{between_same, covered-append, or_none}
-use Rattle.matcher_sets.proofs.Recording.{neither, silent_names, silent_place, three_unnamed, two_unnamed}
+use Rattle.matcher_sets.proofs.Recording.{negated_silent, neither, silent_place, silent_unless, three_unless, two_unless}
 use Rattle.matcher_sets.proofs.Rules.{in_mode, made}
 use Rattle.matcher_sets.proofs.Starting.{same_self}
 
@@ -58,7 +59,7 @@ beside_none a k b e h = omega (arith, e, h)
 -- an expression takes nothing, and neither does the skipping behind it
 abbrev pub HaveTaken : Grammar → Classes → Mode → Expression → State → Bool → Type 0
 HaveTaken g classes m a s n = (d : Does g classes (Run m a) s (Success s None'))
-    × ((k : Does g classes (Skipping m) s (Success s None')) × (max (furthest d) (furthest k) ≡ place_of n s Failure) × NamesNone n d × NamesNone n k)
+    × ((k : Does g classes (Skipping m) s (Success s None')) × (max (furthest d) (furthest k) ≡ place_of n s Failure) × IsSilentUnless n d × IsSilentUnless n k)
 
 module _ (g : Grammar) (classes : Classes) (m : Mode) where
   module _ (a b : Expression) where
@@ -71,7 +72,7 @@ module _ (g : Grammar) (classes : Classes) (m : Mode) where
         let i = misses_parts xs ys s.rest h in
         let u = x s i.0 in
         let v = y s i.1 in
-        (by.right u.0 v.0, ap₂ (λ p q. max p q) u.1 v.1 ∙ greater_place n k s.position, two_unnamed n k u.2 v.2)
+        (by.right u.0 v.0, ap₂ (λ p q. max p q) u.1 v.1 ∙ greater_place n k s.position, two_unless n k u.2 v.2)
 
     pub first_fails : (xs : List (ℕ × ℕ)) (n : Bool) → TakesNothing g classes (Run m a) xs false n → TakesNothing g classes (Run m (Seq a b)) xs false n
     first_fails xs n x s h = let u = x s h in (by.seq_first u.0, u.1, u.2)
@@ -81,7 +82,7 @@ module _ (g : Grammar) (classes : Classes) (m : Mode) where
     tight_takes xs n tight x s h =
         let u = x s h in
         let t = tight s in
-        (u.0, (t.0, beside_none (furthest u.0) (furthest t.0) (place_of n s Failure) u.1 (silent_place t.0 t.1), u.2, silent_names t.0 t.1 n))
+        (u.0, (t.0, beside_none (furthest u.0) (furthest t.0) (place_of n s Failure) u.1 (silent_place t.0 t.1), u.2, silent_unless t.0 t.1 n))
 
     pub skipping_takes : (xs ys : List (ℕ × ℕ)) (n k : Bool) → TakesNothing g classes (Run m a) xs true n → TakesNothing g classes (Skipping m) ys true k
         → (s : State) → Misses (xs ++ ys) s.rest → HaveTaken g classes m a s (n || k)
@@ -107,7 +108,7 @@ module _ (g : Grammar) (classes : Classes) (m : Mode) where
         let v = y s i.1 in (
           by.seq u.0 t.0 v.0,
           first_parts (furthest u.0) (furthest t.0) (furthest v.0) ∙ (ap₂ (λ p q. max p q) t.1 v.1 ∙ greater_place n k s.position),
-          three_unnamed n k t.2 t.3 v.2,
+          three_unless n k t.2 t.3 v.2,
         )
     both_take xs ys n false k x y s h =
         let i = misses_parts xs ys s.rest h in
@@ -116,7 +117,7 @@ module _ (g : Grammar) (classes : Classes) (m : Mode) where
         let v = y s i.1 in (
           by.seq_second u.0 t.0 v.0,
           first_parts (furthest u.0) (furthest t.0) (furthest v.0) ∙ (ap₂ (λ p q. max p q) t.1 v.1 ∙ greater_place n k s.position),
-          three_unnamed n k t.2 t.3 v.2,
+          three_unless n k t.2 t.3 v.2,
         )
 
   pub option_takes : (a : Expression) (xs : List (ℕ × ℕ)) (e n : Bool) → TakesNothing g classes (Run m a) xs e n → TakesNothing g classes (Run m (Opt a)) xs true n
@@ -127,7 +128,7 @@ module _ (g : Grammar) (classes : Classes) (m : Mode) where
   repetition_takes a xs n x s h = let u = x s h in (by.rep_none u.0, u.1, u.2)
 
   pub negation_takes : (a : Expression) (xs : List (ℕ × ℕ)) (n : Bool) → TakesNothing g classes (Run m a) xs false n → TakesNothing g classes (Run m (NegPred a)) xs true n
-  negation_takes a xs n x s h = let u = x s h in (by.neg_pred u.0, u.1, λ e place. refl)
+  negation_takes a xs n x s h = let u = x s h in (by.neg_pred u.0, u.1, λ e. negated_silent (u.2 e))
 
   pub tag_takes : (a : Expression) (t : Text) (xs : List (ℕ × ℕ)) (e n : Bool) → TakesNothing g classes (Run m a) xs e n → TakesNothing g classes (Run m (NodeTag a t)) xs e n
   tag_takes a t xs e n x s h = let u = x s h in (by.tag u.0, u.1, u.2)
@@ -138,13 +139,15 @@ module _ (g : Grammar) (classes : Classes) (m : Mode) where
   pub once_takes : (a : Expression) (xs : List (ℕ × ℕ)) (n : Bool) → TakesNothing g classes (Run m a) xs false n → TakesNothing g classes (Run m (RepOnce a)) xs false n
   once_takes a xs n x s h = let u = x s h in (by.rep_once (by.seq_first u.0), u.1, u.2)
 
-  pub call_takes : (x : Text) (r : Rule) (xs : List (ℕ × ℕ)) (n counts : Bool) → rule_of g x ≡ Some r → counts ≡ (seen_from m && gives_token r.type_of m)
+  pub call_takes : (x : Text) (r : Rule) (xs : List (ℕ × ℕ)) (n counts : Bool) → rule_of g x ≡ Some r → counts ≡ (seen_from m && gives_token r.type_of m) → counts ≡ gives_token r.type_of m
       → TakesNothing g classes (Run (body_mode r m) r.body) xs false n → TakesNothing g classes (Run m (Ident x)) xs false (counts || n)
-  call_takes x r xs n counts e c y s h =
+  call_takes x r xs n counts e c v y s h =
       let u = y s h in (
         by.call e u.0,
         ap₂ (λ p q. max p q) (ap (λ b. place_of b s Failure) (sym c)) u.1 ∙ greater_place counts n s.position,
-        λ z place. let q = neither counts n z in ap₂ (λ b w. told b x place s Failure w) (sym c ∙ q.0) (u.2 q.1 place),
+        λ z place.
+            let q = neither counts n z in
+            ap₂ (λ b i. called b (gives_token r.type_of m) x place s Failure i) (sym c ∙ q.0) (u.2 q.1 place) ∙ ap (λ b. called false b x place s Failure no_failure) (sym v ∙ q.0),
       )
 
   -- a literal, by its first character
@@ -158,7 +161,7 @@ module _ (g : Grammar) (classes : Classes) (m : Mode) where
       → (xs : List (ℕ × ℕ)) → Adds [] xs (is_between c c) → TakesNothing g classes (Run m (Str t)) xs false false
   literal_takes t c first xs adds s h =
       let k : begins nat_eq t s.rest ≡ false = begins_not t c s.rest first (one s.rest h) in
-      let P : Bool → Type 0 = λ b. (d : Does g classes (Run m (Str t)) s (if b then Success (moved (length t) s) None' else Failure)) × (furthest d ≡ 0) × NamesNone false d in
+      let P : Bool → Type 0 = λ b. (d : Does g classes (Run m (Str t)) s (if b then Success (moved (length t) s) None' else Failure)) × (furthest d ≡ 0) × IsSilentUnless false d in
       subst P k (by.str, refl, λ e place. refl)
     where
       one : (cs : Text) → Misses xs cs → Misses ((c, c) ∷ []) cs
@@ -196,7 +199,7 @@ pub any_case_takes : (g : Grammar) (classes : Classes) (m : Mode) (t : Text) (c 
     → (xs ys : List (ℕ × ℕ)) → Adds [] xs (is_between (to_ascii_lowercase c) (to_ascii_lowercase c)) → Adds xs ys (is_between (to_ascii_uppercase c) (to_ascii_uppercase c))
     → TakesNothing g classes (Run m (Insens t)) ys false false
 any_case_takes g classes m t c first xs ys low high s miss =
-    let P : Bool → Type 0 = λ b. (d : Does g classes (Run m (Insens t)) s (if b then Success (moved (length t) s) None' else Failure)) × (furthest d ≡ 0) × NamesNone false d in
+    let P : Bool → Type 0 = λ b. (d : Does g classes (Run m (Insens t)) s (if b then Success (moved (length t) s) None' else Failure)) × (furthest d ≡ 0) × IsSilentUnless false d in
     subst P (begins_none t s.rest first miss) (by.insens, refl, λ e place. refl)
   where
     outside : (d : ℕ) → d < 1114112 → is_covered ys d ≡ false → eq_ignore_ascii_case c d ≡ false
@@ -230,8 +233,8 @@ pub firsts_take : (p : Program) (f : Form) (m : Atomicity) (ranges : List (ℕ �
 firsts_take p f m ranges h classes fits s miss =
     let x = h classes fits in
     let y = x.holds m s in
-    subst (λ b. (d : Does (grammar_in p) classes (Run (mode_of m) (said p f)) s (if b then Success (moved (suc y.more) s) None' else Failure)) × (furthest d ≡ 0) × NamesNone false d)
-    (misses_starts ranges x.characters x.adds s.rest miss) (y.found, silent_place y.found y.quiet, silent_names y.found y.quiet false)
+    subst (λ b. (d : Does (grammar_in p) classes (Run (mode_of m) (said p f)) s (if b then Success (moved (suc y.more) s) None' else Failure)) × (furthest d ≡ 0) × IsSilentUnless false d)
+    (misses_starts ranges x.characters x.adds s.rest miss) (y.found, silent_place y.found y.quiet, silent_unless y.found y.quiet false)
 
 -- where a form never succeeds without taking something
 pub fails_outside : (p : Program) (m : Mode) (e : Expression) (h : Head) → HasHead p m e h → h.empty ≡ false → (classes : Classes) → Fits p.properties.items classes
@@ -330,11 +333,11 @@ module _ (p : Program) (m : Mode) (a b : Expression) where
   }
 
 pub call_head : (p : Program) (m : Mode) (x : Text) (r : Rule) (body head : Head) (counts : Bool) → rule_of (grammar_in p) x ≡ Some r
-    → counts ≡ (seen_from m && gives_token r.type_of m) → HasHead p (body_mode r m) r.body body → IsCall body counts head → HasHead p m (Ident x) head
-call_head p m x r body head counts e c has is = record {
+    → counts ≡ (seen_from m && gives_token r.type_of m) → counts ≡ gives_token r.type_of m → HasHead p (body_mode r m) r.body body → IsCall body counts head → HasHead p m (Ident x) head
+call_head p m x r body head counts e c v has is = record {
   takes = λ classes fits.
       let y = subst (λ v. TakesNothing (grammar_in p) classes (Run (body_mode r m) r.body) body.ranges.items v body.noted) is.takes (has.takes classes fits) in
-      let z = call_takes (grammar_in p) classes m x r body.ranges.items body.noted counts e c y in
+      let z = call_takes (grammar_in p) classes m x r body.ranges.items body.noted counts e c v y in
       subst (λ n. TakesNothing (grammar_in p) classes (Run m (Ident x)) head.ranges.items head.empty n) (sym is.noted)
       (subst (λ v. TakesNothing (grammar_in p) classes (Run m (Ident x)) head.ranges.items v (counts || body.noted)) (sym is.fails)
       (subst (λ r. TakesNothing (grammar_in p) classes (Run m (Ident x)) r false (counts || body.noted)) (sym is.ranges) z));

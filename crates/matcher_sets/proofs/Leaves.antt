@@ -14,6 +14,7 @@ use Rattle.base_language.specs.Language.Meaning as by
 use Rattle.base_language.specs.Language.Meaning.{Does, Run, seen_from}
 use Rattle.base_language.specs.Language.State.{AtomicMode, Classes, Failure, None', Outcome, State, Success, moved}
 use Rattle.base_language.specs.Language.Text.{Text}
+use Rattle.matcher_code.specs.Attempts.{no_attempt, told_attempts}
 use Rattle.matcher_code.specs.Lists.{CodeLists, is_covered}
 use Rattle.matcher_code.specs.declared.code.Op.TheVariants as op
 use Rattle.matcher_code.specs.Sets.{IsSetOf}
@@ -111,7 +112,13 @@ eoi_builtin = refl
 
 -- the failures of a name that is no rule's, which counts or not
 abbrev pub other_failures : Bool → Text → ℕ → State → Outcome → Failures
-other_failures b n place s o = record { furthest = place_of b s o; names = told b n place s o []; paths = told_paths b n place s o [] }
+other_failures b n place s o = record {
+  furthest = place_of b s o;
+  names = told b n place s o [];
+  paths = told_paths b n place s o [];
+  attempts = told_attempts b false n place s o no_attempt;
+  negated = told_attempts b true n place s o no_attempt;
+}
 
 pub unseen : (b : Bool) (n : Text) (place : ℕ) (s : State) (o : Outcome) → b ≡ false → other_failures b n place s o ≡ no_failure
 unseen b n place s (Success t us) e = ap (λ x. other_failures x n place s (Success t us)) e

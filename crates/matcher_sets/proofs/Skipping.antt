@@ -4,7 +4,6 @@ use Rattle.std.specs.Prelude.{max}
 use Rattle.std.proofs.lemmas.List.{length-map}
 use Rattle.base_ast.specs.Ast.{text_of}
 use Rattle.base_language.specs.Language.Expression.{Atomic, CompoundAtomic, Grammar, Ident, NonAtomic, Normal, Rule, RuleType, Silent, comment, rule_of, whitespace}
-use Rattle.base_language.specs.Language.Expected.{told}
 use Rattle.base_language.specs.Language.FurthestFailure.{furthest, is_eoi, place_of}
 use Rattle.base_language.specs.Language.Meaning as by
 use Rattle.base_language.specs.Language.Meaning.{Does, Run, Skipping, body_mode, gives_token, mode_in, seen_from, with_token}
@@ -12,7 +11,7 @@ use Rattle.base_language.specs.Language.State.{Between, Classes, Failure, Mode, 
 use Rattle.base_language.specs.Language.Text.{Text}
 use Rattle.base_language.proofs.Basics.{same_some}
 use Rattle.matcher_code.specs.Failures.{Failures, failures_at}
-use Rattle.matcher_code.specs.Paths.{told_paths}
+use Rattle.matcher_code.proofs.Attempting.{called}
 use Rattle.matcher_code.specs.Laid.{FailsOutside, Misses}
 use Rattle.matcher_program.specs.declared.form.Program.{Program}
 use Rattle.matcher_program.specs.declared.form.Row.{Row}
@@ -21,7 +20,8 @@ use Rattle.matcher_sets.specs.declared.heads.Head.{Head}
 use Rattle.matcher_sets.specs.Forms.{grammar_in, no_rule}
 use Rattle.matcher_sets.specs.Heads.{HasHead, IsGapHead, IsJoin, IsSkipHead, TakesNothing}
 use Rattle.matcher_sets.proofs.Heading.{fails_outside, greater_place, misses_parts}
-use Rattle.matcher_sets.proofs.Recording.{two_unnamed}
+use Rattle.matcher_sets.proofs.Leaves.{other_failures}
+use Rattle.matcher_sets.proofs.Recording.{three_unless}
 
 pub white_is_no_end : is_eoi whitespace ≡ false
 unfolding whitespace
@@ -78,22 +78,22 @@ module _ (g : Grammar) (classes : Classes) (x : Text) (r : Rule) (h : rule_of g 
   abbrev At : Mode → State → Outcome → (ℕ → Failures) → Type 0
   At m s o f = (d : Does g classes (Run m (Ident x)) s o) × ((place : ℕ) → failures_at place d ≡ f place)
 
-  abbrev called : Bool → State → Outcome → (ℕ → Failures) → ℕ → Failures
-  called b s o f place = record { furthest = max (place_of b s o) (f place).furthest; names = told b x place s o (f place).names; paths = told_paths b x place s o (f place).paths }
+  abbrev called_at : (counts gives : Bool) → State → Outcome → (ℕ → Failures) → ℕ → Failures
+  called_at counts gives s o f place = called counts gives x place s o (f place)
 
   call_between : (q : Rule) → q ≡ r → rule_of g x ≡ Some q → (s : State) (o : Outcome) (d : Does g classes (Run (body_mode q NonAtomicMode) q.body) s o)
-      → At Between s (with_token q NonAtomicMode s o) (called (seen_from NonAtomicMode && gives_token q.type_of NonAtomicMode) s o (λ place. failures_at place d))
+      → At Between s (with_token q NonAtomicMode s o) (called_at (seen_from NonAtomicMode && gives_token q.type_of NonAtomicMode) (gives_token q.type_of NonAtomicMode) s o (λ place. failures_at place d))
   call_between q e k s o d =
       let m : body_mode q NonAtomicMode ≡ body_mode q Between = subst (λ y. body_mode y NonAtomicMode ≡ body_mode y Between) (sym e) same_mode in
       let y = subst (λ i. (d' : Does g classes (Run i q.body) s o) × ((place : ℕ) → failures_at place d' ≡ failures_at place d)) m (d, λ place. refl) in
-      let z : At Between s (with_token q Between s o) (called (seen_from Between && gives_token q.type_of Between) s o (λ place. failures_at place d)) =
-      (by.call {m = Between} k y.0, λ place. ap (λ f. called (seen_from Between && gives_token q.type_of Between) s o (λ i. f) place) (y.1 place)) in
+      let z : At Between s (with_token q Between s o) (called_at (seen_from Between && gives_token q.type_of Between) (gives_token q.type_of Between) s o (λ place. failures_at place d)) =
+      (by.call {m = Between} k y.0, λ place. ap (λ f. called_at (seen_from Between && gives_token q.type_of Between) (gives_token q.type_of Between) s o (λ i. f) place) (y.1 place)) in
       with_tokens (gives_token q.type_of NonAtomicMode) (gives_token q.type_of Between) (same_tokens q.type_of) z
     where
       with_tokens : (u v : Bool) → u ≡ v
-          → At Between s (token_if v q s o) (called (true && v) s o (λ place. failures_at place d))
-          → At Between s (token_if u q s o) (called (true && u) s o (λ place. failures_at place d))
-      with_tokens u v e y = subst (λ w. At Between s (token_if w q s o) (called (true && w) s o (λ place. failures_at place d))) (sym e) y
+          → At Between s (token_if v q s o) (called_at (true && v) v s o (λ place. failures_at place d))
+          → At Between s (token_if u q s o) (called_at (true && u) u s o (λ place. failures_at place d))
+      with_tokens u v e y = subst (λ w. At Between s (token_if w q s o) (called_at (true && w) w s o (λ place. failures_at place d))) (sym e) y
 
   pub does_between : (s : State) (o : Outcome) (d : Does g classes (Run NonAtomicMode (Ident x)) s o) → At Between s o (λ place. failures_at place d)
   does_between s o (by.call {o = i} {r = q} k d) = call_between q (same_some (sym k ∙ h)) k s i d
@@ -129,15 +129,15 @@ module _ (p : Program) (x : Text) (i : ℕ) (meant : IsRuleOf (grammar_in p) x i
           subst (λ y. FailsOutside (grammar_in p) classes (Run NonAtomicMode (Ident y)) h.ranges.items h.noted) skipped_named (fails_outside p NonAtomicMode (Ident (name_at (names_of p.rows.items) i)) h has q classes fits) in
           let z = f s miss in
           let y = does_between (grammar_in p) classes x (get_or (grammar_in p) i no_rule) (meant.meant no_rule) (rule_is_skipped blank) s Failure z.0 in
-          (y.0, ap (λ f. f.furthest) (y.1 0) ∙ z.1, λ e place. ap (λ f. f.names) (y.1 place) ∙ z.2 e place)
+          (y.0, ap (λ f. f.furthest) (y.1 0) ∙ z.1, λ e place. y.1 place ∙ z.2 e place)
 
 -- without a rule of that name no call succeeds
 module _ (p : Program) (ranges : List (ℕ × ℕ)) (classes : Classes) where
   pub no_blank : rule_of (grammar_in p) whitespace ≡ None → FailsOutside (grammar_in p) classes (Run Between (Ident whitespace)) ranges false
-  no_blank w s miss = (by.other w refl, ap (λ a. if a then s.position else 0) white_is_no_end, λ e place. ap (λ a. told a whitespace place s Failure []) white_is_no_end)
+  no_blank w s miss = (by.other w refl, ap (λ a. if a then s.position else 0) white_is_no_end, λ e place. ap (λ a. other_failures a whitespace place s Failure) white_is_no_end)
 
   pub no_comment : rule_of (grammar_in p) comment ≡ None → FailsOutside (grammar_in p) classes (Run Between (Ident comment)) ranges false
-  no_comment w s miss = (by.other w refl, ap (λ a. if a then s.position else 0) comment_is_no_end, λ e place. ap (λ a. told a comment place s Failure []) comment_is_no_end)
+  no_comment w s miss = (by.other w refl, ap (λ a. if a then s.position else 0) comment_is_no_end, λ e place. ap (λ a. other_failures a comment place s Failure) comment_is_no_end)
 
 zero_between : (a b : ℕ) → max a (max 0 b) ≡ max a b
 zero_between a b = omega arith
@@ -154,5 +154,5 @@ gap_takes p h k j b n joined = record { takes = takes }
           by.skips (by.seq (by.rep_none u.0) by.between (by.rep_none (by.seq_first v.0))),
           zero_between (furthest u.0) (furthest v.0)
               ∙ (ap₂ (λ x y. max x y) u.1 v.1 ∙ (greater_place h.noted k.noted s.position ∙ ap (λ x. place_of x s Failure) (sym joined.noted))),
-          λ e. two_unnamed h.noted k.noted u.2 v.2 (sym joined.noted ∙ e),
+          λ e. three_unless h.noted k.noted u.2 (λ e place. refl) v.2 (sym joined.noted ∙ e),
         )

@@ -5,7 +5,7 @@ use Rattle.base_language.specs.Language.FurthestFailure.{furthest, place_of}
 use Rattle.base_language.specs.Language.Meaning.{Does, Run, Skipping, Task}
 use Rattle.base_language.specs.Language.Text.{Text}
 use Rattle.base_language.specs.Language.State.{AtomicMode, Between, Classes, CompoundAtomicMode, Failure, Mode, NonAtomicMode, None', Outcome, State, Success}
-use Rattle.matcher_code.specs.Laid.{FailsOutside, Misses, NamesNone}
+use Rattle.matcher_code.specs.Laid.{FailsOutside, Misses, IsSilentUnless}
 use Rattle.matcher_program.specs.declared.form.Program.{Program}
 use Rattle.matcher_program.specs.declared.form.Row.{Row}
 use Rattle.matcher_program.specs.Programs.{Fits}
@@ -22,7 +22,7 @@ nothing_taken false s = Failure
 abbrev pub TakesNothing : Grammar → Classes → Task → List (ℕ × ℕ) → (empty noted : Bool) → Type 0
 TakesNothing g classes k ranges empty noted = (s : State) → Misses ranges s.rest
     → (d : Does g classes k s (nothing_taken empty s)) × (furthest d ≡ place_of noted s Failure)
-    × NamesNone noted d
+    × IsSilentUnless noted d
 
 -- so it is of an expression in a mode, where properties have the sets of the program
 pub record HasHead (p : Program) (m : Mode) (e : Expression) (h : Head) : Type 0 where
@@ -36,7 +36,7 @@ pub record HasFront (p : Program) (m : Mode) (e : Expression) (h : Head) : Type 
       → (d : Does (grammar_in p) classes (Run m e) s (Success s None'))
       × ((k : Does (grammar_in p) classes (Skipping m) s (Success s None'))
       × (max (furthest d) (furthest k) ≡ place_of h.noted s Failure)
-      × NamesNone h.noted d × NamesNone h.noted k)
+      × IsSilentUnless h.noted d × IsSilentUnless h.noted k)
 
 -- so it is of the implicit skipping in NonAtomic
 pub record IsGapHead (p : Program) (h : Head) : Type 0 where

@@ -227,6 +227,14 @@ fn is_counted(kind: RuleType, mode: Atomicity) -> bool
     is_seen_from(mode) && gives_token(kind, mode)
 }
 
+/// Returns whether a call of a rule gives a token, and a failure of it is not recorded.
+fn is_uncounted(kind: RuleType, mode: Atomicity) -> bool
+    ensures { result ≡ false → gives_token (rule_type_of kind) (mode_of mode)
+        ≡ (seen_from (mode_of mode) && gives_token (rule_type_of kind) (mode_of mode)) }
+{
+    gives_token(kind, mode) && !is_seen_from(mode)
+}
+
 /// Returns the head of a call of a rule.
 fn row_head(
     alloc: Global,
@@ -245,6 +253,9 @@ fn row_head(
     ensures { IfOk result (λ made. IfSome made (HasHead program.now (mode_of mode)
         (Ident (name_at (names_of program.now.rows.items) rule)))) }
 {
+    if is_uncounted(row.kind, mode) {
+        return Ok(None);
+    }
     let inner = body_mode(row.kind, row.blank, mode);
     let counts = is_counted(row.kind, mode);
     if counts && heads.calls_all {

@@ -1,3 +1,4 @@
+use Rattle.std.proofs.Common.{sym, ◌∙◌}
 use Rattle.matcher_sets.specs.Modes.{mode_of}
 use Rattle.matcher_sets.proofs.Heading.{call_head, if_made, row_has}
 use Rattle.matcher_sets.proofs.Rules.{made, meant_is}
@@ -12,4 +13,5 @@ returns-in-Some c =
     c.heads_in-known.result.now (c.heads_in-known.ensures p r.heads) c.in-Some.body.now c.in-Some.ensures in
     if_made c.called_head.result
     (λ head is. call_head p m _ (made p c.args.rule c.args.row.now r.within r.is) c.in-Some.body.now head c.is_counted-counts.result
-    (meant_is p c.args.rule c.args.row.now r.within r.is r.meant) c.is_counted-counts.ensures body is) c.called_head.ensures
+    (meant_is p c.args.rule c.args.row.now r.within r.is r.meant) c.is_counted-counts.ensures
+    (c.is_counted-counts.ensures ∙ sym (c.is_uncounted.ensures c.if-is_uncounted.false)) body is) c.called_head.ensures

@@ -4,7 +4,7 @@ use Rattle.matcher_code.specs.Steps.{apply_op, with_row}
 use Rattle.matcher_machine.specs.Machines.{config, slot_of}
 use Rattle.matcher_machine.specs.Stacks.{texts_in}
 use Rattle.matcher_machine.specs.declared.stack.TextStack.{TextStack}
-use Rattle.matcher_machine.proofs.Following.{none_either, slots_more}
+use Rattle.matcher_machine.proofs.Following.{none_missed, slots_more}
 use Rattle.matcher_machine.proofs.Stacking.{same_parts}
 use Rattle.matcher_machine.proofs.machine.Machine.miss.Goals as goal
 
@@ -24,4 +24,4 @@ returns c code text pc =
     ∙ (ap (λ v. map (slot_of code text m.stack new.names.items) (reverse v.items)) (sym slots)
     ∙ ap (λ (st : TextStack). map (slot_of code text st new.names.items) (reverse new.slots.items)) (sym stack)))
     (ap (λ v. v.items) (sym (e.trees ∙ a.trees))) (ap (λ (st : TextStack). texts_in code text st) (sym stack))
-    (sym (e.furthest ∙ a.furthest)) (sym (e.asked ∙ a.asked)) (sym names) (none_either (at == m.asked))
+    (sym (e.furthest ∙ a.furthest)) (sym (e.asked ∙ a.asked)) (sym names) (none_missed m.asked c.args.row at)
