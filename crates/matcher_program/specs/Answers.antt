@@ -5,13 +5,11 @@ use Rattle.base_language.specs.declared.runtime.places.Position.{Position}
 use Rattle.base_language.specs.Pieces.Span.{position_offset, position_text}
 use Rattle.base_language.specs.Language.Text.{Text}
 use Rattle.base_language.specs.Language.Expression.{Grammar, Ident, rule_of}
-use Rattle.base_language.specs.Language.State.{NonAtomicMode, State, Trees, Outcome, Success, Failure, Classes}
+use Rattle.base_language.specs.Language.State.{NonAtomicMode, State, Outcome, Failure, Classes}
 use Rattle.base_language.specs.Language.Meaning.{Matches}
 use Rattle.base_language.specs.Language.Expected.{expected_at}
 use Rattle.base_language.specs.Language.FurthestFailure.{furthest}
-use Rattle.front_syntax.specs.Entries.{entries_of}
 use Rattle.matcher_program.specs.declared.form.Property.{Property}
-use Rattle.matcher_program.specs.declared.answers.Found.{Found}
 use Rattle.matcher_program.specs.declared.answers.Refusal.{Refusal}
 use Rattle.matcher_program.specs.declared.answers.Refusal.TheVariants as is
 use Rattle.matcher_program.specs.declared.answers.Stop.{Stop}
@@ -19,7 +17,6 @@ use Rattle.matcher_program.specs.declared.answers.Stop.TheVariants as stop
 use Rattle.matcher_program.specs.Programs.{Fits}
 use Rattle.matcher_program.specs.Sizes.{most_steps}
 use Rattle.matcher_program.specs.ExpectedNames.{each_once, name_texts}
-use Rattle.matcher_program.specs.Written.{seen}
 
 -- the start of a text, with the empty stack
 abbrev pub start_of : List ℕ → State
@@ -40,18 +37,6 @@ HasAt g n s classes o = Matches g classes (Ident n) NonAtomicMode s o
 -- so it has at the start of the text
 abbrev pub Has : Grammar → Text → List ℕ → Classes → Outcome → Type 0
 Has g n text classes o = HasAt g n (start_of text) classes o
-
--- these are the entries of the trees that the rule gives from a state, it ends there, and this is the
--- furthest position of a failure, whatever the classes are
-pub record IsMatchedFrom (g : Grammar) (ps : List Property) (n : Text) (s : State) (it : Found)
-    : Type 0 where
-  pub trees : Trees
-  pub found : (classes : Classes) → Fits ps classes → (t : State) × (t.position ≡ it.end)
-      × (d : HasAt g n s classes (Success t trees)) × (it.furthest ≡ furthest d)
-  pub entries : seen it.entries.items ≡ entries_of 0 trees
-
-abbrev pub IsMatched : Grammar → List Property → Text → List ℕ → Found → Type 0
-IsMatched g ps n text it = IsMatchedFrom g ps n (start_of text) it
 
 -- the bytes of a text up to a state, and those that are left
 abbrev pub text_size : State → ℕ

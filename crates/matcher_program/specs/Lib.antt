@@ -8,4 +8,3 @@ pub mod Answers
 pub mod Classes
 pub mod ExpectedNames
 pub mod Sizes
-pub mod Written

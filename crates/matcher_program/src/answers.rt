@@ -6,32 +6,7 @@ ghost use Rattle.matcher_program.specs.declared.answers.Stop.TheVariants.{Memory
 use base_language::runtime::Position;
 use std::alloc::AllocError;
 
-/// The start or the end of a tree: its position, in bytes, and the index of the partner entry in the list.
-#[derive(Clone, Copy, Debug)]
-pub enum Entry<'a> {
-    Start {
-        rule: &'a str,
-        pos: usize,
-        partner: usize,
-    },
-    End {
-        pos: usize,
-        partner: usize,
-    },
-}
-
-/// The match of a rule.
-#[derive(Debug, Drop)]
-pub struct Found<'a> {
-    /// The starts and the ends of the token trees, in the order of the text.
-    pub entries: Vec<Entry<'a>>,
-    /// The position after the match, in bytes.
-    pub end: usize,
-    /// The furthest position, in bytes, at which a call that counts failed; 0 if none did.
-    pub furthest: usize,
-}
-
-/// The reason why a text has no entries.
+/// The reason why a text has no match.
 #[derive(Debug, Drop)]
 pub enum Refusal<'a> {
     /// No rule has this name.
