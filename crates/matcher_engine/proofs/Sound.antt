@@ -2,11 +2,9 @@
 use Rattle.std.proofs.Common.{◌≡◌, ℕ, List, false, get_or, subst, sym}
 use Rattle.std.proofs.Props.{props}
 use Rattle.std.specs.Coded.{le_prop, ×_prop, Unit-prop}
-use mathlib.Core.Sum.{⊎_set}
 use Rattle.std.proofs.Math.Logic.{∥∥₁_elim, ∥∥₁_map}
 use Rattle.format_code.specs.Codes.{lists_at}
 use Rattle.matcher_code.specs.Lists.{CodeLists}
-use Rattle.matcher_code.specs.declared.code.Op.{Op}
 use Rattle.matcher_code.specs.declared.fused.Fused.{Fused}
 use Rattle.matcher_code.specs.declared.fused.Fused.TheVariants as fused
 use Rattle.matcher_code.specs.Fused.{CanRun, CanRunAll, IsFusionOf}
@@ -19,34 +17,41 @@ use Rattle.matcher_engine.specs.Matchers.{properties_in}
 use Rattle.matcher_engine.specs.declared.matcher.Matcher.{Matcher}
 use Rattle.matcher_engine.proofs.OneSoundness.{sound_prop}
 
-op_set : IsSet Op
-op_set = hlevel (props, ⊎_set)
+bytes_set : IsSet (List ℕ)
+bytes_set = hlevel props
 
--- that an operation can be run has one proof
-can_prop : (code : CodeLists) (pc : ℕ) (f : Fused) → IsProp (CanRun code pc f)
-can_prop code pc fused.Fail = op_set _ _
-can_prop code pc (fused.Call to row next fail counts) = op_set _ _
-can_prop code pc (fused.Sub to next fail) = op_set _ _
-can_prop code pc fused.Return = op_set _ _
-can_prop code pc fused.Back = op_set _ _
-can_prop code pc (fused.Text t next fail) = op_set _ _
-can_prop code pc (fused.Try next fail) = op_set _ _
-can_prop code pc (fused.Commit next) = op_set _ _
-can_prop code pc (fused.Note next) = op_set _ _
-can_prop code pc (fused.Switch table) = le_prop
-can_prop code pc (fused.One set next fail) = le_prop
-can_prop code pc (fused.IsOne set next fail) = le_prop
-can_prop code pc (fused.All set next) = le_prop
-can_prop code pc (fused.ByteAll byte second next fail) = le_prop
-can_prop code pc (fused.CallSwitch table row next fail counts) = le_prop
-can_prop code pc (fused.Gap set stops next slow) = ×_prop le_prop le_prop
-can_prop code pc (fused.GapReturn set stops next slow) = ×_prop le_prop le_prop
-can_prop code pc (fused.OneAll set second next fail) = ×_prop le_prop le_prop
-can_prop code pc fused.Plain = Unit-prop
-can_prop code pc (fused.Byte byte next fail) = Unit-prop
-can_prop code pc (fused.IsByte byte next fail) = Unit-prop
-can_prop code pc (fused.CallCall to outer inner) = Unit-prop
-can_prop code pc (fused.Renew next fail) = Unit-prop
+-- that a fused operation can be run has one proof
+can_prop : (code : CodeLists) (f : Fused) → IsProp (CanRun code f)
+can_prop code (fused.Text first t next fail) = bytes_set _ _
+can_prop code (fused.Switch table) = le_prop
+can_prop code (fused.One set next fail) = le_prop
+can_prop code (fused.IsOne set next fail) = le_prop
+can_prop code (fused.All set next) = le_prop
+can_prop code (fused.AllReturn set next) = le_prop
+can_prop code (fused.ByteAll byte second next fail) = le_prop
+can_prop code (fused.CallSwitch table row next fail counts) = le_prop
+can_prop code (fused.Gap set stops next slow) = ×_prop le_prop le_prop
+can_prop code (fused.GapReturn set stops next slow) = ×_prop le_prop le_prop
+can_prop code (fused.OneAll set second next fail) = ×_prop le_prop le_prop
+can_prop code fused.Plain = Unit-prop
+can_prop code fused.Fail = Unit-prop
+can_prop code (fused.Call to row next fail counts) = Unit-prop
+can_prop code (fused.Sub to next fail) = Unit-prop
+can_prop code fused.Return = Unit-prop
+can_prop code fused.Back = Unit-prop
+can_prop code (fused.Try next fail) = Unit-prop
+can_prop code (fused.Not next fail) = Unit-prop
+can_prop code (fused.Commit next) = Unit-prop
+can_prop code (fused.Ahead next) = Unit-prop
+can_prop code (fused.Push next) = Unit-prop
+can_prop code (fused.Peek next fail) = Unit-prop
+can_prop code (fused.Discard next fail) = Unit-prop
+can_prop code (fused.Note next) = Unit-prop
+can_prop code (fused.Byte byte next fail) = Unit-prop
+can_prop code (fused.IsByte byte next fail) = Unit-prop
+can_prop code (fused.ByteReturn byte next fail) = Unit-prop
+can_prop code (fused.CallCall to outer inner) = Unit-prop
+can_prop code (fused.Renew next fail) = Unit-prop
 
 module _ (m : Matcher) where
   -- its names mean what they are resolved to
@@ -62,7 +67,7 @@ module _ (m : Matcher) where
   ready_in = ∥∥₁_map m.sound (λ s. (s.code_is, s.fusion))
 
   runnable : CanRunAll (lists_at m.code.items) m.fused.items
-  runnable pc = ∥∥₁_elim m.sound (can_prop (lists_at m.code.items) pc (get_or m.fused.items pc fused.Plain)) (λ s. (s.fusion pc).can)
+  runnable pc = ∥∥₁_elim m.sound (can_prop (lists_at m.code.items) (get_or m.fused.items pc fused.Plain)) (λ s. (s.fusion pc).can)
 
   -- so are these operations, where the code is read
   module _ (code : CodeLists) (fs : List Fused) (e : code ≡ lists_at m.code.items) (f : fs ≡ m.fused.items) where
