@@ -1,6 +1,8 @@
 pub mod BlockOutcomes
 pub mod Bytes
+pub mod Dressing
 pub mod Known
+pub mod Marking
 pub mod OneAnswer
 pub mod OneSoundness
 pub mod Results

@@ -20,8 +20,8 @@ use Rattle.matcher_program.specs.Answers.{IsStoppedFrom, state_at}
 use Rattle.matcher_compiler.specs.Compiled.{IsCodeOf}
 use Rattle.matcher_compiler.specs.Names.{number_in}
 use Rattle.matcher_sets.specs.Forms.{grammar_in}
-use Rattle.matcher_paths.specs.declared.tracer.Tracer.{Tracer}
-use Rattle.matcher_paths.specs.Traces.{own_trace, paths_in, slot_traces, traced, traced_config}
+use Rattle.matcher_engine.specs.declared.tracer.Tracer.{Tracer}
+use Rattle.matcher_engine.specs.Traces.{own_trace, paths_in, slot_traces, traced, traced_config}
 use Rattle.matcher_engine.specs.FailurePaths.{ArePathsFrom, with_each}
 use Rattle.matcher_engine.specs.Reasons.{HasReason}
 use Rattle.matcher_engine.specs.Runs.{IsFresh}

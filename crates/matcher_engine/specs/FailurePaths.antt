@@ -15,7 +15,7 @@ use Rattle.matcher_program.specs.declared.form.Program.{Program}
 use Rattle.matcher_program.specs.declared.form.Property.{Property}
 use Rattle.matcher_sets.specs.Forms.{grammar_in}
 use Rattle.matcher_compiler.specs.Names.{number_in}
-use Rattle.matcher_paths.specs.Traces.{paths_in}
+use Rattle.matcher_engine.specs.Traces.{paths_in}
 use Rattle.matcher_engine.specs.Reasons.{HasReason}
 
 -- lists of calls, and then those of some paths that are not among them, each once

@@ -1,10 +1,12 @@
 pub mod BlockRuns
 pub mod Blocks
 pub mod ExpectedRows
+pub mod Marks
 pub mod Matchers
 pub mod Preorders
 pub mod Reasons
 pub mod Runs
 pub mod Soundness
+pub mod Traces
 pub mod Walks
 pub mod FailurePaths

@@ -6,4 +6,5 @@ pub mod codes;
 pub mod laws;
 pub mod matcher;
 pub mod paths;
+pub mod tracer;
 pub mod walk;

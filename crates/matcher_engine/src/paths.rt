@@ -7,7 +7,7 @@ ghost use Rattle.matcher_compiler.specs.Compiled.{IsCodeOf};
 ghost use Rattle.matcher_program.specs.Answers.{IsUnanswered, IsUnansweredFrom, start_of, state_at};
 ghost use Rattle.matcher_program.specs.declared.form.Program.{Program};
 ghost use Rattle.matcher_sets.specs.Forms as forms;
-ghost use Rattle.matcher_paths.specs.Traces.{paths_in};
+ghost use Rattle.matcher_engine.specs.Traces.{paths_in};
 ghost use Rattle.matcher_engine.specs.FailurePaths.{AreFailurePaths, ArePathsFrom, IsTracedRun};
 ghost use Rattle.matcher_engine.specs.Matchers.{grammar_in, properties_in};
 ghost use Rattle.matcher_engine.specs.Reasons.{HasReason, StopsFor};
@@ -20,7 +20,7 @@ use matcher_code::bytecode::Bytecode;
 use matcher_code::state::OpenCall;
 use matcher_compiler::names::last_index;
 use matcher_machine::machine::{Machine, RunEnd};
-use matcher_paths::tracer::Tracer;
+use crate::tracer::Tracer;
 use matcher_program::answers::{Refusal, Stop, whole_text};
 use std::alloc::Global;
 
@@ -86,7 +86,7 @@ impl Matcher {
 
 /// Runs code for the rule of a number from a position of a text on, in at most `steps` steps. Returns the
 /// calls that were open where a name was expected at `place`.
-fn trace_rule(
+pub(crate) fn trace_rule(
     alloc: Global,
     code: &Bytecode<'_>,
     number: usize,
@@ -107,11 +107,7 @@ fn trace_rule(
     let mut tracer = Tracer::new(alloc, machine);
     let text = whole_text(start);
     match tracer.run(alloc, code, text, entry, start.pos(), most) {
-        Ok(RunEnd::Found(_)) => {
-            let Tracer { paths, .. } = tracer;
-            Ok(paths)
-        }
-        Ok(RunEnd::Failed) => {
+        Ok(RunEnd::Found(_) | RunEnd::Failed) => {
             let Tracer { paths, .. } = tracer;
             Ok(paths)
         }

@@ -1,7 +1,7 @@
 use Rattle.std.proofs.Common.{ap, arith, subst, sym}
 use Rattle.matcher_code.specs.Bytecodes.{lists_in}
 use Rattle.matcher_machine.specs.Machines.{EndsIn}
-use Rattle.matcher_paths.specs.Traces.{traced_config}
+use Rattle.matcher_engine.specs.Traces.{traced_config}
 use Rattle.matcher_engine.specs.Runs.{IsFresh}
 use Rattle.matcher_engine.proofs.Traced.{traced_failed, traced_found, traced_stopped, traced_stuck}
 use Rattle.matcher_engine.proofs.paths.trace_rule.Goals as goal

@@ -1,6 +1,6 @@
 use Rattle.std.proofs.Common.{subst, ◌∙◌, IfErr, IfOk, chars}
 use Rattle.std.proofs.lemmas.Str.{IsCharBoundary-start}
-use Rattle.matcher_paths.specs.Traces.{paths_in}
+use Rattle.matcher_engine.specs.Traces.{paths_in}
 use Rattle.matcher_program.specs.Answers.{IsUnansweredFrom}
 use Rattle.matcher_engine.specs.FailurePaths.{ArePathsFrom}
 use Rattle.matcher_engine.specs.Matchers.{grammar_in, properties_in}

@@ -1,6 +1,6 @@
 use Rattle.std.proofs.Common.{◌≡◌, ◌∙◌, ◌<◌, ap, arith, get_or, length, sym}
-use Rattle.matcher_paths.proofs.Marking.{path_found, path_passed}
-use Rattle.matcher_paths.proofs.tracer.Tracer.has_path.Goals as goal
+use Rattle.matcher_engine.proofs.Marking.{path_found, path_passed}
+use Rattle.matcher_engine.proofs.tracer.Tracer.has_path.Goals as goal
 
 pub returns-then-eq : goal.returns-then-eq
 returns-then-eq c =

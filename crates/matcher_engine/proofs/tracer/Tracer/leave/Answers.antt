@@ -1,8 +1,8 @@
 use Rattle.std.proofs.Common.{◌≡◌, ◌∙◌, ap, arith, length, map, refl, reverse}
 use Rattle.std.proofs.lemmas.List.{length-take-le}
-use Rattle.matcher_paths.specs.Traces.{paths_in, trace_at}
-use Rattle.matcher_paths.proofs.Marking.{cut_twice, marked_longer, traces_alike}
-use Rattle.matcher_paths.proofs.tracer.Tracer.leave.Goals as goal
+use Rattle.matcher_engine.specs.Traces.{paths_in, trace_at}
+use Rattle.matcher_engine.proofs.Marking.{cut_twice, marked_longer, traces_alike}
+use Rattle.matcher_engine.proofs.tracer.Tracer.leave.Goals as goal
 
 pub invariant_of-self : goal.invariant_of-self
 invariant_of-self c =

@@ -1,9 +1,9 @@
 use Rattle.std.proofs.Common.{◌≡◌, ◌≤◌, ◌∙◌, [], ◌∷◌, ap, arith, length, map, refl, reverse}
 use Rattle.std.proofs.lemmas.List.{take-append-le}
 use Rattle.matcher_code.specs.Steps.{open_call}
-use Rattle.matcher_paths.specs.Traces.{paths_in, trace_at}
-use Rattle.matcher_paths.proofs.Marking.{marked_longer, traces_alike}
-use Rattle.matcher_paths.proofs.tracer.Tracer.enter.Goals as goal
+use Rattle.matcher_engine.specs.Traces.{paths_in, trace_at}
+use Rattle.matcher_engine.proofs.Marking.{marked_longer, traces_alike}
+use Rattle.matcher_engine.proofs.tracer.Tracer.enter.Goals as goal
 
 pub invariant_of-self : goal.invariant_of-self
 invariant_of-self c =

@@ -1,5 +1,5 @@
 //! A machine whose calls are recorded.
-ghost use Rattle.matcher_paths.specs.Marks.{AreMarked, AreMarked-prop, HaveMarks};
+ghost use Rattle.matcher_engine.specs.Marks.{AreMarked, AreMarked-prop, HaveMarks};
 
 use matcher_code::bytecode::Bytecode;
 use matcher_code::code::Op;
@@ -38,7 +38,7 @@ impl Tracer {
     ghost use Rattle.matcher_code.specs.Lists.{CodeLists};
     ghost use Rattle.matcher_code.specs.Steps.{add_path, enter, has_path, leave, no_tree, op_at, open_call, trace_ahead, trace_behind};
     ghost use Rattle.matcher_machine.specs.Machines.{EndsIn, config};
-    ghost use Rattle.matcher_paths.specs.Traces.{TracedFollows, first, own_trace, paths_in, slot_traces, trace_after, trace_at, traced_config, traces_after};
+    ghost use Rattle.matcher_engine.specs.Traces.{TracedFollows, first, own_trace, paths_in, slot_traces, trace_after, trace_at, traced_config, traces_after};
 
     /// Records the calls of a machine from here on.
     pub fn new(alloc: Global, machine: Machine) -> Tracer

@@ -1,6 +1,6 @@
 use Rattle.std.proofs.Common.{length}
-use Rattle.matcher_paths.proofs.Marking.{marked_popped}
-use Rattle.matcher_paths.proofs.tracer.Tracer.unmark.Goals as goal
+use Rattle.matcher_engine.proofs.Marking.{marked_popped}
+use Rattle.matcher_engine.proofs.tracer.Tracer.unmark.Goals as goal
 
 pub invariant_of-self : goal.invariant_of-self
 invariant_of-self c =

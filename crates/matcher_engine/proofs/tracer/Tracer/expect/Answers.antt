@@ -1,8 +1,8 @@
 use Rattle.std.proofs.Common.{◌≤◌, ◌∙◌, ap, arith, length, map, refl, reverse}
 use Rattle.std.proofs.lemmas.List.{length-map}
-use Rattle.matcher_paths.specs.Traces.{paths_in, trace_at}
-use Rattle.matcher_paths.proofs.Marking.{marked_longer, path_added, traces_alike}
-use Rattle.matcher_paths.proofs.tracer.Tracer.expect.Goals as goal
+use Rattle.matcher_engine.specs.Traces.{paths_in, trace_at}
+use Rattle.matcher_engine.proofs.Marking.{marked_longer, path_added, traces_alike}
+use Rattle.matcher_engine.proofs.tracer.Tracer.expect.Goals as goal
 
 pub invariant_of-self : goal.invariant_of-self
 invariant_of-self c =

@@ -1,7 +1,7 @@
 use Rattle.std.proofs.Common.{◌≡◌, ◌∙◌, Some, ap, ap₂, map, reverse}
-use Rattle.matcher_paths.specs.Traces.{paths_in, trace_at}
-use Rattle.matcher_paths.proofs.Marking.{cut_twice, paths_cut, traces_alike}
-use Rattle.matcher_paths.proofs.tracer.Tracer.restore.Goals as goal
+use Rattle.matcher_engine.specs.Traces.{paths_in, trace_at}
+use Rattle.matcher_engine.proofs.Marking.{cut_twice, paths_cut, traces_alike}
+use Rattle.matcher_engine.proofs.tracer.Tracer.restore.Goals as goal
 
 pub returns-clause-trace : goal.returns-clause-trace
 returns-clause-trace c =

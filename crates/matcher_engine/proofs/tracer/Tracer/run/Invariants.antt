@@ -1,8 +1,8 @@
 use Rattle.std.proofs.Common.{◌≡◌}
 use Rattle.matcher_code.specs.Bytecodes.{lists_in}
 use Rattle.matcher_code.specs.Steps.{steps}
-use Rattle.matcher_paths.specs.Traces.{traced_config}
-use Rattle.matcher_paths.proofs.tracer.Tracer.run.Given as goal
+use Rattle.matcher_engine.specs.Traces.{traced_config}
+use Rattle.matcher_engine.proofs.tracer.Tracer.run.Given as goal
 
 abbrev pub invariant-loop-taken : goal.invariant-loop-taken
 invariant-loop-taken l =

@@ -2,9 +2,9 @@ use Rattle.std.proofs.Common.{◌≡◌, ◌≤◌, arith, refl, subst}
 use Rattle.matcher_code.specs.Bytecodes.{lists_in}
 use Rattle.matcher_code.specs.Steps.{apply_op, op_at}
 use Rattle.matcher_machine.specs.Machines.{config}
-use Rattle.matcher_paths.specs.Traces.{TracedFollows, traced_config}
-use Rattle.matcher_paths.proofs.Dressing.{ends_as, step_more}
-use Rattle.matcher_paths.proofs.tracer.Tracer.run.Goals as goal
+use Rattle.matcher_engine.specs.Traces.{TracedFollows, traced_config}
+use Rattle.matcher_engine.proofs.Dressing.{ends_as, step_more}
+use Rattle.matcher_engine.proofs.tracer.Tracer.run.Goals as goal
 
 pub loop-taken-preserved : goal.loop-taken-preserved
 loop-taken-preserved c =

@@ -1,2 +1,0 @@
-pub mod Dressing
-pub mod Marking
