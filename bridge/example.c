@@ -91,6 +91,7 @@ static void run_block(const uint8_t *grammar, size_t grammar_len)
         size_t length = strlen(texts[i]), end = 0;
         pest_meta_node_list nodes = {PEST_META_EMPTY, 0};
         pest_meta_row_list rows = {PEST_META_EMPTY, 0};
+        pest_meta_path_list calls = {PEST_META_EMPTY, 0};
         status = pest_meta_run(block.at, block.count, 0, text, length, 0, UINT64_MAX, &nodes, &end);
         printf("run: status %d, end %zu\n", status, end);
         for (size_t at = 0; at < nodes.count; at++) {
@@ -109,6 +110,14 @@ static void run_block(const uint8_t *grammar, size_t grammar_len)
         printf("\n");
         if (rows.count)
             free((void *)rows.at);
+        status = pest_meta_paths(block.at, block.count, 0, text, length, 0, end, UINT64_MAX, &calls);
+        printf("paths: status %d\n", status);
+        for (size_t at = 0; at < calls.count; at++) {
+            const pest_meta_path_call *call = &calls.at[at];
+            printf("  path %zu: rule %zu, from %zu\n", call->path, call->row, call->start);
+        }
+        if (calls.count)
+            free((void *)calls.at);
     }
     if (block.count)
         free((void *)block.at);

@@ -30,7 +30,7 @@ where the system keeps libraries. Calls may run in several threads at once.
 import ctypes
 import json
 import os
-from typing import Any, Iterator, List, NamedTuple, Optional, Sequence, Tuple, Union
+from typing import Any, Dict, Iterator, List, NamedTuple, Optional, Sequence, Tuple, Union
 
 __all__ = [
     "Diagnostic",
@@ -365,13 +365,9 @@ class Matcher:
         may match a part of the text: see Match.end.
         """
         source = text.encode()
-        if steps is None:
-            steps = min(_STEPS_PER_BYTE * (len(source) + _MORE_BYTES), _MOST_STEPS)
-        row = self._rows.get(rule)
-        if row is None:
-            raise ValueError(f"no rule has the name {rule!r}")
+        steps = _steps_for(source) if steps is None else steps
+        words = self._words(rule, source)
         nodes, end = _List(), ctypes.c_size_t()
-        words = [self._block, len(self._block), row, source, len(source), 0]
         status = _library().pest_meta_run(*words, steps, ctypes.byref(nodes), ctypes.byref(end))
         if status == _ANSWERED:
             found = _Nodes(_taken(nodes, 16), source, self._all_names)
@@ -380,6 +376,30 @@ class Matcher:
             raise MatchError(end.value, self._expected([*words, end.value, steps]), source)
         raise _stop(status, "pest_meta_run", rule, steps)
 
+    def paths(self, rule: str, text: str, position: int, steps: Optional[int] = None) -> List[List[Tuple[str, int]]]:
+        """Where in the grammar the rules of a MatchError at a position, in bytes, are expected.
+
+        Each path has the calls that are open there, by rule and start, the outermost first and the expected one last.
+        Raises as parse does, but a rule that fails has an answer; MemoryError where there are more than 1,024 paths.
+        """
+        source, calls = text.encode(), _List()
+        steps = _steps_for(source) if steps is None else steps
+        status = _library().pest_meta_paths(*self._words(rule, source), position, steps, ctypes.byref(calls))
+        if status != _ANSWERED:
+            raise _stop(status, "pest_meta_paths", rule, steps)
+        numbers = memoryview(_taken(calls, 3 * ctypes.sizeof(ctypes.c_size_t))).cast("N")
+        paths: Dict[int, List[Tuple[str, int]]] = {}
+        for path, row, start in zip(numbers[::3], numbers[1::3], numbers[2::3]):
+            paths.setdefault(path, []).append((self._all_names[row], start))
+        return list(paths.values())
+
+    def _words(self, rule: str, source: bytes) -> List[Any]:
+        """What the library is told of a run of a rule, up to the byte where it starts."""
+        row = self._rows.get(rule)
+        if row is None:
+            raise ValueError(f"no rule has the name {rule!r}")
+        return [self._block, len(self._block), row, source, len(source), 0]
+
     def _expected(self, words: List[Any]) -> List[str]:
         """The rules that are expected at a place of a run that fails, sorted by name."""
         rows = _List()
@@ -387,6 +407,11 @@ class Matcher:
         if status != _ANSWERED:
             raise _stop(status, "pest_meta_expected", self.names[words[2]], words[-1])
         return sorted({self._all_names[row] for row in memoryview(_taken(rows, 4)).cast("I")})
+
+
+def _steps_for(source: bytes) -> int:
+    """How many steps a run on a text may take where no limit is given."""
+    return min(_STEPS_PER_BYTE * (len(source) + _MORE_BYTES), _MOST_STEPS)
 
 
 def compile(grammar: str) -> bytes:
@@ -644,7 +669,8 @@ def _declare_runs(library: Any) -> None:
     library.pest_meta_check.argtypes = text
     library.pest_meta_run.argtypes = [*run, ctypes.c_uint64, found, ctypes.POINTER(ctypes.c_size_t)]
     library.pest_meta_expected.argtypes = [*run, place, ctypes.c_uint64, found]
-    for name in ("compile", "check", "run", "expected"):
+    library.pest_meta_paths.argtypes = [*run, place, ctypes.c_uint64, found]
+    for name in ("compile", "check", "run", "expected", "paths"):
         getattr(library, f"pest_meta_{name}").restype = ctypes.c_uint8
 
 

@@ -195,6 +195,16 @@ class Matching(unittest.TestCase):
             Matcher(LISTS).parse("list", "[]x")
         self.assertEqual((caught.exception.position, caught.exception.expected), (2, ("EOI",)))
 
+    def test_paths_have_the_open_calls_of_a_failure(self):
+        matcher = Matcher(LISTS)
+        self.assertEqual(matcher.paths("list", "[a,\n7]", 3), [[("list", 0), ("item", 3)]])
+        self.assertEqual(matcher.paths("list", "[]", 1), [[("list", 0), ("item", 1)]])
+        self.assertEqual(matcher.paths("list", "[]", 9), [])
+        with self.assertRaisesRegex(ValueError, "no rule has the name 'none'"):
+            matcher.paths("none", "", 0)
+        with self.assertRaisesRegex(RunError, "more than 10 steps"):
+            matcher.paths("list", "[a,b,c,d,e,f]", 3, steps=10)
+
     def test_what_can_not_be_run_is_told_apart(self):
         with self.assertRaisesRegex(ValueError, "no rule has the name 'none'"):
             Matcher(LISTS).parse("none", "")

@@ -170,6 +170,17 @@ typedef struct pest_meta_row_list {
     size_t count;
 } pest_meta_row_list;
 
+/* A call that is open where a rule is expected: the number of its path, its
+ * rule, and where it begins. */
+typedef struct pest_meta_path_call {
+    size_t path, row, start;
+} pest_meta_path_call;
+
+typedef struct pest_meta_path_list {
+    const pest_meta_path_call *at;
+    size_t count;
+} pest_meta_path_list;
+
 #define PEST_META_EMPTY ((const void *)"\0\0\0\0\0\0\0")
 
 /* The block of a grammar. Status 1: the grammar has errors, which
@@ -204,6 +215,16 @@ uint8_t pest_meta_run(const uint8_t *block, size_t block_len, uint32_t rule, con
 uint8_t pest_meta_expected(const uint8_t *block, size_t block_len, uint32_t rule,
                            const uint8_t *text, size_t text_len, size_t from, size_t place,
                            uint64_t steps, pest_meta_row_list *rows);
+
+/* Where in the grammar those rules are expected: for each a path, which is the
+ * calls that are open there, the outermost first, and the expected one last.
+ * Each path is there once; they are numbered from 0, and lie one after another.
+ * Only calls that give tokens to a caller other than an atomic one are there.
+ * Such a run may take more steps than pest_meta_expected; more than 1,024 paths
+ * are status 2, and the other statuses are those of pest_meta_expected. */
+uint8_t pest_meta_paths(const uint8_t *block, size_t block_len, uint32_t rule, const uint8_t *text,
+                        size_t text_len, size_t from, size_t place, uint64_t steps,
+                        pest_meta_path_list *calls);
 
 /* The diagnostics of a grammar, as pest-lint prints them in JSON ("Diagnostics"):
  * the errors with which it is refused, or else its warnings, a line for each.

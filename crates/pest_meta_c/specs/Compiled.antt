@@ -6,14 +6,17 @@ use Rattle.base_ast.specs.declared.optimized.OptimizedRule.{OptimizedRule}
 use Rattle.base_language.specs.Language.Expression.{Grammar, last_place}
 use Rattle.base_language.specs.Language.State.{Classes, State}
 use Rattle.base_language.specs.Language.Text.{Text}
+use Rattle.matcher_code.specs.declared.state.OpenCall.{OpenCall}
 use Rattle.matcher_code.specs.declared.state.TreeNode.{TreeNode}
 use Rattle.matcher_engine.specs.Blocks.{HasRules, IsBlockOf, IsWhole}
-use Rattle.matcher_engine.specs.BlockRuns.{AreExpected, IsOutcome, IsRefusal}
+use Rattle.matcher_engine.specs.BlockRuns.{AreExpected, ArePaths, IsOutcome, IsRefusal}
 use Rattle.matcher_engine.specs.declared.block.head.BlockFlaw.TheVariants as flaw
 use Rattle.matcher_engine.specs.declared.block.runs.BlockStop.{BlockStop}
 use Rattle.matcher_engine.specs.declared.block.runs.BlockStop.TheVariants as stop
 use Rattle.matcher_engine.specs.declared.matcher.Preorder.{Preorder}
 use Rattle.matcher_program.specs.declared.answers.Stop.TheVariants as limit
+use Rattle.pest_meta_c.specs.PathCalls.{calls_in}
+use Rattle.pest_meta_c.specs.declared.paths.PathCall.{PathCall}
 
 -- the bytes are a text, and the place is before one of its characters or at its end
 abbrev pub HasStart : List ℕ → ℕ → Type 0
@@ -54,6 +57,14 @@ abbrev pub AreTold : (block : List ℕ) (rule : ℕ) (text : List ℕ) (from pla
 AreTold block rule text from place steps rows = (g : Grammar) (classes : Classes) → IsBlockOf g classes block
     → (n : Text) → last_place g n ≡ Some rule
     → AreExpected g n (state_from text from) classes steps place rows
+
+-- the calls that are open where those rules are expected, path by path
+pub record ArePathsTold (block : List ℕ) (rule : ℕ) (text : List ℕ) (from place steps : ℕ)
+    (calls : List PathCall) : Type 0 where
+  pub paths : List (List OpenCall)
+  pub told : calls ≡ calls_in 0 paths
+  pub are : (g : Grammar) (classes : Classes) → IsBlockOf g classes block → (n : Text)
+      → last_place g n ≡ Some rule → ArePaths g n (state_from text from) classes steps place paths
 
 -- a status reports why a rule of a number has no answer from a place of a text
 pub record IsRefusalTold (block : List ℕ) (rule : ℕ) (text : List ℕ) (from steps status : ℕ) : Type 0 where

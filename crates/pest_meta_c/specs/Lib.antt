@@ -5,4 +5,5 @@ pub mod Handing
 pub mod Outcomes
 pub mod Refusals
 pub mod Numbers
+pub mod PathCalls
 pub mod MatchOutcomes

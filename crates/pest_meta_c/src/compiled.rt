@@ -10,17 +10,18 @@ ghost use Rattle.matcher_code.specs.declared.state.TreeNode.{TreeNode};
 ghost use Rattle.matcher_engine.specs.Blocks.{HasFlaw, IsWhole};
 ghost use Rattle.matcher_program.specs.Answers.{state_at};
 ghost use Rattle.matcher_support.specs.Sets.{is_in_property};
-ghost use Rattle.pest_meta_c.specs.Compiled.{AreTold, HasStart, IsBlockStatus, IsCompiled, IsRefusalTold, IsTold, Tells, state_from, status_of};
+ghost use Rattle.pest_meta_c.specs.Compiled.{ArePathsTold, AreTold, HasStart, IsBlockStatus, IsCompiled, IsRefusalTold, IsTold, Tells, state_from, status_of};
 ghost use Rattle.pest_meta_c.specs.MatchOutcomes.{AreUnfit};
 ghost use Rattle.pest_meta.specs.Spelling.{HasRefusal, IsAnswer};
 
+use crate::paths::{PathCall, list_calls};
 use base_ast::deep::Deep;
 use base_ast::optimized::OptimizedRule;
 use base_language::runtime::{Fault, Position};
 use format_binary::{BinaryRefusal, read_optimized_rules};
 use matcher_code::state::TreeNode;
 use matcher_engine::block::{
-    BlockFlaw, BlockStop, check_block, compile_block, expected_block, run_block,
+    BlockFlaw, BlockStop, check_block, compile_block, expected_block, paths_block, run_block,
 };
 use matcher_engine::matcher::Preorder;
 use matcher_program::answers::Stop;
@@ -245,6 +246,42 @@ pub extern "C" fn pest_meta_expected<'a>(
             *rows = hand_out(numbers);
             ANSWERED
         }
+        Err(stop) => {
+            let mut end = place;
+            tell_stop(stop, &mut end)
+        }
+    }
+}
+
+/// Hands out the calls that are open where the rules of `pest_meta_expected` are expected, path by path.
+#[unsafe(no_mangle)]
+pub extern "C" fn pest_meta_paths<'a>(
+    alloc: Global,
+    block: &[u8],
+    rule: u32,
+    text: &[u8],
+    from: usize,
+    place: usize,
+    steps: u64,
+    calls: &mut &'a [PathCall],
+) -> u8
+    ensures paths { result ≡ 0 → ArePathsTold block.now rule text.now from place steps calls.new.now }
+    ensures refused { result ≢ 0 → result ≢ 3 → IsRefusalTold block.now rule text.now from steps result }
+    ensures start { result ≢ 3 → HasStart text.now from }
+    ensures no_start { result ≡ 3 → HasStart text.now from → ⊥ }
+    ensures unchanged { result ≢ 0 → calls.new ≡ calls.old }
+{
+    let Some(start) = start_in(text, from) else {
+        return NO_TEXT;
+    };
+    match paths_block(alloc, block, rule, start, place, steps) {
+        Ok(paths) => match list_calls(alloc, paths.as_slice()) {
+            Ok(list) => {
+                *calls = hand_out(list);
+                ANSWERED
+            }
+            Err(_) => MEMORY,
+        },
         Err(stop) => {
             let mut end = place;
             tell_stop(stop, &mut end)

@@ -16,6 +16,7 @@ mod diagnostics;
 mod handing;
 mod matching;
 mod outcome;
+mod paths;
 
 ghost use Rattle.std.specs.Prelude.{◌≡◌, ◌≢◌, chars};
 ghost use Rattle.std.specs.Str.{IsUtf8};
