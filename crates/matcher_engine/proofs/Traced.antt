@@ -1,5 +1,5 @@
 -- What a run that records calls says of where a text failed.
-use Rattle.std.proofs.Common.{◌≡◌, refl, sym, ◌∙◌, ap, ap₂, ℕ, ◌+◌, ◌*◌, ◌≤◌, List, [], ◌∷◌, None, Option, Some, Bool, true, map}
+use Rattle.std.proofs.Common.{◌≡◌, refl, sym, ◌∙◌, ap, ap₂, ℕ, ◌+◌, ◌*◌, ◌≤◌, List, [], ◌∷◌, None, Option, Some, true}
 use Rattle.std.specs.Prelude.{IsUtf8}
 use Rattle.std.specs.Str.{IsCharBoundary}
 use Rattle.base_language.specs.Language.Expression.{last_place}
@@ -11,7 +11,6 @@ use Rattle.matcher_code.specs.declared.state.OpenCall.{OpenCall}
 use Rattle.matcher_code.specs.Paths.{Path, paths_at}
 use Rattle.matcher_code.specs.Reached.{calls_of, with_paths}
 use Rattle.matcher_code.specs.Steps.{Config, Trace, steps, with_path}
-use Rattle.matcher_machine.specs.declared.machine.RunEnd.{RunEnd}
 use Rattle.matcher_machine.specs.declared.machine.RunEnd.TheVariants as ended
 use Rattle.matcher_machine.specs.Machines.{EndsIn}
 use Rattle.matcher_program.specs.declared.form.Program.{Program}

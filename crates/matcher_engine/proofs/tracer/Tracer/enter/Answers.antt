@@ -1,4 +1,4 @@
-use Rattle.std.proofs.Common.{◌≡◌, ◌≤◌, ◌∙◌, [], ◌∷◌, ap, arith, length, map, refl, reverse}
+use Rattle.std.proofs.Common.{◌≤◌, ◌∙◌, [], ◌∷◌, ap, arith, length, map, refl, reverse}
 use Rattle.std.proofs.lemmas.List.{take-append-le}
 use Rattle.matcher_code.specs.Steps.{open_call}
 use Rattle.matcher_engine.specs.Traces.{paths_in, trace_at}

@@ -1,4 +1,4 @@
-use Rattle.std.proofs.Common.{◌≡◌, ◌∙◌, Some, ap, ap₂, map, reverse}
+use Rattle.std.proofs.Common.{◌∙◌, Some, ap, ap₂, map, reverse}
 use Rattle.matcher_engine.specs.Traces.{paths_in, trace_at}
 use Rattle.matcher_engine.proofs.Marking.{cut_twice, paths_cut, traces_alike}
 use Rattle.matcher_engine.proofs.tracer.Tracer.restore.Goals as goal

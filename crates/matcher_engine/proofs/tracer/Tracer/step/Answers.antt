@@ -4,7 +4,6 @@ use Rattle.matcher_code.specs.Steps.{op_at}
 use Rattle.matcher_machine.specs.Machines.{Follows, config}
 use Rattle.matcher_machine.proofs.Stopping.{if_ok}
 use Rattle.matcher_engine.specs.Traces.{first, own_trace, slot_traces, trace_after, traces_after}
-use Rattle.matcher_engine.specs.declared.tracer.Tracer.{Tracer}
 use Rattle.matcher_engine.proofs.Dressing.{follows}
 use Rattle.matcher_engine.proofs.tracer.Tracer.step.Goals as goal
 
