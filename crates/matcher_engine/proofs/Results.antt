@@ -17,9 +17,8 @@ use Rattle.matcher_code.specs.Lists.{CodeLists}
 use Rattle.matcher_code.specs.declared.code.Op.TheVariants as op
 use Rattle.matcher_code.specs.Steps.{Config, LacksText, StopsAt, Trace, jump, op_at, steps, with_rows}
 use Rattle.matcher_code.specs.Endings.{IsFound}
-use Rattle.matcher_code.specs.Paths.{paths_at}
 use Rattle.matcher_code.specs.Laid.{IsEnd, IsPoint}
-use Rattle.matcher_code.specs.Reached.{IsAt, Reaches, with_failure, with_paths, with_success, MayAsk}
+use Rattle.matcher_code.specs.Reached.{IsAt, Reaches, with_failure, with_success, with_trace, MayAsk}
 use Rattle.matcher_code.specs.Sizes.{size}
 use Rattle.matcher_code.proofs.Existence.{Goes, begun, end_stops, finds, found, goes, lacks, stays_ended}
 use Rattle.matcher_code.proofs.Forward.{comes, fail_forward, guard_forward}
@@ -194,11 +193,11 @@ module _ (p : Program) (exact : Bool) (code : CodeLists) (is : IsCodeOf exact p 
 
   -- the trace of a run that has ended
   pub traced_as : (m : ℕ) → IsEnd code (after m).pc → (classes : Classes) → Fits p.properties.items classes
-      → (o : Outcome) × (d : Does (grammar_in p) classes task s o) × ((after m).trace ≡ with_paths (number_in (grammar_in p)) (paths_at asked d) trace)
+      → (o : Outcome) × (d : Does (grammar_in p) classes task s o) × ((after m).trace ≡ with_trace (number_in (grammar_in p)) (failures_at asked d) trace)
   traced_as m h classes fits = let y = outcome_of classes fits m h in go y.outcome y.found
     where
       go : (o : Outcome) → Does (grammar_in p) classes task s o
-          → (o : Outcome) × (d : Does (grammar_in p) classes task s o) × ((after m).trace ≡ with_paths (number_in (grammar_in p)) (paths_at asked d) trace)
+          → (o : Outcome) × (d : Does (grammar_in p) classes task s o) × ((after m).trace ≡ with_trace (number_in (grammar_in p)) (failures_at asked d) trace)
       go (Success t us) d = (Success t us, d, ap (λ y. y.trace) (same_end code text m (succeeding classes fits d) (inl is.ends.halt) h))
       go Failure d = (Failure, d, ap (λ y. y.trace) (same_end code text m (failing classes fits d) (inr is.ends.lose) h))
 

@@ -1,12 +1,13 @@
 -- The calls that are open where a name is expected.
-use Rattle.std.specs.Prelude.{◌≡◌, ℕ, List, [], ◌∷◌, Result, Ok, Err}
+use Rattle.std.specs.Prelude.{◌≡◌, ℕ, List, [], ◌∷◌, Result, Ok, Err, false}
 use Rattle.std.specs.Global.{Vec}
 use Rattle.base_language.specs.Language.Expression.{Grammar}
 use Rattle.base_language.specs.Language.State.{Classes, Outcome, State}
 use Rattle.base_language.specs.Language.Text.{Text}
 use Rattle.matcher_code.specs.declared.state.OpenCall.{OpenCall}
 use Rattle.matcher_code.specs.Paths.{Path, paths_at}
-use Rattle.matcher_code.specs.Reached.{calls_of}
+use Rattle.matcher_code.specs.Attempts.{attempts_at}
+use Rattle.matcher_code.specs.Reached.{calls_of, rows_of}
 use Rattle.matcher_code.specs.Steps.{with_path}
 use Rattle.matcher_program.specs.Answers.{HasAt, IsStoppedFrom, start_of}
 use Rattle.matcher_program.specs.Programs.{Fits}
@@ -15,7 +16,8 @@ use Rattle.matcher_program.specs.declared.form.Program.{Program}
 use Rattle.matcher_program.specs.declared.form.Property.{Property}
 use Rattle.matcher_sets.specs.Forms.{grammar_in}
 use Rattle.matcher_compiler.specs.Names.{number_in}
-use Rattle.matcher_engine.specs.Traces.{paths_in}
+use Rattle.matcher_engine.specs.Traces.{paths_in, trace_of}
+use Rattle.matcher_engine.specs.declared.tracer.Tracer.{Tracer}
 use Rattle.matcher_engine.specs.Reasons.{HasReason}
 
 -- lists of calls, and then those of some paths that are not among them, each once
@@ -34,9 +36,20 @@ ArePathsFrom g ps n s place paths = (classes : Classes) → Fits ps classes
 abbrev pub AreFailurePaths : Grammar → List Property → Text → List ℕ → ℕ → List (Vec OpenCall) → Type 0
 AreFailurePaths g ps n text place paths = ArePathsFrom g ps n (start_of text) place (paths_in paths)
 
--- the result of a run of the rule that records calls, in so many steps at most
-abbrev pub IsTracedRun : Program → Text → State → ℕ → ℕ → Result (Vec (Vec OpenCall)) Stop → Type 0
-IsTracedRun p n s steps place (Ok paths) =
-    ArePathsFrom (grammar_in p) p.properties.items n s place (paths_in paths.items)
-IsTracedRun p n s steps place (Err why) = IsStoppedFrom (grammar_in p) p.properties.items n s steps why
+-- the result of a run of the rule in so many steps at most has a property, or the reason of a stop
+abbrev pub Answers : {A : Type 0} → Program → Text → State → ℕ → (A → Type 0) → Result A Stop → Type 0
+Answers p n s steps Has (Ok it) = Has it
+Answers p n s steps Has (Err why) = IsStoppedFrom (grammar_in p) p.properties.items n s steps why
     × HasReason (grammar_in p) p.properties.items n s steps why
+
+-- the rule matches or fails from a state, and the paths and the attempts of a position are recorded
+pub record IsTraced (g : Grammar) (n : Text) (s : State) (classes : Classes) (place : ℕ) (t : Tracer)
+    : Type 0 where
+  pub outcome : Outcome
+  pub found : HasAt g n s classes outcome
+  pub paths : paths_in t.paths.items ≡ with_each (number_in g) [] (paths_at place found)
+  pub attempts : (trace_of t).attempts ≡ rows_of (number_in g) (attempts_at false place found)
+
+-- so it is for all fitting classes
+abbrev pub IsTracedFrom : Grammar → List Property → Text → State → ℕ → Tracer → Type 0
+IsTracedFrom g ps n s place t = (classes : Classes) → Fits ps classes → IsTraced g n s classes place t

@@ -8,19 +8,19 @@ ghost use Rattle.matcher_program.specs.Answers.{IsUnanswered, IsUnansweredFrom, 
 ghost use Rattle.matcher_program.specs.declared.form.Program.{Program};
 ghost use Rattle.matcher_sets.specs.Forms as forms;
 ghost use Rattle.matcher_engine.specs.Traces.{paths_in};
-ghost use Rattle.matcher_engine.specs.FailurePaths.{AreFailurePaths, ArePathsFrom, IsTracedRun};
+ghost use Rattle.matcher_engine.specs.FailurePaths.{Answers, AreFailurePaths, ArePathsFrom, IsTracedFrom};
 ghost use Rattle.matcher_engine.specs.Matchers.{grammar_in, properties_in};
 ghost use Rattle.matcher_engine.specs.Reasons.{HasReason, StopsFor};
 
 use crate::codes::name_code_bytes;
 use crate::matcher::{Matcher, OPERATIONS, entry_of, has_long_text};
-use crate::tracer::Tracer;
 use base_language::runtime::{Position, Span};
 use format_code::code::read_code;
 use matcher_code::bytecode::Bytecode;
 use matcher_code::state::OpenCall;
 use matcher_compiler::names::last_index;
 use matcher_machine::machine::{Machine, RunEnd};
+use crate::tracer::Tracer;
 use matcher_program::answers::{Refusal, Stop, whole_text};
 use std::alloc::Global;
 
@@ -78,14 +78,17 @@ impl Matcher {
         };
         let code = read_code(&bytes);
         match trace_rule(alloc, &code, number, start, place, steps) {
-            Ok(paths) => Ok(paths),
+            Ok(tracer) => {
+                let Tracer { paths, .. } = tracer;
+                Ok(paths)
+            }
             Err(stop) => Err(Refusal::Stopped(stop)),
         }
     }
 }
 
-/// Runs code for the rule of a number from a position of a text on, in at most `steps` steps. Returns the
-/// calls that were open where a name was expected at `place`.
+/// Runs code for the rule of a number from a position of a text on, in at most `steps` steps. Returns what is
+/// recorded for `place`.
 pub(crate) fn trace_rule(
     alloc: Global,
     code: &Bytecode<'_>,
@@ -93,10 +96,11 @@ pub(crate) fn trace_rule(
     start: Position<'_>,
     place: usize,
     steps: u64,
-) -> Result<Vec<Vec<OpenCall>>, Stop>
+) -> Result<Tracer, Stop>
     ensures { (p : Program) → IsCodeOf true p (lists_in code.now)
         → (n : Text) → last_place (forms.grammar_in p) n ≡ Some number
-        → IsTracedRun p n (state_at start.entry) steps place result }
+        → Answers p n (state_at start.entry) steps
+        (IsTracedFrom (forms.grammar_in p) p.properties.items n (state_at start.entry) place) result }
 {
     let Some(entry) = entry_of(number) else {
         return Err(Stop::Memory);
@@ -107,14 +111,8 @@ pub(crate) fn trace_rule(
     let mut tracer = Tracer::new(alloc, machine);
     let text = whole_text(start);
     match tracer.run(alloc, code, text, entry, start.pos(), most) {
-        Ok(RunEnd::Found(_)) => {
-            let Tracer { paths, .. } = tracer;
-            Ok(paths)
-        }
-        Ok(RunEnd::Failed) => {
-            let Tracer { paths, .. } = tracer;
-            Ok(paths)
-        }
+        Ok(RunEnd::Found(_)) => Ok(tracer),
+        Ok(RunEnd::Failed) => Ok(tracer),
         Ok(RunEnd::OutOfSteps) => {
             if most / OPERATIONS == steps {
                 Err(Stop::OutOfSteps)

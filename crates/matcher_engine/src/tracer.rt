@@ -1,9 +1,10 @@
 //! A machine whose calls are recorded.
-ghost use Rattle.matcher_engine.specs.Marks.{AreMarked, AreMarked-prop, HaveMarks};
+ghost use Rattle.std.specs.Prelude.{◌≡◌, ◌≤◌, ◌++◌, ◌∷◌, [], OnOk, length};
+ghost use Rattle.matcher_engine.specs.Marks.{HaveMarks, HaveMarks-prop};
 
 use matcher_code::bytecode::Bytecode;
 use matcher_code::code::Op;
-use matcher_code::state::{Failing, OpenCall};
+use matcher_code::state::{Failing, OpenCall, TreeNode};
 use matcher_machine::machine::{Machine, Next, RunEnd};
 use matcher_machine::running::op_at;
 use matcher_machine::slot::Slot;
@@ -12,11 +13,19 @@ use std::alloc::{AllocError, Global};
 /// The greatest number of paths.
 const PATHS: usize = 1_024;
 
-/// How many calls were open, and how many paths there were, where a slot was pushed.
+/// The greatest number of attempts of a kind.
+const ATTEMPTS: usize = 65_535;
+
+/// What was recorded where a call or a `!` begins: how many calls were open, how many paths and attempts there
+/// were, whether the run stood below a `!`, and the greatest position of an attempt.
 #[derive(Clone, Copy, Debug)]
 pub struct Mark {
     pub calls: usize,
     pub paths: usize,
+    pub below: bool,
+    pub furthest: usize,
+    pub positives: usize,
+    pub negatives: usize,
 }
 
 /// A machine whose calls are recorded.
@@ -27,63 +36,114 @@ pub struct Tracer {
     pub calls: Vec<OpenCall>,
     /// The calls that were open where a rule was expected, each list once.
     pub paths: Vec<Vec<OpenCall>>,
-    /// One for each slot.
-    pub marks: Vec<Mark>,
-    ghost marked: { HaveMarks calls.items paths.items marks.items } by { AreMarked-prop _ _ _ },
+    /// Whether the run stands below a `!`, or below an odd number of them.
+    pub below: bool,
+    /// The greatest position of an attempt, from the one that is asked for on.
+    pub furthest: usize,
+    /// The rows of the rules that are expected where it is asked, as often as they are told.
+    pub positives: Vec<u32>,
+    /// The rows of those that are not expected there.
+    pub negatives: Vec<u32>,
+    /// One for each slot, or none for that of a choice or of a call that gives no token.
+    pub marks: Vec<Option<Mark>>,
+    ghost marked: { HaveMarks calls.items paths.items positives.items negatives.items marks.items }
+        by { HaveMarks-prop calls.items paths.items positives.items negatives.items marks.items },
+}
+
+/// Appends a row to attempts. Errors: allocation failed, or there are too many.
+fn push_row(rows: &mut Vec<u32>, row: u32) -> Result<(), AllocError>
+    ensures row { OnOk result (rows.new.items ≡ rows.old.items ++ row ∷ []) }
+    ensures kept { length rows.old.items ≤ length rows.new.items }
+{
+    if rows.len() >= ATTEMPTS {
+        return Err(AllocError);
+    }
+    rows.push(row)?;
+    Ok(())
 }
 
 impl Tracer {
-    ghost use Rattle.std.specs.Prelude.{◌≡◌, ◌≤◌, ◌==◌, ◌∷◌, ℕ, List, [], IfOk, MatchOption, OnOk, drop, get_or, length, reverse};
+    ghost use Rattle.std.specs.Prelude.{◌≡◌, ◌∷◌, ⊤, ℕ, List, [], IfOk, MatchOption, None, OnOk, Some, drop, false, get_or, reverse, true};
+    ghost use Rattle.matcher_code.specs.Attempts.{with_rule};
     ghost use Rattle.matcher_code.specs.Bytecodes.{lists_in};
     ghost use Rattle.matcher_code.specs.Lists.{CodeLists};
-    ghost use Rattle.matcher_code.specs.Steps.{add_path, enter, has_path, leave, no_tree, op_at, open_call, trace_ahead, trace_behind};
+    ghost use Rattle.matcher_code.specs.declared.code.Op.TheVariants as op;
+    ghost use Rattle.matcher_code.specs.Steps.{add_path, enter, has_path, leave, no_trace, no_tree, op_at, open_call, record_end, restore, trace_ahead, trace_behind};
     ghost use Rattle.matcher_machine.specs.Machines.{EndsIn, config};
-    ghost use Rattle.matcher_engine.specs.Traces.{TracedFollows, first, own_trace, paths_in, slot_traces, trace_after, trace_at, traced_config, traces_after};
+    ghost use Rattle.matcher_engine.specs.Marks.{AreMarked, IsWithin, counts_of};
+    ghost use Rattle.matcher_engine.specs.Traces.{TracedFollows, first, mark_of, own_trace, paths_in, slot_trace, slot_traces, trace_after, trace_at, trace_of, traced_config, traces_after};
 
     /// Records the calls of a machine from here on.
     pub fn new(alloc: Global, machine: Machine) -> Tracer
         ensures machine { result.machine ≡ machine }
-        ensures calls { result.calls.items ≡ [] }
-        ensures paths { result.paths.items ≡ [] }
+        ensures trace { trace_of result ≡ no_trace }
         ensures marks { result.marks.items ≡ [] }
     {
         Tracer {
             machine,
             calls: Vec::new(alloc),
             paths: Vec::new(alloc),
+            below: false,
+            furthest: 0,
+            positives: Vec::new(alloc),
+            negatives: Vec::new(alloc),
             marks: Vec::new(alloc),
         }
     }
 
-    /// Marks a slot that is pushed. The only error is an allocation failure.
-    fn mark(&mut self) -> Result<(), AllocError>
-        ensures traces { OnOk result (slot_traces self.new ≡ own_trace self.old ∷ slot_traces self.old) }
-        ensures calls { self.new.calls ≡ self.old.calls }
-        ensures paths { self.new.paths ≡ self.old.paths }
-        ensures machine { self.new.machine ≡ self.old.machine }
+    /// Returns the mark of what is recorded.
+    fn mark(&self) -> Mark
+        ensures { result ≡ mark_of self.now }
     {
-        self.marks.push(Mark {
+        Mark {
             calls: self.calls.len(),
             paths: self.paths.len(),
-        })?;
+            below: self.below,
+            furthest: self.furthest,
+            positives: self.positives.len(),
+            negatives: self.negatives.len(),
+        }
+    }
+
+    /// Marks a slot that is pushed by what is recorded. The only error is an allocation failure.
+    fn push_mark(&mut self) -> Result<(), AllocError>
+        ensures traces { OnOk result (slot_traces self.new ≡ own_trace self.old ∷ slot_traces self.old) }
+        ensures trace { trace_of self.new ≡ trace_of self.old }
+        ensures machine { self.new.machine ≡ self.old.machine }
+    {
+        let mark = self.mark();
+        self.marks.push(Some(mark))?;
         Ok(())
     }
 
-    /// Returns the mark of a slot that is popped.
-    fn unmark(&mut self) -> Mark
-        ensures traces { slot_traces self.new ≡ drop 1 (slot_traces self.old) }
-        ensures mark { trace_at self.old.calls.items (paths_in self.old.paths.items) result
-            ≡ first (slot_traces self.old) }
-        ensures within { AreMarked result.calls result.paths (reverse self.new.marks.items) }
-        ensures some_calls { result.calls ≤ length self.new.calls.items }
-        ensures some_paths { result.paths ≤ length self.new.paths.items }
-        ensures calls { self.new.calls ≡ self.old.calls }
-        ensures paths { self.new.paths ≡ self.old.paths }
+    /// Leaves a slot that is pushed without a mark. The only error is an allocation failure.
+    fn push_none(&mut self) -> Result<(), AllocError>
+        ensures traces { OnOk result (slot_traces self.new ≡ None ∷ slot_traces self.old) }
+        ensures trace { trace_of self.new ≡ trace_of self.old }
         ensures machine { self.new.machine ≡ self.old.machine }
     {
-        match self.marks.pop() {
-            Some(mark) => mark,
-            None => Mark { calls: 0, paths: 0 },
+        self.marks.push(None)?;
+        Ok(())
+    }
+
+    /// Drops the mark of a slot that is popped.
+    fn pop_mark(&mut self)
+        ensures traces { slot_traces self.new ≡ drop 1 (slot_traces self.old) }
+        ensures trace { trace_of self.new ≡ trace_of self.old }
+        ensures machine { self.new.machine ≡ self.old.machine }
+    {
+        let _ = self.marks.pop();
+    }
+
+    /// Returns the mark of the last slot, if it has one.
+    fn last_mark(&self) -> Option<Mark>
+        ensures trace { slot_trace (trace_of self.now) result ≡ first (slot_traces self.now) }
+        ensures mark { MatchOption result ⊤ (λ mark. IsWithin mark (counts_of (mark_of self.now))
+            × AreMarked (counts_of mark) (reverse self.now.marks.items)) }
+    {
+        match self.marks.last() {
+            Some(mark) => *mark,
+            None => None,
         }
     }
 
@@ -119,31 +179,94 @@ impl Tracer {
         Ok(())
     }
 
-    /// Leaves the calls that were opened since a mark.
-    fn leave(&mut self, mark: Mark)
-        requires within { AreMarked mark.calls mark.paths (reverse self.old.marks.items) }
-        requires some_calls { mark.calls ≤ length self.old.calls.items }
-        requires some_paths { mark.paths ≤ length self.old.paths.items }
-        ensures trace { own_trace self.new ≡ leave
-            (trace_at self.old.calls.items (paths_in self.old.paths.items) mark) (own_trace self.old) }
-        ensures traces { slot_traces self.new ≡ slot_traces self.old }
+    /// Records the end of a call of a row, which began at a position and has matched or failed, by the mark of
+    /// before it: its rule stands for the attempts within it, unless these are exactly one. Errors: allocation
+    /// failed, or there are too many attempts.
+    fn record_end(&mut self, matched: bool, row: u32, at: usize, before: Mark) -> Result<(), AllocError>
+        requires within { IsWithin before (counts_of (mark_of self.old)) }
+        requires marked { AreMarked (counts_of before) (reverse self.old.marks.items) }
+        ensures trace { OnOk result (own_trace self.new ≡ record_end matched self.old.machine.asked row at
+            (Some (trace_at (trace_of self.old) before)) (own_trace self.old)) }
+        ensures traces { OnOk result (slot_traces self.new ≡ slot_traces self.old) }
         ensures machine { self.new.machine ≡ self.old.machine }
     {
-        self.calls.truncate(mark.calls);
+        if matched != self.below || at < self.machine.asked {
+            return Ok(());
+        }
+        self.furthest = self.furthest.max(at);
+        let positives = self.positives.len() - before.positives;
+        let negatives = self.negatives.len() - before.negatives;
+        if at > self.machine.asked || matches!((positives, negatives), (0, 1) | (1, 0)) {
+            return Ok(());
+        }
+        self.positives.truncate(before.positives);
+        self.negatives.truncate(before.negatives);
+        self.push_attempt(row)?;
+        Ok(())
     }
 
-    /// Restores the trace of a mark.
-    fn restore(&mut self, mark: Mark)
-        requires within { AreMarked mark.calls mark.paths (reverse self.old.marks.items) }
-        requires some_calls { mark.calls ≤ length self.old.calls.items }
-        requires some_paths { mark.paths ≤ length self.old.paths.items }
-        ensures trace { own_trace self.new
-            ≡ trace_at self.old.calls.items (paths_in self.old.paths.items) mark }
+    /// Appends the row of a rule to those that are expected, or below a `!` to those that are not. Errors:
+    /// allocation failed, or there are too many.
+    fn push_attempt(&mut self, row: u32) -> Result<(), AllocError>
+        ensures trace { OnOk result (trace_of self.new
+            ≡ record (trace_of self.old) { attempts = with_rule self.old.below row (trace_of self.old).attempts }) }
+        ensures traces { OnOk result (slot_traces self.new ≡ slot_traces self.old) }
+        ensures machine { self.new.machine ≡ self.old.machine }
+    {
+        if self.below {
+            push_row(&mut self.negatives, row)?;
+        } else {
+            push_row(&mut self.positives, row)?;
+        }
+        Ok(())
+    }
+
+    /// Records the end of the call of the last slot, if that has a mark. Errors are those of `record_end`.
+    fn record_last_end(&mut self, matched: bool, row: u32, at: usize) -> Result<(), AllocError>
+        ensures trace { OnOk result (own_trace self.new ≡ record_end matched self.old.machine.asked row at
+            (first (slot_traces self.old)) (own_trace self.old)) }
+        ensures traces { OnOk result (slot_traces self.new ≡ slot_traces self.old) }
+        ensures machine { self.new.machine ≡ self.old.machine }
+    {
+        match self.last_mark() {
+            Some(mark) => self.record_end(matched, row, at, mark),
+            None => Ok(()),
+        }
+    }
+
+    /// Records the end of a call that has none within it. Errors are those of `record_end`.
+    fn record_leaf(&mut self, matched: bool, row: u32, at: usize) -> Result<(), AllocError>
+        ensures trace { OnOk result (own_trace self.new ≡ record_end matched self.old.machine.asked row at
+            (own_trace self.old) (own_trace self.old)) }
+        ensures traces { OnOk result (slot_traces self.new ≡ slot_traces self.old) }
+        ensures machine { self.new.machine ≡ self.old.machine }
+    {
+        let mark = self.mark();
+        self.record_end(matched, row, at, mark)
+    }
+
+    /// Leaves the calls that were opened since the last slot was pushed, if it has a mark.
+    fn leave(&mut self)
+        ensures trace { own_trace self.new ≡ leave (first (slot_traces self.old)) (own_trace self.old) }
         ensures traces { slot_traces self.new ≡ slot_traces self.old }
         ensures machine { self.new.machine ≡ self.old.machine }
     {
-        self.calls.truncate(mark.calls);
-        self.paths.truncate(mark.paths);
+        if let Some(mark) = self.last_mark() {
+            self.calls.truncate(mark.calls);
+        }
+    }
+
+    /// Restores all but the attempts, as the mark of the last slot has it, if it has one.
+    fn restore(&mut self)
+        ensures trace { own_trace self.new ≡ restore (first (slot_traces self.old)) (own_trace self.old) }
+        ensures traces { slot_traces self.new ≡ slot_traces self.old }
+        ensures machine { self.new.machine ≡ self.old.machine }
+    {
+        if let Some(mark) = self.last_mark() {
+            self.calls.truncate(mark.calls);
+            self.paths.truncate(mark.paths);
+            self.below = mark.below;
+        }
     }
 
     /// Opens a call, if it counts. The only error is an allocation failure.
@@ -166,64 +289,102 @@ impl Tracer {
         self.machine.slots.last().copied()
     }
 
-    /// Records the failure of the part of a slot, whose mark is given. Errors are those of `expect`.
-    fn fail(&mut self, alloc: Global, slot: Slot, mark: Mark) -> Result<(), AllocError>
-        requires within { AreMarked mark.calls mark.paths (reverse self.old.marks.items) }
-        requires some_calls { mark.calls ≤ length self.old.calls.items }
-        requires some_paths { mark.paths ≤ length self.old.paths.items }
-        ensures trace { OnOk result (own_trace self.new ≡ trace_behind slot.failing
-            (slot.at == self.old.machine.asked)
+    /// Returns the tree of a number; one of nothing if there is none.
+    fn tree_at(&self, number: usize) -> TreeNode
+        ensures { result ≡ get_or self.now.machine.trees.items number no_tree }
+    {
+        match self.machine.trees.get(number) {
+            Some(tree) => *tree,
+            None => TreeNode {
+                row: 0,
+                start: 0,
+                end: 0,
+                after: 0,
+            },
+        }
+    }
+
+    /// Records the failure of the part of a slot, which is the last one. Errors: allocation failed, or there are
+    /// too many paths or attempts.
+    fn fail(&mut self, alloc: Global, slot: Slot) -> Result<(), AllocError>
+        ensures trace { OnOk result (own_trace self.new ≡ trace_behind slot.failing self.old.machine.asked
             (get_or self.old.machine.trees.items slot.trees no_tree).row slot.at
-            (trace_at self.old.calls.items (paths_in self.old.paths.items) mark) (own_trace self.old)) }
+            (first (slot_traces self.old)) (own_trace self.old)) }
         ensures traces { OnOk result (slot_traces self.new ≡ slot_traces self.old) }
         ensures machine { self.new.machine ≡ self.old.machine }
     {
+        let row = self.tree_at(slot.trees).row;
         match slot.failing {
-            Failing::Plain => Ok(()),
+            Failing::Plain => self.record_last_end(false, row, slot.at),
             Failing::Counted => {
                 if slot.at == self.machine.asked {
-                    let row = self.row_of(slot);
-                    self.restore(mark);
-                    self.expect(alloc, row, slot.at)
+                    self.restore();
+                    self.expect(alloc, row, slot.at)?;
+                    self.record_last_end(false, row, slot.at)
                 } else {
-                    self.leave(mark);
-                    Ok(())
+                    self.leave();
+                    self.record_last_end(false, row, slot.at)
                 }
             }
             Failing::Negated => {
-                self.restore(mark);
+                self.restore();
                 Ok(())
             }
         }
     }
 
-    /// Returns the row for which the part of a slot was called; 0 if there is no tree of it.
-    fn row_of(&self, slot: Slot) -> u32
-        ensures { result ≡ (get_or self.now.machine.trees.items slot.trees no_tree).row }
-    {
-        match self.machine.trees.get(slot.trees) {
-            Some(tree) => tree.row,
-            None => 0,
-        }
-    }
-
-    /// Records the end of a lookahead that has found its part, by the mark of its slot.
-    fn look(&mut self, slot: Slot, mark: Mark)
-        requires within { AreMarked mark.calls mark.paths (reverse self.old.marks.items) }
-        requires some_calls { mark.calls ≤ length self.old.calls.items }
-        requires some_paths { mark.paths ≤ length self.old.paths.items }
-        ensures trace { own_trace self.new ≡ trace_ahead slot.failing
-            (trace_at self.old.calls.items (paths_in self.old.paths.items) mark) (own_trace self.old) }
-        ensures traces { slot_traces self.new ≡ slot_traces self.old }
+    /// Records a failure, which pops the last slot. Errors are those of `fail`.
+    fn pop_failure(&mut self, alloc: Global) -> Result<(), AllocError>
+        ensures trace { OnOk result ((code : CodeLists) (text : List ℕ) (pc at : ℕ)
+            → own_trace self.new ≡ trace_after op.Fail (config code text self.old.machine pc at)
+            (first (slot_traces self.old)) (own_trace self.old)) }
+        ensures traces { OnOk result (slot_traces self.new ≡ drop 1 (slot_traces self.old)) }
         ensures machine { self.new.machine ≡ self.old.machine }
     {
-        match slot.failing {
-            Failing::Plain | Failing::Counted => {}
-            Failing::Negated => self.restore(mark),
+        if let Some(slot) = self.last_slot() {
+            self.fail(alloc, slot)?;
         }
+        self.pop_mark();
+        Ok(())
     }
 
-    /// Records an operation that is to be run next. Errors: allocation failed, or there are too many paths.
+    /// Records the return of a call, which pops its slot. Errors: allocation failed, or there are too many
+    /// attempts.
+    fn pop_return(&mut self) -> Result<(), AllocError>
+        ensures trace { OnOk result ((code : CodeLists) (text : List ℕ) (pc at : ℕ)
+            → own_trace self.new ≡ trace_after op.Return (config code text self.old.machine pc at)
+            (first (slot_traces self.old)) (own_trace self.old)) }
+        ensures traces { OnOk result (slot_traces self.new ≡ drop 1 (slot_traces self.old)) }
+        ensures machine { self.new.machine ≡ self.old.machine }
+    {
+        if let Some(slot) = self.last_slot() {
+            let row = self.tree_at(slot.trees).row;
+            self.leave();
+            self.record_last_end(true, row, slot.at)?;
+        }
+        self.pop_mark();
+        Ok(())
+    }
+
+    /// Records the end of a lookahead that has found its part, which pops its slot.
+    fn pop_lookahead(&mut self)
+        ensures trace { (code : CodeLists) (text : List ℕ) (pc at next : ℕ)
+            → own_trace self.new ≡ trace_after (op.Ahead next) (config code text self.old.machine pc at)
+            (first (slot_traces self.old)) (own_trace self.old) }
+        ensures traces { slot_traces self.new ≡ drop 1 (slot_traces self.old) }
+        ensures machine { self.new.machine ≡ self.old.machine }
+    {
+        if let Some(slot) = self.last_slot() {
+            match slot.failing {
+                Failing::Plain | Failing::Counted => {}
+                Failing::Negated => self.restore(),
+            }
+        }
+        self.pop_mark();
+    }
+
+    /// Records an operation that is to be run next. Errors: allocation failed, or there are too many paths or
+    /// attempts.
     fn record(&mut self, alloc: Global, op: Op, at: usize) -> Result<(), AllocError>
         ensures traces { OnOk result
             (slot_traces self.new ≡ traces_after op (own_trace self.old) (slot_traces self.old)) }
@@ -234,47 +395,42 @@ impl Tracer {
     {
         match op {
             Op::Call { row, counts, .. } => {
-                self.mark()?;
+                self.push_mark()?;
                 self.enter(counts, row, at)
             }
-            Op::Sub { .. } | Op::Try { .. } | Op::Not { .. } => self.mark(),
-            Op::Fail => {
-                let mark = self.unmark();
-                match self.last_slot() {
-                    Some(slot) => self.fail(alloc, slot, mark),
-                    None => Ok(()),
-                }
-            }
-            Op::Return => {
-                let mark = self.unmark();
-                if let Some(_) = self.last_slot() {
-                    self.leave(mark);
-                }
+            Op::Sub { .. } | Op::Try { .. } => self.push_none(),
+            Op::Not { .. } => {
+                self.push_mark()?;
+                self.below = !self.below;
                 Ok(())
             }
+            Op::Fail => self.pop_failure(alloc),
+            Op::Return => self.pop_return(),
             Op::Ahead { .. } => {
-                let mark = self.unmark();
-                if let Some(slot) = self.last_slot() {
-                    self.look(slot, mark);
-                }
+                self.pop_lookahead();
                 Ok(())
             }
             Op::Back | Op::Commit { .. } | Op::Push { .. } => {
-                let _ = self.unmark();
+                self.pop_mark();
                 Ok(())
             }
             Op::Miss { row, .. } => {
+                self.record_leaf(false, row, at)?;
                 if at == self.machine.asked {
-                    self.expect(alloc, row, at)
-                } else {
-                    Ok(())
+                    self.expect(alloc, row, at)?;
                 }
+                Ok(())
+            }
+            Op::Close { .. } => {
+                let last = self.machine.trees.len().saturating_sub(1);
+                let tree = self.tree_at(last);
+                self.record_leaf(true, tree.row, tree.start as usize)
             }
             _ => Ok(()),
         }
     }
 
-    /// Runs the operation of a number. Errors: allocation failed, or there are too many paths.
+    /// Runs the operation of a number. Errors: allocation failed, or there are too many paths or attempts.
     fn step(
         &mut self,
         alloc: Global,
@@ -292,7 +448,7 @@ impl Tracer {
     }
 
     /// Runs a program on a text, from an operation and a position in bytes, in at most so many steps. Errors:
-    /// allocation failed, or there are more than 1,024 paths.
+    /// allocation failed, or there are more than 1,024 paths, or 65,535 attempts of a kind.
     pub fn run(
         &mut self,
         alloc: Global,

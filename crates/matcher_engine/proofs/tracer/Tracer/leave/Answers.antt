@@ -1,21 +1,28 @@
-use Rattle.std.proofs.Common.{◌≡◌, ◌∙◌, ap, arith, length, map, refl, reverse}
+use Rattle.std.proofs.Common.{◌≡◌, ◌∙◌, Some, ap, arith, length, map, refl, reverse}
 use Rattle.std.proofs.lemmas.List.{length-take-le}
-use Rattle.matcher_engine.specs.Traces.{paths_in, trace_at}
+use Rattle.matcher_code.specs.Steps.{leave}
+use Rattle.matcher_engine.specs.Marks.{counts_of}
+use Rattle.matcher_engine.specs.Traces.{mark_of, own_trace, slot_trace, trace_of}
 use Rattle.matcher_engine.proofs.Marking.{cut_twice, marked_longer, traces_alike}
 use Rattle.matcher_engine.proofs.tracer.Tracer.leave.Goals as goal
 
 pub invariant_of-self : goal.invariant_of-self
 invariant_of-self c =
     let t = c.args.self.now in
-    let m = c.args.mark in
+    let m = c.in-Some.mark in
     let v = c.truncate.new.self in
-    let l : length v.items ≡ m.calls = ap length c.truncate.ensures.items ∙ length-take-le m.calls t.calls.items c.requires.some_calls in
-    record { marked = marked_longer m.calls (length v.items) m.paths (length t.paths.items) (reverse t.marks.items) (omega (arith, l)) c.requires.some_paths c.requires.within }
+    let w = c.in-Some.ensures.mark in
+    let l : length v.items ≡ m.calls = ap length c.truncate.ensures.items ∙ length-take-le m.calls t.calls.items w.0.0 in
+    record { marked = marked_longer (counts_of m) (record (counts_of (mark_of t)) { calls = length v.items }) (reverse t.marks.items) (omega (arith, l), w.0.1) w.1 }
 
-pub returns-clause-traces : goal.returns-clause-traces
-returns-clause-traces c =
+pub returns-in-Some-clause-trace : goal.returns-in-Some-clause-trace
+returns-in-Some-clause-trace c =
     let t = c.args.self.now in
-    let m = c.args.mark in
-    let ps = paths_in t.paths.items in
-    ap (λ xs. map (trace_at xs ps) (reverse t.marks.items)) c.truncate.ensures.items
-    ∙ traces_alike m.calls m.paths _ t.calls.items ps ps (reverse t.marks.items) c.requires.within (cut_twice m.calls t.calls.items) refl
+    ap (λ xs. Some (record (trace_of t) { calls = xs })) c.truncate.ensures.items ∙ ap (λ f. leave f (own_trace t)) c.in-Some.ensures.trace
+
+pub returns-in-Some-clause-traces : goal.returns-in-Some-clause-traces
+returns-in-Some-clause-traces c =
+    let t = c.args.self.now in
+    let m = c.in-Some.mark in
+    ap (λ xs. map (slot_trace (record (trace_of t) { calls = xs })) (reverse t.marks.items)) c.truncate.ensures.items
+    ∙ traces_alike (counts_of m) (record (trace_of t) { calls = _ }) (trace_of t) (reverse t.marks.items) c.in-Some.ensures.mark.1 (cut_twice m.calls t.calls.items, (refl, (refl, refl)))
