@@ -1,3 +1,5 @@
+pub mod AttemptPlaces
+pub mod AttemptRuns
 pub mod BlockOutcomes
 pub mod Bytes
 pub mod Dressing

@@ -1,5 +1,5 @@
 -- What a run that records calls says of where a text failed.
-use Rattle.std.proofs.Common.{◌≡◌, refl, sym, ◌∙◌, ap, ap₂, ℕ, ◌+◌, ◌*◌, ◌≤◌, List, [], ◌∷◌, None, Option, Some, Bool, true, map, max, arith}
+use Rattle.std.proofs.Common.{◌≡◌, refl, sym, ◌∙◌, ap, ℕ, ◌+◌, ◌*◌, ◌≤◌, List, [], ◌∷◌, None, Option, Some, true, max, arith}
 use Rattle.std.specs.Prelude.{IsUtf8}
 use Rattle.std.specs.Str.{IsCharBoundary}
 use Rattle.base_language.specs.Language.Expression.{last_place}
@@ -12,7 +12,6 @@ use Rattle.matcher_code.specs.Paths.{Path}
 use Rattle.matcher_code.specs.Failures.{Failures, failures_at}
 use Rattle.matcher_code.specs.Reached.{calls_of, rows_of, with_attempts, with_paths, with_trace}
 use Rattle.matcher_code.specs.Steps.{Config, Trace, no_trace, steps, with_path}
-use Rattle.matcher_machine.specs.declared.machine.RunEnd.{RunEnd}
 use Rattle.matcher_machine.specs.declared.machine.RunEnd.TheVariants as ended
 use Rattle.matcher_machine.specs.Machines.{EndsIn}
 use Rattle.matcher_program.specs.declared.form.Program.{Program}

@@ -9,4 +9,5 @@ pub mod Runs
 pub mod Soundness
 pub mod Traces
 pub mod Walks
+pub mod FailureAttempts
 pub mod FailurePaths

@@ -1,6 +1,7 @@
 //! A matcher that runs compiled rules, and compiled rules as blocks of bytes.
 #![tactic(auto)]
 
+pub mod attempts;
 pub mod block;
 pub mod codes;
 pub mod laws;

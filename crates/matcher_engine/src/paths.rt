@@ -14,13 +14,13 @@ ghost use Rattle.matcher_engine.specs.Reasons.{HasReason, StopsFor};
 
 use crate::codes::name_code_bytes;
 use crate::matcher::{Matcher, OPERATIONS, entry_of, has_long_text};
+use crate::tracer::Tracer;
 use base_language::runtime::{Position, Span};
 use format_code::code::read_code;
 use matcher_code::bytecode::Bytecode;
 use matcher_code::state::OpenCall;
 use matcher_compiler::names::last_index;
 use matcher_machine::machine::{Machine, RunEnd};
-use crate::tracer::Tracer;
 use matcher_program::answers::{Refusal, Stop, whole_text};
 use std::alloc::Global;
 

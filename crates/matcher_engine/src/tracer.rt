@@ -16,8 +16,8 @@ const PATHS: usize = 1_024;
 /// The greatest number of attempts of a kind.
 const ATTEMPTS: usize = 65_535;
 
-/// What was recorded where a call or a `!` begins: how many calls were open, how many paths and attempts there
-/// were, whether the run stood below a `!`, and the greatest position of an attempt.
+/// What was recorded where a call or a `!` begins: how many calls were open, how many paths and attempts
+/// there were, whether the run stood below a `!`, and the greatest position of an attempt.
 #[derive(Clone, Copy, Debug)]
 pub struct Mark {
     pub calls: usize,
@@ -46,8 +46,7 @@ pub struct Tracer {
     pub negatives: Vec<u32>,
     /// One for each slot, or none for that of a choice or of a call that gives no token.
     pub marks: Vec<Option<Mark>>,
-    ghost marked: { HaveMarks calls.items paths.items positives.items negatives.items marks.items }
-        by { HaveMarks-prop calls.items paths.items positives.items negatives.items marks.items },
+    ghost marked: { HaveMarks calls.items paths.items positives.items negatives.items marks.items } by { HaveMarks-prop calls.items paths.items positives.items negatives.items marks.items },
 }
 
 /// Appends a row to attempts. Errors: allocation failed, or there are too many.
@@ -179,10 +178,16 @@ impl Tracer {
         Ok(())
     }
 
-    /// Records the end of a call of a row, which began at a position and has matched or failed, by the mark of
-    /// before it: its rule stands for the attempts within it, unless these are exactly one. Errors: allocation
-    /// failed, or there are too many attempts.
-    fn record_end(&mut self, matched: bool, row: u32, at: usize, before: Mark) -> Result<(), AllocError>
+    /// Records the end of a call of a row, which began at a position and has matched or failed, by the mark
+    /// of before it: its rule stands for the attempts within it, unless these are exactly one. Errors:
+    /// allocation failed, or there are too many attempts.
+    fn record_end(
+        &mut self,
+        matched: bool,
+        row: u32,
+        at: usize,
+        before: Mark,
+    ) -> Result<(), AllocError>
         requires within { IsWithin before (counts_of (mark_of self.old)) }
         requires marked { AreMarked (counts_of before) (reverse self.old.marks.items) }
         ensures trace { OnOk result (own_trace self.new ≡ record_end matched self.old.machine.asked row at
@@ -208,8 +213,8 @@ impl Tracer {
     /// Appends the row of a rule to those that are expected, or below a `!` to those that are not. Errors:
     /// allocation failed, or there are too many.
     fn push_attempt(&mut self, row: u32) -> Result<(), AllocError>
-        ensures trace { OnOk result (trace_of self.new
-            ≡ record (trace_of self.old) { attempts = with_rule self.old.below row (trace_of self.old).attempts }) }
+        ensures trace { OnOk result (trace_of self.new ≡ record (trace_of self.old) {
+            attempts = with_rule self.old.below row (trace_of self.old).attempts }) }
         ensures traces { OnOk result (slot_traces self.new ≡ slot_traces self.old) }
         ensures machine { self.new.machine ≡ self.old.machine }
     {
@@ -304,8 +309,8 @@ impl Tracer {
         }
     }
 
-    /// Records the failure of the part of a slot, which is the last one. Errors: allocation failed, or there are
-    /// too many paths or attempts.
+    /// Records the failure of the part of a slot, which is the last one. Errors: allocation failed, or there
+    /// are too many paths or attempts.
     fn fail(&mut self, alloc: Global, slot: Slot) -> Result<(), AllocError>
         ensures trace { OnOk result (own_trace self.new ≡ trace_behind slot.failing self.old.machine.asked
             (get_or self.old.machine.trees.items slot.trees no_tree).row slot.at

@@ -23,8 +23,8 @@ returns-in-Ok-trace_rule-clause-paths c =
     let n = chars c.args.rule.now in
     let meant : last_place (grammar_in m) n ≡ Some c.in-Some.number = ap (λ rs. last_place (grammar_of rs) n) (sym c.as_slice.ensures.value) ∙ (sym c.last_index.ensures ∙ c.in-Some.is) in
     λ classes fits.
-        let y = c.in-Ok-trace_rule.ensures m.program (subst (IsCodeOf true m.program) (sym (c.read_code-code.ensures ∙ ap lists_at c.deref.ensures.value)) c.in-Ok.ensures) n meant classes fits in
-        (y.outcome, y.found, y.paths)
+    let y = c.in-Ok-trace_rule.ensures m.program (subst (IsCodeOf true m.program) (sym (c.read_code-code.ensures ∙ ap lists_at c.deref.ensures.value)) c.in-Ok.ensures) n meant classes fits in
+    (y.outcome, y.found, y.paths)
 
 pub returns-clause-refused : goal.returns-clause-refused
 returns-clause-refused c =

@@ -1,4 +1,4 @@
-use Rattle.std.proofs.Common.{◌≡◌, ◌∙◌, ap, ap₂, arith, length, map, max, refl, reverse}
+use Rattle.std.proofs.Common.{◌≡◌, ◌∙◌, ap, ap₂, arith, length, map, refl, reverse}
 use Rattle.std.proofs.lemmas.List.{length-take-le}
 use Rattle.matcher_engine.specs.Marks.{counts_of}
 use Rattle.matcher_engine.specs.Traces.{mark_of, slot_trace, trace_of}
