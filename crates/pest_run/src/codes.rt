@@ -145,6 +145,7 @@ pub fn compile_file<E: Write>(
         exit.write_result (E.contents err.old.writer) (E.contents err.new.writer)) }
     ensures tells_unread { IfErr result (λ exit. exit.status ≡ 3 → ReportsUnread grammar.now grammar.now
         exit.write_result (E.contents err.old.writer) (E.contents err.new.writer)) }
+    ensures kept { IfErr result (λ exit. exit.status ≡ 1 → reading.new ≢ Reading.Nothing) }
 {
     *reading = Reading::Nothing;
     let Some(text) = text_of(grammar) else {

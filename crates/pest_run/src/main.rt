@@ -1,9 +1,10 @@
 //! Matches a text by a rule of a grammar, and prints the trees.
 #![tactic(auto)]
 
-ghost use Rattle.std.specs.Prelude.{◌≡◌, ◌≢◌, ◌≤◌, ◌⊎◌, IfOk, None};
+ghost use Rattle.std.specs.Prelude.{◌≡◌, ◌≢◌, ◌≤◌, ◌⊎◌, IfOk, None, false, true};
 ghost use Rattle.clap.specs.Values.{kind_of};
 ghost use Rattle.clap.specs.declared.error.kind.ErrorKind.TheVariants.{DisplayHelp, DisplayVersion};
+ghost use Rattle.pest_run.specs.Codes.{is_code};
 ghost use Rattle.pest_run.specs.Listing.{ListsRules};
 ghost use Rattle.pest_run.specs.Written.{IsReadable, PrintsTrees};
 
@@ -52,6 +53,30 @@ fn source<'a>(rt: &HostRuntime, name: &'a str) -> Result<Source<'a>, AllocError>
         Err(error) => (Vec::new(alloc), Some(format!(in alloc; "{error}")?)),
     };
     Ok(Source { name, bytes, why })
+}
+
+/// Returns the file of a grammar for what needs its text: a compiled grammar counts as a file that can't be
+/// read. The only error is an allocation failure.
+fn text_source<'a>(rt: &HostRuntime, grammar: Source<'a>) -> Result<Source<'a>, AllocError>
+    ensures code { IfOk result (λ source. is_code grammar.entry.name.now grammar.entry.bytes.items ≡ true
+        → source.why ≢ None) }
+    ensures text { IfOk result (λ source. is_code grammar.entry.name.now grammar.entry.bytes.items ≡ false
+        → source ≡ grammar.entry) }
+    ensures unread { IfOk result (λ source. grammar.entry.why ≢ None → source ≡ grammar.entry) }
+{
+    if grammar.why.is_some() {
+        return Ok(grammar);
+    }
+    if !is_code(&grammar) {
+        return Ok(grammar);
+    }
+    let alloc = rt.alloc();
+    let why = "it is a compiled grammar, and this needs the grammar's text";
+    Ok(Source {
+        name: grammar.name,
+        bytes: Vec::new(alloc),
+        why: Some(String::from_str(alloc, why)?),
+    })
 }
 
 /// Runs the program on two files with the process's own output, and returns the status.
@@ -173,10 +198,10 @@ fn print_usage(rt: &HostRuntime, error: &clap::Error) -> Result<Status, AllocErr
 fn answer_request(rt: &HostRuntime, matches: &ArgMatches<'_>) -> Result<u8, AllocError> {
     let grammar = source(rt, matches.get_str("GRAMMAR").unwrap_or(""))?;
     if let Some(target) = compile_target(matches) {
-        return compile(rt, &grammar, target);
+        return compile(rt, &text_source(rt, grammar)?, target);
     }
     if asks_for_rules(matches) {
-        return Ok(list_names(rt, &grammar));
+        return Ok(list_names(rt, &text_source(rt, grammar)?));
     }
     let text = source(rt, matches.get_str("TEXT").unwrap_or("-"))?;
     let request = Request {

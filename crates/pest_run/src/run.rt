@@ -62,6 +62,7 @@ pub fn run_files<W: Write, E: Write>(
         (E.contents err.old.writer) (E.contents err.new.writer) }
     ensures told { IsOk result.write_result → err.new.refused ≡ err.old.refused }
     ensures refused_line { IsErr result.write_result → err.new.refused ≡ true }
+    ensures kept { result.status ≢ 2 → result.status ≢ 3 → reading.new ≢ Reading.Nothing }
 {
     *reading = Reading::Nothing;
     let Some(rules) = text_of(grammar) else {
@@ -120,6 +121,7 @@ pub fn run<W: Write, E: Write>(
         (E.contents err.old.writer) (E.contents err.new.writer) }
     ensures told { IsOk result.write_result → err.new.refused ≡ err.old.refused }
     ensures refused_line { IsErr result.write_result → err.new.refused ≡ true }
+    ensures kept { result.status ≢ 2 → reading.new ≢ Reading.Nothing }
 {
     *reading = Reading::Nothing;
     match read_grammar(alloc, grammar) {
