@@ -7,3 +7,5 @@ pub mod RuleNames
 pub mod ReadRules
 pub mod Undefined
 pub mod CodeFiles
+pub mod PathTexts
+pub mod Explaining

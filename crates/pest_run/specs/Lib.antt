@@ -1,6 +1,7 @@
 pub mod Steps
 pub mod RuleNames
 pub mod Messages
+pub mod Paths
 pub mod Failures
 pub mod Outcomes
 pub mod Written
@@ -10,3 +11,4 @@ pub mod Codes
 pub mod Ends
 pub mod Listing
 pub mod Forms
+pub mod Explanations

@@ -1,5 +1,5 @@
 -- The limit of the steps of a match.
-use Rattle.std.specs.Prelude.{ℕ, ◌+◌, ◌*◌, ◌-◌, ◌^◌, ◌<◌, List, Option, Some, None, SomeIff, min}
+use Rattle.std.specs.Prelude.{ℕ, ◌+◌, ◌*◌, ◌-◌, ◌/◌, ◌^◌, ◌<◌, List, Option, Some, None, SomeIff, min}
 use Rattle.std.specs.Str.Parse.{IsNumeral, digits_value, without_leading_plus}
 
 -- the number that a text writes in digits, if it writes one of 64 bits
@@ -12,3 +12,8 @@ CountsSteps text steps = let digits = without_leading_plus text in
 abbrev pub step_limit : Option ℕ → ℕ → ℕ
 step_limit (Some steps) length = steps
 step_limit None length = min (100000 * (length + 1000)) (2 ^ 64 - 1)
+
+-- the given limit; or a tenth of that one
+abbrev pub path_limit : Option ℕ → ℕ → ℕ
+path_limit (Some steps) length = steps
+path_limit None length = step_limit None length / 10

@@ -3,7 +3,7 @@ ghost use Rattle.std.specs.Prelude.{◌≡◌, ◌∷◌, ℕ, List, [], IfOk, N
 ghost use Rattle.clap.specs.Matches.{first_value, found_of, one_text};
 ghost use Rattle.clap.specs.Simple.{app_of};
 ghost use Rattle.program_support.specs.Arguments.{HasForm, arguments_of, flag, option, positional};
-ghost use Rattle.pest_run.specs.Steps.{CountsSteps, step_limit};
+ghost use Rattle.pest_run.specs.Steps.{CountsSteps, path_limit, step_limit};
 
 use clap::builder::ValueParser;
 use clap::{Arg, ArgMatches, Command};
@@ -27,7 +27,8 @@ pub enum RuleForm {
     Optimized,
 }
 
-/// The rule to match, the form of the rules, the format of the trees, and the limit of the steps.
+/// The rule to match, the form of the rules, the format of the trees, the limit of the steps, and whether a
+/// failure is explained.
 #[derive(Clone, Copy)]
 pub struct Request<'a> {
     /// The name of the rule that is to match the text.
@@ -38,6 +39,8 @@ pub struct Request<'a> {
     pub form: RuleForm,
     /// The greatest number of steps; where none is given, the text's length sets it.
     pub steps: Option<u64>,
+    /// Whether the calls that are open at a failure are printed.
+    pub why: bool,
 }
 
 /// The exit statuses, as `--help` shows them.
@@ -51,8 +54,8 @@ const STATUSES: &str =
 pub fn command<'a>(alloc: Global) -> Result<Command<'a>, AllocError>
     ensures name { IfOk result (λ command. (app_of command).top.name ≡ codes "pest-run") }
     ensures arguments { IfOk result (λ command. arguments_of command ≡ option (codes "format")
-        ∷ flag (codes "optimized") ∷ option (codes "steps") ∷ flag (codes "list-rules")
-        ∷ option (codes "compile")
+        ∷ flag (codes "optimized") ∷ option (codes "steps") ∷ flag (codes "why")
+        ∷ flag (codes "list-rules") ∷ option (codes "compile")
         ∷ positional (codes "GRAMMAR") ∷ positional (codes "RULE") ∷ positional (codes "TEXT") ∷ []) }
 {
     let about = "Matches a text by a rule of a pest grammar, and prints the trees";
@@ -60,6 +63,7 @@ pub fn command<'a>(alloc: Global) -> Result<Command<'a>, AllocError>
     let command = add_argument(command, format_argument(alloc))?;
     let command = add_argument(command, optimized_argument(alloc))?;
     let command = add_argument(command, steps_argument(alloc))?;
+    let command = add_argument(command, why_argument(alloc))?;
     let command = add_argument(command, list_argument(alloc)?)?;
     let command = add_argument(command, compile_argument(alloc)?)?;
     let command = add_argument(command, grammar_argument(alloc))?;
@@ -95,6 +99,15 @@ fn steps_argument<'a>(alloc: Global) -> Arg<'a>
     option(alloc, "steps", help)
         .value_name("N")
         .value_parser(ValueParser::unsigned(1, u64::MAX))
+}
+
+/// Returns `--why`.
+fn why_argument<'a>(alloc: Global) -> Arg<'a>
+    ensures { HasForm (flag (codes "why")) result }
+{
+    let help =
+        "Where the rule fails, also print the calls of rules that are open there, and where each begins";
+    flag(alloc, "why", help)
 }
 
 /// Returns `--list-rules`.
@@ -188,6 +201,16 @@ pub fn asks_for_rules(matches: &ArgMatches<'_>) -> bool
     matches.get_flag("list-rules")
 }
 
+/// Returns whether a command line asks for the calls that are open at a failure.
+pub fn asks_why(matches: &ArgMatches<'_>) -> bool
+    ensures asked { one_text (found_of matches.now) (codes "why") ≡ Some (codes "true") → result ≡ true }
+    ensures unasked { one_text (found_of matches.now) (codes "why") ≡ Some (codes "false")
+        → result ≡ false }
+    ensures missing { one_text (found_of matches.now) (codes "why") ≡ None → result ≡ false }
+{
+    matches.get_flag("why")
+}
+
 /// Returns the file to which a command line asks to compile, if it does.
 pub fn compile_target<'m>(matches: &'m ArgMatches<'_>) -> Option<&'m str>
     ensures { option_map (λ name. name.now) result
@@ -221,5 +244,16 @@ pub fn step_limit(steps: Option<u64>, length: usize) -> u64
         None => (length as u64)
             .saturating_add(MORE_BYTES)
             .saturating_mul(STEPS_PER_BYTE),
+    }
+}
+
+/// Returns the greatest number of steps of a run that looks for open calls: the given one, or else a tenth of
+/// what `step_limit` allows, since such a run remembers nothing of earlier calls.
+pub fn path_limit(steps: Option<u64>, length: usize) -> u64
+    ensures { result ≡ path_limit steps length }
+{
+    match steps {
+        Some(given) => given,
+        None => step_limit(None, length) / 10,
     }
 }

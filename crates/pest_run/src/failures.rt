@@ -1,5 +1,5 @@
-//! Names that are expected at a failure, and the position that a report shows: the furthest one, or, where no
-//! name is expected there, the last before it at which names are.
+//! Expected names of a failure, and its position: the furthest one, or, where no name is expected there, the
+//! last before it at which names are.
 ghost use Rattle.std.specs.Prelude.{◌≡◌, IfErr, IfOk, IfSome, true};
 ghost use Rattle.std.specs.Str.{IsCharBoundary};
 ghost use Rattle.base_language.specs.Language.Expression.{Grammar};

@@ -11,34 +11,38 @@ ghost use Rattle.pest_run.specs.Written.{IsReadable, PrintsTrees};
 mod arguments;
 mod codes;
 mod ends;
+mod explanations;
 mod failures;
 mod forms;
 mod grammars;
 mod listing;
 mod messages;
 mod outcomes;
+mod paths;
 mod properties;
 mod rule_names;
 mod run;
 mod sources;
 
 use arguments::{
-    Request, RuleForm, asks_for_rules, command, compile_target, form_of, format_of, steps_of,
+    Request, RuleForm, asks_for_rules, asks_why, command, compile_target, form_of, format_of,
+    steps_of,
 };
 use clap::ArgMatches;
 use codes::{compile_file, is_code, run_code};
+use explanations::explain_failure;
 use forms::note_forms;
 use grammars::Reading;
 use listing::list_file;
 use program_support::escape::escape_lines;
 use program_support::input::read_input;
 use program_support::messages::cannot_write;
-use program_support::output::Output;
+use program_support::output::{Output, RefusedWrite};
 use program_support::status::Status;
 use properties::note_property;
 use run::run_files;
 use sources::Source;
-use std::alloc::AllocError;
+use std::alloc::{AllocError, Global};
 use std::env;
 use std::fs::File;
 use std::io::{self, Write};
@@ -107,15 +111,34 @@ fn match_files(
         &mut err,
     );
     if exit.status == Status::Found.code() {
-        let _ = match (&reading, request.form) {
-            (Reading::Accepted(rules), RuleForm::Written) => {
-                note_forms(alloc, rules, text, request, &mut err)
-            }
-            (Reading::Refused(errors), _) => note_property(alloc, errors, &mut err),
-            _ => Ok(()),
-        };
+        let _ = print_more(alloc, &reading, text, request, &mut out, &mut err);
     }
     exit.status
+}
+
+/// Prints more on why there are no trees: the open calls, if the request asks for them, and whether the
+/// optimized rules match; or that a property is pest's.
+fn print_more<W: Write, E: Write>(
+    alloc: Global,
+    reading: &Reading,
+    text: &Source<'_>,
+    request: Request<'_>,
+    out: &mut Output<W>,
+    err: &mut Output<E>,
+) -> Result<(), RefusedWrite> {
+    match reading {
+        Reading::Nothing => Ok(()),
+        Reading::Refused(errors) => note_property(alloc, errors, err),
+        Reading::Accepted(rules) => {
+            if request.why {
+                explain_failure(alloc, rules, text, request, out, err)?;
+            }
+            match request.form {
+                RuleForm::Written => note_forms(alloc, rules, text, request, err),
+                RuleForm::Optimized => Ok(()),
+            }
+        }
+    }
 }
 
 /// Runs the program on a compiled grammar and a text with the process's own output, and returns the status.
@@ -125,7 +148,11 @@ fn match_by_code(rt: &HostRuntime, code: &Source<'_>, text: &Source<'_>, request
 {
     let mut out = Output::new(rt.stdout());
     let mut err = Output::new(rt.stderr());
-    run_code(rt.alloc(), code, text, request, &mut out, &mut err).status
+    let status = run_code(rt.alloc(), code, text, request, &mut out, &mut err).status;
+    if request.why && status == Status::Found.code() {
+        let _ = err.write_line(&["--why needs the grammar's text, not a compiled grammar"]);
+    }
+    status
 }
 
 /// Compiles a grammar to the file of a name, with the process's own output, and returns the status.
@@ -209,6 +236,7 @@ fn answer_request(rt: &HostRuntime, matches: &ArgMatches<'_>) -> Result<u8, Allo
         format: format_of(matches),
         form: form_of(matches),
         steps: steps_of(matches),
+        why: asks_why(matches),
     };
     if is_code(&grammar) {
         return Ok(match_by_code(rt, &grammar, &text, request));

@@ -1,4 +1,4 @@
-//! Messages without hidden characters.
+//! Messages.
 ghost use Rattle.std.specs.Prelude.{◌≡◌, ◌++◌, IfOk, OnOk, codes, string_bytes};
 ghost use Rattle.std.specs.Str.{IsCharBoundary};
 ghost use Rattle.matcher_program.specs.ExpectedNames.{name_texts};
@@ -211,7 +211,7 @@ fn note_between(
 }
 
 /// Returns a line and a column as text. The only error is an allocation failure.
-fn show_place(alloc: Global, place: (usize, usize)) -> Result<String, AllocError>
+pub fn show_place(alloc: Global, place: (usize, usize)) -> Result<String, AllocError>
     ensures { IfOk result (λ text. string_bytes text ≡ place_text place) }
 {
     let (line, column) = place;

@@ -1,4 +1,4 @@
-//! The outcome of a rule on a text.
+//! Outcomes of rules.
 ghost use Rattle.std.specs.Prelude.{◌≡◌, ℕ, List, IfOk, IsSomeAnd, IsUtf8, chars, option_map, string_bytes};
 ghost use Rattle.base_ast.specs.Optimized.{optimized_rules_of};
 ghost use Rattle.base_ast.specs.declared.optimized.OptimizedRule.{OptimizedRule};
