@@ -1,4 +1,5 @@
 pub mod Colours
+pub mod Counts
 pub mod Fixing
 pub mod Logs
 pub mod Pages
