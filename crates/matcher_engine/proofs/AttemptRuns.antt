@@ -1,4 +1,4 @@
--- What runs that are asked one after another find.
+-- Runs that are asked one after another.
 use Rattle.std.proofs.Common.{◌≡◌, sym, ◌∙◌, ap, subst, ℕ, Ok, Err, false, map}
 use Rattle.std.specs.Prelude.{IsErrAnd, Result}
 use Rattle.base_language.specs.Language.Expression.{Grammar, Ident}

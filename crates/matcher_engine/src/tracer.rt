@@ -1,6 +1,6 @@
 //! A machine whose calls are recorded.
 ghost use Rattle.std.specs.Prelude.{◌≡◌, ◌≤◌, ◌++◌, ◌∷◌, [], OnOk, length};
-ghost use Rattle.matcher_engine.specs.Marks.{HaveMarks, HaveMarks-prop};
+ghost use Rattle.matcher_engine.specs.Marks.{HaveMarks, marks-prop};
 
 use matcher_code::bytecode::Bytecode;
 use matcher_code::code::Op;
@@ -16,7 +16,7 @@ const PATHS: usize = 1_024;
 /// The greatest number of attempts of a kind.
 const ATTEMPTS: usize = 65_535;
 
-/// What was recorded where a call or a `!` begins: how many calls were open, how many paths and attempts
+/// The record of a run where a call or a `!` begins: how many calls were open, how many paths and attempts
 /// there were, whether the run stood below a `!`, and the greatest position of an attempt.
 #[derive(Clone, Copy, Debug)]
 pub struct Mark {
@@ -46,7 +46,7 @@ pub struct Tracer {
     pub negatives: Vec<u32>,
     /// One for each slot, or none for that of a choice or of a call that gives no token.
     pub marks: Vec<Option<Mark>>,
-    ghost marked: { HaveMarks calls.items paths.items positives.items negatives.items marks.items } by { HaveMarks-prop calls.items paths.items positives.items negatives.items marks.items },
+    ghost marked: { HaveMarks calls paths positives negatives marks } by { marks-prop _ marks },
 }
 
 /// Appends a row to attempts. Errors: allocation failed, or there are too many.
@@ -214,7 +214,8 @@ impl Tracer {
     /// allocation failed, or there are too many.
     fn push_attempt(&mut self, row: u32) -> Result<(), AllocError>
         ensures trace { OnOk result (trace_of self.new ≡ record (trace_of self.old) {
-            attempts = with_rule self.old.below row (trace_of self.old).attempts }) }
+          attempts = with_rule self.old.below row (trace_of self.old).attempts;
+        }) }
         ensures traces { OnOk result (slot_traces self.new ≡ slot_traces self.old) }
         ensures machine { self.new.machine ≡ self.old.machine }
     {
