@@ -90,7 +90,7 @@ static void run_block(const uint8_t *grammar, size_t grammar_len)
         const uint8_t *text = (const uint8_t *)texts[i];
         size_t length = strlen(texts[i]), end = 0;
         pest_meta_node_list nodes = {PEST_META_EMPTY, 0};
-        pest_meta_row_list rows = {PEST_META_EMPTY, 0};
+        pest_meta_row_list rows = {PEST_META_EMPTY, 0}, others = {PEST_META_EMPTY, 0};
         pest_meta_path_list calls = {PEST_META_EMPTY, 0};
         status = pest_meta_run(block.at, block.count, 0, text, length, 0, UINT64_MAX, &nodes, &end);
         printf("run: status %d, end %zu\n", status, end);
@@ -118,6 +118,13 @@ static void run_block(const uint8_t *grammar, size_t grammar_len)
         }
         if (calls.count)
             free((void *)calls.at);
+        rows.count = 0;
+        status = pest_meta_attempts(block.at, block.count, 0, text, length, 0, UINT64_MAX, &end, &rows, &others);
+        printf("attempts: status %d, place %zu, %zu expected, %zu not\n", status, end, rows.count, others.count);
+        if (rows.count)
+            free((void *)rows.at);
+        if (others.count)
+            free((void *)others.at);
     }
     if (block.count)
         free((void *)block.at);

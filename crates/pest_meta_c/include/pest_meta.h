@@ -226,6 +226,19 @@ uint8_t pest_meta_paths(const uint8_t *block, size_t block_len, uint32_t rule, c
                         size_t text_len, size_t from, size_t place, uint64_t steps,
                         pest_meta_path_list *calls);
 
+/* The rules that an error of pest names where such a run fails, and the place of
+ * that error: `*positives` are expected there, `*negatives` are not, in the order
+ * of their calls, and some several times. `*place` is asked first: give it the
+ * `*end` of the run. That is mostly the place, and takes one run; else it takes
+ * three at most, of which each may take so many steps, and more than
+ * pest_meta_expected. More than 65,535 rules of a kind are status 2, and the
+ * other statuses are those of pest_meta_expected. With another status than 0
+ * `*place` stays. */
+uint8_t pest_meta_attempts(const uint8_t *block, size_t block_len, uint32_t rule,
+                           const uint8_t *text, size_t text_len, size_t from, uint64_t steps,
+                           size_t *place, pest_meta_row_list *positives,
+                           pest_meta_row_list *negatives);
+
 /* The diagnostics of a grammar, as pest-lint prints them in JSON ("Diagnostics"):
  * the errors with which it is refused, or else its warnings, a line for each.
  * Never refused: errors are an answer too, with status 0. An answer of no line

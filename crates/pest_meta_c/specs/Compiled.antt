@@ -10,6 +10,8 @@ use Rattle.matcher_code.specs.declared.state.OpenCall.{OpenCall}
 use Rattle.matcher_code.specs.declared.state.TreeNode.{TreeNode}
 use Rattle.matcher_engine.specs.Blocks.{HasRules, IsBlockOf, IsWhole}
 use Rattle.matcher_engine.specs.BlockRuns.{AreExpected, ArePaths, IsOutcome, IsRefusal}
+use Rattle.matcher_engine.specs.FailureAttempts.{AreAttempts}
+use Rattle.matcher_engine.specs.declared.attempts.Attempts.{Attempts}
 use Rattle.matcher_engine.specs.declared.block.head.BlockFlaw.TheVariants as flaw
 use Rattle.matcher_engine.specs.declared.block.runs.BlockStop.{BlockStop}
 use Rattle.matcher_engine.specs.declared.block.runs.BlockStop.TheVariants as stop
@@ -65,6 +67,16 @@ pub record ArePathsTold (block : List ℕ) (rule : ℕ) (text : List ℕ) (from 
   pub told : calls ≡ calls_in 0 paths
   pub are : (g : Grammar) (classes : Classes) → IsBlockOf g classes block → (n : Text)
       → last_place g n ≡ Some rule → ArePaths g n (state_from text from) classes steps place paths
+
+-- a place and the numbers of rules that pest's error names there, expected and not
+pub record AreAttemptsTold (block : List ℕ) (rule : ℕ) (text : List ℕ) (from place : ℕ)
+    (positives negatives : List ℕ) : Type 0 where
+  pub attempts : Attempts
+  pub place_is : place ≡ attempts.place
+  pub positives_are : positives ≡ attempts.positives.items
+  pub negatives_are : negatives ≡ attempts.negatives.items
+  pub are : (g : Grammar) (classes : Classes) → IsBlockOf g classes block → (n : Text)
+      → last_place g n ≡ Some rule → AreAttempts g n (state_from text from) classes attempts
 
 -- a status reports why a rule of a number has no answer from a place of a text
 pub record IsRefusalTold (block : List ℕ) (rule : ℕ) (text : List ℕ) (from steps status : ℕ) : Type 0 where

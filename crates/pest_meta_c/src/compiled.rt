@@ -10,7 +10,7 @@ ghost use Rattle.matcher_code.specs.declared.state.TreeNode.{TreeNode};
 ghost use Rattle.matcher_engine.specs.Blocks.{HasFlaw, IsWhole};
 ghost use Rattle.matcher_program.specs.Answers.{state_at};
 ghost use Rattle.matcher_support.specs.Sets.{is_in_property};
-ghost use Rattle.pest_meta_c.specs.Compiled.{ArePathsTold, AreTold, HasStart, IsBlockStatus, IsCompiled, IsRefusalTold, IsTold, Tells, state_from, status_of};
+ghost use Rattle.pest_meta_c.specs.Compiled.{AreAttemptsTold, ArePathsTold, AreTold, HasStart, IsBlockStatus, IsCompiled, IsRefusalTold, IsTold, Tells, state_from, status_of};
 ghost use Rattle.pest_meta_c.specs.MatchOutcomes.{AreUnfit};
 ghost use Rattle.pest_meta.specs.Spelling.{HasRefusal, IsAnswer};
 
@@ -21,7 +21,8 @@ use base_language::runtime::{Fault, Position};
 use format_binary::{BinaryRefusal, read_optimized_rules};
 use matcher_code::state::TreeNode;
 use matcher_engine::block::{
-    BlockFlaw, BlockStop, check_block, compile_block, expected_block, paths_block, run_block,
+    BlockFlaw, BlockStop, attempts_block, check_block, compile_block, expected_block, paths_block,
+    run_block,
 };
 use matcher_engine::matcher::Preorder;
 use matcher_program::answers::Stop;
@@ -97,6 +98,15 @@ fn tell_stop(stop: BlockStop, end: &mut usize) -> u8
         BlockStop::Flaw(BlockFlaw::OtherVersion) => OTHER_VERSION,
         BlockStop::Flaw(BlockFlaw::Changed) => CHANGED,
     }
+}
+
+/// Returns the status of a block that gives no answer.
+fn stop_status(stop: BlockStop) -> u8
+    ensures refused { result ≢ 0 }
+    ensures status { result ≡ status_of stop }
+{
+    let mut end = 0;
+    tell_stop(stop, &mut end)
 }
 
 /// Hands out the block of optimized rules, and returns the status.
@@ -246,10 +256,7 @@ pub extern "C" fn pest_meta_expected<'a>(
             *rows = hand_out(numbers);
             ANSWERED
         }
-        Err(stop) => {
-            let mut end = place;
-            tell_stop(stop, &mut end)
-        }
+        Err(stop) => stop_status(stop),
     }
 }
 
@@ -282,9 +289,43 @@ pub extern "C" fn pest_meta_paths<'a>(
             }
             Err(_) => MEMORY,
         },
-        Err(stop) => {
-            let mut end = place;
-            tell_stop(stop, &mut end)
+        Err(stop) => stop_status(stop),
+    }
+}
+
+/// Hands out the numbers of the rules that pest's error names where `pest_meta_run` fails, expected and not.
+/// `place` is asked first, and becomes the place of that error.
+#[unsafe(no_mangle)]
+pub extern "C" fn pest_meta_attempts<'a>(
+    alloc: Global,
+    block: &[u8],
+    rule: u32,
+    text: &[u8],
+    from: usize,
+    steps: u64,
+    place: &mut usize,
+    positives: &mut &'a [u32],
+    negatives: &mut &'a [u32],
+) -> u8
+    ensures attempts { result ≡ 0
+        → AreAttemptsTold block.now rule text.now from place.new positives.new.now negatives.new.now }
+    ensures refused { result ≢ 0 → result ≢ 3 → IsRefusalTold block.now rule text.now from steps result }
+    ensures start { result ≢ 3 → HasStart text.now from }
+    ensures no_start { result ≡ 3 → HasStart text.now from → ⊥ }
+    ensures place { result ≢ 0 → place.new ≡ place.old }
+    ensures positives { result ≢ 0 → positives.new ≡ positives.old }
+    ensures negatives { result ≢ 0 → negatives.new ≡ negatives.old }
+{
+    let Some(start) = start_in(text, from) else {
+        return NO_TEXT;
+    };
+    match attempts_block(alloc, block, rule, start, *place, steps) {
+        Ok(attempts) => {
+            *place = attempts.place;
+            *positives = hand_out(attempts.positives);
+            *negatives = hand_out(attempts.negatives);
+            ANSWERED
         }
+        Err(stop) => stop_status(stop),
     }
 }

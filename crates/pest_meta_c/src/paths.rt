@@ -16,11 +16,7 @@ pub struct PathCall {
 }
 
 /// Appends the calls of the path of a number.
-fn push_path(
-    list: &mut Vec<PathCall>,
-    path: usize,
-    calls: &[OpenCall],
-) -> Result<(), AllocError>
+fn push_path(list: &mut Vec<PathCall>, path: usize, calls: &[OpenCall]) -> Result<(), AllocError>
     ensures { OnOk result (list.new.items ≡ list.old.items ++ map (with_path path) calls.now) }
 {
     for call in calls {
@@ -35,7 +31,10 @@ fn push_path(
 
 /// Returns the calls of paths, the outermost of each path first; paths are numbered from 0. The only error is
 /// an allocation failure.
-pub(crate) fn list_calls(alloc: Global, paths: &[Vec<OpenCall>]) -> Result<Vec<PathCall>, AllocError>
+pub(crate) fn list_calls(
+    alloc: Global,
+    paths: &[Vec<OpenCall>],
+) -> Result<Vec<PathCall>, AllocError>
     ensures { IfOk result (λ list. list.items ≡ calls_in 0 (paths_in paths.now)) }
 {
     let mut list = Vec::new(alloc);

@@ -12,7 +12,7 @@ returns-in-Ok-clause-expected c = λ e g classes is n meant.
 pub returns-in-Err-clause-refused : goal.returns-in-Err-clause-refused
 returns-in-Err-clause-refused c = λ answered text. record {
   why = c.in-Err.stop;
-  told = c.tell_stop.ensures.status;
+  told = c.stop_status.ensures.status;
   is = λ g classes is n meant.
       subst (λ s. IsRefusal g n s classes c.args.steps c.in-Err.stop) c.in-Some.ensures.state (c.in-Err.ensures.refused g classes is n meant);
 }
