@@ -213,7 +213,7 @@ int main(void)
     run("match", "a", "x!", UINT64_MAX, 64);
     run("match of a text that fails", "a", "y", UINT64_MAX, 64);
     run("match by an unknown rule", "c", "x", UINT64_MAX, 64);
-    run("match in one step", "a", "x!", 1, 64);
+    run("match in no step", "a", "x!", 0, 64);
     run("match with too little room", "a", "x!", UINT64_MAX, 12);
     status = pest_meta_match(text, length, text, length, text, length, UINT64_MAX, numbers, 64, &needed);
     show_numbers("match by no rules", status, needed);

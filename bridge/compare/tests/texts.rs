@@ -27,48 +27,39 @@ fn text_of(numbers: &mut Numbers, pieces: &[&str], samples: &[&str]) -> String {
     text
 }
 
-/// How many failures agree, and in what the others differ.
+/// How many failures agree, and which do not.
 #[derive(Debug, Default)]
 struct Agreement {
     matched: usize,
     failed: usize,
-    /// Failures with the same printed text.
-    same: usize,
-    /// Failures whose printed texts differ by the negatives alone, which are never told here.
-    without_negatives: usize,
-    /// Failures at a later place, at which a rule below a `!` failed, so that nothing is expected there.
-    further: Vec<String>,
-    /// Others, with the names: a rule that tried one other at its start is told by its own name here, and by that of the
-    /// other there.
-    other_names: Vec<String>,
+    /// Failures that are not the same in everything, with what both tell.
+    others: Vec<String>,
 }
 
 impl Agreement {
     fn add_failure(&mut self, text: &str, here: here::Failure, original: Failure) {
-        assert_eq!(here.negatives, [""; 0], "{text:?}");
+        let here = Failure {
+            pos: here.pos,
+            line_col: here.line_col,
+            positives: here.positives,
+            negatives: here.negatives,
+            printed: here.printed,
+        };
         self.failed += 1;
-        if here.pos != original.pos {
-            assert!(here.pos > original.pos && here.positives.is_empty(), "{text:?}: {here:?} {original:?}");
-            self.further.push(text.to_owned());
-            return;
-        }
-        assert_eq!(here.line_col, original.line_col, "{text:?}");
-        assert_eq!(place(&here.printed), place(&original.printed), "{text:?}");
-        if here.printed == original.printed {
-            assert_eq!(here.positives, original.positives, "{text:?}");
-            self.same += 1;
-        } else if here.positives == original.positives {
-            self.without_negatives += 1;
-        } else {
-            let [here, original] = [here.positives.join(" "), original.positives.join(" ")];
-            self.other_names.push(format!("{text:?}: {here}; the original tells {original}"));
+        if here != original {
+            self.others.push(format!("{text:?}: {}\nThe original:\n{}", here.printed, original.printed));
         }
     }
 }
 
-/// All lines of what is printed for an error but the last, which has the names of rules.
-fn place(printed: &str) -> &str {
-    printed.rsplit_once('\n').map_or("", |(place, _)| place)
+/// A sample whose end is cut off, and sometimes a piece in its place.
+fn cut_text_of(numbers: &mut Numbers, pieces: &[&str], samples: &[&str]) -> String {
+    let sample = samples[numbers.below(samples.len())];
+    let mut text: String = sample.chars().take(numbers.below(sample.len() + 1)).collect();
+    if numbers.below(2) == 0 {
+        text += pieces[numbers.below(pieces.len())];
+    }
+    text
 }
 
 #[test]
@@ -78,6 +69,7 @@ fn parsers_answer_the_same() {
         for number in 0..TEXTS {
             let text = match original.samples.get(number) {
                 Some(sample) => (*sample).to_owned(),
+                None if number % 3 == 0 => cut_text_of(&mut numbers, original.pieces, original.samples),
                 None => text_of(&mut numbers, original.pieces, original.samples),
             };
             match ((here.parse)(&text), (original.parse)(&text)) {
@@ -91,16 +83,10 @@ fn parsers_answer_the_same() {
                 (here, original) => panic!("{text:?}: {here:?}, and original {original:?}"),
             }
         }
-        let Agreement { matched, failed, same, without_negatives, further, other_names } = &agreement;
-        println!(
-            "{}: {matched} match; of {failed} failures {same} are printed the same, {without_negatives} lack \
-             negatives, {} are further on, {} have other names",
-            original.name,
-            further.len(),
-            other_names.len()
-        );
-        further.iter().take(1).for_each(|example| println!("  {example:?} is further on"));
-        other_names.iter().take(2).for_each(|example| println!("  {example}"));
+        let Agreement { matched, failed, others } = &agreement;
+        println!("{}: {matched} match; of {failed} failures {} differ", original.name, others.len());
+        others.iter().take(3).for_each(|example| println!("  {example}"));
+        assert!(others.len() * 100 <= *failed, "{others:#?}");
         assert!(*matched > TEXTS / 20 && *failed > TEXTS / 20, "{agreement:?}");
         assert!(original.samples.iter().all(|sample| matches!((here.parse)(sample), here::Answer::Pairs(_))));
     }

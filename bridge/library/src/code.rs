@@ -92,6 +92,32 @@ pub fn expected(block: &[u8], row: u32, text: &str, pos: usize, steps: u64) -> V
     }
 }
 
+/// The rules that an error of pest names, and its place.
+#[derive(Debug)]
+pub struct Attempts {
+    /// The place, in bytes.
+    pub pos: usize,
+    /// The rows of the rules that are expected there, in the order of their calls, and some several times.
+    pub positives: Given<u32>,
+    /// The rows of the rules that are not expected there.
+    pub negatives: Given<u32>,
+}
+
+/// The rules that an error of pest names where [`run`] fails at a position, in so many steps at most. There are none
+/// where they take more steps than that, or more memory than the library gives them.
+///
+/// # Panics
+/// Where the library breaks its word.
+pub fn attempts(block: &[u8], row: u32, text: &str, pos: usize, steps: u64) -> Option<Attempts> {
+    let mut found = Attempts { pos, positives: Given::new(), negatives: Given::new() };
+    let Attempts { pos, positives, negatives } = &mut found;
+    match foreign::attempts(block, row, text, steps, pos, positives, negatives) {
+        0 => Some(found),
+        2 | 8 | 9 => None,
+        status => no_answer(status),
+    }
+}
+
 /// Ends a call that has no answer.
 ///
 /// # Panics

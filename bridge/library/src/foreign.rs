@@ -145,6 +145,18 @@ extern "C" {
         steps: u64,
         rows: *mut Lent<u32>,
     ) -> u8;
+    fn pest_meta_attempts(
+        block: *const u8,
+        block_len: usize,
+        rule: u32,
+        text: *const u8,
+        text_len: usize,
+        from: usize,
+        steps: u64,
+        place: *mut usize,
+        positives: *mut Lent<u32>,
+        negatives: *mut Lent<u32>,
+    ) -> u8;
     fn pest_meta_version(out: *mut u8, out_len: usize, needed: *mut usize) -> u8;
 }
 
@@ -250,6 +262,36 @@ pub fn expected(block: &[u8], rule: u32, text: &str, place: usize, steps: u64, r
             place,
             steps,
             &mut rows.lent,
+        )
+    }
+}
+
+/// The rows of the rules that an error of pest names, expected and not, where a rule is run as by [`run`], and the place
+/// of that error. `place` is asked first.
+pub fn attempts(
+    block: &[u8],
+    rule: u32,
+    text: &str,
+    steps: u64,
+    place: &mut usize,
+    positives: &mut Given<u32>,
+    negatives: &mut Given<u32>,
+) -> u8 {
+    *positives = Given::new();
+    *negatives = Given::new();
+    // SAFETY: as above.
+    unsafe {
+        pest_meta_attempts(
+            block.as_ptr(),
+            block.len(),
+            rule,
+            text.as_ptr(),
+            text.len(),
+            0,
+            steps,
+            place,
+            &mut positives.lent,
+            &mut negatives.lent,
         )
     }
 }

@@ -72,6 +72,18 @@ pub fn expected(_: &[u8], _: u32, _: &str, _: usize, _: u64, _: &mut Given<u32>)
     refused()
 }
 
+pub fn attempts(
+    _: &[u8],
+    _: u32,
+    _: &str,
+    _: u64,
+    _: &mut usize,
+    _: &mut Given<u32>,
+    _: &mut Given<u32>,
+) -> u8 {
+    refused()
+}
+
 pub fn version(_: &mut [u8], _: &mut usize) -> u8 {
     refused()
 }

@@ -27,7 +27,7 @@ pub enum ErrorVariant<R> {
     ParsingError {
         /// The rules that were expected.
         positives: Vec<R>,
-        /// The rules that were not expected. The proved matcher tells none.
+        /// The rules that were not expected: those that matched below a `!`.
         negatives: Vec<R>,
     },
     /// Another error.

@@ -53,11 +53,17 @@ fn run<R: RuleType>(block: &[u8], row: u32, text: &str, rule: impl Fn(u32) -> R)
     match code::run(block, row, text, steps) {
         Ok(nodes) => Ok(nodes),
         Err(Unmatched::Failed { pos }) => {
-            let rows = code::expected(block, row, text, pos, steps);
-            let mut positives: Vec<R> = rows.into_iter().map(rule).collect();
-            positives.sort_unstable();
-            positives.dedup();
-            Err(error_at(text, pos, ErrorVariant::ParsingError { positives, negatives: Vec::new() }))
+            let rules = |rows: &[u32]| {
+                let mut rules: Vec<R> = rows.iter().map(|row| rule(*row)).collect();
+                rules.sort_unstable();
+                rules.dedup();
+                rules
+            };
+            let (pos, positives, negatives) = match code::attempts(block, row, text, pos, steps) {
+                Some(found) => (found.pos, rules(&found.positives), rules(&found.negatives)),
+                None => (pos, rules(&code::expected(block, row, text, pos, steps)), Vec::new()),
+            };
+            Err(error_at(text, pos, ErrorVariant::ParsingError { positives, negatives }))
         }
         Err(Unmatched::EmptyStack) => Err(custom(text, "PEEK or POP was called on the empty stack")),
         Err(Unmatched::OutOfSteps) => Err(custom(text, "the rule takes too many steps")),

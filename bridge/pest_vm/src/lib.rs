@@ -14,14 +14,13 @@
 //! # What is proved
 //!
 //! The tokens that the library answers are those of the definitions that the front end's promises are about, and
-//! so is the position of a failure, with the rules expected there. This crate hands rules and texts over, and its pairs
+//! so are the place of an error and the rules that it names. This crate hands rules and texts over, and its pairs
 //! are views of the answer; that is tested.
 //!
 //! # Differences
 //!
 //! | The original | Here |
 //! |---|---|
-//! | an error has the rules that failed, and those that matched below a `!` | the rules that would have let the run get further; `negatives` is empty |
 //! | `PEEK` or `POP` on the empty stack panics | an error at the start of the text |
 //! | a rule takes any time, unless `pest::set_call_limit` was called | an error at the start of the text after 1,000 steps a byte and 1,000,000 more, also where the rule fails and the search for the expected rules takes more |
 //! | the listener is called at each call of a rule | at each token of a match, in the order of their starts |
