@@ -7,18 +7,21 @@ use Rattle.std.proofs.lemmas.Str.{encodes-chars}
 use Rattle.std.specs.Borrow.{Bor}
 use Rattle.std.specs.Str.{chars, IsCharBoundary}
 use Rattle.base_ast.specs.Ast.{text_of}
-use Rattle.base_language.specs.Language.Expression.{Grammar}
+use Rattle.base_language.specs.Language.Expression.{Grammar, Ident}
 use Rattle.base_language.specs.Language.Expected.{expected, expected_at}
 use Rattle.base_language.specs.Language.FurthestFailure.{furthest}
-use Rattle.base_language.specs.Language.State.{Outcome as Result}
+use Rattle.base_language.specs.Language.Meaning.{Run}
+use Rattle.base_language.specs.Language.State.{NonAtomicMode, Outcome as Result}
 use Rattle.base_language.specs.Language.Places.{IsStateIn}
 use Rattle.base_language.specs.Language.Text.{Text}
 use Rattle.base_language.specs.Pieces.LineColumn.{line_column}
 use Rattle.base_language.proofs.ExpectedOnce.{one_list}
 use Rattle.base_language.proofs.FailuresStand.{stands_at}
 use Rattle.base_language.proofs.InBytes.{on_bytes}
-use Rattle.base_language.proofs.Surveys.{order}
 use Rattle.base_language.proofs.TreesAreNested.{fits as fits_in}
+use Rattle.matcher_code.specs.Attempts.{attempts_at}
+use Rattle.matcher_code.proofs.OneDerivation.{one_answer}
+use Rattle.matcher_engine.specs.FailureAttempts.{attempt_place}
 use Rattle.matcher_program.specs.Refusals.{IsReason}
 use Rattle.matcher_program.specs.declared.compile.Unfit.{Unfit}
 use Rattle.matcher_program.specs.declared.compile.Unfit.TheVariants as no
@@ -31,12 +34,13 @@ use Rattle.matcher_program.specs.declared.answers.Stop.TheVariants as stop
 use Rattle.matcher_program.specs.ExpectedNames.{each_once, is_among, name_texts, with_names}
 use Rattle.matcher_support.specs.Compiled.{AreExpectedIn, FailsIn}
 use Rattle.matcher_support.specs.Sets.{has_set, is_in_property}
-use Rattle.pest_run.specs.Failures.{AreLast, ExpectsNone, IsFound, IsFoundEarlier}
-use Rattle.pest_run.specs.Outcomes.{HasNoRule, IsFailureReport, IsMatchReport, IsNoRuleReport, IsNoted, IsOutcome, IsStopReport, ReportsFailure, end_note, tells_expected, trees_text, unfit_outcome}
+use Rattle.pest_run.specs.Compiled.{AreAttemptsIn}
+use Rattle.pest_run.specs.Failures.{AreOfError, IsFound}
+use Rattle.pest_run.specs.Outcomes.{HasNoRule, IsFailureReport, IsMatchReport, IsNoRuleReport, IsNoted, IsOutcome, IsStopReport, end_note, tells_expected, trees_text, unfit_outcome}
 use Rattle.pest_run.specs.Messages.{expected_text, is_more, note_between}
 use Rattle.pest_run.specs.declared.arguments.Format.{Format}
 use Rattle.pest_run.specs.declared.arguments.Format.TheVariants as format_is
-use Rattle.pest_run.specs.declared.failures.Failure as code
+use Rattle.pest_run.specs.declared.compiled.NamedAttempts.{NamedAttempts}
 use Rattle.pest_run.specs.declared.outcomes.Outcome.{Outcome}
 use Rattle.pest_run.specs.declared.outcomes.Outcome.TheVariants as is
 
@@ -65,48 +69,34 @@ none_once : (ns : List Text) → [] ≡ each_once ns → ns ≡ []
 none_once [] e = refl
 none_once (n ∷ ns) e = absurd (keeps_some n [] ns (sym e))
 
--- where there is no text of names, there are no names
-no_texts : (names : List (Bor (List ℕ))) → name_texts names ≡ [] → names ≡ []
-no_texts [] e = refl
-no_texts (n ∷ ns) e = cc
-
--- a position with names that is found before the furthest failure is the last one of a derivation
-last_place : (g : Grammar) (rule text : List ℕ) (it : code.Failure) {o : Result} (d : Has g (chars rule) text is_in_property o)
-    → it.furthest ≡ furthest d → IsFoundEarlier g rule text it → AreLast d text it.place (name_texts it.names.items)
-last_place g rule text it d e f =
-    let earlier = f.is_earlier in
-    let none : (q : ℕ) → ExpectsNone g rule text q → expected_at q d ≡ [] =
-    λ q a. none_once (expected_at q d) (expects_at g rule text q [] d a) in
+-- where no name is expected, and those of pest's error are told
+of_error : (g : Grammar) (rule text : List ℕ) (place : ℕ) (it : NamedAttempts) {o : Result} (d : Has g (chars rule) text is_in_property o)
+    → place ≡ furthest d → AreExpectedIn g rule text place [] → AreAttemptsIn g rule text it → AreOfError d it.place (name_texts it.positives.items) (name_texts it.negatives.items)
+of_error g rule text place it {o = o} d e a x =
+    let one = one_answer g is_in_property {k = Run NonAtomicMode (Ident (chars rule))} {s = start_of text} (x.outcome, x.found) (o, d) in
     record {
-      after_start = subst (λ p. 0 < p) (sym f.place) earlier.after_start;
-      earlier = omega (arith, f.place, earlier.earlier, e);
-      are = ap name_texts f.names ∙ (expects_at g rule text f.earlier.place f.earlier.names.items d earlier.are ∙ ap (λ p. each_once (expected_at p d)) (sym f.place));
-      some = λ e. earlier.some (sym f.names ∙ no_texts it.names.items e);
-      last = λ q above below here.
-          elim (order it.furthest q) [
-            | inl above_all ↦ none q
-                (let same : it.furthest ≡ q = omega (arith, above_all, below, e) in subst (λ p. ExpectsNone g rule text p) same f.none)
-            | inr less ↦ none q (earlier.last q (omega (arith, above, f.place)) less here)
-          ];
+      none = none_once (expected d) (expects g rule text place [] d a e);
+      at_place = x.place ∙ ap (λ r. attempt_place r.1) one;
+      positives = x.positives ∙ ap (λ r. each_once (attempts_at false it.place r.1).positives) one;
+      negatives = x.negatives ∙ ap (λ r. each_once (attempts_at false it.place r.1).negatives) one;
     }
 
--- what is told of the place of the failure, and of what is expected there, is told of the failure
-pub failed : (g : Grammar) (rule name text : List ℕ) (format : Format) (limit : ℕ) (place : ℕ) (it : code.Failure) (o : Outcome)
+-- what is told of the place of the failure, and of its names, is told of the failure
+pub failed : (g : Grammar) (rule name text : List ℕ) (format : Format) (limit : ℕ) (place : ℕ) (it : NamedAttempts) (o : Outcome)
     → FailsIn g rule text place → IsFound g rule text place it → IsFailureReport name text it o
     → IsOutcome g rule name text format limit o
 failed g rule name text format limit place it (is.Shown lines _) f a t = absurd t
-failed g rule name text format limit place it (is.Failed report) f a t =
-    let furthest_is : it.furthest ≡ furthest f.0 = a.furthest_is ∙ f.1 in
-    record {
-      fails = f.0;
-      place = it.place;
-      names = name_texts it.names.items;
-      are = elim a.told [
-        | inl at ↦ inl (at.0 ∙ f.1, expects g rule text place it.names.items f.0 at.1 f.1)
-        | inr earlier ↦ inr (last_place g rule text it f.0 furthest_is earlier)
-      ];
-      reports = subst (λ n. ReportsFailure name text it.place n (name_texts it.names.items) (string_bytes report)) furthest_is t;
-    }
+failed g rule name text format limit place it (is.Failed report) f a t = record {
+  fails = f.0;
+  place = it.place;
+  names = name_texts it.positives.items;
+  others = name_texts it.negatives.items;
+  are = elim a [
+    | inl at ↦ inl (at.0 ∙ f.1, expects g rule text place it.positives.items f.0 at.1 f.1, ap name_texts at.2)
+    | inr error ↦ inr (of_error g rule text place it f.0 f.1 error.0 error.1)
+  ];
+  reports = t;
+}
 failed g rule name text format limit place it (is.NoRule message) f a t = absurd t
 failed g rule name text format limit place it (is.OutOfSteps said) f a t = absurd t
 failed g rule name text format limit place it is.EmptyStack f a t = absurd t

@@ -8,4 +8,6 @@ pub mod ReadRules
 pub mod Undefined
 pub mod CodeFiles
 pub mod PathTexts
-pub mod Explaining
+pub mod NoFailures
+pub mod AttemptNumbers
+pub mod EachRow

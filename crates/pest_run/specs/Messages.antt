@@ -36,20 +36,21 @@ abbrev pub note_between : ℕ × ℕ → ℕ × ℕ → List ℕ
 note_between end_ last =
     codes "note: matched up to " ++ place_text end_ ++ codes ", the text ends at " ++ place_text last
 
--- the message that these names are expected, in pest's words if there are any
-abbrev pub names_text : List Text → List ℕ
-names_text [] = codes "no rule is expected here: what failed gives no token, or stands below a `!`"
-names_text names = failure_message names
+-- that these names are expected, in pest's words; or that none is
+abbrev pub expected_or_none : List Text → List ℕ
+expected_or_none [] = codes "no rule is expected here: what failed gives no token, or stands below a `!`"
+expected_or_none names = failure_message names
 
--- that a failure is reported at an earlier position than this one, the furthest
-abbrev pub further_text : ℕ × ℕ → List ℕ
-further_text place =
-    codes "; what failed further on, up to " ++ (place_text place ++ codes ", stands below a `!`")
+-- that these names are expected, too, if there are any
+abbrev pub expected_too : List Text → List ℕ
+expected_too [] = []
+expected_too names = codes "; " ++ failure_message names
 
--- the message on a failure at a position
-abbrev pub failure_text : List ℕ → (place furthest : ℕ) → List Text → List ℕ
-failure_text text place furthest names = names_text names
-    ++ (if nat_lt place furthest then further_text (line_column text furthest) else [])
+-- the message on a failure where these names are expected, and others are not, in pest's words:
+-- `unexpected a; expected b or c`
+abbrev pub failure_text : (names others : List Text) → List ℕ
+failure_text names [] = expected_or_none names
+failure_text names others = codes "unexpected " ++ list_text others ++ expected_too names
 
 -- that these names are expected at a position, if there are any
 abbrev pub expected_text : ℕ × ℕ → List Text → List ℕ

@@ -31,7 +31,7 @@ use Rattle.pest_run.specs.Messages.{end_text, failure_text, is_more, no_rule_tex
 use Rattle.pest_run.specs.Failures.{AreTold}
 use Rattle.pest_run.specs.declared.arguments.Format.{Format}
 use Rattle.pest_run.specs.declared.arguments.Format.TheVariants as format_is
-use Rattle.pest_run.specs.declared.failures.Failure as code
+use Rattle.pest_run.specs.declared.compiled.NamedAttempts.{NamedAttempts}
 use Rattle.pest_run.specs.declared.outcomes.Outcome.{Outcome}
 use Rattle.pest_run.specs.declared.outcomes.Outcome.TheVariants as is
 use Rattle.serde_json.specs.Written.{compact_text}
@@ -74,24 +74,25 @@ pub record IsNoted (g : Grammar) (rule text : List ℕ) (format : Format) (note 
   pub matches : Has g (chars rule) text is_in_property (Success end_ trees)
   pub tells : note ≡ end_note format text end_.position (furthest matches) (each_once (expected matches))
 
--- a report of an error at a position of the text of a file, where these names are expected, and whose
--- furthest failure is at another
-pub record ReportsFailure (name text : List ℕ) (place furthest : ℕ) (names : List Text) (report : List ℕ)
+-- a report of an error at a position of the text of a file, where these names are expected, and others are
+-- not
+pub record ReportsFailure (name text : List ℕ) (place : ℕ) (names others : List Text) (report : List ℕ)
     : Type 0 where
   pub error : Error Rule
-  pub says : message_of error.variant ≡ failure_text text place furthest names
+  pub says : message_of error.variant ≡ failure_text names others
   pub at_place : error.line_col ≡ Pos (line_column text place)
   pub line : error_line error ≡ printed_line text place
   pub shows : ShowsError (Some name) error report
 
 -- the rule, called at the start of the text of a file, fails, and the report shows the furthest position of a
--- failure, or the last one before it that has names, and the names that are expected there
+-- failure, and the names that are expected there; or the position and the names of pest's own error
 pub record HasFailed (g : Grammar) (rule name text report : List ℕ) : Type 0 where
   pub fails : Has g (chars rule) text is_in_property Failure
   pub place : ℕ
   pub names : List Text
-  pub are : AreTold fails text place names
-  pub reports : ReportsFailure name text place (furthest fails) names report
+  pub others : List Text
+  pub are : AreTold fails place names others
+  pub reports : ReportsFailure name text place names others report
 
 -- no rule has the name
 abbrev pub HasNoRule : Grammar → List ℕ → Type 0
@@ -130,10 +131,10 @@ unfit_outcome (unfit.UnknownName name) = is.UnknownName
 unfit_outcome (unfit.Bound text) = is.Bound
 
 -- the outcome reports a failure on the text of a file, or an allocation failure
-abbrev pub IsFailureReport : List ℕ → List ℕ → code.Failure → Outcome → Type 0
+abbrev pub IsFailureReport : List ℕ → List ℕ → NamedAttempts → Outcome → Type 0
 IsFailureReport name text failure (is.Failed report) =
-    ReportsFailure name text failure.place failure.furthest (name_texts failure.names.items)
-    (string_bytes report)
+    ReportsFailure name text failure.place (name_texts failure.positives.items)
+    (name_texts failure.negatives.items) (string_bytes report)
 IsFailureReport name text failure is.Memory = ⊤
 IsFailureReport name text failure _ = ⊥
 

@@ -5,27 +5,26 @@ ghost use Rattle.base_ast.specs.Optimized.{optimized_rules_of};
 ghost use Rattle.base_ast.specs.declared.optimized.OptimizedRule.{OptimizedRule};
 ghost use Rattle.base_language.specs.Language.Expression.{Grammar};
 ghost use Rattle.matcher_engine.specs.BlockRuns.{IsStopped};
-ghost use Rattle.matcher_engine.specs.Matchers.{grammar_in, properties_in};
 ghost use Rattle.matcher_engine.specs.Walks.{AreNamesOf};
 ghost use Rattle.matcher_program.specs.Answers.{start_of};
-ghost use Rattle.matcher_program.specs.Programs.{Fits};
-ghost use Rattle.matcher_support.specs.Compiled.{FailsIn, IsCompiled, IsCompiledOf};
+ghost use Rattle.matcher_support.specs.Compiled.{FailsIn, IsCompiled, IsUnanswered};
 ghost use Rattle.matcher_support.specs.Sets.{is_in_property};
-ghost use Rattle.pest_run.specs.Explanations.{ArePathsIn, ExplainsFailure, IsExplanation, IsFormExplanation, IsReportedAt, WritesExplanation, unfound_text};
+ghost use Rattle.pest_run.specs.Compiled.{ArePathsIn, IsCompiledFrom};
+ghost use Rattle.pest_run.specs.Explanations.{Explains, IsExplanation, IsFormExplanation, IsReportedAt, WritesExplanation, unfound_text};
 ghost use Rattle.pest_run.specs.Grammars.{IsReadFrom};
 ghost use Rattle.pest_run.specs.Steps.{path_limit};
+ghost use Rattle.pest_run.specs.Written.{IsReadable};
 
 use crate::arguments::{Format, Request, path_limit};
-use crate::failures::{Failure, find_failure};
+use crate::compiled::{CompiledGrammar, NamedAttempts};
+use crate::failures::find_failure;
 use crate::grammars::GrammarRules;
 use crate::paths::show_paths;
 use crate::sources::{Source, text_of};
 use base_ast::optimized::{OptimizedRule, release};
 use matcher_code::state::OpenCall;
 use matcher_engine::block::{BlockStop, compile_block};
-use matcher_engine::matcher::Matcher;
-use matcher_program::answers::{Refusal, Stop};
-use matcher_support::compiled::CompiledRules;
+use matcher_program::answers::Stop;
 use matcher_support::unicode_properties::UnicodeProperties;
 use program_support::output::{Output, RefusedWrite};
 use std::alloc::{AllocError, Global};
@@ -40,7 +39,7 @@ pub enum Explanation {
     OutOfSteps(String),
     /// An allocation failed, or there are too many lists of them.
     Memory,
-    /// The rule does not fail.
+    /// The rule does not fail, or there is none of that name.
     NoFailure,
 }
 
@@ -49,8 +48,9 @@ const UNSTORED: &str =
     "the open calls were not found: out of memory, or more than 1024 lists of them";
 
 /// Prints the calls that are open where the requested rule of a grammar fails on a text, and where each
-/// begins: to `out` as a line of JSON, if that is the format, else to `err`. Call this for a text on which
-/// the rule fails. The rule is run anew. Where the calls are not found, a line on `err` says so.
+/// begins: to `out` as a line of JSON, if that is the format, else to `err`. The rule is run anew. Where the
+/// calls are not found, a line on `err` says so; nothing is written where the rule does not fail, or the text
+/// can't be read.
 pub fn explain_failure<W: Write, E: Write>(
     alloc: Global,
     grammar: &GrammarRules,
@@ -59,18 +59,48 @@ pub fn explain_failure<W: Write, E: Write>(
     out: &mut Output<W>,
     err: &mut Output<E>,
 ) -> Result<(), RefusedWrite>
-    ensures { (spelled : List ℕ) → IsReadFrom spelled grammar.now
-        → ExplainsFailure request.entry.form spelled request.entry.rule.now text.now.bytes.items
-        request.entry.format (path_limit request.entry.steps (length text.now.bytes.items))
-        (out.new ≡ out.old) (err.new ≡ err.old) result
+    ensures explains { (spelled : List ℕ) → IsReadFrom spelled grammar.now → IsReadable text.now
+        → Explains (IsFormExplanation request.entry.form spelled request.entry.rule.now
+        text.now.bytes.items request.entry.format
+        (path_limit request.entry.steps (length text.now.bytes.items)))
+        request.entry.format (out.new ≡ out.old) (err.new ≡ err.old) result
         (W.contents out.old.writer) (W.contents out.new.writer)
         (E.contents err.old.writer) (E.contents err.new.writer) }
+    ensures unread { (IsReadable text.now → ⊥) → (out.new ≡ out.old) × (err.new ≡ err.old) }
 {
     let Some(input) = text_of(text) else {
         return Ok(());
     };
     let explanation = explanation_of(alloc, grammar, input, request);
     write_explanation(&explanation, request.format, out, err)
+}
+
+/// Prints the calls that are open where the requested rule of a compiled grammar fails on a text, as
+/// `explain_failure`.
+pub fn explain_code<W: Write, E: Write>(
+    alloc: Global,
+    code: &Source<'_>,
+    text: &Source<'_>,
+    request: Request<'_>,
+    out: &mut Output<W>,
+    err: &mut Output<E>,
+) -> Result<(), RefusedWrite>
+    ensures explains { (rules : List OptimizedRule) → IsCompiled rules code.now.bytes.items
+        → IsReadable text.now
+        → Explains (IsExplanation (optimized_rules_of rules) request.entry.rule.now text.now.bytes.items
+        request.entry.format (path_limit request.entry.steps (length text.now.bytes.items)))
+        request.entry.format (out.new ≡ out.old) (err.new ≡ err.old) result
+        (W.contents out.old.writer) (W.contents out.new.writer)
+        (E.contents err.old.writer) (E.contents err.new.writer) }
+    ensures unread { (IsReadable text.now → ⊥) → (out.new ≡ out.old) × (err.new ≡ err.old) }
+{
+    let Some(input) = text_of(text) else {
+        return Ok(());
+    };
+    let (rule, format) = (request.rule, request.format);
+    let steps = path_limit(request.steps, input.len());
+    let explanation = explain_block(alloc, &code.bytes, rule, input, format, steps);
+    write_explanation(&explanation, format, out, err)
 }
 
 /// Writes an explanation: paths as JSON to `out`, all else to `err`.
@@ -130,19 +160,15 @@ fn explain_rules(
 ) -> Explanation
     ensures { IsExplanation (optimized_rules_of rules.now) rule.now text.now format steps result }
 {
-    match Matcher::new(alloc, rules, &UnicodeProperties) {
-        Ok(matcher) => match compile_block(alloc, rules, &UnicodeProperties) {
-            Ok(block) => explain_block(alloc, &matcher, &block, rule, text, format, steps),
-            Err(_) => Explanation::Memory,
-        },
+    match compile_block(alloc, rules, &UnicodeProperties) {
+        Ok(block) => explain_block(alloc, &block, rule, text, format, steps),
         Err(_) => Explanation::Memory,
     }
 }
 
-/// Returns the explanation as `explain_rules`, by a matcher and the block of the rules.
+/// Returns the explanation as `explain_rules`, by the block of the rules.
 fn explain_block(
     alloc: Global,
-    matcher: &Matcher,
     block: &[u8],
     rule: &str,
     text: &str,
@@ -150,47 +176,39 @@ fn explain_block(
     steps: u64,
 ) -> Explanation
     ensures { (rules : List OptimizedRule) → IsCompiled rules block.now
-        → grammar_in matcher.now ≡ optimized_rules_of rules
-        → Fits (properties_in matcher.now) is_in_property
         → IsExplanation (optimized_rules_of rules) rule.now text.now format steps result }
 {
-    match CompiledRules::read(alloc, block) {
-        Ok(Some(compiled)) => {
-            explain_compiled(alloc, matcher, &compiled, rule, text, format, steps)
-        }
+    match CompiledGrammar::read(alloc, block) {
+        Ok(Some(grammar)) => explain_compiled(alloc, &grammar, rule, text, format, steps),
         Ok(None) | Err(_) => Explanation::Memory,
     }
 }
 
-/// Returns the explanation as `explain_rules`, by a matcher and a compiled grammar of the rules.
+/// Returns the explanation as `explain_rules`, by a compiled grammar of the rules.
 fn explain_compiled(
     alloc: Global,
-    matcher: &Matcher,
-    compiled: &CompiledRules<'_>,
+    grammar: &CompiledGrammar<'_>,
     rule: &str,
     text: &str,
     format: Format,
     steps: u64,
 ) -> Explanation
-    ensures { (g : Grammar) → IsCompiledOf g compiled.now → grammar_in matcher.now ≡ g
-        → Fits (properties_in matcher.now) is_in_property
+    ensures { (g : Grammar) → IsCompiledFrom g grammar.now
         → IsExplanation g rule.now text.now format steps result }
 {
-    match find_reported(alloc, compiled, rule, text, steps) {
+    match find_reported(alloc, grammar, rule, text, steps) {
         Ok(failure) => {
-            let (names, place) = (compiled.rule_names(), failure.place);
-            explain_at(alloc, matcher, names, rule, text, place, format, steps)
+            let place = failure.place;
+            explain_at(alloc, grammar, rule, text, place, format, steps)
         }
         Err(explanation) => explanation,
     }
 }
 
-/// Returns the explanation of a failure whose report shows this place, by a matcher and the names of the
-/// rules in order.
+/// Returns the explanation of a failure whose report shows this place.
 fn explain_at(
     alloc: Global,
-    matcher: &Matcher,
-    names: &[&str],
+    grammar: &CompiledGrammar<'_>,
     rule: &str,
     text: &str,
     place: usize,
@@ -198,14 +216,15 @@ fn explain_at(
     steps: u64,
 ) -> Explanation
     requires { IsCharBoundary text.now place }
-    ensures { (g : Grammar) → AreNamesOf g names.now → grammar_in matcher.now ≡ g
-        → Fits (properties_in matcher.now) is_in_property → IsReportedAt g rule.now text.now place
+    ensures { (g : Grammar) → IsCompiledFrom g grammar.now → IsReportedAt g rule.now text.now place
         → IsExplanation g rule.now text.now format steps result }
 {
-    match matcher.failure_paths(alloc, rule, text, place, steps) {
-        Ok(paths) => shown_explanation(alloc, format, text, names, place, &paths),
-        Err(Refusal::Stopped(stop)) => stop_explanation(alloc, stop, steps),
-        Err(Refusal::UnknownRule(_) | Refusal::NoMatch(_)) => Explanation::NoFailure,
+    match grammar.failure_paths(alloc, rule, text, place, steps) {
+        Ok(paths) => {
+            let names = grammar.rules.rule_names();
+            shown_explanation(alloc, format, text, names, place, &paths)
+        }
+        Err(stop) => refusal_explanation(alloc, stop, steps),
     }
 }
 
@@ -213,24 +232,24 @@ fn explain_at(
 /// so many steps at most. The error is the explanation where there is no failure, or none is found.
 fn find_reported<'a>(
     alloc: Global,
-    compiled: &'a CompiledRules<'a>,
+    grammar: &'a CompiledGrammar<'a>,
     rule: &'a str,
     text: &'a str,
     steps: u64,
-) -> Result<Failure<'a>, Explanation>
+) -> Result<NamedAttempts<'a>, Explanation>
     ensures place { IfOk result (λ failure. IsCharBoundary text.entry.now failure.place) }
-    ensures reported { (g : Grammar) → IsCompiledOf g compiled.entry.now → IfOk result (λ failure.
+    ensures reported { (g : Grammar) → IsCompiledFrom g grammar.entry.now → IfOk result (λ failure.
         IsReportedAt g rule.entry.now text.entry.now failure.place) }
-    ensures unexplained { (g : Grammar) → IsCompiledOf g compiled.entry.now → (format : Format)
+    ensures unexplained { (g : Grammar) → IsCompiledFrom g grammar.entry.now → (format : Format)
         → IfErr result (IsExplanation g rule.entry.now text.entry.now format steps) }
 {
-    let stop = match compiled.match_text(alloc, rule, text, steps) {
+    let stop = match grammar.rules.match_text(alloc, rule, text, steps) {
         Ok(_) => return Err(Explanation::NoFailure),
         Err(stop) => stop,
     };
     match stop {
-        BlockStop::NoMatch(place) => find_shown(alloc, compiled, rule, text, place, steps),
-        BlockStop::Stopped(reason) => Err(stop_explanation(alloc, reason, steps)),
+        BlockStop::NoMatch(place) => find_shown(alloc, grammar, rule, text, place, steps),
+        BlockStop::Stopped(why) => Err(stop_explanation(alloc, why, steps)),
         BlockStop::NoRule | BlockStop::Flaw(_) => Err(Explanation::NoFailure),
     }
 }
@@ -238,28 +257,26 @@ fn find_reported<'a>(
 /// Returns the failure as `find_reported`, by its furthest position.
 fn find_shown<'a>(
     alloc: Global,
-    compiled: &'a CompiledRules<'a>,
+    grammar: &'a CompiledGrammar<'a>,
     rule: &'a str,
     text: &'a str,
     furthest: usize,
     steps: u64,
-) -> Result<Failure<'a>, Explanation>
+) -> Result<NamedAttempts<'a>, Explanation>
     ensures place { IfOk result (λ failure. IsCharBoundary text.entry.now failure.place) }
-    ensures reported { (g : Grammar) → IsCompiledOf g compiled.entry.now
+    ensures reported { (g : Grammar) → IsCompiledFrom g grammar.entry.now
         → FailsIn g rule.entry.now text.entry.now furthest → IfOk result (λ failure.
         IsReportedAt g rule.entry.now text.entry.now failure.place) }
-    ensures unexplained { (g : Grammar) → IsCompiledOf g compiled.entry.now → (format : Format)
+    ensures unexplained { (g : Grammar) → IsCompiledFrom g grammar.entry.now
+        → FailsIn g rule.entry.now text.entry.now furthest → (format : Format)
         → IfErr result (IsExplanation g rule.entry.now text.entry.now format steps) }
 {
     if !text.is_char_boundary(furthest) {
         return Err(Explanation::NoFailure);
     }
-    match find_failure(alloc, compiled, rule, text, furthest, steps) {
+    match find_failure(alloc, grammar, rule, text, furthest, steps) {
         Ok(failure) => Ok(failure),
-        Err(BlockStop::Stopped(stop)) => Err(stop_explanation(alloc, stop, steps)),
-        Err(BlockStop::NoMatch(_) | BlockStop::NoRule | BlockStop::Flaw(_)) => {
-            Err(Explanation::NoFailure)
-        }
+        Err(stop) => Err(refusal_explanation(alloc, stop, steps)),
     }
 }
 
@@ -283,19 +300,31 @@ fn shown_explanation(
     }
 }
 
-/// Returns the explanation of a run that was stopped, of so many steps at most.
+/// Returns the explanation of a run without an answer, of so many steps at most.
+fn refusal_explanation(alloc: Global, stop: BlockStop, steps: u64) -> Explanation
+    ensures { (g : Grammar) (rule text : List ℕ) (format : Format) → IsUnanswered g rule text steps stop
+        → IsExplanation g rule text format steps result }
+{
+    match stop {
+        BlockStop::Stopped(why) => stop_explanation(alloc, why, steps),
+        BlockStop::NoMatch(_) | BlockStop::NoRule | BlockStop::Flaw(_) => Explanation::NoFailure,
+    }
+}
+
+/// Returns the explanation of a run that was stopped, of so many steps at most. A text of 4 GiB counts as an
+/// allocation failure.
 fn stop_explanation(alloc: Global, stop: Stop, steps: u64) -> Explanation
     ensures { (g : Grammar) (rule text : List ℕ) (format : Format)
         → IsStopped g (chars rule) (start_of text) is_in_property steps stop
         → IsExplanation g rule text format steps result }
 {
     match stop {
-        Stop::Memory => Explanation::Memory,
+        Stop::Memory | Stop::TextTooLong => Explanation::Memory,
         Stop::OutOfSteps => match unfound_message(alloc, steps) {
             Ok(message) => Explanation::OutOfSteps(message),
             Err(_) => Explanation::Memory,
         },
-        Stop::EmptyStack | Stop::TextTooLong => Explanation::NoFailure,
+        Stop::EmptyStack => Explanation::NoFailure,
     }
 }
 

@@ -1,107 +1,76 @@
-//! Expected names of a failure, and its position: the furthest one, or, where no name is expected there, the
-//! last before it at which names are.
+//! Names that the report of a failure tells, and its position: the names that are expected at the furthest
+//! failure, or, where there are none, those of pest's own error.
 ghost use Rattle.std.specs.Prelude.{◌≡◌, IfErr, IfOk, IfSome, true};
 ghost use Rattle.std.specs.Str.{IsCharBoundary};
 ghost use Rattle.base_language.specs.Language.Expression.{Grammar};
 ghost use Rattle.matcher_support.specs.Compiled.{AreExpectedIn, IsCompiledOf, IsUnanswered};
-ghost use Rattle.pest_run.specs.Failures.{IsEarlier, IsFound};
+ghost use Rattle.pest_run.specs.Compiled.{AreAttemptsIn, IsCompiledFrom};
+ghost use Rattle.pest_run.specs.Failures.{IsFound};
 ghost use Rattle.pest_run.specs.Outcomes.{tells_expected};
 
 use crate::arguments::Format;
+use crate::compiled::{CompiledGrammar, NamedAttempts};
 use crate::messages::is_more;
 use matcher_engine::block::BlockStop;
 use matcher_engine::matcher::Preorder;
 use matcher_support::compiled::CompiledRules;
 use std::alloc::Global;
 
-/// How many bytes before the furthest failure an earlier position with names is looked for.
-const MOST_BACK: usize = 64;
-
-/// The failure of a rule on a text. Positions are bytes between two characters.
-#[derive(Drop)]
-pub struct Failure<'a> {
-    /// The furthest position of a failure.
-    pub furthest: usize,
-    /// The position that is shown, at or before it.
-    pub place: usize,
-    /// The names that are expected there.
-    pub names: Vec<&'a str>,
-}
-
-/// A position before the furthest failure, and the names that are expected there.
-#[derive(Drop)]
-pub struct Earlier<'a> {
-    pub place: usize,
-    pub names: Vec<&'a str>,
-}
-
-/// Looks for the names that are expected at the furthest failure; where there are none, for the last position
-/// before it, but not the text's start, that has names. That one is looked for in 64 bytes, by a run for each
-/// position, of so many steps at most; nothing is compiled again. Errors are those of
-/// `CompiledRules::expected_at`.
+/// Looks for the names that are expected at the furthest failure; where there are none, for those of pest's
+/// own error, and its position. Where that has none either, or they are not found in so many steps or for
+/// want of memory, no name is told. Errors are those of `CompiledRules::expected_at`.
 pub fn find_failure<'a>(
     alloc: Global,
-    rules: &'a CompiledRules<'a>,
+    grammar: &'a CompiledGrammar<'a>,
     rule: &'a str,
     text: &'a str,
     furthest: usize,
     steps: u64,
-) -> Result<Failure<'a>, BlockStop>
+) -> Result<NamedAttempts<'a>, BlockStop>
     requires { IsCharBoundary text.now furthest }
     ensures place { IfOk result (λ failure. IsCharBoundary text.entry.now failure.place) }
-    ensures furthest { IfOk result (λ failure. failure.furthest ≡ furthest) }
-    ensures found { (g : Grammar) → IsCompiledOf g rules.entry.now
+    ensures found { (g : Grammar) → IsCompiledFrom g grammar.entry.now
         → IfOk result (IsFound g rule.entry.now text.entry.now furthest) }
-    ensures refused { (g : Grammar) → IsCompiledOf g rules.entry.now
+    ensures refused { (g : Grammar) → IsCompiledFrom g grammar.entry.now
         → IfErr result (IsUnanswered g rule.entry.now text.entry.now steps) }
 {
-    let names = rules.expected_at(alloc, rule, text, furthest, steps)?;
-    if names.is_empty() {
-        if let Some(earlier) = find_earlier(alloc, rules, rule, text, furthest, steps)? {
-            return Ok(Failure {
-                furthest,
-                place: earlier.place,
-                names: earlier.names,
-            });
+    let rules = &grammar.rules;
+    let positives = rules.expected_at(alloc, rule, text, furthest, steps)?;
+    if positives.is_empty() {
+        if let Some(attempts) = find_attempts(alloc, grammar, rule, text, furthest, steps) {
+            return Ok(attempts);
         }
     }
-    Ok(Failure {
-        furthest,
+    Ok(NamedAttempts {
         place: furthest,
-        names,
+        positives,
+        negatives: Vec::new(alloc),
     })
 }
 
-/// Looks for the last position before the furthest failure, but not the text's start, at which names are
-/// expected, in so many steps at most for each. Returns none where it is not in 64 bytes. Errors are those of
-/// `CompiledRules::expected_at`.
-fn find_earlier<'a>(
+/// Looks for the names of pest's own error, first at a place, in so many steps at most for each run. Returns
+/// none where the error has no name, or it is not found.
+fn find_attempts<'a>(
     alloc: Global,
-    rules: &'a CompiledRules<'a>,
+    grammar: &'a CompiledGrammar<'a>,
     rule: &'a str,
     text: &'a str,
-    furthest: usize,
+    place: usize,
     steps: u64,
-) -> Result<Option<Earlier<'a>>, BlockStop>
-    ensures place { IfOk result (λ found. IfSome found (λ it. IsCharBoundary text.entry.now it.place)) }
-    ensures found { (g : Grammar) → IsCompiledOf g rules.entry.now
-        → IfOk result (λ found. IfSome found (IsEarlier g rule.entry.now text.entry.now furthest)) }
-    ensures refused { (g : Grammar) → IsCompiledOf g rules.entry.now
-        → IfErr result (IsUnanswered g rule.entry.now text.entry.now steps) }
+) -> Option<NamedAttempts<'a>>
+    ensures place { IfSome result (λ attempts. IsCharBoundary text.entry.now attempts.place) }
+    ensures attempts { (g : Grammar) → IsCompiledFrom g grammar.entry.now
+        → IfSome result (AreAttemptsIn g rule.entry.now text.entry.now) }
 {
-    for back in 1..=MOST_BACK {
-        if back >= furthest {
-            return Ok(None);
-        }
-        let place = furthest - back;
-        if text.is_char_boundary(place) {
-            let names = rules.expected_at(alloc, rule, text, place, steps)?;
-            if !names.is_empty() {
-                return Ok(Some(Earlier { place, names }));
-            }
-        }
+    let Ok(attempts) = grammar.attempts(alloc, rule, text, place, steps) else {
+        return None;
+    };
+    let has_names = !attempts.positives.is_empty() || !attempts.negatives.is_empty();
+    if has_names && text.is_char_boundary(attempts.place) {
+        Some(attempts)
+    } else {
+        None
     }
-    Ok(None)
 }
 
 /// Looks for the names that are expected at the furthest failure of a match, in so many steps at most, if the

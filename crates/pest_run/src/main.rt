@@ -10,6 +10,7 @@ ghost use Rattle.pest_run.specs.Written.{IsReadable, PrintsTrees};
 
 mod arguments;
 mod codes;
+mod compiled;
 mod ends;
 mod explanations;
 mod failures;
@@ -30,7 +31,7 @@ use arguments::{
 };
 use clap::ArgMatches;
 use codes::{compile_file, is_code, run_code};
-use explanations::explain_failure;
+use explanations::{explain_code, explain_failure};
 use forms::note_forms;
 use grammars::Reading;
 use listing::list_file;
@@ -146,11 +147,12 @@ fn match_by_code(rt: &HostRuntime, code: &Source<'_>, text: &Source<'_>, request
     ensures known { result ≤ 6 }
     ensures read { result ≢ 3 → (code.now.why ≡ None) × IsReadable text.now }
 {
+    let alloc = rt.alloc();
     let mut out = Output::new(rt.stdout());
     let mut err = Output::new(rt.stderr());
-    let status = run_code(rt.alloc(), code, text, request, &mut out, &mut err).status;
+    let status = run_code(alloc, code, text, request, &mut out, &mut err).status;
     if request.why && status == Status::Found.code() {
-        let _ = err.write_line(&["--why needs the grammar's text, not a compiled grammar"]);
+        let _ = explain_code(alloc, code, text, request, &mut out, &mut err);
     }
     status
 }

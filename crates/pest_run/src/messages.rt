@@ -2,13 +2,14 @@
 ghost use Rattle.std.specs.Prelude.{◌≡◌, ◌++◌, IfOk, OnOk, codes, string_bytes};
 ghost use Rattle.std.specs.Str.{IsCharBoundary};
 ghost use Rattle.matcher_program.specs.ExpectedNames.{name_texts};
+ghost use Rattle.matcher_support.specs.Expectations.{list_text};
 ghost use Rattle.base_language.specs.Language.Expression.{Grammar};
 ghost use Rattle.matcher_engine.specs.Walks.{AreNamesOf};
 ghost use Rattle.program_support.specs.Escapes.{escaped_bytes};
-ghost use Rattle.pest_run.specs.Messages.{end_text, expected_text, failure_text, further_text, is_more, names_text, no_rule_text, note_between, place_text, steps_text, suggestion, unread_text};
+ghost use Rattle.pest_run.specs.Messages.{end_text, expected_or_none, expected_text, expected_too, failure_text, is_more, no_rule_text, note_between, place_text, steps_text, suggestion, unread_text};
 ghost use Rattle.base_language.specs.Pieces.LineColumn.{line_column};
 
-use crate::failures::Failure;
+use crate::compiled::NamedAttempts;
 use crate::rule_names::near_names;
 use base_language::runtime::Position;
 use matcher_support::expectations::{add_names, failure_message};
@@ -93,52 +94,68 @@ pub fn is_more(rest: &str) -> bool
 const NONE_EXPECTED: &str =
     "no rule is expected here: what failed gives no token, or stands below a `!`";
 
-/// Returns the message on a failure on a text. The only error is an allocation failure.
-pub fn describe_failure(
+/// Returns the message on a failure: that some names are expected there, and that others are not, in pest's
+/// words if there are any. The only error is an allocation failure.
+pub fn describe_failure(alloc: Global, failure: &NamedAttempts<'_>) -> Result<String, AllocError>
+    ensures { IfOk result (λ message. string_bytes message
+        ≡ failure_text (name_texts failure.now.positives.items)
+        (name_texts failure.now.negatives.items)) }
+{
+    names_message(alloc, &failure.positives, &failure.negatives)
+}
+
+/// Returns the message that some names are expected, and that others are not.
+fn names_message(
     alloc: Global,
-    text: &str,
-    failure: &Failure<'_>,
+    positives: &[&str],
+    negatives: &[&str],
 ) -> Result<String, AllocError>
-    requires { IsCharBoundary text.now failure.now.furthest }
-    ensures { IfOk result (λ message. string_bytes message ≡ failure_text text.now failure.now.place
-        failure.now.furthest (name_texts failure.now.names.items)) }
+    ensures { IfOk result (λ message. string_bytes message
+        ≡ failure_text (name_texts positives.now) (name_texts negatives.now)) }
 {
-    let mut message = names_message(alloc, &failure.names)?;
-    if failure.place < failure.furthest {
-        add_further(alloc, text, failure.furthest, &mut message)?;
+    match negatives {
+        [] => expected_message(alloc, positives),
+        [_, ..] => unexpected_message(alloc, positives, negatives),
     }
-    Ok(message)
 }
 
-/// Adds to a message that the furthest failure is at another byte position, between two characters.
-fn add_further(
-    alloc: Global,
-    text: &str,
-    furthest: usize,
-    message: &mut String,
-) -> Result<(), AllocError>
-    requires { IsCharBoundary text.now furthest }
-    ensures { OnOk result (string_bytes message.new
-        ≡ string_bytes message.old ++ further_text (line_column text.now furthest)) }
-{
-    let Some(position) = Position::new(text, furthest) else {
-        unreachable!()
-    };
-    let shown = show_place(alloc, position.line_col())?;
-    message.push_str("; what failed further on, up to ")?;
-    message.push_str(shown.as_str())?;
-    message.push_str(", stands below a `!`")
-}
-
-/// Returns the message that these names are expected, in pest's words if there are any. The only error
-/// is an allocation failure.
-fn names_message(alloc: Global, names: &[&str]) -> Result<String, AllocError>
-    ensures { IfOk result (λ message. string_bytes message ≡ names_text (name_texts names.now)) }
+/// Returns the message that these names are expected, or that none is.
+fn expected_message(alloc: Global, names: &[&str]) -> Result<String, AllocError>
+    ensures { IfOk result (λ message. string_bytes message ≡ expected_or_none (name_texts names.now)) }
 {
     match names {
         [] => String::from_str(alloc, NONE_EXPECTED),
         [_, ..] => failure_message(alloc, names),
     }
+}
+
+/// Returns the message that names are not expected, and which ones are.
+fn unexpected_message(
+    alloc: Global,
+    positives: &[&str],
+    negatives: &[&str],
+) -> Result<String, AllocError>
+    ensures { IfOk result (λ message. string_bytes message
+        ≡ codes "unexpected " ++ list_text (name_texts negatives.now)
+        ++ expected_too (name_texts positives.now)) }
+{
+    let mut message = String::from_str(alloc, "unexpected ")?;
+    add_names(&mut message, negatives)?;
+    add_expected_too(alloc, &mut message, positives)?;
+    Ok(message)
+}
+
+/// Adds to a message the names that are expected, too, if there are any.
+fn add_expected_too(alloc: Global, message: &mut String, names: &[&str]) -> Result<(), AllocError>
+    ensures { OnOk result (string_bytes message.new
+        ≡ string_bytes message.old ++ expected_too (name_texts names.now)) }
+{
+    if names.is_empty() {
+        return Ok(());
+    }
+    let expected = failure_message(alloc, names)?;
+    message.push_str("; ")?;
+    message.push_str(expected.as_str())
 }
 
 /// Returns the note that a match ends at a byte position, and where the text ends; and, if the furthest

@@ -12,12 +12,14 @@ ghost use Rattle.matcher_program.specs.ExpectedNames.{name_texts};
 ghost use Rattle.std.specs.Str.{IsCharBoundary};
 ghost use Rattle.matcher_support.specs.Compiled.{FailsIn, IsCompiled, IsCompiledOf, IsUnanswered};
 ghost use Rattle.matcher_support.specs.Sets.{is_in_property};
+ghost use Rattle.pest_run.specs.Compiled.{IsCompiledFrom};
 ghost use Rattle.matcher_support.specs.Shown.{shown};
 ghost use Rattle.program_support.specs.Escapes.{escaped_lines};
 ghost use Rattle.pest_run.specs.Outcomes.{IsFailureReport, IsMatchReport, IsNoRuleReport, IsOutcome, IsStopReport, ReportsFailure, end_note, trees_text, unfit_outcome};
 
 use crate::arguments::Format;
-use crate::failures::{Failure, find_failure, names_after};
+use crate::compiled::{CompiledGrammar, NamedAttempts};
+use crate::failures::{find_failure, names_after};
 use crate::messages::{describe_failure, end_message, is_more, no_rule_message, steps_message};
 use base_language::runtime::{Error, ErrorVariant, Fault, Position};
 use matcher_engine::block::{BlockStop, compile_block};
@@ -94,8 +96,8 @@ pub fn block_outcome(
     ensures { (rules : List OptimizedRule) → IsCompiled rules block.now → IsSomeAnd result
         (IsOutcome (optimized_rules_of rules) rule.now name.now text.now format steps) }
 {
-    match CompiledRules::read(alloc, block) {
-        Ok(Some(rules)) => run_outcome(alloc, &rules, rule, name, text, format, steps),
+    match CompiledGrammar::read(alloc, block) {
+        Ok(Some(grammar)) => run_outcome(alloc, &grammar, rule, name, text, format, steps),
         Ok(None) => None,
         Err(_) => Some(Outcome::Memory),
     }
@@ -104,20 +106,21 @@ pub fn block_outcome(
 /// Runs the rule of that name, as `block_outcome`.
 fn run_outcome(
     alloc: Global,
-    rules: &CompiledRules<'_>,
+    grammar: &CompiledGrammar<'_>,
     rule: &str,
     name: &str,
     text: &str,
     format: Format,
     steps: u64,
 ) -> Option<Outcome>
-    ensures { (g : Grammar) → IsCompiledOf g rules.now → IsSomeAnd result
+    ensures { (g : Grammar) → IsCompiledFrom g grammar.now → IsSomeAnd result
         (IsOutcome g rule.now name.now text.now format steps) }
 {
+    let rules = &grammar.rules;
     match rules.match_text(alloc, rule, text, steps) {
         Ok(found) => match_outcome(alloc, rules, rule, text, &found, format, steps),
         Err(BlockStop::NoMatch(place)) => {
-            failure_outcome(alloc, rules, rule, name, text, place, steps)
+            failure_outcome(alloc, grammar, rule, name, text, place, steps)
         }
         Err(BlockStop::NoRule) => refusal_outcome(alloc, rules, rule, BlockStop::NoRule, steps),
         Err(BlockStop::Stopped(stop)) => {
@@ -158,23 +161,23 @@ fn match_outcome(
 /// position. Returns none where that is not between two characters.
 fn failure_outcome(
     alloc: Global,
-    rules: &CompiledRules<'_>,
+    grammar: &CompiledGrammar<'_>,
     rule: &str,
     name: &str,
     text: &str,
     place: usize,
     steps: u64,
 ) -> Option<Outcome>
-    ensures { (g : Grammar) → IsCompiledOf g rules.now → (format : Format)
+    ensures { (g : Grammar) → IsCompiledFrom g grammar.now → (format : Format)
         → FailsIn g rule.now text.now place
         → IsSomeAnd result (IsOutcome g rule.now name.now text.now format steps) }
 {
     if !text.is_char_boundary(place) {
         return None;
     }
-    match find_failure(alloc, rules, rule, text, place, steps) {
+    match find_failure(alloc, grammar, rule, text, place, steps) {
         Ok(failure) => Some(failed_outcome(alloc, name, text, &failure)),
-        Err(stop) => refusal_outcome(alloc, rules, rule, stop, steps),
+        Err(stop) => refusal_outcome(alloc, &grammar.rules, rule, stop, steps),
     }
 }
 
@@ -310,9 +313,8 @@ fn json_line(
 }
 
 /// Returns the outcome of a rule that fails on the text of a file.
-fn failed_outcome(alloc: Global, name: &str, text: &str, failure: &Failure<'_>) -> Outcome
-    requires place { IsCharBoundary text.now failure.now.place }
-    requires furthest { IsCharBoundary text.now failure.now.furthest }
+fn failed_outcome(alloc: Global, name: &str, text: &str, failure: &NamedAttempts<'_>) -> Outcome
+    requires { IsCharBoundary text.now failure.now.place }
     ensures { IsFailureReport name.now text.now failure.now result }
 {
     match report_failure(alloc, name, text, failure) {
@@ -336,17 +338,17 @@ fn report_failure(
     alloc: Global,
     name: &str,
     text: &str,
-    failure: &Failure<'_>,
+    failure: &NamedAttempts<'_>,
 ) -> Result<String, Fault>
-    requires place { IsCharBoundary text.now failure.now.place }
-    requires furthest { IsCharBoundary text.now failure.now.furthest }
+    requires { IsCharBoundary text.now failure.now.place }
     ensures { IfOk result (λ report. ReportsFailure name.now text.now failure.now.place
-        failure.now.furthest (name_texts failure.now.names.items) (string_bytes report)) }
+        (name_texts failure.now.positives.items) (name_texts failure.now.negatives.items)
+        (string_bytes report)) }
 {
     let Some(place) = Position::new(text, failure.place) else {
         unreachable!()
     };
-    let message = describe_failure(alloc, text, failure)?;
+    let message = describe_failure(alloc, failure)?;
     let error = Error::new_from_pos(alloc, ErrorVariant::CustomError { message }, place)?;
     Ok(show_error(alloc, Some(name), &error)?)
 }

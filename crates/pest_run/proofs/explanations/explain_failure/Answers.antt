@@ -1,19 +1,21 @@
-use Rattle.std.proofs.Common.{List, ℕ, inl, inr, length, refl, subst}
+use Rattle.std.proofs.Common.{◌≡◌, List, false, length, subst, true, ℕ}
 use Rattle.pest_run.specs.Explanations.{IsFormExplanation}
 use Rattle.pest_run.specs.Steps.{path_limit}
-use Rattle.pest_run.specs.declared.explanations.Explanation.TheVariants as is
 use Rattle.pest_run.proofs.explanations.explain_failure.Goals as goal
 
-pub returns-in_default : goal.returns-in_default
-returns-in_default g c = λ spelled read. record { explanation = is.NoFailure; is_of_failure = inr (inl refl); writes = (refl, refl) }
+pub returns-in_default-clause-explains : goal.returns-in_default-clause-explains
+returns-in_default-clause-explains g c = λ spelled read readable. (let no : false ≡ true = c.in_default.ensures.readable.1 readable in cc)
 
-pub returns : goal.returns
-returns g c = λ spelled read.
+pub returns-clause-explains : goal.returns-clause-explains
+returns-clause-explains g c = λ spelled read readable.
     let of = c.args.request in
     let found = c.explanation_of-explanation in
     let P : List ℕ → Type 0 = λ t. IsFormExplanation of.form spelled of.rule.now t of.format (path_limit of.steps (length t)) found.result in
     record {
       explanation = found.result;
-      is_of_failure = subst P c.in-Some.ensures.text (found.ensures spelled read);
+      is_so = subst P c.in-Some.ensures.text (found.ensures spelled read);
       writes = c.write_explanation.ensures;
     }
+
+pub returns-clause-unread : goal.returns-clause-unread
+returns-clause-unread g c = λ unreadable. absurd (unreadable (c.in-Some.ensures.readable.0 _))

@@ -1,19 +1,15 @@
-use Rattle.std.proofs.Common.{◌≡◌, [], inr, length, refl, rules, subst, vec_len}
+use Rattle.std.proofs.Common.{◌≡◌, [], inl, inr, length, refl, rules, subst, vec_len}
 use Rattle.matcher_support.specs.Compiled.{AreExpectedIn}
-use Rattle.pest_run.specs.Failures.{ExpectsNone, IsEarlier}
 use Rattle.pest_run.proofs.Failing.{none_there}
 use Rattle.pest_run.proofs.failures.find_failure.Goals as goal
 
 pub returns-in-Some-clause-found : goal.returns-in-Some-clause-found
 returns-in-Some-clause-found c = λ g of.
-    let rule = c.args.rule.now in
-    let text = c.args.text.now in
-    let found = rw c.in-Some.is at c.in_ok-earlier.ensures.found in
-    let earlier : IsEarlier g rule text c.args.furthest c.in-Some.earlier = found g of in
-    let long : vec_len c.in_ok-names.names ≡ length c.in_ok-names.names.items = search rules in
-    let empty : c.in_ok-names.names.items ≡ [] = none_there c.in_ok-names.names.items (vec_len c.in_ok-names.names) c.is_empty.result long c.is_empty.ensures c.if-is_empty.true in
-    let none : ExpectsNone g rule text c.args.furthest = subst (λ ns. AreExpectedIn g rule text c.args.furthest ns) empty (c.in_ok-names.ensures.expected g of) in
-    record {
-      furthest_is = refl;
-      told = inr (record { earlier = c.in-Some.earlier; is_earlier = earlier; place = refl; names = refl; none = none });
-    }
+    let names = c.in_ok-positives.positives in
+    let long : vec_len names ≡ length names.items = search rules in
+    let empty : names.items ≡ [] = none_there names.items (vec_len names) c.is_empty.result long c.is_empty.ensures c.if-is_empty.true in
+    let none = subst (λ ns. AreExpectedIn g c.args.rule.now c.args.text.now c.args.furthest ns) empty (c.in_ok-positives.ensures.expected g of.by_names) in
+    inr (none, c.in-Some.ensures.attempts g of)
+
+pub returns-clause-found : goal.returns-clause-found
+returns-clause-found c = λ g of. inl (refl, c.in_ok-positives.ensures.expected g of.by_names, refl)
