@@ -1,5 +1,5 @@
 -- What comes of a rule that fails on a text, by what the matcher answers.
-use Rattle.std.proofs.Common.{◌≡◌, ◌⊎◌, ◌∙◌, ◌∷◌, ◌++◌, ◌&&◌, ◌<◌, ◌+◌, ap, ap₂, arith, inl, inr, refl, sym, subst, ℕ, Bool, true, false, List, [], None, Option, Some, drop, if◌then◌else◌, length, nat_le}
+use Rattle.std.proofs.Common.{◌≡◌, ◌⊎◌, ◌∙◌, ◌∷◌, ◌++◌, ◌&&◌, ◌+◌, ap, ap₂, arith, inl, inr, refl, sym, subst, ℕ, Bool, true, false, List, [], None, Option, Some, drop, if◌then◌else◌, length, nat_le}
 use Rattle.std.specs.Prelude.{IsUtf8, option_map, string_bytes}
 use Rattle.std.proofs.Math.Utf8.{encodes}
 use Rattle.std.proofs.lemmas.Bool.{true≢false}

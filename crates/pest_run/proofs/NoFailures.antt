@@ -1,8 +1,7 @@
 -- Rules that do not fail.
-use Rattle.std.proofs.Common.{◌≡◌, List, inl, inr, ℕ}
+use Rattle.std.proofs.Common.{List, inl, ℕ}
 use Rattle.std.specs.Prelude.{chars}
 use Rattle.base_language.specs.Language.Expression.{Grammar}
-use Rattle.base_language.specs.Language.State.{Failure as Failed}
 use Rattle.base_language.proofs.OneOutcome.{same}
 use Rattle.matcher_engine.specs.Preorders.{HasPreorder}
 use Rattle.matcher_engine.specs.declared.matcher.Preorder.{Preorder}

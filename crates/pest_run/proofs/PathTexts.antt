@@ -1,5 +1,5 @@
 -- Texts of the calls that are open where rules are expected.
-use Rattle.std.proofs.Common.{◌≡◌, ◌∙◌, ℕ, ◌&&◌, ◌||◌, ◌++◌, Bool, false, List, [], ◌∷◌, ap, map, nat_eq, refl, sym}
+use Rattle.std.proofs.Common.{◌≡◌, ◌∙◌, ℕ, ◌&&◌, ◌++◌, Bool, false, List, [], ◌∷◌, ap, map, nat_eq, refl, sym}
 use Rattle.std.proofs.Math.Bool.{and_assoc}
 use Rattle.std.proofs.lemmas.Bool.{or_from}
 use Rattle.std.specs.Global.{Vec}

@@ -10,11 +10,10 @@ use Rattle.base_language.specs.Language.Expression.{Grammar}
 use Rattle.base_language.specs.Rewritings.Rewriting.{SameOutcomes}
 use Rattle.front_optimizer.specs.Passes.{IsOptimized}
 use Rattle.front_optimizer.specs.Written.{AreWrittenOut}
-use Rattle.front_spanned.specs.Erasure.{rules_without_spans}
 use Rattle.pest_meta.specs.Spelling.{AreAccepted}
-use Rattle.pest_meta.specs.Written.{IsWritten, SpellsAccepted}
+use Rattle.pest_meta.specs.Written.{SpellsAccepted}
 use Rattle.pest_run.specs.Grammars.{IsReadFrom}
-use Rattle.pest_run.specs.Written.{AreAnswered, AreRun}
+use Rattle.pest_run.specs.Written.{AreRun}
 use Rattle.pest_run.specs.declared.arguments.RuleForm.TheVariants as form_is
 use Rattle.pest_run.specs.declared.grammars.GrammarRules.{GrammarRules}
 

@@ -1,5 +1,5 @@
 -- Messages about a rule, a text and files.
-use Rattle.std.specs.Prelude.{ℕ, ◌==◌, ◌||◌, not, Bool, List, [], ◌++◌, bytes_eq, codes, if◌then◌else◌, length, nat_le, nat_lt, take}
+use Rattle.std.specs.Prelude.{ℕ, ◌==◌, ◌||◌, not, Bool, List, [], ◌++◌, bytes_eq, codes, if◌then◌else◌, length, nat_le, take}
 use Rattle.std.specs.Fmt.{decimal}
 use Rattle.base_language.specs.Language.Expression.{Grammar}
 use Rattle.base_language.specs.Language.Text.{Text}

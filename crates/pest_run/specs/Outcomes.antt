@@ -15,7 +15,6 @@ use Rattle.base_language.specs.declared.runtime.errors.LineColLocation.TheVarian
 use Rattle.matcher_program.specs.Refusals.{IsBoundOf, IsNoCharacter, IsUnknown}
 use Rattle.matcher_program.specs.declared.compile.Unfit.{Unfit}
 use Rattle.matcher_program.specs.declared.compile.Unfit.TheVariants as unfit
-use Rattle.matcher_program.specs.declared.form.Property.{Property}
 use Rattle.matcher_program.specs.Answers.{Has}
 use Rattle.matcher_program.specs.ExpectedNames.{each_once, name_texts}
 use Rattle.matcher_program.specs.Sizes.{most_steps}

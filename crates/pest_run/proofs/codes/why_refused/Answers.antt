@@ -1,4 +1,4 @@
-use Rattle.pest_run.proofs.CodeFiles.{changed_why, none_why, other_why}
+use Rattle.pest_run.proofs.CodeFiles.{none_why, other_why}
 use Rattle.pest_run.proofs.codes.why_refused.Goals as goal
 
 pub returns-in-Err-NoBlock : goal.returns-in-Err-NoBlock

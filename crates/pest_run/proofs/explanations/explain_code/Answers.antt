@@ -1,4 +1,4 @@
-use Rattle.std.proofs.Common.{◌≡◌, List, false, length, subst, true, ℕ}
+use Rattle.std.proofs.Common.{◌≡◌, List, false, length, refl, subst, true, ℕ}
 use Rattle.base_ast.specs.Optimized.{optimized_rules_of}
 use Rattle.pest_run.specs.Explanations.{IsExplanation}
 use Rattle.pest_run.specs.Steps.{path_limit}
@@ -20,4 +20,4 @@ returns-clause-explains g c = λ rules is readable.
     }
 
 pub returns-clause-unread : goal.returns-clause-unread
-returns-clause-unread g c = λ unreadable. absurd (unreadable (c.in-Some.ensures.readable.0 _))
+returns-clause-unread g c = λ unreadable. absurd (unreadable (c.in-Some.ensures.readable.0 refl))

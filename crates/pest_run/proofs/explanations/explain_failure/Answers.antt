@@ -1,4 +1,4 @@
-use Rattle.std.proofs.Common.{◌≡◌, List, false, length, subst, true, ℕ}
+use Rattle.std.proofs.Common.{◌≡◌, List, false, length, refl, subst, true, ℕ}
 use Rattle.pest_run.specs.Explanations.{IsFormExplanation}
 use Rattle.pest_run.specs.Steps.{path_limit}
 use Rattle.pest_run.proofs.explanations.explain_failure.Goals as goal
@@ -18,4 +18,4 @@ returns-clause-explains g c = λ spelled read readable.
     }
 
 pub returns-clause-unread : goal.returns-clause-unread
-returns-clause-unread g c = λ unreadable. absurd (unreadable (c.in-Some.ensures.readable.0 _))
+returns-clause-unread g c = λ unreadable. absurd (unreadable (c.in-Some.ensures.readable.0 refl))

@@ -1,4 +1,4 @@
-use Rattle.std.proofs.Common.{inr, subst}
+use Rattle.std.proofs.Common.{subst}
 use Rattle.matcher_engine.specs.declared.block.runs.BlockStop.{BlockStop}
 use Rattle.matcher_support.specs.Compiled.{IsRefusedBy}
 use Rattle.pest_run.proofs.NoFailures.{matched}

@@ -1,4 +1,4 @@
-use Rattle.std.proofs.Common.{inr, subst}
+use Rattle.std.proofs.Common.{subst}
 use Rattle.matcher_engine.specs.declared.block.runs.BlockStop.{BlockStop}
 use Rattle.matcher_support.specs.Compiled.{IsUnanswered}
 use Rattle.pest_run.proofs.explanations.refusal_explanation.Goals as goal

@@ -12,4 +12,4 @@ returns-in-Some-clause-found c = λ g of.
     inr (none, c.in-Some.ensures.attempts g of)
 
 pub returns-clause-found : goal.returns-clause-found
-returns-clause-found c = λ g of. inl (refl, c.in_ok-positives.ensures.expected g of.by_names, refl)
+returns-clause-found c = λ g of. inl (refl, c.in_ok-positives.ensures.expected g of.by_names, c.new.ensures.items)

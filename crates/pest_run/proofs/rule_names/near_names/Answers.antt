@@ -1,6 +1,5 @@
-use Rattle.std.proofs.Common.{◌≡◌, ◌∙◌, ap, sym, Bool, encode_utf8_all, take}
+use Rattle.std.proofs.Common.{◌∙◌, ap, sym, Bool, encode_utf8_all}
 use Rattle.base_language.specs.Language.Text.{Text}
-use Rattle.std.proofs.Math.Seq.{take-length}
 use Rattle.matcher_program.specs.ExpectedNames.{name_texts}
 use Rattle.pest_run.specs.RuleNames.{is_near}
 use Rattle.pest_run.proofs.RuleNames.{text_passed, text_pushed}
