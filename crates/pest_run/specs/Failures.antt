@@ -33,5 +33,6 @@ AreTold d place names others =
 -- they are those of pest's error
 abbrev pub IsFound : Grammar → (rule text : List ℕ) → ℕ → NamedAttempts → Type 0
 IsFound g rule text furthest it =
-    ((it.place ≡ furthest) × AreExpectedIn g rule text furthest it.positives.items × (it.negatives.items ≡ []))
+    ((it.place ≡ furthest) × AreExpectedIn g rule text furthest it.positives.items
+    × (it.negatives.items ≡ []))
     ⊎ (AreExpectedIn g rule text furthest [] × AreAttemptsIn g rule text it)

@@ -28,7 +28,7 @@ pub struct NamedAttempts<'m> {
     pub place: usize,
     /// The names of the rules that are expected there, each once, in the order of their calls.
     pub positives: Vec<&'m str>,
-    /// Those of the rules that are not expected there, since a `!` refused them, so too.
+    /// The names of the rules that are not expected there, since a `!` refused them, so too.
     pub negatives: Vec<&'m str>,
 }
 
