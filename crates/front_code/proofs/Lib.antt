@@ -1,0 +1,4 @@
+pub mod Flattening
+pub mod Leaves
+pub mod Counted
+pub mod Exact

@@ -1,0 +1,5 @@
+//! The code of the meta-grammar.
+#![tactic(auto)]
+
+pub mod laws;
+pub mod operations;
