@@ -6,7 +6,7 @@ use Rattle.std.proofs.lemmas.List.{get_or-drop, length-append}
 use Rattle.std.proofs.lemmas.Str.{chars-nil, len_utf8_bounds, length-encode}
 use Rattle.base_language.specs.Language.Text.{Text}
 use Rattle.base_language.specs.Language.Expression.{Expression, Grammar, Opt, RepMinMax, Seq}
-use Rattle.base_language.specs.Language.State.{AtomicMode, Classes, Failure, None', Outcome, State, Success, Trees, moved}
+use Rattle.base_language.specs.Language.State.{AtomicMode, Classes, Failure, None', Outcome, State, Success, moved}
 use Rattle.base_language.specs.Language.Matching.{character_outcome, starts_in}
 use Rattle.base_language.specs.Language.Meaning as by
 use Rattle.base_language.specs.Language.Meaning.{Does, Run, Task, in_sequence}
@@ -21,7 +21,7 @@ use Rattle.matcher_code.specs.Laid.{HasOutcome, IsSilent, Performs, at_label}
 use Rattle.matcher_code.specs.Reached.{Comes, IsAt, IsBelow, Reaches, fail_to}
 use Rattle.matcher_code.specs.Failures.{both, in_silence, no_failure}
 use Rattle.matcher_code.proofs.Leaves.{at_moved, found_by, retype}
-use Rattle.matcher_code.proofs.Reaching.{nothing_recorded, on_to, one_step, reaching, stays, within}
+use Rattle.matcher_code.proofs.Reaching.{nothing_recorded, on_to, one_step, stays, within}
 
 module _ (f : ℕ → Bool) where
   -- the state after as many characters of the set as there are, at most so many

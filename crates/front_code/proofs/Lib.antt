@@ -1,4 +1,10 @@
 pub mod Flattening
 pub mod Leaves
 pub mod Counted
+pub mod Characters
+pub mod Outside
+pub mod Shapes
 pub mod Exact
+pub mod Fast
+pub mod ByteLemmas
+pub mod Results

@@ -1,3 +1,4 @@
 pub mod Layouts
 pub mod Numbers
-pub mod Exact
+pub mod Codes
+pub mod Runs

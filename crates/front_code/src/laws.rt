@@ -1,12 +1,12 @@
 //! Laws over the definitions alone.
-ghost use Rattle.std.specs.Prelude.{ℕ, Bool, List, true};
+ghost use Rattle.std.specs.Prelude.{ℕ, Bool, List, false, true};
 ghost use Rattle.base_language.specs.Language.Expression.{Grammar};
 ghost use Rattle.base_language.specs.Language.Meaning.{Task};
 ghost use Rattle.base_language.specs.Language.State.{Classes};
 ghost use Rattle.base_language.specs.Language.Text.{Text};
 ghost use Rattle.matcher_code.specs.Lists.{CodeLists};
 ghost use Rattle.matcher_code.specs.Laid.{AreLaid, IsPoint, Point};
-ghost use Rattle.front_code.specs.Exact.{IsCodeOfMetaGrammar, IsExactCode};
+ghost use Rattle.front_code.specs.Codes.{IsCodeOfMetaGrammar, IsExactCode, IsFastCode};
 ghost use Rattle.front_code.specs.Layouts.{AreLaidAll};
 
 /// Where the code at each point of a list has that of its parts, and calls bodies that begin at such points,
@@ -23,4 +23,10 @@ pub fn whole_code_is_laid()
 pub fn exact_code_is_laid()
     ensures { (classes : Classes) (code : CodeLists) → IsExactCode code
         → IsCodeOfMetaGrammar true classes code }
+{}
+
+/// A program with the operations, the texts and the sets of the fast code is code of the meta-grammar.
+pub fn fast_code_is_laid()
+    ensures { (classes : Classes) (code : CodeLists) → IsFastCode code
+        → IsCodeOfMetaGrammar false classes code }
 {}

@@ -1,4 +1,4 @@
--- The exact code of the meta-grammar: it records each name that is expected.
+-- Constant programs of the meta-grammar.
 use Rattle.std.specs.Prelude.{◌≡◌, ◌<◌, ◌+◌, ℕ, List, [], Bool, get_or, length, map}
 use Rattle.base_language.specs.Language.Expression.{Ident}
 use Rattle.base_language.specs.Language.Meaning.{Run}
@@ -7,27 +7,38 @@ use Rattle.base_language.specs.Pieces.MetaRules.{name_of}
 use Rattle.base_language.specs.declared.grammar.Rule.{Rule}
 use Rattle.front_syntax.specs.MetaGrammar.{meta_grammar}
 use Rattle.matcher_code.specs.Lists.{CodeLists}
+use Rattle.matcher_code.specs.declared.code.Op.{Op}
 use Rattle.matcher_code.specs.declared.code.Op.TheVariants as op
 use Rattle.matcher_code.specs.Laid.{AreLaid, IsPoint, Point, at_label}
 use Rattle.matcher_code.specs.Sets.{IsSetOf}
 use Rattle.front_code.specs.Numbers.{number_of}
-use Rattle.front_code.specs.declared.operations.TheConstants.{OPS, SETS, TEXTS}
+use Rattle.front_code.specs.declared.operations.TheConstants.{EXACT_OPS, EXACT_SETS, FAST_OPS, FAST_SETS, TEXTS}
 
--- the texts and the sets of the exact code
-abbrev pub exact_texts : List (List ℕ)
-exact_texts = map (λ t. t.now) TEXTS
+-- a program has these operations and texts, and sets of these ranges
+pub record HasParts (os : List Op) (ts : List (List ℕ)) (rs : List (List (ℕ × ℕ))) (code : CodeLists)
+    : Type 0 where
+  pub ops : code.ops ≡ os
+  pub texts : code.texts ≡ ts
+  pub sets : (i : ℕ) → i < length rs → IsSetOf code i (get_or rs i [])
+
+-- the texts of both programs, and the sets of each
+abbrev pub texts : List (List ℕ)
+texts = map (λ t. t.now) TEXTS
 
 abbrev pub exact_sets : List (List (ℕ × ℕ))
-exact_sets = map (λ r. r.now) SETS
+exact_sets = map (λ r. r.now) EXACT_SETS
 
--- a program has the operations, the texts and the sets of the exact code
-pub record IsExactCode (code : CodeLists) : Type 0 where
-  pub ops : code.ops ≡ OPS
-  pub texts : code.texts ≡ exact_texts
-  pub sets : (i : ℕ) → i < length exact_sets → IsSetOf code i (get_or exact_sets i [])
+abbrev pub fast_sets : List (List (ℕ × ℕ))
+fast_sets = map (λ r. r.now) FAST_SETS
+
+abbrev pub IsExactCode : CodeLists → Type 0
+IsExactCode code = HasParts EXACT_OPS texts exact_sets code
+
+abbrev pub IsFastCode : CodeLists → Type 0
+IsFastCode code = HasParts FAST_OPS texts fast_sets code
 
 -- a program has the code of all rules of the meta-grammar, and a call of each from outside begins at the label
--- after three more than its number
+-- after three more than its number; exact code records each name that is expected
 pub record IsCodeOfMetaGrammar (exact : Bool) (classes : Classes) (code : CodeLists) : Type 0 where
   pub fail : at_label code 0 ≡ op.Fail
   pub halt : at_label code 1 ≡ op.Halt

@@ -1,0 +1,81 @@
+//! The numbers of the rules.
+ghost use Rattle.std.specs.Prelude.{◌≡◌, ◌<◌};
+ghost use Rattle.base_language.specs.Pieces.MetaRules.{name_of};
+ghost use Rattle.front_code.specs.Numbers.{number_of};
+
+use base_language::grammar::Rule;
+
+/// Returns the number of a rule: its place in the order of the meta-grammar, `EOI` before all.
+pub fn rule_number(rule: Rule) -> u32
+    ensures number { result ≡ number_of (name_of rule) }
+    ensures small { result < 66 }
+{
+    match rule {
+        Rule::EOI => 0,
+        Rule::grammar_rules => 1,
+        Rule::grammar_rule => 2,
+        Rule::assignment_operator => 3,
+        Rule::opening_brace => 4,
+        Rule::closing_brace => 5,
+        Rule::opening_paren => 6,
+        Rule::closing_paren => 7,
+        Rule::opening_brack => 8,
+        Rule::closing_brack => 9,
+        Rule::modifier => 10,
+        Rule::silent_modifier => 11,
+        Rule::atomic_modifier => 12,
+        Rule::compound_atomic_modifier => 13,
+        Rule::non_atomic_modifier => 14,
+        Rule::tag_id => 15,
+        Rule::node_tag => 16,
+        Rule::expression => 17,
+        Rule::term => 18,
+        Rule::node => 19,
+        Rule::terminal => 20,
+        Rule::prefix_operator => 21,
+        Rule::infix_operator => 22,
+        Rule::postfix_operator => 23,
+        Rule::positive_predicate_operator => 24,
+        Rule::negative_predicate_operator => 25,
+        Rule::sequence_operator => 26,
+        Rule::choice_operator => 27,
+        Rule::optional_operator => 28,
+        Rule::repeat_operator => 29,
+        Rule::repeat_once_operator => 30,
+        Rule::repeat_exact => 31,
+        Rule::repeat_min => 32,
+        Rule::repeat_max => 33,
+        Rule::repeat_min_max => 34,
+        Rule::number => 35,
+        Rule::integer => 36,
+        Rule::comma => 37,
+        Rule::_push => 38,
+        Rule::_push_literal => 39,
+        Rule::peek_slice => 40,
+        Rule::identifier => 41,
+        Rule::alpha => 42,
+        Rule::alpha_num => 43,
+        Rule::string => 44,
+        Rule::insensitive_string => 45,
+        Rule::range => 46,
+        Rule::character => 47,
+        Rule::inner_str => 48,
+        Rule::inner_chr => 49,
+        Rule::escape => 50,
+        Rule::code => 51,
+        Rule::unicode => 52,
+        Rule::hex_digit => 53,
+        Rule::quote => 54,
+        Rule::single_quote => 55,
+        Rule::range_operator => 56,
+        Rule::newline => 57,
+        Rule::WHITESPACE => 58,
+        Rule::line_comment => 59,
+        Rule::block_comment => 60,
+        Rule::COMMENT => 61,
+        Rule::space => 62,
+        Rule::grammar_doc => 63,
+        Rule::line_doc => 64,
+        Rule::inner_doc => 65,
+    }
+}

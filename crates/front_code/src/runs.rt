@@ -1,0 +1,69 @@
+//! Runs of the exact code.
+ghost use Rattle.std.specs.Prelude.{◌≡◌, IfOk};
+ghost use Rattle.base_language.specs.Language.State.{Classes};
+ghost use Rattle.base_language.specs.Pieces.MetaRules.{name_of};
+ghost use Rattle.front_code.specs.Numbers.{number_of};
+ghost use Rattle.front_code.specs.Runs.{IsRunOf};
+
+use crate::bytes::exact_code;
+use crate::numbers::rule_number;
+use base_language::grammar::Rule;
+use front_syntax::laws::each_rule_has_one_outcome;
+use matcher_code::fused::fuse;
+use matcher_code::state::TreeNode;
+use matcher_machine::machine::{Machine, RunEnd};
+use std::alloc::{AllocError, Global};
+
+/// What a rule of the meta-grammar does on a text.
+#[derive(Drop)]
+pub struct RuleRun {
+    /// The end of the match in bytes, or `None` where the rule fails.
+    pub end: Option<usize>,
+    /// The trees of the match in preorder; the row of each is the number of its rule.
+    pub trees: Vec<TreeNode>,
+    /// The greatest position in bytes at which a call that counts failed; 0 where none did.
+    pub furthest: usize,
+    /// The numbers of the rules that are expected at the position that was asked for, in the order in which
+    /// they are first called there.
+    pub names: Vec<u32>,
+}
+
+/// Matches a rule in NonAtomic from the start of a text on, and records the rules that are expected at
+/// `place`, in bytes. The only error is an allocation failure, as which a run of 2^64 steps counts.
+pub fn run_rule(alloc: Global, rule: Rule, text: &str, place: usize) -> Result<RuleRun, AllocError>
+    ensures { IfOk result (IsRunOf rule text.now place) }
+{
+    each_rule_has_one_outcome();
+    let code = exact_code();
+    let fused = fuse(alloc, &code)?;
+    let mut machine = Machine::new(alloc);
+    machine.asked = place;
+    let entry = rule_number(rule) + 3;
+    let end = machine.run_with_memory(alloc, &code, fused.as_slice(), text, entry, 0, u64::MAX)?;
+    match end {
+        RunEnd::Found(end) => Ok(result_of(machine, Some(end))),
+        RunEnd::Failed => Ok(result_of(machine, None)),
+        RunEnd::Stuck | RunEnd::OutOfSteps => Err(AllocError),
+    }
+}
+
+/// Returns the result of a run that has ended.
+fn result_of(machine: Machine, end: Option<usize>) -> RuleRun
+    ensures end { result.end ≡ end }
+    ensures trees { result.trees ≡ machine.trees }
+    ensures furthest { result.furthest ≡ machine.furthest }
+    ensures names { result.names ≡ machine.names }
+{
+    let Machine {
+        trees,
+        furthest,
+        names,
+        ..
+    } = machine;
+    RuleRun {
+        end,
+        trees,
+        furthest,
+        names,
+    }
+}
