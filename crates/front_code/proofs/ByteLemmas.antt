@@ -1,4 +1,4 @@
--- The exact code in bytes.
+-- The constant programs in bytes.
 use Rattle.std.proofs.Common.{◌≡◌, refl, sym, ◌∙◌, ap, ℕ, zero, suc, ◌+◌, ◌*◌, ◌<◌, List, [], ◌∷◌, Bool, true, false, ◌&&◌, arith, drop, get_or, length, map, ◌==◌, eqb-true}
 use Rattle.std.proofs.lemmas.Bool.{and_parts}
 use Rattle.std.proofs.lemmas.List.{get_or-drop}
@@ -9,29 +9,12 @@ use Rattle.matcher_code.specs.Reading.{no_characters}
 use Rattle.matcher_code.specs.Sets.{IsSetOf, flag_of}
 use Rattle.matcher_code.specs.Words.{pair_in, parts_in, word}
 use Rattle.matcher_code.proofs.SetLemmas.{means_ranges}
-use Rattle.front_code.specs.Codes.{IsExactCode, exact_sets, texts}
-use Rattle.front_code.specs.declared.bytes.TheConstants.{OPS, ORDERS, RANGES, ROWS, SET_PLACES, TEXTS, TEXT_PLACES}
-use Rattle.front_code.specs.declared.operations.TheConstants.{EXACT_OPS}
-
--- the program in bytes
-abbrev pub bytes_code : CodeLists
-bytes_code = record {
-  ops = map op_in OPS;
-  rows = ROWS;
-  sets = sets_in ORDERS (parts_in (map word SET_PLACES) (map pair_in RANGES));
-  tables = [];
-  texts = parts_in (map word TEXT_PLACES) TEXTS;
-  lists = [];
-}
-
-same_ops : map op_in OPS ≡ EXACT_OPS
-same_ops = refl
+use Rattle.front_code.specs.Codes.{IsExactCode, IsFastCode, exact_sets, fast_sets, texts}
+use Rattle.front_code.specs.declared.bytes.TheConstants.{EXACT_BYTES, EXACT_ORDERS, EXACT_RANGES, EXACT_ROWS, EXACT_SET_PLACES, FAST_BYTES, FAST_ORDERS, FAST_RANGES, FAST_ROWS, FAST_SET_PLACES, TEXTS, TEXT_PLACES}
+use Rattle.front_code.specs.declared.operations.TheConstants.{EXACT_OPS, FAST_OPS}
 
 same_texts : parts_in (map word TEXT_PLACES) TEXTS ≡ texts
 same_texts = refl
-
-same_sets : sets_in ORDERS (parts_in (map word SET_PLACES) (map pair_in RANGES)) ≡ map is_covered exact_sets
-same_sets = refl
 
 -- whether so many flags from a byte on are those of ranges; whether rows have the flags of lists of ranges
 abbrev has_flags : ℕ → List (ℕ × ℕ) → ℕ → List ℕ → Bool
@@ -70,13 +53,54 @@ covered_at [] i l = absurd (omega (arith, l))
 covered_at (r ∷ rs) zero l = refl
 covered_at (r ∷ rs) (suc i) l = covered_at rs i (omega (arith, l))
 
-right_rows : has_rows exact_sets ROWS ≡ true
-right_rows = refl
+module _ (code : CodeLists) (ranges : List (List (ℕ × ℕ))) (same : code.sets ≡ map is_covered ranges) (right : has_rows ranges code.rows ≡ true) where
+  right_sets : (i : ℕ) → i < length ranges → IsSetOf code i (get_or ranges i [])
+  right_sets i l =
+      means_ranges code i (get_or ranges i []) (ap (λ fs. get_or fs i no_characters) same ∙ covered_at ranges i l)
+      (λ b k. row_at ranges code.rows right i l b k)
 
-right_sets : (i : ℕ) → i < length exact_sets → IsSetOf bytes_code i (get_or exact_sets i [])
-right_sets i l =
-    means_ranges bytes_code i (get_or exact_sets i []) (ap (λ fs. get_or fs i no_characters) same_sets ∙ covered_at exact_sets i l)
-    (λ b k. row_at exact_sets ROWS right_rows i l b k)
+-- the exact code in bytes
+abbrev exact_lists : CodeLists
+exact_lists = record {
+  ops = map op_in EXACT_BYTES;
+  rows = EXACT_ROWS;
+  sets = sets_in EXACT_ORDERS (parts_in (map word EXACT_SET_PLACES) (map pair_in EXACT_RANGES));
+  tables = [];
+  texts = parts_in (map word TEXT_PLACES) TEXTS;
+  lists = [];
+}
 
-pub exact_bytes : IsExactCode bytes_code
-exact_bytes = record { ops = same_ops; texts = same_texts; sets = right_sets }
+same_exact_ops : map op_in EXACT_BYTES ≡ EXACT_OPS
+same_exact_ops = refl
+
+same_exact_sets : exact_lists.sets ≡ map is_covered exact_sets
+same_exact_sets = refl
+
+right_exact_rows : has_rows exact_sets EXACT_ROWS ≡ true
+right_exact_rows = refl
+
+pub exact_bytes : IsExactCode exact_lists
+exact_bytes = record { ops = same_exact_ops; texts = same_texts; sets = right_sets exact_lists exact_sets same_exact_sets right_exact_rows }
+
+-- the fast code in bytes
+abbrev fast_lists : CodeLists
+fast_lists = record {
+  ops = map op_in FAST_BYTES;
+  rows = FAST_ROWS;
+  sets = sets_in FAST_ORDERS (parts_in (map word FAST_SET_PLACES) (map pair_in FAST_RANGES));
+  tables = [];
+  texts = parts_in (map word TEXT_PLACES) TEXTS;
+  lists = [];
+}
+
+same_fast_ops : map op_in FAST_BYTES ≡ FAST_OPS
+same_fast_ops = refl
+
+same_fast_sets : fast_lists.sets ≡ map is_covered fast_sets
+same_fast_sets = refl
+
+right_fast_rows : has_rows fast_sets FAST_ROWS ≡ true
+right_fast_rows = refl
+
+pub fast_bytes : IsFastCode fast_lists
+fast_bytes = record { ops = same_fast_ops; texts = same_texts; sets = right_sets fast_lists fast_sets same_fast_sets right_fast_rows }

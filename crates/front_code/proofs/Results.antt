@@ -1,5 +1,5 @@
--- What a run of the exact code comes to.
-use Rattle.std.proofs.Common.{◌≡◌, refl, sym, ◌∙◌, ap, subst, ℕ, ◌+◌, ◌<◌, inl, inr, List, [], get_or, arith, true}
+-- What a run of code of the meta-grammar comes to.
+use Rattle.std.proofs.Common.{◌≡◌, refl, sym, ◌∙◌, ap, subst, ℕ, ◌+◌, ◌<◌, inl, inr, List, [], get_or, arith, Bool}
 use Rattle.std.specs.Prelude.{IsUtf8, max}
 use Rattle.std.proofs.lemmas.List.Elements.{All-nil}
 use Rattle.base_language.specs.Language.Expression.{Ident}
@@ -14,7 +14,7 @@ use Rattle.matcher_code.specs.Lists.{CodeLists}
 use Rattle.matcher_code.specs.declared.code.Op.TheVariants as op
 use Rattle.matcher_code.specs.Failures.{failures_at}
 use Rattle.matcher_code.specs.Laid.{IsEnd, at_label}
-use Rattle.matcher_code.specs.Reached.{IsAt, Reaches, with_failure, with_success}
+use Rattle.matcher_code.specs.Reached.{IsAt, MayAsk, Reaches, with_failure, with_success}
 use Rattle.matcher_code.specs.Results.{start_config}
 use Rattle.matcher_code.specs.Steps.{Config, jump, steps}
 use Rattle.matcher_code.proofs.Existence.{stays_ended}
@@ -26,7 +26,7 @@ use Rattle.matcher_machine.specs.declared.machine.RunEnd.TheVariants as ended
 use Rattle.matcher_machine.specs.Machines.{EndsAtLast, config}
 use Rattle.front_code.specs.Codes.{IsCodeOfMetaGrammar}
 use Rattle.front_code.specs.Numbers.{number_of}
-use Rattle.front_code.specs.Runs.{HasFailed, HasMatched}
+use Rattle.front_code.specs.Runs.{HasFailed, HasMatched, IsFailure, IsMatch}
 use Rattle.front_code.specs.declared.runs.RuleRun.{RuleRun}
 
 -- a machine before its first step
@@ -54,8 +54,8 @@ fresh code text m l place f =
     let g = f.asked in
     rw (a, b, d, c, e, g) refl
 
-module _ (classes : Classes) (code : CodeLists) (is : IsCodeOfMetaGrammar true classes code) (rule : Rule) (text : List ℕ) (u : IsUtf8 text)
-    (bytes : (i : ℕ) → get_or text i 0 < 256) (asked : ℕ) where
+module _ (exact : Bool) (classes : Classes) (code : CodeLists) (is : IsCodeOfMetaGrammar exact classes code) (rule : Rule) (text : List ℕ) (u : IsUtf8 text)
+    (bytes : (i : ℕ) → get_or text i 0 < 256) (asked : ℕ) (asks : MayAsk exact text asked) where
   abbrev task : Task
   task = Run NonAtomicMode (Ident (name_of rule))
 
@@ -80,13 +80,13 @@ module _ (classes : Classes) (code : CodeLists) (is : IsCodeOfMetaGrammar true c
   matched : (m : ℕ) {t : State} {us : Trees} (d : Does meta_grammar classes task (start_of text) (Success t us)) → IsEnd code (steps code text m start).pc
       → steps code text m start ≡ jump 1 (with_success number_of t us (failures_at asked d) start)
   matched m d h =
-      let x = comes code text number_of is.fail true meta_grammar classes is.points is.laid d (is.laid task label 1 2 (is.entries rule)) start at_start tt (guard_forward 2 0 start (omega arith)) in
+      let x = comes code text number_of is.fail exact meta_grammar classes is.points is.laid d (is.laid task label 1 2 (is.entries rule)) start at_start asks (guard_forward 2 0 start (omega arith)) in
       same_end m x.reaches (inl is.halt) h
 
   failed : (m : ℕ) (d : Does meta_grammar classes task (start_of text) Failure) → IsEnd code (steps code text m start).pc
       → steps code text m start ≡ jump 2 (with_failure number_of (failures_at asked d) start)
   failed m d h =
-      let x = comes code text number_of is.fail true meta_grammar classes is.points is.laid d (is.laid task label 1 2 (is.entries rule)) start at_start tt (guard_forward 2 0 start (omega arith)) in
+      let x = comes code text number_of is.fail exact meta_grammar classes is.points is.laid d (is.laid task label 1 2 (is.entries rule)) start at_start asks (guard_forward 2 0 start (omega arith)) in
       same_end m (reaching code text x.reaches (fail_forward 2 (with_failure number_of (failures_at asked d) start) (omega arith))) (inr is.lose) h
 
   module _ (old new : Machine) (begins : IsFresh old asked) (most : ℕ) (run : RuleRun) (taken : IsTaken new run) where
@@ -139,3 +139,10 @@ module _ (classes : Classes) (code : CodeLists) (is : IsCodeOfMetaGrammar true c
         go (Success t us) d =
             let e : at_label code (steps code text x.taken start).pc ≡ at_label code 1 = ap (λ c. at_label code c.pc) (matched x.taken d (inr h)) in
             let z : op.Halt ≡ op.Lose = sym is.halt ∙ (sym e ∙ h) in cc
+
+-- without the names
+pub is_match : {rule : Rule} {text : List ℕ} {place : ℕ} {run : RuleRun} {end : ℕ} {classes : Classes} → HasMatched rule text place run end classes → IsMatch rule text run end classes
+is_match x = record { state = x.state; trees = x.trees; found = x.found; ends = x.ends; nodes = x.nodes }
+
+pub is_failure : {rule : Rule} {text : List ℕ} {place : ℕ} {run : RuleRun} {classes : Classes} → HasFailed rule text place run classes → IsFailure rule text run classes
+is_failure x = record { found = x.found; furthest = x.furthest }

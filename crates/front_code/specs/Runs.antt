@@ -33,3 +33,22 @@ HasEnded rule text place run None = (classes : Classes) → HasFailed rule text 
 
 abbrev pub IsRunOf : Rule → List ℕ → ℕ → RuleRun → Type 0
 IsRunOf rule text place run = HasEnded rule text place run run.end
+
+-- a run that is asked for no names
+pub record IsMatch (rule : Rule) (text : List ℕ) (run : RuleRun) (end : ℕ) (classes : Classes) : Type 0 where
+  pub state : State
+  pub trees : Trees
+  pub found : Recognizes rule text classes (Success state trees)
+  pub ends : end ≡ state.position
+  pub nodes : run.trees.items ≡ nodes_of number_of 0 trees
+
+pub record IsFailure (rule : Rule) (text : List ℕ) (run : RuleRun) (classes : Classes) : Type 0 where
+  pub found : Recognizes rule text classes Failure
+  pub furthest : run.furthest ≡ furthest found
+
+abbrev pub Parses : Rule → List ℕ → RuleRun → Option ℕ → Type 0
+Parses rule text run (Some end) = (classes : Classes) → IsMatch rule text run end classes
+Parses rule text run None = (classes : Classes) → IsFailure rule text run classes
+
+abbrev pub IsParseOf : Rule → List ℕ → RuleRun → Type 0
+IsParseOf rule text run = Parses rule text run run.end

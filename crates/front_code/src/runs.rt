@@ -1,11 +1,11 @@
-//! Runs of the exact code.
+//! Runs of the constant programs.
 ghost use Rattle.std.specs.Prelude.{◌≡◌, IfOk};
 ghost use Rattle.base_language.specs.Language.State.{Classes};
 ghost use Rattle.base_language.specs.Pieces.MetaRules.{name_of};
 ghost use Rattle.front_code.specs.Numbers.{number_of};
-ghost use Rattle.front_code.specs.Runs.{IsRunOf};
+ghost use Rattle.front_code.specs.Runs.{IsParseOf, IsRunOf};
 
-use crate::bytes::exact_code;
+use crate::bytes::{exact_code, fast_code};
 use crate::numbers::rule_number;
 use base_language::grammar::Rule;
 use front_syntax::laws::each_rule_has_one_outcome;
@@ -38,6 +38,27 @@ pub fn run_rule(alloc: Global, rule: Rule, text: &str, place: usize) -> Result<R
     let fused = fuse(alloc, &code)?;
     let mut machine = Machine::new(alloc);
     machine.asked = place;
+    let entry = rule_number(rule) + 3;
+    let end = machine.run_with_memory(alloc, &code, fused.as_slice(), text, entry, 0, u64::MAX)?;
+    match end {
+        RunEnd::Found(end) => Ok(result_of(machine, Some(end))),
+        RunEnd::Failed => Ok(result_of(machine, None)),
+        RunEnd::Stuck | RunEnd::OutOfSteps => Err(AllocError),
+    }
+}
+
+/// Matches a rule as `run_rule` does, but by the fast code, which finds no names. The only error is an
+/// allocation failure, as which a text of 2^32 bytes and a run of 2^64 steps count.
+pub fn parse_rule(alloc: Global, rule: Rule, text: &str) -> Result<RuleRun, AllocError>
+    ensures { IfOk result (IsParseOf rule text.now) }
+{
+    if text.len() > u32::MAX as usize {
+        return Err(AllocError);
+    }
+    each_rule_has_one_outcome();
+    let code = fast_code();
+    let fused = fuse(alloc, &code)?;
+    let mut machine = Machine::new(alloc);
     let entry = rule_number(rule) + 3;
     let end = machine.run_with_memory(alloc, &code, fused.as_slice(), text, entry, 0, u64::MAX)?;
     match end {

@@ -1,4 +1,4 @@
-use Rattle.std.proofs.Common.{◌+◌, ap, refl, sym, subst, arith}
+use Rattle.std.proofs.Common.{◌+◌, ap, refl, sym, subst, arith, true}
 use Rattle.base_language.specs.Language.State.{NonAtomicMode}
 use Rattle.front_syntax.specs.Parses.{start_of}
 use Rattle.matcher_code.specs.Bytecodes.{lists_in}
@@ -21,7 +21,7 @@ returns-in-Found c =
     subst (λ e. HasEnded c.args.rule c.args.text.now c.args.place run e) (sym c.result_of.ensures.end)
     (λ classes.
     let d = c.each_rule_has_one_outcome.ensures.has_one classes c.args.rule NonAtomicMode (start_of c.args.text.now) in
-    has_matched classes code (exact_code classes code c.exact_code-code.ensures) c.args.rule c.args.text.now c.utf8.text (λ i. omega (arith, c.type_inv.text i)) c.args.place
+    has_matched true classes code (exact_code classes code c.exact_code-code.ensures) c.args.rule c.args.text.now c.utf8.text (λ i. omega (arith, c.type_inv.text i)) c.args.place tt
     old new begins _ run taken c.in-Found.end _ c.in_ok-end.end (ap (λ n. n + 3) c.rule_number-entry.ensures.number) c.in-Found.is (c.in_ok-end.ensures fusion) d.0 d.1)
 
 pub returns-in-Failed : goal.returns-in-Failed
@@ -37,5 +37,5 @@ returns-in-Failed c =
     subst (λ e. HasEnded c.args.rule c.args.text.now c.args.place run e) (sym c.result_of-in-Failed.ensures.end)
     (λ classes.
     let d = c.each_rule_has_one_outcome.ensures.has_one classes c.args.rule NonAtomicMode (start_of c.args.text.now) in
-    has_failed classes code (exact_code classes code c.exact_code-code.ensures) c.args.rule c.args.text.now c.utf8.text (λ i. omega (arith, c.type_inv.text i)) c.args.place
+    has_failed true classes code (exact_code classes code c.exact_code-code.ensures) c.args.rule c.args.text.now c.utf8.text (λ i. omega (arith, c.type_inv.text i)) c.args.place tt
     old new begins _ run taken _ c.in_ok-end.end (ap (λ n. n + 3) c.rule_number-entry.ensures.number) c.in-Failed.is (c.in_ok-end.ensures fusion) d.0 d.1)
