@@ -10,10 +10,9 @@ use Rattle.matcher_code.specs.Sets.{IsSetOf, flag_of}
 use Rattle.matcher_code.specs.Words.{pair_in, parts_in, word}
 use Rattle.matcher_code.proofs.SetLemmas.{means_ranges}
 use Rattle.front_code.specs.Codes.{IsExactCode, IsFastCode, exact_sets, fast_sets, texts}
-use Rattle.front_code.specs.declared.bytes.TheConstants.{EXACT_BYTES, EXACT_ORDERS, EXACT_RANGES, EXACT_ROWS, EXACT_SET_PLACES, FAST_BYTES, FAST_ORDERS, FAST_RANGES, FAST_ROWS, FAST_SET_PLACES, TEXTS, TEXT_PLACES}
-use Rattle.front_code.specs.declared.operations.TheConstants.{EXACT_OPS, FAST_OPS}
+use Rattle.front_code.specs.declared.constants.TheConstants.{EXACT_BYTES, EXACT_OPS, EXACT_ORDERS, EXACT_RANGES, EXACT_ROWS, EXACT_SET_PLACES, FAST_BYTES, FAST_OPS, FAST_ORDERS, FAST_RANGES, FAST_ROWS, FAST_SET_PLACES, TEXT_BYTES, TEXT_PLACES}
 
-same_texts : parts_in (map word TEXT_PLACES) TEXTS ≡ texts
+same_texts : parts_in (map word TEXT_PLACES) TEXT_BYTES ≡ texts
 same_texts = refl
 
 -- whether so many flags from a byte on are those of ranges; whether rows have the flags of lists of ranges
@@ -66,7 +65,7 @@ exact_lists = record {
   rows = EXACT_ROWS;
   sets = sets_in EXACT_ORDERS (parts_in (map word EXACT_SET_PLACES) (map pair_in EXACT_RANGES));
   tables = [];
-  texts = parts_in (map word TEXT_PLACES) TEXTS;
+  texts = parts_in (map word TEXT_PLACES) TEXT_BYTES;
   lists = [];
 }
 
@@ -89,7 +88,7 @@ fast_lists = record {
   rows = FAST_ROWS;
   sets = sets_in FAST_ORDERS (parts_in (map word FAST_SET_PLACES) (map pair_in FAST_RANGES));
   tables = [];
-  texts = parts_in (map word TEXT_PLACES) TEXTS;
+  texts = parts_in (map word TEXT_PLACES) TEXT_BYTES;
   lists = [];
 }
 

@@ -13,7 +13,7 @@ use Rattle.matcher_code.specs.Laid.{IsPoint, Point}
 use Rattle.front_code.specs.Codes.{IsCodeOfMetaGrammar, IsFastCode, fast_sets, texts}
 use Rattle.front_code.specs.Layouts.{AreLaidAll, also, done, rep_once, seq}
 use Rattle.front_code.specs.Numbers.{number_of}
-use Rattle.front_code.specs.declared.operations.TheConstants.{FAST_OPS}
+use Rattle.front_code.specs.declared.constants.TheConstants.{FAST_OPS}
 use Rattle.front_code.proofs.Characters.{one_any, one_called, one_of_two, one_other, one_range, one_text}
 use Rattle.front_code.proofs.Flattening.{whole_code}
 use Rattle.front_code.proofs.Outside.{outside_call, outside_choice, outside_not, outside_seq, outside_set, outside_silent, outside_some, outside_sub, outside_text, takes_other, takes_second}

@@ -12,7 +12,7 @@ use Rattle.matcher_code.specs.declared.code.Op.TheVariants as op
 use Rattle.matcher_code.specs.Laid.{AreLaid, IsPoint, Point, at_label}
 use Rattle.matcher_code.specs.Sets.{IsSetOf}
 use Rattle.front_code.specs.Numbers.{number_of}
-use Rattle.front_code.specs.declared.operations.TheConstants.{EXACT_OPS, EXACT_SETS, FAST_OPS, FAST_SETS, TEXTS}
+use Rattle.front_code.specs.declared.constants.TheConstants.{EXACT_OPS, EXACT_SETS, FAST_OPS, FAST_SETS, TEXTS}
 
 -- a program has these operations and texts, and sets of these ranges
 pub record HasParts (os : List Op) (ts : List (List ℕ)) (rs : List (List (ℕ × ℕ))) (code : CodeLists)
@@ -37,12 +37,13 @@ IsExactCode code = HasParts EXACT_OPS texts exact_sets code
 abbrev pub IsFastCode : CodeLists → Type 0
 IsFastCode code = HasParts FAST_OPS texts fast_sets code
 
--- a program has the code of all rules of the meta-grammar, and a call of each from outside begins at the label
--- after three more than its number; exact code records each name that is expected
+-- a program has the code of all rules of the meta-grammar, and a call of each from outside begins at the
+-- label after three more than its number; exact code records each name that is expected
 pub record IsCodeOfMetaGrammar (exact : Bool) (classes : Classes) (code : CodeLists) : Type 0 where
   pub fail : at_label code 0 ≡ op.Fail
   pub halt : at_label code 1 ≡ op.Halt
   pub lose : at_label code 2 ≡ op.Lose
   pub points : List Point
   pub laid : AreLaid exact meta_grammar classes code number_of points
-  pub entries : (r : Rule) → IsPoint points (Run NonAtomicMode (Ident (name_of r))) (number_of (name_of r) + 3) 1 2
+  pub entries : (r : Rule)
+      → IsPoint points (Run NonAtomicMode (Ident (name_of r))) (number_of (name_of r) + 3) 1 2

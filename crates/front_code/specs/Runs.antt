@@ -1,4 +1,4 @@
--- What a rule does on a text, by a run of its code.
+-- Results of rules on texts, by runs of their code.
 use Rattle.std.specs.Prelude.{◌≡◌, ℕ, List, [], Option, None, Some, map}
 use Rattle.base_language.specs.Language.Expected.{expected_at}
 use Rattle.base_language.specs.Language.FurthestFailure.{furthest}
@@ -21,7 +21,8 @@ pub record HasMatched (rule : Rule) (text : List ℕ) (place : ℕ) (run : RuleR
   pub names : run.names.items ≡ with_rows [] (map number_of (expected_at place found))
 
 -- the rule fails there, with the furthest failure and the names of the run
-pub record HasFailed (rule : Rule) (text : List ℕ) (place : ℕ) (run : RuleRun) (classes : Classes) : Type 0 where
+pub record HasFailed (rule : Rule) (text : List ℕ) (place : ℕ) (run : RuleRun) (classes : Classes)
+    : Type 0 where
   pub found : Recognizes rule text classes Failure
   pub furthest : run.furthest ≡ furthest found
   pub names : run.names.items ≡ with_rows [] (map number_of (expected_at place found))

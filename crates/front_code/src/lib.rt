@@ -2,7 +2,7 @@
 #![tactic(auto)]
 
 pub mod bytes;
+pub mod constants;
 pub mod laws;
 pub mod numbers;
-pub mod operations;
 pub mod runs;

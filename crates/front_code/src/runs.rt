@@ -14,7 +14,7 @@ use matcher_code::state::TreeNode;
 use matcher_machine::machine::{Machine, RunEnd};
 use std::alloc::{AllocError, Global};
 
-/// What a rule of the meta-grammar does on a text.
+/// The result of a rule of the meta-grammar on a text.
 #[derive(Drop)]
 pub struct RuleRun {
     /// The end of the match in bytes, or `None` where the rule fails.
