@@ -43,3 +43,6 @@ pub use token::Token;
 pub trait RuleType: Copy + Debug + Eq + Hash + Ord {}
 
 impl<T: Copy + Debug + Eq + Hash + Ord> RuleType for T {}
+
+/// Does nothing: in pest it turns on what `Error::parse_attempts` returns, which is not here.
+pub fn set_error_detail(_enabled: bool) {}
