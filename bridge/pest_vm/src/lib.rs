@@ -36,6 +36,8 @@
 // The signatures are those of the original.
 #![allow(clippy::result_large_err)]
 
+mod macros;
+
 use std::panic::{RefUnwindSafe, UnwindSafe};
 
 use pest_meta::matching;
@@ -43,6 +45,10 @@ use pest_meta::optimizer::OptimizedRule;
 use runtime::error::{Error, ErrorVariant};
 use runtime::iterators::Pairs;
 use runtime::{machine, Position};
+
+// For the macros.
+#[doc(hidden)]
+pub use runtime;
 
 /// A function that is called with the name of a rule and a position, and answers whether to stop.
 type Listener = Box<dyn Fn(String, &Position<'_>) -> bool + Sync + Send + RefUnwindSafe + UnwindSafe>;
