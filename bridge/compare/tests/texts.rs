@@ -86,7 +86,7 @@ fn parsers_answer_the_same() {
         let Agreement { matched, failed, others } = &agreement;
         println!("{}: {matched} match; of {failed} failures {} differ", original.name, others.len());
         others.iter().take(3).for_each(|example| println!("  {example}"));
-        assert!(others.len() * 100 <= *failed, "{others:#?}");
+        assert!(others.is_empty(), "{others:#?}");
         assert!(*matched > TEXTS / 20 && *failed > TEXTS / 20, "{agreement:?}");
         assert!(original.samples.iter().all(|sample| matches!((here.parse)(sample), here::Answer::Pairs(_))));
     }

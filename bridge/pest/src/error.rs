@@ -17,7 +17,7 @@ pub struct Error<R> {
     path: Option<String>,
     line: String,
     /// The last line, if a span has several.
-    last_line: Option<String>,
+    continued_line: Option<String>,
 }
 
 /// What is wrong.
@@ -80,7 +80,7 @@ impl<R: RuleType> Error<R> {
             line_col: LineColLocation::from(pos),
             path: None,
             line,
-            last_line: None,
+            continued_line: None,
         }
     }
 
@@ -91,7 +91,7 @@ impl<R: RuleType> Error<R> {
         let mut lines = span.lines();
         let first = lines.next().unwrap_or_default();
         let last = lines.last();
-        let (line, last_line) = match has_break_at_bound {
+        let (line, continued_line) = match has_break_at_bound {
             true => (with_visible_breaks(first), last.map(str::to_owned)),
             false => (without_breaks(first), last.map(with_visible_breaks)),
         };
@@ -101,7 +101,7 @@ impl<R: RuleType> Error<R> {
             line_col: LineColLocation::Span(span.start_pos().line_col(), shown_end(span.end_pos())),
             path: None,
             line,
-            last_line,
+            continued_line,
         }
     }
 
@@ -231,11 +231,11 @@ impl<R: RuleType> fmt::Display for Error<R> {
         let path = self.path.as_ref().map(|path| format!("{path}:")).unwrap_or_default();
         writeln!(f, "{margin}--> {path}{start}:{column}\n{margin} |")?;
         writeln!(f, "{start:width$} | {}", self.line)?;
-        if let Some(last_line) = &self.last_line {
+        if let Some(continued_line) = &self.continued_line {
             if end.saturating_sub(start) > 1 {
                 writeln!(f, "{margin} | ...")?;
             }
-            writeln!(f, "{end:width$} | {last_line}")?;
+            writeln!(f, "{end:width$} | {continued_line}")?;
         }
         write!(f, "{margin} | {}\n{margin} |\n{margin} = {}", self.marks(), self.variant.message())
     }
