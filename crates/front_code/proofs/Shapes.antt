@@ -29,7 +29,7 @@ use Rattle.matcher_code.proofs.Characters.{choice_of_sets, silent_call_of_set, s
 use Rattle.matcher_code.proofs.Ends.{end_performs, start_performs}
 use Rattle.matcher_code.proofs.Leaves.{text_performs}
 use Rattle.front_code.specs.Codes.{HasParts}
-use Rattle.front_code.specs.Layouts.{LaysAll, call, choice, in_place, leaf, neg_pred, nothing, opt, rep, routine, sub, tight_rep, tried_seq}
+use Rattle.front_code.specs.Layouts.{LaysAll, call, choice, in_place, leaf, neg_pred, nothing, opt, rep, routine, skips, sub, tight_rep, tried_seq}
 use Rattle.front_code.specs.Numbers.{number_of}
 use Rattle.front_code.proofs.Characters.{TakesCharacter}
 use Rattle.front_code.proofs.Counted.{counted, counted_performs, two_to_six}
@@ -195,6 +195,9 @@ module _ (s : Setting) where
   behind_all {l = l} {ranges = ranges} i x o h e = inr (record { set = i; ranges = ranges; taken = has_op l o; is = has_set i h e; takes = x })
 
   -- the implicit skipping, and where there is none
+  pub gap_in_place : {l n w : ℕ} → Laid (Run Between skipped) l n w → Laid (Skipping NonAtomicMode) l n w
+  gap_in_place a = skips a
+
   pub gap : {l n w : ℕ} (first last : ℕ) → IsPoint s.called (Run Between skipped) first last 0 → op_of l ≡ op.Sub first n w → op_of last ≡ op.Back
       → Laid (Skipping NonAtomicMode) l n w
   gap {l} first last p a z = routine first last (has_op l a) p (has_op last z)
