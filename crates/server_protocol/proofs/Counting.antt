@@ -1,5 +1,5 @@
 -- Positions are counted upwards.
-use Rattle.std.proofs.Common.{◌≡◌, ◌≢◌, ◌<◌, ◌≤◌, ◌+◌, ◌*◌, ◌-◌, ◌⊎◌, ℕ, zero, suc, List, Bool, true, false, cond, refl, ap, subst, inl, inr, ⊎_elim, length, get_or, arith, add-one, add-zero, add-suc, rules}
+use Rattle.std.proofs.Common.{◌≡◌, ◌<◌, ◌≤◌, ◌+◌, ◌*◌, ◌-◌, ◌⊎◌, ℕ, zero, suc, List, true, false, cond, refl, ap, subst, inl, inr, ⊎_elim, length, get_or, arith, add-one, add-zero, add-suc}
 use Rattle.std.specs.Str.{IsCharBoundary}
 use Rattle.std.proofs.lemmas.Bool.{cases_lt}
 use Rattle.std.proofs.lemmas.List.{get_or_past}

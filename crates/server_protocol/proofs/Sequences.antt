@@ -1,5 +1,5 @@
 -- One change more is applied.
-use Rattle.std.proofs.Common.{◌<◌, ◌+◌, ℕ, suc, List, [], None, subst, sym, drop, drop-cons, add-one, get_or, length}
+use Rattle.std.proofs.Common.{◌<◌, ◌+◌, ℕ, List, [], None, subst, sym, drop, drop-cons, add-one, get_or, length}
 use Rattle.server_protocol.specs.TextChanges.{AreChanged, IsChanged}
 use Rattle.server_protocol.specs.declared.changes.Change.{Change}
 use Rattle.server_protocol.specs.declared.positions.Encoding.{Encoding}

@@ -1,9 +1,7 @@
 -- The changes in parameters.
 use Rattle.std.specs.Prelude.{◌≡◌, ◌⊎◌, ◌++◌, ◌∷◌, ℤ, List, Option, Some, None, option_and_then, option_map, codes}
 use Rattle.std.specs.List.{AllZip}
-use Rattle.server_protocol.specs.TextChanges.{AreChanged}
 use Rattle.server_protocol.specs.declared.changes.Change.{Change}
-use Rattle.server_protocol.specs.declared.positions.Encoding.{Encoding}
 use Rattle.server_protocol.specs.declared.positions.Position.{Position}
 use Rattle.server_protocol.specs.declared.positions.Range.{Range}
 use Rattle.server_protocol.specs.Asked.{position_in, text_in}

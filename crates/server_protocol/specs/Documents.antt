@@ -1,5 +1,5 @@
 -- The open documents.
-use Rattle.std.specs.Prelude.{◌≡◌, ℕ, List, Bool, false, Option, Some, None, String, bytes_eq}
+use Rattle.std.specs.Prelude.{◌≡◌, ℕ, List, false, Option, Some, None, String, bytes_eq}
 use Rattle.std.specs.declared.alloc.Global.{Global}
 use Rattle.std.specs.BTreeMap.{get_by_text}
 use Rattle.server_protocol.specs.declared.documents.Document.{Document}

@@ -2,11 +2,12 @@
 use Rattle.std.specs.Prelude.{◌≡◌, ℕ, List, All}
 use Rattle.server_protocol.specs.Positions.{position_at}
 use Rattle.server_protocol.specs.declared.index.Mark.{Mark}
-use Rattle.server_protocol.specs.declared.positions.Encoding.{Encoding}
+use Rattle.server_protocol.specs.declared.positions.Encoding.TheVariants.{Utf8, Utf16}
 
--- an offset with its position
-abbrev pub IsMark : Encoding → List ℕ → Mark → Type 0
-IsMark encoding text mark = mark.position ≡ position_at encoding text mark.offset
+-- an offset with its position in each encoding
+abbrev pub IsMark : List ℕ → Mark → Type 0
+IsMark text mark = (mark.utf8 ≡ position_at Utf8 text mark.offset)
+    × (mark.utf16 ≡ position_at Utf16 text mark.offset)
 
-abbrev pub AreMarks : Encoding → List ℕ → List Mark → Type 0
-AreMarks encoding text marks = All (IsMark encoding text) marks
+abbrev pub AreMarks : List ℕ → List Mark → Type 0
+AreMarks text marks = All (IsMark text) marks

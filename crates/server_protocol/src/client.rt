@@ -1,7 +1,4 @@
 //! Capabilities of clients.
-ghost use Rattle.std.specs.Prelude.{◌≡◌};
-ghost use Rattle.server_protocol.specs.Clients as spec;
-ghost use Rattle.serde_json.specs.View.{view};
 
 use crate::Encoding;
 use crate::params::{is_true_at, lists_at};
@@ -21,9 +18,7 @@ pub struct Client {
 
 impl Default for Client {
     /// A client that said nothing.
-    fn default() -> Client
-        ensures { result ≡ spec.silent_client }
-    {
+    fn default() -> Client {
         Client {
             encoding: Encoding::Utf16,
             has_snippets: false,
@@ -35,9 +30,7 @@ impl Default for Client {
 }
 
 /// Returns what a client can show, by the parameters of `initialize`.
-pub fn client_of(params: &Value) -> Client
-    ensures { result ≡ spec.client_of (view params.now) }
-{
+pub fn client_of(params: &Value) -> Client {
     Client {
         encoding: encoding_of(params),
         has_snippets: is_true_at(
@@ -61,9 +54,7 @@ pub fn client_of(params: &Value) -> Client
 }
 
 /// Returns the encoding of positions: UTF-8 where the client offers it.
-fn encoding_of(params: &Value) -> Encoding
-    ensures { result ≡ spec.encoding_of (view params.now) }
-{
+fn encoding_of(params: &Value) -> Encoding {
     if lists_at(params, "/capabilities/general/positionEncodings", "utf-8") {
         Encoding::Utf8
     } else {

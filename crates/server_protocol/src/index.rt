@@ -7,19 +7,21 @@ use crate::positions::{Encoding, Position, START, advance};
 use std::alloc::{AllocError, Global};
 
 /// The number of bytes between two marks.
-const STRIDE: usize = 128;
+const STRIDE: usize = 256;
 
-/// An offset of a text, and its position.
+/// An offset of a text, and its position in each encoding.
 #[derive(Clone, Copy)]
-pub(crate) struct Mark {
+pub struct Mark {
     pub offset: usize,
-    pub position: Position,
+    pub utf8: Position,
+    pub utf16: Position,
 }
 
 /// The mark at the start of every text.
 const FIRST: Mark = Mark {
     offset: 0,
-    position: START,
+    utf8: START,
+    utf16: START,
 };
 
 /// A text with the positions of some of its offsets, one in each `STRIDE` bytes.
@@ -27,28 +29,24 @@ const FIRST: Mark = Mark {
 pub struct PositionIndex<'t> {
     text: &'t str,
     encoding: Encoding,
-    marks: Vec<Mark>,
-    pub ghost marked: { AreMarks encoding text.now marks.items },
+    marks: &'t [Mark],
+    pub ghost marked: { AreMarks text.now marks.now },
 }
 
 impl<'t> PositionIndex<'t> {
     ghost use Rattle.server_protocol.specs.Shown.{index_encoding, index_text};
 
-    /// Returns the index of a text, in time and memory proportional to its length.
-    pub fn new(
-        alloc: Global,
-        text: &'t str,
-        encoding: Encoding,
-    ) -> Result<PositionIndex<'t>, AllocError>
-        ensures text { IfOk result (λ index. index_text index ≡ text.now) }
-        ensures encoding { IfOk result (λ index. index_encoding index ≡ encoding) }
+    /// Returns the index of a text with these marks.
+    pub fn new(text: &'t str, encoding: Encoding, marks: &'t [Mark]) -> PositionIndex<'t>
+        requires { AreMarks text.now marks.now }
+        ensures text { index_text result ≡ text.entry.now }
+        ensures encoding { index_encoding result ≡ encoding }
     {
-        let marks = marks_of(alloc, text, encoding)?;
-        Ok(PositionIndex {
+        PositionIndex {
             text,
             encoding,
             marks,
-        })
+        }
     }
 
     /// Returns the text.
@@ -66,12 +64,24 @@ impl<'t> PositionIndex<'t> {
     {
         let offset = offset.min(self.text.len());
         let mark = self.mark_before(offset);
-        advance(self.text, self.encoding, mark.offset, mark.position, offset)
+        let position = self.position_at(mark);
+        advance(self.text, self.encoding, mark.offset, position, offset)
+    }
+
+    /// Returns the position of a mark.
+    fn position_at(&self, mark: Mark) -> Position
+        requires { IsMark (index_text self.now) mark }
+        ensures { result ≡ position_at (index_encoding self.now) (index_text self.now) mark.offset }
+    {
+        match self.encoding {
+            Encoding::Utf8 => mark.utf8,
+            Encoding::Utf16 => mark.utf16,
+        }
     }
 
     /// Returns a mark at an offset or not far before it.
     fn mark_before(&self, offset: usize) -> Mark
-        ensures mark { IsMark (index_encoding self.now) (index_text self.now) result }
+        ensures mark { IsMark (index_text self.now) result }
         ensures before { result.offset ≤ offset }
     {
         match self.marks.get(offset / STRIDE) {
@@ -81,28 +91,33 @@ impl<'t> PositionIndex<'t> {
     }
 }
 
-/// Returns the marks of a text.
-fn marks_of(alloc: Global, text: &str, encoding: Encoding) -> Result<Vec<Mark>, AllocError>
-    ensures { IfOk result (λ marks. AreMarks encoding text.now marks.items) }
+/// Returns the marks of a text, in linear time.
+pub(crate) fn marks_of(alloc: Global, text: &str) -> Result<Vec<Mark>, AllocError>
+    ensures { IfOk result (λ marks. AreMarks text.now marks.items) }
 {
     let mut marks = Vec::new(alloc);
     let mut mark = FIRST;
     for count in 0..text.len() / STRIDE + 1 {
         let offset = (count * STRIDE).min(text.len());
-        mark = move_mark(text, encoding, mark, offset);
+        mark = move_mark(text, mark, offset);
         marks.push(mark)?;
     }
     Ok(marks)
 }
 
 /// Returns the mark at an offset, from an earlier one.
-fn move_mark(text: &str, encoding: Encoding, mark: Mark, offset: usize) -> Mark
-    requires mark { IsMark encoding text.now mark }
+fn move_mark(text: &str, mark: Mark, offset: usize) -> Mark
+    requires mark { IsMark text.now mark }
     requires ordered { mark.offset ≤ offset }
     requires within { offset ≤ length text.now }
-    ensures mark { IsMark encoding text.now result }
+    ensures mark { IsMark text.now result }
     ensures offset { result.offset ≡ offset }
 {
-    let position = advance(text, encoding, mark.offset, mark.position, offset);
-    Mark { offset, position }
+    let utf8 = advance(text, Encoding::Utf8, mark.offset, mark.utf8, offset);
+    let utf16 = advance(text, Encoding::Utf16, mark.offset, mark.utf16, offset);
+    Mark {
+        offset,
+        utf8,
+        utf16,
+    }
 }

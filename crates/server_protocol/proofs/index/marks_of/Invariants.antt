@@ -4,8 +4,8 @@ use Rattle.server_protocol.proofs.index.marks_of.Given as goal
 
 abbrev pub invariant-loop-count : goal.invariant-loop-count
 invariant-loop-count l = record {
-  mark : IsMark l.encoding l.text l.mark;
-  before : l.mark.offset ≤ l.count * 128;
+  mark : IsMark l.text l.mark;
+  before : l.mark.offset ≤ l.count * 256;
   within : l.mark.offset ≤ length l.text;
-  marks : AreMarks l.encoding l.text l.marks.items;
+  marks : AreMarks l.text l.marks.items;
 }

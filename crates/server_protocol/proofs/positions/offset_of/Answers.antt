@@ -1,7 +1,6 @@
-use Rattle.std.proofs.Common.{◌≡◌, ◌∙◌, ap, refl, rules, sym, subst, length, ◌≤◌, arith, ℕ, ◌+◌, true}
+use Rattle.std.proofs.Common.{◌≡◌, ◌∙◌, ap, refl, sym, subst, length, arith, ◌+◌, true}
 use Rattle.std.proofs.lemmas.Str.{IsCharBoundary-start}
 use Rattle.server_protocol.specs.Positions.{IsAtMost, IsPlace, position_at}
-use Rattle.server_protocol.specs.declared.positions.Position.{Position}
 use Rattle.server_protocol.proofs.Counting.{IsLastBefore, begin_search, end_passed, end_taken, pass_place, take_place}
 use Rattle.server_protocol.proofs.positions.offset_of.Goals as goal
 use Rattle.server_protocol.proofs.positions.offset_of.Goals.{then-is_at_most+then-is_place, else-is_at_most, else-is_at_most-via-then-is_at_most+else-is_place, else-is_at_most-via-else-is_at_most}
