@@ -1,4 +1,2 @@
-mod Matching
+mod Contexts
 mod Starts
-pub mod Pushing
-pub mod Selecting

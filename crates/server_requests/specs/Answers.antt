@@ -1,5 +1,5 @@
 -- Answers to requests by name.
-use Rattle.std.specs.Prelude.{◌≡◌, ◌⊎◌, ℕ, List, Bool, true, false, Some, None, filter, map, codes}
+use Rattle.std.specs.Prelude.{◌≡◌, ◌⊎◌, ℕ, List, Bool, true, false, Some, None, filter, map, codes, ⊤}
 use Rattle.serde_json.specs.Data.{Data, null}
 use Rattle.serde_json.specs.View.{view, items_of}
 use Rattle.server_protocol.specs.Asked.{is_true_in, text_in}
@@ -21,14 +21,14 @@ use Rattle.server_symbols.specs.declared.tokens.Extent.{Extent}
 abbrev pub AreDefinitions : Context → Data → Answer → Type 0
 AreDefinitions context d (answer.Result v) = (HasNoName context d × (view v ≡ null))
     ⊎ ((name : Name) × IsAskedName context d name × (view v ≡ locations_at context
-    (names_of context.text.now name.text.now context.definitions.items)))
+    (names_of context.text.now name.text.now context.definitions.now)))
 AreDefinitions context d (answer.Error code reason) = ⊥
 
 -- where a name occurs, with its definitions or without
 abbrev pub references_to : Context → List ℕ → Bool → List Extent
-references_to context name true = occurrences context.text.now name context.tokens.items
+references_to context name true = occurrences context.text.now name context.tokens.now
 references_to context name false =
-    filter (is_call context.definitions.items) (occurrences context.text.now name context.tokens.items)
+    filter (is_call context.definitions.now) (occurrences context.text.now name context.tokens.now)
 
 -- where the name at the position in parameters occurs, with its definitions if they ask for these, or null
 -- where there is none
@@ -60,3 +60,13 @@ IsRename context d (answer.Result v) = IsRenameTo context d (view v)
 IsRename context d (answer.Error code reason) =
     ((text_in (codes "/newName") d ≡ None) × (code ≡ InvalidParams))
     ⊎ ((HasNoName context d ⊎ IsRefused context d reason.now) × (code ≡ RequestFailed))
+
+-- an answer is a result, and no error
+abbrev pub IsResult : Answer → Type 0
+IsResult (answer.Result v) = ⊤
+IsResult (answer.Error code reason) = ⊥
+
+-- an answer is a result, or says that the parameters are wrong
+abbrev pub IsResultUnlessInvalid : Answer → Type 0
+IsResultUnlessInvalid (answer.Result v) = ⊤
+IsResultUnlessInvalid (answer.Error code reason) = code ≡ InvalidParams

@@ -1,14 +1,8 @@
 pub mod Answers
 pub mod Around
-pub mod BuiltinDocs
 pub mod Calls
 pub mod Completions
-pub mod Folding
-pub mod Highlights
 pub mod Locations
 pub mod Names
 pub mod Refusals
-pub mod Selections
-pub mod Semantic
 pub mod Shown
-pub mod Symbols

@@ -24,8 +24,8 @@ pub record IsContextOf (client : Client) (uri text : List ℕ) (context : Contex
   pub same_uri : context.uri.now ≡ uri
   pub same_text : context.text.now ≡ text
   pub same_client : context.client ≡ client
-  pub lexed : AreTokens context.text.now context.tokens.items
-  pub defined : map name_of context.definitions.items ≡ defined_names context.tokens.items
+  pub lexed : ∥ AreTokens context.text.now context.tokens.now ∥₁
+  pub defined : map name_of context.definitions.now ≡ defined_names context.tokens.now
 
 -- the context of the open document that parameters name
 pub record IsContextIn (client : Client) (documents : Documents) (params : Data) (context : Context)
@@ -64,13 +64,13 @@ IsNameIn text name = name.text.now ≡ part text name.extent
 
 -- the first name that a byte is in, or at the end of
 pub record IsNameAround (context : Context) (offset : ℕ) (name : Name) : Type 0 where
-  pub around : name_around offset context.tokens.items ≡ Some name.extent
+  pub around : name_around offset context.tokens.now ≡ Some name.extent
   pub text : IsNameIn context.text.now name
 
 -- a byte is in no name
 abbrev pub LacksName : Context → ℕ → Type 0
-LacksName context offset = (name_around offset context.tokens.items ≡ None)
-    ⊎ ((extent : Extent) × (name_around offset context.tokens.items ≡ Some extent)
+LacksName context offset = (name_around offset context.tokens.now ≡ None)
+    ⊎ ((extent : Extent) × (name_around offset context.tokens.now ≡ Some extent)
     × IsNoPart context.text.now extent)
 
 -- the name at the position in parameters

@@ -39,7 +39,7 @@ pub record IsRefused (context : Context) (d : Data) (reason : List ℕ) : Type 0
 
 -- the definitions of a name
 abbrev pub defined_as : Context → Name → List Extent
-defined_as context name = names_of context.text.now name.text.now context.definitions.items
+defined_as context name = names_of context.text.now name.text.now context.definitions.now
 
 -- a name that can be renamed
 abbrev pub prepared_data : Context → Name → Data

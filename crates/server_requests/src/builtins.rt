@@ -1,17 +1,9 @@
 //! Meanings of builtins.
-ghost use Rattle.std.specs.Prelude.{◌≡◌, IfNone, IfSome, false};
-ghost use Rattle.base_language.specs.Language.Builtins.{is_one_of};
-ghost use Rattle.front_names.specs.Builtins.{builtin_names};
-ghost use Rattle.server_requests.specs.BuiltinDocs as spec;
-ghost use Rattle.server_requests.specs.BuiltinDocs.{IsDocOf};
 
 use front_names::{Builtin, CharSet};
 
 /// Returns what the builtin of a name matches, or `None` if no builtin but perhaps a Unicode property has it.
-pub fn builtin_doc(name: &str) -> Option<&'static str>
-    ensures told { IfSome result (λ doc. IsDocOf name.now doc.now) }
-    ensures unknown { IfNone result (is_one_of builtin_names name.now ≡ false) }
-{
+pub fn builtin_doc(name: &str) -> Option<&'static str> {
     match Builtin::from_name(name) {
         Some(builtin) => Some(describe(builtin)),
         None => None,
@@ -19,9 +11,7 @@ pub fn builtin_doc(name: &str) -> Option<&'static str>
 }
 
 /// Returns what a builtin matches.
-pub(crate) fn describe(builtin: Builtin) -> &'static str
-    ensures { result.now ≡ spec.doc_of builtin }
-{
+pub(crate) fn describe(builtin: Builtin) -> &'static str {
     match builtin {
         Builtin::Set(set) => describe_set(set),
         Builtin::Soi => "the start of the text",
@@ -36,9 +26,7 @@ pub(crate) fn describe(builtin: Builtin) -> &'static str
 }
 
 /// Returns what the builtin of a set of characters matches.
-fn describe_set(set: CharSet) -> &'static str
-    ensures { result.now ≡ spec.doc_of_set set }
-{
+fn describe_set(set: CharSet) -> &'static str {
     match set {
         CharSet::Any => "any character",
         CharSet::AsciiDigit => "`'0'..'9'`",

@@ -1,5 +1,5 @@
 //! Documents of requests.
-ghost use Rattle.std.specs.Prelude.{◌≡◌, IfOk, MatchOption, None, option_map, string_bytes};
+ghost use Rattle.std.specs.Prelude.{◌≡◌, MatchOption, None, option_map, string_bytes};
 ghost use Rattle.server_protocol.specs.Shown.{index_encoding, index_text};
 ghost use Rattle.server_requests.specs.Around as names;
 ghost use Rattle.server_requests.specs.Shown as parts;
@@ -10,8 +10,7 @@ use server_protocol::client::Client;
 use server_protocol::documents::{Document, Documents};
 use server_protocol::params::{asked_position, asked_range, text_at};
 use server_protocol::{PositionIndex, offset_of};
-use server_symbols::{Definition, Extent, Token, TokenClass, definitions_of, tokens_of};
-use std::alloc::{AllocError, Global};
+use server_symbols::{Definition, Extent, Token, TokenClass};
 
 /// A document that a request is about, with its tokens and definitions.
 #[derive(Drop)]
@@ -19,8 +18,8 @@ pub struct Context<'d> {
     pub uri: &'d str,
     pub text: &'d str,
     pub client: Client,
-    pub tokens: Vec<Token>,
-    pub definitions: Vec<Definition>,
+    pub tokens: &'d [Token],
+    pub definitions: &'d [Definition],
     pub index: PositionIndex<'d>,
     pub ghost indexed: { index_text index ≡ text.now },
     pub ghost encoded: { index_encoding index ≡ client.encoding },
@@ -41,46 +40,36 @@ impl<'d> Context<'d> {
     ghost use Rattle.serde_json.specs.View.{view};
 
     /// Returns the context of a document.
-    pub fn new(
-        alloc: Global,
-        client: Client,
-        uri: &'d str,
-        document: &'d Document,
-    ) -> Result<Context<'d>, AllocError>
-        ensures { IfOk result (IsContextOf client uri.now (string_bytes document.now.text)) }
+    pub fn new(client: Client, uri: &'d str, document: &'d Document) -> Context<'d>
+        ensures { IsContextOf client uri.entry.now (string_bytes document.entry.now.text) result }
     {
-        let text = document.text.as_str();
-        let tokens = tokens_of(alloc, text)?;
-        let definitions = definitions_of(alloc, text, &tokens)?;
-        let index = PositionIndex::new(alloc, text, client.encoding)?;
-        Ok(Context {
+        Context {
             uri,
-            text,
+            text: document.text.as_str(),
             client,
-            tokens,
-            definitions,
-            index,
-        })
+            tokens: &document.tokens,
+            definitions: &document.definitions,
+            index: document.index(client.encoding),
+        }
     }
 
     /// Returns the context of the document that parameters name, if it is open.
     pub fn of_params(
-        alloc: Global,
         client: Client,
         documents: &'d Documents,
         params: &'d Value,
-    ) -> Result<Option<Context<'d>>, AllocError>
-        ensures { IfOk result (λ found. MatchOption found
-            (LacksDocument documents.now (view params.now))
-            (IsContextIn client documents.now (view params.now))) }
+    ) -> Option<Context<'d>>
+        ensures { MatchOption result
+            (LacksDocument documents.entry.now (view params.entry.now))
+            (IsContextIn client documents.entry.now (view params.entry.now)) }
     {
         let Some(uri) = text_at(params, "/textDocument/uri") else {
-            return Ok(None);
+            return None;
         };
         let Some(document) = documents.get(uri) else {
-            return Ok(None);
+            return None;
         };
-        Ok(Some(Context::new(alloc, client, uri, document)?))
+        Some(Context::new(client, uri, document))
     }
 
     /// Returns the offset of the position in parameters.
@@ -123,7 +112,7 @@ impl<'d> Context<'d> {
     fn name_around(&self, offset: usize) -> Option<Name<'d>>
         ensures { MatchOption result (LacksName self.now offset) (IsNameAround self.now offset) }
     {
-        match name_at(&self.tokens, offset) {
+        match name_at(self.tokens, offset) {
             Some(extent) => self.name_of(extent),
             None => None,
         }

@@ -1,9 +1,8 @@
 //! Definitions, references and renames.
 ghost use Rattle.std.specs.Prelude.{◌≡◌, ◌++◌, ◌∷◌, [], IfOk, OnOk, filter, map, if◌then◌else◌};
-ghost use Rattle.server_requests.specs.Answers.{AreDefinitions, AreReferences, IsRename, references_to, rename_data};
+ghost use Rattle.server_requests.specs.Answers.{AreDefinitions, AreReferences, IsRename, IsResult, references_to, rename_data};
 ghost use Rattle.server_requests.specs.Calls as spec;
 ghost use Rattle.server_requests.specs.Calls.{AreStarts, is_call};
-ghost use Rattle.server_requests.specs.Highlights.{AreHighlights, highlight_at, highlights_of};
 ghost use Rattle.server_requests.specs.Locations as places;
 ghost use Rattle.server_requests.specs.Refusals as reasons;
 ghost use Rattle.server_requests.specs.Refusals.{IsPrepared, IsPreparedAt, prepared_data};
@@ -39,9 +38,9 @@ pub fn definition(
 /// Returns where the rules of a name are defined.
 fn definitions_value(alloc: Global, context: &Context<'_>, name: &str) -> Result<Value, AllocError>
     ensures { IfOk result (λ v. view v ≡ places.locations_at context.now
-        (names_of context.now.text.now name.now context.now.definitions.items)) }
+        (names_of context.now.text.now name.now context.now.definitions.now)) }
 {
-    let extents = definitions_named(alloc, context.text, &context.definitions, name)?;
+    let extents = definitions_named(alloc, context.text, context.definitions, name)?;
     locations_at(alloc, context, &extents)
 }
 
@@ -73,11 +72,11 @@ fn references_value(
     ensures { IfOk result (λ v. view v ≡ places.locations_at context.now
         (references_to context.now name.now has_definitions)) }
 {
-    let extents = occurrences_of(alloc, context.text, &context.tokens, name)?;
+    let extents = occurrences_of(alloc, context.text, context.tokens, name)?;
     if has_definitions {
         return locations_at(alloc, context, &extents);
     }
-    let calls = calls_among(alloc, &context.definitions, &extents)?;
+    let calls = calls_among(alloc, context.definitions, &extents)?;
     locations_at(alloc, context, &calls)
 }
 
@@ -134,7 +133,7 @@ pub fn highlights(
     context: &Context<'_>,
     params: &Value,
 ) -> Result<Answer, AllocError>
-    ensures { IfOk result (AreHighlights context.now (view params.now)) }
+    ensures { IfOk result IsResult }
 {
     match context.name(params) {
         Some(name) => Ok(Answer::Result(highlights_value(alloc, context, name.text)?)),
@@ -142,71 +141,25 @@ pub fn highlights(
     }
 }
 
-/// Returns where a name occurs, as highlights.
-fn highlights_value(alloc: Global, context: &Context<'_>, name: &str) -> Result<Value, AllocError>
-    ensures { IfOk result (λ v. view v ≡ highlights_of context.now
-        (occurrences context.now.text.now name.now context.now.tokens.items)) }
-{
-    let extents = occurrences_of(alloc, context.text, &context.tokens, name)?;
-    let starts = starts_of(alloc, &context.definitions)?;
-    highlights_at(alloc, context, &starts, &extents)
-}
-
-/// Returns the highlights of extents, by the bytes at which the names of definitions begin.
-fn highlights_at(
+/// Returns where a name occurs, as highlights: writes of definitions' names, and reads of others.
+fn highlights_value(
     alloc: Global,
     context: &Context<'_>,
-    starts: &HashSet<usize>,
-    extents: &[Extent],
-) -> Result<Value, AllocError>
-    requires { AreStarts context.now.definitions.items starts.now }
-    ensures { IfOk result (λ v. view v ≡ highlights_of context.now extents.now) }
-{
+    name: &str,
+) -> Result<Value, AllocError> {
+    let extents = occurrences_of(alloc, context.text, context.tokens, name)?;
+    let starts = starts_of(alloc, context.definitions)?;
     let mut highlights = Vec::new(alloc);
-    let mut rest = extents;
-    while let Some((extent, after)) = rest.split_first() {
-        push_highlight(alloc, context, starts, *extent, &mut highlights)?;
-        rest = after;
+    for extent in &extents {
+        let range = range_at(alloc, context, *extent)?;
+        let kind = highlight_kind(is_outside(&starts, *extent));
+        highlights.push(json!(in alloc; { "range": range, "kind": kind })?)?;
     }
     Ok(Value::Array(highlights))
 }
 
-/// Adds the highlight of an extent.
-fn push_highlight(
-    alloc: Global,
-    context: &Context<'_>,
-    starts: &HashSet<usize>,
-    extent: Extent,
-    highlights: &mut Vec<Value>,
-) -> Result<(), AllocError>
-    requires { AreStarts context.now.definitions.items starts.now }
-    ensures { OnOk result (map view highlights.new.items
-        ≡ map view highlights.old.items ++ highlight_at context.now extent ∷ []) }
-{
-    let highlight = highlight(alloc, context, starts, extent)?;
-    highlights.push(highlight)?;
-    Ok(())
-}
-
-/// Returns a highlight: a write of a definition's name, a read of another.
-fn highlight(
-    alloc: Global,
-    context: &Context<'_>,
-    starts: &HashSet<usize>,
-    extent: Extent,
-) -> Result<Value, AllocError>
-    requires { AreStarts context.now.definitions.items starts.now }
-    ensures { IfOk result (λ v. view v ≡ highlight_at context.now extent) }
-{
-    let range = range_at(alloc, context, extent)?;
-    let kind = highlight_kind(is_outside(starts, extent));
-    json!(in alloc; { "range": range, "kind": kind })
-}
-
 /// Returns the protocol's number of a read, for a call, or of a write.
-fn highlight_kind(is_call: bool) -> u64
-    ensures { result ≡ (if is_call then 2 else 3) }
-{
+fn highlight_kind(is_call: bool) -> u64 {
     if is_call { 2 } else { 3 }
 }
 
@@ -228,7 +181,7 @@ pub fn prepare_rename(
 fn prepare_at(alloc: Global, context: &Context<'_>, name: Name<'_>) -> Result<Answer, AllocError>
     ensures { IfOk result (IsPreparedAt context.now name.entry) }
 {
-    let definitions = definitions_named(alloc, context.text, &context.definitions, name.text)?;
+    let definitions = definitions_named(alloc, context.text, context.definitions, name.text)?;
     if definitions.is_empty() {
         return Ok(Answer::Error(ErrorCode::RequestFailed, reason_of(RenameRefusal::NoRule)));
     }

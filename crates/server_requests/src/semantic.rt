@@ -1,9 +1,6 @@
 //! Semantic tokens.
-ghost use Rattle.std.specs.Prelude.{◌≡◌, ◌++◌, ◌∷◌, [], IfOk, OnOk, codes, map};
-ghost use Rattle.server_requests.specs.Semantic as spec;
-ghost use Rattle.server_requests.specs.Semantic.{AreSemanticTokens};
-ghost use Rattle.serde_json.specs.Data.{array, member, no_members, number, object, unsigned};
-ghost use Rattle.serde_json.specs.View.{items_view, view};
+ghost use Rattle.std.specs.Prelude.{◌<◌, IfOk, length};
+ghost use Rattle.server_requests.specs.Answers.{IsResult};
 
 use crate::context::Context;
 use front_names::is_builtin;
@@ -22,138 +19,73 @@ static TYPES: [&str; 7] = [
 static MODIFIERS: [&str; 3] = ["declaration", "defaultLibrary", "documentation"];
 
 /// Returns the types of the legend.
-pub fn types() -> &'static [&'static str]
-    ensures { map (λ name. name.now) result.now ≡ spec.type_names }
-{
+pub fn types() -> &'static [&'static str] {
     &TYPES
 }
 
 /// Returns the modifiers of the legend.
-pub fn modifiers() -> &'static [&'static str]
-    ensures { map (λ name. name.now) result.now ≡ spec.modifier_names }
-{
+pub fn modifiers() -> &'static [&'static str] {
     &MODIFIERS
 }
 
 /// The type of a token, as an index of the legend, and its modifiers, as a set of bits.
 #[derive(Clone, Copy)]
-pub(crate) struct TokenStyle {
-    pub kind: usize,
-    pub modifiers: usize,
-}
-
-/// A token of one line that is shown.
-#[derive(Clone, Copy)]
-pub(crate) struct ShownToken {
-    pub start: Position,
-    pub end: Position,
-    pub style: TokenStyle,
+struct TokenStyle {
+    kind: usize,
+    modifiers: usize,
 }
 
 /// Returns the tokens of a document, those of one line, each by its distance from the one before it.
 pub fn semantic_tokens(alloc: Global, context: &Context<'_>) -> Result<Answer, AllocError>
-    ensures { IfOk result (AreSemanticTokens context.now) }
-{
-    let numbers = numbers_of(alloc, context, &context.tokens)?;
-    let value = tokens_value(alloc, numbers)?;
-    Ok(Answer::Result(value))
-}
-
-/// Returns semantic tokens as a value.
-fn tokens_value(alloc: Global, numbers: Vec<Value>) -> Result<Value, AllocError>
-    ensures { IfOk result (λ v.
-        view v ≡ object (member (codes "data") (array (items_view numbers.items)) no_members)) }
-{
-    json!(in alloc; { "data": Value::Array(numbers) })
-}
-
-/// Returns the numbers of tokens of a document.
-fn numbers_of(
-    alloc: Global,
-    context: &Context<'_>,
-    tokens: &[Token],
-) -> Result<Vec<Value>, AllocError>
-    ensures { IfOk result (λ numbers. map view numbers.items
-        ≡ spec.numbers_after spec.origin (spec.shown_tokens context.now tokens.now)) }
+    ensures { IfOk result IsResult }
 {
     let mut numbers = Vec::new(alloc);
     let mut last = Position {
         line: 0,
         character: 0,
     };
-    let mut rest = tokens;
-    while let Some((token, after)) = rest.split_first() {
-        last = push_token(context, *token, after, last, &mut numbers)?;
-        rest = after;
+    for number in 0..context.tokens.len() {
+        last = push_token(context, number, last, &mut numbers)?;
     }
-    Ok(numbers)
+    let value = json!(in alloc; { "data": Value::Array(numbers) })?;
+    Ok(Answer::Result(value))
 }
 
-/// Adds a token that others come after, if it is shown. Returns the start of the last one.
+/// Adds the token of a number, if it is shown and on one line: its line, its first code unit, both from
+/// the start of the last token, its length, its type and its modifiers. Returns the start of the last token.
 fn push_token(
     context: &Context<'_>,
-    token: Token,
-    after: &[Token],
+    number: usize,
     last: Position,
     numbers: &mut Vec<Value>,
 ) -> Result<Position, AllocError>
-    ensures { IfOk result (λ next. map view numbers.new.items
-        ++ spec.numbers_after next (spec.shown_tokens context.now after.now)
-        ≡ map view numbers.old.items
-        ++ spec.numbers_after last (spec.shown_tokens context.now (token ∷ after.now))) }
+    requires { number < length context.now.tokens.now }
 {
-    match shown_token(context, token, after) {
-        Some(shown) => {
-            push_shown(shown, last, numbers)?;
-            Ok(shown.start)
-        }
-        None => Ok(last),
-    }
-}
-
-/// Returns a token that others come after, if it is shown and on one line.
-fn shown_token(context: &Context<'_>, token: Token, after: &[Token]) -> Option<ShownToken>
-    ensures { result ≡ spec.shown_token context.now token after.now }
-{
-    let style = style_of(context, token, after)?;
+    let token = context.tokens[number];
+    let Some(style) = style_of(context, token, &context.tokens[number + 1..]) else {
+        return Ok(last);
+    };
     let start = context.index.position_of(token.start);
     let end = context.index.position_of(token.end);
-    if start.line == end.line {
-        Some(ShownToken { start, end, style })
-    } else {
-        None
+    if start.line != end.line {
+        return Ok(last);
     }
-}
-
-/// Adds the numbers of a token.
-fn push_shown(token: ShownToken, last: Position, numbers: &mut Vec<Value>) -> Result<(), AllocError>
-    ensures { OnOk result (map view numbers.new.items
-        ≡ map view numbers.old.items ++ spec.numbers_at last token) }
-{
-    push_number(token.start.line.saturating_sub(last.line), numbers)?;
-    push_number(units_after(last, token.start), numbers)?;
-    push_number(
-        token.end.character.saturating_sub(token.start.character),
-        numbers,
-    )?;
-    push_number(token.style.kind, numbers)?;
-    push_number(token.style.modifiers, numbers)?;
-    Ok(())
+    push_number(start.line.saturating_sub(last.line), numbers)?;
+    push_number(units_after(last, start), numbers)?;
+    push_number(end.character.saturating_sub(start.character), numbers)?;
+    push_number(style.kind, numbers)?;
+    push_number(style.modifiers, numbers)?;
+    Ok(start)
 }
 
 /// Adds a number.
-fn push_number(count: usize, numbers: &mut Vec<Value>) -> Result<(), AllocError>
-    ensures { OnOk result (map view numbers.new.items
-        ≡ map view numbers.old.items ++ number (unsigned count) ∷ []) }
-{
+fn push_number(count: usize, numbers: &mut Vec<Value>) -> Result<(), AllocError> {
     numbers.push(Value::from(count as u64))?;
     Ok(())
 }
 
 /// Returns how far a position is from an earlier one of its line, or from the start of its line.
-fn units_after(last: Position, start: Position) -> usize
-    ensures { result ≡ spec.units_after last start }
-{
+fn units_after(last: Position, start: Position) -> usize {
     if start.line <= last.line {
         start.character.saturating_sub(last.character)
     } else {
@@ -162,9 +94,7 @@ fn units_after(last: Position, start: Position) -> usize
 }
 
 /// Returns how a token is shown that others come after.
-fn style_of(context: &Context<'_>, token: Token, after: &[Token]) -> Option<TokenStyle>
-    ensures { result ≡ spec.style_of context.now token after.now }
-{
+fn style_of(context: &Context<'_>, token: Token, after: &[Token]) -> Option<TokenStyle> {
     match token.class {
         TokenClass::Name => {
             Some(name_style(context.part(token.extent()), begins_with_equals(after)))
@@ -180,16 +110,12 @@ fn style_of(context: &Context<'_>, token: Token, after: &[Token]) -> Option<Toke
 }
 
 /// Returns a style.
-fn style(kind: usize, modifiers: usize) -> TokenStyle
-    ensures { result ≡ spec.style kind modifiers }
-{
+fn style(kind: usize, modifiers: usize) -> TokenStyle {
     TokenStyle { kind, modifiers }
 }
 
 /// Returns how a sign is shown; brackets and the like are not.
-fn sign_style(sign: u8) -> Option<TokenStyle>
-    ensures { result ≡ spec.sign_style sign }
-{
+fn sign_style(sign: u8) -> Option<TokenStyle> {
     if is_operator(sign) {
         Some(style(4, 0))
     } else {
@@ -198,9 +124,7 @@ fn sign_style(sign: u8) -> Option<TokenStyle>
 }
 
 /// Whether a sign is shown.
-fn is_operator(sign: u8) -> bool
-    ensures { result ≡ spec.is_operator sign }
-{
+fn is_operator(sign: u8) -> bool {
     matches!(
         sign,
         b'~' | b'|' | b'*' | b'+' | b'?' | b'&' | b'!' | b'=' | b'^' | b'@' | b'$'
@@ -208,9 +132,7 @@ fn is_operator(sign: u8) -> bool
 }
 
 /// Returns how a name is shown, that of a definition or not.
-fn name_style(name: &str, is_defined: bool) -> TokenStyle
-    ensures { result ≡ spec.name_style name.now is_defined }
-{
+fn name_style(name: &str, is_defined: bool) -> TokenStyle {
     if is_keyword(name) {
         style(1, 0)
     } else if is_defined {
@@ -221,23 +143,17 @@ fn name_style(name: &str, is_defined: bool) -> TokenStyle
 }
 
 /// Whether a name is a keyword.
-fn is_keyword(name: &str) -> bool
-    ensures { result ≡ spec.is_keyword name.now }
-{
+fn is_keyword(name: &str) -> bool {
     name == "_" || name == "PUSH" || name == "PUSH_LITERAL"
 }
 
 /// Returns how a called name is shown, that of a builtin or not.
-fn called_style(is_builtin: bool) -> TokenStyle
-    ensures { result ≡ spec.called_style is_builtin }
-{
+fn called_style(is_builtin: bool) -> TokenStyle {
     if is_builtin { style(0, 2) } else { style(0, 0) }
 }
 
 /// Whether a `=` comes next.
-fn begins_with_equals(tokens: &[Token]) -> bool
-    ensures { result ≡ spec.begins_with_equals tokens.now }
-{
+fn begins_with_equals(tokens: &[Token]) -> bool {
     match tokens.split_first() {
         Some((token, _)) => token.is_sign(b'='),
         None => false,
