@@ -1,5 +1,5 @@
 -- Facts of rules.
-use Rattle.std.proofs.Common.{◌≡◌, ◌∙◌, ℕ, List, IsUtf8, Option, Some, None, arith, chars, false, get_or, inl, refl, slice_get, subst, sym}
+use Rattle.std.proofs.Common.{◌≡◌, ◌∙◌, ℕ, List, IsUtf8, Option, Some, None, Vec, arith, chars, false, get_or, inl, option_and_then, refl, slice_get, subst, sym}
 use Rattle.std.proofs.lemmas.Option.{slice_get-get_or, slice_get_within, unwrap_or-slice_get}
 use Rattle.std.specs.Bool.{Decides}
 use Rattle.std.specs.HashMap.{get_by_text}
@@ -23,29 +23,38 @@ use Rattle.front_spanned.specs.declared.node.ParserRule.{ParserRule}
 use Rattle.front_syntax.specs.Parses.{AreOfAGrammar, ParseRefuses}
 use Rattle.pest_meta.proofs.Spelled.{fails_so, flawed, flawed_give_none, trees_once}
 use Rattle.pest_meta.specs.Spelling.{AreFlawed, HasTrees, SpellsGrammar}
-use Rattle.server_features.specs.Facts.{AreFacts, AreFactsBy, AreFactsIn, SpellsNoneUnlessMemory, root_of}
+use Rattle.front_analysis.specs.Analysis.{IsAnalysis}
+use Rattle.server_features.specs.Facts.{AreFacts, AreFactsBy, AreFactsIn, IsStated, IsTableOf, SpellsNoneUnlessMemory}
 use Rattle.server_features.specs.declared.facts.RuleFacts.{RuleFacts}
+use Rattle.server_features.specs.declared.facts.RuleTable.{RuleTable}
+use Rattle.server_features.specs.declared.facts.Start.{Start}
+use Rattle.std.specs.declared.alloc.Global.{Global}
+
+-- the number of the body of the rule that a name means, by an analysis
+abbrev root_in : Analysis → List ℕ → Option ℕ
+root_in analysis name = option_and_then (λ rule. slice_get analysis.grammar.table.roots.items rule)
+    (get_by_text analysis.grammar.names.places name)
 
 -- a name without a root means no rule
-pub no_root : (analysis : Analysis) (name : List ℕ) → IsUtf8 name → root_of analysis name ≡ None → AreFactsBy analysis name None
-no_root analysis name utf8 none h = go _ (h.resolved.known name utf8) (resolved analysis.grammar.rules.now (chars name))
+no_root : (analysis : Analysis) (name : List ℕ) → IsAnalysis analysis → IsUtf8 name → root_in analysis name ≡ None → AreFactsIn (grammar_of analysis.grammar.rules.now) name None
+no_root analysis name h utf8 none = go _ (h.resolved.known name utf8) (resolved analysis.grammar.rules.now (chars name))
   where
     go : (o : Option ℕ) → get_by_text analysis.grammar.names.places name ≡ o → Named analysis.grammar.rules.now (chars name) o → rule_of (grammar_of analysis.grammar.rules.now) (chars name) ≡ None
     go None e (absent f) = f
     go (Some r) e (named rule at f) =
         let within = slice_get_within analysis.grammar.rules.now r rule at in
         let some = slice_get-get_or analysis.grammar.table.roots.items r 0 (omega (arith, within, h.resolved.tabled.roots.alike)) in
-        absurd (let e2 : root_of analysis name ≡ slice_get analysis.grammar.table.roots.items r = rw e refl in cc)
+        absurd (let e2 : root_in analysis name ≡ slice_get analysis.grammar.table.roots.items r = rw e refl in cc)
 
 -- the flag of a root tells whether the rule is nullable
-pub root_known : (analysis : Analysis) (name : List ℕ) (root : ℕ) (facts : RuleFacts) → IsUtf8 name → root_of analysis name ≡ Some root
-    → facts.is_nullable ≡ get_or analysis.facts.nullable.items root false → AreFactsBy analysis name (Some facts)
-root_known analysis name root facts utf8 some flag h = go _ (h.resolved.known name utf8) (resolved analysis.grammar.rules.now (chars name))
+root_known : (analysis : Analysis) (name : List ℕ) (root : ℕ) (facts : RuleFacts) → IsAnalysis analysis → IsUtf8 name → root_in analysis name ≡ Some root
+    → facts.is_nullable ≡ get_or analysis.facts.nullable.items root false → AreFactsIn (grammar_of analysis.grammar.rules.now) name (Some facts)
+root_known analysis name root facts h utf8 some flag = go _ (h.resolved.known name utf8) (resolved analysis.grammar.rules.now (chars name))
   where
     go : (o : Option ℕ) → get_by_text analysis.grammar.names.places name ≡ o → Named analysis.grammar.rules.now (chars name) o → AreFactsIn (grammar_of analysis.grammar.rules.now) name (Some facts)
-    go None e (absent f) = absurd (let e2 : root_of analysis name ≡ None = rw e refl in cc)
+    go None e (absent f) = absurd (let e2 : root_in analysis name ≡ None = rw e refl in cc)
     go (Some r) e (named rule at f) =
-        let here : slice_get analysis.grammar.table.roots.items r ≡ Some root = (let e2 : root_of analysis name ≡ slice_get analysis.grammar.table.roots.items r = rw e refl in sym e2 ∙ some) in
+        let here : slice_get analysis.grammar.table.roots.items r ≡ Some root = (let e2 : root_in analysis name ≡ slice_get analysis.grammar.table.roots.items r = rw e refl in sym e2 ∙ some) in
         let node = h.resolved.tabled.roots.lie r root rule at here in
         let flags = analysis.facts.nullable.items in (
           _,
@@ -55,16 +64,26 @@ root_known analysis name root facts utf8 some flag h = go _ (h.resolved.known na
               (nullable_nodes analysis.grammar.rules.now analysis.facts.table flags h.facts.tabled h.facts.nullable root (view rule.node) node),
         )
 
+-- the table of an analysis of rules
+pub tabled : (analysis : Analysis) (rules : List ParserRule) (starts : Vec Start Global) → IsAnalysis analysis → analysis.grammar.rules.now ≡ rules
+    → IsTableOf (grammar_of rules) (record { names = analysis.grammar.names; roots = analysis.grammar.table.roots; nullable = analysis.facts.nullable; starts = starts })
+tabled analysis rules starts h e name utf8 None none = subst (λ rs. AreFactsIn (grammar_of rs) name None) e (no_root analysis name h utf8 none)
+tabled analysis rules starts h e name utf8 (Some facts) (root, some, flag) = subst (λ rs. AreFactsIn (grammar_of rs) name (Some facts)) e (root_known analysis name root facts h utf8 some flag)
+
+-- the facts that the table of a text has
+pub stated_facts : (text name : List ℕ) (table : RuleTable) (facts : Option RuleFacts) → IsUtf8 name → IsStated text (Some table) → AreFactsBy table name facts → AreFacts text name facts
+stated_facts text name table facts utf8 (rules, spells, h) by = inl (rules, spells, h name utf8 facts by)
+
 -- the rules that are read
-pub facts_read : (text name : List ℕ) (pairs : Pairs Rule) (rules : List ParserRule) (facts : Option RuleFacts) → pairs_text pairs ≡ text → AreOfAGrammar pairs
-    → first_flaw_of pairs ≡ None → AreReadAs pairs (rule_views rules) → AreFactsIn (grammar_of rules) name facts → AreFacts text name facts
-facts_read text name pairs rules facts t of_grammar flawless reads h =
+pub rules_read : (text : List ℕ) (pairs : Pairs Rule) (rules : List ParserRule) → pairs_text pairs ≡ text → AreOfAGrammar pairs
+    → first_flaw_of pairs ≡ None → AreReadAs pairs (rule_views rules) → SpellsGrammar text (grammar_of rules)
+rules_read text pairs rules t of_grammar flawless reads =
     let spells : SpellsGrammar (pairs_text pairs) (grammar_of rules) = record {
       trees = named_trees (pairs_trees pairs);
       of_text = of_grammar;
       give = record { flawless = flawless; read = rule_views rules; reads = reads; same = refl };
     } in
-    inl (grammar_of rules, subst (λ v. SpellsGrammar v (grammar_of rules)) t spells, h)
+    subst (λ v. SpellsGrammar v (grammar_of rules)) t spells
 
 -- what is refused before anything is read spells no rules
 pub parse_refused : (text : List ℕ) (fault : code.Fault) → ParseRefuses rule_is.grammar_rules text fault → SpellsNoneUnlessMemory text fault

@@ -1,16 +1,14 @@
 -- Facts about rules.
-use Rattle.std.specs.Prelude.{◌≡◌, ◌⊎◌, ℕ, List, Option, Some, None, chars, option_and_then, slice_get, ⊤}
+use Rattle.std.specs.Prelude.{◌≡◌, ◌⊎◌, ℕ, List, IsUtf8, Option, Some, None, chars, false, option_and_then, slice_get, slice_index_or, ⊤}
 use Rattle.std.specs.Bool.{Decides}
 use Rattle.std.specs.HashMap.{get_by_text}
-use Rattle.front_analysis.specs.Analysis.{IsAnalysis}
-use Rattle.front_analysis.specs.Names.{grammar_of}
-use Rattle.front_analysis.specs.declared.analysis.Analysis.{Analysis}
 use Rattle.base_language.specs.Language.Expression.{Grammar, Rule, rule_of}
 use Rattle.base_language.specs.Language.WellFormed.{IsNullable}
 use Rattle.base_language.specs.declared.runtime.faults.Fault as code
 use Rattle.base_language.specs.declared.runtime.faults.Fault.TheVariants as fault_is
 use Rattle.pest_meta.specs.Spelling.{SpellsGrammar, SpellsNone}
 use Rattle.server_features.specs.declared.facts.RuleFacts.{RuleFacts}
+use Rattle.server_features.specs.declared.facts.RuleTable.{RuleTable}
 
 -- facts of the rule that a name means; none where it means no rule
 abbrev pub AreFactsIn : Grammar → List ℕ → Option RuleFacts → Type 0
@@ -23,17 +21,28 @@ abbrev pub AreFacts : List ℕ → List ℕ → Option RuleFacts → Type 0
 AreFacts text name facts = ((rules : Grammar) × SpellsGrammar text rules × AreFactsIn rules name facts)
     ⊎ (SpellsNone text × (facts ≡ None))
 
--- the analysis of rules gives these facts of the rule that a name means
-abbrev pub AreFactsBy : Analysis → List ℕ → Option RuleFacts → Type 0
-AreFactsBy analysis name facts =
-    IsAnalysis analysis → AreFactsIn (grammar_of analysis.grammar.rules.now) name facts
+-- the number of the body of the rule that a name means
+abbrev pub root_of : RuleTable → List ℕ → Option ℕ
+root_of table name = option_and_then (λ rule. slice_get table.roots.items rule)
+    (get_by_text table.names.places name)
 
--- why there are no facts: an allocation failed, or the text spells no rules
+-- the facts that a table has of a name
+abbrev pub AreFactsBy : RuleTable → List ℕ → Option RuleFacts → Type 0
+AreFactsBy table name None = root_of table name ≡ None
+AreFactsBy table name (Some facts) = (root : ℕ) × (root_of table name ≡ Some root)
+    × (facts.is_nullable ≡ slice_index_or table.nullable.items root false)
+
+-- the facts that a table has of names are those of the rules that these mean
+abbrev pub IsTableOf : Grammar → RuleTable → Type 0
+IsTableOf rules table = (name : List ℕ) → IsUtf8 name → (facts : Option RuleFacts)
+    → AreFactsBy table name facts → AreFactsIn rules name facts
+
+-- a table of the rules that a text spells; none where it spells none
+abbrev pub IsStated : List ℕ → Option RuleTable → Type 0
+IsStated text None = SpellsNone text
+IsStated text (Some table) = (rules : Grammar) × SpellsGrammar text rules × IsTableOf rules table
+
+-- why there are no rules: an allocation failed, or the text spells none
 abbrev pub SpellsNoneUnlessMemory : List ℕ → code.Fault → Type 0
 SpellsNoneUnlessMemory text (fault_is.Memory e) = ⊤
 SpellsNoneUnlessMemory text (fault_is.Grammar errors) = SpellsNone text
-
--- the number of the body of the rule that a name means
-abbrev pub root_of : Analysis → List ℕ → Option ℕ
-root_of analysis name = option_and_then (λ rule. slice_get analysis.grammar.table.roots.items rule)
-    (get_by_text analysis.grammar.names.places name)

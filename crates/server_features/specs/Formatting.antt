@@ -90,7 +90,7 @@ rules_around extent around (definition ∷ definitions) =
 pub record FormatsRange (context : Context) (params : Data) (a : Answer) : Type 0 where
   pub asked : Extent
   pub is_asked : IsAskedExtent context params asked
-  pub formats : Formats (HasEditsWithin (rules_around asked asked context.definitions.items)) context a
+  pub formats : Formats (HasEditsWithin (rules_around asked asked context.definitions.now)) context a
 
 abbrev pub AreRangeFormatting : Context → Data → Answer → Type 0
 AreRangeFormatting context params (answer.Result v) = FormatsRange context params (answer.Result v)

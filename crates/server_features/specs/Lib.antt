@@ -4,5 +4,4 @@ pub mod Diagnostics
 pub mod Earlier
 pub mod Facts
 pub mod Formatting
-pub mod Hovers
 pub mod Remedies

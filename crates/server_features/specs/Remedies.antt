@@ -60,7 +60,7 @@ IsRemedyByCode context diagnostic code.UndefinedRule None = ⊥
 IsRemedyByCode context diagnostic code.UndefinedRule (Some remedy) =
     Defines context (part_of context diagnostic) remedy
 IsRemedyByCode context diagnostic code.Unreachable remedy =
-    Removes diagnostic (bar_before diagnostic.start context.tokens.items) remedy
+    Removes diagnostic (bar_before diagnostic.start context.tokens.now) remedy
 IsRemedyByCode context diagnostic _ remedy = remedy ≡ None
 
 abbrev pub IsRemedyByFix : Context → Diagnostic → List ℕ → Option Fix → Option Remedy → Type 0

@@ -63,7 +63,7 @@ fn actions_at(
             alloc,
             context,
             extent,
-            &Diagnosis::new(alloc, context.text)?,
+            &Diagnosis::new(alloc, context.text, context.definitions)?,
         ),
     }
 }

@@ -5,25 +5,37 @@ ghost use Rattle.lint_diagnostics.specs.Diagnosis.{IsDiagnosis};
 ghost use Rattle.lint_findings.specs.Reports as reports;
 
 use lint_diagnostics::{Diagnostic, Options, Severity, diagnose};
+use server_symbols::Definition;
 use std::alloc::{AllocError, Global};
 use std::collections::BTreeMap;
 
-/// A text, and its diagnostics.
+/// A text, with its definitions and its diagnostics.
 #[derive(Drop)]
 pub struct Diagnosis {
     pub text: String,
+    pub definitions: Vec<Definition>,
     pub diagnostics: Vec<Diagnostic>,
     pub ghost of_text: { ∥ IsDiagnosis [] (string_bytes text) diagnostics.items ∥₁ },
 }
 
 impl Diagnosis {
-    /// Returns a text with its diagnostics.
-    pub fn new(alloc: Global, text: &str) -> Result<Diagnosis, AllocError>
+    /// Diagnoses a text with these definitions.
+    pub fn new(
+        alloc: Global,
+        text: &str,
+        definitions: &[Definition],
+    ) -> Result<Diagnosis, AllocError>
         ensures { IfOk result (λ diagnosis. string_bytes diagnosis.text ≡ text.now) }
     {
         let diagnostics = diagnose(alloc, text, Options { starts: &[] })?;
         let text = String::from_str(alloc, text)?;
-        Ok(Diagnosis { text, diagnostics })
+        let mut kept = Vec::new(alloc);
+        kept.extend_from_slice(definitions)?;
+        Ok(Diagnosis {
+            text,
+            definitions: kept,
+            diagnostics,
+        })
     }
 
     /// Whether the text is refused: one of its diagnostics is an error.

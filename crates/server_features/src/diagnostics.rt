@@ -36,7 +36,7 @@ pub fn publish(
     if let Some(diagnosis) = diagnoses.get(uri, document.text.as_str()) {
         return publish_diagnosis(alloc, client, uri, document, diagnosis, earlier);
     }
-    let diagnosis = Diagnosis::new(alloc, document.text.as_str())?;
+    let diagnosis = Diagnosis::new(alloc, document.text.as_str(), &document.definitions)?;
     let body = publish_diagnosis(alloc, client, uri, document, &diagnosis, earlier)?;
     let _ = diagnoses.put(alloc, uri, diagnosis);
     Ok(body)
@@ -57,7 +57,7 @@ fn publish_diagnosis(
         (string_bytes body)) }
 {
     let others = other_warnings(alloc, diagnosis, earlier)?;
-    let index = PositionIndex::new(alloc, document.text.as_str(), client.encoding)?;
+    let index = document.index(client.encoding);
     let has_related = client.has_related;
     let mut values = Vec::new(alloc);
     let own = diagnosis.diagnostics.as_slice();
@@ -77,7 +77,7 @@ fn other_warnings(
 {
     match earlier {
         Some(earlier) if diagnosis.is_refused() => {
-            staying_warnings(alloc, earlier, diagnosis.text.as_str())
+            staying_warnings(alloc, earlier, diagnosis.text.as_str(), &diagnosis.definitions)
         }
         _ => Ok(Vec::new(alloc)),
     }

@@ -12,7 +12,7 @@ use crate::diagnoses::{Diagnosis, is_error};
 use crate::diagnostics::extent_of;
 use lint_diagnostics::{Diagnostic, Help, Related};
 use server_requests::context::shown;
-use server_symbols::{Extent, definitions_of, tokens_of};
+use server_symbols::{Definition, Extent};
 use std::alloc::{AllocError, Global};
 use std::collections::HashMap;
 
@@ -32,17 +32,25 @@ pub(crate) struct Moves<'t> {
     pub moves: Vec<Move>,
 }
 
-/// Returns the warnings of an earlier text that stay in a later one, at their places there. A warning stays
-/// where the later text has the definition that it is in, byte for byte.
+/// Returns the warnings of an earlier text that stay in a later one with these definitions, at their places
+/// there. A warning stays where the later text has the definition that it is in, byte for byte.
 pub(crate) fn staying_warnings(
     alloc: Global,
     earlier: &Diagnosis,
     text: &str,
+    definitions: &[Definition],
 ) -> Result<Vec<Diagnostic>, AllocError>
     ensures { IfOk result (λ found. All (StaysAmong (string_bytes earlier.now.text) text.now
         earlier.now.diagnostics.items) found.items) }
 {
-    let moves = moves_between(alloc, earlier.text.as_str(), text)?;
+    let places = places_of(alloc, text, definitions)?;
+    let moves = moves_between(
+        alloc,
+        earlier.text.as_str(),
+        &earlier.definitions,
+        text,
+        &places,
+    )?;
     let mut found = Vec::new(alloc);
     for diagnostic in &earlier.diagnostics {
         push_staying(alloc, &moves, diagnostic, &mut found)?;
@@ -50,22 +58,22 @@ pub(crate) fn staying_warnings(
     Ok(found)
 }
 
-/// Returns the definitions of an earlier text that a later one has.
+/// Returns those of the definitions of an earlier text that a later one has, which has definitions at these
+/// places.
 fn moves_between<'t>(
     alloc: Global,
     earlier: &'t str,
+    definitions: &[Definition],
     text: &'t str,
+    places: &HashMap<&str, Extent>,
 ) -> Result<Moves<'t>, AllocError>
     ensures before { IfOk result (λ moves. moves.earlier.now ≡ earlier.entry.now) }
     ensures after { IfOk result (λ moves. moves.text.now ≡ text.entry.now) }
     ensures same { IfOk result AreMoves }
 {
-    let places = places_of(alloc, text)?;
-    let tokens = tokens_of(alloc, earlier)?;
-    let definitions = definitions_of(alloc, earlier, &tokens)?;
     let mut moves = Vec::new(alloc);
-    for definition in &definitions {
-        push_move(earlier, text, &places, definition.whole, &mut moves)?;
+    for definition in definitions {
+        push_move(earlier, text, places, definition.whole, &mut moves)?;
     }
     Ok(Moves {
         earlier,
@@ -75,11 +83,13 @@ fn moves_between<'t>(
 }
 
 /// Returns where the definitions of a text are, by their bytes.
-fn places_of(alloc: Global, text: &str) -> Result<HashMap<&str, Extent>, AllocError> {
-    let tokens = tokens_of(alloc, text)?;
-    let definitions = definitions_of(alloc, text, &tokens)?;
+fn places_of<'t>(
+    alloc: Global,
+    text: &'t str,
+    definitions: &[Definition],
+) -> Result<HashMap<&'t str, Extent>, AllocError> {
     let mut places = HashMap::new(alloc);
-    for definition in &definitions {
+    for definition in definitions {
         places.insert(shown(text, definition.whole), definition.whole)?;
     }
     Ok(places)

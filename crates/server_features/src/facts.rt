@@ -1,19 +1,13 @@
-//! Facts about a rule: whether it may match nothing, its first set, and its optimized form.
-ghost use Rattle.std.specs.Prelude.{◌≡◌, IfErr, IfOk, false, slice_index_or};
+//! Facts about the rules of a grammar: whether they may match nothing, and their first sets.
+ghost use Rattle.std.specs.Prelude.{◌≡◌, IfOk, false, slice_index_or};
 ghost use Rattle.front_analysis.specs.Names.{grammar_of};
-ghost use Rattle.server_features.specs.Facts as spec;
-ghost use Rattle.server_features.specs.Facts.{AreFacts, AreFactsBy, AreFactsIn, SpellsNoneUnlessMemory};
 
 use base_ast::ast::Expr;
-use base_ast::deep::Deep;
-use base_ast::optimized::{OptimizedRule, release};
-use base_language::grammar::Rule;
-use base_language::runtime::Fault;
-use front_analysis::{Analysis, Joint, Node, Shape, UnaryOperator, analyze};
+use front_analysis::{
+    Analysis, Facts, Joint, Names, Node, ResolvedGrammar, Shape, Table, UnaryOperator, analyze,
+};
 use front_names::Builtin;
 use front_spanned::{ParserExpr, ParserRule};
-use pest_meta::optimize_with_spans;
-use pest_meta::parser::{consume_rules_with_spans, parse};
 use std::alloc::{AllocError, Global};
 
 /// The most expressions of a first set that are listed.
@@ -37,151 +31,125 @@ pub struct FirstSet {
     pub has_more: bool,
 }
 
-/// Facts about a rule, and its optimized form.
+/// The start of a node: what can begin it.
 #[derive(Drop)]
-pub struct RuleNotes {
-    /// Its facts; none where the text is no grammar, or there is no such rule.
-    pub facts: Option<RuleFacts>,
-    /// Its body in the optimized rules, where the text is accepted.
-    pub optimized: Option<String>,
+pub enum Start {
+    /// Nothing that takes a character.
+    Nothing,
+    /// An expression, as it is printed.
+    Label(String),
+    /// The start of another node.
+    Node(usize),
+    /// The starts of two other nodes.
+    Either(usize, usize),
 }
 
-/// Returns what is known of the rule of a name. `is_accepted` tells whether the text is accepted.
-pub fn rule_notes(
-    alloc: Global,
-    text: &str,
-    name: &str,
-    is_accepted: bool,
-) -> Result<RuleNotes, AllocError>
-    ensures { IfOk result (λ notes. AreFacts text.now name.now notes.facts) }
-{
-    match notes_in(alloc, text, name, is_accepted) {
-        Ok(notes) => Ok(notes),
-        Err(Fault::Grammar(_)) => Ok(RuleNotes {
-            facts: None,
-            optimized: None,
-        }),
-        Err(Fault::Memory(error)) => Err(error),
+/// The rules of a grammar by their names, with what facts are made of.
+#[derive(Drop)]
+pub struct RuleTable {
+    pub names: Names,
+    /// The numbers of the rules' bodies.
+    pub roots: Vec<usize>,
+    /// Flags of the nodes that may match without taking a character.
+    pub nullable: Vec<bool>,
+    /// The starts of the nodes.
+    pub starts: Vec<Start>,
+}
+
+impl RuleTable {
+    ghost use Rattle.server_features.specs.Facts.{AreFactsBy, IsTableOf, root_of};
+
+    /// Returns the table of rules.
+    pub fn new(alloc: Global, rules: &[ParserRule<'_>]) -> Result<RuleTable, AllocError>
+        ensures { IfOk result (IsTableOf (grammar_of rules.now)) }
+    {
+        let analysis = analyze(alloc, rules)?;
+        let starts = starts_of(alloc, &analysis)?;
+        let Analysis { grammar, facts } = analysis;
+        let ResolvedGrammar { names, table, .. } = grammar;
+        let Table { roots, .. } = table;
+        let Facts { nullable, .. } = facts;
+        Ok(RuleTable {
+            names,
+            roots,
+            nullable,
+            starts,
+        })
     }
-}
 
-/// Returns what is known of the rule of a name in a grammar.
-fn notes_in(alloc: Global, text: &str, name: &str, is_accepted: bool) -> Result<RuleNotes, Fault>
-    ensures known { IfOk result (λ notes. AreFacts text.now name.now notes.facts) }
-    ensures refused { IfErr result (SpellsNoneUnlessMemory text.now) }
-{
-    let pairs = parse(alloc, Rule::grammar_rules, text)?;
-    let rules = consume_rules_with_spans(alloc, pairs)?;
-    let rules = Deep { value: rules };
-    let facts = facts_of(alloc, &rules.value, name)?;
-    let optimized = optimized_body(alloc, rules, name, is_accepted)?;
-    Ok(RuleNotes { facts, optimized })
-}
-
-/// Returns the facts of the rule of a name among rules.
-fn facts_of(
-    alloc: Global,
-    rules: &[ParserRule<'_>],
-    name: &str,
-) -> Result<Option<RuleFacts>, AllocError>
-    ensures { IfOk result (AreFactsIn (grammar_of rules.now) name.now) }
-{
-    let analysis = analyze(alloc, rules)?;
-    facts_by(alloc, &analysis, name)
-}
-
-/// Returns the optimized body of the rule of a name, where the rules are those of an accepted text.
-fn optimized_body(
-    alloc: Global,
-    rules: Deep<Vec<ParserRule<'_>>>,
-    name: &str,
-    is_accepted: bool,
-) -> Result<Option<String>, AllocError> {
-    if !is_accepted {
-        return Ok(None);
-    }
-    match optimize_with_spans(alloc, rules.into_inner()) {
-        Ok(optimized) => {
-            let body = printed_body(alloc, &optimized, name);
-            release(optimized);
-            body
-        }
-        // No other fault can be.
-        Err(_) => Err(AllocError),
-    }
-}
-
-/// Returns the body of the rule of a name, as it is printed.
-fn printed_body(
-    alloc: Global,
-    rules: &[OptimizedRule],
-    name: &str,
-) -> Result<Option<String>, AllocError> {
-    match rules.iter().find(|rule| rule.name.as_str() == name) {
-        Some(rule) => Ok(Some(rule.expr.to_string(alloc)?)),
-        None => Ok(None),
-    }
-}
-
-/// Returns what is known of the rule of a name, by an analysis.
-fn facts_by(
-    alloc: Global,
-    analysis: &Analysis<'_, '_>,
-    name: &str,
-) -> Result<Option<RuleFacts>, AllocError>
-    ensures { IfOk result (AreFactsBy analysis.now name.now) }
-{
-    let Some(root) = root_of(analysis, name) else {
-        return Ok(None);
-    };
-    let first = first_set(alloc, analysis, root)?;
-    Ok(Some(RuleFacts {
-        is_nullable: is_nullable(analysis, root),
-        first,
-    }))
-}
-
-/// Returns the number of the body of the rule of a name.
-fn root_of(analysis: &Analysis<'_, '_>, name: &str) -> Option<usize>
-    ensures { result ≡ spec.root_of analysis.now name.now }
-{
-    let rule = analysis.grammar.names.place_of(name)?;
-    analysis.grammar.table.roots.get(rule).copied()
-}
-
-/// Whether a node may match without taking a character.
-fn is_nullable(analysis: &Analysis<'_, '_>, node: usize) -> bool
-    ensures { result ≡ slice_index_or analysis.now.facts.nullable.items node false }
-{
-    analysis.facts.nullable.get(node).copied().unwrap_or(false)
-}
-
-/// Returns what can begin a node, by a depth-first search of the nodes at its start.
-fn first_set(
-    alloc: Global,
-    analysis: &Analysis<'_, '_>,
-    root: usize,
-) -> Result<FirstSet, AllocError> {
-    let count = analysis.grammar.table.nodes.len();
-    let mut is_visited = vec![in alloc; false; count]?;
-    let mut stack = vec![in alloc; root]?;
-    let mut first = FirstSet::new(alloc);
-    for _ in 0..count.saturating_mul(2) {
-        let Some(number) = stack.pop() else {
-            break;
+    /// Returns the facts of the rule of a name; none where there is no such rule.
+    pub fn facts_of(&self, alloc: Global, name: &str) -> Result<Option<RuleFacts>, AllocError>
+        ensures { IfOk result (AreFactsBy self.now name.now) }
+    {
+        let Some(root) = self.root_of(name) else {
+            return Ok(None);
         };
-        let Some(flag) = is_visited.get_mut(number) else {
-            continue;
-        };
-        if *flag {
-            continue;
+        let first = self.first_set(alloc, root)?;
+        Ok(Some(RuleFacts {
+            is_nullable: self.is_nullable(root),
+            first,
+        }))
+    }
+
+    /// Returns the number of the body of the rule of a name.
+    fn root_of(&self, name: &str) -> Option<usize>
+        ensures { result ≡ root_of self.now name.now }
+    {
+        let rule = self.names.place_of(name)?;
+        self.roots.get(rule).copied()
+    }
+
+    /// Whether a node may match without taking a character.
+    fn is_nullable(&self, node: usize) -> bool
+        ensures { result ≡ slice_index_or self.now.nullable.items node false }
+    {
+        self.nullable.get(node).copied().unwrap_or(false)
+    }
+
+    /// Returns what can begin a node, by a depth-first search of the starts.
+    fn first_set(&self, alloc: Global, root: usize) -> Result<FirstSet, AllocError> {
+        let count = self.starts.len();
+        let mut is_visited = vec![in alloc; false; count]?;
+        let mut stack = vec![in alloc; root]?;
+        let mut first = FirstSet::new(alloc);
+        for _ in 0..count.saturating_mul(2) {
+            let Some(number) = stack.pop() else {
+                break;
+            };
+            let Some(flag) = is_visited.get_mut(number) else {
+                continue;
+            };
+            if *flag {
+                continue;
+            }
+            *flag = true;
+            self.visit(alloc, number, &mut stack, &mut first)?;
         }
-        *flag = true;
-        if let Some(node) = analysis.grammar.table.nodes.get(number) {
-            visit(alloc, analysis, *node, &mut stack, &mut first)?;
+        Ok(first)
+    }
+
+    /// Adds the start of a node: other nodes to the stack, or a label to the first set.
+    fn visit(
+        &self,
+        alloc: Global,
+        number: usize,
+        stack: &mut Vec<usize>,
+        first: &mut FirstSet,
+    ) -> Result<(), AllocError> {
+        match self.starts.get(number) {
+            None | Some(Start::Nothing) => Ok(()),
+            Some(Start::Label(label)) => first.push(alloc, label.as_str()),
+            Some(Start::Node(other)) => {
+                stack.push(*other)?;
+                Ok(())
+            }
+            Some(Start::Either(other, last)) => {
+                stack.push(*last)?;
+                stack.push(*other)?;
+                Ok(())
+            }
         }
     }
-    Ok(first)
 }
 
 impl FirstSet {
@@ -194,77 +162,85 @@ impl FirstSet {
     }
 
     /// Adds an expression as it is printed, unless it is there.
-    fn push(&mut self, label: String) -> Result<(), AllocError> {
-        if self.labels.contains(&label) {
+    fn push(&mut self, alloc: Global, label: &str) -> Result<(), AllocError> {
+        if self.labels.iter().any(|other| other.as_str() == label) {
             return Ok(());
         }
         if self.labels.len() >= MOST_FIRST {
             self.has_more = true;
             return Ok(());
         }
-        self.labels.push(label)?;
+        self.labels.push(String::from_str(alloc, label)?)?;
         Ok(())
     }
 }
 
-/// Adds what is at the start of a node: its operands to the stack, or itself to the first set.
-fn visit(
+/// Returns the starts of all nodes.
+fn starts_of(alloc: Global, analysis: &Analysis<'_, '_>) -> Result<Vec<Start>, AllocError> {
+    let mut starts = Vec::new(alloc);
+    for node in &analysis.grammar.table.nodes {
+        starts.push(start_of(alloc, analysis, *node)?)?;
+    }
+    Ok(starts)
+}
+
+/// Returns the start of a node.
+fn start_of(
     alloc: Global,
     analysis: &Analysis<'_, '_>,
     node: Node<'_, '_>,
-    stack: &mut Vec<usize>,
-    first: &mut FirstSet,
-) -> Result<(), AllocError> {
+) -> Result<Start, AllocError> {
     match node.shape {
-        Shape::Leaf => visit_leaf(alloc, analysis, node, stack, first),
-        Shape::One(UnaryOperator::PosPred, _) | Shape::One(UnaryOperator::NegPred, _) => Ok(()),
-        Shape::One(_, inner) => {
-            stack.push(inner)?;
-            Ok(())
+        Shape::Leaf => start_of_leaf(alloc, analysis, node),
+        Shape::One(UnaryOperator::PosPred, _) | Shape::One(UnaryOperator::NegPred, _) => {
+            Ok(Start::Nothing)
         }
-        Shape::Two(Joint::Choice, left, right) => {
-            stack.push(right)?;
-            stack.push(left)?;
-            Ok(())
-        }
+        Shape::One(_, inner) => Ok(Start::Node(inner)),
+        Shape::Two(Joint::Choice, left, right) => Ok(Start::Either(left, right)),
         Shape::Two(Joint::Sequence, left, right) => {
-            if is_nullable(analysis, left) {
-                stack.push(right)?;
+            if analysis.facts.nullable.get(left).copied().unwrap_or(false) {
+                Ok(Start::Either(left, right))
+            } else {
+                Ok(Start::Node(left))
             }
-            stack.push(left)?;
-            Ok(())
         }
     }
 }
 
-/// Adds a leaf to the first set, or the body of the rule that it calls to the stack.
-fn visit_leaf(
+/// Returns the start of a leaf: the body of the rule that it calls, or the leaf as it is printed.
+fn start_of_leaf(
     alloc: Global,
     analysis: &Analysis<'_, '_>,
     node: Node<'_, '_>,
-    stack: &mut Vec<usize>,
-    first: &mut FirstSet,
-) -> Result<(), AllocError> {
+) -> Result<Start, AllocError> {
     match node.expr {
-        ParserExpr::PushLiteral(_) => Ok(()),
-        ParserExpr::Ident(name) => match root_of(analysis, name.as_str()) {
-            Some(root) => {
-                stack.push(root)?;
-                Ok(())
-            }
-            None => push_builtin(alloc, name.as_str(), first),
+        ParserExpr::PushLiteral(_) => Ok(Start::Nothing),
+        ParserExpr::Ident(name) => match analysis.grammar.names.place_of(name.as_str()) {
+            Some(rule) => Ok(start_of_call(analysis, rule)),
+            None => start_of_builtin(alloc, name.as_str()),
         },
-        ParserExpr::Str(text) => push_character(alloc, text.as_str(), false, first),
-        ParserExpr::Insens(text) => push_character(alloc, text.as_str(), true, first),
-        _ => first.push(String::from_str(alloc, node.span.as_str().trim())?),
+        ParserExpr::Str(text) => start_of_literal(alloc, text.as_str(), false),
+        ParserExpr::Insens(text) => start_of_literal(alloc, text.as_str(), true),
+        _ => Ok(Start::Label(String::from_str(
+            alloc,
+            node.span.as_str().trim(),
+        )?)),
     }
 }
 
-/// Adds a builtin, if it may take a character.
-fn push_builtin(alloc: Global, name: &str, first: &mut FirstSet) -> Result<(), AllocError> {
+/// Returns the start of a call of the rule of a number.
+fn start_of_call(analysis: &Analysis<'_, '_>, rule: usize) -> Start {
+    match analysis.grammar.table.roots.get(rule) {
+        Some(root) => Start::Node(*root),
+        None => Start::Nothing,
+    }
+}
+
+/// Returns the start of a builtin.
+fn start_of_builtin(alloc: Global, name: &str) -> Result<Start, AllocError> {
     match Builtin::from_name(name) {
-        Some(builtin) if takes_nothing(builtin) => Ok(()),
-        _ => first.push(String::from_str(alloc, name)?),
+        Some(builtin) if takes_nothing(builtin) => Ok(Start::Nothing),
+        _ => Ok(Start::Label(String::from_str(alloc, name)?)),
     }
 }
 
@@ -281,15 +257,10 @@ fn takes_nothing(builtin: Builtin) -> bool {
     }
 }
 
-/// Adds the first character of a literal, if it is not empty, as a literal.
-fn push_character(
-    alloc: Global,
-    text: &str,
-    has_any_case: bool,
-    first: &mut FirstSet,
-) -> Result<(), AllocError> {
+/// Returns the start of a literal: its first character, as a literal.
+fn start_of_literal(alloc: Global, text: &str, has_any_case: bool) -> Result<Start, AllocError> {
     let Some(character) = text.chars().next() else {
-        return Ok(());
+        return Ok(Start::Nothing);
     };
     let mut literal = String::new(alloc);
     literal.push(character)?;
@@ -298,5 +269,5 @@ fn push_character(
     } else {
         Expr::Str(literal)
     };
-    first.push(literal.to_string(alloc)?)
+    Ok(Start::Label(literal.to_string(alloc)?))
 }

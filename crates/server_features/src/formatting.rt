@@ -35,7 +35,7 @@ pub fn format_range(
     let Some(extent) = context.extent(params) else {
         return Ok(Answer::Error(ErrorCode::InvalidParams, "no range"));
     };
-    let around = rules_around(&context.definitions, extent);
+    let around = rules_around(context.definitions, extent);
     format_extent(alloc, context, around)
 }
 

@@ -1,11 +1,10 @@
 //! Hovers.
-ghost use Rattle.std.specs.Prelude.{◌≡◌, ◌++◌, IfOk, OnOk, string_bytes};
-ghost use Rattle.server_features.specs.Hovers as spec;
-ghost use Rattle.server_features.specs.Hovers.{HasDefinition, IsBuiltinText, IsHover, IsTextOf};
-ghost use Rattle.serde_json.specs.View.{view};
+ghost use Rattle.std.specs.Prelude.{IfOk};
+ghost use Rattle.server_requests.specs.Answers.{IsResult};
 
 use crate::diagnoses::Diagnoses;
-use crate::facts::{FirstSet, RuleFacts, rule_notes};
+use crate::facts::{FirstSet, RuleFacts};
+use crate::notes::{GrammarNotes, KeptNotes};
 use front_names::is_builtin;
 use serde_json::{Value, json};
 use server_protocol::client::Client;
@@ -18,22 +17,31 @@ use server_symbols::{Definition, Extent, TokenClass};
 use std::alloc::{AllocError, Global};
 
 /// Returns what is known of the name at a position. The optimized form of a rule is shown where the diagnosis
-/// that is kept of the text has no error.
+/// that is kept of the text has no error. The notes of the text are made where they are not kept.
 pub fn hover(
     alloc: Global,
     context: &Context<'_>,
     diagnoses: &Diagnoses,
+    kept: &mut KeptNotes,
     params: &Value,
 ) -> Result<Answer, AllocError>
-    ensures { IfOk result (IsHover context.now (view params.now)) }
+    ensures { IfOk result IsResult }
 {
     let Some(name) = context.name(params) else {
         return Ok(Answer::Result(Value::Null));
     };
-    let is_accepted = is_accepted(context, diagnoses);
-    let text = text_of(alloc, context, name.text, is_accepted)?;
-    let value = hover_of(alloc, context, name.extent, text.as_str())?;
-    Ok(Answer::Result(value))
+    let text = match rule_named(context, name.text) {
+        Some(definition) => {
+            let is_accepted = is_accepted(context, diagnoses);
+            let notes = kept.get_or_make(alloc, context.text, is_accepted)?;
+            rule_text(alloc, context, definition, notes)?
+        }
+        None => builtin_text(alloc, context.client.has_markdown, name.text)?,
+    };
+    if text.is_empty() {
+        return Ok(Answer::Result(Value::Null));
+    }
+    Ok(Answer::Result(hover_value(alloc, context, name.extent, text.as_str())?))
 }
 
 /// Whether the diagnosis that is kept of a document's text has no error.
@@ -44,31 +52,13 @@ fn is_accepted(context: &Context<'_>, diagnoses: &Diagnoses) -> bool {
     }
 }
 
-/// Returns a hover, or null where there is no text.
-fn hover_of(
-    alloc: Global,
-    context: &Context<'_>,
-    extent: Extent,
-    text: &str,
-) -> Result<Value, AllocError>
-    ensures { IfOk result (λ v. view v ≡ spec.hover_of context.now extent text.now) }
-{
-    if text.is_empty() {
-        Ok(Value::Null)
-    } else {
-        hover_value(alloc, context, extent, text)
-    }
-}
-
 /// Returns a hover as a value.
 fn hover_value(
     alloc: Global,
     context: &Context<'_>,
     extent: Extent,
     text: &str,
-) -> Result<Value, AllocError>
-    ensures { IfOk result (λ v. view v ≡ spec.hover_data context.now extent text.now) }
-{
+) -> Result<Value, AllocError> {
     let range = range_at(alloc, context, extent)?;
     json!(in alloc; {
         "contents": { "kind": kind_for(context.client), "value": text },
@@ -77,9 +67,7 @@ fn hover_value(
 }
 
 /// Returns the protocol's name of the kind of text that a client is sent.
-fn kind_for(client: Client) -> &'static str
-    ensures { result.now ≡ spec.kind_for client }
-{
+fn kind_for(client: Client) -> &'static str {
     if client.has_markdown {
         "markdown"
     } else {
@@ -87,39 +75,18 @@ fn kind_for(client: Client) -> &'static str
     }
 }
 
-/// Returns what is known of a name: of the rule, or else of the builtin; nothing of another name.
-fn text_of(
-    alloc: Global,
-    context: &Context<'_>,
-    name: &str,
-    is_accepted: bool,
-) -> Result<String, AllocError>
-    ensures { IfOk result (λ text. IsTextOf context.now name.now (string_bytes text)) }
-{
-    match rule_named(context, &context.definitions, name) {
-        Some(definition) => rule_text(alloc, context, definition, is_accepted),
-        None => builtin_text(alloc, context.client.has_markdown, name),
-    }
-}
-
-/// Returns the first of some definitions that has a name.
-fn rule_named(context: &Context<'_>, definitions: &[Definition], name: &str) -> Option<Definition>
-    ensures { result ≡ spec.rule_named context.now name.now definitions.now }
-{
-    let mut rest = definitions;
-    while let Some((definition, after)) = rest.split_first() {
+/// Returns the first definition of a document that has a name.
+fn rule_named(context: &Context<'_>, name: &str) -> Option<Definition> {
+    for definition in context.definitions {
         if context.part(definition.name) == name {
             return Some(*definition);
         }
-        rest = after;
     }
     None
 }
 
 /// Returns what a builtin matches, or nothing of another name.
-fn builtin_text(alloc: Global, has_markdown: bool, name: &str) -> Result<String, AllocError>
-    ensures { IfOk result (λ text. IsBuiltinText has_markdown name.now (string_bytes text)) }
-{
+fn builtin_text(alloc: Global, has_markdown: bool, name: &str) -> Result<String, AllocError> {
     match builtin_doc(name) {
         Some(doc) => meaning_text(alloc, has_markdown, name, doc),
         None => property_text(alloc, has_markdown, name),
@@ -132,9 +99,7 @@ fn meaning_text(
     has_markdown: bool,
     name: &str,
     doc: &str,
-) -> Result<String, AllocError>
-    ensures { IfOk result (λ text. string_bytes text ≡ spec.meaning_of has_markdown name.now doc.now) }
-{
+) -> Result<String, AllocError> {
     let doc = marked_doc(alloc, has_markdown, doc)?;
     let mut text = String::new(alloc);
     push_code(has_markdown, name, &mut text)?;
@@ -145,9 +110,7 @@ fn meaning_text(
 }
 
 /// Returns a text in which code is marked: as it is, or without the marks.
-fn marked_doc(alloc: Global, has_markdown: bool, doc: &str) -> Result<String, AllocError>
-    ensures { IfOk result (λ text. string_bytes text ≡ spec.marked_doc has_markdown doc.now) }
-{
+fn marked_doc(alloc: Global, has_markdown: bool, doc: &str) -> Result<String, AllocError> {
     if has_markdown {
         String::from_str(alloc, doc)
     } else {
@@ -156,19 +119,14 @@ fn marked_doc(alloc: Global, has_markdown: bool, doc: &str) -> Result<String, Al
 }
 
 /// Returns a text without the marks of code in it.
-fn strip_marks(alloc: Global, text: &str) -> Result<String, AllocError>
-    ensures { IfOk result (λ plain. string_bytes plain ≡ spec.plain_text text.now) }
-{
+fn strip_marks(alloc: Global, text: &str) -> Result<String, AllocError> {
     text.chars()
         .filter(|character| *character != '`')
         .collect(alloc)
 }
 
 /// Adds a piece of a grammar, marked as code or not.
-fn push_code(has_markdown: bool, code: &str, text: &mut String) -> Result<(), AllocError>
-    ensures { OnOk result
-        (string_bytes text.new ≡ string_bytes text.old ++ spec.code_text has_markdown code.now) }
-{
+fn push_code(has_markdown: bool, code: &str, text: &mut String) -> Result<(), AllocError> {
     if !has_markdown {
         return text.push_str(code);
     }
@@ -178,9 +136,7 @@ fn push_code(has_markdown: bool, code: &str, text: &mut String) -> Result<(), Al
 }
 
 /// Returns what the name of a Unicode property matches, or nothing of another name.
-fn property_text(alloc: Global, has_markdown: bool, name: &str) -> Result<String, AllocError>
-    ensures { IfOk result (λ text. string_bytes text ≡ spec.property_text has_markdown name.now) }
-{
+fn property_text(alloc: Global, has_markdown: bool, name: &str) -> Result<String, AllocError> {
     let mut text = String::new(alloc);
     if is_builtin(name) {
         push_code(has_markdown, name, &mut text)?;
@@ -189,54 +145,25 @@ fn property_text(alloc: Global, has_markdown: bool, name: &str) -> Result<String
     Ok(text)
 }
 
-/// Returns what is known of a rule: its doc comment, its definition, and notes.
+/// Returns what is known of a rule: its doc comment, its definition from its name on, and notes.
 fn rule_text(
     alloc: Global,
     context: &Context<'_>,
     definition: Definition,
-    is_accepted: bool,
-) -> Result<String, AllocError>
-    ensures { IfOk result (λ text. HasDefinition context.now definition (string_bytes text)) }
-{
-    let doc = doc_text(alloc, context, definition)?;
-    let code = definition_text(context, definition);
-    let notes = notes_text(alloc, context, definition, is_accepted)?;
-    let has_markdown = context.client.has_markdown;
-    framed_code(alloc, has_markdown, doc.as_str(), code, notes.as_str())
-}
-
-/// Returns a definition from its name on.
-fn definition_text<'d>(context: &Context<'d>, definition: Definition) -> &'d str
-    ensures { result.now ≡ spec.definition_text context.now definition }
-{
-    context.part(Extent {
+    notes: &GrammarNotes,
+) -> Result<String, AllocError> {
+    let code = context.part(Extent {
         start: definition.name.start,
         end: definition.whole.end,
-    })
-}
-
-/// Returns a part of a grammar, as code, between two texts.
-fn framed_code(
-    alloc: Global,
-    has_markdown: bool,
-    before: &str,
-    code: &str,
-    after: &str,
-) -> Result<String, AllocError>
-    ensures { IfOk result (λ text.
-        string_bytes text ≡ spec.framed has_markdown before.now code.now after.now) }
-{
-    let mut text = String::from_str(alloc, before)?;
-    push_block(has_markdown, code, &mut text)?;
-    text.push_str(after)?;
+    });
+    let mut text = doc_text(alloc, context, definition)?;
+    push_block(context.client.has_markdown, code, &mut text)?;
+    push_notes(alloc, context, definition, notes, &mut text)?;
     Ok(text)
 }
 
 /// Adds lines of a grammar, marked as code or not.
-fn push_block(has_markdown: bool, code: &str, text: &mut String) -> Result<(), AllocError>
-    ensures { OnOk result
-        (string_bytes text.new ≡ string_bytes text.old ++ spec.block has_markdown code.now) }
-{
+fn push_block(has_markdown: bool, code: &str, text: &mut String) -> Result<(), AllocError> {
     if !has_markdown {
         return text.push_str(code);
     }
@@ -245,29 +172,28 @@ fn push_block(has_markdown: bool, code: &str, text: &mut String) -> Result<(), A
     text.push_str("\n```")
 }
 
-/// Returns notes about a rule: its modifier, what is known of it, and its optimized form.
-fn notes_text(
+/// Adds notes about a rule: its modifier, what is known of it, and its optimized form.
+fn push_notes(
     alloc: Global,
     context: &Context<'_>,
     definition: Definition,
-    is_accepted: bool,
-) -> Result<String, AllocError> {
-    let mut text = String::new(alloc);
+    notes: &GrammarNotes,
+    text: &mut String,
+) -> Result<(), AllocError> {
     let modifier = modifier_name(definition.modifier);
     if !modifier.is_empty() {
         write!(text, "\n\nThe rule is {modifier}.")?;
     }
     let name = context.part(definition.name);
-    let notes = rule_notes(alloc, context.text, name, is_accepted)?;
     let has_markdown = context.client.has_markdown;
-    if let Some(facts) = &notes.facts {
-        push_facts(has_markdown, facts, &mut text)?;
+    if let Some(facts) = notes.facts_of(alloc, name)? {
+        push_facts(has_markdown, &facts, text)?;
     }
-    if let Some(body) = &notes.optimized {
+    if let Some(body) = notes.optimized_body(alloc, name)? {
         text.push_str("\n\nOptimized:\n")?;
-        push_block(has_markdown, body.as_str(), &mut text)?;
+        push_block(has_markdown, body.as_str(), text)?;
     }
-    Ok(text)
+    Ok(())
 }
 
 /// Adds whether a rule may match nothing, and what can begin it.
@@ -313,7 +239,7 @@ fn doc_text(
     definition: Definition,
 ) -> Result<String, AllocError> {
     let mut text = String::new(alloc);
-    for token in &context.tokens {
+    for token in context.tokens {
         let is_before = token.start >= definition.whole.start && token.end <= definition.name.start;
         if is_before && token.class == TokenClass::Doc {
             let line = context.part(token.extent());

@@ -8,4 +8,5 @@ mod earlier;
 mod facts;
 pub mod formatting;
 pub mod hovers;
+pub mod notes;
 pub mod remedies;

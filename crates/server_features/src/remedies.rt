@@ -62,11 +62,8 @@ fn remedy_by_code(
             Ok(Some(definition_remedy(alloc, context, name)?))
         }
         Code::Unreachable => {
-            removal_of(
-                alloc,
-                bar_before(&context.tokens, diagnostic.start),
-                diagnostic,
-            )
+            let bar = bar_before(context.tokens, diagnostic.start);
+            removal_of(alloc, bar, diagnostic)
         }
         _ => Ok(None),
     }

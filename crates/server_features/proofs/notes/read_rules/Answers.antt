@@ -1,9 +1,6 @@
-use Rattle.std.proofs.Common.{subst}
 use Rattle.std.proofs.lemmas.Result.{err_from_is_err_and}
-use Rattle.front_analysis.specs.Names.{grammar_of}
-use Rattle.server_features.proofs.Knowing.{facts_read, parse_refused, read_refused}
-use Rattle.server_features.specs.Facts.{AreFactsIn}
-use Rattle.server_features.proofs.facts.notes_in.Goals as goal
+use Rattle.server_features.proofs.Knowing.{parse_refused, read_refused, rules_read}
+use Rattle.server_features.proofs.notes.read_rules.Goals as goal
 
 pub returns-in_err-pairs-clause-refused : goal.returns-in_err-pairs-clause-refused
 returns-in_err-pairs-clause-refused c =
@@ -16,8 +13,7 @@ returns-in_err-rules-clause-refused c =
     rw (p.1, p.2)
     (read_refused c.args.text.now c.in_ok-pairs.pairs c.in_err-rules.field-0.0 c.in_ok-pairs.ensures.text c.in_ok-pairs.ensures.spelled c.in_err-rules.ensures.refused)
 
-pub returns-clause-known : goal.returns-clause-known
-returns-clause-known c =
-    facts_read c.args.text.now c.args.name.now c.in_ok-pairs.pairs c.in_ok-rules.rules.items c.in_ok-facts.facts c.in_ok-pairs.ensures.text
+pub returns-clause-spelled : goal.returns-clause-spelled
+returns-clause-spelled c =
+    rules_read c.args.text.now c.in_ok-pairs.pairs c.in_ok-rules.rules.items c.in_ok-pairs.ensures.text
     c.in_ok-pairs.ensures.spelled c.in_ok-rules.ensures.flawless c.in_ok-rules.ensures.rules
-    (subst (λ rules. AreFactsIn (grammar_of rules) c.args.name.now c.in_ok-facts.facts) c.deref.ensures.value c.in_ok-facts.ensures)
