@@ -1,12 +1,11 @@
 -- Answers in the phases of a session.
 use Rattle.std.proofs.Common.{◌≡◌, List, ℕ, true, false, Result, Ok, Err, IfOk, bytes_eq, codes, subst}
 use Rattle.std.specs.declared.alloc.AllocError.{AllocError}
-use Rattle.server_protocol.specs.Clients.{client_of}
 use Rattle.server_protocol.specs.declared.client.Client.{Client}
 use Rattle.server_protocol.specs.declared.documents.Documents.{Documents}
 use Rattle.server_protocol.specs.declared.messages.Answer.{Answer}
 use Rattle.server_protocol.specs.declared.messages.Answer.TheVariants as answer
-use Rattle.pest_language_server.specs.Capabilities.{DescribesServer}
+use Rattle.server_requests.specs.Answers.{IsResult}
 use Rattle.pest_language_server.specs.Requests.{AnswersOpen}
 use Rattle.pest_language_server.specs.Serving.{AnswersAsked, AnswersIn}
 use Rattle.pest_language_server.specs.declared.server.Phase.TheVariants.{New, Running}
@@ -15,8 +14,8 @@ use Rattle.serde_json.specs.Data.{Data, null}
 use Rattle.serde_json.specs.View.{view}
 use Rattle.serde_json.specs.declared.value.Value.{Value}
 
--- an answer to `initialize` says what the server can do
-pub answers_first : (client : Client) (documents : Documents) (m : List ℕ) (params : Data) (r : Result Answer AllocError) → bytes_eq m (codes "initialize") ≡ true → IfOk r (DescribesServer (client_of params)) → IfOk r (AnswersIn New client documents m params)
+-- an answer to `initialize` is a result
+pub answers_first : (client : Client) (documents : Documents) (m : List ℕ) (params : Data) (r : Result Answer AllocError) → bytes_eq m (codes "initialize") ≡ true → IfOk r IsResult → IfOk r (AnswersIn New client documents m params)
 answers_first client documents m params (Ok a) e h = rw e h
 answers_first client documents m params (Err x) e h = tt
 

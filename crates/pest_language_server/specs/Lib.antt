@@ -1,6 +1,5 @@
 pub mod Frames
 pub mod Sessions
-pub mod Capabilities
 pub mod Notices
 pub mod Replies
 pub mod Requests

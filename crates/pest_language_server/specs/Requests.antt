@@ -2,21 +2,15 @@
 use Rattle.std.specs.Prelude.{◌⊎◌, ℕ, List, [], ◌∷◌, MatchBool, MatchOption, Option, bytes_eq, codes, find, option_map, unwrap_or}
 use Rattle.server_features.specs.Actions.{AreActions}
 use Rattle.server_features.specs.Formatting.{AreFormatting, AreRangeFormatting}
-use Rattle.server_features.specs.Hovers.{IsHover}
 use Rattle.server_protocol.specs.Asked.{text_in}
 use Rattle.server_protocol.specs.declared.client.Client.{Client}
 use Rattle.server_protocol.specs.declared.documents.Documents.{Documents}
 use Rattle.server_protocol.specs.declared.messages.Answer.{Answer}
 use Rattle.server_protocol.specs.declared.messages.ErrorCode.TheVariants.{InvalidParams, MethodNotFound}
-use Rattle.server_requests.specs.Answers.{AreDefinitions, AreReferences, IsRename}
+use Rattle.server_requests.specs.Answers.{AreDefinitions, AreReferences, IsRename, IsResult, IsResultUnlessInvalid}
 use Rattle.server_requests.specs.Completions.{AreCompletions}
-use Rattle.server_requests.specs.Folding.{AreFolds}
-use Rattle.server_requests.specs.Highlights.{AreHighlights}
 use Rattle.server_requests.specs.Names.{IsContextIn, LacksDocument}
 use Rattle.server_requests.specs.Refusals.{IsPrepared}
-use Rattle.server_requests.specs.Selections.{AreSelections}
-use Rattle.server_requests.specs.Semantic.{AreSemanticTokens}
-use Rattle.server_requests.specs.Symbols.{AreSymbols, AreWorkspaceSymbols}
 use Rattle.server_requests.specs.declared.context.Context.{Context}
 use Rattle.pest_language_server.specs.Replies.{IsError}
 use Rattle.pest_language_server.specs.declared.requests.MethodName.{MethodName}
@@ -52,22 +46,22 @@ request_among names method = option_map (λ e. e.1) (find (λ e. bytes_eq e.0 me
 abbrev pub request_of : List ℕ → Option RequestMethod
 request_of method = request_among method_names method
 
--- an answer to a request about a document
+-- an answer to a request about a document: its places and its edits; of others, that it is no error
 abbrev pub IsAnswerOf : RequestMethod → Context → Data → Answer → Type 0
-IsAnswerOf request.DocumentSymbol context params a = AreSymbols context a
-IsAnswerOf request.FoldingRange context params a = AreFolds context a
-IsAnswerOf request.SelectionRange context params a = AreSelections context params a
+IsAnswerOf request.DocumentSymbol context params a = IsResult a
+IsAnswerOf request.FoldingRange context params a = IsResult a
+IsAnswerOf request.SelectionRange context params a = IsResultUnlessInvalid a
 IsAnswerOf request.Definition context params a = AreDefinitions context params a
 IsAnswerOf request.References context params a = AreReferences context params a
-IsAnswerOf request.DocumentHighlight context params a = AreHighlights context params a
+IsAnswerOf request.DocumentHighlight context params a = IsResult a
 IsAnswerOf request.PrepareRename context params a = IsPrepared context params a
 IsAnswerOf request.Rename context params a = IsRename context params a
-IsAnswerOf request.Hover context params a = IsHover context params a
+IsAnswerOf request.Hover context params a = IsResult a
 IsAnswerOf request.Completion context params a = AreCompletions context params a
 IsAnswerOf request.Formatting context params a = AreFormatting context a
 IsAnswerOf request.RangeFormatting context params a = AreRangeFormatting context params a
 IsAnswerOf request.CodeAction context params a = AreActions context params a
-IsAnswerOf request.SemanticTokens context params a = AreSemanticTokens context a
+IsAnswerOf request.SemanticTokens context params a = IsResult a
 
 -- an answer to a request about the open document that parameters name, or an error where they name none
 abbrev pub AnswersForDocument : Client → Documents → RequestMethod → Data → Answer → Type 0
@@ -76,13 +70,9 @@ AnswersForDocument client documents request params a =
     ⊎ ((context : Context) × IsContextIn client documents params context
     × IsAnswerOf request context params a)
 
--- the text that is looked for in the names of rules
-abbrev pub query_in : Data → List ℕ
-query_in params = unwrap_or (text_in (codes "/query") params) []
-
 -- an answer to a request about open documents
 abbrev pub AnswersOpen : Client → Documents → List ℕ → Data → Answer → Type 0
 AnswersOpen client documents method params a = MatchBool (bytes_eq method (codes "workspace/symbol"))
-    (AreWorkspaceSymbols client documents (query_in params) a)
+    (IsResult a)
     (MatchOption (request_of method) (IsError MethodNotFound a)
     (λ request. AnswersForDocument client documents request params a))

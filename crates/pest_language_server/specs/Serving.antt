@@ -1,6 +1,5 @@
 -- Sessions: the phases, and the replies to messages.
 use Rattle.std.specs.Prelude.{◌≡◌, ◌⊎◌, ℕ, List, [], Option, Some, None, IfSome, MatchBool, MatchOption, bytes_eq, codes, string_bytes, if◌then◌else◌}
-use Rattle.server_protocol.specs.Clients.{client_of, silent_client}
 use Rattle.server_protocol.specs.Documents.{KeepsDocuments, open_documents}
 use Rattle.server_protocol.specs.Messages.{notification_of, params_of, request_of}
 use Rattle.server_protocol.specs.declared.client.Client.{Client}
@@ -8,8 +7,8 @@ use Rattle.server_protocol.specs.declared.documents.Documents.{Documents}
 use Rattle.server_protocol.specs.declared.messages.Answer.{Answer}
 use Rattle.server_protocol.specs.declared.messages.ErrorCode.{ErrorCode}
 use Rattle.server_protocol.specs.declared.messages.ErrorCode.TheVariants.{InvalidRequest, ServerNotInitialized}
-use Rattle.pest_language_server.specs.Capabilities.{DescribesServer}
 use Rattle.pest_language_server.specs.Notices.{Announces, changed_by, notice_in}
+use Rattle.server_requests.specs.Answers.{IsResult}
 use Rattle.server_requests.specs.Refusals.{IsNull}
 use Rattle.pest_language_server.specs.Replies.{IsError, IsOneMessage, IsRefusal, IsResponse}
 use Rattle.pest_language_server.specs.Requests.{AnswersOpen}
@@ -44,12 +43,11 @@ refused_in ShutDown method = Some InvalidRequest
 -- a server at the start of a session
 pub record IsNew (server : Server) : Type 0 where
   pub phase : phase_of server ≡ New
-  pub client : server.client ≡ silent_client
   pub documents : open_documents server.documents ≡ []
 
 -- an answer to a request of a method that is not refused in a phase
 abbrev pub AnswersAllowed : Phase → Client → Documents → List ℕ → Data → Answer → Type 0
-AnswersAllowed New client documents method params a = DescribesServer (client_of params) a
+AnswersAllowed New client documents method params a = IsResult a
 AnswersAllowed Running client documents method params a = MatchBool (bytes_eq method (codes "shutdown"))
     (IsNull a) (AnswersOpen client documents method params a)
 AnswersAllowed ShutDown client documents method params a = ⊥

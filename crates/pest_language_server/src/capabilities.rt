@@ -1,8 +1,4 @@
 //! The capabilities of the server.
-ghost use Rattle.std.specs.Prelude.{◌≡◌, ◌++◌, ◌∷◌, [], IfOk, OnOk, map};
-ghost use Rattle.pest_language_server.specs.Capabilities as spec;
-ghost use Rattle.serde_json.specs.Data.{string};
-ghost use Rattle.serde_json.specs.View.{members_view, view};
 
 use serde_json::{Map, Value, json, put};
 use server_protocol::Encoding;
@@ -14,25 +10,19 @@ use std::alloc::{AllocError, Global};
 const VERSION: &str = "0.4.0";
 
 /// Returns the answer to `initialize`.
-pub fn initialize_result(alloc: Global, client: Client) -> Result<Value, AllocError>
-    ensures { IfOk result (λ v. view v ≡ spec.initialized VERSION.now client) }
-{
+pub fn initialize_result(alloc: Global, client: Client) -> Result<Value, AllocError> {
     let capabilities = capabilities(alloc, client.encoding)?;
     let info = server_info(alloc)?;
     json!(in alloc; { "capabilities": capabilities, "serverInfo": info })
 }
 
 /// Returns the name and the version of the server.
-fn server_info(alloc: Global) -> Result<Value, AllocError>
-    ensures { IfOk result (λ v. view v ≡ spec.server_info VERSION.now) }
-{
+fn server_info(alloc: Global) -> Result<Value, AllocError> {
     json!(in alloc; { "name": "pest-language-server", "version": VERSION })
 }
 
 /// Returns the protocol's name of an encoding.
-fn encoding_name(encoding: Encoding) -> &'static str
-    ensures { result.now ≡ spec.encoding_name encoding }
-{
+fn encoding_name(encoding: Encoding) -> &'static str {
     match encoding {
         Encoding::Utf8 => "utf-8",
         Encoding::Utf16 => "utf-16",
@@ -40,9 +30,7 @@ fn encoding_name(encoding: Encoding) -> &'static str
 }
 
 /// Returns what the server can do.
-fn capabilities(alloc: Global, encoding: Encoding) -> Result<Value, AllocError>
-    ensures { IfOk result (λ v. view v ≡ spec.capabilities encoding) }
-{
+fn capabilities(alloc: Global, encoding: Encoding) -> Result<Value, AllocError> {
     let mut members = Map::new(alloc);
     put_options(alloc, encoding, &mut members)?;
     put_providers(alloc, &mut members)?;
@@ -54,10 +42,7 @@ fn put_options(
     alloc: Global,
     encoding: Encoding,
     members: &mut Map<String, Value>,
-) -> Result<(), AllocError>
-    ensures { OnOk result (members_view members.new.entries
-        ≡ spec.with_options encoding (members_view members.old.entries)) }
-{
+) -> Result<(), AllocError> {
     let name = Value::try_from_str(alloc, encoding_name(encoding))?;
     put(members, alloc, "positionEncoding", name)?;
     put(members, alloc, "textDocumentSync", synchronization(alloc)?)?;
@@ -74,10 +59,7 @@ fn put_options(
 }
 
 /// Adds the requests that are answered, those without options.
-fn put_providers(alloc: Global, members: &mut Map<String, Value>) -> Result<(), AllocError>
-    ensures { OnOk result (members_view members.new.entries
-        ≡ spec.with_providers (members_view members.old.entries)) }
-{
+fn put_providers(alloc: Global, members: &mut Map<String, Value>) -> Result<(), AllocError> {
     put_provider(alloc, "documentSymbolProvider", members)?;
     put_provider(alloc, "workspaceSymbolProvider", members)?;
     put_provider(alloc, "foldingRangeProvider", members)?;
@@ -96,75 +78,48 @@ fn put_provider(
     alloc: Global,
     name: &str,
     members: &mut Map<String, Value>,
-) -> Result<(), AllocError>
-    ensures { OnOk result (members_view members.new.entries
-        ≡ spec.with_provider name.now (members_view members.old.entries)) }
-{
+) -> Result<(), AllocError> {
     put(members, alloc, name, Value::Bool(true))
 }
 
 /// Returns what is known of completions.
-fn completions(alloc: Global) -> Result<Value, AllocError>
-    ensures { IfOk result (λ v. view v ≡ spec.completions) }
-{
+fn completions(alloc: Global) -> Result<Value, AllocError> {
     json!(in alloc; { "resolveProvider": false })
 }
 
 /// Returns what is known of renames: a name can be asked for before.
-fn renames(alloc: Global) -> Result<Value, AllocError>
-    ensures { IfOk result (λ v. view v ≡ spec.renames) }
-{
+fn renames(alloc: Global) -> Result<Value, AllocError> {
     json!(in alloc; { "prepareProvider": true })
 }
 
 /// Returns the kinds of code actions.
-fn code_actions(alloc: Global) -> Result<Value, AllocError>
-    ensures { IfOk result (λ v. view v ≡ spec.code_actions) }
-{
+fn code_actions(alloc: Global) -> Result<Value, AllocError> {
     json!(in alloc; { "codeActionKinds": ["quickfix"] })
 }
 
 /// Returns how documents are synchronized: by edits.
-fn synchronization(alloc: Global) -> Result<Value, AllocError>
-    ensures { IfOk result (λ v. view v ≡ spec.synchronization) }
-{
+fn synchronization(alloc: Global) -> Result<Value, AllocError> {
     json!(in alloc; { "openClose": true, "change": 2u64, "save": true })
 }
 
 /// Returns the semantic tokens that there are.
-fn tokens_capability(alloc: Global) -> Result<Value, AllocError>
-    ensures { IfOk result (λ v. view v ≡ spec.semantic_tokens) }
-{
+fn tokens_capability(alloc: Global) -> Result<Value, AllocError> {
     let legend = legend(alloc)?;
     json!(in alloc; { "legend": legend, "full": true })
 }
 
 /// Returns the legend of semantic tokens.
-fn legend(alloc: Global) -> Result<Value, AllocError>
-    ensures { IfOk result (λ v. view v ≡ spec.legend) }
-{
+fn legend(alloc: Global) -> Result<Value, AllocError> {
     let type_names = texts_value(alloc, types())?;
     let modifier_names = texts_value(alloc, modifiers())?;
     json!(in alloc; { "tokenTypes": type_names, "tokenModifiers": modifier_names })
 }
 
 /// Returns texts as a value.
-fn texts_value(alloc: Global, texts: &[&'static str]) -> Result<Value, AllocError>
-    ensures { IfOk result (λ v. view v ≡ spec.texts_data (map (λ text. text.now) texts.now)) }
-{
+fn texts_value(alloc: Global, texts: &[&'static str]) -> Result<Value, AllocError> {
     let mut values = Vec::new(alloc);
     for text in texts {
-        push_text(alloc, *text, &mut values)?;
+        values.push(Value::try_from_str(alloc, *text)?)?;
     }
     Ok(Value::Array(values))
-}
-
-/// Adds a text.
-fn push_text(alloc: Global, text: &str, values: &mut Vec<Value>) -> Result<(), AllocError>
-    ensures { OnOk result (map view values.new.items
-        ≡ map view values.old.items ++ string text.now ∷ []) }
-{
-    let value = Value::try_from_str(alloc, text)?;
-    values.push(value)?;
-    Ok(())
 }

@@ -9,6 +9,7 @@ use server_features::actions::code_actions;
 use server_features::diagnoses::Diagnoses;
 use server_features::formatting::{format_document, format_range};
 use server_features::hovers::hover;
+use server_features::notes::KeptNotes;
 use server_protocol::messages::Answer;
 use server_requests::completions::completions;
 use server_requests::context::Context;
@@ -137,6 +138,7 @@ pub(crate) fn answer_in(
     alloc: Global,
     context: &Context<'_>,
     diagnoses: &Diagnoses,
+    notes: &mut KeptNotes,
     request: RequestMethod,
     params: &Value,
 ) -> Result<Answer, AllocError>
@@ -151,7 +153,7 @@ pub(crate) fn answer_in(
         RequestMethod::DocumentHighlight => highlights(alloc, context, params),
         RequestMethod::PrepareRename => prepare_rename(alloc, context, params),
         RequestMethod::Rename => rename_rule(alloc, context, params),
-        RequestMethod::Hover => hover(alloc, context, diagnoses, params),
+        RequestMethod::Hover => hover(alloc, context, diagnoses, notes, params),
         RequestMethod::Completion => completions(alloc, context, params),
         RequestMethod::Formatting => format_document(alloc, context),
         RequestMethod::RangeFormatting => format_range(alloc, context, params),

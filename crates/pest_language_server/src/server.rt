@@ -4,12 +4,11 @@ ghost use Rattle.server_protocol.specs.Documents.{KeepsDocuments, document_in};
 ghost use Rattle.server_protocol.specs.Messages as messages;
 ghost use Rattle.server_features.specs.Diagnoses.{accepted_in};
 ghost use Rattle.server_features.specs.Diagnostics.{Publishes};
-ghost use Rattle.pest_language_server.specs.Capabilities.{DescribesServer};
 ghost use Rattle.pest_language_server.specs.Notices as spec;
 ghost use Rattle.pest_language_server.specs.Notices.{Announces, AnnouncesAt, AnnouncesChange, AnnouncesClosing, AnnouncesOpening, PublishesAt, changed_at, changed_by, notice_in};
 ghost use Rattle.pest_language_server.specs.Replies.{IsRefusal};
-ghost use Rattle.pest_language_server.specs.Requests as requests;
 ghost use Rattle.pest_language_server.specs.Requests.{AnswersForDocument, AnswersOpen};
+ghost use Rattle.server_requests.specs.Answers.{IsResult};
 ghost use Rattle.pest_language_server.specs.Serving.{AnswersAsked, AnswersIn, AnswersRequest, HandlesMessage, IsNew, RepliesTo, SameSession, TakesNotification, after_request, exit_at, phase_of, status_in};
 ghost use Rattle.serde_json.specs.Data as json_data;
 ghost use Rattle.serde_json.specs.View.{view};
@@ -19,6 +18,7 @@ use crate::replies::{OUT_OF_MEMORY, Reply, refusal, refuse_unread, respond};
 use crate::requests::{RequestMethod, answer_in, request_of};
 use serde_json::Value;
 use server_features::diagnoses::Diagnoses;
+use server_features::notes::KeptNotes;
 use server_features::diagnostics::{publish, publish_none};
 use server_protocol::apply_changes;
 use server_protocol::client::{Client, client_of};
@@ -49,13 +49,14 @@ enum Notice {
     Close,
 }
 
-/// A server: its session, the open documents, and their diagnoses.
+/// A server: its session, the open documents, and what is kept of them.
 #[derive(Drop)]
 pub struct Server {
     phase: Phase,
     client: Client,
     documents: Documents,
     diagnoses: Diagnoses,
+    notes: KeptNotes,
 }
 
 impl Server {
@@ -68,6 +69,7 @@ impl Server {
             client: Client::default(),
             documents: Documents::new(alloc),
             diagnoses: Diagnoses::new(alloc),
+            notes: KeptNotes::new(),
         }
     }
 
@@ -246,8 +248,8 @@ impl Server {
             return Ok(None);
         };
         let text = String::from_str(alloc, text)?;
-        let version = version_of(params);
-        self.put(alloc, uri, Document { text, version })
+        let document = Document::new(alloc, text, version_of(params))?;
+        self.put(alloc, uri, document)
     }
 
     /// Changes a document.
@@ -270,8 +272,8 @@ impl Server {
         };
         let encoding = self.client.encoding;
         let text = apply_changes(alloc, document.text.as_str(), encoding, &changes)?;
-        let version = version_of(params);
-        self.put(alloc, uri, Document { text, version })
+        let document = Document::new(alloc, text, version_of(params))?;
+        self.put(alloc, uri, document)
     }
 
     /// Closes a document. Returns the notification that it has no diagnostics.
@@ -379,9 +381,16 @@ impl Server {
     }
 
     /// Answers a request about open documents.
-    fn answer_open(&self, alloc: Global, method: &str, params: &Value) -> Result<Answer, AllocError>
-        ensures { IfOk result
-            (AnswersOpen self.now.client self.now.documents method.now (view params.now)) }
+    fn answer_open(
+        &mut self,
+        alloc: Global,
+        method: &str,
+        params: &Value,
+    ) -> Result<Answer, AllocError>
+        ensures phase { phase_of self.new ≡ phase_of self.old }
+        ensures documents { self.new.documents ≡ self.old.documents }
+        ensures answer { IfOk result
+            (AnswersOpen self.old.client self.old.documents method.now (view params.now)) }
     {
         if is_workspace_symbol(method) {
             return workspace_symbols(alloc, self.client, &self.documents, query_in(params));
@@ -394,17 +403,22 @@ impl Server {
 
     /// Answers a request that is about a document.
     fn answer_for_document(
-        &self,
+        &mut self,
         alloc: Global,
         request: RequestMethod,
         params: &Value,
     ) -> Result<Answer, AllocError>
-        ensures { IfOk result
-            (AnswersForDocument self.now.client self.now.documents request (view params.now)) }
+        ensures phase { phase_of self.new ≡ phase_of self.old }
+        ensures documents { self.new.documents ≡ self.old.documents }
+        ensures answer { IfOk result
+            (AnswersForDocument self.old.client self.old.documents request (view params.now)) }
     {
-        let context = Context::of_params(alloc, self.client, &self.documents, params)?;
+        let context = Context::of_params(self.client, &self.documents, params);
         match &context {
-            Some(context) => answer_in(alloc, context, &self.diagnoses, request, params),
+            Some(context) => {
+                let notes = &mut self.notes;
+                answer_in(alloc, context, &self.diagnoses, notes, request, params)
+            }
             None => Ok(Answer::Error(ErrorCode::InvalidParams, "no such document is open")),
         }
     }
@@ -467,9 +481,7 @@ fn is_workspace_symbol(method: &str) -> bool
 }
 
 /// Returns the text that is looked for in the names of rules.
-fn query_in(params: &Value) -> &str
-    ensures { result.now ≡ requests.query_in (view params.now) }
-{
+fn query_in(params: &Value) -> &str {
     match text_at(params, "/query") {
         Some(query) => query,
         None => "",
@@ -478,7 +490,7 @@ fn query_in(params: &Value) -> &str
 
 /// Returns the answer to `initialize`.
 fn initialize_answer(alloc: Global, client: Client) -> Result<Answer, AllocError>
-    ensures { IfOk result (DescribesServer client) }
+    ensures { IfOk result IsResult }
 {
     Ok(Answer::Result(initialize_result(alloc, client)?))
 }

@@ -1,6 +1,5 @@
-use Rattle.std.proofs.Common.{◌≡◌, IfOk, true, false, bytes_eq, codes, refl, subst}
+use Rattle.std.proofs.Common.{◌≡◌, true, false, bytes_eq, codes, refl}
 use Rattle.serde_json.specs.View.{view}
-use Rattle.pest_language_server.specs.Capabilities.{DescribesServer}
 use Rattle.pest_language_server.proofs.Phases.{answers_first}
 use Rattle.pest_language_server.proofs.server.Server.answer_first.Goals as goal
 
@@ -14,4 +13,4 @@ pub returns-clause-phase : goal.returns-clause-phase
 returns-clause-phase c = let e : bytes_eq c.args.method.now (codes "initialize") ≡ true = cc in rw e refl
 
 pub returns-clause-answer : goal.returns-clause-answer
-returns-clause-answer c = let e : bytes_eq c.args.method.now (codes "initialize") ≡ true = cc in answers_first c.args.self.now.client c.args.self.now.documents c.args.method.now (view c.args.params.now) c.initialize_answer.result e (subst (λ client. IfOk c.initialize_answer.result (DescribesServer client)) c.client_of-self.ensures c.initialize_answer.ensures)
+returns-clause-answer c = let e : bytes_eq c.args.method.now (codes "initialize") ≡ true = cc in answers_first c.args.self.now.client c.args.self.now.documents c.args.method.now (view c.args.params.now) c.initialize_answer.result e c.initialize_answer.ensures
