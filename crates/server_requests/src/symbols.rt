@@ -106,9 +106,19 @@ fn push_document(
     symbols: &mut Vec<Value>,
 ) -> Result<(), AllocError> {
     let context = Context::new(client, entry.0.as_str(), entry.1);
+    push_matches(alloc, &context, query, symbols)
+}
+
+/// Adds the rules of a document in whose names a text occurs.
+fn push_matches(
+    alloc: Global,
+    context: &Context<'_>,
+    query: &str,
+    symbols: &mut Vec<Value>,
+) -> Result<(), AllocError> {
     for definition in context.definitions {
         if is_within(query.as_bytes(), context.part(definition.name).as_bytes()) {
-            symbols.push(flat_symbol(alloc, &context, definition)?)?;
+            symbols.push(flat_symbol(alloc, context, definition)?)?;
         }
     }
     Ok(())
