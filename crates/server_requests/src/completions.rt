@@ -137,11 +137,7 @@ fn push_properties(alloc: Global, items: &mut Vec<Value>) -> Result<(), AllocErr
 }
 
 /// Adds the forms with arguments.
-fn push_forms(
-    alloc: Global,
-    has_snippets: bool,
-    items: &mut Vec<Value>,
-) -> Result<(), AllocError> {
+fn push_forms(alloc: Global, has_snippets: bool, items: &mut Vec<Value>) -> Result<(), AllocError> {
     for form in &FORMS {
         items.push(form_item(alloc, form, has_snippets)?)?;
     }

@@ -142,11 +142,7 @@ pub fn highlights(
 }
 
 /// Returns where a name occurs, as highlights: writes of definitions' names, and reads of others.
-fn highlights_value(
-    alloc: Global,
-    context: &Context<'_>,
-    name: &str,
-) -> Result<Value, AllocError> {
+fn highlights_value(alloc: Global, context: &Context<'_>, name: &str) -> Result<Value, AllocError> {
     let extents = occurrences_of(alloc, context.text, context.tokens, name)?;
     let starts = starts_of(alloc, context.definitions)?;
     let mut highlights = Vec::new(alloc);
