@@ -77,7 +77,12 @@ fn other_warnings(
 {
     match earlier {
         Some(earlier) if diagnosis.is_refused() => {
-            staying_warnings(alloc, earlier, diagnosis.text.as_str(), &diagnosis.definitions)
+            staying_warnings(
+                alloc,
+                earlier,
+                diagnosis.text.as_str(),
+                &diagnosis.definitions,
+            )
         }
         _ => Ok(Vec::new(alloc)),
     }

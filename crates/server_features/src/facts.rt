@@ -221,10 +221,7 @@ fn start_of_leaf(
         },
         ParserExpr::Str(text) => start_of_literal(alloc, text.as_str(), false),
         ParserExpr::Insens(text) => start_of_literal(alloc, text.as_str(), true),
-        _ => Ok(Start::Label(String::from_str(
-            alloc,
-            node.span.as_str().trim(),
-        )?)),
+        _ => Ok(Start::Label(String::from_str(alloc, node.span.as_str().trim())?)),
     }
 }
 

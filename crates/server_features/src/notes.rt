@@ -87,7 +87,12 @@ impl GrammarNotes {
 
     /// Returns the body of the rule of a name in the optimized rules, where the text is accepted.
     pub fn optimized_body(&self, alloc: Global, name: &str) -> Result<Option<String>, AllocError> {
-        match self.optimized.value.iter().find(|rule| rule.name.as_str() == name) {
+        match self
+            .optimized
+            .value
+            .iter()
+            .find(|rule| rule.name.as_str() == name)
+        {
             Some(rule) => Ok(Some(rule.expr.to_string(alloc)?)),
             None => Ok(None),
         }
