@@ -1,5 +1,5 @@
 -- Remedies.
-use Rattle.std.specs.Prelude.{◌≡◌, ◌&&◌, ◌++◌, ◌∷◌, [], ℕ, List, Bool, Option, Some, None, codes, find, length, nat_le, not, option_and_then, reverse, string_bytes, if◌then◌else◌}
+use Rattle.std.specs.Prelude.{◌≡◌, ◌&&◌, ◌++◌, [], ℕ, List, Bool, Option, Some, None, codes, find, length, nat_le, not, option_and_then, reverse, string_bytes, if◌then◌else◌}
 use Rattle.lint_findings.specs.declared.codes.Code.{Code}
 use Rattle.lint_findings.specs.declared.codes.Code.TheVariants as code
 use Rattle.lint_findings.specs.declared.diagnostic.Diagnostic.{Diagnostic}
