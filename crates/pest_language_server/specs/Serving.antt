@@ -102,7 +102,7 @@ HandlesMessage old new message reply = MatchOption (request_of message)
     (λ method. TakesNotification old new method (params_of message) reply))
     (λ request. AnswersRequest old new request.0 request.1 (params_of message) reply)
 
--- what is no JSON, or for which there is no memory, is refused
+-- a body that is no JSON, or for which there is no memory, is refused
 pub record RefusesBody (old new : Server) (reply : Reply) : Type 0 where
   pub same : new ≡ old
   pub message : IsRefusal reply

@@ -11,7 +11,7 @@ ghost use Rattle.server_features.specs.Earlier.{IsSame, help_message};
 use crate::diagnoses::{Diagnosis, is_error};
 use crate::diagnostics::extent_of;
 use lint_diagnostics::{Diagnostic, Help, Related};
-use server_requests::context::shown;
+use server_requests::context::part_of;
 use server_symbols::{Definition, Extent};
 use std::alloc::{AllocError, Global};
 use std::collections::HashMap;
@@ -90,7 +90,7 @@ fn places_of<'t>(
 ) -> Result<HashMap<&'t str, Extent>, AllocError> {
     let mut places = HashMap::new(alloc);
     for definition in definitions {
-        places.insert(shown(text, definition.whole), definition.whole)?;
+        places.insert(part_of(text, definition.whole), definition.whole)?;
     }
     Ok(places)
 }
@@ -106,11 +106,11 @@ fn push_move(
     ensures { OnOk result (All (spec.IsMove earlier.now text.now) moves.old.items
         → All (spec.IsMove earlier.now text.now) moves.new.items) }
 {
-    let bytes = shown(earlier, from);
+    let bytes = part_of(earlier, from);
     let Some(to) = places.get(&bytes) else {
         return Ok(());
     };
-    if !bytes.is_empty() && bytes == shown(text, *to) {
+    if !bytes.is_empty() && bytes == part_of(text, *to) {
         moves.push(Move { from, to: *to })?;
     }
     Ok(())

@@ -31,7 +31,7 @@ pub struct FirstSet {
     pub has_more: bool,
 }
 
-/// The start of a node: what can begin it.
+/// The start of a node: the beginnings of its matches.
 #[derive(Drop)]
 pub enum Start {
     /// Nothing that takes a character.

@@ -9,7 +9,7 @@ use base_language::runtime::Fault;
 use format_grammar::{Formatted, LineEnds, Options, format};
 use serde_json::Value;
 use server_protocol::messages::{Answer, ErrorCode};
-use server_requests::context::{Context, shown};
+use server_requests::context::{Context, part_of};
 use server_requests::locations::edit_at;
 use server_symbols::{Definition, Edit, Extent, edits_between};
 use std::alloc::{AllocError, Global};
@@ -189,5 +189,5 @@ fn edit_to(
 ) -> Result<Value, AllocError>
     ensures { IfOk result (λ v. view v ≡ spec.edit_for context.now formatted.now edit) }
 {
-    edit_at(alloc, context, edit.old, shown(formatted, edit.new))
+    edit_at(alloc, context, edit.old, part_of(formatted, edit.new))
 }

@@ -14,7 +14,7 @@ use pest_meta::optimize_with_spans;
 use pest_meta::parser::{consume_rules_with_spans, parse};
 use std::alloc::{AllocError, Global};
 
-/// What is told of the rules of a text.
+/// The rules of a text, as hovers tell of them.
 #[derive(Drop)]
 pub struct GrammarNotes {
     pub text: String,

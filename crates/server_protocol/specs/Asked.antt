@@ -1,4 +1,4 @@
--- What the parameters of a request ask for.
+-- Questions in the parameters of a request.
 use Rattle.std.specs.Prelude.{ℕ, List, Bool, ◌||◌, false, Option, Some, None, bytes_eq, option_and_then, option_map, unwrap_or, codes}
 use Rattle.serde_json.specs.Data.{Data, Items, no_items, item}
 use Rattle.serde_json.specs.Find.{as_array, as_bool, as_number, as_str, as_u64, get, pointer}

@@ -41,7 +41,7 @@ abbrev pub notification_data : List ℕ → Data → Data
 notification_data method params = object (member (codes "jsonrpc") (string (codes "2.0"))
     (member (codes "method") (string method) (member (codes "params") params no_members)))
 
--- a text is that of a message, without white space: it reads as the message, unless that nests deeper than
+-- a text is that of a message, without white space, and reads as the message, unless that nests deeper than
 -- JSON is read
 pub record IsMessage (message : Data) (text : List ℕ) : Type 0 where
   pub compact : has_float message ≡ false → text ≡ compact_text message
@@ -77,7 +77,7 @@ abbrev pub is_response : Data → Bool
 is_response d = is_none (get (codes "method") d)
     && (is_some (get (codes "result") d) || is_some (get (codes "error") d))
 
--- what comes in is a request, a notification, a response, or none of these
+-- a message is a request, a notification, a response, or none of these
 abbrev pub MatchIncoming : Data → Incoming → Type 0
 MatchIncoming d (incoming.Request id method) = request_of d ≡ Some (view id.now, method.now)
 MatchIncoming d (incoming.Notification method) =
@@ -87,7 +87,7 @@ MatchIncoming d incoming.Response =
 MatchIncoming d incoming.Invalid =
     (request_of d ≡ None) × (notification_of d ≡ None) × (is_response d ≡ false)
 
--- what comes in is the request of this id and method, or the id cannot be that of a request
+-- a message is the request of this id and method, or the id cannot be that of a request
 abbrev pub IsRequestOf : Data → List ℕ → Incoming → Type 0
 IsRequestOf d method (incoming.Request id name) =
     (is_id d ≡ true) × (view id.now ≡ d) × (name.now ≡ method)

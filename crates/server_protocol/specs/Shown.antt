@@ -1,4 +1,4 @@
--- What an index is of.
+-- The text and the encoding of an index.
 use Rattle.std.specs.Prelude.{ℕ, List}
 use Rattle.server_protocol.specs.declared.index.PositionIndex.{PositionIndex}
 use Rattle.server_protocol.specs.declared.positions.Encoding.{Encoding}
@@ -7,6 +7,6 @@ use Rattle.server_protocol.specs.declared.positions.Encoding.{Encoding}
 abbrev pub index_text : PositionIndex → List ℕ
 index_text index = index.text.now
 
--- what its characters are counted in
+-- the code units in which its characters are counted
 abbrev pub index_encoding : PositionIndex → Encoding
 index_encoding index = index.encoding

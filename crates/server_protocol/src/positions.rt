@@ -95,7 +95,7 @@ pub(crate) fn next_position(
     }
 }
 
-/// Returns whether a position can name an offset: it is between two characters, and not between `\r` and
+/// Returns whether a position can name an offset, between two characters, and not between `\r` and
 /// `\n`.
 fn is_place(text: &str, offset: usize) -> bool
     ensures { IsTrue result ↔ IsPlace text.now offset }

@@ -133,12 +133,12 @@ impl<'d> Context<'d> {
     pub fn part(&self, extent: Extent) -> &'d str
         ensures { result.now ≡ shown self.now.text.now extent }
     {
-        shown(self.text, extent)
+        part_of(self.text, extent)
     }
 }
 
 /// Returns the text of an extent, or nothing where it does not have whole characters.
-pub fn shown(text: &str, extent: Extent) -> &str
+pub fn part_of(text: &str, extent: Extent) -> &str
     ensures { result.now ≡ parts.shown text.now extent }
 {
     if is_whole(text.as_bytes(), extent) {
