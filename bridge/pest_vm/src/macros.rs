@@ -78,7 +78,8 @@ macro_rules! fails_with {
         let error = vm.parse($rule, $text).unwrap_err();
         match error.variant {
             $crate::runtime::error::ErrorVariant::ParsingError { positives, negatives } => {
-                let (wanted, unwanted): (::std::vec::Vec<&str>, ::std::vec::Vec<&str>) = ($positives, $negatives);
+                let (wanted, unwanted): (::std::vec::Vec<&str>, ::std::vec::Vec<&str>) =
+                    ($positives, $negatives);
                 assert_eq!(positives, wanted, "positives");
                 assert_eq!(negatives, unwanted, "negatives");
             }
