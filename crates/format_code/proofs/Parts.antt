@@ -1,11 +1,12 @@
 -- Lists that stand one after another are the parts that end where they end.
-use Rattle.std.proofs.Common.{◌≡◌, ◌∙◌, ◌<◌, ◌≤◌, ◌+◌, ◌-◌, ◌*◌, ◌/◌, ℕ, zero, suc, List, [], ◌∷◌, ◌++◌, ap, ap₂, append_assoc, arith, drop, flat_map, get_or, length, length-append, length-drop, map, refl, sym, take}
+use Rattle.std.proofs.Common.{◌≡◌, ◌∙◌, ◌<◌, ◌≤◌, ◌+◌, ◌-◌, ◌*◌, ◌/◌, ◌^◌, ℕ, zero, suc, List, [], ◌∷◌, ◌++◌, ap, ap₂, append_assoc, arith, drop, flat_map, get_or, length, length-append, length-drop, map, refl, sym, take}
 use Rattle.std.specs.Borrow.{Bor}
 use Rattle.std.proofs.Math.Seq.{drop-append_seam, take-append_seam}
 use Rattle.std.specs.Simd.{first_chunks}
 use Rattle.std.proofs.lemmas.List.{drop-append-le, length-map, map-append, take-append-le}
 use Rattle.matcher_code.specs.Words.{part, parts_from, parts_in, pieces, word, words_in}
-use Rattle.matcher_code.proofs.Pieces.{empty}
+use Rattle.std.specs.Int.{to_le_bytes, w32}
+use Rattle.matcher_code.proofs.Pieces.{empty, words_more}
 use Rattle.format_code.specs.Sections.{ends_from, section}
 
 abbrev joined : {A : Type 0} → List (List A) → List A
@@ -65,6 +66,10 @@ words_on k xs ys h =
     ap (λ n. map word (first_chunks 4 n (xs ++ ys))) all
     ∙ (ap (map word) (chunks_on k (length ys / 4) xs ys h ∙ ap (λ n. first_chunks 4 n xs ++ pieces 4 ys) (sym one))
     ∙ map-append word (pieces 4 xs) (pieces 4 ys))
+
+-- a word in front of others
+pub word_first : (w : ℕ) (ys : List ℕ) → w < 2 ^ 32 → words_in (to_le_bytes w32 w ++ ys) ≡ w ∷ words_in ys
+word_first w ys h = words_on 1 (to_le_bytes w32 w) ys refl ∙ ap (λ ws. ws ++ words_in ys) (words_more 0 [] w refl h)
 
 length_ends : {A : Type 0} (n : ℕ) (xss : List (List A)) → length (ends_from n xss) ≡ length xss
 length_ends n [] = refl

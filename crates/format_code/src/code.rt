@@ -5,8 +5,8 @@ ghost use Rattle.matcher_code.specs.Lists.{is_covered, lists_of};
 ghost use Rattle.matcher_code.specs.Words.{pairs_in, parts_in, words_in};
 ghost use Rattle.format_code.specs.Codes.{lists_at, order_of};
 
-use crate::lists::{join, pairs_bytes, places_of, words_bytes};
-use crate::operations::ops_bytes;
+use crate::lists::{join, pairs_bytes, places_of, word_pieces, words_bytes};
+use crate::operations::op_pieces;
 use crate::sections::{join_sections, section};
 use matcher_code::bytecode::Bytecode;
 use matcher_code::code::Code;
@@ -122,8 +122,8 @@ fn texts_bytes(alloc: Global, texts: &[Vec<u8>]) -> Result<ListBytes, AllocError
 pub fn write_code(alloc: Global, code: &Code) -> Result<Vec<u8>, AllocError>
     ensures { IfOk result (λ bytes. lists_at bytes.items ≡ lists_of code.now) }
 {
-    let ops = ops_bytes(alloc, &code.ops)?;
-    let tables = words_bytes(alloc, &code.tables)?;
+    let ops = op_pieces(alloc, &code.ops)?;
+    let tables = word_pieces(alloc, &code.tables)?;
     let ranges = ranges_bytes(alloc, &code.ranges)?;
     let orders = orders_of(alloc, &code.ranges)?;
     let texts = texts_bytes(alloc, &code.texts)?;
@@ -131,9 +131,9 @@ pub fn write_code(alloc: Global, code: &Code) -> Result<Vec<u8>, AllocError>
     let bytes = join_sections(
         alloc,
         &[
-            ops.as_slice(),
+            ops.as_flattened().as_flattened(),
             code.rows.as_slice(),
-            tables.as_slice(),
+            tables.as_flattened(),
             ranges.places.as_slice(),
             ranges.items.as_slice(),
             orders.as_slice(),

@@ -6,6 +6,15 @@ ghost use Rattle.format_code.specs.Sections.{ends_from};
 
 use std::alloc::{AllocError, Global};
 
+/// Returns the bytes of a word, the lowest first.
+#[inline(always)]
+pub(crate) fn word_bytes(word: u32) -> [u8; 4]
+    ensures bytes { result ≡ to_le_bytes w32 word }
+    ensures fits { word < 2 ^ 32 }
+{
+    word.to_le_bytes()
+}
+
 /// Appends a word.
 pub(crate) fn push_word(bytes: &mut Vec<u8>, word: u32) -> Result<(), AllocError>
     ensures bytes { OnOk result (bytes.new.items ≡ bytes.old.items ++ to_le_bytes w32 word) }
@@ -14,12 +23,23 @@ pub(crate) fn push_word(bytes: &mut Vec<u8>, word: u32) -> Result<(), AllocError
     bytes.extend_from_slice(&word.to_le_bytes())
 }
 
+/// Returns words as pieces of four bytes.
+pub(crate) fn word_pieces(alloc: Global, words: &[u32]) -> Result<Vec<[u8; 4]>, AllocError>
+    ensures { IfOk result (λ pieces. words_in (flat_map (λ x. x) pieces.items) ≡ words.now) }
+{
+    let mut pieces = Vec::with_capacity(alloc, words.len())?;
+    for word in words {
+        pieces.push(word_bytes(*word))?;
+    }
+    Ok(pieces)
+}
+
 /// Returns words as bytes.
 pub(crate) fn words_bytes(alloc: Global, words: &[u32]) -> Result<Vec<u8>, AllocError>
     ensures words { IfOk result (λ bytes. words_in bytes.items ≡ words.now) }
     ensures size { IfOk result (λ bytes. length bytes.items ≡ length words.now * 4) }
 {
-    let mut bytes = Vec::new(alloc);
+    let mut bytes = Vec::with_capacity(alloc, words.len().saturating_mul(4))?;
     for word in words {
         push_word(&mut bytes, *word)?;
     }
@@ -30,7 +50,7 @@ pub(crate) fn words_bytes(alloc: Global, words: &[u32]) -> Result<Vec<u8>, Alloc
 pub(crate) fn pairs_bytes(alloc: Global, pairs: &[(u32, u32)]) -> Result<Vec<u8>, AllocError>
     ensures { IfOk result (λ bytes. pairs_in bytes.items ≡ pairs.now) }
 {
-    let mut bytes = Vec::new(alloc);
+    let mut bytes = Vec::with_capacity(alloc, pairs.len().saturating_mul(8))?;
     for (low, high) in pairs {
         push_word(&mut bytes, *low)?;
         push_word(&mut bytes, *high)?;
@@ -65,13 +85,21 @@ pub(crate) fn places_of<T>(
     Ok(places)
 }
 
+/// Appends lists, one after another. After an error some of them are appended.
+pub(crate) fn append<T: Copy>(items: &mut Vec<T>, lists: &[&[T]]) -> Result<(), AllocError>
+    ensures { OnOk result (items.new.items ≡ items.old.items ++ flat_map (λ l. l.now) lists.now) }
+{
+    for list in lists {
+        items.extend_from_slice(list)?;
+    }
+    Ok(())
+}
+
 /// Returns lists as one, one after another.
 pub(crate) fn join<T: Copy>(alloc: Global, lists: &[&[T]]) -> Result<Vec<T>, AllocError>
     ensures { IfOk result (λ items. items.items ≡ flat_map (λ l. l.now) lists.now) }
 {
     let mut items = Vec::new(alloc);
-    for list in lists {
-        items.extend_from_slice(list)?;
-    }
+    append(&mut items, lists)?;
     Ok(items)
 }

@@ -1,9 +1,10 @@
 //! Operations as bytes.
-ghost use Rattle.std.specs.Prelude.{◌≡◌, IfOk, length};
+ghost use Rattle.std.specs.Prelude.{◌≡◌, IfOk, flat_map, length};
 ghost use Rattle.matcher_code.specs.Operations.{op_of, ops_in};
+ghost use Rattle.matcher_code.specs.Words.{words_in};
 ghost use Rattle.matcher_code.specs.declared.code.Op.TheVariants as op;
 
-use crate::lists::words_bytes;
+use crate::lists::word_bytes;
 use matcher_code::code::Op;
 use std::alloc::{AllocError, Global};
 
@@ -77,14 +78,29 @@ fn slice_words(from: i32, to: Option<i32>, next: u32, fail: u32) -> [u32; 5]
     }
 }
 
-/// Returns operations as bytes.
-pub(crate) fn ops_bytes(alloc: Global, ops: &[Op]) -> Result<Vec<u8>, AllocError>
-    ensures { IfOk result (λ bytes. ops_in bytes.items ≡ ops.now) }
+/// Returns the twenty bytes of five words.
+#[inline(always)]
+fn piece_of(words: [u32; 5]) -> [[u8; 4]; 5]
+    ensures words { words_in (flat_map (λ x. x) result) ≡ words }
+    ensures size { length (flat_map (λ x. x) result) ≡ 20 }
 {
-    let mut bytes = Vec::new(alloc);
+    let [kind, a, b, c, d] = words;
+    [
+        word_bytes(kind),
+        word_bytes(a),
+        word_bytes(b),
+        word_bytes(c),
+        word_bytes(d),
+    ]
+}
+
+/// Returns operations as pieces of twenty bytes.
+pub(crate) fn op_pieces(alloc: Global, ops: &[Op]) -> Result<Vec<[[u8; 4]; 5]>, AllocError>
+    ensures { IfOk result (λ pieces. ops_in (flat_map (λ x. x) (flat_map (λ x. x) pieces.items)) ≡ ops.now) }
+{
+    let mut pieces = Vec::with_capacity(alloc, ops.len())?;
     for op in ops {
-        let words = words_bytes(alloc, &words_of(*op))?;
-        bytes.extend_from_slice(&words)?;
+        pieces.push(piece_of(words_of(*op)))?;
     }
-    Ok(bytes)
+    Ok(pieces)
 }
