@@ -8,6 +8,7 @@ use Rattle.std.specs.List.{All, Any}
 use Rattle.base_language.proofs.Surveys.{order}
 use Rattle.base_language.specs.Pieces.Saying.{piece_of}
 use Rattle.base_language.specs.declared.runtime.places.Span as code_span
+use Rattle.lint_findings.specs.declared.codes.Code.{Code}
 use Rattle.doc_pages.specs.Warnings.{KeepsWarnings, Warns}
 use Rattle.doc_pages.specs.declared.warnings.RuleWarning.{RuleWarning}
 
@@ -35,14 +36,14 @@ any_after_set {X} P xs i new l more h =
     ]
 
 -- one piece more of which lists warn
-pub one_warned_more : (lists more : List (Vec RuleWarning)) (message : List ℕ) (parts : List code_span.Span) (i : ℕ)
+pub one_warned_more : (lists more : List (Vec RuleWarning)) (kind : Code) (parts : List code_span.Span) (i : ℕ)
     (part : code_span.Span) → i < length parts → part ≡ get_or parts i part → KeepsWarnings lists more
-    → All (Warns lists message) (map piece_of (take i parts)) → Warns more message (piece_of part)
-    → All (Warns more message) (map piece_of (take (i + 1) parts))
-one_warned_more lists more message parts i part l is keeps before warned =
+    → All (Warns lists kind) (map piece_of (take i parts)) → Warns more kind (piece_of part)
+    → All (Warns more kind) (map piece_of (take (i + 1) parts))
+one_warned_more lists more kind parts i part l is keeps before warned =
     let next : take (i + 1) parts ≡ take i parts ++ part ∷ [] =
     take_more parts i part l ∙ ap (λ x. take i parts ++ x ∷ []) (sym is) in
-    subst (λ ps. All (Warns more message) ps)
+    subst (λ ps. All (Warns more kind) ps)
     (sym (ap (map piece_of) next ∙ map-append piece_of (take i parts) (part ∷ [])))
-    (All-push (Warns more message) (map piece_of (take i parts)) (piece_of part)
-    (λ k d h. keeps message (get_or (map piece_of (take i parts)) k d) (before k d h)) warned)
+    (All-push (Warns more kind) (map piece_of (take i parts)) (piece_of part)
+    (λ k d h. keeps kind (get_or (map piece_of (take i parts)) k d) (before k d h)) warned)

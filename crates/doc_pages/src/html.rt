@@ -393,7 +393,7 @@ fn push_warnings<'i>(
         markup.put(Markup::Text("warning: "))?;
         markup.element(Tag::Code, warning.text)?;
         markup.put(Markup::Text(": "))?;
-        markup.put(Markup::Text(warning.message))?;
+        markup.put(Markup::Text(warning.code.message()))?;
         markup.close_line(Tag::P)?;
     }
     Ok(())

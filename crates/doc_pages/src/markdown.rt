@@ -266,7 +266,7 @@ impl<'t> MarkdownBuilder<'t> {
             self.text(warning.text)?;
             self.word(MarkdownWord::CodeEnd)?;
             self.word(MarkdownWord::Colon)?;
-            self.text(warning.message)?;
+            self.text(warning.code.message())?;
             self.word(MarkdownWord::LineFeed)?;
         }
         Ok(())

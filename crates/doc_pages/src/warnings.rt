@@ -1,22 +1,23 @@
-//! Warnings that are definite, by the rules in which they are.
+//! Warnings of the linter that are about what a rule matches, by the rules in which they are.
 ghost use Rattle.std.specs.Prelude.{◌≡◌, ◌<◌, ℕ, List, All, IfOk, OnOk, length, map};
 ghost use Rattle.base_language.specs.Pieces.Saying.{Span as Piece, piece_of};
-ghost use Rattle.doc_pages.specs.Warnings.{AllSaid, AreWarnings, HasAllWarnings, IsWarning, KeepsWarnings, Says, Warns, reversed, unreachable};
-ghost use Rattle.lint_warnings.specs.Choices as choices;
-ghost use Rattle.lint_warnings.specs.Ranges as ranges;
+ghost use Rattle.doc_pages.specs.Warnings.{AllSaid, AreWarnings, HasAllWarnings, IsWarning, KeepsWarnings, Says, Warns};
 ghost use Rattle.front_spanned.specs.Nodes.{rule_views};
 ghost use Rattle.front_spanned.specs.Spanned.{SpannedRule};
+ghost use Rattle.lint_findings.specs.declared.codes.Code.{Code as Kind};
 
 use crate::source::RuleSource;
 use base_language::runtime::Span;
 use front_spanned::ParserRule;
-use lint_warnings::{reversed_ranges, unreachable_alternatives};
+use lint_findings::Code;
+use lint_warnings::{Suspect, suspect_spans, unreachable_alternatives};
 use std::alloc::{AllocError, Global};
 
 /// A warning for a part of a rule.
 #[derive(Clone, Copy)]
 pub struct RuleWarning<'i> {
-    pub message: &'static str,
+    /// Its code, which has its message.
+    pub code: Code,
     /// The part that it is about.
     pub text: &'i str,
 }
@@ -33,9 +34,11 @@ pub fn find_warnings<'i>(
     ensures none_missing { IfOk result (λ lists. 0 < length sources.now
         → HasAllWarnings (rule_views rules.now) lists.items) }
 {
+    let unreachable = unreachable_alternatives(alloc, rules)?;
+    let reversed = suspect_spans(alloc, Suspect::ReversedRange, rules)?;
     let mut warnings = no_warnings(alloc, sources.len())?;
-    add_alternatives(alloc, sources, rules, &mut warnings)?;
-    add_ranges(alloc, sources, rules, &mut warnings)?;
+    add_warnings(sources, Code::Unreachable, &unreachable, &mut warnings)?;
+    add_warnings(sources, Code::ReversedRange, &reversed, &mut warnings)?;
     Ok(warnings)
 }
 
@@ -51,65 +54,26 @@ fn no_warnings<'i>(alloc: Global, count: usize) -> Result<Vec<Vec<RuleWarning<'i
     Ok(warnings)
 }
 
-/// Adds the warnings for alternatives that are never taken.
-fn add_alternatives<'i>(
-    alloc: Global,
-    sources: &[RuleSource<'i>],
-    rules: &[ParserRule<'i>],
-    warnings: &mut Vec<Vec<RuleWarning<'i>>>,
-) -> Result<(), AllocError>
-    ensures alike { OnOk result (length warnings.new.items ≡ length warnings.old.items) }
-    ensures definite { OnOk result (AreWarnings (rule_views rules.now) warnings.old.items
-        → AreWarnings (rule_views rules.now) warnings.new.items) }
-    ensures kept { OnOk result (KeepsWarnings warnings.old.items warnings.new.items) }
-    ensures added { OnOk result (0 < length sources.now → length warnings.old.items ≡ length sources.now
-        → All (Warns warnings.new.items unreachable)
-        (choices.unreachable_alternatives (rule_views rules.now))) }
-{
-    let unreachable = unreachable_alternatives(alloc, rules)?;
-    let message = "this alternative is never taken: one before it begins all that it matches";
-    add_warnings(sources, message, &unreachable, warnings)
-}
-
-/// Adds the warnings for ranges that match nothing.
-fn add_ranges<'i>(
-    alloc: Global,
-    sources: &[RuleSource<'i>],
-    rules: &[ParserRule<'i>],
-    warnings: &mut Vec<Vec<RuleWarning<'i>>>,
-) -> Result<(), AllocError>
-    ensures alike { OnOk result (length warnings.new.items ≡ length warnings.old.items) }
-    ensures definite { OnOk result (AreWarnings (rule_views rules.now) warnings.old.items
-        → AreWarnings (rule_views rules.now) warnings.new.items) }
-    ensures kept { OnOk result (KeepsWarnings warnings.old.items warnings.new.items) }
-    ensures added { OnOk result (0 < length sources.now → length warnings.old.items ≡ length sources.now
-        → All (Warns warnings.new.items reversed) (ranges.reversed_ranges (rule_views rules.now))) }
-{
-    let reversed = reversed_ranges(alloc, rules)?;
-    let message = "this range matches nothing: its first character is above its last";
-    add_warnings(sources, message, &reversed, warnings)
-}
-
-/// Adds a warning with a message for each of these parts, to the rule in which it is.
+/// Adds a warning of a code for each of these parts, to the rule in which it is.
 fn add_warnings<'i>(
     sources: &[RuleSource<'i>],
-    message: &'static str,
+    code: Code,
     parts: &[Span<'i>],
     warnings: &mut Vec<Vec<RuleWarning<'i>>>,
 ) -> Result<(), AllocError>
     ensures alike { OnOk result (length warnings.new.items ≡ length warnings.old.items) }
     ensures definite { OnOk result ((rules : List SpannedRule)
-        → AllSaid message.now (map piece_of parts.now) rules
+        → AllSaid code (map piece_of parts.now) rules
         → AreWarnings rules warnings.old.items → AreWarnings rules warnings.new.items) }
     ensures kept { OnOk result (KeepsWarnings warnings.old.items warnings.new.items) }
     ensures added { OnOk result (0 < length sources.now → length warnings.old.items ≡ length sources.now
-        → All (Warns warnings.new.items message.now) (map piece_of parts.now)) }
+        → All (Warns warnings.new.items code) (map piece_of parts.now)) }
 {
     for part in parts {
         let start = part.start();
         let after = sources.partition_point(|rule| rule.start <= start);
         let warning = RuleWarning {
-            message,
+            code,
             text: part.as_str(),
         };
         add_warning(after.saturating_sub(1), warning, warnings)?;
@@ -127,8 +91,8 @@ fn add_warning<'i>(
     ensures definite { OnOk result ((rules : List SpannedRule) → IsWarning rules warning.entry
         → AreWarnings rules warnings.old.items → AreWarnings rules warnings.new.items) }
     ensures kept { OnOk result (KeepsWarnings warnings.old.items warnings.new.items) }
-    ensures added { OnOk result (rule < length warnings.old.items → (message : List ℕ) (piece : Piece)
-        → Says message piece warning.entry → Warns warnings.new.items message piece) }
+    ensures added { OnOk result (rule < length warnings.old.items → (kind : Kind) (piece : Piece)
+        → Says kind piece warning.entry → Warns warnings.new.items kind piece) }
 {
     if let Some(others) = warnings.get_mut(rule) {
         others.push(warning)?;

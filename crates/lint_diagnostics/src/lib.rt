@@ -29,7 +29,7 @@ use base_language::grammar::Rule;
 use base_language::runtime::{Error, ErrorVariant, Fault, Span};
 use front_names::Builtin;
 use front_spanned::ParserRule;
-pub use lint_findings::{ALL_CODES, Code, Diagnostic, Fix, Help, Options, Related, Severity};
+pub use lint_findings::{Code, Diagnostic, Fix, Help, Options, Related, Severity};
 use lint_findings::{
     Fragment, diagnose_all_rules, diagnose_errors, diagnose_list, diagnose_rules, diagnose_starts,
     leave_out_allowed, stated_starts,

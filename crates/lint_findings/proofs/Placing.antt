@@ -88,11 +88,13 @@ more_whole items items' f at next t ts parts all i v p h =
 pub viewed_at : (xs : List code.Fragment) (i : ℕ) (x : code.Fragment) → x ≡ get_or xs i x → fragment_of x ≡ get_or (map fragment_of xs) i (fragment_of x)
 viewed_at xs i x e = ap fragment_of e ∙ sym (get_or-map fragment_of xs i x)
 
--- the first item of which a test holds, from one item on and behind it
-pub find_here : {A : Type 0} (f : A → Bool) (xs : List A) (i : ℕ) (d : A) (first : Option A) → i < length xs → f (get_or xs i d) ≡ true → find f (drop i xs) ≡ first → Some (get_or xs i d) ≡ first
-find_here f xs i d first h t e =
-    sym (ap (λ b. cond b (Some (get_or xs i d)) (find f (drop (i + 1) xs))) t) ∙ ap (find f) (sym (drop_more xs i d h)) ∙ e
+-- the first answer of which a test holds, from one item on and behind it
+pub find_here : {X A : Type 0} (g : X → A) (f : A → Bool) (xs : List X) (i : ℕ) (d : X) (first : Option A) → i < length xs → f (g (get_or xs i d)) ≡ true → find f (map g (drop i xs)) ≡ first → Some (g (get_or xs i d)) ≡ first
+find_here g f xs i d first h t e =
+    let x = get_or xs i d in
+    sym (ap (λ b. cond b (Some (g x)) (find f (map g (drop (i + 1) xs)))) t) ∙ ap (λ ys. find f (map g ys)) (sym (drop_more xs i d h)) ∙ e
 
-pub find_behind : {A : Type 0} (f : A → Bool) (xs : List A) (i : ℕ) (d : A) (first : Option A) → i < length xs → f (get_or xs i d) ≡ false → find f (drop i xs) ≡ first → find f (drop (i + 1) xs) ≡ first
-find_behind f xs i d first h t e =
-    sym (ap (λ b. cond b (Some (get_or xs i d)) (find f (drop (i + 1) xs))) t) ∙ ap (find f) (sym (drop_more xs i d h)) ∙ e
+pub find_behind : {X A : Type 0} (g : X → A) (f : A → Bool) (xs : List X) (i : ℕ) (d : X) (first : Option A) → i < length xs → f (g (get_or xs i d)) ≡ false → find f (map g (drop i xs)) ≡ first → find f (map g (drop (i + 1) xs)) ≡ first
+find_behind g f xs i d first h t e =
+    let x = get_or xs i d in
+    sym (ap (λ b. cond b (Some (g x)) (find f (map g (drop (i + 1) xs)))) t) ∙ ap (λ ys. find f (map g ys)) (sym (drop_more xs i d h)) ∙ e

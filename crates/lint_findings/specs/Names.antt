@@ -6,9 +6,9 @@ use Rattle.base_language.specs.Pieces.Saying.{Span, written}
 use Rattle.front_names.specs.Names.{is_builtin}
 use Rattle.front_spanned.specs.Spanned.{SpannedRule}
 
--- the words that Rust keeps for itself
-unfoldable pub rust_keywords : List Text
-rust_keywords =
+-- the words that Rust keeps for itself in any edition up to 2024
+unfoldable pub edition_keywords : List Text
+edition_keywords =
     codes "abstract" ∷ codes "as" ∷ codes "async" ∷ codes "await" ∷ codes "become" ∷ codes "box" ∷
     codes "break" ∷ codes "const" ∷ codes "continue" ∷ codes "crate" ∷ codes "do" ∷ codes "dyn" ∷
     codes "else" ∷ codes "enum" ∷ codes "extern" ∷ codes "false" ∷ codes "final" ∷ codes "fn" ∷
@@ -26,7 +26,7 @@ old_builtins =
     codes "soi" ∷ codes "whitespace" ∷ []
 
 abbrev pub is_keyword : Text → Bool
-is_keyword name = is_one_of rust_keywords name
+is_keyword name = is_one_of edition_keywords name
 
 -- a builtin that rules may be named as, or one of pest 1
 abbrev pub is_builtin_name : Text → Bool

@@ -8,12 +8,12 @@ ghost use Rattle.lint_findings.specs.Fragments.{fragment_of, parts_at};
 ghost use Rattle.lint_findings.specs.Starts.{is_comment};
 ghost use Rattle.front_spanned.specs.Nodes.{rule_view, rule_views};
 
-use crate::codes::{Code, all_codes};
+use crate::codes::Code;
 use crate::diagnostic::Diagnostic;
+use crate::facts::all_facts;
 use crate::fragments::Fragment;
 use crate::helps::allowance_help;
 use crate::starts::is_comment;
-use crate::warnings::message_of;
 use front_spanned::ParserRule;
 use std::alloc::{AllocError, Global};
 
@@ -180,9 +180,9 @@ fn allowance_of(
 fn code_in(alloc: Global, comment: &str) -> Result<Option<Code>, AllocError>
     ensures { IfOk result (λ answer. answer ≡ spec.code_in comment.now) }
 {
-    for code in all_codes() {
-        if is_comment_of(alloc, comment, *code)? {
-            return Ok(Some(*code));
+    for facts in all_facts() {
+        if is_comment_of(alloc, comment, facts.code)? {
+            return Ok(Some(facts.code));
         }
     }
     Ok(None)
@@ -292,7 +292,7 @@ fn warning_of(
     ensures { IfOk result (WarnsOf allowance) }
 {
     let code = Code::UnusedAllowance;
-    let message = message_of(code);
+    let message = code.message();
     let mut warning = Diagnostic::new(alloc, code, allowance.start, allowance.end, message)?;
     warning.help = allowance_help(alloc, allowance.code, is_counted)?;
     Ok(warning)

@@ -2,7 +2,9 @@
 ghost use Rattle.std.specs.Prelude.{◌≡◌, ◌++◌, IfNone, IfSome, bytes_eq, true};
 ghost use Rattle.lint_findings.specs.Codes as spec;
 ghost use Rattle.lint_findings.specs.Codes.{IsUnknown, code_name, has_name, is_optional, severity_of};
-ghost use Rattle.lint_findings.specs.Codes.{severity_name};
+ghost use Rattle.lint_findings.specs.Codes.{is_on_request, severity_as, severity_name};
+
+use crate::facts::{all_facts, facts_of};
 
 /// How much a diagnostic weighs.
 #[derive(Clone, Copy, Debug, PartialEq, Eq)]
@@ -21,6 +23,39 @@ impl Severity {
         match self {
             Severity::Error => "error",
             Severity::Warning => "warning",
+        }
+    }
+}
+
+/// How diagnostics of a code are reported.
+#[derive(Clone, Copy, Debug, PartialEq, Eq)]
+pub enum Report {
+    /// As errors.
+    Error,
+    /// As warnings.
+    Warning,
+    /// As warnings, where all are asked for.
+    OnRequest,
+}
+
+impl Report {
+    /// Whether a text with such a diagnostic is refused.
+    fn severity(self) -> Severity
+        ensures { result ≡ severity_as self }
+    {
+        match self {
+            Report::Error => Severity::Error,
+            Report::Warning | Report::OnRequest => Severity::Warning,
+        }
+    }
+
+    /// Whether it is reported only where all warnings are asked for.
+    fn is_on_request(self) -> bool
+        ensures { result ≡ is_on_request self }
+    {
+        match self {
+            Report::OnRequest => true,
+            Report::Error | Report::Warning => false,
         }
     }
 }
@@ -86,73 +121,12 @@ pub enum Code {
     RepeatedBody,
 }
 
-/// All codes.
-pub const ALL_CODES: [Code; 28] = [
-    Code::Syntax,
-    Code::EscapeValue,
-    Code::NumberRange,
-    Code::ZeroRepetition,
-    Code::ReservedName,
-    Code::DuplicateRule,
-    Code::UndefinedRule,
-    Code::MissingProperty,
-    Code::LeftRecursion,
-    Code::EndlessRepetition,
-    Code::UnreachableChoice,
-    Code::TagWithoutToken,
-    Code::UnusedAllowance,
-    Code::UncalledRule,
-    Code::MissingEnd,
-    Code::UnknownStart,
-    Code::Unreachable,
-    Code::ReversedRange,
-    Code::ReversedCount,
-    Code::IdleTest,
-    Code::NeverMatches,
-    Code::BlanksInToken,
-    Code::ManyCopies,
-    Code::RepeatedAlternative,
-    Code::RewrittenList,
-    Code::KeywordName,
-    Code::BuiltinName,
-    Code::RepeatedBody,
-];
-
 impl Code {
     /// Its name, as `pest::left_recursion`.
     pub fn name(self) -> &'static str
         ensures { result.now ≡ code_name self }
     {
-        match self {
-            Code::Syntax => "pest::syntax",
-            Code::EscapeValue => "pest::escape_value",
-            Code::NumberRange => "pest::number_range",
-            Code::ZeroRepetition => "pest::zero_repetition",
-            Code::ReservedName => "pest::reserved_name",
-            Code::DuplicateRule => "pest::duplicate_rule",
-            Code::UndefinedRule => "pest::undefined_rule",
-            Code::MissingProperty => "pest::missing_property",
-            Code::LeftRecursion => "pest::left_recursion",
-            Code::EndlessRepetition => "pest::endless_repetition",
-            Code::UnreachableChoice => "pest::unreachable_choice",
-            Code::TagWithoutToken => "pest::tag_without_token",
-            Code::UnusedAllowance => "pest::unused_allowance",
-            Code::UncalledRule => "pest::uncalled_rule",
-            Code::MissingEnd => "pest::missing_end",
-            Code::UnknownStart => "pest::unknown_start",
-            Code::Unreachable => "pest::unreachable",
-            Code::ReversedRange => "pest::reversed_range",
-            Code::ReversedCount => "pest::reversed_count",
-            Code::IdleTest => "pest::idle_test",
-            Code::NeverMatches => "pest::never_matches",
-            Code::BlanksInToken => "pest::blanks_in_token",
-            Code::ManyCopies => "pest::many_copies",
-            Code::RepeatedAlternative => "pest::repeated_alternative",
-            Code::RewrittenList => "pest::rewritten_list",
-            Code::KeywordName => "pest::keyword_name",
-            Code::BuiltinName => "pest::builtin_name",
-            Code::RepeatedBody => "pest::repeated_body",
-        }
+        facts_of(self).name
     }
 
     /// The code of a name, with or without `pest::`.
@@ -160,9 +134,9 @@ impl Code {
         ensures named { IfSome result (λ code. has_name code name.now ≡ true) }
         ensures unknown { IfNone result (IsUnknown name.now) }
     {
-        for code in all_codes() {
-            if code.has_name(name) {
-                return Some(*code);
+        for facts in all_facts() {
+            if facts.code.has_name(name) {
+                return Some(facts.code);
             }
         }
         None
@@ -177,37 +151,29 @@ impl Code {
     }
 
     /// Whether warnings of it are reported only where all are asked for.
+    #[tactic(auto, unfolding(crate::specs::Codes::is_optional))]
     pub fn is_optional(self) -> bool
         ensures { result ≡ is_optional self }
     {
-        matches!(
-            self,
-            Code::KeywordName | Code::BuiltinName | Code::RepeatedBody
-        )
+        facts_of(self).report.is_on_request()
     }
 
     /// Whether a text with such a diagnostic is refused.
     pub fn severity(self) -> Severity
         ensures { result ≡ severity_of self }
     {
-        match self {
-            Code::UnusedAllowance | Code::UnknownStart | Code::MissingEnd => Severity::Warning,
-            Code::UncalledRule | Code::Unreachable | Code::ReversedRange => Severity::Warning,
-            Code::ReversedCount | Code::IdleTest | Code::NeverMatches => Severity::Warning,
-            Code::BlanksInToken | Code::ManyCopies => Severity::Warning,
-            Code::RepeatedAlternative | Code::RewrittenList => Severity::Warning,
-            Code::KeywordName | Code::BuiltinName => Severity::Warning,
-            Code::RepeatedBody => Severity::Warning,
-            _ => Severity::Error,
-        }
+        facts_of(self).report.severity()
     }
-}
 
-/// All codes.
-pub(crate) fn all_codes() -> &'static [Code]
-    ensures { result.now ≡ spec.all_codes }
-{
-    &ALL_CODES
+    /// The message of its warnings; nothing of an error, which has a message of its own.
+    pub fn message(self) -> &'static str {
+        facts_of(self).message.unwrap_or("")
+    }
+
+    /// Its page: when it is reported, an example, and how to mend it.
+    pub fn explanation(self) -> &'static str {
+        facts_of(self).page
+    }
 }
 
 /// Whether a name is that after `pest::` in a full one.

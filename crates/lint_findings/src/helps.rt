@@ -1,5 +1,6 @@
 //! Helps for codes.
 use crate::codes::{Code, Severity};
+use crate::facts::facts_of;
 use lint_hints::{Help, pest_property_text};
 use lint_warnings::{is_blank_name, is_blank_name_in_any_case};
 use std::alloc::{AllocError, Global};
@@ -18,48 +19,18 @@ pub(crate) fn listed_help(
     }
 }
 
-/// The text of such a help.
+/// The text of such a help: where it depends on more than the code, and otherwise that of the code's facts.
 fn help_text(code: Code, about: &str, is_repeat: bool) -> Option<&'static str> {
     match code {
-        Code::Syntax | Code::UndefinedRule => None,
         Code::MissingProperty => Some(pest_property_text()),
-        Code::EscapeValue => Some("D800 to DFFF and what is above 10FFFF are no characters"),
         Code::NumberRange => Some(number_text(about)),
-        Code::ZeroRepetition => Some("what takes nothing is written `\"\"`"),
-        Code::ReservedName => Some("take another name: pest has a meaning for this one"),
-        Code::DuplicateRule => {
-            Some("take one of them away, or write both as alternatives: `a = { b | c }`")
-        }
-        Code::LeftRecursion => {
-            Some("write the operand first and repeat the rest: `a = { b ~ (\"+\" ~ b)* }`")
-        }
         Code::EndlessRepetition => Some(endless_text(about)),
-        Code::UnreachableChoice => {
-            Some("put the alternative that cannot fail last, or take away its `?` or `*`")
-        }
-        Code::TagWithoutToken => Some("tag a rule that is not silent, or take the tag away"),
-        Code::UnusedAllowance => Some("take the comment away"),
         Code::UncalledRule => Some(uncalled_text(about)),
-        Code::MissingEnd => Some("end its body with `~ EOI`, where the whole text is to match"),
-        Code::UnknownStart => Some("give the names of rules of this grammar"),
         Code::Unreachable => Some(unreachable_text(is_repeat)),
-        Code::ReversedRange => Some("let its bounds change places"),
-        Code::ReversedCount => Some("let its numbers change places"),
         Code::IdleTest => Some(idle_text(about)),
         Code::NeverMatches => Some(never_text(about)),
-        Code::BlanksInToken => Some("a rule with `@` before its brace skips none"),
-        Code::ManyCopies => {
-            Some("put a part of it into a rule of its own: then calls alone are copied")
-        }
-        Code::RepeatedAlternative => Some("take it away, or write what was meant"),
-        Code::RewrittenList => {
-            Some("so it matches before a `y` that no `x` follows; write what is meant")
-        }
-        Code::KeywordName => Some(
-            "in Rust it is written `r#name`, which `self`, `Self`, `super` and `crate` can't be",
-        ),
         Code::BuiltinName => Some(builtin_text(about)),
-        Code::RepeatedBody => Some("let one of them call the other, or take one away"),
+        _ => facts_of(code).help,
     }
 }
 

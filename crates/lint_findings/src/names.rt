@@ -9,8 +9,9 @@ use front_names::is_builtin;
 use front_spanned::ParserRule;
 use std::alloc::{AllocError, Global};
 
-/// The words that Rust keeps for itself.
-static RUST_KEYWORDS: [&str; 52] = [
+/// The words that Rust keeps for itself in any edition up to 2024. The list of `front_names` is pest's own,
+/// of Rust 1.0.
+static EDITION_KEYWORDS: [&str; 52] = [
     "abstract", "as", "async", "await", "become", "box", "break", "const", "continue", "crate",
     "do", "dyn", "else", "enum", "extern", "false", "final", "fn", "for", "gen", "if", "impl",
     "in", "let", "loop", "macro", "match", "mod", "move", "mut", "override", "priv", "pub", "ref",
@@ -86,7 +87,7 @@ fn add_builtin<'i>(rule: &ParserRule<'i>, found: &mut Vec<Span<'i>>) -> Result<(
 fn is_keyword(name: &str) -> bool
     ensures { result ≡ spec.is_keyword name.now }
 {
-    is_among(rust_keywords(), name)
+    is_among(edition_keywords(), name)
 }
 
 /// Whether a builtin has a name, or had it in pest 1.
@@ -96,11 +97,11 @@ fn is_builtin_name(name: &str) -> bool
     is_builtin(name) || is_among(old_builtins(), name)
 }
 
-/// The words that Rust keeps for itself.
-fn rust_keywords() -> &'static [&'static str]
-    ensures { map (λ name. name.now) result.now ≡ spec.rust_keywords }
+/// The words that Rust keeps for itself in any edition.
+fn edition_keywords() -> &'static [&'static str]
+    ensures { map (λ name. name.now) result.now ≡ spec.edition_keywords }
 {
-    &RUST_KEYWORDS
+    &EDITION_KEYWORDS
 }
 
 /// The names that builtins had in pest 1.

@@ -15,7 +15,6 @@ use crate::codes::Code;
 use crate::diagnostic::Diagnostic;
 use crate::fragments::Fragment;
 use crate::helps::listed_help;
-use crate::warnings::message_of;
 use front_spanned::ParserRule;
 use lint_hints::{Related, nearest_name};
 use lint_warnings::names_of;
@@ -111,7 +110,7 @@ fn warning_of(
         ReportsWarning (warning code.UnknownStart (place_of text (fragment_of stray.entry))) diagnostic) }
 {
     let code = Code::UnknownStart;
-    let mut warning = Diagnostic::new(alloc, code, stray.start, stray.end, message_of(code))?;
+    let mut warning = Diagnostic::new(alloc, code, stray.start, stray.end, code.message())?;
     warning.help = listed_help(alloc, code, stray.text, false)?;
     warning.related = notes;
     Ok(warning)

@@ -1,9 +1,9 @@
 //! Warnings as diagnostics.
-ghost use Rattle.std.specs.Prelude.{◌≡◌, ◌≢◌, IfOk, OnOk, ◌++◌, List, flat_map, map};
+ghost use Rattle.std.specs.Prelude.{◌≡◌, ◌≢◌, IfOk, OnOk, ◌++◌, List, filter, flat_map, map, not};
 ghost use Rattle.std.specs.List.{AllZip};
 ghost use Rattle.front_spanned.specs.Nodes.{piece_of, rule_views};
 ghost use Rattle.lint_findings.specs.Codes as spec;
-ghost use Rattle.lint_findings.specs.Codes.{all_warnings_of, severity_of, warnings_of};
+ghost use Rattle.lint_findings.specs.Codes.{all_warnings_of, is_optional, severity_of, warnings_of};
 ghost use Rattle.lint_findings.specs.Reports.{ReportsWarning};
 ghost use Rattle.lint_findings.specs.declared.codes.Code.TheVariants as variant;
 ghost use Rattle.lint_findings.specs.declared.codes.Severity.TheVariants as severity;
@@ -12,31 +12,18 @@ ghost use Rattle.lint_warnings.specs.Lists.{texts_of};
 use crate::choices::diagnose_choices;
 use crate::codes::{Code, Severity};
 use crate::diagnostic::Diagnostic;
+use crate::facts::{Facts, all_facts};
 use crate::helps::listed_help;
 use crate::names::{builtin_names, keyword_names};
 use base_language::runtime::Span;
 use front_spanned::ParserRule;
 use lint_hints::Related;
-use lint_patterns::{many_copies, open_starts, repeated_alternatives, repeated_bodies};
-use lint_warnings::{Suspect, blanks_in_tokens, reversed_ranges, suspect_spans, uncalled_rules};
+use lint_patterns::{
+    first_bodies, many_copies, open_starts, repeated_alternatives, repeated_bodies,
+};
+use lint_warnings::{Suspect, blanks_in_tokens, suspect_spans, uncalled_rules};
 use std::alloc::{AllocError, Global};
-
-/// The codes of warnings of rules, in the order in which those of a text are listed.
-static WARNING_CODES: [Code; 10] = [
-    Code::UncalledRule,
-    Code::MissingEnd,
-    Code::Unreachable,
-    Code::ReversedRange,
-    Code::ReversedCount,
-    Code::IdleTest,
-    Code::NeverMatches,
-    Code::BlanksInToken,
-    Code::ManyCopies,
-    Code::RepeatedAlternative,
-];
-
-/// The codes of warnings that are reported only where all are asked for.
-static OPTIONAL_CODES: [Code; 3] = [Code::KeywordName, Code::BuiltinName, Code::RepeatedBody];
+use std::collections::HashMap;
 
 /// The warnings of rules, code by code; rules of the names `starts` need no call.
 pub fn diagnose_rules(
@@ -47,7 +34,9 @@ pub fn diagnose_rules(
     ensures { IfOk result (λ diagnostics. AllZip ReportsWarning
         (warnings_of (texts_of starts.now) (rule_views rules.now)) diagnostics.items) }
 {
-    diagnose_codes(alloc, warning_codes(), rules, starts)
+    let all = codes_of(alloc, all_facts())?;
+    let codes = standard_codes(alloc, &all)?;
+    diagnose_codes(alloc, &codes, rules, starts)
 }
 
 /// All warnings of rules, those that are reported only where they are asked for, too.
@@ -60,23 +49,40 @@ pub fn diagnose_all_rules(
         (all_warnings_of (texts_of starts.now) (rule_views rules.now)) diagnostics.items) }
 {
     let mut diagnostics = diagnose_rules(alloc, rules, starts)?;
-    let mut others = diagnose_codes(alloc, optional_codes(), rules, starts)?;
+    let all = codes_of(alloc, all_facts())?;
+    let codes = optional_codes(alloc, &all)?;
+    let mut others = diagnose_codes(alloc, &codes, rules, starts)?;
     diagnostics.append(&mut others)?;
     Ok(diagnostics)
 }
 
-/// The codes of warnings of rules, but for those that are asked for.
-fn warning_codes() -> &'static [Code]
-    ensures { result.now ≡ spec.warning_codes }
+/// The codes of some facts, in order.
+fn codes_of(alloc: Global, facts: &[Facts]) -> Result<Vec<Code>, AllocError>
+    ensures { IfOk result (λ codes. codes.items ≡ map (λ f. f.code) facts.now) }
 {
-    &WARNING_CODES
+    facts.iter().map(|facts| facts.code).collect(alloc)
 }
 
-/// The codes of warnings that are asked for.
-fn optional_codes() -> &'static [Code]
-    ensures { result.now ≡ spec.optional_codes }
+/// The codes but for those that are reported only where all are asked for.
+fn standard_codes(alloc: Global, codes: &[Code]) -> Result<Vec<Code>, AllocError>
+    ensures { IfOk result (λ standard. standard.items ≡ filter (λ c. not (is_optional c)) codes.now) }
 {
-    &OPTIONAL_CODES
+    codes
+        .iter()
+        .copied()
+        .filter(|code| !code.is_optional())
+        .collect(alloc)
+}
+
+/// The codes that are reported only where all are asked for.
+fn optional_codes(alloc: Global, codes: &[Code]) -> Result<Vec<Code>, AllocError>
+    ensures { IfOk result (λ optional. optional.items ≡ filter is_optional codes.now) }
+{
+    codes
+        .iter()
+        .copied()
+        .filter(|code| code.is_optional())
+        .collect(alloc)
 }
 
 /// The warnings of some codes, code by code.
@@ -162,7 +168,8 @@ fn diagnose_spans(
         (spec.warnings_with (texts_of starts.now) (rule_views rules.now) code) diagnostics.items) }
 {
     let spans = spans_of(alloc, code, rules, starts)?;
-    report_spans(alloc, code, &spans)
+    let twins = twins_of(alloc, code, rules)?;
+    report_spans(alloc, code, &spans, &twins)
 }
 
 /// The warning of a rule with this name, in which pest runs a list otherwise than it is written, with notes.
@@ -180,11 +187,24 @@ pub fn diagnose_list(
     Ok(diagnostic)
 }
 
-/// A warning of a code at each of these spans.
+/// By the byte where a warning of a code begins, the bytes of what is the same before it, where that is told.
+fn twins_of(
+    alloc: Global,
+    code: Code,
+    rules: &[ParserRule<'_>],
+) -> Result<HashMap<usize, (usize, usize)>, AllocError> {
+    match code {
+        Code::RepeatedBody => first_bodies(alloc, rules),
+        _ => Ok(HashMap::new(alloc)),
+    }
+}
+
+/// A warning of a code at each of these spans, with a note on its twin, if it has one.
 fn report_spans(
     alloc: Global,
     code: Code,
     spans: &[Span<'_>],
+    twins: &HashMap<usize, (usize, usize)>,
 ) -> Result<Vec<Diagnostic>, AllocError>
     requires { severity_of code ≡ severity.Warning }
     ensures { IfOk result (λ diagnostics.
@@ -192,10 +212,38 @@ fn report_spans(
 {
     let mut diagnostics = Vec::new(alloc);
     for span in spans {
-        let diagnostic = report_span(alloc, code, *span, false)?;
+        let diagnostic = report_with_twin(alloc, code, *span, twins)?;
         diagnostics.push(diagnostic)?;
     }
     Ok(diagnostics)
+}
+
+/// A warning of a code at a span, with a note on its twin, if it has one.
+fn report_with_twin(
+    alloc: Global,
+    code: Code,
+    span: Span<'_>,
+    twins: &HashMap<usize, (usize, usize)>,
+) -> Result<Diagnostic, AllocError>
+    requires { severity_of code ≡ severity.Warning }
+    ensures { IfOk result (ReportsWarning (spec.warning code (piece_of span.entry))) }
+{
+    let mut diagnostic = report_span(alloc, code, span, false)?;
+    diagnostic.related = twin_notes(alloc, span.start(), twins)?;
+    Ok(diagnostic)
+}
+
+/// A note on the twin of the warning that begins at a byte, if it has one.
+fn twin_notes(
+    alloc: Global,
+    start: usize,
+    twins: &HashMap<usize, (usize, usize)>,
+) -> Result<Vec<Related>, AllocError> {
+    let mut notes = Vec::new(alloc);
+    if let Some((first, last)) = twins.get(&start) {
+        notes.push(Related::new(alloc, *first, *last, "this one has the same")?)?;
+    }
+    Ok(notes)
 }
 
 /// A warning of a code at a span, which may repeat what is before it.
@@ -208,7 +256,7 @@ pub(crate) fn report_span(
     requires { severity_of code ≡ severity.Warning }
     ensures { IfOk result (ReportsWarning (spec.warning code (piece_of span.entry))) }
 {
-    let mut diagnostic = Diagnostic::new(alloc, code, span.start(), span.end(), message_of(code))?;
+    let mut diagnostic = Diagnostic::new(alloc, code, span.start(), span.end(), code.message())?;
     diagnostic.help = listed_help(alloc, code, span.as_str(), is_repeat)?;
     Ok(diagnostic)
 }
@@ -228,7 +276,7 @@ fn spans_of<'i>(
         Code::UncalledRule => uncalled_rules(alloc, rules, starts),
         Code::Unreachable => unreachable!(),
         Code::MissingEnd => open_starts(alloc, rules, starts),
-        Code::ReversedRange => reversed_ranges(alloc, rules),
+        Code::ReversedRange => suspect_spans(alloc, Suspect::ReversedRange, rules),
         Code::ReversedCount => suspect_spans(alloc, Suspect::ReversedCount, rules),
         Code::IdleTest => suspect_spans(alloc, Suspect::IdleTest, rules),
         Code::NeverMatches => suspect_spans(alloc, Suspect::Unmatchable, rules),
@@ -239,34 +287,5 @@ fn spans_of<'i>(
         Code::BuiltinName => builtin_names(alloc, rules),
         Code::RepeatedBody => repeated_bodies(alloc, rules),
         _ => Ok(Vec::new(alloc)),
-    }
-}
-
-/// The message of a warning.
-pub(crate) fn message_of(code: Code) -> &'static str {
-    match code {
-        Code::UnusedAllowance => "this allows nothing in the rule below",
-        Code::UncalledRule => "no other rule calls this one",
-        Code::MissingEnd => {
-            "this start never asks for the end of the text: what follows may be left"
-        }
-        Code::UnknownStart => "no rule has this name",
-        Code::Unreachable => {
-            "this alternative is never taken: one before it begins all that it matches"
-        }
-        Code::ReversedRange => "this range matches nothing: its first character is above its last",
-        Code::ReversedCount => "the first number is above the last, which alone counts",
-        Code::IdleTest => "this changes nothing, since what it holds cannot fail",
-        Code::NeverMatches => "this never matches",
-        Code::BlanksInToken => "blanks are skipped between these characters",
-        Code::ManyCopies => "the optimizer makes 10,000 copies or more of what this repeats",
-        Code::RepeatedAlternative => {
-            "this alternative is never taken: it is the same as one before it"
-        }
-        Code::RewrittenList => "pest runs a list `(x ~ y)* ~ x` of this rule as `x ~ (y ~ x)*`",
-        Code::KeywordName => "Rust keeps this name for itself",
-        Code::BuiltinName => "this name is that of a builtin",
-        Code::RepeatedBody => "a rule before this one has the same type and body",
-        _ => "",
     }
 }

@@ -11,7 +11,7 @@ use base_ast::ast::RuleType;
 use base_language::runtime::Span;
 use front_spanned::ParserRule;
 use std::alloc::{AllocError, Global};
-use std::collections::HashSet;
+use std::collections::{HashMap, HashSet};
 
 /// The spans of the names of rules with the type and the body of a rule before them, but for bodies that are
 /// literals, calls or large. The only error is an allocation failure. The time is linear in the rules.
@@ -28,6 +28,38 @@ pub fn repeated_bodies<'i>(
         add_where_same(alloc, rule, &mut seen, &mut found)?;
     }
     Ok(found)
+}
+
+/// By the byte where the name of a rule with a repeated body begins, the bytes of the name of the first rule
+/// that has its type and body. The only error is an allocation failure. The time is linear in the rules.
+pub fn first_bodies(
+    alloc: Global,
+    rules: &[ParserRule<'_>],
+) -> Result<HashMap<usize, (usize, usize)>, AllocError> {
+    let mut places = HashMap::new(alloc);
+    let mut firsts = HashMap::new(alloc);
+    for rule in rules {
+        if let Some(key) = rule_key(alloc, rule)? {
+            let place = (rule.span.start(), rule.span.end());
+            let first = firsts.get(&key).copied();
+            match first {
+                Some(first) => places.insert(place.0, first)?,
+                None => firsts.insert(key, place)?,
+            };
+        }
+    }
+    Ok(places)
+}
+
+/// The key of a rule's type and body, where the body is compared.
+fn rule_key(alloc: Global, rule: &ParserRule<'_>) -> Result<Option<Vec<u32>>, AllocError> {
+    if is_plain(&rule.node) {
+        return Ok(None);
+    }
+    match key_of(alloc, &rule.node)? {
+        Some(body) => Ok(Some(with_type(body, rule.ty)?)),
+        None => Ok(None),
+    }
 }
 
 /// Adds the span of the name of a rule whose key is there, and else adds its key.

@@ -14,7 +14,7 @@ mod names;
 mod passes;
 
 pub use crate::alternatives::repeated_alternatives;
-pub use crate::bodies::repeated_bodies;
+pub use crate::bodies::{first_bodies, repeated_bodies};
 pub use crate::copies::many_copies;
 pub use crate::ends::open_starts;
 pub use crate::lists::rewritten_lists;

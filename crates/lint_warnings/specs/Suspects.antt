@@ -6,6 +6,7 @@ use Rattle.front_names.specs.CharSets.{set_name}
 use Rattle.front_names.specs.declared.char_set.CharSet.TheVariants.{Any}
 use Rattle.front_spanned.specs.Spanned.{Span, Spanned, SpannedRule, Leaf, One, Two, PosPred, NegPred, Opt, Rep, RepOnce, RepMax, RepMinMax, Seq, span_of}
 use Rattle.front_spanned.specs.Walk.{preorder}
+use Rattle.lint_warnings.specs.Ranges.{is_reversed}
 use Rattle.lint_warnings.specs.declared.suspects.Suspect.{Suspect}
 use Rattle.lint_warnings.specs.declared.suspects.Suspect.TheVariants as suspect
 
@@ -72,6 +73,7 @@ is_unmatchable (Two s Seq x y) = takes_rest x && takes_character y
 is_unmatchable _ = false
 
 abbrev pub is_suspect : Suspect → Spanned → Bool
+is_suspect suspect.ReversedRange x = is_reversed x
 is_suspect suspect.ReversedCount x = has_reversed_count x
 is_suspect suspect.IdleTest x = is_idle_test x
 is_suspect suspect.Unmatchable x = is_unmatchable x

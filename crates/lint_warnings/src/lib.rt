@@ -14,7 +14,6 @@ mod suspects;
 mod tokens;
 
 pub use crate::choices::{UnreachableChoice, unreachable_alternatives, unreachable_choices};
-pub use crate::ranges::reversed_ranges;
 pub use crate::rules::{
     add_name, is_blank_name, is_blank_name_in_any_case, is_named, is_start, names_of, needed_names,
     uncalled_rules,

@@ -1,9 +1,11 @@
-//! Nodes that are suspect by themselves: counts, tests and sequences that do not do what they look like.
+//! Nodes that are suspect by themselves: ranges, counts, tests and sequences that do not do what they look
+//! like.
 ghost use Rattle.std.specs.Prelude.{◌≡◌, ◌++◌, IfOk, OnOk, map};
 ghost use Rattle.std.specs.Str.{chars};
 ghost use Rattle.front_spanned.specs.Nodes.{piece_of, rule_views, view};
 ghost use Rattle.lint_warnings.specs.Suspects as spec;
 
+use crate::ranges::is_reversed;
 use crate::rules::is_named;
 use base_language::runtime::Span;
 use front_names::{Builtin, CharSet};
@@ -13,6 +15,8 @@ use std::alloc::{AllocError, Global};
 /// Why a node is suspect.
 #[derive(Clone, Copy, Debug, PartialEq, Eq)]
 pub enum Suspect {
+    /// A range whose first bound is above its last, as `'z'..'a'`, which matches nothing.
+    ReversedRange,
     /// A count whose first number is above its last, as `e{3,1}`: `e` is repeated as often as the last says.
     ReversedCount,
     /// A test of what cannot fail, as `&e*`, or an option of it, as `e*?`.
@@ -77,6 +81,7 @@ fn is_suspect(reason: Suspect, node: &ParserNode<'_>) -> bool
     ensures { result ≡ spec.is_suspect reason (view node.now) }
 {
     match reason {
+        Suspect::ReversedRange => is_reversed(node),
         Suspect::ReversedCount => has_reversed_count(node),
         Suspect::IdleTest => is_idle_test(node),
         Suspect::Unmatchable => is_unmatchable(node),

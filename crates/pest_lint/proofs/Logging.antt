@@ -11,7 +11,7 @@ use Rattle.serde_json.specs.Written.{has_float, items_have_float}
 use Rattle.lint_findings.specs.declared.diagnostic.Diagnostic.{Diagnostic}
 use Rattle.lint_output.specs.Sarif.{IsRule, result_data}
 use Rattle.lint_findings.specs.declared.codes.Code.{Code}
-use Rattle.pest_lint.specs.Pages.{page_of}
+use Rattle.lint_findings.specs.declared.facts.Facts.{Facts}
 use Rattle.lint_output.proofs.Floats.{append_free, results_free, rule_free}
 use Rattle.lint_diagnostics.specs.Diagnosis.{IsDiagnosisWith}
 use Rattle.pest_lint.specs.Logs.{AreLogged, AreRules, Logs, Part, all_results, highest_part, read, results_of, unread}
@@ -70,14 +70,17 @@ pub rules_free : (codes : List Code) (rules : List Data) → AreRules codes rule
 rules_free [] [] h = refl
 rules_free [] (r ∷ rs) h = absurd h
 rules_free (k ∷ ks) [] h = absurd h
-rules_free (k ∷ ks) (r ∷ rs) h = or_from (has_float r) _ (rule_free k (page_of k) r h.0) (rules_free ks rs h.1)
+rules_free (k ∷ ks) (r ∷ rs) h = or_from (has_float r) _ (rule_free k h.0.0 r h.0.1) (rules_free ks rs h.1)
 
 -- the rule of one code more
-pub one_rule_more : (codes : List Code) (i : ℕ) (code : Code) (old new : List Value) (rule : Value) → i < length codes → AreRules (take i codes) (map view old)
-    → IsRule (get_or codes i code) (page_of (get_or codes i code)) (view rule) → new ≡ old ++ rule ∷ [] → AreRules (take (i + 1) codes) (map view new)
-one_rule_more codes i code old new rule l before is e =
-    let P : Code → Data → Type 0 = λ k r. IsRule k (page_of k) r in
+pub one_rule_more : (table : List Facts) (i : ℕ) (facts : Facts) (old new : List Value) (rule : Value) (page : List ℕ) → i < length table → facts ≡ get_or table i facts
+    → AreRules (map (λ f. f.code) (take i table)) (map view old) → IsRule facts.code page (view rule) → new ≡ old ++ rule ∷ [] → AreRules (map (λ f. f.code) (take (i + 1) table)) (map view new)
+one_rule_more table i facts old new rule page l is before of e =
+    let P : Code → Data → Type 0 = λ k r. (p : List ℕ) × IsRule k p r in
+    let code : Facts → Code = λ f. f.code in
     let values : map view new ≡ map view old ++ view rule ∷ [] = ap (map view) e ∙ map-append view old (rule ∷ []) in
-    subst (λ rs. AllZip P (take (i + 1) codes) rs) (sym values)
-    (subst (λ ks. AllZip P ks (map view old ++ view rule ∷ [])) (sym (take_more codes i code l))
-    (all_zipped_more P (take i codes) (map view old) (get_or codes i code) (view rule) before is))
+    let more : map code (take (i + 1) table) ≡ map code (take i table) ++ facts.code ∷ [] =
+    ap (map code) (take_more table i facts l) ∙ (map-append code (take i table) (get_or table i facts ∷ []) ∙ ap (λ f. map code (take i table) ++ code f ∷ []) (sym is)) in
+    subst (λ rs. AllZip P (map code (take (i + 1) table)) rs) (sym values)
+    (subst (λ ks. AllZip P ks (map view old ++ view rule ∷ [])) (sym more)
+    (all_zipped_more P (map code (take i table)) (map view old) facts.code (view rule) before (page, of)))

@@ -9,7 +9,6 @@ use Rattle.lint_output.specs.Json.{json_line}
 use Rattle.lint_output.specs.Sarif.{IsRule, log_data, result_data}
 use Rattle.lint_findings.specs.Codes.{all_codes}
 use Rattle.lint_findings.specs.declared.codes.Code.{Code}
-use Rattle.pest_lint.specs.Pages.{page_of}
 use Rattle.lint_diagnostics.specs.Diagnosis.{IsDiagnosisWith}
 use Rattle.pest_lint.specs.Shows.{Asked, GainsWithEnd, IsReadable, status_of}
 use Rattle.pest_lint.specs.declared.arguments.Format.{Format}
@@ -49,7 +48,7 @@ pub record AreLogged (asked : Asked) (sources : List Source) (status : ℕ) (res
 
 -- these are the rules of codes, with their pages
 abbrev pub AreRules : List Code → List Data → Type 0
-AreRules codes rules = AllZip (λ code rule. IsRule code (page_of code) rule) codes rules
+AreRules codes rules = AllZip (λ code rule. (page : List ℕ) × IsRule code page rule) codes rules
 
 -- a writer gained a log with the rules of all codes, and these results
 pub record GainsRules (results : Items) (old new : Option (List ℕ)) : Type 0 where

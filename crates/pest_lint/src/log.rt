@@ -8,12 +8,12 @@ ghost use Rattle.pest_lint.specs.Logs.{AreRules, GainsLog, GainsRules, Logs};
 ghost use Rattle.pest_lint.specs.Shows.{IsClean, asked_of};
 
 use crate::arguments::Settings;
-use crate::explain::explanation;
 use crate::lint::{
     CLEAN, MEMORY, Source, UNWRITABLE, diagnose_text, report_memory, report_unreadable, status_of,
     text_of,
 };
-use lint_diagnostics::{ALL_CODES, Code, Diagnostic};
+use lint_diagnostics::Diagnostic;
+use lint_findings::{Facts, all_facts};
 use lint_output::{LineIndex, Origin, sarif_log, sarif_result, sarif_rule};
 use program_support::output::Output;
 use serde_json::Value;
@@ -110,7 +110,7 @@ fn print_log<W: Write>(alloc: Global, results: Vec<Value>, out: &mut Output<W>) 
     ensures taken { result ≢ 4 → out.new.refused ≡ out.old.refused }
     ensures refused_write { result ≡ 4 → out.new.refused ≡ true }
 {
-    let Ok(rules) = rules_of(alloc, &ALL_CODES) else {
+    let Ok(rules) = rules_of(alloc, all_facts()) else {
         return MEMORY;
     };
     let Ok(text) = sarif_log(alloc, rules, results) else {
@@ -123,13 +123,12 @@ fn print_log<W: Write>(alloc: Global, results: Vec<Value>, out: &mut Output<W>) 
 }
 
 /// Codes as rules, with their pages, in order.
-fn rules_of(alloc: Global, codes: &[Code]) -> Result<Vec<Value>, AllocError>
-    ensures { IfOk result (λ rules. AreRules codes.now (map view rules.items)) }
+fn rules_of(alloc: Global, codes: &[Facts]) -> Result<Vec<Value>, AllocError>
+    ensures { IfOk result (λ rules. AreRules (map (λ facts. facts.code) codes.now) (map view rules.items)) }
 {
     let mut rules = Vec::new(alloc);
-    for code in codes {
-        let page = explanation(*code);
-        let rule = sarif_rule(alloc, *code, page)?;
+    for facts in codes {
+        let rule = sarif_rule(alloc, facts.code, facts.page)?;
         rules.push(rule)?;
     }
     Ok(rules)

@@ -20,21 +20,21 @@ returns-in_ok-push-clause-definite c = λ rules warned before.
     before
 
 pub returns-in_ok-push-clause-kept : goal.returns-in_ok-push-clause-kept
-returns-in_ok-push-clause-kept c = λ message piece before.
-    let P : Vec RuleWarning → Type 0 = λ warnings. Any (Says message piece) warnings.items in
+returns-in_ok-push-clause-kept c = λ kind piece before.
+    let P : Vec RuleWarning → Type 0 = λ warnings. Any (Says kind piece) warnings.items in
     let lists = c.args.warnings.now.items in
     let others = c.in-Some.others.now in
     let item = c.in-Some.ensures.item in
     any_after_set P lists c.args.rule c.push.new.self item.3.0
     (λ held.
-    subst (λ (items : List RuleWarning). Any (Says message piece) items) (sym c.in_ok-push.ensures.items)
-    (any_of_more (Says message piece) others.items c.args.warning
+    subst (λ (items : List RuleWarning). Any (Says kind piece) items) (sym c.in_ok-push.ensures.items)
+    (any_of_more (Says kind piece) others.items c.args.warning
     (subst P (get_or_default lists c.args.rule c.push.new.self others item.3.0 ∙ sym item.1) held)))
     before
 
 pub returns-in_ok-push-clause-added : goal.returns-in_ok-push-clause-added
-returns-in_ok-push-clause-added c = λ l message piece said.
-    any-set (λ (warnings : Vec RuleWarning). Any (Says message piece) warnings.items) c.args.warnings.now.items c.args.rule
+returns-in_ok-push-clause-added c = λ l kind piece said.
+    any-set (λ (warnings : Vec RuleWarning). Any (Says kind piece) warnings.items) c.args.warnings.now.items c.args.rule
     c.push.new.self l
-    (subst (λ (items : List RuleWarning). Any (Says message piece) items) (sym c.in_ok-push.ensures.items)
-    (Any-push (Says message piece) c.in-Some.others.now.items c.args.warning said))
+    (subst (λ (items : List RuleWarning). Any (Says kind piece) items) (sym c.in_ok-push.ensures.items)
+    (Any-push (Says kind piece) c.in-Some.others.now.items c.args.warning said))

@@ -25,16 +25,16 @@ loop-part-preserved c =
             says = refl;
           }))
           (c.loop-part.invariant.definite rules said before);
-      kept = λ message piece held.
-          c.in_ok-add_warning.ensures.kept message piece (c.loop-part.invariant.kept message piece held);
+      kept = λ kind piece held.
+          c.in_ok-add_warning.ensures.kept kind piece (c.loop-part.invariant.kept kind piece held);
       added = λ some alike.
-          one_warned_more c.loop-part.warnings.items _ c.args.message.now c.args.parts.now c.loop-part.part-index part
+          one_warned_more c.loop-part.warnings.items _ c.args.code c.args.parts.now c.loop-part.part-index part
           c.loop-part-test.true c.part-item.is c.in_ok-add_warning.ensures.kept (c.loop-part.invariant.added some alike)
-          (c.in_ok-add_warning.ensures.added (omega (arith, some, alike, c.loop-part.invariant.alike)) c.args.message.now
+          (c.in_ok-add_warning.ensures.added (omega (arith, some, alike, c.loop-part.invariant.alike)) c.args.code
           (piece_of part) (c.as_str.ensures, refl));
     }
 
 pub returns-clause-added : goal.returns-clause-added
 returns-clause-added c = λ some alike.
-    subst (λ (parts : List code_span.Span). All (Warns c.loop-part.warnings.items c.args.message.now) (map piece_of parts))
+    subst (λ (parts : List code_span.Span). All (Warns c.loop-part.warnings.items c.args.code) (map piece_of parts))
     (take_all c.loop-part.part-index c.args.parts.now c.loop-part-test.false) (c.loop-part.invariant.added some alike)

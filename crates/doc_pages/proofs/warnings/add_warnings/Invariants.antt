@@ -8,9 +8,9 @@ use Rattle.doc_pages.proofs.warnings.add_warnings.Given as goal
 abbrev pub invariant-loop-part : goal.invariant-loop-part
 invariant-loop-part l = record {
   alike : length l.warnings.items ≡ length l.fn.warnings.items;
-  definite : (rules : List SpannedRule) → AllSaid l.message (map piece_of l.parts) rules
+  definite : (rules : List SpannedRule) → AllSaid l.code (map piece_of l.parts) rules
       → AreWarnings rules l.fn.warnings.items → AreWarnings rules l.warnings.items;
   kept : KeepsWarnings l.fn.warnings.items l.warnings.items;
   added : 0 < length l.sources → length l.fn.warnings.items ≡ length l.sources
-      → All (Warns l.warnings.items l.message) (map piece_of (take l.part-index l.parts));
+      → All (Warns l.warnings.items l.code) (map piece_of (take l.part-index l.parts));
 }

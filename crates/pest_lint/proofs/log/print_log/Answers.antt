@@ -9,7 +9,7 @@ use Rattle.pest_lint.proofs.log.print_log.Goals as goal
 pub returns-clause-logs : goal.returns-clause-logs
 returns-clause-logs g c = λ zero none.
     let P : List ℕ → Type 0 = λ t. Appends (g.W.Write.contents c.args.out.now.writer) (g.W.Write.contents c.write_text.new.self.writer) t in
-    let pages : AreRules all_codes (map view c.in-Ok.rules.items) = c.in-Ok.ensures in
+    let pages : AreRules all_codes (map view c.in-Ok.rules.items) = rw c.all_facts.ensures.codes at c.in-Ok.ensures in
     record {
       rules = map view c.in-Ok.rules.items;
       pages = pages;

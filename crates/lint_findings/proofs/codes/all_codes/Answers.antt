@@ -1,5 +1,0 @@
-use Rattle.std.proofs.Common.{refl}
-use Rattle.lint_findings.proofs.codes.all_codes.Goals as goal
-
-pub returns : goal.returns
-returns c = refl
