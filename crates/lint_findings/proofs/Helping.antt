@@ -2,7 +2,7 @@
 use Rattle.std.proofs.Common.{◌≡◌, ◌∙◌, ◌+◌, ◌<◌, ℕ, List, [], ◌∷◌, ◌++◌, Bor, Err, IfOk, IfSome, None, Ok, Option, Result, Some, ap, ap₂, get_or, length, map, string_bytes, sym, take}
 use Rattle.std.proofs.lemmas.List.{map-append, take_more}
 use Rattle.std.specs.Prelude.{IsSomeAnd, codes}
-use Rattle.lint_findings.specs.Helps.{IsCustomHelp, IsSuggestion}
+use Rattle.lint_findings.specs.Helps.{IsHelpOf, IsSuggestion}
 use Rattle.lint_findings.specs.declared.codes.Code.{Code}
 use Rattle.lint_findings.specs.declared.codes.Code.TheVariants as code
 use Rattle.front_names.specs.Builtins.{name_of}
@@ -12,12 +12,12 @@ use Rattle.lint_hints.specs.declared.help.Fix.{Fix}
 use Rattle.lint_hints.specs.declared.help.Help.{Help}
 
 -- a suggestion is a help for an undefined name
-pub suggested : {E : Type 0} (c : Code) (result : Result (Option Help) E) → IfOk result (λ help. IfSome help IsSuggestion) → IfOk result (IsCustomHelp c)
+pub suggested : {E : Type 0} (c : Code) (result : Result (Option Help) E) → IfOk result (λ help. IfSome help IsSuggestion) → IfOk result (IsHelpOf c)
 suggested c (Ok help) s = λ e. s
 suggested c (Err x) s = tt
 
 -- and another code needs none
-pub unsuggested : {E : Type 0} (c : Code) (result : Result (Option Help) E) → (c ≡ code.UndefinedRule → ⊥) → IfOk result (IsCustomHelp c)
+pub unsuggested : {E : Type 0} (c : Code) (result : Result (Option Help) E) → (c ≡ code.UndefinedRule → ⊥) → IfOk result (IsHelpOf c)
 unsuggested c (Ok help) n = λ e. absurd (n e)
 unsuggested c (Err x) n = tt
 

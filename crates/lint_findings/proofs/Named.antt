@@ -45,7 +45,6 @@ stands : (c : Code) → get_or all_codes (tag_of the_type c) c ≡ c
 stands code.Syntax = refl
 stands _ = refl
 
--- what the table has at that number
 -- what the table of codes has at that number
 pub in_table : {A : Type 0} (f : Facts → A) (g : Code → A) (table : List Facts) (d : Facts) (c : Code) → map f table ≡ map g all_codes → f (get_or table (tag_of the_type c) d) ≡ g c
 in_table f g table d c e =

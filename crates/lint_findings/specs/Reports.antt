@@ -1,5 +1,5 @@
 -- Errors and warnings, and the diagnostics that report them.
-use Rattle.std.specs.Prelude.{◌≡◌, ◌≢◌, ℕ, List, Bool, true, false, IfSome, Option, string_bytes, ⊤}
+use Rattle.std.specs.Prelude.{◌≡◌, ◌≢◌, ℕ, List, Bool, true, false, string_bytes, ⊤}
 use Rattle.base_language.specs.declared.grammar.Rule.{Rule}
 use Rattle.base_language.specs.declared.runtime.errors.Error.{Error}
 use Rattle.base_language.specs.declared.runtime.errors.ErrorVariant.{ErrorVariant}
@@ -12,8 +12,7 @@ use Rattle.lint_findings.specs.declared.codes.Code.TheVariants as code
 use Rattle.lint_findings.specs.declared.codes.Severity.{Severity}
 use Rattle.lint_findings.specs.declared.codes.Severity.TheVariants as severity
 use Rattle.lint_findings.specs.declared.diagnostic.Diagnostic.{Diagnostic}
-use Rattle.lint_findings.specs.Helps.{IsCustomHelp, IsKnownHelp}
-use Rattle.lint_hints.specs.declared.help.Help.{Help}
+use Rattle.lint_findings.specs.Helps.{IsHelpOf}
 
 -- an error's own message; a syntax error has none
 abbrev pub IsMessageOf : ErrorVariant → List ℕ → Type 0
@@ -38,18 +37,13 @@ is_severe severity.Warning = false
 abbrev pub is_error : Diagnostic → Bool
 is_error diagnostic = is_severe diagnostic.severity
 
--- a syntax error has the help for a mistake that hints know, and another one for its code
-abbrev pub IsHelpOf : ErrorVariant → Code → Option Help → Type 0
-IsHelpOf variant.ParsingError c help = IfSome help IsKnownHelp
-IsHelpOf (variant.CustomError own) c help = IsCustomHelp c help
-
 -- the diagnostic reports an error
 pub record ReportsError (error : Error Rule) (diagnostic : Diagnostic) : Type 0 where
   pub severity : diagnostic.severity ≡ severity.Error
   pub code : IsCodeOf error.variant diagnostic.code
   pub location : IsAt error.location diagnostic.start diagnostic.end
   pub message : IsMessageOf error.variant (string_bytes diagnostic.message)
-  pub help : IsHelpOf error.variant diagnostic.code diagnostic.help
+  pub help : IsHelpOf diagnostic.code diagnostic.help
 
 -- the diagnostic reports a warning; messages and helps are tested by examples/lint
 pub record ReportsWarning (warning : Warning) (diagnostic : Diagnostic) : Type 0 where

@@ -1,7 +1,7 @@
 //! Errors as diagnostics.
-ghost use Rattle.std.specs.Prelude.{◌≡◌, ◌≢◌, IfOk, IfSome, string_bytes};
+ghost use Rattle.std.specs.Prelude.{◌≡◌, ◌≢◌, IfOk, string_bytes};
 ghost use Rattle.std.specs.List.{AllZip};
-ghost use Rattle.lint_findings.specs.Helps.{IsCustomHelp, IsKnownHelp};
+ghost use Rattle.lint_findings.specs.Helps.{IsHelpOf};
 ghost use Rattle.lint_findings.specs.Reports.{IsAt, ReportsError};
 ghost use Rattle.lint_findings.specs.declared.codes.Code.TheVariants as code;
 ghost use Rattle.lint_findings.specs.declared.codes.Severity.TheVariants as severity;
@@ -70,7 +70,7 @@ fn diagnose_custom(
     ensures start { IfOk result (λ diagnostic. diagnostic.start ≡ start) }
     ensures end { IfOk result (λ diagnostic. diagnostic.end ≡ end) }
     ensures message { IfOk result (λ diagnostic. string_bytes diagnostic.message ≡ message.now) }
-    ensures help { IfOk result (λ diagnostic. IsCustomHelp diagnostic.code diagnostic.help) }
+    ensures help { IfOk result (λ diagnostic. IsHelpOf diagnostic.code diagnostic.help) }
 {
     let code = code_of(message);
     let mut diagnostic = Diagnostic::new(alloc, code, start, end, message)?;
@@ -101,7 +101,6 @@ fn diagnose_syntax(
     ensures severity { IfOk result (λ diagnostic. diagnostic.severity ≡ severity.Error) }
     ensures start { IfOk result (λ diagnostic. diagnostic.start ≡ start) }
     ensures end { IfOk result (λ diagnostic. diagnostic.end ≡ end) }
-    ensures help { IfOk result (λ diagnostic. IfSome diagnostic.help IsKnownHelp) }
 {
     let message = syntax_message(alloc, text, start, expected)?;
     let Hint { help, related, .. } = hint_at(alloc, text, start)?;
@@ -121,7 +120,7 @@ fn help_for(
     end: usize,
     message: &str,
 ) -> Result<Option<Help>, AllocError>
-    ensures { IfOk result (IsCustomHelp code) }
+    ensures { IfOk result (IsHelpOf code) }
 {
     match code {
         Code::UndefinedRule => names.help_undefined(alloc, rule_name(message), start, end),

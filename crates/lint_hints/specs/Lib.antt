@@ -1,3 +1,2 @@
 pub mod Hints
-pub mod Mistakes
 pub mod Properties

@@ -1,6 +1,6 @@
 //! Helps, fixes, related positions.
-ghost use Rattle.std.specs.Prelude.{◌≡◌, IfOk, IsSomeAnd, None, string_bytes};
-ghost use Rattle.lint_hints.specs.Hints.{IsReplacement, IsTold};
+ghost use Rattle.std.specs.Prelude.{◌≡◌, ◌↔◌, IfOk, IsSome, IsSomeAnd, None, string_bytes};
+ghost use Rattle.lint_hints.specs.Hints.{IsReplacement};
 
 use crate::mistakes::Mistake;
 use std::alloc::{AllocError, Global};
@@ -99,7 +99,7 @@ impl Hint {
         remedy: Option<Remedy>,
         related: Vec<Related>,
     ) -> Result<Hint, AllocError>
-        ensures { IfOk result (λ hint. IsTold hint.mistake hint.help) }
+        ensures { IfOk result (λ hint. IsSome hint.mistake ↔ IsSome hint.help) }
     {
         let Some(Remedy { mistake, fix }) = remedy else {
             return Ok(Hint {

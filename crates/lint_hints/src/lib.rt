@@ -1,8 +1,7 @@
 //! Hints: how a syntax error of a grammar may be mended, judged by the lexemes around its position.
 #![tactic(auto)]
 
-ghost use Rattle.std.specs.Prelude.{IfOk};
-ghost use Rattle.lint_hints.specs.Hints.{IsTold};
+ghost use Rattle.std.specs.Prelude.{◌↔◌, IfOk, IsSome};
 
 mod foreign;
 mod help;
@@ -31,7 +30,7 @@ use std::alloc::{AllocError, Global};
 /// A hint for the syntax error of a text at a byte. A mistake is only known where the lexemes around the byte
 /// show it, and the help is that of the mistake. The time is linear in the text.
 pub fn hint_at(alloc: Global, text: &str, position: usize) -> Result<Hint, AllocError>
-    ensures { IfOk result (λ hint. IsTold hint.mistake hint.help) }
+    ensures { IfOk result (λ hint. IsSome hint.mistake ↔ IsSome hint.help) }
 {
     let site = Site::new(alloc, text, position)?;
     let remedy = remedy_at(alloc, &site)?;

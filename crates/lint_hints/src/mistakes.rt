@@ -1,6 +1,4 @@
 //! The mistakes that hints know, and what is said of each.
-ghost use Rattle.std.specs.Prelude.{◌≡◌};
-ghost use Rattle.lint_hints.specs.Mistakes as spec;
 
 /// A mistake that a hint knows, by where it is.
 #[derive(Clone, Copy)]
@@ -14,9 +12,7 @@ pub enum Mistake {
 
 impl Mistake {
     /// How it is mended, in words.
-    pub fn text(self) -> &'static str
-        ensures { result.now ≡ spec.text_of self }
-    {
+    pub fn text(self) -> &'static str {
         match self {
             Mistake::Literal(mistake) => mistake.text(),
             Mistake::Outer(mistake) => mistake.text(),
@@ -62,9 +58,7 @@ pub enum LiteralMistake {
 
 impl LiteralMistake {
     /// How it is mended, in words.
-    pub fn text(self) -> &'static str
-        ensures { result.now ≡ spec.literal_text self }
-    {
+    pub fn text(self) -> &'static str {
         match self {
             LiteralMistake::HexEscape => "`\\x` takes two hexadecimal digits",
             LiteralMistake::UnicodeEscape => {
@@ -155,9 +149,7 @@ pub enum OuterMistake {
 
 impl OuterMistake {
     /// How it is mended, in words.
-    pub fn text(self) -> &'static str
-        ensures { result.now ≡ spec.outer_text self }
-    {
+    pub fn text(self) -> &'static str {
         match self {
             OuterMistake::DigitFirst => "a name does not begin with a digit",
             OuterMistake::CommentSign => "a comment begins with `//`",
@@ -222,9 +214,7 @@ pub enum ForeignMistake {
 
 impl ForeignMistake {
     /// How it is mended, in words.
-    pub fn text(self) -> &'static str
-        ensures { result.now ≡ spec.foreign_text self }
-    {
+    pub fn text(self) -> &'static str {
         match self {
             ForeignMistake::ByteOrderMark => "the text begins with a byte order mark",
             ForeignMistake::Blank => "the blanks of a grammar are spaces, tabs and line ends",
@@ -308,9 +298,7 @@ pub enum SignMistake {
 
 impl SignMistake {
     /// How it is mended, in words.
-    pub fn text(self) -> &'static str
-        ensures { result.now ≡ spec.sign_text self }
-    {
+    pub fn text(self) -> &'static str {
         match self {
             SignMistake::OtherTilde => "a sequence is written with `~`",
             SignMistake::LateTest => "`!` and `&` are before what they test",
@@ -409,9 +397,7 @@ pub enum TermMistake {
 
 impl TermMistake {
     /// How it is mended, in words.
-    pub fn text(self) -> &'static str
-        ensures { result.now ≡ spec.term_text self }
-    {
+    pub fn text(self) -> &'static str {
         match self {
             TermMistake::LostTilde => "a sequence is written with `~`",
             TermMistake::Plus => {
