@@ -19,6 +19,7 @@ use Rattle.matcher_code.specs.declared.code.Op.TheVariants as op
 use Rattle.matcher_code.specs.Sets.{IsSetOf}
 use Rattle.matcher_code.specs.Laid.{HasOutcome, IsSilent, Performs, at_label, skip_set, span_of}
 use Rattle.matcher_code.specs.Failures.{Failures, end_failures, in_silence, no_failure}
+use Rattle.matcher_code.specs.declared.state.Places.{Places}
 use Rattle.matcher_code.specs.Paths.{told_paths}
 use Rattle.matcher_code.specs.Reached.{Comes, IsAt}
 use Rattle.matcher_code.proofs.CharacterSets.{all_performs, below, one_performs}
@@ -82,16 +83,16 @@ by_builtin classes CompoundAtomicMode n b s i h = rw h refl
 by_builtin classes Between n b s i h = absurd i
 
 -- the failures of a name that is no rule's, which counts or not
-abbrev other_failures : Bool → Text → ℕ → State → Outcome → Failures
+abbrev other_failures : Bool → Text → Places → State → Outcome → Failures
 other_failures b n place s o = record {
   furthest = place_of b s o;
-  names = told b n place s o [];
-  paths = told_paths b n place s o [];
-  attempts = told_attempts b false n place s o no_attempt;
-  negated = told_attempts b true n place s o no_attempt;
+  names = told b n place.names s o [];
+  paths = told_paths b n place.names s o [];
+  attempts = told_attempts b false n place.attempts s o no_attempt;
+  negated = told_attempts b true n place.attempts s o no_attempt;
 }
 
-unseen : (b : Bool) (n : Text) (place : ℕ) (s : State) (o : Outcome) → b ≡ false → other_failures b n place s o ≡ no_failure
+unseen : (b : Bool) (n : Text) (place : Places) (s : State) (o : Outcome) → b ≡ false → other_failures b n place s o ≡ no_failure
 unseen b n place s (Success t us) e = ap (λ x. other_failures x n place s (Success t us)) e
 unseen b n place s Failure e = ap (λ x. other_failures x n place s Failure) e
 

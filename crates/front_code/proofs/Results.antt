@@ -16,7 +16,7 @@ use Rattle.matcher_code.specs.Failures.{failures_at}
 use Rattle.matcher_code.specs.Laid.{IsEnd, at_label}
 use Rattle.matcher_code.specs.Reached.{IsAt, MayAsk, Reaches, with_failure, with_success}
 use Rattle.matcher_code.specs.Results.{start_config}
-use Rattle.matcher_code.specs.Steps.{Config, jump, steps}
+use Rattle.matcher_code.specs.Steps.{Config, jump, steps, one_place}
 use Rattle.matcher_code.proofs.Existence.{stays_ended}
 use Rattle.matcher_code.proofs.Forward.{comes, fail_forward, guard_forward}
 use Rattle.matcher_code.proofs.Reaching.{reaching, steps_add}
@@ -44,7 +44,7 @@ pub record IsTaken (m : Machine) (run : RuleRun) : Type 0 where
   pub furthest : run.furthest ≡ m.furthest
   pub names : run.names ≡ m.names
 
-fresh : (code : CodeLists) (text : List ℕ) (m : Machine) (l place : ℕ) → IsFresh m place → config code text m l 0 ≡ start_config l place
+fresh : (code : CodeLists) (text : List ℕ) (m : Machine) (l place : ℕ) → IsFresh m place → config code text m l 0 ≡ start_config l (one_place place)
 fresh code text m l place f =
     let a = f.slots in
     let b = f.trees in
@@ -55,7 +55,7 @@ fresh code text m l place f =
     rw (a, b, d, c, e, g) refl
 
 module _ (exact : Bool) (classes : Classes) (code : CodeLists) (is : IsCodeOfMetaGrammar exact classes code) (rule : Rule) (text : List ℕ) (u : IsUtf8 text)
-    (bytes : (i : ℕ) → get_or text i 0 < 256) (asked : ℕ) (asks : MayAsk exact text asked) where
+    (bytes : (i : ℕ) → get_or text i 0 < 256) (asked : ℕ) (asks : MayAsk exact text (one_place asked)) where
   abbrev task : Task
   task = Run NonAtomicMode (Ident (name_of rule))
 
@@ -63,7 +63,7 @@ module _ (exact : Bool) (classes : Classes) (code : CodeLists) (is : IsCodeOfMet
   label = number_of (name_of rule) + 3
 
   abbrev start : Config
-  start = start_config label asked
+  start = start_config label (one_place asked)
 
   at_start : IsAt text (start_of text) 0 []
   at_start = record { position = refl; rest = refl; within = omega arith; valid = u; bytes = bytes; texts = refl; valid_texts = All-nil IsUtf8 }
@@ -78,16 +78,16 @@ module _ (exact : Bool) (classes : Classes) (code : CodeLists) (is : IsCodeOfMet
       ∙ (steps_add code text x.taken m start ∙ (ap (steps code text m) x.same ∙ stays_ended code text d e m)))
 
   matched : (m : ℕ) {t : State} {us : Trees} (d : Does meta_grammar classes task (start_of text) (Success t us)) → IsEnd code (steps code text m start).pc
-      → steps code text m start ≡ jump 1 (with_success number_of t us (failures_at asked d) start)
+      → steps code text m start ≡ jump 1 (with_success number_of t us (failures_at (one_place asked) d) start)
   matched m d h =
       let x = comes code text number_of is.fail exact meta_grammar classes is.points is.laid d (is.laid task label 1 2 (is.entries rule)) start at_start asks (guard_forward 2 0 start (omega arith)) in
       same_end m x.reaches (inl is.halt) h
 
   failed : (m : ℕ) (d : Does meta_grammar classes task (start_of text) Failure) → IsEnd code (steps code text m start).pc
-      → steps code text m start ≡ jump 2 (with_failure number_of (failures_at asked d) start)
+      → steps code text m start ≡ jump 2 (with_failure number_of (failures_at (one_place asked) d) start)
   failed m d h =
       let x = comes code text number_of is.fail exact meta_grammar classes is.points is.laid d (is.laid task label 1 2 (is.entries rule)) start at_start asks (guard_forward 2 0 start (omega arith)) in
-      same_end m (reaching code text x.reaches (fail_forward 2 (with_failure number_of (failures_at asked d) start) (omega arith))) (inr is.lose) h
+      same_end m (reaching code text x.reaches (fail_forward 2 (with_failure number_of (failures_at (one_place asked) d) start) (omega arith))) (inr is.lose) h
 
   module _ (old new : Machine) (begins : IsFresh old asked) (most : ℕ) (run : RuleRun) (taken : IsTaken new run) where
     pub has_matched : (end entry : ℕ) (e : RunEnd) → entry ≡ label → e ≡ ended.Found end → EndsAtLast code text most (config code text old entry 0) new e

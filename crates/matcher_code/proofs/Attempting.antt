@@ -13,6 +13,7 @@ use Rattle.base_language.proofs.TreesAreNested.{fits}
 use Rattle.base_language.specs.Language.Meaning.{Does, Task, str, insens, range, slice, skip, call, other, pos_pred, neg_pred, push, restore, seq, seq_first, seq_second, left, right, opt, opt_none, rep_none, turn, turn_none, rep_exact, rep_max, rep_min_max, skips, atomic, compound_atomic, between, gives_token, seen_from, rep, rep_once, rep_min, push_literal, tag}
 use Rattle.matcher_code.specs.Attempts.{Attempts, attempts_at, count, after_call, has_matched, is_recorded, no_attempt, place_from, append, told_attempts, with_rule}
 use Rattle.matcher_code.specs.Failures.{Failures, attempts_of, both, end_failures, unnamed}
+use Rattle.matcher_code.specs.declared.state.Places.{Places}
 use Rattle.matcher_code.specs.Paths.{told_paths}
 use Rattle.base_language.specs.Language.Expected.{told}
 use Rattle.matcher_code.specs.Reached.{rows_of}
@@ -85,24 +86,24 @@ of_silent true f e h = h
 of_silent false f e h = e
 
 -- the failures of a call, by those of the body
-abbrev pub called : (counts gives : Bool) → Text → ℕ → State → Outcome → Failures → Failures
-called counts gives x place s o f = record {
+abbrev pub called : (counts gives : Bool) → Text → Places → State → Outcome → Failures → Failures
+called counts gives x asked s o f = record {
   furthest = max (place_of counts s o) f.furthest;
-  names = told counts x place s o f.names;
-  paths = told_paths counts x place s o f.paths;
-  attempts = told_attempts gives false x place s o f.attempts;
-  negated = told_attempts gives true x place s o f.negated;
+  names = told counts x asked.names s o f.names;
+  paths = told_paths counts x asked.names s o f.paths;
+  attempts = told_attempts gives false x asked.attempts s o f.attempts;
+  negated = told_attempts gives true x asked.attempts s o f.negated;
 }
 
-pub of_called : (counts gives : Bool) (x : Text) (place : ℕ) (s : State) (o : Outcome) (f : Failures) (below : Bool)
-    → attempts_of below (called counts gives x place s o f) ≡ told_attempts gives below x place s o (attempts_of below f)
-of_called counts gives x place s o f true = refl
-of_called counts gives x place s o f false = refl
+pub of_called : (counts gives : Bool) (x : Text) (asked : Places) (s : State) (o : Outcome) (f : Failures) (below : Bool)
+    → attempts_of below (called counts gives x asked s o f) ≡ told_attempts gives below x asked.attempts s o (attempts_of below f)
+of_called counts gives x asked s o f true = refl
+of_called counts gives x asked s o f false = refl
 
 -- and of `EOI`
-pub of_end : (place : ℕ) (s : State) (o : Outcome) (below : Bool) → attempts_of below (end_failures place s o) ≡ told_attempts true below (codes "EOI") place s o no_attempt
-of_end place s o true = refl
-of_end place s o false = refl
+pub of_end : (asked : Places) (s : State) (o : Outcome) (below : Bool) → attempts_of below (end_failures asked s o) ≡ told_attempts true below (codes "EOI") asked.attempts s o no_attempt
+of_end asked s o true = refl
+of_end asked s o false = refl
 
 -- those of three parts
 pub append_three : (a b c : Attempts Text) → append (append a b) c ≡ append a (append b c)

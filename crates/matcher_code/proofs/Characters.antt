@@ -12,6 +12,7 @@ use Rattle.base_language.specs.Language.Meaning as by
 use Rattle.base_language.specs.Language.Meaning.{Does, Run, Skipping, Task, Turns, body_mode, gives_token, seen_from, with_token}
 use Rattle.matcher_code.specs.Laid.{HasOutcome, IsTight, TakesSome, skip_set, span_of, IsSilent}
 use Rattle.matcher_code.specs.Failures.{Failures, both, in_silence, no_failure, unnamed}
+use Rattle.matcher_code.specs.declared.state.Places.{Places}
 use Rattle.matcher_code.proofs.Attempting.{called}
 
 -- a state by its parts
@@ -96,16 +97,16 @@ module _ (g : Grammar) (classes : Classes) where
   Quiet k s o = (d : Does g classes k s o) × IsSilent d
 
   -- nor do two that note none, or three, nor a negation
-  two_silent : {f h : ℕ → Failures} → ((place : ℕ) → f place ≡ no_failure) → ((place : ℕ) → h place ≡ no_failure)
-      → (place : ℕ) → both (f place) (h place) ≡ no_failure
-  two_silent x y place = ap₂ both (x place) (y place)
+  two_silent : {f h : Places → Failures} → ((asked : Places) → f asked ≡ no_failure) → ((asked : Places) → h asked ≡ no_failure)
+      → (asked : Places) → both (f asked) (h asked) ≡ no_failure
+  two_silent x y asked = ap₂ both (x asked) (y asked)
 
-  three_silent : {f h i : ℕ → Failures} → ((place : ℕ) → f place ≡ no_failure) → ((place : ℕ) → h place ≡ no_failure) → ((place : ℕ) → i place ≡ no_failure)
-      → (place : ℕ) → both (f place) (both (h place) (i place)) ≡ no_failure
-  three_silent x y z place = ap₂ both (x place) (ap₂ both (y place) (z place))
+  three_silent : {f h i : Places → Failures} → ((asked : Places) → f asked ≡ no_failure) → ((asked : Places) → h asked ≡ no_failure) → ((asked : Places) → i asked ≡ no_failure)
+      → (asked : Places) → both (f asked) (both (h asked) (i asked)) ≡ no_failure
+  three_silent x y z asked = ap₂ both (x asked) (ap₂ both (y asked) (z asked))
 
-  negated_silent : {f : ℕ → Failures} → ((place : ℕ) → f place ≡ no_failure) → (place : ℕ) → unnamed (f place) ≡ no_failure
-  negated_silent x place = ap unnamed (x place)
+  negated_silent : {f : Places → Failures} → ((asked : Places) → f asked ≡ no_failure) → (asked : Places) → unnamed (f asked) ≡ no_failure
+  negated_silent x asked = ap unnamed (x asked)
 
   left_or_right : (m : Mode) (a b : Expression) (s t : State) (p q : Bool) → Quiet (Run m a) s (either t p) → Quiet (Run m b) s (either t q)
       → Quiet (Run m (Choice a b)) s (either t (p || q))
@@ -136,10 +137,10 @@ module _ (g : Grammar) (classes : Classes) where
   silently m x s r t true h e d =
       let z : (seen_from m && gives_token r.type_of m) ≡ false = ap (λ b. seen_from m && b) e ∙ hidden (seen_from m) in
       subst (λ us. Quiet (Run m (Ident x)) s (Success t us)) (ap (λ b. if b then Tree r.name s.position t.position None' None' else None') e)
-      (by.call {m = m} h d.0, λ place. ap₂ (λ b i. called b (gives_token r.type_of m) x place s (Success t None') i) z (d.1 place) ∙ ap (λ v. called false v x place s (Success t None') no_failure) e)
+      (by.call {m = m} h d.0, λ asked. ap₂ (λ b i. called b (gives_token r.type_of m) x asked s (Success t None') i) z (d.1 asked) ∙ ap (λ v. called false v x asked s (Success t None') no_failure) e)
   silently m x s r t false h e d =
       let z : (seen_from m && gives_token r.type_of m) ≡ false = ap (λ b. seen_from m && b) e ∙ hidden (seen_from m) in
-      (by.call {m = m} h d.0, λ place. ap₂ (λ b i. called b (gives_token r.type_of m) x place s Failure i) z (d.1 place) ∙ ap (λ v. called false v x place s Failure no_failure) e)
+      (by.call {m = m} h d.0, λ asked. ap₂ (λ b i. called b (gives_token r.type_of m) x asked s Failure i) z (d.1 asked) ∙ ap (λ v. called false v x asked s Failure no_failure) e)
 
   pub silent_call_of_set : (m : Mode) (x : Text) (r : Rule) (f : ℕ → Bool) → rule_of g x ≡ Some r → gives_token r.type_of m ≡ false
       → HasOutcome g classes (Run (body_mode r m) r.body) (character_outcome f) in_silence → HasOutcome g classes (Run m (Ident x)) (character_outcome f) in_silence

@@ -1,5 +1,5 @@
--- The failures of a derivation: the furthest one, and the names that are expected at a position, with the
--- calls that are open there, and the attempts there.
+-- The failures of a derivation: the furthest one, the names that are expected at a position, with the calls
+-- that are open there, and the attempts at another position.
 use Rattle.std.specs.Prelude.{ℕ, max, List, [], ◌++◌, Bool, codes, false, true}
 use Rattle.base_language.specs.Language.Text.{Text}
 use Rattle.base_language.specs.Language.Expression.{Grammar}
@@ -9,6 +9,7 @@ use Rattle.base_language.specs.Language.FurthestFailure.{furthest, place_of}
 use Rattle.base_language.specs.Language.Expected.{expected_at, told}
 use Rattle.matcher_code.specs.Attempts.{Attempts, attempts_at, no_attempt, append, told_attempts}
 use Rattle.matcher_code.specs.Paths.{Path, paths_at, told_paths}
+use Rattle.matcher_code.specs.declared.state.Places.{Places}
 
 -- the attempts are those where the task is not below a `!`, and those where it is
 pub record Failures : Type 0 where
@@ -19,13 +20,13 @@ pub record Failures : Type 0 where
   pub negated : Attempts Text
 
 abbrev pub failures_at : {g : Grammar} {classes : Classes} {k : Task} {s : State} {o : Outcome}
-    → ℕ → Does g classes k s o → Failures
-failures_at place d = record {
+    → Places → Does g classes k s o → Failures
+failures_at asked d = record {
   furthest = furthest d;
-  names = expected_at place d;
-  paths = paths_at place d;
-  attempts = attempts_at false place d;
-  negated = attempts_at true place d;
+  names = expected_at asked.names d;
+  paths = paths_at asked.names d;
+  attempts = attempts_at false asked.attempts d;
+  negated = attempts_at true asked.attempts d;
 }
 
 -- no failure is recorded, and no name
@@ -33,17 +34,17 @@ abbrev pub no_failure : Failures
 no_failure =
     record { furthest = 0; names = []; paths = []; attempts = no_attempt; negated = no_attempt }
 
-abbrev pub in_silence : ℕ → State → Failures
-in_silence place s = no_failure
+abbrev pub in_silence : Places → State → Failures
+in_silence asked s = no_failure
 
 -- the failures of `EOI`, whose call counts
-abbrev pub end_failures : ℕ → State → Outcome → Failures
-end_failures place s o = record {
+abbrev pub end_failures : Places → State → Outcome → Failures
+end_failures asked s o = record {
   furthest = place_of true s o;
-  names = told true (codes "EOI") place s o [];
-  paths = told_paths true (codes "EOI") place s o [];
-  attempts = told_attempts true false (codes "EOI") place s o no_attempt;
-  negated = told_attempts true true (codes "EOI") place s o no_attempt;
+  names = told true (codes "EOI") asked.names s o [];
+  paths = told_paths true (codes "EOI") asked.names s o [];
+  attempts = told_attempts true false (codes "EOI") asked.attempts s o no_attempt;
+  negated = told_attempts true true (codes "EOI") asked.attempts s o no_attempt;
 }
 
 -- failures of two parts

@@ -7,6 +7,7 @@ ghost use Rattle.base_language.specs.Language.State.{AtomicMode, Classes, Failur
 ghost use Rattle.base_language.specs.Language.Text.{Text};
 ghost use Rattle.base_language.specs.Language.Matching.{character_outcome, concatenated, distance, drop_outcome, end_outcome, newline_outcome, peek_outcome, pop_outcome, slice_outcome, text_outcome, with_stack};
 ghost use Rattle.matcher_code.specs.Failures.{end_failures, failures_at, in_silence};
+ghost use Rattle.matcher_code.specs.declared.state.Places.{Places};
 ghost use Rattle.matcher_code.specs.Reading.{text_of};
 ghost use Rattle.matcher_code.specs.Sets.{IsSetOf};
 ghost use Rattle.matcher_code.specs.Steps.{Config, jump, op_at, steps};
@@ -26,7 +27,7 @@ ghost use Rattle.matcher_code.specs.Sizes.{least_steps, size};
 /// point does its task: from each state, and for each outcome of the task there, the machine comes to where
 /// the outcome goes on, with its trees, the furthest position of its failures and the rows of the names that
 /// are expected where they are asked for, in at most eight steps for each rule of the relation of matching
-/// that the derivation applies. CodeLists that is not exact is asked for names at no place of the text.
+/// that the derivation applies. Code that is not exact is asked for names and attempts at no place of the text.
 pub fn laid_code_does_its_task()
     ensures { (exact : Bool) (g : Grammar) (classes : Classes) (code : CodeLists) (number : Text → ℕ)
         (points : List Point) → op_at code [] 0 ≡ op.Fail → AreLaid exact g classes code number points
@@ -56,7 +57,7 @@ pub fn runs_have_results()
         → (k : Task) (l n w : ℕ) → IsPoint points k l n w → 0 < w
         → op_at code [] n ≡ op.Halt → op_at code [] w ≡ op.Lose
         → (text : List ℕ) → IsUtf8 text → ((i : ℕ) → get_or text i 0 < 256)
-        → (asked : ℕ) → MayAsk exact text asked
+        → (asked : Places) → MayAsk exact text asked
         → (m : ℕ) → op_at code [] (steps code text m (start_config l asked)).pc ≡ op.Halt
         → HasSucceeded g classes number k text (steps code text m (start_config l asked)) }
     ensures loses { (exact : Bool) (g : Grammar) (classes : Classes) (code : CodeLists) (number : Text → ℕ)
@@ -64,7 +65,7 @@ pub fn runs_have_results()
         → (k : Task) (l n w : ℕ) → IsPoint points k l n w → 0 < w
         → op_at code [] n ≡ op.Halt → op_at code [] w ≡ op.Lose
         → (text : List ℕ) → IsUtf8 text → ((i : ℕ) → get_or text i 0 < 256)
-        → (asked : ℕ) → MayAsk exact text asked
+        → (asked : Places) → MayAsk exact text asked
         → (m : ℕ) → op_at code [] (steps code text m (start_config l asked)).pc ≡ op.Lose
         → HasFailed g classes number k text (steps code text m (start_config l asked)) }
     ensures goes_on { (exact : Bool) (g : Grammar) (classes : Classes) (code : CodeLists) (number : Text → ℕ)
@@ -72,7 +73,7 @@ pub fn runs_have_results()
         → (k : Task) (l n w : ℕ) → IsPoint points k l n w → 0 < w
         → op_at code [] n ≡ op.Halt → op_at code [] w ≡ op.Lose
         → (text : List ℕ) → IsUtf8 text → ((i : ℕ) → get_or text i 0 < 256)
-        → (asked : ℕ) → MayAsk exact text asked
+        → (asked : Places) → MayAsk exact text asked
         → (m : ℕ) → (IsEnd code (steps code text m (start_config l asked)).pc → ⊥)
         → (o : Outcome) (d : Does g classes k (start_of text) o) → m < 8 * size d }
 {}
@@ -85,7 +86,7 @@ pub fn runs_have_attempts()
         → (k : Task) (l n w : ℕ) → IsPoint points k l n w → 0 < w
         → op_at code [] n ≡ op.Halt → op_at code [] w ≡ op.Lose
         → (text : List ℕ) → IsUtf8 text → ((i : ℕ) → get_or text i 0 < 256)
-        → (asked : ℕ) → MayAsk exact text asked
+        → (asked : Places) → MayAsk exact text asked
         → (m : ℕ) → IsEnd code (steps code text m (traced_start l asked)).pc
         → HasAttempts g classes number k text (steps code text m (traced_start l asked)) }
 {}
@@ -172,7 +173,7 @@ pub fn end_operations_give_tree()
         → op_at code [] begin ≡ op.Open (number (codes "EOI")) close → op_at code [] close ≡ op.Close n
         → op_at code [] note ≡ op.Miss (number (codes "EOI")) w
         → Performs code number l n w (λ s. end_outcome m s.rest s)
-        (λ place s. end_failures place s (end_outcome m s.rest s)) }
+        (λ asked s. end_failures asked s (end_outcome m s.rest s)) }
 {}
 
 /// Where the operation 0 is `Fail`, the operations on the stack match what the expressions do. `Peek` and

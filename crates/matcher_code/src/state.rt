@@ -18,6 +18,15 @@ pub struct OpenCall {
     pub start: usize,
 }
 
+/// The positions, in bytes, that a run is asked for.
+#[derive(Clone, Copy, Debug)]
+pub struct Places {
+    /// Names and paths are recorded there.
+    pub names: usize,
+    /// Attempts are recorded there.
+    pub attempts: usize,
+}
+
 /// The records of the end of a continuation frame's part.
 #[derive(Clone, Copy, Debug)]
 pub enum Failing {

@@ -7,6 +7,7 @@ use Rattle.base_language.specs.Language.Text.{Text}
 use Rattle.matcher_code.specs.Lists.{CodeLists}
 use Rattle.matcher_code.specs.Laid as lay
 use Rattle.matcher_code.specs.Laid.{Enters, EntersTurn, HasGap, HasTable, HasTest, Lays}
+use Rattle.matcher_code.specs.declared.state.Places.{Places}
 use Rattle.matcher_code.specs.Reached.{MayAsk}
 use Rattle.matcher_program.specs.declared.form.Program.{Program}
 use Rattle.matcher_compiler.specs.Compiled.{IsCodeOf}
@@ -43,7 +44,7 @@ module _ (exact : Bool) (g : Grammar) (classes : Classes) (code : CodeLists) whe
     branches = t.branches;
   }
 
-  may_ask : (b : Bool) (text : List ℕ) (asked : ℕ) → MayAsk false text asked → MayAsk b text asked
+  may_ask : (b : Bool) (text : List ℕ) (asked : Places) → MayAsk false text asked → MayAsk b text asked
   may_ask true text asked h = tt
   may_ask false text asked h = h
 

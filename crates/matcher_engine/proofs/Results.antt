@@ -15,7 +15,8 @@ use Rattle.base_language.specs.Pieces.Span.{position_offset, position_text}
 use Rattle.base_language.specs.declared.runtime.places.Position.{Position}
 use Rattle.matcher_code.specs.Lists.{CodeLists}
 use Rattle.matcher_code.specs.declared.code.Op.TheVariants as op
-use Rattle.matcher_code.specs.Steps.{Config, LacksText, StopsAt, Trace, jump, op_at, steps, with_rows}
+use Rattle.matcher_code.specs.Steps.{Config, LacksText, StopsAt, Trace, jump, op_at, steps, with_rows, one_place}
+use Rattle.matcher_code.specs.declared.state.Places.{Places}
 use Rattle.matcher_code.specs.Endings.{IsFound}
 use Rattle.matcher_code.specs.Laid.{IsEnd, IsPoint}
 use Rattle.matcher_code.specs.Reached.{IsAt, Reaches, with_failure, with_success, with_trace, MayAsk}
@@ -43,12 +44,12 @@ use Rattle.matcher_engine.specs.Reasons.{HasReason, IsLonger, ReadsEmptyStack}
 use Rattle.matcher_engine.specs.Runs.{HasFailed, HasFound, IsFresh}
 use Rattle.matcher_machine.specs.declared.machine.RunEnd.{RunEnd}
 
--- the configuration of a run from a position, where names are asked for at another one, with a trace or none
-abbrev pub start_at : ℕ → ℕ → Option Trace → ℕ → Config
+-- the configuration of a run from a position, where others are asked for, with a trace or none
+abbrev pub start_at : ℕ → Places → Option Trace → ℕ → Config
 start_at from asked trace l = record { pc = l; at = from; slots = []; trees = []; stack = []; furthest = 0; asked = asked; names = []; trace = trace }
 
 -- a machine before its first step
-pub fresh : (code : CodeLists) (text : List ℕ) (m : Machine) (l from : ℕ) → IsFresh m → config code text m l from ≡ start_at from m.asked None l
+pub fresh : (code : CodeLists) (text : List ℕ) (m : Machine) (l from : ℕ) → IsFresh m → config code text m l from ≡ start_at from (one_place m.asked) None l
 fresh code text m l from f =
     let a = f.slots in
     let b = f.trees in
@@ -95,7 +96,7 @@ ends_by code text m {c = c} {d = d} x l e =
     subst (λ y. IsEnd code y.pc) (sym q) e
 
 module _ (p : Program) (exact : Bool) (code : CodeLists) (is : IsCodeOf exact p code) (n : Text) (i : ℕ) (meant : last_place (grammar_in p) n ≡ Some i)
-    (text : List ℕ) (s : State) (from asked : ℕ) (trace : Option Trace) (stands : IsAt text s from []) (asks : MayAsk exact text asked) where
+    (text : List ℕ) (s : State) (from : ℕ) (asked : Places) (trace : Option Trace) (stands : IsAt text s from []) (asks : MayAsk exact text asked) where
   abbrev task : Task
   task = Run NonAtomicMode (Ident n)
 
@@ -109,7 +110,7 @@ module _ (p : Program) (exact : Bool) (code : CodeLists) (is : IsCodeOf exact p 
   HasStopped c = StopsAt (op_at code text c.pc) c
 
   abbrev rows_at : {classes : Classes} {o : Outcome} → Does (grammar_in p) classes task s o → List ℕ
-  rows_at d = with_rows [] (map (number_in (grammar_in p)) (expected_at asked d))
+  rows_at d = with_rows [] (map (number_in (grammar_in p)) (expected_at asked.names d))
 
   entry : IsPoint is.points task (i + 3) 1 2
   entry =
@@ -161,7 +162,7 @@ module _ (p : Program) (exact : Bool) (code : CodeLists) (is : IsCodeOf exact p 
     -- a success, and what a run that comes to the halt has of it
     succeeded : (classes : Classes) → Fits p.properties.items classes → op_at code [] (after m).pc ≡ op.Halt
         → (after m).at ≡ end → (after m).trees ≡ it.trees.items → (after m).furthest ≡ it.furthest → (after m).names ≡ it.names.items
-        → (o : Outcome) → Does (grammar_in p) classes task s o → HasFound (grammar_in p) n s classes asked it end
+        → (o : Outcome) → Does (grammar_in p) classes task s o → HasFound (grammar_in p) n s classes asked.names it end
     succeeded classes fits h e w f ns (Success t us) d =
         let q = same_end code text m (succeeding classes fits d) (inl is.ends.halt) (inl h) in
         let z : max 0 (furthest d) ≡ furthest d = omega arith in
@@ -181,7 +182,7 @@ module _ (p : Program) (exact : Bool) (code : CodeLists) (is : IsCodeOf exact p 
 
     lost : (classes : Classes) → Fits p.properties.items classes → op_at code [] (after m).pc ≡ op.Lose
         → (after m).furthest ≡ it.furthest → (after m).names ≡ it.names.items
-        → (o : Outcome) → Does (grammar_in p) classes task s o → HasFailed (grammar_in p) n s classes asked it
+        → (o : Outcome) → Does (grammar_in p) classes task s o → HasFailed (grammar_in p) n s classes asked.names it
     lost classes fits h f ns Failure d =
         let q = same_end code text m (failing classes fits d) (inr is.ends.lose) (inr h) in
         let z : max 0 (furthest d) ≡ furthest d = omega arith in
@@ -204,7 +205,7 @@ module _ (p : Program) (exact : Bool) (code : CodeLists) (is : IsCodeOf exact p 
   module _ (old new : Machine) (most : ℕ) (same : config code text old (i + 3) from ≡ start) where
     -- the result of a run that found the end of a match
     pub found_as : (end : ℕ) → EndsAtLast code text most (config code text old (i + 3) from) new (ended.Found end)
-        → (classes : Classes) → Fits p.properties.items classes → HasFound (grammar_in p) n s classes asked new end
+        → (classes : Classes) → Fits p.properties.items classes → HasFound (grammar_in p) n s classes asked.names new end
     found_as end x classes fits =
         let q : after x.taken ≡ config code text new x.ends.0 end = ap (λ c. steps code text x.taken c) (sym same) ∙ x.ends.1 in
         let h : op_at code [] (after x.taken).pc ≡ op.Halt = subst (λ c. op_at code [] c.pc ≡ op.Halt) (sym q) x.ends.2 in
@@ -213,7 +214,7 @@ module _ (p : Program) (exact : Bool) (code : CodeLists) (is : IsCodeOf exact p 
 
     -- of a run that failed
     pub failed_as : EndsAtLast code text most (config code text old (i + 3) from) new ended.Failed
-        → (classes : Classes) → Fits p.properties.items classes → HasFailed (grammar_in p) n s classes asked new
+        → (classes : Classes) → Fits p.properties.items classes → HasFailed (grammar_in p) n s classes asked.names new
     failed_as x classes fits =
         let q : after x.taken ≡ config code text new x.ends.0 x.ends.1 = ap (λ c. steps code text x.taken c) (sym same) ∙ x.ends.2 in
         let h : op_at code [] (after x.taken).pc ≡ op.Lose = subst (λ c. op_at code [] c.pc ≡ op.Lose) (sym q) x.ends.3 in
@@ -301,29 +302,29 @@ module _ (p : Program) (exact : Bool) (code : CodeLists) (is : IsCodeOf exact p 
 -- the results of a run from a position of a text
 module _ (p : Program) (exact : Bool) (code : CodeLists) (is : IsCodeOf exact p code) (n : Text) (i : ℕ) (meant : last_place (grammar_in p) n ≡ Some i)
     (start : Position) (text : List ℕ) (from : ℕ) (e : text ≡ position_text start) (h : from ≡ position_offset start) (u : IsUtf8 text)
-    (b : IsCharBoundary (position_text start) (position_offset start)) (old new : Machine) (f : IsFresh old) (asks : MayAsk exact (position_text start) old.asked)
+    (b : IsCharBoundary (position_text start) (position_offset start)) (old new : Machine) (f : IsFresh old) (asks : MayAsk exact (position_text start) (one_place old.asked))
     (entry most : ℕ) (k : entry ≡ i + 3) where
-  asks_here : MayAsk exact text old.asked
-  asks_here = subst (λ t. MayAsk exact t old.asked) (sym e) asks
+  asks_here : MayAsk exact text (one_place old.asked)
+  asks_here = subst (λ t. MayAsk exact t (one_place old.asked)) (sym e) asks
 
   entered : (r : RunEnd) → EndsAtLast code text most (config code text old entry from) new r → EndsAtLast code text most (config code text old (i + 3) from) new r
   entered r x = subst (λ l. EndsAtLast code text most (config code text old l from) new r) k x
 
-  started : config code text old (i + 3) from ≡ start_at from old.asked None (i + 3)
+  started : config code text old (i + 3) from ≡ start_at from (one_place old.asked) None (i + 3)
   started = fresh code text old (i + 3) from f
 
   pub run_found : (end : ℕ) → EndsAtLast code text most (config code text old entry from) new (ended.Found end)
       → (classes : Classes) → Fits p.properties.items classes → HasFound (grammar_in p) n (state_at start) classes old.asked new end
-  run_found end x = found_as p exact code is n i meant text (state_at start) from old.asked None (stands_at start text from e h u b) asks_here old new most started end (entered _ x)
+  run_found end x = found_as p exact code is n i meant text (state_at start) from (one_place old.asked) None (stands_at start text from e h u b) asks_here old new most started end (entered _ x)
 
   pub run_failed : EndsAtLast code text most (config code text old entry from) new ended.Failed
       → (classes : Classes) → Fits p.properties.items classes → HasFailed (grammar_in p) n (state_at start) classes old.asked new
-  run_failed x = failed_as p exact code is n i meant text (state_at start) from old.asked None (stands_at start text from e h u b) asks_here old new most started (entered _ x)
+  run_failed x = failed_as p exact code is n i meant text (state_at start) from (one_place old.asked) None (stands_at start text from e h u b) asks_here old new most started (entered _ x)
 
   pub run_stopped : (limit : ℕ) → 4 * limit ≤ most → EndsAtLast code text most (config code text old entry from) new ended.OutOfSteps
       → IsStoppedFrom (grammar_in p) p.properties.items n (state_at start) limit stop.OutOfSteps × HasReason (grammar_in p) p.properties.items n (state_at start) limit stop.OutOfSteps
-  run_stopped limit l x = run_limited p exact code is n i meant text (state_at start) from old.asked None (stands_at start text from e h u b) asks_here (config code text old (i + 3) from) (config code text new) (λ pc at. refl) most started limit l (entered _ x)
+  run_stopped limit l x = run_limited p exact code is n i meant text (state_at start) from (one_place old.asked) None (stands_at start text from e h u b) asks_here (config code text old (i + 3) from) (config code text new) (λ pc at. refl) most started limit l (entered _ x)
 
   pub run_stuck : (limit : ℕ) → EndsAtLast code text most (config code text old entry from) new ended.Stuck
       → IsStoppedFrom (grammar_in p) p.properties.items n (state_at start) limit stop.EmptyStack × HasReason (grammar_in p) p.properties.items n (state_at start) limit stop.EmptyStack
-  run_stuck limit x = run_emptied p exact code is n i meant text (state_at start) from old.asked None (stands_at start text from e h u b) asks_here (config code text old (i + 3) from) (config code text new) (λ pc at. refl) most started limit (entered _ x)
+  run_stuck limit x = run_emptied p exact code is n i meant text (state_at start) from (one_place old.asked) None (stands_at start text from e h u b) asks_here (config code text old (i + 3) from) (config code text new) (λ pc at. refl) most started limit (entered _ x)

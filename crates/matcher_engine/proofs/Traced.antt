@@ -8,6 +8,7 @@ use Rattle.base_language.specs.Pieces.Span.{position_offset, position_text}
 use Rattle.base_language.specs.declared.runtime.places.Position.{Position}
 use Rattle.matcher_code.specs.Lists.{CodeLists}
 use Rattle.matcher_code.specs.declared.state.OpenCall.{OpenCall}
+use Rattle.matcher_code.specs.declared.state.Places.{Places}
 use Rattle.matcher_code.specs.Paths.{Path}
 use Rattle.matcher_code.specs.Failures.{Failures, failures_at}
 use Rattle.matcher_code.specs.Reached.{calls_of, rows_of, with_attempts, with_paths, with_trace}
@@ -21,7 +22,7 @@ use Rattle.matcher_compiler.specs.Compiled.{IsCodeOf}
 use Rattle.matcher_compiler.specs.Names.{number_in}
 use Rattle.matcher_sets.specs.Forms.{grammar_in}
 use Rattle.matcher_engine.specs.declared.tracer.Tracer.{Tracer}
-use Rattle.matcher_engine.specs.Traces.{own_trace, slot_traces, trace_of, traced, traced_config}
+use Rattle.matcher_engine.specs.Traces.{asked_of, own_trace, slot_traces, trace_of, traced, traced_config}
 use Rattle.matcher_engine.specs.FailurePaths.{IsTracedFrom, with_each}
 use Rattle.matcher_engine.specs.Reasons.{HasReason}
 use Rattle.matcher_engine.specs.Runs.{IsFresh}
@@ -51,46 +52,46 @@ some_inside {t = t} {u = u} e = ap (λ x. go x) e
 
 module _ (p : Program) (code : CodeLists) (is : IsCodeOf true p code) (n : Text) (i : ℕ) (meant : last_place (grammar_in p) n ≡ Some i)
     (start : Position) (text : List ℕ) (from : ℕ) (e : text ≡ position_text start) (h : from ≡ position_offset start) (u : IsUtf8 text)
-    (b : IsCharBoundary (position_text start) (position_offset start)) (old new : Tracer) (place : ℕ) (f : IsFresh old.machine) (asked : old.machine.asked ≡ place)
+    (b : IsCharBoundary (position_text start) (position_offset start)) (old new : Tracer) (asked : Places) (f : IsFresh old.machine) (places : asked_of old ≡ asked)
     (untold : trace_of old ≡ no_trace) (entry most : ℕ) (k : entry ≡ i + 3) where
   abbrev first : Config
   first = traced_config code text old entry from
 
-  began : first ≡ start_at from place (Some no_trace) (i + 3)
+  began : first ≡ start_at from asked (Some no_trace) (i + 3)
   began =
       ap (λ l. traced_config code text old l from) k
-      ∙ (ap (traced (slot_traces old) (own_trace old)) (fresh code text old.machine (i + 3) from f)
-      ∙ (ap (λ x. start_at from old.machine.asked (Some x) (i + 3)) untold ∙ ap (λ a. start_at from a (Some no_trace) (i + 3)) asked))
+      ∙ (ap (traced (slot_traces old) (own_trace old) old.place) (fresh code text old.machine (i + 3) from f)
+      ∙ (ap (λ x. start_at from (asked_of old) (Some x) (i + 3)) untold ∙ ap (λ a. start_at from a (Some no_trace) (i + 3)) places))
 
   -- what is recorded where a run has ended
   have : (m pc at : ℕ) → steps code text m first ≡ traced_config code text new pc at → (f : Failures)
-      → (steps code text m (start_at from place (Some no_trace) (i + 3))).trace ≡ with_trace (number_in (grammar_in p)) f (Some no_trace)
+      → (steps code text m (start_at from asked (Some no_trace) (i + 3))).trace ≡ with_trace (number_in (grammar_in p)) f (Some no_trace)
       → trace_of new ≡ record no_trace { paths = with_each (number_in (grammar_in p)) [] f.paths; attempts = rows_of (number_in (grammar_in p)) f.attempts }
   have m pc at q f t =
       some_inside (ap (λ c. c.trace) (sym q ∙ ap (steps code text m) began) ∙ (t ∙ recorded (number_in (grammar_in p)) f))
 
   pub traced_found : (end : ℕ) → EndsIn code text most first (traced_config code text new) (ended.Found end)
-      → IsTracedFrom (grammar_in p) p.properties.items n (state_at start) place new
+      → IsTracedFrom (grammar_in p) p.properties.items n (state_at start) asked new
   traced_found end x classes fits =
-      let over = found_end p true code is n i meant text (state_at start) from place (Some no_trace) (stands_at start text from e h u b) tt first (traced_config code text new) (λ pc at. refl) most began end x in
-      let y = traced_as p true code is n i meant text (state_at start) from place (Some no_trace) (stands_at start text from e h u b) tt x.taken over classes fits in
-      let z = have x.taken x.ends.0 end x.ends.1 (failures_at place y.1) y.2 in
+      let over = found_end p true code is n i meant text (state_at start) from asked (Some no_trace) (stands_at start text from e h u b) tt first (traced_config code text new) (λ pc at. refl) most began end x in
+      let y = traced_as p true code is n i meant text (state_at start) from asked (Some no_trace) (stands_at start text from e h u b) tt x.taken over classes fits in
+      let z = have x.taken x.ends.0 end x.ends.1 (failures_at asked y.1) y.2 in
       record { outcome = y.0; found = y.1; paths = ap (λ t. t.paths) z; attempts = ap (λ t. t.attempts) z }
 
   pub traced_failed : EndsIn code text most first (traced_config code text new) ended.Failed
-      → IsTracedFrom (grammar_in p) p.properties.items n (state_at start) place new
+      → IsTracedFrom (grammar_in p) p.properties.items n (state_at start) asked new
   traced_failed x classes fits =
-      let over = failed_end p true code is n i meant text (state_at start) from place (Some no_trace) (stands_at start text from e h u b) tt first (traced_config code text new) (λ pc at. refl) most began x in
-      let y = traced_as p true code is n i meant text (state_at start) from place (Some no_trace) (stands_at start text from e h u b) tt x.taken over classes fits in
-      let z = have x.taken x.ends.0 x.ends.1 x.ends.2 (failures_at place y.1) y.2 in
+      let over = failed_end p true code is n i meant text (state_at start) from asked (Some no_trace) (stands_at start text from e h u b) tt first (traced_config code text new) (λ pc at. refl) most began x in
+      let y = traced_as p true code is n i meant text (state_at start) from asked (Some no_trace) (stands_at start text from e h u b) tt x.taken over classes fits in
+      let z = have x.taken x.ends.0 x.ends.1 x.ends.2 (failures_at asked y.1) y.2 in
       record { outcome = y.0; found = y.1; paths = ap (λ t. t.paths) z; attempts = ap (λ t. t.attempts) z }
 
   pub traced_stopped : (limit : ℕ) → 4 * limit ≤ most → EndsIn code text most first (traced_config code text new) ended.OutOfSteps
       → IsStoppedFrom (grammar_in p) p.properties.items n (state_at start) limit stop.OutOfSteps × HasReason (grammar_in p) p.properties.items n (state_at start) limit stop.OutOfSteps
   traced_stopped limit l x =
-      run_limited p true code is n i meant text (state_at start) from place (Some no_trace) (stands_at start text from e h u b) tt first (traced_config code text new) (λ pc at. refl) most began limit l x
+      run_limited p true code is n i meant text (state_at start) from asked (Some no_trace) (stands_at start text from e h u b) tt first (traced_config code text new) (λ pc at. refl) most began limit l x
 
   pub traced_stuck : (limit : ℕ) → EndsIn code text most first (traced_config code text new) ended.Stuck
       → IsStoppedFrom (grammar_in p) p.properties.items n (state_at start) limit stop.EmptyStack × HasReason (grammar_in p) p.properties.items n (state_at start) limit stop.EmptyStack
   traced_stuck limit x =
-      run_emptied p true code is n i meant text (state_at start) from place (Some no_trace) (stands_at start text from e h u b) tt first (traced_config code text new) (λ pc at. refl) most began limit x
+      run_emptied p true code is n i meant text (state_at start) from asked (Some no_trace) (stands_at start text from e h u b) tt first (traced_config code text new) (λ pc at. refl) most began limit x

@@ -5,6 +5,7 @@ use Rattle.base_language.specs.Language.Expression.{Grammar}
 use Rattle.base_language.specs.Language.State.{Classes, Outcome, State}
 use Rattle.base_language.specs.Language.Text.{Text}
 use Rattle.matcher_code.specs.declared.state.OpenCall.{OpenCall}
+use Rattle.matcher_code.specs.declared.state.Places.{Places}
 use Rattle.matcher_code.specs.Paths.{Path, paths_at}
 use Rattle.matcher_code.specs.Attempts.{attempts_at}
 use Rattle.matcher_code.specs.Reached.{calls_of, rows_of}
@@ -42,14 +43,14 @@ Answers p n s steps Has (Ok it) = Has it
 Answers p n s steps Has (Err why) = IsStoppedFrom (grammar_in p) p.properties.items n s steps why
     × HasReason (grammar_in p) p.properties.items n s steps why
 
--- the rule matches or fails from a state, and the paths and the attempts of a position are recorded
-pub record IsTraced (g : Grammar) (n : Text) (s : State) (classes : Classes) (place : ℕ) (t : Tracer)
+-- the rule matches or fails from a state, and the paths and the attempts of two positions are recorded
+pub record IsTraced (g : Grammar) (n : Text) (s : State) (classes : Classes) (asked : Places) (t : Tracer)
     : Type 0 where
   pub outcome : Outcome
   pub found : HasAt g n s classes outcome
-  pub paths : paths_in t.paths.items ≡ with_each (number_in g) [] (paths_at place found)
-  pub attempts : (trace_of t).attempts ≡ rows_of (number_in g) (attempts_at false place found)
+  pub paths : paths_in t.paths.items ≡ with_each (number_in g) [] (paths_at asked.names found)
+  pub attempts : (trace_of t).attempts ≡ rows_of (number_in g) (attempts_at false asked.attempts found)
 
 -- so it is for all fitting classes
-abbrev pub IsTracedFrom : Grammar → List Property → Text → State → ℕ → Tracer → Type 0
-IsTracedFrom g ps n s place t = (classes : Classes) → Fits ps classes → IsTraced g n s classes place t
+abbrev pub IsTracedFrom : Grammar → List Property → Text → State → Places → Tracer → Type 0
+IsTracedFrom g ps n s asked t = (classes : Classes) → Fits ps classes → IsTraced g n s classes asked t

@@ -16,11 +16,12 @@ ghost use Rattle.matcher_engine.specs.Reasons.{HasReason, StopsFor};
 
 use crate::codes::name_code_bytes;
 use crate::matcher::{Matcher, has_long_text};
-use crate::paths::trace_rule;
+use crate::paths::{NOWHERE, trace_rule};
 use crate::tracer::Tracer;
 use base_language::runtime::{Position, Span};
 use format_code::code::read_code;
 use matcher_code::bytecode::Bytecode;
+use matcher_code::state::Places;
 use matcher_compiler::names::last_index;
 use matcher_program::answers::{Refusal, Stop};
 use std::alloc::Global;
@@ -116,7 +117,11 @@ fn attempts_at(
         (λ it. (classes : Classes) → Fits p.properties.items classes
         → AreToldAt (forms.grammar_in p) n (state_at start.entry) classes place it) result }
 {
-    let tracer = trace_rule(alloc, code, number, start, place, steps)?;
+    let asked = Places {
+        names: NOWHERE,
+        attempts: place,
+    };
+    let tracer = trace_rule(alloc, code, number, start, asked, steps)?;
     let Tracer {
         furthest,
         positives,

@@ -13,6 +13,7 @@ ghost use Rattle.format_code.specs.Codes.{lists_at};
 ghost use Rattle.matcher_code.specs.Bytecodes.{lists_in};
 ghost use Rattle.matcher_code.specs.Fused.{CanRunAll, IsFusionOf};
 ghost use Rattle.matcher_code.specs.Reached.{MayAsk};
+ghost use Rattle.matcher_code.specs.Steps.{one_place};
 ghost use Rattle.matcher_sets.specs.Forms as forms;
 ghost use Rattle.matcher_compiler.specs.Compiled.{IsCodeOf};
 ghost use Rattle.matcher_engine.specs.Runs.{IsFresh, IsRun};
@@ -358,7 +359,7 @@ pub(crate) fn run_rule(
     ensures { (p : Program) (exact : Bool) → IsCodeOf exact p (lists_in code.now)
         → IsFusionOf (lists_in code.now) fused.now
         → (n : Text) → last_place (forms.grammar_in p) n ≡ Some number → IsFresh machine.old
-        → MayAsk exact (position_text start.entry) machine.old.asked
+        → MayAsk exact (position_text start.entry) (one_place machine.old.asked)
         → IsRun p n (state_at start.entry) steps machine.old.asked machine.new result }
 {
     let Some(entry) = entry_of(number) else {

@@ -18,11 +18,14 @@ use crate::tracer::Tracer;
 use base_language::runtime::{Position, Span};
 use format_code::code::read_code;
 use matcher_code::bytecode::Bytecode;
-use matcher_code::state::OpenCall;
+use matcher_code::state::{OpenCall, Places};
 use matcher_compiler::names::last_index;
 use matcher_machine::machine::{Machine, RunEnd};
 use matcher_program::answers::{Refusal, Stop, whole_text};
 use std::alloc::Global;
+
+/// A position that no text has.
+pub(crate) const NOWHERE: usize = usize::MAX;
 
 impl Matcher {
     /// Returns where in the grammar the names of `expected_at` are expected: lists of the calls that are open
@@ -77,7 +80,11 @@ impl Matcher {
             return Err(Refusal::Stopped(Stop::Memory));
         };
         let code = read_code(&bytes);
-        match trace_rule(alloc, &code, number, start, place, steps) {
+        let asked = Places {
+            names: place,
+            attempts: NOWHERE,
+        };
+        match trace_rule(alloc, &code, number, start, asked, steps) {
             Ok(tracer) => {
                 let Tracer { paths, .. } = tracer;
                 Ok(paths)
@@ -88,27 +95,27 @@ impl Matcher {
 }
 
 /// Runs code for the rule of a number from a position of a text on, in at most `steps` steps. Returns what is
-/// recorded for `place`.
+/// recorded where it is asked.
 pub(crate) fn trace_rule(
     alloc: Global,
     code: &Bytecode<'_>,
     number: usize,
     start: Position<'_>,
-    place: usize,
+    asked: Places,
     steps: u64,
 ) -> Result<Tracer, Stop>
     ensures { (p : Program) → IsCodeOf true p (lists_in code.now)
         → (n : Text) → last_place (forms.grammar_in p) n ≡ Some number
         → Answers p n (state_at start.entry) steps
-        (IsTracedFrom (forms.grammar_in p) p.properties.items n (state_at start.entry) place) result }
+        (IsTracedFrom (forms.grammar_in p) p.properties.items n (state_at start.entry) asked) result }
 {
     let Some(entry) = entry_of(number) else {
         return Err(Stop::Memory);
     };
     let most = steps.saturating_mul(OPERATIONS);
     let mut machine = Machine::new(alloc);
-    machine.asked = place;
-    let mut tracer = Tracer::new(alloc, machine);
+    machine.asked = asked.names;
+    let mut tracer = Tracer::new(alloc, machine, asked.attempts);
     let text = whole_text(start);
     match tracer.run(alloc, code, text, entry, start.pos(), most) {
         Ok(RunEnd::Found(_)) => Ok(tracer),

@@ -38,9 +38,12 @@ pub struct Tracer {
     pub paths: Vec<Vec<OpenCall>>,
     /// Whether the run stands below a `!`, or below an odd number of them.
     pub below: bool,
-    /// The greatest position of an attempt, from the one that is asked for on.
+    /// The position, in bytes, at which attempts are recorded. Paths are at the one where the machine is asked
+    /// for names.
+    pub place: usize,
+    /// The greatest position of an attempt, from that one on.
     pub furthest: usize,
-    /// The rows of the rules that are expected where it is asked, as often as they are told.
+    /// The rows of the rules that are expected there, as often as they are told.
     pub positives: Vec<u32>,
     /// The rows of those that are not expected there.
     pub negatives: Vec<u32>,
@@ -70,11 +73,12 @@ impl Tracer {
     ghost use Rattle.matcher_code.specs.Steps.{add_path, enter, has_path, leave, no_trace, no_tree, op_at, open_call, record_end, restore, trace_ahead, trace_behind};
     ghost use Rattle.matcher_machine.specs.Machines.{EndsIn, config};
     ghost use Rattle.matcher_engine.specs.Marks.{AreMarked, IsWithin, counts_of};
-    ghost use Rattle.matcher_engine.specs.Traces.{TracedFollows, first, mark_of, own_trace, paths_in, slot_trace, slot_traces, trace_after, trace_at, trace_of, traced_config, traces_after};
+    ghost use Rattle.matcher_engine.specs.Traces.{TracedFollows, asked_of, first, mark_of, own_trace, paths_in, slot_trace, slot_traces, trace_after, trace_at, trace_of, traced_config, traces_after};
 
-    /// Records the calls of a machine from here on.
-    pub fn new(alloc: Global, machine: Machine) -> Tracer
+    /// Records the calls of a machine from here on, and attempts at a position.
+    pub fn new(alloc: Global, machine: Machine, place: usize) -> Tracer
         ensures machine { result.machine ≡ machine }
+        ensures place { result.place ≡ place }
         ensures trace { trace_of result ≡ no_trace }
         ensures marks { result.marks.items ≡ [] }
     {
@@ -83,6 +87,7 @@ impl Tracer {
             calls: Vec::new(alloc),
             paths: Vec::new(alloc),
             below: false,
+            place,
             furthest: 0,
             positives: Vec::new(alloc),
             negatives: Vec::new(alloc),
@@ -109,6 +114,7 @@ impl Tracer {
         ensures traces { OnOk result (slot_traces self.new ≡ own_trace self.old ∷ slot_traces self.old) }
         ensures trace { trace_of self.new ≡ trace_of self.old }
         ensures machine { self.new.machine ≡ self.old.machine }
+        ensures place { self.new.place ≡ self.old.place }
     {
         let mark = self.mark();
         self.marks.push(Some(mark))?;
@@ -120,6 +126,7 @@ impl Tracer {
         ensures traces { OnOk result (slot_traces self.new ≡ None ∷ slot_traces self.old) }
         ensures trace { trace_of self.new ≡ trace_of self.old }
         ensures machine { self.new.machine ≡ self.old.machine }
+        ensures place { self.new.place ≡ self.old.place }
     {
         self.marks.push(None)?;
         Ok(())
@@ -130,6 +137,7 @@ impl Tracer {
         ensures traces { slot_traces self.new ≡ drop 1 (slot_traces self.old) }
         ensures trace { trace_of self.new ≡ trace_of self.old }
         ensures machine { self.new.machine ≡ self.old.machine }
+        ensures place { self.new.place ≡ self.old.place }
     {
         let _ = self.marks.pop();
     }
@@ -165,6 +173,7 @@ impl Tracer {
             (own_trace self.new ≡ add_path (open_call row at ∷ []) (own_trace self.old)) }
         ensures traces { OnOk result (slot_traces self.new ≡ slot_traces self.old) }
         ensures machine { self.new.machine ≡ self.old.machine }
+        ensures place { self.new.place ≡ self.old.place }
     {
         let mut path = Vec::from_slice(alloc, self.calls.as_slice())?;
         path.push(OpenCall { row, start: at })?;
@@ -190,18 +199,19 @@ impl Tracer {
     ) -> Result<(), AllocError>
         requires within { IsWithin before (counts_of (mark_of self.old)) }
         requires marked { AreMarked (counts_of before) (reverse self.old.marks.items) }
-        ensures trace { OnOk result (own_trace self.new ≡ record_end matched self.old.machine.asked row at
+        ensures trace { OnOk result (own_trace self.new ≡ record_end matched self.old.place row at
             (Some (trace_at (trace_of self.old) before)) (own_trace self.old)) }
         ensures traces { OnOk result (slot_traces self.new ≡ slot_traces self.old) }
         ensures machine { self.new.machine ≡ self.old.machine }
+        ensures place { self.new.place ≡ self.old.place }
     {
-        if matched != self.below || at < self.machine.asked {
+        if matched != self.below || at < self.place {
             return Ok(());
         }
         self.furthest = self.furthest.max(at);
         let positives = self.positives.len() - before.positives;
         let negatives = self.negatives.len() - before.negatives;
-        if at > self.machine.asked || matches!((positives, negatives), (0, 1) | (1, 0)) {
+        if at > self.place || matches!((positives, negatives), (0, 1) | (1, 0)) {
             return Ok(());
         }
         self.positives.truncate(before.positives);
@@ -218,6 +228,7 @@ impl Tracer {
         }) }
         ensures traces { OnOk result (slot_traces self.new ≡ slot_traces self.old) }
         ensures machine { self.new.machine ≡ self.old.machine }
+        ensures place { self.new.place ≡ self.old.place }
     {
         if self.below {
             push_row(&mut self.negatives, row)?;
@@ -229,10 +240,11 @@ impl Tracer {
 
     /// Records the end of the call of the last slot, if that has a mark. Errors are those of `record_end`.
     fn record_last_end(&mut self, matched: bool, row: u32, at: usize) -> Result<(), AllocError>
-        ensures trace { OnOk result (own_trace self.new ≡ record_end matched self.old.machine.asked row at
+        ensures trace { OnOk result (own_trace self.new ≡ record_end matched self.old.place row at
             (first (slot_traces self.old)) (own_trace self.old)) }
         ensures traces { OnOk result (slot_traces self.new ≡ slot_traces self.old) }
         ensures machine { self.new.machine ≡ self.old.machine }
+        ensures place { self.new.place ≡ self.old.place }
     {
         match self.last_mark() {
             Some(mark) => self.record_end(matched, row, at, mark),
@@ -242,10 +254,11 @@ impl Tracer {
 
     /// Records the end of a call that has none within it. Errors are those of `record_end`.
     fn record_leaf(&mut self, matched: bool, row: u32, at: usize) -> Result<(), AllocError>
-        ensures trace { OnOk result (own_trace self.new ≡ record_end matched self.old.machine.asked row at
+        ensures trace { OnOk result (own_trace self.new ≡ record_end matched self.old.place row at
             (own_trace self.old) (own_trace self.old)) }
         ensures traces { OnOk result (slot_traces self.new ≡ slot_traces self.old) }
         ensures machine { self.new.machine ≡ self.old.machine }
+        ensures place { self.new.place ≡ self.old.place }
     {
         let mark = self.mark();
         self.record_end(matched, row, at, mark)
@@ -256,6 +269,7 @@ impl Tracer {
         ensures trace { own_trace self.new ≡ leave (first (slot_traces self.old)) (own_trace self.old) }
         ensures traces { slot_traces self.new ≡ slot_traces self.old }
         ensures machine { self.new.machine ≡ self.old.machine }
+        ensures place { self.new.place ≡ self.old.place }
     {
         if let Some(mark) = self.last_mark() {
             self.calls.truncate(mark.calls);
@@ -267,6 +281,7 @@ impl Tracer {
         ensures trace { own_trace self.new ≡ restore (first (slot_traces self.old)) (own_trace self.old) }
         ensures traces { slot_traces self.new ≡ slot_traces self.old }
         ensures machine { self.new.machine ≡ self.old.machine }
+        ensures place { self.new.place ≡ self.old.place }
     {
         if let Some(mark) = self.last_mark() {
             self.calls.truncate(mark.calls);
@@ -280,6 +295,7 @@ impl Tracer {
         ensures trace { OnOk result (own_trace self.new ≡ enter counts row at (own_trace self.old)) }
         ensures traces { OnOk result (slot_traces self.new ≡ slot_traces self.old) }
         ensures machine { self.new.machine ≡ self.old.machine }
+        ensures place { self.new.place ≡ self.old.place }
     {
         if counts {
             self.calls.push(OpenCall { row, start: at })?;
@@ -313,11 +329,12 @@ impl Tracer {
     /// Records the failure of the part of a slot, which is the last one. Errors: allocation failed, or there
     /// are too many paths or attempts.
     fn fail(&mut self, alloc: Global, slot: Slot) -> Result<(), AllocError>
-        ensures trace { OnOk result (own_trace self.new ≡ trace_behind slot.failing self.old.machine.asked
+        ensures trace { OnOk result (own_trace self.new ≡ trace_behind slot.failing (asked_of self.old)
             (get_or self.old.machine.trees.items slot.trees no_tree).row slot.at
             (first (slot_traces self.old)) (own_trace self.old)) }
         ensures traces { OnOk result (slot_traces self.new ≡ slot_traces self.old) }
         ensures machine { self.new.machine ≡ self.old.machine }
+        ensures place { self.new.place ≡ self.old.place }
     {
         let row = self.tree_at(slot.trees).row;
         match slot.failing {
@@ -342,10 +359,11 @@ impl Tracer {
     /// Records a failure, which pops the last slot. Errors are those of `fail`.
     fn pop_failure(&mut self, alloc: Global) -> Result<(), AllocError>
         ensures trace { OnOk result ((code : CodeLists) (text : List ℕ) (pc at : ℕ)
-            → own_trace self.new ≡ trace_after op.Fail (config code text self.old.machine pc at)
-            (first (slot_traces self.old)) (own_trace self.old)) }
+            → own_trace self.new ≡ trace_after op.Fail self.old.place
+            (config code text self.old.machine pc at) (first (slot_traces self.old)) (own_trace self.old)) }
         ensures traces { OnOk result (slot_traces self.new ≡ drop 1 (slot_traces self.old)) }
         ensures machine { self.new.machine ≡ self.old.machine }
+        ensures place { self.new.place ≡ self.old.place }
     {
         if let Some(slot) = self.last_slot() {
             self.fail(alloc, slot)?;
@@ -358,10 +376,11 @@ impl Tracer {
     /// attempts.
     fn pop_return(&mut self) -> Result<(), AllocError>
         ensures trace { OnOk result ((code : CodeLists) (text : List ℕ) (pc at : ℕ)
-            → own_trace self.new ≡ trace_after op.Return (config code text self.old.machine pc at)
-            (first (slot_traces self.old)) (own_trace self.old)) }
+            → own_trace self.new ≡ trace_after op.Return self.old.place
+            (config code text self.old.machine pc at) (first (slot_traces self.old)) (own_trace self.old)) }
         ensures traces { OnOk result (slot_traces self.new ≡ drop 1 (slot_traces self.old)) }
         ensures machine { self.new.machine ≡ self.old.machine }
+        ensures place { self.new.place ≡ self.old.place }
     {
         if let Some(slot) = self.last_slot() {
             let row = self.tree_at(slot.trees).row;
@@ -375,10 +394,11 @@ impl Tracer {
     /// Records the end of a lookahead that has found its part, which pops its slot.
     fn pop_lookahead(&mut self)
         ensures trace { (code : CodeLists) (text : List ℕ) (pc at next : ℕ)
-            → own_trace self.new ≡ trace_after (op.Ahead next) (config code text self.old.machine pc at)
-            (first (slot_traces self.old)) (own_trace self.old) }
+            → own_trace self.new ≡ trace_after (op.Ahead next) self.old.place
+            (config code text self.old.machine pc at) (first (slot_traces self.old)) (own_trace self.old) }
         ensures traces { slot_traces self.new ≡ drop 1 (slot_traces self.old) }
         ensures machine { self.new.machine ≡ self.old.machine }
+        ensures place { self.new.place ≡ self.old.place }
     {
         if let Some(slot) = self.last_slot() {
             match slot.failing {
@@ -395,9 +415,10 @@ impl Tracer {
         ensures traces { OnOk result
             (slot_traces self.new ≡ traces_after op (own_trace self.old) (slot_traces self.old)) }
         ensures trace { OnOk result ((code : CodeLists) (text : List ℕ) (pc : ℕ)
-            → own_trace self.new ≡ trace_after op (config code text self.old.machine pc at)
-            (first (slot_traces self.old)) (own_trace self.old)) }
+            → own_trace self.new ≡ trace_after op self.old.place
+            (config code text self.old.machine pc at) (first (slot_traces self.old)) (own_trace self.old)) }
         ensures machine { self.new.machine ≡ self.old.machine }
+        ensures place { self.new.place ≡ self.old.place }
     {
         match op {
             Op::Call { row, counts, .. } => {

@@ -11,8 +11,10 @@ use Rattle.base_language.specs.Language.State.{Between, Classes, Failure, Mode, 
 use Rattle.base_language.specs.Language.Text.{Text}
 use Rattle.base_language.proofs.Basics.{same_some}
 use Rattle.matcher_code.specs.Failures.{Failures, failures_at}
+use Rattle.matcher_code.specs.declared.state.Places.{Places}
 use Rattle.matcher_code.proofs.Attempting.{called}
 use Rattle.matcher_code.specs.Laid.{FailsOutside, Misses}
+use Rattle.matcher_code.specs.Steps.{one_place}
 use Rattle.matcher_program.specs.declared.form.Program.{Program}
 use Rattle.matcher_program.specs.declared.form.Row.{Row}
 use Rattle.matcher_program.specs.Programs.{Fits, IsRuleOf, name_at, names_of, rule_of_row}
@@ -75,17 +77,17 @@ module _ (g : Grammar) (classes : Classes) (x : Text) (r : Rule) (h : rule_of g 
   same_mode = same_body r.type_of (bytes_eq r.name whitespace || bytes_eq r.name comment) b
 
   -- an outcome with its failures, and those of a call
-  abbrev At : Mode → State → Outcome → (ℕ → Failures) → Type 0
-  At m s o f = (d : Does g classes (Run m (Ident x)) s o) × ((place : ℕ) → failures_at place d ≡ f place)
+  abbrev At : Mode → State → Outcome → (Places → Failures) → Type 0
+  At m s o f = (d : Does g classes (Run m (Ident x)) s o) × ((place : Places) → failures_at place d ≡ f place)
 
-  abbrev called_at : (counts gives : Bool) → State → Outcome → (ℕ → Failures) → ℕ → Failures
+  abbrev called_at : (counts gives : Bool) → State → Outcome → (Places → Failures) → Places → Failures
   called_at counts gives s o f place = called counts gives x place s o (f place)
 
   call_between : (q : Rule) → q ≡ r → rule_of g x ≡ Some q → (s : State) (o : Outcome) (d : Does g classes (Run (body_mode q NonAtomicMode) q.body) s o)
       → At Between s (with_token q NonAtomicMode s o) (called_at (seen_from NonAtomicMode && gives_token q.type_of NonAtomicMode) (gives_token q.type_of NonAtomicMode) s o (λ place. failures_at place d))
   call_between q e k s o d =
       let m : body_mode q NonAtomicMode ≡ body_mode q Between = subst (λ y. body_mode y NonAtomicMode ≡ body_mode y Between) (sym e) same_mode in
-      let y = subst (λ i. (d' : Does g classes (Run i q.body) s o) × ((place : ℕ) → failures_at place d' ≡ failures_at place d)) m (d, λ place. refl) in
+      let y = subst (λ i. (d' : Does g classes (Run i q.body) s o) × ((place : Places) → failures_at place d' ≡ failures_at place d)) m (d, λ place. refl) in
       let z : At Between s (with_token q Between s o) (called_at (seen_from Between && gives_token q.type_of Between) (gives_token q.type_of Between) s o (λ place. failures_at place d)) =
       (by.call {m = Between} k y.0, λ place. ap (λ f. called_at (seen_from Between && gives_token q.type_of Between) (gives_token q.type_of Between) s o (λ i. f) place) (y.1 place)) in
       with_tokens (gives_token q.type_of NonAtomicMode) (gives_token q.type_of Between) (same_tokens q.type_of) z
@@ -129,7 +131,7 @@ module _ (p : Program) (x : Text) (i : ℕ) (meant : IsRuleOf (grammar_in p) x i
           subst (λ y. FailsOutside (grammar_in p) classes (Run NonAtomicMode (Ident y)) h.ranges.items h.noted) skipped_named (fails_outside p NonAtomicMode (Ident (name_at (names_of p.rows.items) i)) h has q classes fits) in
           let z = f s miss in
           let y = does_between (grammar_in p) classes x (get_or (grammar_in p) i no_rule) (meant.meant no_rule) (rule_is_skipped blank) s Failure z.0 in
-          (y.0, ap (λ f. f.furthest) (y.1 0) ∙ z.1, λ e place. y.1 place ∙ z.2 e place)
+          (y.0, ap (λ f. f.furthest) (y.1 (one_place 0)) ∙ z.1, λ e place. y.1 place ∙ z.2 e place)
 
 -- without a rule of that name no call succeeds
 module _ (p : Program) (ranges : List (ℕ × ℕ)) (classes : Classes) where

@@ -22,7 +22,7 @@ returns-in-Found c =
     subst (λ e. Parses c.args.rule c.args.text.now run e) (sym c.result_of.ensures.end)
     (λ classes.
     let d = c.each_rule_has_one_outcome.ensures.has_one classes c.args.rule NonAtomicMode (start_of c.args.text.now) in
-    is_match (has_matched false classes code (fast_code classes code c.fast_code-code.ensures) c.args.rule c.args.text.now c.utf8.text (λ i. omega (arith, c.type_inv.text i)) old.asked asks
+    is_match (has_matched false classes code (fast_code classes code c.fast_code-code.ensures) c.args.rule c.args.text.now c.utf8.text (λ i. omega (arith, c.type_inv.text i)) old.asked (asks, asks)
     old new begins _ run taken c.in-Found.end _ c.in_ok-end.end (ap (λ n. n + 3) c.rule_number-entry.ensures.number) c.in-Found.is (c.in_ok-end.ensures fusion) d.0 d.1))
 
 pub returns-in-Failed : goal.returns-in-Failed
@@ -39,5 +39,5 @@ returns-in-Failed c =
     subst (λ e. Parses c.args.rule c.args.text.now run e) (sym c.result_of-in-Failed.ensures.end)
     (λ classes.
     let d = c.each_rule_has_one_outcome.ensures.has_one classes c.args.rule NonAtomicMode (start_of c.args.text.now) in
-    is_failure (has_failed false classes code (fast_code classes code c.fast_code-code.ensures) c.args.rule c.args.text.now c.utf8.text (λ i. omega (arith, c.type_inv.text i)) old.asked asks
+    is_failure (has_failed false classes code (fast_code classes code c.fast_code-code.ensures) c.args.rule c.args.text.now c.utf8.text (λ i. omega (arith, c.type_inv.text i)) old.asked (asks, asks)
     old new begins _ run taken _ c.in_ok-end.end (ap (λ n. n + 3) c.rule_number-entry.ensures.number) c.in-Failed.is (c.in_ok-end.ensures fusion) d.0 d.1))

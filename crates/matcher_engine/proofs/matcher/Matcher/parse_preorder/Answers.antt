@@ -27,7 +27,7 @@ returns-in-Ok-Some-clause-matched c classes fits =
     let asks : length (position_text c.args.start) < c.new-machine.result.asked = omega (arith, c.has_long_text.ensures.short c.if-has_long_text.false, c.new-machine.ensures.asked) in
     let run = rw c.in-Ok-Some.field-0-is at c.in-Ok-Some.ensures in
     one_match (grammar_in m) (properties_in m) n (state_at c.args.start) _ classes
-    (∥∥₁_map (ready_in m) (λ is. in_preorder (grammar_in m) (properties_in m) n (state_at c.args.start) (run m.program false (subst (IsCodeOf false m.program) (sym c.code-code.ensures) is.0) (fused_here m _ _ c.code-code.ensures c.as_slice-fused.ensures.value is.1) n meant f asks classes fits)))
+    (∥∥₁_map (ready_in m) (λ is. in_preorder (grammar_in m) (properties_in m) n (state_at c.args.start) (run m.program false (subst (IsCodeOf false m.program) (sym c.code-code.ensures) is.0) (fused_here m _ _ c.code-code.ensures c.as_slice-fused.ensures.value is.1) n meant f (asks, asks) classes fits)))
 
 pub returns-in-Ok-None-clause-refused : goal.returns-in-Ok-None-clause-refused
 returns-in-Ok-None-clause-refused c =
@@ -38,7 +38,7 @@ returns-in-Ok-None-clause-refused c =
     let asks : length (position_text c.args.start) < c.new-machine.result.asked = omega (arith, c.has_long_text.ensures.short c.if-has_long_text.false, c.new-machine.ensures.asked) in
     let run = rw c.in-Ok-None.field-0-is at c.in-Ok-None.ensures in
     one_failure (grammar_in m) (properties_in m) n (state_at c.args.start) c.run_rule.new.machine.furthest
-    (∥∥₁_map (ready_in m) (λ is classes fits. let x = run m.program false (subst (IsCodeOf false m.program) (sym c.code-code.ensures) is.0) (fused_here m _ _ c.code-code.ensures c.as_slice-fused.ensures.value is.1) n meant f asks classes fits in (x.found, x.furthest)))
+    (∥∥₁_map (ready_in m) (λ is classes fits. let x = run m.program false (subst (IsCodeOf false m.program) (sym c.code-code.ensures) is.0) (fused_here m _ _ c.code-code.ensures c.as_slice-fused.ensures.value is.1) n meant f (asks, asks) classes fits in (x.found, x.furthest)))
 
 pub returns-clause-refused : goal.returns-clause-refused
 returns-clause-refused c =
@@ -48,7 +48,7 @@ returns-clause-refused c =
     let f : IsFresh c.new-machine.result = record { slots = c.new-machine.ensures.slots; trees = c.new-machine.ensures.trees; pushed = c.new-machine.ensures.pushed; furthest = c.new-machine.ensures.furthest; names = c.new-machine.ensures.names } in
     let asks : length (position_text c.args.start) < c.new-machine.result.asked = omega (arith, c.has_long_text.ensures.short c.if-has_long_text.false, c.new-machine.ensures.asked) in
     one_stop (grammar_in m) (properties_in m) n (state_at c.args.start) c.args.steps c.in-Err.stop
-    (∥∥₁_map (ready_in m) (λ is. (c.in-Err.ensures m.program false (subst (IsCodeOf false m.program) (sym c.code-code.ensures) is.0) (fused_here m _ _ c.code-code.ensures c.as_slice-fused.ensures.value is.1) n meant f asks).0))
+    (∥∥₁_map (ready_in m) (λ is. (c.in-Err.ensures m.program false (subst (IsCodeOf false m.program) (sym c.code-code.ensures) is.0) (fused_here m _ _ c.code-code.ensures c.as_slice-fused.ensures.value is.1) n meant f (asks, asks)).0))
 
 pub returns-clause-reason : goal.returns-clause-reason
 returns-clause-reason c =
@@ -58,7 +58,7 @@ returns-clause-reason c =
     let f : IsFresh c.new-machine.result = record { slots = c.new-machine.ensures.slots; trees = c.new-machine.ensures.trees; pushed = c.new-machine.ensures.pushed; furthest = c.new-machine.ensures.furthest; names = c.new-machine.ensures.names } in
     let asks : length (position_text c.args.start) < c.new-machine.result.asked = omega (arith, c.has_long_text.ensures.short c.if-has_long_text.false, c.new-machine.ensures.asked) in
     one_reason (grammar_in m) (properties_in m) n (state_at c.args.start) c.args.steps c.in-Err.stop
-    (∥∥₁_map (ready_in m) (λ is. (c.in-Err.ensures m.program false (subst (IsCodeOf false m.program) (sym c.code-code.ensures) is.0) (fused_here m _ _ c.code-code.ensures c.as_slice-fused.ensures.value is.1) n meant f asks).1))
+    (∥∥₁_map (ready_in m) (λ is. (c.in-Err.ensures m.program false (subst (IsCodeOf false m.program) (sym c.code-code.ensures) is.0) (fused_here m _ _ c.code-code.ensures c.as_slice-fused.ensures.value is.1) n meant f (asks, asks)).1))
 
 pub run_rule-requires : goal.run_rule-requires
 run_rule-requires c = record { can = run_here c.args.self.now _ _ c.code-code.ensures c.as_slice-fused.ensures.value }

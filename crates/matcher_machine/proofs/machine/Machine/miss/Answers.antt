@@ -1,6 +1,6 @@
 use Rattle.std.proofs.Common.{◌≡◌, ◌∙◌, ◌==◌, ℕ, List, ap, ap₂, if◌then◌else◌, map, refl, reverse, sym}
 use Rattle.matcher_code.specs.declared.code.Op.TheVariants as op
-use Rattle.matcher_code.specs.Steps.{apply_op, with_row}
+use Rattle.matcher_code.specs.Steps.{apply_op, with_row, one_place}
 use Rattle.matcher_machine.specs.Machines.{config, slot_of}
 use Rattle.matcher_machine.specs.Stacks.{texts_in}
 use Rattle.matcher_machine.specs.declared.stack.TextStack.{TextStack}
@@ -24,4 +24,4 @@ returns c code text pc =
     ∙ (ap (λ v. map (slot_of code text m.stack new.names.items) (reverse v.items)) (sym slots)
     ∙ ap (λ (st : TextStack). map (slot_of code text st new.names.items) (reverse new.slots.items)) (sym stack)))
     (ap (λ v. v.items) (sym (e.trees ∙ a.trees))) (ap (λ (st : TextStack). texts_in code text st) (sym stack))
-    (sym (e.furthest ∙ a.furthest)) (sym (e.asked ∙ a.asked)) (sym names) (none_missed m.asked c.args.row at)
+    (sym (e.furthest ∙ a.furthest)) (ap one_place (sym (e.asked ∙ a.asked))) (sym names) (none_missed (one_place m.asked) c.args.row at)
