@@ -26,3 +26,5 @@ pub mod CompiledNames
 pub mod LineNumbers
 pub mod TagFailures
 pub mod CompiledRuns
+pub mod AttemptNumbers
+pub mod EachRow

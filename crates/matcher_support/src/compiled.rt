@@ -10,11 +10,15 @@ ghost use Rattle.matcher_engine.specs.Preorders.{HasPreorder};
 ghost use Rattle.matcher_engine.specs.Walks.{AreNamesOf, visits, visits_left};
 ghost use Rattle.matcher_program.specs.Answers.{start_of};
 ghost use Rattle.matcher_program.specs.ExpectedNames.{name_texts};
-ghost use Rattle.matcher_support.specs.Compiled.{AreExpectedIn, IsCompiled, IsCompiledOf, IsRefusedBy, IsUnanswered};
+ghost use Rattle.matcher_support.specs.Compiled.{AreAttemptsIn, AreExpectedIn, ArePathsIn, IsCompiled, IsCompiledOf, IsRefusedBy, IsUnanswered};
 ghost use Rattle.matcher_support.specs.Sets.{is_in_property};
 
+use crate::attempts::{NamedAttempts, name_attempts};
 use base_language::runtime::Span;
-use matcher_engine::block::{BlockStop, expected_block, rule_count, rule_name, run_block};
+use matcher_code::state::OpenCall;
+use matcher_engine::block::{
+    BlockStop, attempts_block, expected_block, paths_block, rule_count, rule_name, run_block,
+};
 use matcher_engine::matcher::Preorder;
 use matcher_engine::walk::{TreeWalk, text_name, walk_names};
 use matcher_program::answers::Stop;
@@ -117,6 +121,62 @@ impl<'b> CompiledRules<'b> {
         }
     }
 
+    /// Returns the rules that an error of pest names where the rule of a name fails on a text, and its place,
+    /// as `attempts_block`: `place` is asked first. Errors are those of `expected_at`.
+    pub fn attempts(
+        &self,
+        alloc: Global,
+        rule: &str,
+        text: &str,
+        place: usize,
+        steps: u64,
+    ) -> Result<NamedAttempts<'_>, BlockStop>
+        ensures attempts { (g : Grammar) → IsCompiledOf g self.entry.now
+            → IfOk result (AreAttemptsIn g rule.entry.now text.entry.now) }
+        ensures refused { (g : Grammar) → IsCompiledOf g self.entry.now
+            → IfErr result (IsUnanswered g rule.entry.now text.entry.now steps) }
+    {
+        let number = match self.find_rule(rule) {
+            Ok(number) => number,
+            Err(stop) => return Err(stop),
+        };
+        let start = Span::of(text, 0, 0).start_pos();
+        match attempts_block(alloc, self.block, number, start, place, steps) {
+            Ok(attempts) => match name_attempts(alloc, self.rule_names(), &attempts) {
+                Ok(named) => Ok(named),
+                Err(_) => Err(BlockStop::Stopped(Stop::Memory)),
+            },
+            Err(stop) => Err(stop),
+        }
+    }
+
+    /// Returns the calls that are open where the names of `expected_at` are expected, as `paths_block`: lists
+    /// of them, each list once. Errors are those of `expected_at`; more than 1,024 lists count as an
+    /// allocation failure.
+    pub fn failure_paths(
+        &self,
+        alloc: Global,
+        rule: &str,
+        text: &str,
+        place: usize,
+        steps: u64,
+    ) -> Result<Vec<Vec<OpenCall>>, BlockStop>
+        ensures paths { (g : Grammar) → IsCompiledOf g self.now
+            → IfOk result (λ paths. ArePathsIn g rule.now text.now place paths.items) }
+        ensures refused { (g : Grammar) → IsCompiledOf g self.now
+            → IfErr result (IsUnanswered g rule.now text.now steps) }
+    {
+        let number = match self.find_rule(rule) {
+            Ok(number) => number,
+            Err(stop) => return Err(stop),
+        };
+        let start = Span::of(text, 0, 0).start_pos();
+        match paths_block(alloc, self.block, number, start, place, steps) {
+            Ok(paths) => Ok(paths),
+            Err(stop) => Err(stop),
+        }
+    }
+
     /// Begins a walk over the trees of a match that `match_text` has found.
     pub fn walk<'m, 't>(&'m self, alloc: Global, found: &'t Preorder) -> TreeWalk<'m, 't>
         ensures { (g : Grammar) → IsCompiledOf g self.entry.now → (n : Text) (s : State) (classes : Classes)
@@ -161,7 +221,7 @@ fn last_number(names: &[&str], name: &str) -> Option<usize>
 }
 
 /// Returns the names of numbers. The only error is an allocation failure.
-fn names_of<'m>(
+pub(crate) fn names_of<'m>(
     alloc: Global,
     names: &'m [&'m str],
     rows: &[u32],

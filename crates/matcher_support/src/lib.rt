@@ -2,6 +2,7 @@
 //! text and as JSON; and the sets of property names.
 #![tactic(auto)]
 
+pub mod attempts;
 pub mod compiled;
 pub mod expectations;
 pub mod json;

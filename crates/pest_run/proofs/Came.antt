@@ -34,13 +34,13 @@ use Rattle.matcher_program.specs.declared.answers.Stop.TheVariants as stop
 use Rattle.matcher_program.specs.ExpectedNames.{each_once, is_among, name_texts, with_names}
 use Rattle.matcher_support.specs.Compiled.{AreExpectedIn, FailsIn}
 use Rattle.matcher_support.specs.Sets.{has_set, is_in_property}
-use Rattle.pest_run.specs.Compiled.{AreAttemptsIn}
+use Rattle.matcher_support.specs.Compiled.{AreAttemptsIn}
 use Rattle.pest_run.specs.Failures.{AreOfError, IsFound}
 use Rattle.pest_run.specs.Outcomes.{HasNoRule, IsFailureReport, IsMatchReport, IsNoRuleReport, IsNoted, IsOutcome, IsStopReport, end_note, tells_expected, trees_text, unfit_outcome}
 use Rattle.pest_run.specs.Messages.{expected_text, is_more, note_between}
 use Rattle.pest_run.specs.declared.arguments.Format.{Format}
 use Rattle.pest_run.specs.declared.arguments.Format.TheVariants as format_is
-use Rattle.pest_run.specs.declared.compiled.NamedAttempts.{NamedAttempts}
+use Rattle.matcher_support.specs.declared.attempts.NamedAttempts.{NamedAttempts}
 use Rattle.pest_run.specs.declared.outcomes.Outcome.{Outcome}
 use Rattle.pest_run.specs.declared.outcomes.Outcome.TheVariants as is
 

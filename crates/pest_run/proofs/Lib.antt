@@ -9,5 +9,3 @@ pub mod Undefined
 pub mod CodeFiles
 pub mod PathTexts
 pub mod NoFailures
-pub mod AttemptNumbers
-pub mod EachRow

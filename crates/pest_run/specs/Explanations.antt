@@ -10,7 +10,7 @@ use Rattle.matcher_code.specs.declared.state.OpenCall.{OpenCall}
 use Rattle.matcher_program.specs.Answers.{Has}
 use Rattle.matcher_support.specs.Compiled.{FailsIn}
 use Rattle.matcher_support.specs.Sets.{is_in_property}
-use Rattle.pest_run.specs.Compiled.{ArePathsIn}
+use Rattle.matcher_support.specs.Compiled.{ArePathsIn}
 use Rattle.pest_run.specs.Failures.{IsFound}
 use Rattle.pest_run.specs.Outcomes.{HasNoRule, TakesTooManySteps}
 use Rattle.pest_run.specs.Paths.{shown_paths}
@@ -19,7 +19,7 @@ use Rattle.pest_run.specs.Written.{AreRun, WritesLine}
 use Rattle.pest_run.specs.declared.arguments.Format.{Format}
 use Rattle.pest_run.specs.declared.arguments.Format.TheVariants as format_is
 use Rattle.pest_run.specs.declared.arguments.RuleForm.{RuleForm}
-use Rattle.pest_run.specs.declared.compiled.NamedAttempts.{NamedAttempts}
+use Rattle.matcher_support.specs.declared.attempts.NamedAttempts.{NamedAttempts}
 use Rattle.pest_run.specs.declared.explanations.Explanation.{Explanation}
 use Rattle.pest_run.specs.declared.explanations.Explanation.TheVariants as is
 

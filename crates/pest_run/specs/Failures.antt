@@ -10,8 +10,8 @@ use Rattle.matcher_code.specs.Attempts.{attempts_at}
 use Rattle.matcher_engine.specs.FailureAttempts.{attempt_place}
 use Rattle.matcher_program.specs.ExpectedNames.{each_once}
 use Rattle.matcher_support.specs.Compiled.{AreExpectedIn}
-use Rattle.pest_run.specs.Compiled.{AreAttemptsIn}
-use Rattle.pest_run.specs.declared.compiled.NamedAttempts.{NamedAttempts}
+use Rattle.matcher_support.specs.Compiled.{AreAttemptsIn}
+use Rattle.matcher_support.specs.declared.attempts.NamedAttempts.{NamedAttempts}
 
 -- of a derivation: no name is expected at the furthest failure, and these are the position of pest's own
 -- error, the names that are expected there, and those that are not, each once in the order of the calls

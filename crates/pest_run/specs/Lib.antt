@@ -12,4 +12,3 @@ pub mod Ends
 pub mod Listing
 pub mod Forms
 pub mod Explanations
-pub mod Compiled

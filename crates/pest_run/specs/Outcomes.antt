@@ -30,7 +30,7 @@ use Rattle.pest_run.specs.Messages.{end_text, failure_text, is_more, no_rule_tex
 use Rattle.pest_run.specs.Failures.{AreTold}
 use Rattle.pest_run.specs.declared.arguments.Format.{Format}
 use Rattle.pest_run.specs.declared.arguments.Format.TheVariants as format_is
-use Rattle.pest_run.specs.declared.compiled.NamedAttempts.{NamedAttempts}
+use Rattle.matcher_support.specs.declared.attempts.NamedAttempts.{NamedAttempts}
 use Rattle.pest_run.specs.declared.outcomes.Outcome.{Outcome}
 use Rattle.pest_run.specs.declared.outcomes.Outcome.TheVariants as is
 use Rattle.serde_json.specs.Written.{compact_text}

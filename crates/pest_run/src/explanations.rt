@@ -7,16 +7,14 @@ ghost use Rattle.base_language.specs.Language.Expression.{Grammar};
 ghost use Rattle.matcher_engine.specs.BlockRuns.{IsStopped};
 ghost use Rattle.matcher_engine.specs.Walks.{AreNamesOf};
 ghost use Rattle.matcher_program.specs.Answers.{start_of};
-ghost use Rattle.matcher_support.specs.Compiled.{FailsIn, IsCompiled, IsUnanswered};
+ghost use Rattle.matcher_support.specs.Compiled.{ArePathsIn, FailsIn, IsCompiled, IsCompiledOf, IsUnanswered};
 ghost use Rattle.matcher_support.specs.Sets.{is_in_property};
-ghost use Rattle.pest_run.specs.Compiled.{ArePathsIn, IsCompiledFrom};
 ghost use Rattle.pest_run.specs.Explanations.{Explains, IsExplanation, IsFormExplanation, IsReportedAt, WritesExplanation, unfound_text};
 ghost use Rattle.pest_run.specs.Grammars.{IsReadFrom};
 ghost use Rattle.pest_run.specs.Steps.{path_limit};
 ghost use Rattle.pest_run.specs.Written.{IsReadable};
 
 use crate::arguments::{Format, Request, path_limit};
-use crate::compiled::{CompiledGrammar, NamedAttempts};
 use crate::failures::find_failure;
 use crate::grammars::GrammarRules;
 use crate::paths::show_paths;
@@ -25,6 +23,8 @@ use base_ast::optimized::{OptimizedRule, release};
 use matcher_code::state::OpenCall;
 use matcher_engine::block::{BlockStop, compile_block};
 use matcher_program::answers::Stop;
+use matcher_support::attempts::NamedAttempts;
+use matcher_support::compiled::CompiledRules;
 use matcher_support::unicode_properties::UnicodeProperties;
 use program_support::output::{Output, RefusedWrite};
 use std::alloc::{AllocError, Global};
@@ -178,7 +178,7 @@ fn explain_block(
     ensures { (rules : List OptimizedRule) → IsCompiled rules block.now
         → IsExplanation (optimized_rules_of rules) rule.now text.now format steps result }
 {
-    match CompiledGrammar::read(alloc, block) {
+    match CompiledRules::read(alloc, block) {
         Ok(Some(grammar)) => explain_compiled(alloc, &grammar, rule, text, format, steps),
         Ok(None) | Err(_) => Explanation::Memory,
     }
@@ -187,19 +187,19 @@ fn explain_block(
 /// Returns the explanation as `explain_rules`, by a compiled grammar of the rules.
 fn explain_compiled(
     alloc: Global,
-    grammar: &CompiledGrammar<'_>,
+    rules: &CompiledRules<'_>,
     rule: &str,
     text: &str,
     format: Format,
     steps: u64,
 ) -> Explanation
-    ensures { (g : Grammar) → IsCompiledFrom g grammar.now
+    ensures { (g : Grammar) → IsCompiledOf g rules.now
         → IsExplanation g rule.now text.now format steps result }
 {
-    match find_reported(alloc, grammar, rule, text, steps) {
+    match find_reported(alloc, rules, rule, text, steps) {
         Ok(failure) => {
             let place = failure.place;
-            explain_at(alloc, grammar, rule, text, place, format, steps)
+            explain_at(alloc, rules, rule, text, place, format, steps)
         }
         Err(explanation) => explanation,
     }
@@ -208,7 +208,7 @@ fn explain_compiled(
 /// Returns the explanation of a failure whose report shows this place.
 fn explain_at(
     alloc: Global,
-    grammar: &CompiledGrammar<'_>,
+    rules: &CompiledRules<'_>,
     rule: &str,
     text: &str,
     place: usize,
@@ -216,12 +216,12 @@ fn explain_at(
     steps: u64,
 ) -> Explanation
     requires { IsCharBoundary text.now place }
-    ensures { (g : Grammar) → IsCompiledFrom g grammar.now → IsReportedAt g rule.now text.now place
+    ensures { (g : Grammar) → IsCompiledOf g rules.now → IsReportedAt g rule.now text.now place
         → IsExplanation g rule.now text.now format steps result }
 {
-    match grammar.failure_paths(alloc, rule, text, place, steps) {
+    match rules.failure_paths(alloc, rule, text, place, steps) {
         Ok(paths) => {
-            let names = grammar.rules.rule_names();
+            let names = rules.rule_names();
             shown_explanation(alloc, format, text, names, place, &paths)
         }
         Err(stop) => refusal_explanation(alloc, stop, steps),
@@ -232,23 +232,23 @@ fn explain_at(
 /// so many steps at most. The error is the explanation where there is no failure, or none is found.
 fn find_reported<'a>(
     alloc: Global,
-    grammar: &'a CompiledGrammar<'a>,
+    rules: &'a CompiledRules<'a>,
     rule: &'a str,
     text: &'a str,
     steps: u64,
 ) -> Result<NamedAttempts<'a>, Explanation>
     ensures place { IfOk result (λ failure. IsCharBoundary text.entry.now failure.place) }
-    ensures reported { (g : Grammar) → IsCompiledFrom g grammar.entry.now → IfOk result (λ failure.
+    ensures reported { (g : Grammar) → IsCompiledOf g rules.entry.now → IfOk result (λ failure.
         IsReportedAt g rule.entry.now text.entry.now failure.place) }
-    ensures unexplained { (g : Grammar) → IsCompiledFrom g grammar.entry.now → (format : Format)
+    ensures unexplained { (g : Grammar) → IsCompiledOf g rules.entry.now → (format : Format)
         → IfErr result (IsExplanation g rule.entry.now text.entry.now format steps) }
 {
-    let stop = match grammar.rules.match_text(alloc, rule, text, steps) {
+    let stop = match rules.match_text(alloc, rule, text, steps) {
         Ok(_) => return Err(Explanation::NoFailure),
         Err(stop) => stop,
     };
     match stop {
-        BlockStop::NoMatch(place) => find_shown(alloc, grammar, rule, text, place, steps),
+        BlockStop::NoMatch(place) => find_shown(alloc, rules, rule, text, place, steps),
         BlockStop::Stopped(why) => Err(stop_explanation(alloc, why, steps)),
         BlockStop::NoRule | BlockStop::Flaw(_) => Err(Explanation::NoFailure),
     }
@@ -257,24 +257,24 @@ fn find_reported<'a>(
 /// Returns the failure as `find_reported`, by its furthest position.
 fn find_shown<'a>(
     alloc: Global,
-    grammar: &'a CompiledGrammar<'a>,
+    rules: &'a CompiledRules<'a>,
     rule: &'a str,
     text: &'a str,
     furthest: usize,
     steps: u64,
 ) -> Result<NamedAttempts<'a>, Explanation>
     ensures place { IfOk result (λ failure. IsCharBoundary text.entry.now failure.place) }
-    ensures reported { (g : Grammar) → IsCompiledFrom g grammar.entry.now
+    ensures reported { (g : Grammar) → IsCompiledOf g rules.entry.now
         → FailsIn g rule.entry.now text.entry.now furthest → IfOk result (λ failure.
         IsReportedAt g rule.entry.now text.entry.now failure.place) }
-    ensures unexplained { (g : Grammar) → IsCompiledFrom g grammar.entry.now
+    ensures unexplained { (g : Grammar) → IsCompiledOf g rules.entry.now
         → FailsIn g rule.entry.now text.entry.now furthest → (format : Format)
         → IfErr result (IsExplanation g rule.entry.now text.entry.now format steps) }
 {
     if !text.is_char_boundary(furthest) {
         return Err(Explanation::NoFailure);
     }
-    match find_failure(alloc, grammar, rule, text, furthest, steps) {
+    match find_failure(alloc, rules, rule, text, furthest, steps) {
         Ok(failure) => Ok(failure),
         Err(stop) => Err(refusal_explanation(alloc, stop, steps)),
     }

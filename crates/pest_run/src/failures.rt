@@ -3,16 +3,15 @@
 ghost use Rattle.std.specs.Prelude.{◌≡◌, IfErr, IfOk, IfSome, true};
 ghost use Rattle.std.specs.Str.{IsCharBoundary};
 ghost use Rattle.base_language.specs.Language.Expression.{Grammar};
-ghost use Rattle.matcher_support.specs.Compiled.{AreExpectedIn, IsCompiledOf, IsUnanswered};
-ghost use Rattle.pest_run.specs.Compiled.{AreAttemptsIn, IsCompiledFrom};
+ghost use Rattle.matcher_support.specs.Compiled.{AreAttemptsIn, AreExpectedIn, IsCompiledOf, IsUnanswered};
 ghost use Rattle.pest_run.specs.Failures.{IsFound};
 ghost use Rattle.pest_run.specs.Outcomes.{tells_expected};
 
 use crate::arguments::Format;
-use crate::compiled::{CompiledGrammar, NamedAttempts};
 use crate::messages::is_more;
 use matcher_engine::block::BlockStop;
 use matcher_engine::matcher::Preorder;
+use matcher_support::attempts::NamedAttempts;
 use matcher_support::compiled::CompiledRules;
 use std::alloc::Global;
 
@@ -25,7 +24,7 @@ const ERROR_PART: u64 = 100;
 /// or for want of memory, no name is told. Errors are those of `CompiledRules::expected_at`.
 pub fn find_failure<'a>(
     alloc: Global,
-    grammar: &'a CompiledGrammar<'a>,
+    rules: &'a CompiledRules<'a>,
     rule: &'a str,
     text: &'a str,
     furthest: usize,
@@ -33,16 +32,15 @@ pub fn find_failure<'a>(
 ) -> Result<NamedAttempts<'a>, BlockStop>
     requires { IsCharBoundary text.now furthest }
     ensures place { IfOk result (λ failure. IsCharBoundary text.entry.now failure.place) }
-    ensures found { (g : Grammar) → IsCompiledFrom g grammar.entry.now
+    ensures found { (g : Grammar) → IsCompiledOf g rules.entry.now
         → IfOk result (IsFound g rule.entry.now text.entry.now furthest) }
-    ensures refused { (g : Grammar) → IsCompiledFrom g grammar.entry.now
+    ensures refused { (g : Grammar) → IsCompiledOf g rules.entry.now
         → IfErr result (IsUnanswered g rule.entry.now text.entry.now steps) }
 {
-    let rules = &grammar.rules;
     let positives = rules.expected_at(alloc, rule, text, furthest, steps)?;
     if positives.is_empty() {
         let few = steps / ERROR_PART;
-        if let Some(attempts) = find_attempts(alloc, grammar, rule, text, furthest, few) {
+        if let Some(attempts) = find_attempts(alloc, rules, rule, text, furthest, few) {
             return Ok(attempts);
         }
     }
@@ -57,17 +55,17 @@ pub fn find_failure<'a>(
 /// none where the error has no name, or it is not found.
 fn find_attempts<'a>(
     alloc: Global,
-    grammar: &'a CompiledGrammar<'a>,
+    rules: &'a CompiledRules<'a>,
     rule: &'a str,
     text: &'a str,
     place: usize,
     steps: u64,
 ) -> Option<NamedAttempts<'a>>
     ensures place { IfSome result (λ attempts. IsCharBoundary text.entry.now attempts.place) }
-    ensures attempts { (g : Grammar) → IsCompiledFrom g grammar.entry.now
+    ensures attempts { (g : Grammar) → IsCompiledOf g rules.entry.now
         → IfSome result (AreAttemptsIn g rule.entry.now text.entry.now) }
 {
-    let Ok(attempts) = grammar.attempts(alloc, rule, text, place, steps) else {
+    let Ok(attempts) = rules.attempts(alloc, rule, text, place, steps) else {
         return None;
     };
     let has_names = !attempts.positives.is_empty() || !attempts.negatives.is_empty();

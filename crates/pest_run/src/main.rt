@@ -10,7 +10,6 @@ ghost use Rattle.pest_run.specs.Written.{IsReadable, PrintsTrees};
 
 mod arguments;
 mod codes;
-mod compiled;
 mod ends;
 mod explanations;
 mod failures;

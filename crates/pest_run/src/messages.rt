@@ -9,9 +9,9 @@ ghost use Rattle.program_support.specs.Escapes.{escaped_bytes};
 ghost use Rattle.pest_run.specs.Messages.{end_text, expected_or_none, expected_text, expected_too, failure_text, is_more, no_rule_text, note_between, place_text, steps_text, suggestion, unread_text};
 ghost use Rattle.base_language.specs.Pieces.LineColumn.{line_column};
 
-use crate::compiled::NamedAttempts;
 use crate::rule_names::near_names;
 use base_language::runtime::Position;
+use matcher_support::attempts::NamedAttempts;
 use matcher_support::expectations::{add_names, failure_message};
 use program_support::escape::escape;
 use std::alloc::{AllocError, Global};

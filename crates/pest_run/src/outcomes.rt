@@ -12,13 +12,11 @@ ghost use Rattle.matcher_program.specs.ExpectedNames.{name_texts};
 ghost use Rattle.std.specs.Str.{IsCharBoundary};
 ghost use Rattle.matcher_support.specs.Compiled.{FailsIn, IsCompiled, IsCompiledOf, IsUnanswered};
 ghost use Rattle.matcher_support.specs.Sets.{is_in_property};
-ghost use Rattle.pest_run.specs.Compiled.{IsCompiledFrom};
 ghost use Rattle.matcher_support.specs.Shown.{shown};
 ghost use Rattle.program_support.specs.Escapes.{escaped_lines};
 ghost use Rattle.pest_run.specs.Outcomes.{IsFailureReport, IsMatchReport, IsNoRuleReport, IsOutcome, IsStopReport, ReportsFailure, end_note, trees_text, unfit_outcome};
 
 use crate::arguments::Format;
-use crate::compiled::{CompiledGrammar, NamedAttempts};
 use crate::failures::{find_failure, names_after};
 use crate::messages::{describe_failure, end_message, is_more, no_rule_message, steps_message};
 use base_language::runtime::{Error, ErrorVariant, Fault, Position};
@@ -27,6 +25,7 @@ use matcher_engine::matcher::Preorder;
 use matcher_engine::walk::TreeWalk;
 use matcher_program::answers::Stop;
 use matcher_program::compile::Unfit;
+use matcher_support::attempts::NamedAttempts;
 use matcher_support::compiled::CompiledRules;
 use matcher_support::json::tree_json;
 use matcher_support::lines::tree_lines;
@@ -96,7 +95,7 @@ pub fn block_outcome(
     ensures { (rules : List OptimizedRule) → IsCompiled rules block.now → IsSomeAnd result
         (IsOutcome (optimized_rules_of rules) rule.now name.now text.now format steps) }
 {
-    match CompiledGrammar::read(alloc, block) {
+    match CompiledRules::read(alloc, block) {
         Ok(Some(grammar)) => run_outcome(alloc, &grammar, rule, name, text, format, steps),
         Ok(None) => None,
         Err(_) => Some(Outcome::Memory),
@@ -106,21 +105,20 @@ pub fn block_outcome(
 /// Runs the rule of that name, as `block_outcome`.
 fn run_outcome(
     alloc: Global,
-    grammar: &CompiledGrammar<'_>,
+    rules: &CompiledRules<'_>,
     rule: &str,
     name: &str,
     text: &str,
     format: Format,
     steps: u64,
 ) -> Option<Outcome>
-    ensures { (g : Grammar) → IsCompiledFrom g grammar.now → IsSomeAnd result
+    ensures { (g : Grammar) → IsCompiledOf g rules.now → IsSomeAnd result
         (IsOutcome g rule.now name.now text.now format steps) }
 {
-    let rules = &grammar.rules;
     match rules.match_text(alloc, rule, text, steps) {
         Ok(found) => match_outcome(alloc, rules, rule, text, &found, format, steps),
         Err(BlockStop::NoMatch(place)) => {
-            failure_outcome(alloc, grammar, rule, name, text, place, steps)
+            failure_outcome(alloc, rules, rule, name, text, place, steps)
         }
         Err(BlockStop::NoRule) => refusal_outcome(alloc, rules, rule, BlockStop::NoRule, steps),
         Err(BlockStop::Stopped(stop)) => {
@@ -161,23 +159,23 @@ fn match_outcome(
 /// position. Returns none where that is not between two characters.
 fn failure_outcome(
     alloc: Global,
-    grammar: &CompiledGrammar<'_>,
+    rules: &CompiledRules<'_>,
     rule: &str,
     name: &str,
     text: &str,
     place: usize,
     steps: u64,
 ) -> Option<Outcome>
-    ensures { (g : Grammar) → IsCompiledFrom g grammar.now → (format : Format)
+    ensures { (g : Grammar) → IsCompiledOf g rules.now → (format : Format)
         → FailsIn g rule.now text.now place
         → IsSomeAnd result (IsOutcome g rule.now name.now text.now format steps) }
 {
     if !text.is_char_boundary(place) {
         return None;
     }
-    match find_failure(alloc, grammar, rule, text, place, steps) {
+    match find_failure(alloc, rules, rule, text, place, steps) {
         Ok(failure) => Some(failed_outcome(alloc, name, text, &failure)),
-        Err(stop) => refusal_outcome(alloc, &grammar.rules, rule, stop, steps),
+        Err(stop) => refusal_outcome(alloc, rules, rule, stop, steps),
     }
 }
 

@@ -13,4 +13,4 @@ returns-in-Ok c = λ g of format fails.
     failed g c.args.rule.now c.args.name.now c.args.text.now format c.args.steps c.args.place c.in-Ok.failure c.failed_outcome.result fails (c.in-Ok.ensures.found g of) c.failed_outcome.ensures
 
 pub returns-in-Err : goal.returns-in-Err
-returns-in-Err c = λ g of format fails. c.refusal_outcome.ensures g of.by_names c.args.name.now c.args.text.now c.utf8.text format (c.in-Err.ensures.refused g of)
+returns-in-Err c = λ g of format fails. c.refusal_outcome.ensures g of c.args.name.now c.args.text.now c.utf8.text format (c.in-Err.ensures.refused g of)

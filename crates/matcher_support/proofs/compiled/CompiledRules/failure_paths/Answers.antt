@@ -6,7 +6,7 @@ use Rattle.matcher_engine.specs.BlockRuns.{ArePaths, IsRefusal}
 use Rattle.matcher_engine.specs.Traces.{paths_in}
 use Rattle.matcher_support.specs.Sets.{is_in_property}
 use Rattle.matcher_support.proofs.CompiledRuns.{refusal_unanswered}
-use Rattle.pest_run.proofs.compiled.CompiledGrammar.failure_paths.Goals as goal
+use Rattle.matcher_support.proofs.compiled.CompiledRules.failure_paths.Goals as goal
 
 pub of-requires-clause-starts_at_character : goal.of-requires-clause-starts_at_character
 of-requires-clause-starts_at_character c = IsCharBoundary-start c.args.text.now c.utf8.text

@@ -1,5 +1,5 @@
 use Rattle.std.proofs.Common.{◌∙◌}
-use Rattle.pest_run.proofs.compiled.name_attempts.Goals as goal
+use Rattle.matcher_support.proofs.attempts.name_attempts.Goals as goal
 
 pub returns-clause-positives : goal.returns-clause-positives
 returns-clause-positives c = λ g named ns e have. c.in_ok-positives.ensures g named ns (c.deref.ensures.value ∙ e) have

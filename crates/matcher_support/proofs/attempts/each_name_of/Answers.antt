@@ -3,7 +3,7 @@ use Rattle.std.proofs.lemmas.Result.{IfOk-weaker}
 use Rattle.matcher_code.specs.Steps.{with_rows}
 use Rattle.matcher_engine.proofs.Rows.{have_once, rows_once}
 use Rattle.matcher_program.specs.ExpectedNames.{each_once}
-use Rattle.pest_run.proofs.compiled.each_name_of.Goals as goal
+use Rattle.matcher_support.proofs.attempts.each_name_of.Goals as goal
 
 pub returns : goal.returns
 returns c =

@@ -1,6 +1,6 @@
 use Rattle.std.proofs.Common.{◌∙◌, ◌++◌, ◌∷◌, [], ap, if◌then◌else◌, sym}
-use Rattle.pest_run.proofs.EachRow.{row_unless}
-use Rattle.pest_run.proofs.compiled.add_row.Goals as goal
+use Rattle.matcher_support.proofs.EachRow.{row_unless}
+use Rattle.matcher_support.proofs.attempts.add_row.Goals as goal
 
 pub returns-then-contains : goal.returns-then-contains
 returns-then-contains c =

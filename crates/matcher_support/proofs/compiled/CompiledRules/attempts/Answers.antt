@@ -7,9 +7,9 @@ use Rattle.matcher_engine.specs.BlockRuns.{IsRefusal}
 use Rattle.matcher_engine.specs.FailureAttempts.{AreAttempts}
 use Rattle.matcher_program.specs.ExpectedNames.{each_once}
 use Rattle.matcher_support.specs.Sets.{is_in_property}
-use Rattle.pest_run.proofs.AttemptNumbers.{attempts_have}
+use Rattle.matcher_support.proofs.AttemptNumbers.{attempts_have}
 use Rattle.matcher_support.proofs.CompiledRuns.{refusal_unanswered}
-use Rattle.pest_run.proofs.compiled.CompiledGrammar.attempts.Goals as goal
+use Rattle.matcher_support.proofs.compiled.CompiledRules.attempts.Goals as goal
 
 pub of-requires-clause-starts_at_character : goal.of-requires-clause-starts_at_character
 of-requires-clause-starts_at_character c = IsCharBoundary-start c.args.text.now c.utf8.text
@@ -27,7 +27,7 @@ returns-in-Ok-name_attempts-clause-attempts c = λ g of.
     let it = c.in-Ok-attempts_block.attempts in
     let P : State → Type 0 = λ t. AreAttempts g n t is_in_property it in
     let y = subst P s (c.in-Ok-attempts_block.ensures.attempts g is_in_property of.code n (c.in-Ok.ensures.found g of)) in
-    let names = c.rule_names.ensures g of.by_names in
+    let names = c.rule_names.ensures g of in
     let a = attempts_at false it.place y.found in
     let have = attempts_have g false it.place y.found in
     let told = c.in-Ok-name_attempts.ensures in
