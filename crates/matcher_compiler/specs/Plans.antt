@@ -1,5 +1,5 @@
 -- Plans of programs: points and demands, and what a program does that meets them.
-use Rattle.std.specs.Prelude.{◌≡◌, ◌<◌, ℕ, suc, Bool, List, [], ◌∷◌, None, Option, get_or, length, map, All, IsUtf8, chars, ⊤}
+use Rattle.std.specs.Prelude.{◌≡◌, ◌<◌, ℕ, suc, Bool, List, [], ◌∷◌, IfSome, None, Option, get_or, length, map, All, IsUtf8, chars, ⊤}
 use Rattle.base_language.specs.Language.Expression.{Expression, Grammar, Ident, Rep, Seq, comment, rule_of, whitespace}
 use Rattle.base_language.specs.Language.Meaning.{Does, Run, Skipping, Task, once_or_more, skipped}
 use Rattle.base_language.specs.Language.State as language
@@ -14,7 +14,7 @@ use Rattle.matcher_code.specs.Sets.{IsSetOf}
 use Rattle.matcher_program.specs.declared.form.Program.{Program}
 use Rattle.matcher_program.specs.Programs.{Fits, name_at, names_of}
 use Rattle.matcher_code.specs.Laid as lay
-use Rattle.matcher_code.specs.Laid.{Branches, Continues, Enters, FailsOutside, HasOutcome, GoesOn, HasTable, Hits, IsPart, IsPoint, IsSilent, IsTight, Lays, TakesNone, TakesOne, at_label, skip_set}
+use Rattle.matcher_code.specs.Laid.{Branches, Continues, Enters, FailsOutside, HasOutcome, GoesOn, HasTable, Hits, IsPart, IsPoint, IsSilent, IsTight, Lays, Moves, Notes, TakesNone, TakesOne, at_label, skip_set}
 use Rattle.matcher_compiler.specs.declared.plan.Plan.{Plan}
 use Rattle.matcher_compiler.specs.declared.plan.Skips.{Skips}
 use Rattle.matcher_compiler.specs.declared.plan.Skips.TheVariants as skips
@@ -91,6 +91,12 @@ IsTightIn p m = (classes : Classes) → IsTight (grammar_in p) classes (mode_of 
 -- a choice goes on at a label for a first byte; its table has such labels
 abbrev pub ContinuesAs : CodeLists → Branch → Option ℕ → ℕ → Type 0
 ContinuesAs code b head t = Continues code head b.set b.noted b.first b.second b.next b.way t
+
+-- where the second alternative of a choice leads on to a label, if to one, its table may have another label,
+-- before which a failure is recorded
+abbrev pub IsNoted : CodeLists → Branch → Option ℕ → ℕ → Type 0
+IsNoted code b next t = (head : Option ℕ) → IfSome next (Moves code head b.second)
+    → Notes code head b.second b.next b.way t
 
 abbrev pub HasBranch : CodeLists → Branch → Type 0
 HasBranch code b = Branches code b.table b.set b.noted b.first b.second b.next b.way

@@ -4,7 +4,7 @@ ghost use Rattle.matcher_code.specs.Sets.{IsAligned};
 ghost use Rattle.matcher_compiler.specs.Sets.{AreKnownIn};
 
 use crate::points::{Demand, NotCompiled, Part, Place, Point};
-use crate::sets::{KnownSet, known_set};
+use crate::sets::{KnownSet, key_of, known_set};
 use matcher_code::code::{Code, Op};
 use matcher_code::ranges::Ranges;
 use matcher_code::sets::add_set;
@@ -132,6 +132,7 @@ impl<'p> Plan<'p> {
             return Err(NotCompiled::Unsupported);
         }
         let copy = Vec::from_slice(*self.sets.rows.allocator(), ranges.as_slice())?;
+        let key = key_of(&ranges);
         let number = add_set(&mut self.sets, ranges)?;
         if number as usize >= self.sets.ranges.len() {
             self.known.clear();
@@ -142,6 +143,7 @@ impl<'p> Plan<'p> {
         }
         let known = KnownSet {
             ranges: copy,
+            key,
             number,
         };
         if self.known.push(known).is_err() {

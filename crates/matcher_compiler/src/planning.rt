@@ -11,7 +11,7 @@ ghost use Rattle.matcher_compiler.specs.Plans.{AreBound, IsBoundPart, IsLater, I
 ghost use Rattle.matcher_compiler.specs.declared.points.Point.{Point};
 
 use crate::plan::Plan;
-use crate::points::{NotCompiled, Part, Place, Point};
+use crate::points::{Demand, NotCompiled, Part, Place, Point};
 use crate::spans::repeated_ranges;
 use matcher_code::code::Op;
 use matcher_program::form::{Form, Program};
@@ -20,13 +20,41 @@ use matcher_sets::heads::Heads;
 use matcher_sets::modes::Atomicity;
 use std::alloc::Global;
 
-/// Returns the first of the labels of a point's own.
-fn own_labels(rules: usize, number: usize) -> u32 {
-    let label = number
-        .saturating_mul(6)
-        .saturating_add(rules.saturating_mul(13))
-        .saturating_add(3);
-    if label < 0xffff_fff0 { label as u32 } else { 0 }
+/// How many labels a rule has of its own: its entry, and two for its body in each mode, with and without a
+/// token.
+const RULE_LABELS: usize = 13;
+
+/// The number from which on there are too many labels.
+const TOO_MANY_LABELS: u32 = 0xffff_fff0;
+
+/// Returns the first label after `Fail`, `Halt`, `Lose` and the labels of rules, or one of too many.
+fn first_free(rules: usize) -> u32 {
+    let label = rules.saturating_mul(RULE_LABELS).saturating_add(3);
+    if label < TOO_MANY_LABELS as usize {
+        label as u32
+    } else {
+        TOO_MANY_LABELS
+    }
+}
+
+/// Returns the first label from one on that comes after those of the points from a number on.
+fn free_of_points(points: &[Point<'_>], start: usize, from: u32) -> u32 {
+    let mut free = from;
+    for number in start..points.len() {
+        free = free.max(points[number].at.label.saturating_add(1));
+    }
+    free
+}
+
+/// Returns the first label from one on that comes after those of the demands from a number on.
+fn free_of_demands(demands: &[Demand], start: usize, from: u32) -> u32 {
+    let mut free = from;
+    for number in start..demands.len() {
+        if let Demand::Operation { label, op: _ } = demands[number] {
+            free = free.max(label.saturating_add(1));
+        }
+    }
+    free
 }
 
 impl<'p> Plan<'p> {
@@ -332,7 +360,7 @@ impl<'p> Plan<'p> {
         }
     }
 
-    /// Plans the parts of each point.
+    /// Plans the parts of each point. The labels of its own are the first ones that are free.
     pub(crate) fn plan(
         &mut self,
         alloc: Global,
@@ -350,21 +378,20 @@ impl<'p> Plan<'p> {
         ensures lays { OnOk result ((i : ℕ) (d : Point) → i < length self.new.points.items
             → LaysPoint program.entry.now self.new (get_or self.new.points.items i d)) }
     {
-        let rules = program.rows.len();
+        let mut own = first_free(program.rows.len());
         for number in 0..usize::MAX {
             let point = match self.points.get(number) {
                 Some(point) => *point,
                 None => return Ok(()),
             };
-            self.part(
-                alloc,
-                program,
-                heads,
-                lasts,
-                point,
-                number,
-                own_labels(rules, number),
-            )?;
+            if own >= TOO_MANY_LABELS {
+                return Err(NotCompiled::Unsupported);
+            }
+            let points = self.points.len();
+            let demands = self.demands.len();
+            self.part(alloc, program, heads, lasts, point, number, own)?;
+            own = free_of_points(&self.points, points, own);
+            own = free_of_demands(&self.demands, demands, own);
         }
         Err(NotCompiled::Unsupported)
     }

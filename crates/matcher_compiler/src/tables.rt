@@ -5,7 +5,7 @@ ghost use Rattle.matcher_code.specs.Lists.{lists_of};
 ghost use Rattle.matcher_code.specs.declared.code.Op.TheVariants as op;
 ghost use Rattle.matcher_code.specs.Reading.{char_len, flag, text_of};
 ghost use Rattle.matcher_code.specs.Laid.{Moves, Notes, Skips, at_label, head_of, label_for};
-ghost use Rattle.matcher_compiler.specs.Plans.{ContinuesAs, HasBranch, KeepsData};
+ghost use Rattle.matcher_compiler.specs.Plans.{ContinuesAs, HasBranch, IsNoted, KeepsData};
 
 use crate::points::{Branch, Demand, NotCompiled};
 use matcher_code::code::{Code, Op};
@@ -176,6 +176,73 @@ fn skips(code: &Code, from: u32, here: Op, head: Option<u8>, to: u32) -> bool
     to == from || moves(code, from, here, head, to)
 }
 
+/// The label that the table of a choice has for a first byte, and that at which the operation of the second
+/// alternative goes on, if it does nothing else.
+#[derive(Clone, Copy)]
+struct Lead {
+    next: Option<u32>,
+    to: u32,
+}
+
+/// Returns whether a failure of the first alternative is recorded before the second one.
+#[inline(always)]
+fn is_noted(code: &Code, branch: Branch, lead: Lead) -> bool
+    ensures { result ≡ true → IsNoted (lists_of code.now) branch lead.next lead.to }
+{
+    let behind = match label_after_note(code, lead.to) {
+        Some(behind) => behind,
+        None => return false,
+    };
+    if behind == branch.second {
+        return true;
+    }
+    match lead.next {
+        Some(next) => {
+            next == behind || next == lead.to && lead.to != branch.next && lead.to != branch.way
+        }
+        None => false,
+    }
+}
+
+/// Returns whether two leads are the same.
+#[inline(always)]
+fn is_same_lead(one: Lead, other: Lead) -> bool
+    ensures next { result ≡ true → one.next ≡ other.next }
+    ensures to { result ≡ true → one.to ≡ other.to }
+{
+    if one.to != other.to {
+        return false;
+    }
+    match one.next {
+        Some(next) => match other.next {
+            Some(next2) => next == next2,
+            None => false,
+        },
+        None => match other.next {
+            Some(_) => false,
+            None => true,
+        },
+    }
+}
+
+/// Returns whether a failure of the first alternative is recorded before the second one, as `is_noted`.
+/// `seen`: a lead of which it is known.
+#[inline(always)]
+fn is_noted_as(code: &Code, branch: Branch, seen: Option<Lead>, lead: Lead) -> bool
+    requires { IfSome seen (λ lead. IsNoted (lists_of code.now) branch lead.next lead.to) }
+    ensures { result ≡ true → IsNoted (lists_of code.now) branch lead.next lead.to }
+{
+    match seen {
+        Some(known) => {
+            if is_same_lead(known, lead) {
+                return true;
+            }
+            is_noted(code, branch, lead)
+        }
+        None => is_noted(code, branch, lead),
+    }
+}
+
 /// Returns whether a failure of the first alternative is recorded before the second one, whose operation is
 /// given.
 #[inline(always)]
@@ -183,35 +250,60 @@ fn has_note(code: &Code, branch: Branch, second: Op, head: Option<u8>, to: u32) 
     ensures { at_label (lists_of code.now) branch.second ≡ second → result ≡ true
         → Notes (lists_of code.now) head branch.second branch.next branch.way to }
 {
-    let behind = match label_after_note(code, to) {
-        Some(behind) => behind,
-        None => return false,
-    };
-    if behind == branch.second {
-        return true;
+    let next = next_label(code, branch.second, second, head);
+    is_noted(code, branch, Lead { next, to })
+}
+
+/// Returns a noted lead, `seen` or a new one, if there is one yet, or `None` if the table of a choice does
+/// not have the label for a first byte. The operations are those at which the alternatives begin.
+#[inline(always)]
+fn check_label(
+    code: &Code,
+    branch: Branch,
+    first: Op,
+    second: Op,
+    head: Option<u8>,
+    seen: Option<Lead>,
+) -> Option<Option<Lead>>
+    requires { IfSome seen (λ lead. IsNoted (lists_of code.now) branch lead.next lead.to) }
+    ensures label { IfSome result (λ _. at_label (lists_of code.now) branch.first ≡ first
+        → at_label (lists_of code.now) branch.second ≡ second
+        → ContinuesAs (lists_of code.now) branch head (label_for (lists_of code.now) branch.table head)) }
+    ensures seen { IfSome result (λ found. IfSome found (λ lead.
+        IsNoted (lists_of code.now) branch lead.next lead.to)) }
+{
+    let to = label_for(code, branch.table, head);
+    if flag_at(code, branch.set, head) != 0 {
+        if skips(code, branch.first, first, head, to) {
+            return Some(seen);
+        }
+        return None;
     }
-    match next_label(code, branch.second, second, head) {
-        Some(next) => next == behind || next == to && to != branch.next && to != branch.way,
-        None => false,
+    if branch.noted {
+        let next = next_label(code, branch.second, second, head);
+        let lead = Lead { next, to };
+        if is_noted_as(code, branch, seen, lead) {
+            return Some(Some(lead));
+        }
+        return None;
     }
+    if skips(code, branch.second, second, head, to) {
+        return Some(seen);
+    }
+    None
 }
 
 /// Returns whether the table of a choice has the label for a first byte. The operations are those at which
 /// the alternatives begin.
-#[inline(always)]
 fn has_label(code: &Code, branch: Branch, first: Op, second: Op, head: Option<u8>) -> bool
     ensures { at_label (lists_of code.now) branch.first ≡ first
         → at_label (lists_of code.now) branch.second ≡ second
         → result ≡ true
         → ContinuesAs (lists_of code.now) branch head (label_for (lists_of code.now) branch.table head) }
 {
-    let to = label_for(code, branch.table, head);
-    if flag_at(code, branch.set, head) != 0 {
-        skips(code, branch.first, first, head, to)
-    } else if branch.noted {
-        has_note(code, branch, second, head, to)
-    } else {
-        skips(code, branch.second, second, head, to)
+    match check_label(code, branch, first, second, head, None) {
+        Some(_) => true,
+        None => false,
     }
 }
 
@@ -264,6 +356,27 @@ fn is_wide(code: &Code, table: u32, to: u32) -> bool
 
 /// Returns whether the table of a choice has the labels for some first bytes, from one to before another.
 /// The operations are those at which the alternatives begin.
+#[inline(always)]
+fn has_each_label(code: &Code, branch: Branch, first: Op, second: Op, from: u32, to: u32) -> bool
+    requires { to ≤ 256 }
+    ensures { at_label (lists_of code.now) branch.first ≡ first
+        → at_label (lists_of code.now) branch.second ≡ second
+        → result ≡ true → (b : ℕ) → from ≤ b → b < to
+        → ContinuesAs (lists_of code.now) branch (Some b) (label_for (lists_of code.now) branch.table
+        (Some b)) }
+{
+    let mut seen = None;
+    for byte in from..to {
+        match check_label(code, branch, first, second, Some(byte as u8), seen) {
+            Some(found) => seen = found,
+            None => return false,
+        }
+    }
+    true
+}
+
+/// Returns whether the table of a choice has the labels for some first bytes, as `has_each_label`, whose loop
+/// is apart for a second alternative that is a table, too.
 fn has_labels(code: &Code, branch: Branch, first: Op, second: Op, from: u32, to: u32) -> bool
     requires { to ≤ 256 }
     ensures { at_label (lists_of code.now) branch.first ≡ first
@@ -272,12 +385,12 @@ fn has_labels(code: &Code, branch: Branch, first: Op, second: Op, from: u32, to:
         → ContinuesAs (lists_of code.now) branch (Some b) (label_for (lists_of code.now) branch.table
         (Some b)) }
 {
-    for byte in from..to {
-        if !has_label(code, branch, first, second, Some(byte as u8)) {
-            return false;
+    match second {
+        Op::Switch { table } => {
+            has_each_label(code, branch, first, Op::Switch { table }, from, to)
         }
+        _ => has_each_label(code, branch, first, second, from, to),
     }
-    true
 }
 
 /// Returns whether the table of a choice has the labels for all first bytes above ASCII.
@@ -331,67 +444,112 @@ fn note_before(code: &mut Code, notes: &mut Vec<u32>, label: u32) -> Result<u32,
     Ok(*known)
 }
 
-/// Returns the label at which a choice goes on for a first byte. The operations are those at which the
-/// alternatives begin.
+/// Writes the label of a table for a first byte, or for the end.
 #[inline(always)]
-fn find_label(
+fn write_label(code: &mut Code, table: u32, head: Option<u8>, label: u32)
+    ensures { KeepsData code.old code.new }
+{
+    if let Some(place) = code.tables.get_mut(table as usize + index_of(head)) {
+        *place = label;
+    }
+}
+
+/// Writes for all first bytes and for the end where an operation at a label goes on, or the label.
+fn write_alternative(code: &mut Code, table: u32, label: u32, here: Op)
+    ensures { KeepsData code.old code.new }
+{
+    for index in 0..TABLE_SIZE {
+        let head = if index < 256 { Some(index as u8) } else { None };
+        let to = next_label(code, label, here, head).unwrap_or(label);
+        write_label(code, table, head, to);
+    }
+}
+
+/// Writes the labels of a table into another one.
+fn copy_table(code: &mut Code, from: u32, table: u32)
+    ensures { KeepsData code.old code.new }
+{
+    let start = from as usize;
+    let end = start + TABLE_SIZE as usize;
+    let place = table as usize;
+    if end <= code.tables.len() && place + TABLE_SIZE as usize <= code.tables.len() {
+        code.tables.copy_within(start..end, place);
+    }
+}
+
+/// Writes into a table where the second alternative of a choice leads, for all first bytes and for the end.
+fn write_second(code: &mut Code, branch: Branch, second: Op)
+    ensures { KeepsData code.old code.new }
+{
+    match second {
+        Op::Switch { table } => copy_table(code, table, branch.table),
+        _ => write_alternative(code, branch.table, branch.second, second),
+    }
+}
+
+/// Returns the label that the table of a choice has in place of that to which its second alternative, whose
+/// operation is given, leads for a first byte.
+fn label_with_note(
     code: &mut Code,
     notes: &mut Vec<u32>,
     branch: Branch,
-    first: Op,
     second: Op,
     head: Option<u8>,
+    to: u32,
 ) -> Result<u32, AllocError>
     ensures { OnOk result (KeepsData code.old code.new) }
 {
-    if flag_at(code, branch.set, head) != 0 {
-        return Ok(next_label(code, branch.first, first, head).unwrap_or(branch.first));
-    }
-    let to = next_label(code, branch.second, second, head).unwrap_or(branch.second);
-    if branch.noted && !has_note(code, branch, second, head, to) {
-        note_before(code, notes, to)
-    } else {
+    if has_note(code, branch, second, head, to) {
         Ok(to)
+    } else {
+        note_before(code, notes, to)
     }
 }
 
-/// Writes the label of a table for a first byte.
-#[inline(always)]
-fn write_label(
+/// Writes into a table that has the labels of the second alternative those before which a failure of the
+/// first one is recorded, for all first bytes of ASCII with which that does not begin.
+fn write_notes(
     code: &mut Code,
     notes: &mut Vec<u32>,
     branch: Branch,
-    first: Op,
     second: Op,
-    head: Option<u8>,
 ) -> Result<(), AllocError>
     ensures { OnOk result (KeepsData code.old code.new) }
 {
-    let label = find_label(code, notes, branch, first, second, head)?;
-    if let Some(place) = code.tables.get_mut(branch.table as usize + index_of(head)) {
-        *place = label;
+    let mut last = 0;
+    let mut label = 0;
+    let mut is_known = false;
+    for byte in 0..128u32 {
+        let head = Some(byte as u8);
+        if flag_at(code, branch.set, head) == 0 {
+            let to = label_for(code, branch.table, head);
+            if !is_known || to != last {
+                label = label_with_note(code, notes, branch, second, head, to)?;
+                last = to;
+                is_known = true;
+            }
+            write_label(code, branch.table, head, label);
+        }
     }
+    let to = label_for(code, branch.table, None);
+    label = label_with_note(code, notes, branch, second, None, to)?;
+    write_label(code, branch.table, None, label);
     Ok(())
 }
 
-/// Writes the labels of a table for some first bytes, from one to before another. The operations are those
-/// at which the alternatives begin.
-fn write_labels(
-    code: &mut Code,
-    notes: &mut Vec<u32>,
-    branch: Branch,
-    first: Op,
-    second: Op,
-    from: u32,
-    to: u32,
-) -> Result<(), AllocError>
+/// Writes into a table where the first alternative of a choice, whose operation is given, leads for the first
+/// bytes with which it begins, from one to before another.
+fn write_first(code: &mut Code, branch: Branch, first: Op, from: u32, to: u32)
     requires { to ≤ 256 }
-    ensures { OnOk result (KeepsData code.old code.new) }
+    ensures { KeepsData code.old code.new }
 {
     for byte in from..to {
-        write_label(code, notes, branch, first, second, Some(byte as u8))?;
+        let head = Some(byte as u8);
+        if flag_at(code, branch.set, head) != 0 {
+            let label = next_label(code, branch.first, first, head).unwrap_or(branch.first);
+            write_label(code, branch.table, head, label);
+        }
     }
-    Ok(())
 }
 
 /// Writes one label of a table for all first bytes above ASCII.
@@ -411,12 +569,16 @@ fn write_table(code: &mut Code, notes: &mut Vec<u32>, branch: Branch) -> Result<
 {
     let first = operation_at(code, branch.first);
     let second = operation_at(code, branch.second);
-    write_labels(code, notes, branch, first, second, 0, 128)?;
+    write_second(code, branch, second);
+    if branch.noted {
+        write_notes(code, notes, branch, second)?;
+    }
+    write_first(code, branch, first, 0, 128);
     match wide_label(code, branch.first, first) {
         Some(label) => write_wide(code, branch.table, label),
-        None => write_labels(code, notes, branch, first, second, 128, 256)?,
+        None => write_first(code, branch, first, 128, 256),
     }
-    write_label(code, notes, branch, first, second, None)
+    Ok(())
 }
 
 /// Writes the tables that are demanded, the last first, since those of the parts of a choice come later. The

@@ -14,7 +14,7 @@ invariant_of-self-2-clause-are_known c =
     let l : length old.sets.ranges.items ≤ length c.add_set.new.code.ranges.items = grind (arith, common_steps) in
     let n : c.in_ok-number.number < length c.add_set.new.code.ranges.items = grind (arith, common_steps) in
     let s : c.in_ok-copy.copy.items ≡ c.args.ranges.items = grind (arith, common_steps) in
-    let x : KnownSet = record { ranges = c.in_ok-copy.copy; number = c.in_ok-number.number } in
+    let x : KnownSet = record { ranges = c.in_ok-copy.copy; key = c.key_of-key.result; number = c.in_ok-number.number } in
     known_pushed c.add_set.new.code old.known.items c.push.new.self.items x (is_ok c.push.result) c.push.ensures.items
     (record { within = n; is = subst (IsSetOf (lists_of c.add_set.new.code) c.in_ok-number.number) (sym s) c.in_ok-number.ensures.means })
     (known_kept old.sets c.add_set.new.code old.known.items l c.in_ok-number.ensures.keeps old.are_known)

@@ -1,9 +1,0 @@
-use Rattle.std.proofs.Common.{◌≡◌, ℕ, ◌<◌, ◌≤◌, Some}
-use Rattle.matcher_code.specs.Lists.{lists_of}
-use Rattle.matcher_code.specs.Laid.{at_label, label_for}
-use Rattle.matcher_compiler.specs.Plans.{ContinuesAs}
-use Rattle.matcher_compiler.proofs.tables.has_labels.Given as goal
-
-abbrev pub invariant-loop-byte : goal.invariant-loop-byte
-invariant-loop-byte l = at_label (lists_of l.code) l.branch.first ≡ l.first → at_label (lists_of l.code) l.branch.second ≡ l.second
-    → (b : ℕ) → l.from ≤ b → b < l.byte → ContinuesAs (lists_of l.code) l.branch (Some b) (label_for (lists_of l.code) l.branch.table (Some b))
