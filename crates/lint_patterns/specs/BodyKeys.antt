@@ -1,5 +1,5 @@
 -- Keys of rules, and a set of them.
-use Rattle.std.specs.Prelude.{◌≡◌, ℕ, List, [], ◌∷◌, ◌++◌, true}
+use Rattle.std.specs.Prelude.{◌≡◌, ℕ, List, [], ◌∷◌, ◌++◌, None, Option, Some, false, true}
 use Rattle.std.specs.HashSet.{contains}
 use Rattle.std.specs.declared.alloc.Global.{Global}
 use Rattle.std.specs.declared.vec.Vec.{Vec}
@@ -22,6 +22,11 @@ type_key NonAtomic = 4
 -- the key of the body, and the number of the type
 abbrev pub rule_key : SpannedRule → List ℕ
 rule_key r = key (without_spans r.body) ++ type_key r.type_of ∷ []
+
+-- the answer is the key of a rule whose body is compared, or none for another rule
+abbrev pub HasRuleKey : SpannedRule → Option (Vec ℕ Global) → Type 0
+HasRuleKey r None = is_compared (without_spans r.body) ≡ false
+HasRuleKey r (Some k) = (k.items ≡ rule_key r) × (is_compared (without_spans r.body) ≡ true)
 
 -- of the rules whose bodies are compared, the set has the keys of just these
 abbrev pub KnowsBodies : List SpannedRule → KeySet → Type 0

@@ -1,7 +1,7 @@
 //! Repeated bodies.
 ghost use Rattle.std.specs.Prelude.{◌≡◌, ◌++◌, ◌∷◌, [], IfOk, OnOk, List, map};
 ghost use Rattle.lint_patterns.specs.Bodies as spec;
-ghost use Rattle.lint_patterns.specs.BodyKeys.{KnowsBodies, type_key};
+ghost use Rattle.lint_patterns.specs.BodyKeys.{HasRuleKey, KnowsBodies, type_key};
 ghost use Rattle.front_spanned.specs.Nodes.{piece_of, rule_view, rule_views, type_of};
 ghost use Rattle.front_spanned.specs.Spanned.{SpannedRule};
 
@@ -40,26 +40,15 @@ pub fn first_bodies(
     let mut firsts = HashMap::new(alloc);
     for rule in rules {
         if let Some(key) = rule_key(alloc, rule)? {
-            let place = (rule.span.start(), rule.span.end());
+            let (start, end) = (rule.span.start(), rule.span.end());
             let first = firsts.get(&key).copied();
             match first {
-                Some(first) => places.insert(place.0, first)?,
-                None => firsts.insert(key, place)?,
+                Some(first) => places.insert(start, first)?,
+                None => firsts.insert(key, (start, end))?,
             };
         }
     }
     Ok(places)
-}
-
-/// The key of a rule's type and body, where the body is compared.
-fn rule_key(alloc: Global, rule: &ParserRule<'_>) -> Result<Option<Vec<u32>>, AllocError> {
-    if is_plain(&rule.node) {
-        return Ok(None);
-    }
-    match key_of(alloc, &rule.node)? {
-        Some(body) => Ok(Some(with_type(body, rule.ty)?)),
-        None => Ok(None),
-    }
 }
 
 /// Adds the span of the name of a rule whose key is there, and else adds its key.
@@ -75,17 +64,27 @@ fn add_where_same<'i>(
     ensures known { OnOk result ((earlier : List SpannedRule) → KnowsBodies earlier seen.old
         → KnowsBodies (earlier ++ rule_view rule.now ∷ []) seen.new) }
 {
-    if is_plain(&rule.node) {
+    let Some(key) = rule_key(alloc, rule)? else {
         return Ok(());
-    }
-    if let Some(body) = key_of(alloc, &rule.node)? {
-        let key = with_type(body, rule.ty)?;
-        let is_new = seen.insert(key)?;
-        if !is_new {
-            found.push(rule.span)?;
-        }
+    };
+    let is_new = seen.insert(key)?;
+    if !is_new {
+        found.push(rule.span)?;
     }
     Ok(())
+}
+
+/// The key of a rule's type and body, where the body is compared.
+fn rule_key(alloc: Global, rule: &ParserRule<'_>) -> Result<Option<Vec<u32>>, AllocError>
+    ensures { IfOk result (HasRuleKey (rule_view rule.now)) }
+{
+    if is_plain(&rule.node) {
+        return Ok(None);
+    }
+    match key_of(alloc, &rule.node)? {
+        Some(body) => Ok(Some(with_type(body, rule.ty)?)),
+        None => Ok(None),
+    }
 }
 
 /// A body's key with the number of a type.
