@@ -21,6 +21,10 @@ pub unsuggested : {E : Type 0} (c : Code) (result : Result (Option Help) E) → 
 unsuggested c (Ok help) n = λ e. absurd (n e)
 unsuggested c (Err x) n = tt
 
+-- nor does a syntax error
+pub syntax_help : (c : Code) (help : Option Help) → c ≡ code.Syntax → IsHelpOf c help
+syntax_help c help s = λ e. (let no : code.Syntax ≡ code.UndefinedRule = sym s ∙ e in cc)
+
 -- the message has the text of the fix
 pub suggests : (fix : Option Fix) (message : List ℕ) (start end : ℕ) (name : List ℕ) → IsSomeAnd fix (IsReplacement start end name) → message ≡ codes "did you mean `" ++ (name ++ codes "`?")
     → IsSomeAnd fix (λ f. message ≡ codes "did you mean `" ++ (string_bytes f.replacement ++ codes "`?"))

@@ -101,6 +101,7 @@ fn diagnose_syntax(
     ensures severity { IfOk result (λ diagnostic. diagnostic.severity ≡ severity.Error) }
     ensures start { IfOk result (λ diagnostic. diagnostic.start ≡ start) }
     ensures end { IfOk result (λ diagnostic. diagnostic.end ≡ end) }
+    ensures help { IfOk result (λ diagnostic. IsHelpOf diagnostic.code diagnostic.help) }
 {
     let message = syntax_message(alloc, text, start, expected)?;
     let Hint { help, related, .. } = hint_at(alloc, text, start)?;

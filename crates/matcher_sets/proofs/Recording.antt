@@ -1,5 +1,5 @@
 -- What the parts of a derivation record.
-use Rattle.std.proofs.Common.{◌≡◌, ap, ap₂, refl, ℕ, Bool, true, false, ◌||◌}
+use Rattle.std.proofs.Common.{◌≡◌, ap, ap₂, refl, Bool, true, false, ◌||◌}
 use Rattle.base_language.specs.Language.Expression.{Grammar}
 use Rattle.base_language.specs.Language.FurthestFailure.{furthest}
 use Rattle.base_language.specs.Language.Meaning.{Does, Task}

@@ -6,7 +6,7 @@ use Rattle.lint_patterns.proofs.bodies.add_where_same.Goals as goal
 pub returns-in_ok-push : goal.returns-in_ok-push
 returns-in_ok-push c =
     let r = rule_view c.args.rule.now in
-    let has = rw c.in-Some.is at c.in_ok-rule_key.ensures in
+    let has = rw c.in-Some.is at c.in_ok-key.ensures in
     record {
       spans = λ earlier knows.
           spans_if_there c.args.found.now.items c.push.new.self.items earlier c.args.rule.now c.in_ok-push.ensures.items has.1
@@ -17,7 +17,7 @@ returns-in_ok-push c =
 pub returns-else-not-is_new : goal.returns-else-not-is_new
 returns-else-not-is_new c =
     let r = rule_view c.args.rule.now in
-    let has = rw c.in-Some.is at c.in_ok-rule_key.ensures in
+    let has = rw c.in-Some.is at c.in_ok-key.ensures in
     record {
       spans = λ earlier knows.
           spans_if_missing (map piece_of c.args.found.now.items) earlier r has.1
@@ -28,7 +28,7 @@ returns-else-not-is_new c =
 pub returns-in_default : goal.returns-in_default
 returns-in_default c =
     let r = rule_view c.args.rule.now in
-    let other = rw c.in_default.is at c.in_ok-rule_key.ensures in
+    let other = rw c.in_default.is at c.in_ok-key.ensures in
     record {
       spans = λ earlier knows. same_spans (map piece_of c.args.found.now.items) earlier r other;
       known = λ earlier knows. known_still earlier r c.args.seen.now other knows;
