@@ -7,6 +7,7 @@ use Rattle.base_language.specs.Language.State.{Classes, Outcome, State}
 use Rattle.matcher_code.specs.Failures.{Failures, both, no_failure, unnamed}
 use Rattle.matcher_code.specs.declared.state.Places.{Places}
 use Rattle.matcher_code.specs.Laid.{IsSilent, IsSilentUnless}
+use Rattle.matcher_code.specs.Steps.{one_place}
 
 -- two that record nothing, and three; and a negation
 pub two_silent : {f h : Places → Failures} → ((place : Places) → f place ≡ no_failure) → ((place : Places) → h place ≡ no_failure)
@@ -22,7 +23,7 @@ negated_silent x place = ap unnamed (x place)
 
 module _ {g : Grammar} {classes : Classes} {k : Task} {s : State} {o : Outcome} (d : Does g classes k s o) (h : IsSilent d) where
   pub silent_place : furthest d ≡ 0
-  silent_place = ap (λ f. f.furthest) (h 0)
+  silent_place = ap (λ f. f.furthest) (h (one_place 0))
 
   pub silent_unless : (noted : Bool) → IsSilentUnless noted d
   silent_unless noted e place = h place
