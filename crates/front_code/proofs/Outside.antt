@@ -17,6 +17,7 @@ use Rattle.front_syntax.proofs.Lookup.{defined_rule}
 use Rattle.matcher_code.specs.Failures.{both, unnamed}
 use Rattle.matcher_code.specs.Lists.{is_covered}
 use Rattle.matcher_code.specs.Laid.{FailsOutside, Hits, IsSilent, IsSilentUnless, IsTight, Misses, TakesOne}
+use Rattle.matcher_code.specs.Steps.{one_place}
 use Rattle.front_code.proofs.Characters.{TakesCharacter, apart, are_apart, covered_either, one_any}
 use Rattle.front_code.proofs.Leaves.{covers_all, silent_failure}
 
@@ -45,7 +46,7 @@ module _ (classes : Classes) where
   -- a failure without a record
   silently : (k : Task) (s : State) → (x : (d : Does meta_grammar classes k s Failure) × IsSilent d)
       → (d : Does meta_grammar classes k s Failure) × (furthest d ≡ place_of false s Failure) × IsSilentUnless false d
-  silently k s x = (x.0, ap (λ f. f.furthest) (x.1 0), λ z. x.1)
+  silently k s x = (x.0, ap (λ f. f.furthest) (x.1 (one_place 0)), λ z. x.1)
 
   pub outside_set : {m : Mode} {e : Expression} {ranges : List (ℕ × ℕ)} → TakesCharacter classes m e ranges → Fails (Run m e) ranges false
   outside_set {m} {e} {ranges} x s h =
