@@ -15,7 +15,7 @@ use crate::check::{has_ends, is_exact, meets_all};
 use crate::names::last_rows;
 use crate::plan::{Plan, Skips};
 use crate::points::{Demand, NO_CALL, NotCompiled, Part, Place, Point, TOP_RANK};
-use crate::tables::{write_tables, zeros};
+use crate::table_writer::{write_tables, zeros};
 use base_ast::ast::RuleType;
 use matcher_code::code::{Code, Op};
 use matcher_code::ranges::Ranges;

@@ -19,4 +19,5 @@ mod skips;
 mod spans;
 mod stacks;
 mod switches;
+mod table_writer;
 mod tables;

@@ -1,15 +1,14 @@
 //! Tables by the first byte.
-ghost use Rattle.std.specs.Prelude.{◌≡◌, ◌<◌, ◌≤◌, IfSome, List, MatchOption, OnOk, Some, false, nat_eq, true, ℕ};
+ghost use Rattle.std.specs.Prelude.{◌≡◌, ◌<◌, ◌≤◌, IfSome, List, MatchOption, Some, false, nat_eq, true, ℕ};
 ghost use Rattle.base_language.specs.Language.Matching.{begins};
 ghost use Rattle.matcher_code.specs.Lists.{lists_of};
 ghost use Rattle.matcher_code.specs.declared.code.Op.TheVariants as op;
 ghost use Rattle.matcher_code.specs.Reading.{char_len, flag, text_of};
 ghost use Rattle.matcher_code.specs.Laid.{Moves, Notes, Skips, at_label, head_of, label_for};
-ghost use Rattle.matcher_compiler.specs.Plans.{ContinuesAs, HasBranch, IsNoted, KeepsData};
+ghost use Rattle.matcher_compiler.specs.Plans.{ContinuesAs, HasBranch, IsNoted};
 
-use crate::points::{Branch, Demand, NotCompiled};
+use crate::points::Branch;
 use matcher_code::code::{Code, Op};
-use std::alloc::{AllocError, Global};
 
 /// How many labels a table has: one for each byte, and the last for the end.
 pub(crate) const TABLE_SIZE: u32 = 257;
@@ -25,7 +24,7 @@ fn flag(code: &Code, row: u32, byte: u8) -> u8
 }
 
 /// Returns the flag of a first byte in a row, or 0 at the end.
-fn flag_at(code: &Code, row: u32, head: Option<u8>) -> u8
+pub(crate) fn flag_at(code: &Code, row: u32, head: Option<u8>) -> u8
     ensures { result ≤ 4 → (bs : List ℕ) → head_of bs ≡ head → char_len (lists_of code.now) row bs ≡ result }
 {
     match head {
@@ -35,7 +34,7 @@ fn flag_at(code: &Code, row: u32, head: Option<u8>) -> u8
 }
 
 /// Returns the index of a first byte, or of the end, in a table.
-fn index_of(head: Option<u8>) -> usize
+pub(crate) fn index_of(head: Option<u8>) -> usize
     ensures value { MatchOption head (result ≡ 256) (λ byte. result ≡ byte) }
     ensures bound { result ≤ 256 }
 {
@@ -46,7 +45,7 @@ fn index_of(head: Option<u8>) -> usize
 }
 
 /// Returns the label that a table has for a first byte, or for the end.
-fn label_for(code: &Code, table: u32, head: Option<u8>) -> u32
+pub(crate) fn label_for(code: &Code, table: u32, head: Option<u8>) -> u32
     ensures { result ≡ label_for (lists_of code.now) table head }
 {
     match code.tables.get(table as usize + index_of(head)) {
@@ -105,7 +104,7 @@ fn label_after_test(
 }
 
 /// Returns the operation of a label.
-fn operation_at(code: &Code, label: u32) -> Op
+pub(crate) fn operation_at(code: &Code, label: u32) -> Op
     ensures { result ≡ at_label (lists_of code.now) label }
 {
     match code.ops.get(label as usize) {
@@ -116,7 +115,7 @@ fn operation_at(code: &Code, label: u32) -> Op
 
 /// Returns the label at which the operation of a label goes on for a first byte, if it does nothing else.
 #[inline(always)]
-fn next_label(code: &Code, label: u32, here: Op, head: Option<u8>) -> Option<u32>
+pub(crate) fn next_label(code: &Code, label: u32, here: Op, head: Option<u8>) -> Option<u32>
     ensures { at_label (lists_of code.now) label ≡ here
         → IfSome result (Moves (lists_of code.now) head label) }
 {
@@ -246,7 +245,7 @@ fn is_noted_as(code: &Code, branch: Branch, seen: Option<Lead>, lead: Lead) -> b
 /// Returns whether a failure of the first alternative is recorded before the second one, whose operation is
 /// given.
 #[inline(always)]
-fn has_note(code: &Code, branch: Branch, second: Op, head: Option<u8>, to: u32) -> bool
+pub(crate) fn has_note(code: &Code, branch: Branch, second: Op, head: Option<u8>, to: u32) -> bool
     ensures { at_label (lists_of code.now) branch.second ≡ second → result ≡ true
         → Notes (lists_of code.now) head branch.second branch.next branch.way to }
 {
@@ -320,7 +319,7 @@ fn begins_in_ascii(code: &Code, text: u32) -> bool
 
 /// Returns the label at which the operation of a label goes on for each first byte above ASCII, the label
 /// itself if that does more, or `None` if that is not known.
-fn wide_label(code: &Code, label: u32, here: Op) -> Option<u32>
+pub(crate) fn wide_label(code: &Code, label: u32, here: Op) -> Option<u32>
     ensures { at_label (lists_of code.now) label ≡ here → IfSome result (λ to. (b : ℕ) → 128 ≤ b
         → Skips (lists_of code.now) (Some b) label to) }
 {
@@ -418,182 +417,4 @@ pub(crate) fn has_branch(code: &Code, branch: Branch) -> bool
     has_labels(code, branch, first, second, 0, 128)
         && has_wide(code, branch, first, second)
         && has_label(code, branch, first, second, None)
-}
-
-/// Returns so many zeros.
-pub(crate) fn zeros(alloc: Global, count: usize) -> Result<Vec<u32>, AllocError> {
-    let mut list = Vec::new(alloc);
-    list.resize(count, 0)?;
-    Ok(list)
-}
-
-/// Returns the label of an operation that records a failure and goes on at a label. It is added to the
-/// program if `notes`, by the label after it, has none.
-fn note_before(code: &mut Code, notes: &mut Vec<u32>, label: u32) -> Result<u32, AllocError>
-    ensures { OnOk result (KeepsData code.old code.new) }
-{
-    let known = match notes.get_mut(label as usize) {
-        Some(known) => known,
-        None => return Ok(0),
-    };
-    if *known == 0 {
-        let added = (code.ops.len() & 0xffff_ffff) as u32;
-        code.ops.push(Op::Note { next: label })?;
-        *known = added;
-    }
-    Ok(*known)
-}
-
-/// Writes the label of a table for a first byte, or for the end.
-#[inline(always)]
-fn write_label(code: &mut Code, table: u32, head: Option<u8>, label: u32)
-    ensures { KeepsData code.old code.new }
-{
-    if let Some(place) = code.tables.get_mut(table as usize + index_of(head)) {
-        *place = label;
-    }
-}
-
-/// Writes for all first bytes and for the end where an operation at a label goes on, or the label.
-fn write_alternative(code: &mut Code, table: u32, label: u32, here: Op)
-    ensures { KeepsData code.old code.new }
-{
-    for index in 0..TABLE_SIZE {
-        let head = if index < 256 { Some(index as u8) } else { None };
-        let to = next_label(code, label, here, head).unwrap_or(label);
-        write_label(code, table, head, to);
-    }
-}
-
-/// Writes the labels of a table into another one.
-fn copy_table(code: &mut Code, from: u32, table: u32)
-    ensures { KeepsData code.old code.new }
-{
-    let start = from as usize;
-    let end = start + TABLE_SIZE as usize;
-    let place = table as usize;
-    if end <= code.tables.len() && place + TABLE_SIZE as usize <= code.tables.len() {
-        code.tables.copy_within(start..end, place);
-    }
-}
-
-/// Writes into a table where the second alternative of a choice leads, for all first bytes and for the end.
-fn write_second(code: &mut Code, branch: Branch, second: Op)
-    ensures { KeepsData code.old code.new }
-{
-    match second {
-        Op::Switch { table } => copy_table(code, table, branch.table),
-        _ => write_alternative(code, branch.table, branch.second, second),
-    }
-}
-
-/// Returns the label that the table of a choice has in place of that to which its second alternative, whose
-/// operation is given, leads for a first byte.
-fn label_with_note(
-    code: &mut Code,
-    notes: &mut Vec<u32>,
-    branch: Branch,
-    second: Op,
-    head: Option<u8>,
-    to: u32,
-) -> Result<u32, AllocError>
-    ensures { OnOk result (KeepsData code.old code.new) }
-{
-    if has_note(code, branch, second, head, to) {
-        Ok(to)
-    } else {
-        note_before(code, notes, to)
-    }
-}
-
-/// Writes into a table that has the labels of the second alternative those before which a failure of the
-/// first one is recorded, for all first bytes of ASCII with which that does not begin.
-fn write_notes(
-    code: &mut Code,
-    notes: &mut Vec<u32>,
-    branch: Branch,
-    second: Op,
-) -> Result<(), AllocError>
-    ensures { OnOk result (KeepsData code.old code.new) }
-{
-    let mut last = 0;
-    let mut label = 0;
-    let mut is_known = false;
-    for byte in 0..128u32 {
-        let head = Some(byte as u8);
-        if flag_at(code, branch.set, head) == 0 {
-            let to = label_for(code, branch.table, head);
-            if !is_known || to != last {
-                label = label_with_note(code, notes, branch, second, head, to)?;
-                last = to;
-                is_known = true;
-            }
-            write_label(code, branch.table, head, label);
-        }
-    }
-    let to = label_for(code, branch.table, None);
-    label = label_with_note(code, notes, branch, second, None, to)?;
-    write_label(code, branch.table, None, label);
-    Ok(())
-}
-
-/// Writes into a table where the first alternative of a choice, whose operation is given, leads for the first
-/// bytes with which it begins, from one to before another.
-fn write_first(code: &mut Code, branch: Branch, first: Op, from: u32, to: u32)
-    requires { to ≤ 256 }
-    ensures { KeepsData code.old code.new }
-{
-    for byte in from..to {
-        let head = Some(byte as u8);
-        if flag_at(code, branch.set, head) != 0 {
-            let label = next_label(code, branch.first, first, head).unwrap_or(branch.first);
-            write_label(code, branch.table, head, label);
-        }
-    }
-}
-
-/// Writes one label of a table for all first bytes above ASCII.
-fn write_wide(code: &mut Code, table: u32, label: u32)
-    ensures { KeepsData code.old code.new }
-{
-    let start = table as usize + 128;
-    let end = start + 128;
-    if end <= code.tables.len() {
-        code.tables.as_mut_slice()[start..end].fill(label);
-    }
-}
-
-/// Writes a table.
-fn write_table(code: &mut Code, notes: &mut Vec<u32>, branch: Branch) -> Result<(), AllocError>
-    ensures { OnOk result (KeepsData code.old code.new) }
-{
-    let first = operation_at(code, branch.first);
-    let second = operation_at(code, branch.second);
-    write_second(code, branch, second);
-    if branch.noted {
-        write_notes(code, notes, branch, second)?;
-    }
-    write_first(code, branch, first, 0, 128);
-    match wide_label(code, branch.first, first) {
-        Some(label) => write_wide(code, branch.table, label),
-        None => write_first(code, branch, first, 128, 256),
-    }
-    Ok(())
-}
-
-/// Writes the tables that are demanded, the last first, since those of the parts of a choice come later. The
-/// program gets operations that record failures. `notes` has a zero for each label.
-pub(crate) fn write_tables(
-    code: &mut Code,
-    notes: &mut Vec<u32>,
-    demands: &[Demand],
-) -> Result<(), NotCompiled>
-    ensures { OnOk result (KeepsData code.old code.new) }
-{
-    for demand in demands.iter().rev() {
-        if let Demand::Branch(branch) = demand {
-            write_table(code, notes, *branch)?;
-        }
-    }
-    Ok(())
 }

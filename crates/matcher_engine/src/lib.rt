@@ -5,6 +5,7 @@ pub mod attempts;
 pub mod block;
 pub mod codes;
 pub mod laws;
+pub mod mark;
 pub mod matcher;
 pub mod paths;
 pub mod tracer;

@@ -2,6 +2,7 @@
 ghost use Rattle.std.specs.Prelude.{◌≡◌, ◌≤◌, ◌++◌, ◌∷◌, [], OnOk, length};
 ghost use Rattle.matcher_engine.specs.Marks.{HaveMarks, marks-prop};
 
+use crate::mark::Mark;
 use matcher_code::bytecode::Bytecode;
 use matcher_code::code::Op;
 use matcher_code::state::{Failing, OpenCall, TreeNode};
@@ -16,18 +17,6 @@ const PATHS: usize = 1_024;
 /// The greatest number of attempts of a kind.
 const ATTEMPTS: usize = 65_535;
 
-/// The record of a run where a call or a `!` begins: how many calls were open, how many paths and attempts
-/// there were, whether the run stood below a `!`, and the greatest position of an attempt.
-#[derive(Clone, Copy, Debug)]
-pub struct Mark {
-    pub calls: usize,
-    pub paths: usize,
-    pub below: bool,
-    pub furthest: usize,
-    pub positives: usize,
-    pub negatives: usize,
-}
-
 /// A machine whose calls are recorded.
 #[derive(Drop)]
 pub struct Tracer {
@@ -38,8 +27,8 @@ pub struct Tracer {
     pub paths: Vec<Vec<OpenCall>>,
     /// Whether the run stands below a `!`, or below an odd number of them.
     pub below: bool,
-    /// The position, in bytes, at which attempts are recorded. Paths are at the one where the machine is asked
-    /// for names.
+    /// The position, in bytes, at which attempts are recorded. Paths are recorded where the machine is
+    /// asked for names.
     pub place: usize,
     /// The greatest position of an attempt, from that one on.
     pub furthest: usize,
