@@ -59,6 +59,8 @@ fn run<R: RuleType>(block: &[u8], row: u32, text: &str, rule: impl Fn(u32) -> R)
                 rules.dedup();
                 rules
             };
+            // Up to three runs, which remember no calls, so each has the limit of steps of the first. Where one does not end
+            // in these, or has too many attempts, the error names the rules that are expected at the furthest failure.
             let (pos, positives, negatives) = match code::attempts(block, row, text, pos, steps) {
                 Some(found) => (found.pos, rules(&found.positives), rules(&found.negatives)),
                 None => (pos, rules(&code::expected(block, row, text, pos, steps)), Vec::new()),
