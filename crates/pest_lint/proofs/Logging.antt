@@ -73,14 +73,15 @@ rules_free (k ∷ ks) [] h = absurd h
 rules_free (k ∷ ks) (r ∷ rs) h = or_from (has_float r) _ (rule_free k h.0.0 r h.0.1) (rules_free ks rs h.1)
 
 -- the rule of one code more
-pub one_rule_more : (table : List Facts) (i : ℕ) (facts : Facts) (old new : List Value) (rule : Value) (page : List ℕ) → i < length table → facts ≡ get_or table i facts
-    → AreRules (map (λ f. f.code) (take i table)) (map view old) → IsRule facts.code page (view rule) → new ≡ old ++ rule ∷ [] → AreRules (map (λ f. f.code) (take (i + 1) table)) (map view new)
-one_rule_more table i facts old new rule page l is before of e =
+pub one_rule_more : (table : List Facts) (i : ℕ) (facts : Facts) (old new : List Value) (rule : Value) (page : List ℕ) → i < length table
+    → AreRules (map (λ f. f.code) (take i table)) (map view old) → IsRule (get_or table i facts).code page (view rule) → new ≡ old ++ rule ∷ []
+    → AreRules (map (λ f. f.code) (take (i + 1) table)) (map view new)
+one_rule_more table i facts old new rule page l before of e =
     let P : Code → Data → Type 0 = λ k r. (p : List ℕ) × IsRule k p r in
     let code : Facts → Code = λ f. f.code in
     let values : map view new ≡ map view old ++ view rule ∷ [] = ap (map view) e ∙ map-append view old (rule ∷ []) in
-    let more : map code (take (i + 1) table) ≡ map code (take i table) ++ facts.code ∷ [] =
-    ap (map code) (take_more table i facts l) ∙ (map-append code (take i table) (get_or table i facts ∷ []) ∙ ap (λ f. map code (take i table) ++ code f ∷ []) (sym is)) in
+    let more : map code (take (i + 1) table) ≡ map code (take i table) ++ (get_or table i facts).code ∷ [] =
+    ap (map code) (take_more table i facts l) ∙ map-append code (take i table) (get_or table i facts ∷ []) in
     subst (λ rs. AllZip P (map code (take (i + 1) table)) rs) (sym values)
     (subst (λ ks. AllZip P ks (map view old ++ view rule ∷ [])) (sym more)
-    (all_zipped_more P (map code (take i table)) (map view old) facts.code (view rule) before (page, of)))
+    (all_zipped_more P (map code (take i table)) (map view old) (get_or table i facts).code (view rule) before (page, of)))

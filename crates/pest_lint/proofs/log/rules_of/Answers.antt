@@ -7,8 +7,8 @@ use Rattle.pest_lint.proofs.log.rules_of.Goals as goal
 
 pub loop-facts-preserved : goal.loop-facts-preserved
 loop-facts-preserved c =
-    one_rule_more c.args.codes.now c.loop-facts.facts-index c.facts-item.result c.loop-facts.rules.items _ c.in_ok-rule.rule _ c.loop-facts-test.true c.facts-item.is c.loop-facts.invariant
-    c.in_ok-rule.ensures c.in_ok-push.ensures.items
+    one_rule_more c.args.codes.now c.loop-facts.facts-index _ c.loop-facts.rules.items _ c.in_ok-rule.rule _ c.loop-facts-test.true c.loop-facts.invariant c.in_ok-rule.ensures
+    c.in_ok-push.ensures.items
 
 pub returns : goal.returns
 returns c =
