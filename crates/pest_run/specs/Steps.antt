@@ -13,7 +13,7 @@ abbrev pub step_limit : Option ℕ → ℕ → ℕ
 step_limit (Some steps) length = steps
 step_limit None length = min (100000 * (length + 1000)) (2 ^ 64 - 1)
 
--- the given limit; or a tenth of that one
+-- the given limit; or a hundredth of that one
 abbrev pub path_limit : Option ℕ → ℕ → ℕ
 path_limit (Some steps) length = steps
-path_limit None length = step_limit None length / 10
+path_limit None length = step_limit None length / 100

@@ -247,13 +247,13 @@ pub fn step_limit(steps: Option<u64>, length: usize) -> u64
     }
 }
 
-/// Returns the greatest number of steps of a run that looks for open calls: the given one, or else a tenth of
-/// what `step_limit` allows, since such a run remembers nothing of earlier calls.
+/// Returns the greatest number of steps of a run that looks for open calls: the given one, or else a
+/// hundredth of what `step_limit` allows, since such a run remembers nothing of earlier calls.
 pub fn path_limit(steps: Option<u64>, length: usize) -> u64
     ensures { result ≡ path_limit steps length }
 {
     match steps {
         Some(given) => given,
-        None => step_limit(None, length) / 10,
+        None => step_limit(None, length) / 100,
     }
 }
