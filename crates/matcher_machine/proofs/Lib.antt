@@ -4,3 +4,6 @@ pub mod Stacking
 pub mod Following
 pub mod Framing
 pub mod Recalling
+pub mod Outlining
+pub mod Circling
+pub mod Advancing

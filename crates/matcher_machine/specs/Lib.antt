@@ -2,4 +2,6 @@ pub mod Frames
 pub mod Links
 pub mod Machines
 pub mod Memories
+pub mod Memos
+pub mod Outlines
 pub mod Stacks
