@@ -5,3 +5,4 @@ pub mod Trees
 pub mod Characters
 pub mod Ascii
 pub mod BuiltinLemmas
+pub mod Told

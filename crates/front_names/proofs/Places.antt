@@ -1,8 +1,7 @@
 -- Places, one after another, and the names that were met.
-use Rattle.std.proofs.Common.{arith, Result, Ok, Err, OnOk, ◌≡◌, ◌<◌, ◌≤◌, ◌+◌, List, [], ◌∷◌, ◌++◌, ℕ, Bool, true, false, not, cond, map, length, drop, get_or, refl, sym, ap, Bor, ◌∙◌, add-one, drop-cons, append_assoc}
-use Rattle.std.specs.Prelude.{◌==◌, bytes_eq, ◌||◌, ◌&&◌, filter}
+use Rattle.std.proofs.Common.{Result, Ok, Err, OnOk, ◌≡◌, ◌<◌, ◌≤◌, ◌+◌, List, [], ◌∷◌, ◌++◌, ℕ, Bool, true, false, not, cond, map, length, drop, get_or, refl, sym, ap, Bor, ◌∙◌, add-one, drop-cons, append_assoc}
+use Rattle.std.specs.Prelude.{bytes_eq, ◌||◌, ◌&&◌, filter}
 use Rattle.std.specs.HashSet as bag
-use Rattle.std.proofs.lemmas.Bool.Decides.{nat_tests}
 use Rattle.std.proofs.lemmas.List.{map-append, drop_all}
 use Rattle.std.proofs.Math.Bool.{or-false}
 use Rattle.base_language.specs.Language.Text.{Text}
@@ -12,7 +11,7 @@ use Rattle.base_language.specs.declared.grammar.Rule.{Rule}
 use Rattle.base_language.specs.declared.runtime.errors.Error.{Error}
 use Rattle.base_language.specs.declared.runtime.places.Span as code
 use Rattle.front_names.specs.Messages.{about}
-use Rattle.front_names.specs.declared.messages.Message.{Message}
+use Rattle.front_names.specs.declared.messages.NameProblem.{NameProblem}
 use Rattle.front_names.specs.Names.{later_places, first_places, complaints, is_builtin, undefined_calls}
 use Rattle.front_names.specs.NameSets.{NameSet, HasNames, is_outside}
 
@@ -130,33 +129,16 @@ first_less all before found x rest others e b a =
     a ∙ ap (λ r. map now found ++ map written r) (ap (first_places before) e ∙ first_none before x others b)
 
 -- one more error, at the first of the places that are left
-pub told_more : (message : Message) (all : List Complaint) (rest others : List Span) (x : Span) (errors : List (Error Rule)) (e : Error Rule) → rest ≡ x ∷ others → IsErrorAt (about message (written x)) x e
-    → ((more : List (Error Rule)) → AreErrorsFor (complaints message rest) more → AreErrorsFor all (errors ++ more))
-    → (more : List (Error Rule)) → AreErrorsFor (complaints message others) more → AreErrorsFor all ((errors ++ e ∷ []) ++ more)
-told_more message all rest others x errors e left s told more t = rw append_assoc (told (e ∷ more) (rw left (s, t)))
-
--- where there is no place, nothing is said
-pub nothing_said : (message : Message) (places : List code.Span) → (length places == 0) ≡ true → AreErrorsFor (complaints message (map piece_of places)) []
-nothing_said message [] e = tt
-nothing_said message (x ∷ places) e = absurd (grind (arith, nat_tests, e))
-
--- errors that tell one thing after another
-pub tell_both : (xs ys : List Complaint) (es fs : List (Error Rule)) → AreErrorsFor xs es → AreErrorsFor ys fs → AreErrorsFor (xs ++ ys) (es ++ fs)
-tell_both [] ys [] fs h k = k
-tell_both [] ys (e ∷ es) fs h k = absurd h
-tell_both (x ∷ xs) ys [] fs h k = absurd h
-tell_both (x ∷ xs) ys (e ∷ es) fs h k = (h.0, tell_both xs ys es fs h.1 k)
+pub told_more : (problem : NameProblem) (all : List Complaint) (rest others : List Span) (x : Span) (errors : List (Error Rule)) (e : Error Rule) → rest ≡ x ∷ others → IsErrorAt (about problem (written x)) x e
+    → ((more : List (Error Rule)) → AreErrorsFor (complaints problem rest) more → AreErrorsFor all (errors ++ more))
+    → (more : List (Error Rule)) → AreErrorsFor (complaints problem others) more → AreErrorsFor all ((errors ++ e ∷ []) ++ more)
+told_more problem all rest others x errors e left s told more t = rw append_assoc (told (e ∷ more) (rw left (s, t)))
 
 -- errors are told where there is something to say
 pub tell_none : (xs : List Complaint) (es : List (Error Rule)) → AreErrorsFor xs es → es ≡ [] → xs ≡ []
 tell_none [] es h e = refl
 tell_none (x ∷ xs) [] h e = absurd h
 tell_none (x ∷ xs) (f ∷ es) h e = cc
-
-pub tell_some : (xs : List Complaint) (es : List (Error Rule)) → AreErrorsFor xs es → xs ≡ [] → es ≡ []
-tell_some [] [] h e = refl
-tell_some [] (f ∷ es) h e = absurd h
-tell_some (x ∷ xs) es h e = cc
 
 pub on_ok : {X Y : Type 0} (r : Result X Y) (P : Type 0) → P → OnOk r P
 on_ok (Ok x) P p = p

@@ -5,3 +5,4 @@ pub mod Standing
 pub mod Messages
 pub mod Builtins
 pub mod CharSets
+pub mod NameFindings

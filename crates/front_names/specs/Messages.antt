@@ -1,29 +1,33 @@
 -- The messages of errors in the names and the rules of a grammar.
 use Rattle.std.specs.Prelude.{ℕ, List, [], ◌++◌, codes}
-use Rattle.front_names.specs.declared.messages.Message.{Message}
-use Rattle.front_names.specs.declared.messages.Message.TheVariants as message_is
+use Rattle.front_names.specs.declared.messages.NameProblem.{NameProblem}
+use Rattle.front_names.specs.declared.messages.NameProblem.TheVariants as problem_is
 
--- the text before the subject
-abbrev pub prefix : Message → List ℕ
-prefix message_is.RustKeyword = []
-prefix message_is.PestKeyword = []
-prefix message_is.AlreadyDefined = codes "rule "
-prefix message_is.Undefined = codes "rule "
-prefix message_is.CannotFail = []
-prefix message_is.NonProgressing = []
+-- the text before the name
+abbrev pub prefix : NameProblem → List ℕ
+prefix problem_is.RustKeyword = []
+prefix problem_is.PestKeyword = []
+prefix problem_is.AlreadyDefined = codes "rule "
+prefix problem_is.Undefined = codes "rule "
 
--- the text after the subject
-abbrev pub suffix : Message → List ℕ
-suffix message_is.RustKeyword = codes " is a rust keyword"
-suffix message_is.PestKeyword = codes " is a pest keyword"
-suffix message_is.AlreadyDefined = codes " already defined"
-suffix message_is.Undefined = codes " is undefined"
-suffix message_is.CannotFail = codes " cannot fail and will repeat infinitely"
-suffix message_is.NonProgressing = codes " is non-progressing and will repeat infinitely"
+-- the text after the name
+abbrev pub suffix : NameProblem → List ℕ
+suffix problem_is.RustKeyword = codes " is a rust keyword"
+suffix problem_is.PestKeyword = codes " is a pest keyword"
+suffix problem_is.AlreadyDefined = codes " already defined"
+suffix problem_is.Undefined = codes " is undefined"
 
--- the message about a subject
-abbrev pub about : Message → List ℕ → List ℕ
-about message subject = prefix message ++ subject ++ suffix message
+-- the message about a name
+abbrev pub about : NameProblem → List ℕ → List ℕ
+about problem name = prefix problem ++ name ++ suffix problem
+
+-- that the subject is repeated without end, since it always succeeds
+abbrev pub cannot_fail : List ℕ → List ℕ
+cannot_fail subject = subject ++ codes " cannot fail and will repeat infinitely"
+
+-- that the subject may be repeated without end, since it may take nothing
+abbrev pub non_progressing : List ℕ → List ℕ
+non_progressing subject = subject ++ codes " is non-progressing and will repeat infinitely"
 
 -- the subject of messages about the body of a repetition
 abbrev pub repeated_expression : List ℕ

@@ -5,8 +5,8 @@ use Rattle.base_language.specs.Language.Builtins.{is_one_of, builtin_of}
 use Rattle.base_language.specs.Language.Grammar.{keywords}
 use Rattle.base_language.specs.Pieces.Saying.{Span, written, Complaint}
 use Rattle.front_names.specs.Messages.{prefix, suffix}
-use Rattle.front_names.specs.declared.messages.Message.{Message}
-use Rattle.front_names.specs.declared.messages.Message.TheVariants as message_is
+use Rattle.front_names.specs.declared.messages.NameProblem.{NameProblem}
+use Rattle.front_names.specs.declared.messages.NameProblem.TheVariants as problem_is
 
 -- the words that Rust keeps for itself
 unfoldable pub rust_keywords : List Text
@@ -60,26 +60,26 @@ abbrev pub said : Text → Text → List Span → List Complaint
 said before after places =
     map (λ place. record { message = before ++ written place ++ after; span = place }) places
 
--- an error with this message about the name of each piece
-abbrev pub complaints : Message → List Span → List Complaint
-complaints message places = said (prefix message) (suffix message) places
+-- an error that says what is wrong with the name of each piece
+abbrev pub complaints : NameProblem → List Span → List Complaint
+complaints problem places = said (prefix problem) (suffix problem) places
 
 -- definitions that are keywords of Rust
 abbrev pub rust_keyword_complaints : List Span → List Complaint
 rust_keyword_complaints definitions =
-    complaints message_is.RustKeyword (places_of rust_keywords definitions)
+    complaints problem_is.RustKeyword (places_of rust_keywords definitions)
 
 -- definitions that are keywords of pest
 abbrev pub pest_keyword_complaints : List Span → List Complaint
 pest_keyword_complaints definitions =
-    complaints message_is.PestKeyword (places_of keywords definitions)
+    complaints problem_is.PestKeyword (places_of keywords definitions)
 
 -- definitions with an equal name before them
 abbrev pub duplicate_complaints : List Span → List Complaint
 duplicate_complaints definitions =
-    complaints message_is.AlreadyDefined (later_places [] definitions)
+    complaints problem_is.AlreadyDefined (later_places [] definitions)
 
 -- calls of names that are neither defined nor a builtin
 abbrev pub undefined_complaints : List Span → List Span → List Complaint
 undefined_complaints definitions calls =
-    complaints message_is.Undefined (undefined_calls definitions calls)
+    complaints problem_is.Undefined (undefined_calls definitions calls)

@@ -2,10 +2,10 @@
 ghost use Rattle.std.specs.Prelude.{[], ◌≡◌, IfErr, IfOk, OnOk, alloc_error, map};
 ghost use Rattle.base_language.specs.Pieces.Saying.{AreErrorsFor, piece_of, written};
 ghost use Rattle.front_names.specs.NameSets.{HasNames};
-ghost use Rattle.front_names.specs.Names.{AreIn, duplicate_complaints, later_places, pest_keyword_complaints, places_of, rust_keyword_complaints};
+ghost use Rattle.front_names.specs.Names.{duplicate_complaints, later_places, pest_keyword_complaints, places_of, rust_keyword_complaints};
 
-use crate::Message;
-use crate::said::{errors, errors_in};
+use crate::NameProblem;
+use crate::said::errors;
 use crate::tables::{is_among, pest_keywords, rust_keywords};
 use base_language::grammar::Rule;
 use base_language::runtime::{Error, Fault, Span};
@@ -23,7 +23,7 @@ pub fn validate_rust_keywords(
     ensures memory { IfErr result (λ fault. fault ≡ Fault.Memory alloc_error) }
 {
     let words = places_of(alloc, rust_keywords(), definitions)?;
-    errors(alloc, Message::RustKeyword, &words)
+    errors(alloc, NameProblem::RustKeyword, &words)
 }
 
 /// Reports `NAME is a pest keyword` at each of these definitions whose name pest reserves, in their order.
@@ -37,7 +37,7 @@ pub fn validate_pest_keywords(
     ensures memory { IfErr result (λ fault. fault ≡ Fault.Memory alloc_error) }
 {
     let words = places_of(alloc, pest_keywords(), definitions)?;
-    errors(alloc, Message::PestKeyword, &words)
+    errors(alloc, NameProblem::PestKeyword, &words)
 }
 
 /// Reports `rule NAME already defined` at each of these definitions that has an earlier one of its name, in
@@ -51,45 +51,11 @@ pub fn validate_already_defined(
     ensures memory { IfErr result (λ fault. fault ≡ Fault.Memory alloc_error) }
 {
     let again = later(alloc, definitions, &mut HashSet::new(alloc))?;
-    errors(alloc, Message::AlreadyDefined, &again)
-}
-
-/// Collects the errors of `validate_pest_keywords`, for definitions that are all in one text.
-pub(crate) fn pest_keywords_in(
-    alloc: Global,
-    text: &str,
-    definitions: &Vec<Span<'_>>,
-) -> Result<Vec<Error<Rule>>, Fault>
-    requires in_text { AreIn text.now (map piece_of definitions.now.items) }
-    ensures told { let places = map piece_of definitions.now.items in
-        IfOk result (λ errors. AreErrorsFor (pest_keyword_complaints places) errors.items) }
-    ensures memory { IfErr result (λ fault. fault ≡ Fault.Memory alloc_error) }
-{
-    let found = places_of(alloc, pest_keywords(), definitions)?;
-    errors_in(alloc, text, Message::PestKeyword, &found)
-}
-
-/// Collects the errors of `validate_already_defined`, for definitions that are all in one text, and adds
-/// their names to `known`.
-pub(crate) fn already_defined_in<'i>(
-    alloc: Global,
-    text: &str,
-    definitions: &Vec<Span<'i>>,
-    known: &mut HashSet<&'i str>,
-) -> Result<Vec<Error<Rule>>, Fault>
-    requires in_text { AreIn text.now (map piece_of definitions.now.items) }
-    requires empty { HasNames [] known.old }
-    ensures told { let places = map piece_of definitions.now.items in
-        IfOk result (λ errors. AreErrorsFor (duplicate_complaints places) errors.items) }
-    ensures known { OnOk result (HasNames (map written (map piece_of definitions.now.items)) known.new) }
-    ensures memory { IfErr result (λ fault. fault ≡ Fault.Memory alloc_error) }
-{
-    let found = later(alloc, definitions, known)?;
-    errors_in(alloc, text, Message::AlreadyDefined, &found)
+    errors(alloc, NameProblem::AlreadyDefined, &again)
 }
 
 /// Collects the spans whose name occurs at an earlier span, in their order, and adds all names to `known`.
-fn later<'i>(
+pub(crate) fn later<'i>(
     alloc: Global,
     places: &[Span<'i>],
     known: &mut HashSet<&'i str>,
@@ -109,7 +75,7 @@ fn later<'i>(
 }
 
 /// Collects the spans whose name is among `names`, in their order.
-fn places_of<'i>(
+pub(crate) fn places_of<'i>(
     alloc: Global,
     names: &[&str],
     places: &[Span<'i>],

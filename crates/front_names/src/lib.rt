@@ -4,6 +4,7 @@
 
 mod builtin;
 mod char_set;
+mod findings;
 mod found;
 mod keywords;
 pub mod laws;
@@ -15,11 +16,13 @@ mod undefined;
 
 pub use builtin::Builtin;
 pub use char_set::CharSet;
+pub use findings::{NameError, NameFinding};
 pub use keywords::{validate_already_defined, validate_pest_keywords, validate_rust_keywords};
 pub use messages::{
-    Message, arrow, left_recursion, repeated_expression, tag_on_builtin, tag_on_silent_rule,
-    unreachable_choices,
+    NameProblem, arrow, cannot_fail, left_recursion, non_progressing, repeated_expression,
+    tag_on_builtin, tag_on_silent_rule, unreachable_choices,
 };
-pub use pairs::{collect_builtins, validate_pairs};
+pub use pairs::{check_names, collect_builtins, validate_pairs};
+pub use said::name_errors;
 pub use tables::{comment_name, is_builtin, unicode_property_names, whitespace_name};
 pub use undefined::validate_undefined;

@@ -5,9 +5,9 @@ ghost use Rattle.front_names.specs.Messages as spec;
 
 use std::alloc::{AllocError, Global};
 
-/// A message about its subject, which is a name or an expression.
-#[derive(Clone, Copy)]
-pub enum Message {
+/// What is wrong with a name.
+#[derive(Clone, Copy, Debug, PartialEq, Eq)]
+pub enum NameProblem {
     /// A rule has a name that Rust reserves.
     RustKeyword,
     /// A rule has a name that pest reserves.
@@ -16,48 +16,55 @@ pub enum Message {
     AlreadyDefined,
     /// A call's name is neither a rule's nor a builtin's.
     Undefined,
-    /// A repetition never ends, since its body always succeeds.
-    CannotFail,
-    /// A repetition may never end, since its body may take nothing.
-    NonProgressing,
 }
 
-impl Message {
-    /// Returns the message about a subject. The only error is an allocation failure.
-    pub fn about(self, alloc: Global, subject: &str) -> Result<String, AllocError>
-        ensures { IfOk result (λ message. string_bytes message ≡ spec.about self subject.now) }
+impl NameProblem {
+    /// Returns the message about a name. The only error is an allocation failure.
+    pub fn message(self, alloc: Global, name: &str) -> Result<String, AllocError>
+        ensures { IfOk result (λ message. string_bytes message ≡ spec.about self name.now) }
     {
         let prefix = self.prefix();
         let suffix = self.suffix();
-        format!(in alloc; "{prefix}{subject}{suffix}")
+        format!(in alloc; "{prefix}{name}{suffix}")
     }
 
-    /// Returns the text before the subject.
+    /// Returns the text before the name.
     fn prefix(self) -> &'static str
         ensures { result.now ≡ spec.prefix self }
     {
         match self {
-            Message::AlreadyDefined | Message::Undefined => "rule ",
-            Message::RustKeyword
-            | Message::PestKeyword
-            | Message::CannotFail
-            | Message::NonProgressing => "",
+            NameProblem::AlreadyDefined | NameProblem::Undefined => "rule ",
+            NameProblem::RustKeyword | NameProblem::PestKeyword => "",
         }
     }
 
-    /// Returns the text after the subject.
+    /// Returns the text after the name.
     fn suffix(self) -> &'static str
         ensures { result.now ≡ spec.suffix self }
     {
         match self {
-            Message::RustKeyword => " is a rust keyword",
-            Message::PestKeyword => " is a pest keyword",
-            Message::AlreadyDefined => " already defined",
-            Message::Undefined => " is undefined",
-            Message::CannotFail => " cannot fail and will repeat infinitely",
-            Message::NonProgressing => " is non-progressing and will repeat infinitely",
+            NameProblem::RustKeyword => " is a rust keyword",
+            NameProblem::PestKeyword => " is a pest keyword",
+            NameProblem::AlreadyDefined => " already defined",
+            NameProblem::Undefined => " is undefined",
         }
     }
+}
+
+/// Returns the message about a repetition that never ends, since what it repeats always succeeds. The
+/// subject says what it repeats. The only error is an allocation failure.
+pub fn cannot_fail(alloc: Global, subject: &str) -> Result<String, AllocError>
+    ensures { IfOk result (λ message. string_bytes message ≡ spec.cannot_fail subject.now) }
+{
+    format!(in alloc; "{subject} cannot fail and will repeat infinitely")
+}
+
+/// Returns the message about a repetition that may never end, since what it repeats may take nothing. The
+/// subject says what it repeats. The only error is an allocation failure.
+pub fn non_progressing(alloc: Global, subject: &str) -> Result<String, AllocError>
+    ensures { IfOk result (λ message. string_bytes message ≡ spec.non_progressing subject.now) }
+{
+    format!(in alloc; "{subject} is non-progressing and will repeat infinitely")
 }
 
 /// Returns the subject of messages about the body of a repetition.

@@ -1,16 +1,20 @@
 //! The names of a whole grammar.
-ghost use Rattle.std.specs.Prelude.{[], ◌≡◌, List, IfErr, IfOk, OnOk, alloc_error, map};
+ghost use Rattle.std.specs.Prelude.{[], ◌≡◌, List, IfErr, IfOk, OnOk, map};
 ghost use Rattle.base_language.specs.Language.Text.{Text};
-ghost use Rattle.base_language.specs.Pieces.Saying.{AreErrorsFor, piece_of, written};
+ghost use Rattle.base_language.specs.Pieces.Saying.{piece_of, written};
+ghost use Rattle.front_names.specs.NameFindings.{AreNameFindings, told_by};
 ghost use Rattle.front_names.specs.NameSets.{HasNames};
-ghost use Rattle.front_names.specs.Names.{AreIn, first_places};
+ghost use Rattle.front_names.specs.Names.{first_places};
 ghost use Rattle.front_names.specs.GrammarNames.{AreWrittenAt, IsNameRefusal, complaints_of, first_calls_of, name_complaints};
 
-use crate::found;
-use crate::keywords::{already_defined_in, pest_keywords_in};
-use crate::undefined::undefined_in;
+use crate::findings::add_findings;
+use crate::keywords::{later, places_of};
+use crate::said::name_errors;
+use crate::tables::pest_keywords;
+use crate::undefined::collect_undefined;
+use crate::{NameError, NameFinding, NameProblem, found};
 use base_language::grammar::Rule;
-use base_language::runtime::{Error, Fault, Pairs, Span};
+use base_language::runtime::{Fault, Pairs, Span};
 use std::alloc::{AllocError, Global};
 use std::collections::HashSet;
 
@@ -39,43 +43,59 @@ pub fn collect_builtins<'i>(alloc: Global, pairs: &Pairs<'i, Rule>) -> Result<Ve
     ensures builtins { IfOk result (λ names. AreWrittenAt (first_calls_of pairs.now) names.items) }
     ensures refused { IfErr result (IsNameRefusal (complaints_of pairs.now)) }
 {
+    match check_names(alloc, pairs) {
+        Ok(names) => Ok(names),
+        Err(NameError::Memory(error)) => Err(error.into()),
+        Err(NameError::Found(findings)) => {
+            let errors = name_errors(alloc, pairs.get_input(), &findings)?;
+            Err(Fault::Grammar(errors))
+        }
+    }
+}
+
+/// Returns the names of `validate_pairs` for pairs that are lent, or the findings that its errors tell of, in
+/// the order of these.
+pub fn check_names<'i>(
+    alloc: Global,
+    pairs: &Pairs<'i, Rule>,
+) -> Result<Vec<&'i str>, NameError<'i>>
+    ensures no_complaints { OnOk result (complaints_of pairs.now ≡ []) }
+    ensures builtins { IfOk result (λ names. AreWrittenAt (first_calls_of pairs.now) names.items) }
+    ensures refused { IfErr result (AreNameFindings (complaints_of pairs.now)) }
+{
     let text = pairs.get_input();
     let trees = pairs.trees();
     let definitions = found::definitions(alloc, text, trees)?;
     let calls = found::calls(alloc, text, trees)?;
     let mut known = HashSet::with_capacity(alloc, definitions.len())?;
-    let errors = name_errors(alloc, text, &definitions, &calls, &mut known)?;
-    if !errors.is_empty() {
-        return Err(Fault::Grammar(errors));
+    let findings = find_in_names(alloc, &definitions, &calls, &mut known)?;
+    if !findings.is_empty() {
+        return Err(NameError::Found(findings));
     }
     Ok(first_calls(alloc, known, &calls)?)
 }
 
-/// Collects the errors about the names of these definitions and calls, all in one text: of keywords, then
-/// of duplicates, then of undefined names. Adds the names of the definitions to `known`. The only error is
-/// allocation failure.
-fn name_errors<'i>(
+/// Collects the findings about the names of these definitions and calls: keywords, then duplicates, then
+/// undefined names. Adds the names of the definitions to `known`.
+fn find_in_names<'i>(
     alloc: Global,
-    text: &'i str,
-    definitions: &Vec<Span<'i>>,
-    calls: &Vec<Span<'i>>,
+    definitions: &[Span<'i>],
+    calls: &[Span<'i>],
     known: &mut HashSet<&'i str>,
-) -> Result<Vec<Error<Rule>>, Fault>
-    requires definitions_in_text { AreIn text.now (map piece_of definitions.now.items) }
-    requires calls_in_text { AreIn text.now (map piece_of calls.now.items) }
+) -> Result<Vec<NameFinding<'i>>, AllocError>
     requires empty { HasNames [] known.old }
-    ensures told { IfOk result (λ errors.
-        AreErrorsFor (name_complaints (map piece_of definitions.now.items) (map piece_of calls.now.items))
-        errors.items) }
-    ensures known { OnOk result (HasNames (map written (map piece_of definitions.now.items)) known.new) }
-    ensures memory { IfErr result (λ fault. fault ≡ Fault.Memory alloc_error) }
+    ensures told { IfOk result (λ findings. told_by findings.items
+        ≡ name_complaints (map piece_of definitions.now) (map piece_of calls.now)) }
+    ensures known { OnOk result (HasNames (map written (map piece_of definitions.now)) known.new) }
 {
-    let mut errors = pest_keywords_in(alloc, text, definitions)?;
-    let mut duplicates = already_defined_in(alloc, text, definitions, known)?;
-    let mut undefined = undefined_in(alloc, text, known, calls)?;
-    errors.append(&mut duplicates)?;
-    errors.append(&mut undefined)?;
-    Ok(errors)
+    let reserved = places_of(alloc, pest_keywords(), definitions)?;
+    let again = later(alloc, definitions, known)?;
+    let undefined = collect_undefined(alloc, known, calls)?;
+    let mut found = Vec::new(alloc);
+    add_findings(NameProblem::PestKeyword, &reserved, &mut found)?;
+    add_findings(NameProblem::AlreadyDefined, &again, &mut found)?;
+    add_findings(NameProblem::Undefined, &undefined, &mut found)?;
+    Ok(found)
 }
 
 /// Collects the names of the calls that are not `known`, each once, in the order of their first calls.

@@ -1,12 +1,11 @@
 //! Calls of undefined names.
-ghost use Rattle.std.specs.Prelude.{◌≡◌, List, IfErr, IfOk, alloc_error, filter, map};
+ghost use Rattle.std.specs.Prelude.{◌≡◌, IfErr, IfOk, alloc_error, filter, map};
 ghost use Rattle.base_language.specs.Pieces.Saying.{AreErrorsFor, piece_of, written};
-ghost use Rattle.base_language.specs.Pieces.Saying as saying;
 ghost use Rattle.front_names.specs.NameSets.{HasNames, is_outside, is_unknown};
-ghost use Rattle.front_names.specs.Names.{AreIn, undefined_complaints};
+ghost use Rattle.front_names.specs.Names.{undefined_complaints};
 
-use crate::Message;
-use crate::said::{errors, errors_in};
+use crate::NameProblem;
+use crate::said::errors;
 use crate::tables::is_builtin;
 use base_language::grammar::Rule;
 use base_language::runtime::{Error, Fault, Span};
@@ -28,29 +27,11 @@ pub fn validate_undefined<'i>(
 {
     let defined = names(alloc, definitions)?;
     let undefined = collect_undefined(alloc, &defined, called)?;
-    errors(alloc, Message::Undefined, &undefined)
-}
-
-/// Collects the errors of `validate_undefined`, for the names that are defined, and calls that are all in
-/// one text.
-pub(crate) fn undefined_in<'i>(
-    alloc: Global,
-    text: &str,
-    defined: &HashSet<&str>,
-    called: &Vec<Span<'i>>,
-) -> Result<Vec<Error<Rule>>, Fault>
-    requires in_text { AreIn text.now (map piece_of called.now.items) }
-    ensures told { (definitions : List saying.Span) → HasNames (map written definitions) defined.now
-        → IfOk result (λ errors.
-        AreErrorsFor (undefined_complaints definitions (map piece_of called.now.items)) errors.items) }
-    ensures memory { IfErr result (λ fault. fault ≡ Fault.Memory alloc_error) }
-{
-    let found = collect_undefined(alloc, defined, called)?;
-    errors_in(alloc, text, Message::Undefined, &found)
+    errors(alloc, NameProblem::Undefined, &undefined)
 }
 
 /// Collects the calls whose name is neither in a set of names nor a builtin's, in their order.
-fn collect_undefined<'i>(
+pub(crate) fn collect_undefined<'i>(
     alloc: Global,
     defined: &HashSet<&str>,
     called: &[Span<'i>],

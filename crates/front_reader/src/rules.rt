@@ -6,7 +6,7 @@ ghost use Rattle.front_syntax.specs.Parses.{AreOfAGrammar, AreSpelled, ParseRefu
 ghost use Rattle.front_reader.specs.Refusals.{AreReadAs, IsReadRefusal, first_flaw_of};
 ghost use Rattle.front_reader.specs.Pieces.{AreInText};
 ghost use Rattle.front_syntax.specs.Shape.{AreGrammarTrees, IsRule};
-ghost use Rattle.front_reader.specs.Views.{AnswersRule, AnswersRules, MayBeModifier, TakesModifier};
+ghost use Rattle.front_reader.specs.Views.{AnswersRule, AnswersRules, IsFirst, MayBeModifier, TakesModifier};
 ghost use Rattle.front_spanned.specs.Nodes.{rule_views, type_of};
 
 mod common;
@@ -21,7 +21,8 @@ mod signs;
 mod terminals;
 
 pub use crate::rules::common::common_name;
-use crate::rules::flaws::{ReadError, refusal};
+use crate::rules::flaws::refusal;
+pub use crate::rules::flaws::{Cause, Flaw, ReadError, flaw_errors};
 use crate::rules::levels::Level;
 use crate::rules::pieces::{span_of, text_of};
 use crate::rules::reading::expression;
@@ -160,9 +161,23 @@ pub fn consume_rules_with_spans<'i>(
     ensures flawless { OnOk result (first_flaw_of pairs.entry ≡ None) }
     ensures refused { IfErr result (IsReadRefusal (first_flaw_of pairs.entry)) }
 {
-    trees_of_a_grammar_have_their_shape();
-    match rules(alloc, pairs.get_input(), pairs.trees()) {
+    match read_rules(alloc, &pairs) {
         Ok(rules) => Ok(rules),
         Err(error) => Err(refusal(alloc, error)),
     }
+}
+
+/// Returns the rules of `consume_rules_with_spans` for pairs that are lent, or the flaw that its error
+/// reports.
+pub fn read_rules<'i>(
+    alloc: Global,
+    pairs: &Pairs<'i, Rule>,
+) -> Result<Vec<ParserRule<'i>>, ReadError<'i>>
+    requires { AreOfAGrammar pairs.now }
+    ensures rules { IfOk result (λ rules. AreReadAs pairs.now (rule_views rules.items)) }
+    ensures flawless { OnOk result (first_flaw_of pairs.now ≡ None) }
+    ensures refused { IfErr result (IsFirst (first_flaw_of pairs.now)) }
+{
+    trees_of_a_grammar_have_their_shape();
+    rules(alloc, pairs.get_input(), pairs.trees())
 }

@@ -7,8 +7,7 @@ use Rattle.base_language.specs.declared.runtime.errors.Error.{Error}
 use Rattle.base_language.specs.Language.Text.{Text}
 use Rattle.base_language.specs.Language.WellFormed.{IsNullable}
 use Rattle.base_graphs.specs.Least.{is_set_at}
-use Rattle.front_names.specs.Messages.{about, repeated_expression}
-use Rattle.front_names.specs.declared.messages.Message.TheVariants as message_is
+use Rattle.front_names.specs.Messages.{non_progressing, repeated_expression}
 use Rattle.front_spanned.specs.Erasure.{rules_without_spans, without_spans}
 use Rattle.front_spanned.specs.Spanned.{Span, Spanned, SpannedRule}
 use Rattle.front_spanned.specs.declared.node.ParserRule.{ParserRule}
@@ -43,7 +42,7 @@ IsRising spans = (i : ℕ) (s u : Span) → slice_get spans i ≡ Some s → sli
 
 -- the message and span that report a repetition
 abbrev pub complaint_at : Span → Complaint
-complaint_at s = record { message = about message_is.NonProgressing repeated_expression; span = s }
+complaint_at s = record { message = non_progressing repeated_expression; span = s }
 
 -- `sorted` has the spans of `found`, ordered by position
 pub record IsSorted (found sorted : List Span) : Type 0 where

@@ -32,7 +32,7 @@ use base_graphs::{is_set, numbers};
 use base_language::grammar::Rule;
 use base_language::runtime::{Error, ErrorVariant, Fault, Span, Survey};
 use front_analysis::{Analysis, Facts, Names, ResolvedGrammar, facts_of, resolve};
-use front_names::{Message, comment_name, repeated_expression, whitespace_name};
+use front_names::{comment_name, non_progressing, repeated_expression, whitespace_name};
 use front_spanned::ParserRule;
 use front_stack_domain::Stack;
 use std::alloc::{AllocError, Global};
@@ -388,7 +388,7 @@ fn error_at<'i>(
         AreErrorsFor (complaint_at (piece_of span.entry) ∷ []) (error ∷ [])) }
     ensures memory { IfErr result (λ fault. fault ≡ Fault.Memory alloc_error) }
 {
-    let message = Message::NonProgressing.about(alloc, repeated_expression())?;
+    let message = non_progressing(alloc, repeated_expression())?;
     let variant = ErrorVariant::CustomError { message };
     let error = Error::new_where_surveyed(alloc, variant, survey, span)?;
     Ok(error)

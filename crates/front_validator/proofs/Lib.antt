@@ -24,3 +24,5 @@ pub mod OneOrder
 pub mod OneFindingList
 pub mod TagLemmas
 pub mod PlacedLemmas
+pub mod CycleLemmas
+pub mod Subjects

@@ -1,9 +1,10 @@
 -- What is reported of left recursion, rule by rule.
-use Rattle.std.proofs.Common.{◌≡◌, ◌⊎◌, inl, inr, ℕ, zero, suc, ◌+◌, ◌<◌, ◌≤◌, List, [], ◌∷◌, ◌++◌, Option, Some, None, slice_get, length, string_bytes, refl, sym, ◌∙◌, ap, subst, arith}
+use Rattle.std.proofs.Common.{Bor, ◌≡◌, ◌⊎◌, inl, inr, ℕ, zero, suc, ◌+◌, ◌<◌, ◌≤◌, List, [], ◌∷◌, ◌++◌, Option, Some, None, slice_get, length, string_bytes, refl, sym, ◌∙◌, ap, subst, arith}
 use Rattle.std.specs.List.{range_with_len}
 use Rattle.std.specs.Option.{option_map}
 use Rattle.std.proofs.lemmas.List.{length-map}
-use Rattle.std.proofs.lemmas.Option.{slice_get-map, slice_get_past}
+use Rattle.std.specs.Slice.{IsItemAt}
+use Rattle.std.proofs.lemmas.Option.{slice_get-map, slice_get_past, slice_get_read}
 use Rattle.std.proofs.lemmas.Str.{encodes-chars, IsUtf8-string_bytes}
 use Rattle.base_graphs.proofs.LeastLemmas.{item_at}
 use Rattle.base_language.specs.Language.Text.{Text}
@@ -80,6 +81,9 @@ module _ (rules : List ParserRule) where
 
   pub no_name : (k : ℕ) → length rules ≤ k → name_at (slice_get V k) ≡ []
   no_name k h = ap name_at (slice_get_past V k (let e = as_many in omega arith))
+
+  pub lent_name : (k : ℕ) (rule : Bor ParserRule) → IsItemAt rules k (Some rule) → string_bytes rule.now.name ≡ name_at (slice_get V k)
+  lent_name k rule h = sym (name_there k rule.now (slice_get_read rules (length rules) k rule.now refl h.3.0 h.1))
 
   -- where left calls have no cycle, nothing is found
   pub none_found : ((n : Text) → Leads (grammar_of rules) n n → ⊥) → Reports (OfRecursion V) (places V) []

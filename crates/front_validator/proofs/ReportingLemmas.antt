@@ -16,8 +16,7 @@ use Rattle.front_spanned.specs.declared.node.ParserRule.{ParserRule}
 use Rattle.front_spanned.proofs.Places.{span_at}
 use Rattle.base_graphs.specs.Least.{is_set_at}
 use Rattle.base_graphs.proofs.LeastLemmas.{item_at}
-use Rattle.front_names.specs.Messages.{about, repeated_expression, unreachable_choices}
-use Rattle.front_names.specs.declared.messages.Message.TheVariants as message_is
+use Rattle.front_names.specs.Messages.{cannot_fail, non_progressing, repeated_expression, unreachable_choices}
 use Rattle.front_analysis.specs.Facts.{AreFacts}
 use Rattle.front_validator.specs.Findings.{Finding, found_at, is_skipped_name, last_alternative, Reports, reports_none, reports_at, OfRepeated, never_fails, takes_nothing, goes_on, OfRepetition, repetition, no_repetition, OfChoice, unreachable, reachable, no_choice, OfSkipped, skipped, not_skipped}
 use Rattle.front_analysis.specs.Names.{grammar_of, is_end}
@@ -100,7 +99,7 @@ module _ (rules : List ParserRule) (facts : Facts) (right : AreFacts rules facts
   repeated_right : (subject : List ℕ) (place : Span) (i : ℕ) (e : Expression) → Represents (kind_in G) kinds i e → OfRepeated G subject place e (repeated_at facts subject place i)
   repeated_right subject place i e s = go (is_set_at facts.certain.items i) refl (is_set_at facts.nullable.items i) refl
     where
-      go : (b : Bool) → is_set_at facts.certain.items i ≡ b → (c : Bool) → is_set_at facts.nullable.items i ≡ c → OfRepeated G subject place e (if b then found_at place (about message_is.CannotFail subject) ∷ [] else if c then found_at place (about message_is.NonProgressing subject) ∷ [] else [])
+      go : (b : Bool) → is_set_at facts.certain.items i ≡ b → (c : Bool) → is_set_at facts.nullable.items i ≡ c → OfRepeated G subject place e (if b then found_at place (cannot_fail subject) ∷ [] else if c then found_at place (non_progressing subject) ∷ [] else [])
       go true h c k = never_fails ((right.certain i e s).0 h)
       go false h true k = takes_nothing (λ d. clash _ ((right.certain i e s).1 d) h) ((right.nullable i e s).0 k)
       go false h false k = goes_on (λ d. clash _ ((right.nullable i e s).1 d) k)

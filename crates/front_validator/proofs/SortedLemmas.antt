@@ -12,13 +12,13 @@ use Rattle.base_language.specs.declared.runtime.errors.Error.{Error}
 use Rattle.front_validator.specs.Findings.{Finding, is_before, is_level, IsSortedBySpan}
 use Rattle.base_language.specs.Pieces.Saying.{IsErrorAt, AreErrorsFor}
 use Rattle.front_validator.specs.Reporting.{finding_of, findings_of}
-use Rattle.front_validator.specs.declared.findings.Finding as code
+use Rattle.front_validator.specs.declared.problems.RuleFinding as code
 
 -- what is got from a mapped list comes from the list
-got_from : (fs : List code.Finding) (i : ℕ) (x : Finding) → slice_get (findings_of fs) i ≡ Some x → (f : code.Finding) × (slice_get fs i ≡ Some f) × (finding_of f ≡ x)
+got_from : (fs : List code.RuleFinding) (i : ℕ) (x : Finding) → slice_get (findings_of fs) i ≡ Some x → (f : code.RuleFinding) × (slice_get fs i ≡ Some f) × (finding_of f ≡ x)
 got_from fs i x e = go (slice_get fs i) refl (sym (slice_get-map finding_of fs i) ∙ e)
   where
-    go : (o : Option code.Finding) → slice_get fs i ≡ o → option_map finding_of o ≡ Some x → (f : code.Finding) × (slice_get fs i ≡ Some f) × (finding_of f ≡ x)
+    go : (o : Option code.RuleFinding) → slice_get fs i ≡ o → option_map finding_of o ≡ Some x → (f : code.RuleFinding) × (slice_get fs i ≡ Some f) × (finding_of f ≡ x)
     go None h g = cc
     go (Some f) h g = (f, h, cc)
 
@@ -30,17 +30,17 @@ filter-map {A} {B} p f (x ∷ xs) = go (p (f x)) (filter-map p f xs)
     go true h = ap (λ z. f x ∷ z) h
     go false h = h
 
-abbrev code_before : code.Finding → code.Finding → Bool
+abbrev code_before : code.RuleFinding → code.RuleFinding → Bool
 code_before x y = is_before (finding_of x) (finding_of y)
 
-pub sorted_findings : (found sorted : List code.Finding) → IsPermutation found sorted → IsSortedBy code_before sorted → IsStableBy code_before found sorted → IsSortedBySpan (findings_of found) (findings_of sorted)
+pub sorted_findings : (found sorted : List code.RuleFinding) → IsPermutation found sorted → IsSortedBy code_before sorted → IsStableBy code_before found sorted → IsSortedBySpan (findings_of found) (findings_of sorted)
 sorted_findings found sorted p r s = record {
   same = IsPermutation-map finding_of found sorted p;
   rising = λ i x y e f. rise i x y (got_from sorted i x e) (got_from sorted (i + 1) y f);
   stable = λ i x e. level i x (got_from found i x e);
 }
   where
-    rise : (i : ℕ) (x y : Finding) → (f : code.Finding) × (slice_get sorted i ≡ Some f) × (finding_of f ≡ x) → (f : code.Finding) × (slice_get sorted (i + 1) ≡ Some f) × (finding_of f ≡ y) → is_before y x ≡ false
+    rise : (i : ℕ) (x y : Finding) → (f : code.RuleFinding) × (slice_get sorted i ≡ Some f) × (finding_of f ≡ x) → (f : code.RuleFinding) × (slice_get sorted (i + 1) ≡ Some f) × (finding_of f ≡ y) → is_before y x ≡ false
     rise i x y (f, at, is_x) (k, next, is_y) =
         let w = slice_get_within sorted (i + 1) k next in
         let h : code_before (get_or sorted (i + 1) f) (get_or sorted i f) ≡ false = r i f (omega arith) w in
@@ -49,7 +49,7 @@ sorted_findings found sorted p r s = record {
         subst (λ z. is_before y z ≡ false) is_x (subst (λ z. is_before z (finding_of f) ≡ false) is_y
         (subst (λ z. code_before k z ≡ false) a (subst (λ z. code_before z (get_or sorted i f) ≡ false) b h)))
 
-    level : (i : ℕ) (x : Finding) → (f : code.Finding) × (slice_get found i ≡ Some f) × (finding_of f ≡ x) → filter (is_level x) (findings_of sorted) ≡ filter (is_level x) (findings_of found)
+    level : (i : ℕ) (x : Finding) → (f : code.RuleFinding) × (slice_get found i ≡ Some f) × (finding_of f ≡ x) → filter (is_level x) (findings_of sorted) ≡ filter (is_level x) (findings_of found)
     level i x (f, at, is_x) = subst (λ z. filter (is_level z) (findings_of sorted) ≡ filter (is_level z) (findings_of found)) is_x
         (filter-map (is_level (finding_of f)) finding_of sorted ∙ (ap (λ z. findings_of z) (s f) ∙ sym (filter-map (is_level (finding_of f)) finding_of found)))
 
@@ -61,12 +61,12 @@ told_more (x ∷ fs) [] h f e t = absurd h
 told_more (x ∷ fs) (y ∷ es) h f e t = (h.0, told_more fs es h.1 f e t)
 
 -- where nothing is found, nothing is told
-pub told_nothing : (fs : List code.Finding) → (length fs == 0) ≡ true → AreErrorsFor (findings_of fs) []
+pub told_nothing : (fs : List code.RuleFinding) → (length fs == 0) ≡ true → AreErrorsFor (findings_of fs) []
 told_nothing [] e = tt
 told_nothing (f ∷ fs) e = absurd (grind (arith, nat_tests, e))
 
 -- one finding more is told
-pub told_step : (fs : List code.Finding) (i : ℕ) (f : code.Finding) (old new : List (Error Rule)) (e : Error Rule) → slice_get fs i ≡ Some f → new ≡ old ++ e ∷ [] → IsErrorAt (finding_of f).message (finding_of f).span e
+pub told_step : (fs : List code.RuleFinding) (i : ℕ) (f : code.RuleFinding) (old new : List (Error Rule)) (e : Error Rule) → slice_get fs i ≡ Some f → new ≡ old ++ e ∷ [] → IsErrorAt (finding_of f).message (finding_of f).span e
     → AreErrorsFor (findings_of (take i fs)) old → AreErrorsFor (findings_of (take (i + 1) fs)) new
 told_step fs i f old new e at is_new t h =
     let taken : findings_of (take (i + 1) fs) ≡ findings_of (take i fs) ++ finding_of f ∷ []

@@ -3,7 +3,6 @@ use Rattle.std.proofs.Common.{◌≡◌, ℕ, List, [], ◌∷◌, ◌++◌, Opt
 use Rattle.std.specs.Option.{option_map}
 use Rattle.std.specs.Slice.{IsItemAt}
 use Rattle.std.proofs.lemmas.Option.{slice_get_past, slice_get_read}
-use Rattle.std.specs.Prelude.{string_bytes}
 use Rattle.std.proofs.lemmas.List.{map-append}
 use Rattle.base_language.specs.Language.Text.{Text}
 use Rattle.base_language.specs.Language.Expression.{rule_of, last_place}
@@ -11,9 +10,11 @@ use Rattle.front_spanned.specs.declared.node.ParserRule.{ParserRule}
 use Rattle.front_analysis.specs.Names.{grammar_of, rule_said}
 use Rattle.front_spanned.specs.Nodes.{piece_of}
 use Rattle.front_spanned.specs.Spanned.{Span}
+use Rattle.base_language.specs.Pieces.Saying.{written}
+use Rattle.front_validator.specs.Problems.{message_of}
 use Rattle.front_validator.specs.Reporting.{finding_of, findings_of}
 use Rattle.front_validator.specs.Tags.{told_at}
-use Rattle.front_validator.specs.declared.findings.Finding.{Finding}
+use Rattle.front_validator.specs.declared.problems.RuleFinding.{RuleFinding}
 use Rattle.front_analysis.proofs.Resolved.{Named, absent, named, resolved}
 
 -- the rule that is lent is the one at its place
@@ -44,8 +45,8 @@ no_rule_named rules n e = go (last_place (grammar_of rules) n) e (resolved rules
     go o h (named rule at f) = cc
 
 -- what is told behind others
-pub told_more : (found : List Finding) (finding : Finding) (place : Span) (message : Option (List ℕ))
-    → message ≡ Some (string_bytes finding.message) → place ≡ piece_of finding.span
+pub told_more : (found : List RuleFinding) (finding : RuleFinding) (place : Span) (message : Option (List ℕ))
+    → message ≡ Some (message_of finding.problem (written (piece_of finding.span))) → place ≡ piece_of finding.span
     → findings_of (found ++ finding ∷ []) ≡ findings_of found ++ told_at place message
 told_more found finding place message e h =
     map-append finding_of found (finding ∷ [])

@@ -8,8 +8,7 @@ use Rattle.base_language.specs.Pieces.Saying.{Complaint}
 use Rattle.base_language.specs.Language.Text.{Text}
 use Rattle.base_language.specs.Language.Expression.{Expression, Grammar, whitespace, comment}
 use Rattle.base_language.specs.Language.WellFormed.{IsNullable, CannotFail, Leads}
-use Rattle.front_names.specs.Messages.{about, repeated_expression, unreachable_choices}
-use Rattle.front_names.specs.declared.messages.Message.TheVariants as message_is
+use Rattle.front_names.specs.Messages.{cannot_fail, non_progressing, repeated_expression, unreachable_choices}
 use Rattle.front_spanned.specs.Erasure.{without_spans, rules_without_spans}
 use Rattle.front_spanned.specs.Spanned.{Span, span_of, Spanned, One, Two, Unary, Rep, RepOnce, RepMin, Choice, SpannedRule}
 use Rattle.front_analysis.specs.Nodes.{every_node}
@@ -56,9 +55,9 @@ module _ (g : Grammar) where
   -- the findings of an expression that is repeated without end
   pub data OfRepeated (subject : List ℕ) (place : Span) (e : Expression) : List Finding → Type 0 where
     never_fails : CannotFail g e
-        → OfRepeated subject place e (found_at place (about message_is.CannotFail subject) ∷ [])
+        → OfRepeated subject place e (found_at place (cannot_fail subject) ∷ [])
     takes_nothing : (CannotFail g e → ⊥) → IsNullable g e
-        → OfRepeated subject place e (found_at place (about message_is.NonProgressing subject) ∷ [])
+        → OfRepeated subject place e (found_at place (non_progressing subject) ∷ [])
     goes_on : (IsNullable g e → ⊥) → OfRepeated subject place e []
 
   -- the findings of a node as a repetition
@@ -118,7 +117,7 @@ pub record IsSortedBySpan (found sorted : List Finding) : Type 0 where
 
 -- the finding of a repetition that never ends for another reason than that its body may take nothing
 abbrev pub endless_at : Span → Finding
-endless_at place = found_at place (about message_is.NonProgressing repeated_expression)
+endless_at place = found_at place (non_progressing repeated_expression)
 
 -- all findings in rules: repetitions, then those that are known to be endless, then choices, then skipped
 -- rules, then left recursion, of which there is a finding exactly where left calls have a cycle; then

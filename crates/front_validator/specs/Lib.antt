@@ -6,6 +6,7 @@ pub mod Without
 pub mod Taking
 pub mod Findings
 pub mod Flags
+pub mod Problems
 pub mod Reporting
 pub mod Placed
 pub mod Reported

@@ -1,25 +1,26 @@
 -- Findings, computed from the facts.
-use Rattle.std.specs.Prelude.{◌≡◌, ℕ, List, [], ◌∷◌, ◌++◌, map, Option, Some, None, if◌then◌else◌, slice_get, string_bytes}
+use Rattle.std.specs.Prelude.{◌≡◌, ℕ, List, [], ◌∷◌, map, Option, Some, None, if◌then◌else◌, slice_get, string_bytes}
 use Rattle.base_ast.specs.Ast.{text_of}
+use Rattle.base_language.specs.Pieces.Saying.{written}
 use Rattle.front_spanned.specs.Nodes.{piece_of}
 use Rattle.front_spanned.specs.Spanned.{Span, span_of}
 use Rattle.front_spanned.specs.declared.node.ParserRule.{ParserRule}
 use Rattle.base_language.specs.declared.runtime.places.Span as code_span
 use Rattle.base_graphs.specs.Least.{is_set_at}
-use Rattle.front_names.specs.Messages.{about, repeated_expression, unreachable_choices}
-use Rattle.front_names.specs.declared.messages.Message.TheVariants as message_is
+use Rattle.front_names.specs.Messages.{cannot_fail, non_progressing, repeated_expression, unreachable_choices}
 use Rattle.front_validator.specs.Findings.{Finding, found_at, is_skipped_name}
 use Rattle.front_analysis.specs.Nodes.{all_nodes}
 use Rattle.front_analysis.specs.declared.facts.Facts.{Facts}
-use Rattle.front_validator.specs.declared.findings.Finding as code
+use Rattle.front_validator.specs.Problems.{message_of}
+use Rattle.front_validator.specs.declared.problems.RuleFinding.{RuleFinding}
 use Rattle.front_analysis.specs.declared.kind_table.NodeKind.{NodeKind}
 use Rattle.front_analysis.specs.declared.kind_table.NodeKind.TheVariants as is
 
 -- the finding that one of code denotes
-abbrev pub finding_of : code.Finding → Finding
-finding_of f = found_at (piece_of f.span) (string_bytes f.message)
+abbrev pub finding_of : RuleFinding → Finding
+finding_of f = found_at (piece_of f.span) (message_of f.problem (written (piece_of f.span)))
 
-abbrev pub findings_of : List code.Finding → List Finding
+abbrev pub findings_of : List RuleFinding → List Finding
 findings_of fs = map finding_of fs
 
 -- the spans of the nodes
@@ -30,9 +31,9 @@ AreSpans rules spans = map piece_of spans ≡ map span_of (all_nodes rules)
 abbrev pub repeated_at : Facts → List ℕ → Span → ℕ → List Finding
 repeated_at facts subject place j =
     if is_set_at facts.certain.items j
-    then found_at place (about message_is.CannotFail subject) ∷ []
+    then found_at place (cannot_fail subject) ∷ []
     else if is_set_at facts.nullable.items j
-    then found_at place (about message_is.NonProgressing subject) ∷ []
+    then found_at place (non_progressing subject) ∷ []
     else []
 
 -- of a node as a repetition

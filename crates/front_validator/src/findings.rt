@@ -1,61 +1,34 @@
 //! Findings besides left recursion: repetitions that never end, alternatives that are never reached, and
 //! skipped rules that may take nothing.
 ghost use Rattle.std.specs.Prelude.{◌≡◌, ◌++◌, ◌∷◌, [], IfOk, OnOk, map, slice_get, List, Option};
-ghost use Rattle.base_ast.specs.Ast.{text_of};
 ghost use Rattle.front_spanned.specs.Nodes.{piece_of, rule_views};
 ghost use Rattle.front_analysis.specs.Facts.{AreFacts};
-ghost use Rattle.front_names.specs.Messages.{about};
-ghost use Rattle.front_validator.specs.Findings.{found_at, is_skipped_name, OfRepetition, OfChoice, OfSkipped, Reports};
+ghost use Rattle.base_language.specs.Pieces.Saying.{written};
+ghost use Rattle.front_validator.specs.Problems.{message_of, subject};
+ghost use Rattle.front_validator.specs.Findings.{found_at, OfRepetition, OfChoice, OfSkipped, Reports};
 ghost use Rattle.front_analysis.specs.Names.{grammar_of};
 ghost use Rattle.front_spanned.specs.declared.node.ParserRule.{ParserRule};
 ghost use Rattle.front_analysis.specs.Nodes.{all_nodes};
 ghost use Rattle.front_analysis.specs.Roots.{IsTabled};
 ghost use Rattle.front_validator.specs.Reporting.{findings_of, AreSpans, repeated_at, repetition_at, alternative_of, unreachable_at, choice_at, skipped_at};
 
+use crate::problems::{LoopBody, RuleFinding, RuleProblem};
 use base_graphs::is_set;
 use base_language::runtime::Span;
-use front_analysis::{Facts, NodeKind, Table, is_literal};
-use front_names::{
-    Message, comment_name, repeated_expression, unreachable_choices, whitespace_name,
-};
+use front_analysis::{Facts, NodeKind, Table};
 use front_spanned::ParserRule;
 use std::alloc::{AllocError, Global};
 
-/// A finding in rules, with its message and its span.
-#[derive(Drop)]
-pub struct Finding<'i> {
-    pub message: String,
-    pub span: Span<'i>,
-}
-
-/// Adds a finding with this message.
+/// Adds a finding of this problem.
 fn add<'i>(
-    alloc: Global,
-    message: &str,
+    problem: RuleProblem,
     span: Span<'i>,
-    found: &mut Vec<Finding<'i>>,
+    found: &mut Vec<RuleFinding<'i>>,
 ) -> Result<(), AllocError>
-    ensures { OnOk result (findings_of found.new.items
-        ≡ findings_of found.old.items ++ found_at (piece_of span.entry) message.now ∷ []) }
+    ensures { OnOk result (findings_of found.new.items ≡ findings_of found.old.items
+        ++ found_at (piece_of span.entry) (message_of problem (written (piece_of span.entry))) ∷ []) }
 {
-    let message = String::from_str(alloc, message)?;
-    found.push(Finding { message, span })?;
-    Ok(())
-}
-
-/// Adds a finding with this message about a subject.
-fn add_about<'i>(
-    alloc: Global,
-    message: Message,
-    subject: &str,
-    span: Span<'i>,
-    found: &mut Vec<Finding<'i>>,
-) -> Result<(), AllocError>
-    ensures { OnOk result (findings_of found.new.items
-        ≡ findings_of found.old.items ++ found_at (piece_of span.entry) (about message subject.now) ∷ []) }
-{
-    let message = message.about(alloc, subject)?;
-    found.push(Finding { message, span })?;
+    found.push(RuleFinding { problem, span })?;
     Ok(())
 }
 
@@ -73,33 +46,31 @@ fn root_of_rule(facts: &Facts, rule: usize) -> Option<usize>
     facts.table.roots.get(rule).copied()
 }
 
-/// Adds the findings of a body that is repeated without end.
+/// Adds the findings of a node as what is repeated without end.
 fn report_repeated<'i>(
-    alloc: Global,
     facts: &Facts,
-    subject: &str,
+    body: LoopBody,
     span: Span<'i>,
-    body: usize,
-    found: &mut Vec<Finding<'i>>,
+    node: usize,
+    found: &mut Vec<RuleFinding<'i>>,
 ) -> Result<(), AllocError>
     ensures { OnOk result (findings_of found.new.items
-        ≡ findings_of found.old.items ++ repeated_at facts.now subject.now (piece_of span.entry) body) }
+        ≡ findings_of found.old.items ++ repeated_at facts.now (subject body) (piece_of span.entry) node) }
 {
-    if is_set(facts.certain.as_slice(), body) {
-        add_about(alloc, Message::CannotFail, subject, span, found)?;
-    } else if is_set(facts.nullable.as_slice(), body) {
-        add_about(alloc, Message::NonProgressing, subject, span, found)?;
+    if is_set(facts.certain.as_slice(), node) {
+        add(RuleProblem::CannotFail(body), span, found)?;
+    } else if is_set(facts.nullable.as_slice(), node) {
+        add(RuleProblem::NonProgressing(body), span, found)?;
     }
     Ok(())
 }
 
 /// Adds the findings of a node as a repetition.
 fn report_repetition<'i>(
-    alloc: Global,
     facts: &Facts,
     span: Span<'i>,
     kind: Option<NodeKind>,
-    found: &mut Vec<Finding<'i>>,
+    found: &mut Vec<RuleFinding<'i>>,
 ) -> Result<(), AllocError>
     ensures { OnOk result (findings_of found.new.items
         ≡ findings_of found.old.items ++ repetition_at facts.now (piece_of span.entry) kind) }
@@ -109,7 +80,7 @@ fn report_repetition<'i>(
         Some(NodeKind::OnceAgain(body)) => body,
         _ => return Ok(()),
     };
-    report_repeated(alloc, facts, repeated_expression(), span, body, found)?;
+    report_repeated(facts, LoopBody::Expression, span, body, found)?;
     Ok(())
 }
 
@@ -133,31 +104,24 @@ pub(crate) fn repetitions<'i>(
     alloc: Global,
     facts: &Facts,
     spans: &[Span<'i>],
-) -> Result<Vec<Finding<'i>>, AllocError>
+) -> Result<Vec<RuleFinding<'i>>, AllocError>
     ensures { IfOk result (λ found. (rules : List ParserRule) → AreFacts rules facts.now
         → AreSpans rules spans.now
         → Reports (OfRepetition (grammar_of rules)) (all_nodes rules) (findings_of found.items)) }
 {
     let mut found = Vec::new(alloc);
     for node in 0..spans.len() {
-        report_repetition(
-            alloc,
-            facts,
-            spans[node],
-            kind_of_node(facts, node),
-            &mut found,
-        )?;
+        report_repetition(facts, spans[node], kind_of_node(facts, node), &mut found)?;
     }
     Ok(found)
 }
 
 /// Adds the findings of an alternative with others after it.
 fn report_alternative<'i>(
-    alloc: Global,
     facts: &Facts,
     spans: &[Span<'i>],
     alternative: usize,
-    found: &mut Vec<Finding<'i>>,
+    found: &mut Vec<RuleFinding<'i>>,
 ) -> Result<(), AllocError>
     ensures { OnOk result (findings_of found.new.items
         ≡ findings_of found.old.items ++ unreachable_at facts.now spans.now alternative) }
@@ -165,7 +129,7 @@ fn report_alternative<'i>(
     if alternative < spans.len() {
         let span = spans[alternative];
         if is_set(facts.certain.as_slice(), alternative) {
-            add(alloc, unreachable_choices(), span, found)?;
+            add(RuleProblem::UnreachableChoices, span, found)?;
         }
     }
     Ok(())
@@ -183,17 +147,16 @@ fn last_alternative(facts: &Facts, node: usize) -> usize
 
 /// Adds the findings of a node as a choice.
 fn report_choice<'i>(
-    alloc: Global,
     facts: &Facts,
     spans: &[Span<'i>],
     kind: Option<NodeKind>,
-    found: &mut Vec<Finding<'i>>,
+    found: &mut Vec<RuleFinding<'i>>,
 ) -> Result<(), AllocError>
     ensures { OnOk result (findings_of found.new.items
         ≡ findings_of found.old.items ++ choice_at facts.now spans.now kind) }
 {
     if let Some(NodeKind::Choice(first, _)) = kind {
-        report_alternative(alloc, facts, spans, last_alternative(facts, first), found)?;
+        report_alternative(facts, spans, last_alternative(facts, first), found)?;
     }
     Ok(())
 }
@@ -203,46 +166,31 @@ pub(crate) fn choices<'i>(
     alloc: Global,
     facts: &Facts,
     spans: &[Span<'i>],
-) -> Result<Vec<Finding<'i>>, AllocError>
+) -> Result<Vec<RuleFinding<'i>>, AllocError>
     ensures { IfOk result (λ found. (rules : List ParserRule) → AreFacts rules facts.now
         → AreSpans rules spans.now
         → Reports (OfChoice (grammar_of rules)) (all_nodes rules) (findings_of found.items)) }
 {
     let mut found = Vec::new(alloc);
     for node in 0..spans.len() {
-        report_choice(alloc, facts, spans, kind_of_node(facts, node), &mut found)?;
+        report_choice(facts, spans, kind_of_node(facts, node), &mut found)?;
     }
     Ok(found)
 }
 
-/// Whether rules of that name are skipped.
-fn is_skipped(name: &String) -> bool
-    ensures { result ≡ is_skipped_name (text_of name.now) }
-{
-    is_literal(name, whitespace_name()) || is_literal(name, comment_name())
-}
-
 /// Adds the findings of a rule as one that is skipped.
 fn report_skipped<'i>(
-    alloc: Global,
     facts: &Facts,
     rule: &ParserRule<'i>,
     root: Option<usize>,
-    found: &mut Vec<Finding<'i>>,
+    found: &mut Vec<RuleFinding<'i>>,
 ) -> Result<(), AllocError>
     ensures { OnOk result (findings_of found.new.items
         ≡ findings_of found.old.items ++ skipped_at facts.now rule.now root) }
 {
-    if let Some(body) = root {
-        if is_skipped(&rule.name) {
-            report_repeated(
-                alloc,
-                facts,
-                rule.name.as_str(),
-                rule.node.span,
-                body,
-                found,
-            )?;
+    if let Some(node) = root {
+        if let Some(body) = LoopBody::of_rule(&rule.name) {
+            report_repeated(facts, body, rule.node.span, node, found)?;
         }
     }
     Ok(())
@@ -253,20 +201,14 @@ pub(crate) fn skips<'i>(
     alloc: Global,
     rules: &[ParserRule<'i>],
     facts: &Facts,
-) -> Result<Vec<Finding<'i>>, AllocError>
+) -> Result<Vec<RuleFinding<'i>>, AllocError>
     requires { AreFacts rules.now facts.now }
     ensures { IfOk result (λ found. Reports (OfSkipped (grammar_of rules.now))
         (rule_views rules.now) (findings_of found.items)) }
 {
     let mut found = Vec::new(alloc);
     for place in 0..rules.len() {
-        report_skipped(
-            alloc,
-            facts,
-            &rules[place],
-            root_of_rule(facts, place),
-            &mut found,
-        )?;
+        report_skipped(facts, &rules[place], root_of_rule(facts, place), &mut found)?;
     }
     Ok(found)
 }

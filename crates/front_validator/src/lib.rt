@@ -7,8 +7,11 @@ mod flags;
 pub mod laws;
 mod levels;
 mod passing;
+mod problems;
 mod recursions;
 mod relations;
 mod reported;
 mod tags;
 pub mod validator;
+
+pub use problems::{LoopBody, RuleFinding, RuleProblem};

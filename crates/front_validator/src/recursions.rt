@@ -1,9 +1,10 @@
 //! The search for left recursion from rules on a cycle of left calls: an iterative depth-first search in
 //! the order of the text that enters no rule twice. One walk serves all rules, and is reset after each.
+ghost use Rattle.std.specs.List.{join_by};
 ghost use Rattle.std.specs.Prelude.{◌≡◌, ℕ, false, ◌<◌, ◌+◌, ◌++◌, ◌∷◌, [], List, Option, Some, None, true, IfOk, OnOk, IfNone, IfSome, length, slice_get, slice_set, string_bytes};
 ghost use Rattle.base_language.specs.Language.Text.{Text};
 ghost use Rattle.base_language.specs.Language.WellFormed.{Leads};
-ghost use Rattle.front_spanned.specs.Nodes.{rule_views, rule_view, piece_of};
+ghost use Rattle.front_spanned.specs.Nodes.{rule_views};
 ghost use Rattle.front_spanned.specs.Spanned.{SpannedRule};
 ghost use Rattle.base_graphs.specs.Least.{is_set_at};
 ghost use Rattle.front_names.specs.Messages as spec;
@@ -11,7 +12,7 @@ ghost use Rattle.front_validator.specs.Cycles.{NoneRises};
 ghost use Rattle.front_analysis.specs.Facts.{AreFacts};
 ghost use Rattle.front_validator.specs.Findings.{OfRecursion, Reports, places};
 ghost use Rattle.front_validator.specs.Flags.{NoneSet};
-ghost use Rattle.front_validator.specs.LeftRecursion.{Means, arrows, name_at, trail_message};
+ghost use Rattle.front_validator.specs.LeftRecursion.{Means, arrows, name_at};
 ghost use Rattle.front_analysis.specs.NameMaps.{KnowsRules};
 ghost use Rattle.front_analysis.specs.Names.{grammar_of};
 ghost use Rattle.front_analysis.specs.Nodes.{all_nodes};
@@ -20,14 +21,14 @@ ghost use Rattle.front_validator.specs.Reporting.{AreSpans, finding_of, findings
 ghost use Rattle.front_validator.specs.Searching.{ordered, called_in, inside_of, cost, unentered, IsSearch, IsGoing, IsIdle, IsSearchResult, IsClosing, NeverComesBack};
 
 use crate::cycles::{falls_from, has_no_cycle};
-use crate::findings::{Finding, kind_of_node};
+use crate::findings::kind_of_node;
 use crate::flags::Flags;
 use crate::levels::left_levels;
 use crate::passing::passing;
+use crate::problems::{RuleFinding, RuleProblem};
 use base_graphs::is_set;
 use base_language::runtime::Span;
 use front_analysis::{Facts, Names, NodeKind, rule_of_name};
-use front_names::{arrow, left_recursion};
 use front_spanned::ParserRule;
 use std::alloc::{AllocError, Global};
 use std::mem;
@@ -294,53 +295,34 @@ fn find_trail(
     Ok(found)
 }
 
-/// Adds the name of the rule at an index, if there is one, and an arrow.
-fn push_arrow<'i>(
-    text: &mut String,
-    rules: &[ParserRule<'i>],
-    place: usize,
-) -> Result<(), AllocError>
-    ensures { OnOk result (string_bytes text.new ≡ string_bytes text.old
-        ++ (name_at (slice_get (rule_views rules.now) place) ++ spec.arrow)) }
+/// Returns the name of the rule at an index, if there is one.
+fn name_of<'r>(rules: &'r [ParserRule<'_>], place: usize) -> &'r str
+    ensures { result.now ≡ name_at (slice_get (rule_views rules.entry.now) place) }
 {
-    if place < rules.len() {
-        text.push_str(rules[place].name.as_str())?;
+    match rules.get(place) {
+        Some(rule) => rule.name.as_str(),
+        None => "",
     }
-    text.push_str(arrow())?;
-    Ok(())
 }
 
-/// Returns the names of the rules of a trail, with an arrow after every name.
-fn arrows_of<'i>(
+/// Returns the names of the rules of a trail, and that of the first again.
+fn cycle_of(
     alloc: Global,
-    rules: &[ParserRule<'i>],
+    rules: &[ParserRule<'_>],
     trail: &[usize],
-) -> Result<String, AllocError>
-    ensures { IfOk result (λ text. string_bytes text ≡ arrows (rule_views rules.now) trail.now) }
+    first: &str,
+) -> Result<Vec<String>, AllocError>
+    ensures { IfOk result (λ names. join_by string_bytes spec.arrow names.items
+        ≡ arrows (rule_views rules.now) trail.now ++ first.now) }
 {
-    let mut text = String::new(alloc);
+    let mut names = Vec::new(alloc);
     for rule in trail {
-        push_arrow(&mut text, rules, *rule)?;
+        let name = String::from_str(alloc, name_of(rules, *rule))?;
+        names.push(name)?;
     }
-    Ok(text)
-}
-
-/// Returns the message of a call that closes a trail: the call as it is written, and the names of the
-/// trail up to that of the first rule again.
-fn recursion_message<'i>(
-    alloc: Global,
-    rules: &[ParserRule<'i>],
-    call: Span<'i>,
-    trail: &[usize],
-    first: &ParserRule<'i>,
-) -> Result<String, AllocError>
-    ensures { IfOk result (λ message. string_bytes message
-        ≡ trail_message (rule_views rules.now) (rule_view first.now)
-        (record { trail = trail.now; call = piece_of call.entry })) }
-{
-    let mut cycle = arrows_of(alloc, rules, trail)?;
-    cycle.push_str(first.name.as_str())?;
-    left_recursion(alloc, call.as_str(), cycle.as_str())
+    let last = String::from_str(alloc, first)?;
+    names.push(last)?;
+    Ok(names)
 }
 
 /// Reports whether the rule at an index is the last of its name.
@@ -388,7 +370,7 @@ fn recursion_at<'i>(
     spans: &[Span<'i>],
     place: usize,
     walk: &mut Walk,
-) -> Result<Option<Finding<'i>>, AllocError>
+) -> Result<Option<RuleFinding<'i>>, AllocError>
     requires guide { IsGuide guide }
     requires spans { AreSpans guide.rules.now spans.now }
     requires inside { place < length guide.rules.now }
@@ -407,15 +389,12 @@ fn recursion_at<'i>(
     match find_trail(alloc, guide, place, walk)? {
         None => Ok(None),
         Some(closed) => {
-            let span = spans[closed.call];
-            let message = recursion_message(
-                alloc,
-                rules,
-                span,
-                closed.trail.as_slice(),
-                &rules[place],
-            )?;
-            Ok(Some(Finding { message, span }))
+            let first = rules[place].name.as_str();
+            let cycle = cycle_of(alloc, rules, closed.trail.as_slice(), first)?;
+            Ok(Some(RuleFinding {
+                problem: RuleProblem::LeftRecursion(cycle),
+                span: spans[closed.call],
+            }))
         }
     }
 }
@@ -427,7 +406,7 @@ fn closed_trails<'i>(
     names: &Names,
     facts: &Facts,
     spans: &[Span<'i>],
-) -> Result<Vec<Finding<'i>>, AllocError>
+) -> Result<Vec<RuleFinding<'i>>, AllocError>
     requires known { KnowsRules rules.now names.now }
     requires facts { AreFacts rules.now facts.now }
     requires spans { AreSpans rules.now spans.now }
@@ -466,7 +445,7 @@ pub(crate) fn recursions<'i>(
     names: &Names,
     facts: &Facts,
     spans: &[Span<'i>],
-) -> Result<Vec<Finding<'i>>, AllocError>
+) -> Result<Vec<RuleFinding<'i>>, AllocError>
     requires known { KnowsRules rules.now names.now }
     requires facts { AreFacts rules.now facts.now }
     requires spans { AreSpans rules.now spans.now }

@@ -10,25 +10,27 @@ ghost use Rattle.front_analysis.specs.Analysis.{IsAnalysis};
 ghost use Rattle.front_analysis.specs.Names.{grammar_of};
 ghost use Rattle.front_validator.specs.Reporting.{finding_of, findings_of};
 
-use crate::findings::{Finding, choices, repetitions, skips, spans_of};
+use crate::findings::{choices, repetitions, skips, spans_of};
+use crate::problems::{LoopBody, RuleFinding, RuleProblem};
 use crate::recursions::recursions;
 use crate::tags::tags;
 use base_language::grammar::Rule;
 use base_language::runtime::{Error, ErrorVariant, Fault, Span, Survey};
 use front_analysis::Analysis;
-use front_names::{Message, repeated_expression};
 use std::alloc::{AllocError, Global};
 
 /// Makes the findings of repetitions that are known to be endless.
-fn endless_findings<'i>(alloc: Global, endless: &[Span<'i>]) -> Result<Vec<Finding<'i>>, AllocError>
+fn endless_findings<'i>(
+    alloc: Global,
+    endless: &[Span<'i>],
+) -> Result<Vec<RuleFinding<'i>>, AllocError>
     ensures { IfOk result (λ found.
         findings_of found.items ≡ map endless_at (map piece_of endless.now)) }
 {
     let mut found = Vec::new(alloc);
     for span in endless {
-        let message = Message::NonProgressing.about(alloc, repeated_expression())?;
-        found.push(Finding {
-            message,
+        found.push(RuleFinding {
+            problem: RuleProblem::NonProgressing(LoopBody::Expression),
             span: *span,
         })?;
     }
@@ -41,7 +43,7 @@ fn all_findings<'i>(
     alloc: Global,
     groundwork: &Analysis<'_, 'i>,
     endless: &[Span<'i>],
-) -> Result<Vec<Finding<'i>>, AllocError>
+) -> Result<Vec<RuleFinding<'i>>, AllocError>
     requires groundwork { IsAnalysis groundwork.now }
     ensures found { IfOk result (λ found.
         AreFound (rule_views groundwork.now.grammar.rules.now)
@@ -68,9 +70,9 @@ fn all_findings<'i>(
 
 /// Appends other findings.
 fn append_findings<'i>(
-    found: Vec<Finding<'i>>,
-    others: Vec<Finding<'i>>,
-) -> Result<Vec<Finding<'i>>, AllocError>
+    found: Vec<RuleFinding<'i>>,
+    others: Vec<RuleFinding<'i>>,
+) -> Result<Vec<RuleFinding<'i>>, AllocError>
     ensures { IfOk result (λ all.
         findings_of all.items ≡ findings_of found.entry.items ++ findings_of others.entry.items) }
 {
@@ -81,19 +83,20 @@ fn append_findings<'i>(
 }
 
 /// Sorts findings by their spans. The sort is stable.
-fn sort_by_span<'i>(found: &mut Vec<Finding<'i>>) -> Result<(), AllocError>
+fn sort_by_span<'i>(found: &mut Vec<RuleFinding<'i>>) -> Result<(), AllocError>
     ensures { OnOk result (IsSortedBySpan (findings_of found.old.items) (findings_of found.new.items)) }
 {
     found.sort_by_key(|finding| (finding.span.start(), finding.span.end()))?;
     Ok(())
 }
 
-/// Collects all findings in rules, sorted by span.
-pub(crate) fn sorted_findings<'i>(
+/// Collects all findings in rules, given the shared analysis of the rules: those that the errors of
+/// `validate_rules` tell of, in the order of these. The only error is an allocation failure.
+pub fn findings_in<'i>(
     alloc: Global,
     groundwork: &Analysis<'_, 'i>,
     endless: &[Span<'i>],
-) -> Result<Vec<Finding<'i>>, AllocError>
+) -> Result<Vec<RuleFinding<'i>>, AllocError>
     requires groundwork { IsAnalysis groundwork.now }
     ensures found { IfOk result (λ sorted.
         AreAllFound (rule_views groundwork.now.grammar.rules.now)
@@ -110,20 +113,20 @@ pub(crate) fn sorted_findings<'i>(
 fn error_of<'i>(
     alloc: Global,
     survey: &mut Survey<'_>,
-    finding: &Finding<'i>,
+    finding: &RuleFinding<'i>,
 ) -> Result<Error<Rule>, Fault>
     ensures tells { IfOk result (λ error.
         IsErrorAt (finding_of finding.now).message (finding_of finding.now).span error) }
     ensures memory { IfErr result (λ fault. fault ≡ Fault.Memory alloc_error) }
 {
-    let message = String::from_str(alloc, finding.message.as_str())?;
+    let message = finding.message(alloc)?;
     let variant = ErrorVariant::CustomError { message };
     let error = Error::new_where_surveyed(alloc, variant, survey, finding.span)?;
     Ok(error)
 }
 
 /// Returns the text of the first finding, which is that of all of them where they are in one text.
-fn first_text<'i>(found: &[Finding<'i>]) -> &'i str {
+fn first_text<'i>(found: &[RuleFinding<'i>]) -> &'i str {
     match found.first() {
         Some(finding) => finding.span.get_input(),
         None => "",
@@ -131,7 +134,10 @@ fn first_text<'i>(found: &[Finding<'i>]) -> &'i str {
 }
 
 /// Makes the errors that report findings, in their order.
-pub(crate) fn errors_of<'i>(alloc: Global, found: &[Finding<'i>]) -> Result<Vec<Error<Rule>>, Fault>
+pub(crate) fn errors_of<'i>(
+    alloc: Global,
+    found: &[RuleFinding<'i>],
+) -> Result<Vec<Error<Rule>>, Fault>
     ensures told { IfOk result (λ errors. AreErrorsFor (findings_of found.now) errors.items) }
     ensures memory { IfErr result (λ fault. fault ≡ Fault.Memory alloc_error) }
 {
@@ -148,7 +154,7 @@ pub(crate) fn errors_of<'i>(alloc: Global, found: &[Finding<'i>]) -> Result<Vec<
 fn error_in<'i>(
     alloc: Global,
     survey: &mut Survey<'_>,
-    finding: &Finding<'i>,
+    finding: &RuleFinding<'i>,
 ) -> Result<Error<Rule>, Fault>
     requires in_text { span_text finding.now.span ≡ survey_text survey.old }
     ensures tells { IfOk result (λ error.
@@ -156,16 +162,17 @@ fn error_in<'i>(
     ensures survey { survey_text survey.new ≡ survey_text survey.old }
     ensures memory { IfErr result (λ fault. fault ≡ Fault.Memory alloc_error) }
 {
-    let message = String::from_str(alloc, finding.message.as_str())?;
+    let message = finding.message(alloc)?;
     let variant = ErrorVariant::CustomError { message };
     Error::new_in_survey(alloc, variant, survey, finding.span)
 }
 
-/// Makes the errors of `errors_of` where all findings are in one text, which the survey walks over once.
-pub(crate) fn errors_in<'i>(
+/// Makes the errors that tell of findings in one text, in their order. The only fault is an allocation
+/// failure.
+pub fn errors_in<'i>(
     alloc: Global,
     text: &str,
-    found: &[Finding<'i>],
+    found: &[RuleFinding<'i>],
 ) -> Result<Vec<Error<Rule>>, Fault>
     requires in_text { All (λ f. f.span.text ≡ text.now) (findings_of found.now) }
     ensures told { IfOk result (λ errors. AreErrorsFor (findings_of found.now) errors.items) }

@@ -1,18 +1,19 @@
 //! Tags on pieces that give no token.
-ghost use Rattle.std.specs.Prelude.{◌≡◌, ◌++◌, IfOk, OnOk, Option};
+ghost use Rattle.std.specs.Prelude.{◌≡◌, ◌++◌, ℕ, IfOk, List, OnOk, Option};
 ghost use Rattle.std.specs.Option.{option_map};
 ghost use Rattle.base_ast.specs.Ast.{text_of};
 ghost use Rattle.base_language.specs.Language.Expression.{rule_of};
 ghost use Rattle.front_spanned.specs.Nodes.{rule_views, view};
 ghost use Rattle.front_analysis.specs.NameMaps.{KnowsRules};
 ghost use Rattle.front_analysis.specs.Names.{grammar_of, rule_said};
+ghost use Rattle.front_validator.specs.Problems.{message_of};
 ghost use Rattle.front_validator.specs.Reporting.{findings_of};
 ghost use Rattle.front_validator.specs.Tags as spec;
 
-use crate::findings::Finding;
+use crate::problems::{RuleFinding, RuleProblem};
 use base_ast::ast::RuleType;
 use front_analysis::{Names, rule_of_name};
-use front_names::{is_builtin, tag_on_builtin, tag_on_silent_rule};
+use front_names::is_builtin;
 use front_spanned::{ParserExpr, ParserNode, ParserRule, push_operands};
 use std::alloc::{AllocError, Global};
 
@@ -21,7 +22,7 @@ pub(crate) fn tags<'i>(
     alloc: Global,
     rules: &[ParserRule<'i>],
     names: &Names,
-) -> Result<Vec<Finding<'i>>, AllocError>
+) -> Result<Vec<RuleFinding<'i>>, AllocError>
     requires { KnowsRules rules.now names.now }
     ensures { IfOk result (λ found. findings_of found.items ≡ spec.of_tags (rule_views rules.now)) }
 {
@@ -38,7 +39,7 @@ fn add_of_body<'i>(
     rules: &[ParserRule<'i>],
     names: &Names,
     body: &ParserNode<'i>,
-    found: &mut Vec<Finding<'i>>,
+    found: &mut Vec<RuleFinding<'i>>,
 ) -> Result<(), AllocError>
     requires { KnowsRules rules.now names.now }
     ensures { OnOk result (findings_of found.new.items
@@ -47,7 +48,7 @@ fn add_of_body<'i>(
     let mut stack = Vec::new(alloc);
     stack.push(body)?;
     while let Some(next) = stack.pop() {
-        add_of_node(alloc, rules, names, next, found)?;
+        add_of_node(rules, names, next, found)?;
         push_operands(next, &mut stack)?;
     }
     Ok(())
@@ -55,61 +56,59 @@ fn add_of_body<'i>(
 
 /// Adds the findings of a node as a tag.
 fn add_of_node<'i>(
-    alloc: Global,
     rules: &[ParserRule<'i>],
     names: &Names,
     node: &ParserNode<'i>,
-    found: &mut Vec<Finding<'i>>,
+    found: &mut Vec<RuleFinding<'i>>,
 ) -> Result<(), AllocError>
     requires { KnowsRules rules.now names.now }
     ensures { OnOk result (findings_of found.new.items
         ≡ findings_of found.old.items ++ spec.of_tag (grammar_of rules.now) (view node.now)) }
 {
-    if let Some(message) = message_of(rules, names, node) {
-        let message = String::from_str(alloc, message)?;
+    if let Some(problem) = problem_of(rules, names, node) {
         let span = node.span;
-        found.push(Finding { message, span })?;
+        found.push(RuleFinding { problem, span })?;
     }
     Ok(())
 }
 
-/// Returns the message of a node as a tag, if it is wrong.
-fn message_of<'i>(
+/// Returns what is wrong with a node as a tag.
+fn problem_of<'i>(
     rules: &[ParserRule<'i>],
     names: &Names,
     node: &ParserNode<'i>,
-) -> Option<&'static str>
+) -> Option<RuleProblem>
     requires { KnowsRules rules.now names.now }
-    ensures { option_map (λ message. message.now) result
+    ensures { (text : List ℕ) → option_map (λ problem. message_of problem text) result
         ≡ spec.message_at (grammar_of rules.now) (view node.now) }
 {
     match &node.expr {
         ParserExpr::NodeTag(inner, _) => match name_within(inner) {
-            Some(name) => message_of_name(rules, names, name),
+            Some(name) => problem_of_name(rules, names, name),
             None => None,
         },
         _ => None,
     }
 }
 
-/// Returns the message of a tag on a name, if it is wrong.
-fn message_of_name<'i>(
+/// Returns what is wrong with a tag on a name.
+fn problem_of_name<'i>(
     rules: &[ParserRule<'i>],
     names: &Names,
     name: &String,
-) -> Option<&'static str>
+) -> Option<RuleProblem>
     requires { KnowsRules rules.now names.now }
-    ensures { option_map (λ message. message.now) result
+    ensures { (text : List ℕ) → option_map (λ problem. message_of problem text) result
         ≡ spec.of_name (grammar_of rules.now) (Option.Some (text_of name.now)) }
 {
     match rule_named(rules, names, name) {
         Some(rule) => match rule.ty {
-            RuleType::Silent => Some(tag_on_silent_rule()),
+            RuleType::Silent => Some(RuleProblem::TagOnSilentRule),
             _ => None,
         },
         None => {
             if is_builtin(name.as_str()) {
-                Some(tag_on_builtin())
+                Some(RuleProblem::TagOnBuiltin)
             } else {
                 None
             }

@@ -3,15 +3,13 @@ ghost use Rattle.std.specs.Prelude.{◌≡◌, ◌↔◌, [], IsTrue, IfOk, IfEr
 ghost use Rattle.base_language.specs.Language.WellFormed.{IsNullable, CannotFail, IsWellFormed};
 ghost use Rattle.front_spanned.specs.Erasure.{without_spans, rules_without_spans};
 ghost use Rattle.front_spanned.specs.Nodes.{piece_of, rule_views, unplaced};
-ghost use Rattle.front_validator.specs.Findings.{AreAllFound};
 ghost use Rattle.front_analysis.specs.Analysis.{IsAnalysis};
 ghost use Rattle.front_analysis.specs.Names.{grammar_of};
 ghost use Rattle.front_validator.specs.Placed.{AreIn, ArePiecesOf};
 ghost use Rattle.front_validator.specs.Reported.{AreReported};
-ghost use Rattle.front_validator.specs.Reporting.{findings_of};
 
-use crate::findings::Finding;
-use crate::reported::{errors_in, errors_of, sorted_findings};
+use crate::reported::errors_of;
+pub use crate::reported::{errors_in, findings_in};
 use base_language::grammar::Rule;
 use base_language::runtime::{Error, Fault, Span};
 use front_analysis::{Analysis, Question, analyze, answer_for};
@@ -48,23 +46,6 @@ pub fn is_non_failing<'i>(
     ensures memory { IfErr result (λ fault. fault ≡ Fault.Memory alloc_error) }
 {
     Ok(answer_for(alloc, expr, rules.as_slice(), Question::CannotFail)?)
-}
-
-/// Collects all findings in rules, sorted by span. The only fault is an allocation failure.
-fn findings_in<'i>(
-    alloc: Global,
-    groundwork: &Analysis<'_, 'i>,
-    endless: &[Span<'i>],
-) -> Result<Vec<Finding<'i>>, Fault>
-    requires groundwork { IsAnalysis groundwork.now }
-    ensures found { IfOk result (λ found.
-        AreAllFound (rule_views groundwork.now.grammar.rules.now)
-        (map piece_of endless.now) (findings_of found.items)) }
-    ensures accepted { IfOk result (λ found. findings_of found.items ≡ []
-        → IsWellFormed (grammar_of groundwork.now.grammar.rules.now)) }
-    ensures memory { IfErr result (λ fault. fault ≡ Fault.Memory alloc_error) }
-{
-    Ok(sorted_findings(alloc, groundwork, endless)?)
 }
 
 /// Returns the errors in rules, sorted by span (at one span repetitions, then those of `endless`, then

@@ -28,3 +28,4 @@ pub mod RestoresAll
 pub mod EachNode
 pub mod Optimizes
 pub mod Accepted
+pub mod Opens

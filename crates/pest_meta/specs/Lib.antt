@@ -1,5 +1,6 @@
 pub mod Findings
 pub mod Laws
+pub mod Opening
 pub mod Promises
 pub mod Reports
 pub mod Spelling

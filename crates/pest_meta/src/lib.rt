@@ -3,6 +3,7 @@
 
 pub mod ast;
 pub mod laws;
+mod opened;
 pub mod parser;
 mod report;
 mod spanned;
@@ -25,6 +26,7 @@ pub use base_language::runtime;
 use front_names::collect_builtins;
 pub use front_optimizer as optimizer;
 pub use front_syntax::grammar;
+pub use opened::{OpenError, OpenGrammar, open, open_unvalidated};
 use optimizer::OptimizedRule;
 use parser::{PestParser, consume_rules};
 pub use report::{Report, unwrap_or_report};

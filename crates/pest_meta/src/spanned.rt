@@ -9,10 +9,9 @@ ghost use Rattle.front_spanned.specs.Nodes.{rule_views};
 ghost use Rattle.pest_meta.specs.Spelling.{IsAnswer, IsRefusal};
 ghost use Rattle.pest_meta.specs.WithSpans.{SpellsWithSpans};
 
-use crate::parser::{ParserRule, PestParser, consume_valid_rules};
-use base_language::grammar::Rule;
+use crate::opened::open;
+use crate::parser::ParserRule;
 use base_language::runtime::Fault;
-use front_names::collect_builtins;
 use front_optimizer::{OptimizedRule, optimize};
 use front_spanned::erase_spans;
 use std::alloc::Global;
@@ -28,10 +27,10 @@ pub fn parse_with_spans<'i>(
         SpellsWithSpans grammar.entry.now answer.0.items (rule_views answer.1.items)) }
     ensures refused { IfErr result (IsRefusal grammar.entry.now) }
 {
-    let pairs = PestParser::parse(alloc, Rule::grammar_rules, grammar)?;
-    let builtins = collect_builtins(alloc, &pairs)?;
-    let rules = consume_valid_rules(alloc, pairs)?;
-    Ok((builtins, rules))
+    match open(alloc, grammar) {
+        Ok(opened) => Ok((opened.builtins, opened.rules.into_inner())),
+        Err(error) => Err(Fault::Grammar(error.into_errors(alloc, grammar)?)),
+    }
 }
 
 /// Returns the optimized rules of rules with spans. The rules that `parse_with_spans` returns for a text give

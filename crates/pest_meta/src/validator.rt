@@ -5,7 +5,8 @@ ghost use Rattle.front_spanned.specs.Erasure.{rules_without_spans};
 ghost use Rattle.front_spanned.specs.Nodes.{rule_views};
 ghost use Rattle.front_stack_loops.specs.Certain.{AreReports};
 ghost use Rattle.front_validator.specs.Placed.{AreIn};
-ghost use Rattle.pest_meta.specs.Findings.{AreErrorsOfFindings};
+ghost use Rattle.front_validator.specs.Reporting.{findings_of};
+ghost use Rattle.pest_meta.specs.Findings.{AreErrorsOfFindings, AreFindings};
 
 use base_language::grammar::Rule;
 use base_language::runtime::{Error, Fault};
@@ -17,9 +18,10 @@ pub use front_names::{
 use front_spanned::ParserRule;
 use front_stack_loops::sorted_reports_in;
 pub use front_stack_loops::validate_stack_repetition;
-use front_validator::validator::{validate_by, validate_by_in};
+use front_validator::RuleFinding;
+use front_validator::validator::{findings_in, validate_by, validate_by_in};
 pub use front_validator::validator::{is_non_failing, is_non_progressing};
-use std::alloc::Global;
+use std::alloc::{AllocError, Global};
 
 /// Returns the errors in rules, ordered by the start of their spans and then by the end, in bytes (at one
 /// span repetitions, then those that never end because of the stack, then choices, then skipped rules, then
@@ -72,4 +74,20 @@ pub fn validate_ast_in<'i>(
     let groundwork = analyze(alloc, rules.as_slice())?;
     let endless = sorted_reports_in(alloc, &groundwork)?;
     validate_by_in(alloc, text, &groundwork, endless.as_slice())
+}
+
+/// Collects the findings in rules that the errors of `validate_ast` tell of, in the order of these. The only
+/// error is an allocation failure.
+pub fn find_in_rules<'i>(
+    alloc: Global,
+    rules: &Vec<ParserRule<'i>>,
+) -> Result<Vec<RuleFinding<'i>>, AllocError>
+    ensures found { IfOk result (λ found.
+        AreFindings (rule_views rules.now.items) (findings_of found.items)) }
+    ensures accepted { IfOk result (λ found. findings_of found.items ≡ []
+        → IsWellFormed (rules_without_spans (rule_views rules.now.items))) }
+{
+    let groundwork = analyze(alloc, rules.as_slice())?;
+    let endless = sorted_reports_in(alloc, &groundwork)?;
+    findings_in(alloc, &groundwork, endless.as_slice())
 }

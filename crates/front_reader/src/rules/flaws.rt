@@ -10,7 +10,7 @@ use base_language::runtime::{Error, ErrorVariant, Fault, Span};
 use std::alloc::{AllocError, AllocFailed, Global};
 
 /// The reason why a piece of a grammar's text is wrong.
-#[derive(Clone, Copy)]
+#[derive(Clone, Copy, Debug, PartialEq, Eq)]
 pub enum Cause {
     /// An escape in a literal is no Unicode scalar value.
     NoScalarValue,
@@ -52,24 +52,26 @@ impl<T: Drop> From<AllocFailed<T>> for ReadError<'_> {
     }
 }
 
-/// Returns the message of a flaw's error.
-fn message(cause: Cause) -> &'static str
-    ensures { result.now ≡ cause_message (cause_of cause) }
-{
-    match cause {
-        Cause::NoScalarValue => "escape is not a Unicode scalar value",
-        Cause::PastI32 => "number cannot overflow i32",
-        Cause::PastU32 => "number cannot overflow u32",
-        Cause::ZeroTimes => "cannot repeat 0 times",
+impl Cause {
+    /// Returns the message of the error of such a flaw.
+    pub fn message(self) -> &'static str
+        ensures { result.now ≡ cause_message (cause_of self) }
+    {
+        match self {
+            Cause::NoScalarValue => "escape is not a Unicode scalar value",
+            Cause::PastI32 => "number cannot overflow i32",
+            Cause::PastU32 => "number cannot overflow u32",
+            Cause::ZeroTimes => "cannot repeat 0 times",
+        }
     }
 }
 
 /// Makes the list of the one error that reports a flaw. The only fault is an allocation failure.
-fn errors(alloc: Global, flaw: Flaw<'_>) -> Result<Vec<Error<Rule>>, Fault>
+pub fn flaw_errors(alloc: Global, flaw: Flaw<'_>) -> Result<Vec<Error<Rule>>, Fault>
     ensures one { IfOk result (λ errors. ReportsFlaw (flaw_of flaw.entry) errors.items) }
     ensures memory { IfErr result (λ fault. fault ≡ Fault.Memory alloc_error) }
 {
-    let message = String::from_str(alloc, message(flaw.cause))?;
+    let message = String::from_str(alloc, flaw.cause.message())?;
     let variant = ErrorVariant::CustomError { message };
     let error = Error::new_from_span(alloc, variant, flaw.span)?;
     Ok(vec![in alloc; error]?)
@@ -84,7 +86,7 @@ pub fn refusal(alloc: Global, error: ReadError<'_>) -> Fault
         ReadError::Memory(error) => return error.into(),
         ReadError::Found(flaw) => flaw,
     };
-    match errors(alloc, flaw) {
+    match flaw_errors(alloc, flaw) {
         Ok(errors) => Fault::Grammar(errors),
         Err(fault) => fault,
     }

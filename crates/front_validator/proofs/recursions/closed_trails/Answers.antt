@@ -5,7 +5,7 @@ use Rattle.front_spanned.specs.Nodes.{rule_views}
 use Rattle.front_validator.specs.Findings.{Reports, reports_none, OfRecursion}
 use Rattle.front_validator.specs.Reporting.{finding_of, findings_of}
 use Rattle.front_validator.specs.Searching.{NeverComesBack}
-use Rattle.front_validator.specs.declared.findings.Finding as code
+use Rattle.front_validator.specs.declared.problems.RuleFinding as code
 use Rattle.front_validator.proofs.EmptyLemmas.{empty_second}
 use Rattle.front_validator.proofs.RecursionLemmas.{place_more, all_below}
 use Rattle.front_validator.proofs.recursions.closed_trails.Goals as goal
@@ -53,7 +53,7 @@ loop-place-preserved c =
     let inv = c.loop-place.invariant in
     let old = findings_of c.loop-place.found.items in
     let told = c.in_ok-recursion_at.ensures in
-    let some = subst (λ o. IfSome o (λ (f : code.Finding). OfRecursion (rule_views rs) i (finding_of f ∷ []))) c.in-Some.is told.some in
+    let some = subst (λ o. IfSome o (λ (f : code.RuleFinding). OfRecursion (rule_views rs) i (finding_of f ∷ []))) c.in-Some.is told.some in
     let f = c.in-Some.finding in
     let new = findings_of c.push.new.self.items in
     let grown : new ≡ old ++ finding_of f ∷ [] = ap (λ z. findings_of z) c.in_ok-push-in-Some.ensures.items ∙ map-append finding_of c.loop-place.found.items (f ∷ []) in

@@ -1,0 +1,164 @@
+//! A grammar that is opened once: its pairs, builtins and rules, or why it is refused, as data.
+ghost use Rattle.std.specs.Prelude.{[], ◌≡◌, IfErr, IfOk, None};
+ghost use Rattle.base_language.specs.Pieces.Faults.{IsMemory};
+ghost use Rattle.front_names.specs.GrammarNames.{AreWrittenAt, complaints_of, first_calls_of};
+ghost use Rattle.front_reader.specs.Refusals.{AreReadAs, first_flaw_of};
+ghost use Rattle.front_spanned.specs.Nodes.{rule_views};
+ghost use Rattle.front_syntax.specs.Parses.{ParseRefuses};
+ghost use Rattle.base_language.specs.declared.grammar.Rule.TheVariants.{grammar_rules};
+ghost use Rattle.pest_meta.specs.Opening.{AreErrorsOf, ArePairsOf, IsOpenError, IsUnvalidatedError, of_names, of_read};
+ghost use Rattle.pest_meta.specs.Spelling.{IsRefusedWith};
+ghost use Rattle.pest_meta.specs.WithSpans.{SpellsWithSpans};
+
+use crate::parser::{ParserRule, PestParser};
+use crate::validator::find_in_rules;
+use base_ast::deep::Deep;
+use base_language::grammar::Rule;
+use base_language::runtime::{Error, Fault, Pairs};
+use front_names::{NameError, NameFinding, check_names, name_errors};
+use front_reader::rules::{Flaw, ReadError, flaw_errors, read_rules};
+use front_validator::RuleFinding;
+use front_validator::validator::errors_in;
+use std::alloc::{AllocError, Global};
+
+/// What was made of the text of a grammar.
+#[derive(Drop)]
+pub struct OpenGrammar<'i> {
+    /// All pairs of the text.
+    pub pairs: Pairs<'i, Rule>,
+    /// The builtins that it uses, as `validator::validate_pairs` returns them.
+    pub builtins: Vec<&'i str>,
+    /// Its rules, as `parser::consume_rules_with_spans` returns them.
+    pub rules: Deep<Vec<ParserRule<'i>>>,
+}
+
+/// Why a grammar is not opened. `parse_and_optimize` reports the same by errors.
+#[derive(Drop)]
+pub enum OpenError<'i> {
+    /// Allocation failure.
+    Memory(AllocError),
+    /// The text is no grammar: the syntax error.
+    Syntax(Error<Rule>),
+    /// Names are not in order: all findings about them, in the order of the errors.
+    Names(Vec<NameFinding<'i>>),
+    /// The text cannot be read as rules: its first flaw.
+    Flaw(Flaw<'i>),
+    /// The rules are wrong: all findings in them, in the order of the errors.
+    Rules(Vec<RuleFinding<'i>>),
+}
+
+/// Opens the grammar of a text, with rules in which nothing is found. It is refused for the first of the
+/// reasons of `OpenError` that applies.
+pub fn open<'i>(alloc: Global, text: &'i str) -> Result<OpenGrammar<'i>, OpenError<'i>>
+    ensures pairs { IfOk result (λ opened. ArePairsOf text.entry.now opened.pairs) }
+    ensures rules { IfOk result (λ opened.
+        SpellsWithSpans text.entry.now opened.builtins.items (rule_views opened.rules.value.items)) }
+    ensures refused { IfErr result (IsOpenError text.entry.now) }
+{
+    let opened = open_unvalidated(alloc, text)?;
+    let findings = find_in_rules(alloc, &opened.rules.value)?;
+    if !findings.is_empty() {
+        return Err(OpenError::Rules(findings));
+    }
+    Ok(opened)
+}
+
+/// Opens the grammar of a text, whose rules may be wrong. It is refused as by `open`, but never for what is
+/// found in its rules.
+pub fn open_unvalidated<'i>(alloc: Global, text: &'i str) -> Result<OpenGrammar<'i>, OpenError<'i>>
+    ensures pairs { IfOk result (λ opened. ArePairsOf text.entry.now opened.pairs) }
+    ensures named { IfOk result (λ opened. complaints_of opened.pairs ≡ []) }
+    ensures builtins { IfOk result (λ opened.
+        AreWrittenAt (first_calls_of opened.pairs) opened.builtins.items) }
+    ensures rules { IfOk result (λ opened.
+        AreReadAs opened.pairs (rule_views opened.rules.value.items)) }
+    ensures flawless { IfOk result (λ opened. first_flaw_of opened.pairs ≡ None) }
+    ensures refused { IfErr result (IsUnvalidatedError text.entry.now) }
+{
+    let pairs = parse_pairs(alloc, text)?;
+    let builtins = check_names(alloc, &pairs)?;
+    let rules = read_rules(alloc, &pairs)?;
+    Ok(OpenGrammar {
+        pairs,
+        builtins,
+        rules: Deep { value: rules },
+    })
+}
+
+/// Parses the text of a grammar.
+fn parse_pairs<'i>(alloc: Global, text: &'i str) -> Result<Pairs<'i, Rule>, OpenError<'i>>
+    ensures pairs { IfOk result (ArePairsOf text.entry.now) }
+    ensures refused { IfErr result (IsUnvalidatedError text.entry.now) }
+{
+    match PestParser::parse(alloc, Rule::grammar_rules, text) {
+        Ok(pairs) => Ok(pairs),
+        Err(fault) => Err(syntax_error(text, fault)),
+    }
+}
+
+/// Returns why a text is not opened for which a parse has this fault.
+fn syntax_error<'i>(text: &'i str, fault: Fault) -> OpenError<'i>
+    requires { ParseRefuses grammar_rules text.now fault }
+    ensures { IsUnvalidatedError text.entry.now result }
+{
+    let mut errors = match fault {
+        Fault::Memory(error) => return OpenError::Memory(error),
+        Fault::Grammar(errors) => errors,
+    };
+    match errors.pop() {
+        Some(error) => OpenError::Syntax(error),
+        None => unreachable!(),
+    }
+}
+
+impl OpenError<'_> {
+    /// Makes the errors with which `parse_and_optimize` refuses the text that was not opened for this reason.
+    /// The only fault is an allocation failure.
+    pub fn into_errors(self, alloc: Global, text: &str) -> Result<Vec<Error<Rule>>, Fault>
+        requires { IsOpenError text.now self }
+        ensures made { IfOk result (λ errors. AreErrorsOf self.entry errors.items) }
+        ensures told { IfOk result (λ errors. IsRefusedWith text.now errors.items) }
+        ensures memory { IfErr result IsMemory }
+    {
+        match self {
+            OpenError::Memory(error) => Err(error.into()),
+            OpenError::Syntax(error) => Ok(vec![in alloc; error]?),
+            OpenError::Names(findings) => name_errors(alloc, text, &findings),
+            OpenError::Flaw(flaw) => flaw_errors(alloc, flaw),
+            OpenError::Rules(findings) => errors_in(alloc, text, &findings),
+        }
+    }
+}
+
+impl<'i> From<NameError<'i>> for OpenError<'i> {
+    ghost from_gives = { λ error opened. opened ≡ of_names error };
+
+    fn from(error: NameError<'i>) -> Self {
+        match error {
+            NameError::Memory(error) => OpenError::Memory(error),
+            NameError::Found(findings) => OpenError::Names(findings),
+        }
+    }
+}
+
+impl<'i> From<ReadError<'i>> for OpenError<'i> {
+    ghost from_gives = { λ error opened. opened ≡ of_read error };
+
+    fn from(error: ReadError<'i>) -> Self {
+        match error {
+            ReadError::Memory(error) => OpenError::Memory(error),
+            ReadError::Found(flaw) => OpenError::Flaw(flaw),
+        }
+    }
+}
+
+impl From<AllocError> for OpenError<'_> {
+    ghost use Rattle.std.specs.Prelude.{◌≡◌, alloc_error};
+    ghost use Rattle.pest_meta.specs.declared.opened.OpenError.TheVariants.{Memory};
+
+    ghost from_gives = { λ _ error. error ≡ Memory alloc_error };
+
+    fn from(error: AllocError) -> Self {
+        OpenError::Memory(error)
+    }
+}
