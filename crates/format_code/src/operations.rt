@@ -1,5 +1,6 @@
 //! Operations as bytes.
-ghost use Rattle.std.specs.Prelude.{◌≡◌, IfOk, flat_map, length};
+ghost use Rattle.std.specs.Prelude.{◌≡◌, IfOk, flat_map, length, true};
+ghost use Rattle.format_code.specs.Kinds.{uses_stack};
 ghost use Rattle.matcher_code.specs.Operations.{op_of, ops_in};
 ghost use Rattle.matcher_code.specs.Words.{words_in};
 ghost use Rattle.matcher_code.specs.declared.code.Op.TheVariants as op;
@@ -46,6 +47,34 @@ fn words_of(op: Op) -> [u32; 5]
         Op::End { next, fail } => [19, next, fail, 0, 0],
         Op::Open { row, next } => [20, row, next, 0, 0],
         Op::Close { next } => [21, next, 0, 0, 0],
+        Op::Push { .. }
+        | Op::PushText { .. }
+        | Op::Peek { .. }
+        | Op::Pop { .. }
+        | Op::Discard { .. }
+        | Op::PeekAll { .. }
+        | Op::PopAll { .. }
+        | Op::Slice { .. } => stack_words(op),
+        Op::Halt => [31, 0, 0, 0, 0],
+        Op::Not { next, fail } => [32, next, fail, 0, 0],
+        Op::Miss { row, next } => [33, row, next, 0, 0],
+        Op::Nested {
+            opening,
+            closing,
+            next,
+            fail,
+        } => [34, opening, closing, next, fail],
+        Op::Lose => [255, 0, 0, 0, 0],
+    }
+}
+
+/// Returns the five words of an operation on the stack.
+fn stack_words(op: Op) -> [u32; 5]
+    requires { uses_stack op ≡ true }
+    ensures same { op_of result ≡ op }
+    ensures five { length result ≡ 5 }
+{
+    match op {
         Op::Push { next } => [22, next, 0, 0, 0],
         Op::PushText { text, next } => [23, text, next, 0, 0],
         Op::Peek { next, fail } => [24, next, fail, 0, 0],
@@ -59,10 +88,7 @@ fn words_of(op: Op) -> [u32; 5]
             next,
             fail,
         } => slice_words(from, to, next, fail),
-        Op::Halt => [31, 0, 0, 0, 0],
-        Op::Not { next, fail } => [32, next, fail, 0, 0],
-        Op::Miss { row, next } => [33, row, next, 0, 0],
-        Op::Lose => [255, 0, 0, 0, 0],
+        _ => unreachable!(),
     }
 }
 

@@ -11,13 +11,13 @@ use Rattle.matcher_code.specs.Lists.{CodeLists}
 use Rattle.matcher_code.specs.declared.code.Op.TheVariants as op
 use Rattle.matcher_code.specs.Laid.{IsPoint, Point}
 use Rattle.front_code.specs.Codes.{IsCodeOfMetaGrammar, IsExactCode, exact_sets, texts}
-use Rattle.front_code.specs.Layouts.{AreLaidAll, also, done, rep_once, seq}
+use Rattle.front_code.specs.Layouts.{AreLaidAll, also, done, rep_min_max, rep_once, seq}
 use Rattle.front_code.specs.Numbers.{number_of}
 use Rattle.front_code.specs.declared.constants.TheConstants.{EXACT_OPS}
 use Rattle.front_code.proofs.Characters.{one_any, one_called, one_of_two, one_other, one_range, one_text}
 use Rattle.front_code.proofs.Flattening.{whole_code}
-use Rattle.front_code.proofs.Outside.{outside_choice, outside_seq, outside_set, outside_sub, outside_text, takes_other, takes_second}
-use Rattle.front_code.proofs.Shapes.{Laid, Setting, all_of, at_once, at_point, atomic, behind_all, between, calls, compound, digits, either, end, enters, gap, has_op, many, maybe, never, one_of, start, tested, tight_atomic, tight_between, tries, turns, within, word}
+use Rattle.front_code.proofs.Outside.{outside_choice, outside_seq, outside_set, outside_sub, outside_text, takes_other}
+use Rattle.front_code.proofs.Shapes.{Laid, Setting, all_of, at_once, at_point, atomic, behind_all, between, calls, comments, compound, either, end, enters, gap, has_op, many, maybe, never, one_of, start, tested, tight_atomic, tight_between, tries, turns, within, word}
 
 -- the calls of the rules from outside, and the bodies that are called
 pub called : List Point
@@ -161,7 +161,6 @@ called =
     ∷ record { task = Run AtomicMode (body_of rule.inner_str); label = 397; next = 398; way = 0; rank = 0 }
     ∷ record { task = Run AtomicMode (body_of rule.code); label = 403; next = 404; way = 0; rank = 0 }
     ∷ record { task = Run AtomicMode (body_of rule.unicode); label = 405; next = 406; way = 0; rank = 0 }
-    ∷ record { task = Run AtomicMode (body_of rule.block_comment); label = 449; next = 450; way = 0; rank = 0 }
     ∷ []
 
 at_grammar_rules_plain_apart : IsPoint called (Run NonAtomicMode (body_of rule.grammar_rules)) 72 73 0
@@ -455,10 +454,6 @@ at_code_atomic_apart = at_point called 137 refl refl
 at_unicode_atomic_apart : IsPoint called (Run AtomicMode (body_of rule.unicode)) 405 406 0
 unfolding called
 at_unicode_atomic_apart = at_point called 138 refl refl
-
-at_block_comment_atomic_apart : IsPoint called (Run AtomicMode (body_of rule.block_comment)) 449 450 0
-unfolding called
-at_block_comment_atomic_apart = at_point called 139 refl refl
 
 module _ (classes : Classes) (code : CodeLists) (is : IsExactCode code) where
   abbrev s : Setting
@@ -944,7 +939,7 @@ module _ (classes : Classes) (code : CodeLists) (is : IsExactCode code) where
 
   unicode_atomic : Laid s (Run AtomicMode (body_of rule.unicode)) 174 175 0
   unfolding whitespace comment
-  unicode_atomic = seq 409 409 (seq 410 410 (seq 411 411 (word s 26 refl refl refl) (atomic s) (one_of s 11 (one_called s.classes rule.opening_brace refl refl refl (one_text s.classes 123)) refl refl refl)) (atomic s) (digits s 10 412 413 414 415 416 refl refl refl refl refl refl refl refl)) (atomic s) (one_of s 12 (one_called s.classes rule.closing_brace refl refl refl (one_text s.classes 125)) refl refl refl)
+  unicode_atomic = seq 409 409 (seq 410 410 (seq 411 411 (word s 26 refl refl refl) (atomic s) (one_of s 11 (one_called s.classes rule.opening_brace refl refl refl (one_text s.classes 123)) refl refl refl)) (atomic s) (rep_min_max (seq 412 412 (one_of s 10 (one_called s.classes rule.hex_digit refl refl refl (one_of_two s.classes (one_of_two s.classes (one_range s.classes 48 57) (one_range s.classes 97 102)) (one_range s.classes 65 70))) refl refl refl) (atomic s) (seq 413 413 (one_of s 10 (one_called s.classes rule.hex_digit refl refl refl (one_of_two s.classes (one_of_two s.classes (one_range s.classes 48 57) (one_range s.classes 97 102)) (one_range s.classes 65 70))) refl refl refl) (atomic s) (seq 414 414 (maybe s 413 refl (at_once s) (one_of s 10 (one_called s.classes rule.hex_digit refl refl refl (one_of_two s.classes (one_of_two s.classes (one_range s.classes 48 57) (one_range s.classes 97 102)) (one_range s.classes 65 70))) refl refl refl)) (atomic s) (seq 415 415 (maybe s 414 refl (at_once s) (one_of s 10 (one_called s.classes rule.hex_digit refl refl refl (one_of_two s.classes (one_of_two s.classes (one_range s.classes 48 57) (one_range s.classes 97 102)) (one_range s.classes 65 70))) refl refl refl)) (atomic s) (seq 416 416 (maybe s 415 refl (at_once s) (one_of s 10 (one_called s.classes rule.hex_digit refl refl refl (one_of_two s.classes (one_of_two s.classes (one_range s.classes 48 57) (one_range s.classes 97 102)) (one_range s.classes 65 70))) refl refl refl)) (atomic s) (maybe s 416 refl (at_once s) (one_of s 10 (one_called s.classes rule.hex_digit refl refl refl (one_of_two s.classes (one_of_two s.classes (one_range s.classes 48 57) (one_range s.classes 97 102)) (one_range s.classes 65 70))) refl refl refl))))))))) (atomic s) (one_of s 12 (one_called s.classes rule.closing_brace refl refl refl (one_text s.classes 125)) refl refl refl)
 
   hex_digit_atomic : Laid s (Run AtomicMode (body_of rule.hex_digit)) 176 177 0
   unfolding whitespace comment
@@ -980,7 +975,7 @@ module _ (classes : Classes) (code : CodeLists) (is : IsExactCode code) where
 
   COMMENT_atomic_apart : Laid s (Run AtomicMode (body_of rule.COMMENT)) 192 193 0
   unfolding whitespace comment
-  COMMENT_atomic_apart = either s 448 192 448 refl (at_once s) (enters s rule.block_comment 449 450 at_block_comment_atomic_apart refl refl refl refl refl) (at_once s) (within s rule.line_comment refl refl refl (seq 451 451 (seq 452 452 (word s 32 refl refl refl) (atomic s) (never s 453 454 refl (one_of s 14 (one_of_two s.classes (one_text s.classes 47) (one_text s.classes 33)) refl refl refl) refl)) (atomic s) (many s 455 (op.All 16 455) refl (λ c z. z) (tight_atomic s) refl (behind_all s 16 (takes_other s.classes ((0, 9) ∷ (11, 12) ∷ (14, 1114111) ∷ []) ((10, 10) ∷ (13, 13) ∷ []) (tight_atomic s) tt (outside_sub s.classes ((10, 10) ∷ (13, 13) ∷ []) rule.newline refl refl refl (outside_choice s.classes ((10, 10) ∷ []) ((13, 13) ∷ []) false false (outside_set s.classes (one_text s.classes 10)) (outside_text s.classes))) refl) refl refl refl) (tries s 456 458 458 457 refl (never s 459 460 refl (within s rule.newline refl refl refl (either s 461 459 461 refl (at_once s) (word s 30 refl refl refl) (at_once s) (word s 31 refl refl refl))) refl) (atomic s) (one_of s 15 (one_any s.classes tt) refl refl refl) refl))))
+  COMMENT_atomic_apart = either s 448 192 448 refl (at_once s) (comments s 33 34 refl refl refl) (at_once s) (within s rule.line_comment refl refl refl (seq 449 449 (seq 450 450 (word s 32 refl refl refl) (atomic s) (never s 451 452 refl (one_of s 14 (one_of_two s.classes (one_text s.classes 47) (one_text s.classes 33)) refl refl refl) refl)) (atomic s) (many s 453 (op.All 16 453) refl (λ c z. z) (tight_atomic s) refl (behind_all s 16 (takes_other s.classes ((0, 9) ∷ (11, 12) ∷ (14, 1114111) ∷ []) ((10, 10) ∷ (13, 13) ∷ []) (tight_atomic s) tt (outside_sub s.classes ((10, 10) ∷ (13, 13) ∷ []) rule.newline refl refl refl (outside_choice s.classes ((10, 10) ∷ []) ((13, 13) ∷ []) false false (outside_set s.classes (one_text s.classes 10)) (outside_text s.classes))) refl) refl refl refl) (tries s 454 456 456 455 refl (never s 457 458 refl (within s rule.newline refl refl refl (either s 459 457 459 refl (at_once s) (word s 30 refl refl refl) (at_once s) (word s 31 refl refl refl))) refl) (atomic s) (one_of s 15 (one_any s.classes tt) refl refl refl) refl))))
 
   space_plain_apart : Laid s (Run NonAtomicMode (body_of rule.space)) 194 195 0
   unfolding whitespace comment
@@ -988,23 +983,23 @@ module _ (classes : Classes) (code : CodeLists) (is : IsExactCode code) where
 
   grammar_doc_compound : Laid s (Run CompoundAtomicMode (body_of rule.grammar_doc)) 196 197 0
   unfolding whitespace comment
-  grammar_doc_compound = seq 462 462 (seq 463 463 (word s 35 refl refl refl) (compound s) (maybe s 463 refl (at_once s) (one_of s 13 (one_called s.classes rule.space refl refl refl (one_of_two s.classes (one_text s.classes 32) (one_text s.classes 9))) refl refl refl))) (compound s) (calls s rule.inner_doc 200 201 at_inner_doc_atomic refl refl refl refl refl)
+  grammar_doc_compound = seq 460 460 (seq 461 461 (word s 35 refl refl refl) (compound s) (maybe s 461 refl (at_once s) (one_of s 13 (one_called s.classes rule.space refl refl refl (one_of_two s.classes (one_text s.classes 32) (one_text s.classes 9))) refl refl refl))) (compound s) (calls s rule.inner_doc 200 201 at_inner_doc_atomic refl refl refl refl refl)
 
   line_doc_compound : Laid s (Run CompoundAtomicMode (body_of rule.line_doc)) 198 199 0
   unfolding whitespace comment
-  line_doc_compound = seq 464 464 (seq 465 465 (word s 36 refl refl refl) (compound s) (maybe s 465 refl (at_once s) (one_of s 13 (one_called s.classes rule.space refl refl refl (one_of_two s.classes (one_text s.classes 32) (one_text s.classes 9))) refl refl refl))) (compound s) (calls s rule.inner_doc 200 201 at_inner_doc_atomic refl refl refl refl refl)
+  line_doc_compound = seq 462 462 (seq 463 463 (word s 36 refl refl refl) (compound s) (maybe s 463 refl (at_once s) (one_of s 13 (one_called s.classes rule.space refl refl refl (one_of_two s.classes (one_text s.classes 32) (one_text s.classes 9))) refl refl refl))) (compound s) (calls s rule.inner_doc 200 201 at_inner_doc_atomic refl refl refl refl refl)
 
   inner_doc_atomic : Laid s (Run AtomicMode (body_of rule.inner_doc)) 200 201 0
   unfolding whitespace comment
-  inner_doc_atomic = many s 466 (op.All 16 466) refl (λ c z. z) (tight_atomic s) refl (behind_all s 16 (takes_other s.classes ((0, 9) ∷ (11, 12) ∷ (14, 1114111) ∷ []) ((10, 10) ∷ (13, 13) ∷ []) (tight_atomic s) tt (outside_sub s.classes ((10, 10) ∷ (13, 13) ∷ []) rule.newline refl refl refl (outside_choice s.classes ((10, 10) ∷ []) ((13, 13) ∷ []) false false (outside_set s.classes (one_text s.classes 10)) (outside_text s.classes))) refl) refl refl refl) (tries s 467 469 469 468 refl (never s 470 471 refl (within s rule.newline refl refl refl (either s 472 470 472 refl (at_once s) (word s 30 refl refl refl) (at_once s) (word s 31 refl refl refl))) refl) (atomic s) (one_of s 15 (one_any s.classes tt) refl refl refl) refl)
+  inner_doc_atomic = many s 464 (op.All 16 464) refl (λ c z. z) (tight_atomic s) refl (behind_all s 16 (takes_other s.classes ((0, 9) ∷ (11, 12) ∷ (14, 1114111) ∷ []) ((10, 10) ∷ (13, 13) ∷ []) (tight_atomic s) tt (outside_sub s.classes ((10, 10) ∷ (13, 13) ∷ []) rule.newline refl refl refl (outside_choice s.classes ((10, 10) ∷ []) ((13, 13) ∷ []) false false (outside_set s.classes (one_text s.classes 10)) (outside_text s.classes))) refl) refl refl refl) (tries s 465 467 467 466 refl (never s 468 469 refl (within s rule.newline refl refl refl (either s 470 468 470 refl (at_once s) (word s 30 refl refl refl) (at_once s) (word s 31 refl refl refl))) refl) (atomic s) (one_of s 15 (one_any s.classes tt) refl refl refl) refl)
 
   skipping : Laid s (Run Between skipped) 208 209 0
   unfolding whitespace comment
-  skipping = seq 473 473 (many s 474 (op.IsOne 17 474 473) refl (λ c z. z) (tight_between s) refl (inl (tested s 17 (outside_sub s.classes ((32, 32) ∷ (9, 9) ∷ (10, 10) ∷ (13, 13) ∷ []) rule.WHITESPACE refl refl refl (outside_choice s.classes ((32, 32) ∷ (9, 9) ∷ []) ((10, 10) ∷ (13, 13) ∷ []) false false (outside_set s.classes (one_of_two s.classes (one_text s.classes 32) (one_text s.classes 9))) (outside_sub s.classes ((10, 10) ∷ (13, 13) ∷ []) rule.newline refl refl refl (outside_choice s.classes ((10, 10) ∷ []) ((13, 13) ∷ []) false false (outside_set s.classes (one_text s.classes 10)) (outside_text s.classes))))) refl refl refl)) (within s rule.WHITESPACE refl refl refl (either s 475 474 475 refl (at_once s) (one_of s 13 (one_of_two s.classes (one_text s.classes 32) (one_text s.classes 9)) refl refl refl) (at_once s) (within s rule.newline refl refl refl (either s 476 475 476 refl (at_once s) (word s 30 refl refl refl) (at_once s) (word s 31 refl refl refl)))))) (between s) (many s 477 (op.IsOne 18 477 209) refl (λ c z. z) (tight_between s) refl (inl (tested s 18 (outside_seq s.classes ((47, 47) ∷ (47, 47) ∷ []) false (outside_sub s.classes ((47, 47) ∷ (47, 47) ∷ []) rule.COMMENT refl refl refl (outside_choice s.classes ((47, 47) ∷ []) ((47, 47) ∷ []) false false (outside_sub s.classes ((47, 47) ∷ []) rule.block_comment refl refl refl (outside_seq s.classes ((47, 47) ∷ []) false (outside_seq s.classes ((47, 47) ∷ []) false (outside_text s.classes)))) (outside_sub s.classes ((47, 47) ∷ []) rule.line_comment refl refl refl (outside_seq s.classes ((47, 47) ∷ []) false (outside_seq s.classes ((47, 47) ∷ []) false (outside_text s.classes))))))) refl refl refl)) (tries s 478 480 480 479 refl (enters s rule.COMMENT 192 193 at_COMMENT_atomic_apart refl refl refl refl refl) (between s) (many s 481 (op.IsOne 17 481 479) refl (λ c z. z) (tight_between s) refl (inl (tested s 17 (outside_sub s.classes ((32, 32) ∷ (9, 9) ∷ (10, 10) ∷ (13, 13) ∷ []) rule.WHITESPACE refl refl refl (outside_choice s.classes ((32, 32) ∷ (9, 9) ∷ []) ((10, 10) ∷ (13, 13) ∷ []) false false (outside_set s.classes (one_of_two s.classes (one_text s.classes 32) (one_text s.classes 9))) (outside_sub s.classes ((10, 10) ∷ (13, 13) ∷ []) rule.newline refl refl refl (outside_choice s.classes ((10, 10) ∷ []) ((13, 13) ∷ []) false false (outside_set s.classes (one_text s.classes 10)) (outside_text s.classes))))) refl refl refl)) (within s rule.WHITESPACE refl refl refl (either s 482 481 482 refl (at_once s) (one_of s 13 (one_of_two s.classes (one_text s.classes 32) (one_text s.classes 9)) refl refl refl) (at_once s) (within s rule.newline refl refl refl (either s 483 482 483 refl (at_once s) (word s 30 refl refl refl) (at_once s) (word s 31 refl refl refl)))))) refl))
+  skipping = seq 471 471 (many s 472 (op.IsOne 17 472 471) refl (λ c z. z) (tight_between s) refl (inl (tested s 17 (outside_sub s.classes ((32, 32) ∷ (9, 9) ∷ (10, 10) ∷ (13, 13) ∷ []) rule.WHITESPACE refl refl refl (outside_choice s.classes ((32, 32) ∷ (9, 9) ∷ []) ((10, 10) ∷ (13, 13) ∷ []) false false (outside_set s.classes (one_of_two s.classes (one_text s.classes 32) (one_text s.classes 9))) (outside_sub s.classes ((10, 10) ∷ (13, 13) ∷ []) rule.newline refl refl refl (outside_choice s.classes ((10, 10) ∷ []) ((13, 13) ∷ []) false false (outside_set s.classes (one_text s.classes 10)) (outside_text s.classes))))) refl refl refl)) (within s rule.WHITESPACE refl refl refl (either s 473 472 473 refl (at_once s) (one_of s 13 (one_of_two s.classes (one_text s.classes 32) (one_text s.classes 9)) refl refl refl) (at_once s) (within s rule.newline refl refl refl (either s 474 473 474 refl (at_once s) (word s 30 refl refl refl) (at_once s) (word s 31 refl refl refl)))))) (between s) (many s 475 (op.IsOne 18 475 209) refl (λ c z. z) (tight_between s) refl (inl (tested s 18 (outside_seq s.classes ((47, 47) ∷ (47, 47) ∷ []) false (outside_sub s.classes ((47, 47) ∷ (47, 47) ∷ []) rule.COMMENT refl refl refl (outside_choice s.classes ((47, 47) ∷ []) ((47, 47) ∷ []) false false (outside_sub s.classes ((47, 47) ∷ []) rule.block_comment refl refl refl (outside_seq s.classes ((47, 47) ∷ []) false (outside_seq s.classes ((47, 47) ∷ []) false (outside_text s.classes)))) (outside_sub s.classes ((47, 47) ∷ []) rule.line_comment refl refl refl (outside_seq s.classes ((47, 47) ∷ []) false (outside_seq s.classes ((47, 47) ∷ []) false (outside_text s.classes))))))) refl refl refl)) (tries s 476 478 478 477 refl (enters s rule.COMMENT 192 193 at_COMMENT_atomic_apart refl refl refl refl refl) (between s) (many s 479 (op.IsOne 17 479 477) refl (λ c z. z) (tight_between s) refl (inl (tested s 17 (outside_sub s.classes ((32, 32) ∷ (9, 9) ∷ (10, 10) ∷ (13, 13) ∷ []) rule.WHITESPACE refl refl refl (outside_choice s.classes ((32, 32) ∷ (9, 9) ∷ []) ((10, 10) ∷ (13, 13) ∷ []) false false (outside_set s.classes (one_of_two s.classes (one_text s.classes 32) (one_text s.classes 9))) (outside_sub s.classes ((10, 10) ∷ (13, 13) ∷ []) rule.newline refl refl refl (outside_choice s.classes ((10, 10) ∷ []) ((13, 13) ∷ []) false false (outside_set s.classes (one_text s.classes 10)) (outside_text s.classes))))) refl refl refl)) (within s rule.WHITESPACE refl refl refl (either s 480 479 480 refl (at_once s) (one_of s 13 (one_of_two s.classes (one_text s.classes 32) (one_text s.classes 9)) refl refl refl) (at_once s) (within s rule.newline refl refl refl (either s 481 480 481 refl (at_once s) (word s 30 refl refl refl) (at_once s) (word s 31 refl refl refl)))))) refl))
 
   number_atomic_apart : Laid s (Run AtomicMode (body_of rule.number)) 346 347 0
   unfolding whitespace comment
-  number_atomic_apart = rep_once (seq 484 484 (one_of s 2 (one_range s.classes 48 57) refl refl refl) (atomic s) (all_of s 2 (one_range s.classes 48 57) (tight_atomic s) refl refl refl))
+  number_atomic_apart = rep_once (seq 482 482 (one_of s 2 (one_range s.classes 48 57) refl refl refl) (atomic s) (all_of s 2 (one_range s.classes 48 57) (tight_atomic s) refl refl refl))
 
   quote_compound : Laid s (Run CompoundAtomicMode (body_of rule.quote)) 379 380 0
   unfolding whitespace comment
@@ -1016,23 +1011,19 @@ module _ (classes : Classes) (code : CodeLists) (is : IsExactCode code) where
 
   escape_atomic_apart : Laid s (Run AtomicMode (body_of rule.escape)) 395 396 0
   unfolding whitespace comment
-  escape_atomic_apart = seq 485 485 (word s 24 refl refl refl) (atomic s) (either s 486 485 486 refl (at_once s) (either s 487 485 487 refl (at_once s) (one_of s 9 (one_of_two s.classes (one_of_two s.classes (one_of_two s.classes (one_of_two s.classes (one_of_two s.classes (one_of_two s.classes (one_text s.classes 34) (one_text s.classes 92)) (one_text s.classes 114)) (one_text s.classes 110)) (one_text s.classes 116)) (one_text s.classes 48)) (one_text s.classes 39)) refl refl refl) (at_once s) (enters s rule.code 403 404 at_code_atomic_apart refl refl refl refl refl)) (at_once s) (enters s rule.unicode 405 406 at_unicode_atomic_apart refl refl refl refl refl))
+  escape_atomic_apart = seq 483 483 (word s 24 refl refl refl) (atomic s) (either s 484 483 484 refl (at_once s) (either s 485 483 485 refl (at_once s) (one_of s 9 (one_of_two s.classes (one_of_two s.classes (one_of_two s.classes (one_of_two s.classes (one_of_two s.classes (one_of_two s.classes (one_text s.classes 34) (one_text s.classes 92)) (one_text s.classes 114)) (one_text s.classes 110)) (one_text s.classes 116)) (one_text s.classes 48)) (one_text s.classes 39)) refl refl refl) (at_once s) (enters s rule.code 403 404 at_code_atomic_apart refl refl refl refl refl)) (at_once s) (enters s rule.unicode 405 406 at_unicode_atomic_apart refl refl refl refl refl))
 
   inner_str_atomic_apart : Laid s (Run AtomicMode (body_of rule.inner_str)) 397 398 0
   unfolding whitespace comment
-  inner_str_atomic_apart = seq 488 488 (all_of s 7 (one_other s.classes ((0, 33) ∷ (35, 91) ∷ (93, 1114111) ∷ []) (tight_atomic s) tt (one_of_two s.classes (one_text s.classes 34) (one_text s.classes 92)) refl refl) (tight_atomic s) refl refl refl) (atomic s) (maybe s 488 refl (at_once s) (tries s 489 491 491 490 refl (enters s rule.escape 395 396 at_escape_atomic_apart refl refl refl refl refl) (atomic s) (enters s rule.inner_str 397 398 at_inner_str_atomic_apart refl refl refl refl refl) refl))
+  inner_str_atomic_apart = seq 486 486 (all_of s 7 (one_other s.classes ((0, 33) ∷ (35, 91) ∷ (93, 1114111) ∷ []) (tight_atomic s) tt (one_of_two s.classes (one_text s.classes 34) (one_text s.classes 92)) refl refl) (tight_atomic s) refl refl refl) (atomic s) (maybe s 486 refl (at_once s) (tries s 487 489 489 488 refl (enters s rule.escape 395 396 at_escape_atomic_apart refl refl refl refl refl) (atomic s) (enters s rule.inner_str 397 398 at_inner_str_atomic_apart refl refl refl refl refl) refl))
 
   code_atomic_apart : Laid s (Run AtomicMode (body_of rule.code)) 403 404 0
   unfolding whitespace comment
-  code_atomic_apart = seq 492 492 (seq 493 493 (word s 25 refl refl refl) (atomic s) (one_of s 10 (one_called s.classes rule.hex_digit refl refl refl (one_of_two s.classes (one_of_two s.classes (one_range s.classes 48 57) (one_range s.classes 97 102)) (one_range s.classes 65 70))) refl refl refl)) (atomic s) (one_of s 10 (one_called s.classes rule.hex_digit refl refl refl (one_of_two s.classes (one_of_two s.classes (one_range s.classes 48 57) (one_range s.classes 97 102)) (one_range s.classes 65 70))) refl refl refl)
+  code_atomic_apart = seq 490 490 (seq 491 491 (word s 25 refl refl refl) (atomic s) (one_of s 10 (one_called s.classes rule.hex_digit refl refl refl (one_of_two s.classes (one_of_two s.classes (one_range s.classes 48 57) (one_range s.classes 97 102)) (one_range s.classes 65 70))) refl refl refl)) (atomic s) (one_of s 10 (one_called s.classes rule.hex_digit refl refl refl (one_of_two s.classes (one_of_two s.classes (one_range s.classes 48 57) (one_range s.classes 97 102)) (one_range s.classes 65 70))) refl refl refl)
 
   unicode_atomic_apart : Laid s (Run AtomicMode (body_of rule.unicode)) 405 406 0
   unfolding whitespace comment
-  unicode_atomic_apart = seq 494 494 (seq 495 495 (seq 496 496 (word s 26 refl refl refl) (atomic s) (one_of s 11 (one_called s.classes rule.opening_brace refl refl refl (one_text s.classes 123)) refl refl refl)) (atomic s) (digits s 10 497 498 499 500 501 refl refl refl refl refl refl refl refl)) (atomic s) (one_of s 12 (one_called s.classes rule.closing_brace refl refl refl (one_text s.classes 125)) refl refl refl)
-
-  block_comment_atomic_apart : Laid s (Run AtomicMode (body_of rule.block_comment)) 449 450 0
-  unfolding whitespace comment
-  block_comment_atomic_apart = seq 502 502 (seq 503 503 (word s 33 refl refl refl) (atomic s) (many s 504 (op.All 19 504) refl (λ c z. z) (tight_atomic s) refl (behind_all s 19 (takes_second s.classes ((0, 41) ∷ (43, 46) ∷ (48, 1114111) ∷ []) ((47, 47) ∷ []) (outside_sub s.classes ((47, 47) ∷ []) rule.block_comment refl refl refl (outside_seq s.classes ((47, 47) ∷ []) false (outside_seq s.classes ((47, 47) ∷ []) false (outside_text s.classes)))) refl (takes_other s.classes ((0, 41) ∷ (43, 46) ∷ (48, 1114111) ∷ []) ((42, 42) ∷ []) (tight_atomic s) tt (outside_text s.classes) refl)) refl refl refl) (either s 505 504 505 refl (at_once s) (enters s rule.block_comment 449 450 at_block_comment_atomic_apart refl refl refl refl refl) (at_once s) (tries s 506 508 508 507 refl (never s 509 510 refl (word s 34 refl refl refl) refl) (atomic s) (one_of s 15 (one_any s.classes tt) refl refl refl) refl)))) (atomic s) (word s 34 refl refl refl)
+  unicode_atomic_apart = seq 492 492 (seq 493 493 (seq 494 494 (word s 26 refl refl refl) (atomic s) (one_of s 11 (one_called s.classes rule.opening_brace refl refl refl (one_text s.classes 123)) refl refl refl)) (atomic s) (rep_min_max (seq 495 495 (one_of s 10 (one_called s.classes rule.hex_digit refl refl refl (one_of_two s.classes (one_of_two s.classes (one_range s.classes 48 57) (one_range s.classes 97 102)) (one_range s.classes 65 70))) refl refl refl) (atomic s) (seq 496 496 (one_of s 10 (one_called s.classes rule.hex_digit refl refl refl (one_of_two s.classes (one_of_two s.classes (one_range s.classes 48 57) (one_range s.classes 97 102)) (one_range s.classes 65 70))) refl refl refl) (atomic s) (seq 497 497 (maybe s 496 refl (at_once s) (one_of s 10 (one_called s.classes rule.hex_digit refl refl refl (one_of_two s.classes (one_of_two s.classes (one_range s.classes 48 57) (one_range s.classes 97 102)) (one_range s.classes 65 70))) refl refl refl)) (atomic s) (seq 498 498 (maybe s 497 refl (at_once s) (one_of s 10 (one_called s.classes rule.hex_digit refl refl refl (one_of_two s.classes (one_of_two s.classes (one_range s.classes 48 57) (one_range s.classes 97 102)) (one_range s.classes 65 70))) refl refl refl)) (atomic s) (seq 499 499 (maybe s 498 refl (at_once s) (one_of s 10 (one_called s.classes rule.hex_digit refl refl refl (one_of_two s.classes (one_of_two s.classes (one_range s.classes 48 57) (one_range s.classes 97 102)) (one_range s.classes 65 70))) refl refl refl)) (atomic s) (maybe s 499 refl (at_once s) (one_of s 10 (one_called s.classes rule.hex_digit refl refl refl (one_of_two s.classes (one_of_two s.classes (one_range s.classes 48 57) (one_range s.classes 97 102)) (one_range s.classes 65 70))) refl refl refl))))))))) (atomic s) (one_of s 12 (one_called s.classes rule.closing_brace refl refl refl (one_text s.classes 125)) refl refl refl)
 
   all_bodies : AreLaidAll true meta_grammar classes code number_of called called
   unfolding called
@@ -1176,8 +1167,7 @@ module _ (classes : Classes) (code : CodeLists) (is : IsExactCode code) where
       (also inner_str_atomic_apart
       (also code_atomic_apart
       (also unicode_atomic_apart
-      (also block_comment_atomic_apart
-      done))))))))))))))))))))))))))))))))))))))))))))))))))))))))))))))))))))))))))))))))))))))))))))))))))))))))))))))))))))))))))))))))))))))))))))
+      done)))))))))))))))))))))))))))))))))))))))))))))))))))))))))))))))))))))))))))))))))))))))))))))))))))))))))))))))))))))))))))))))))))))))))))
 
   has_call : (r : Rule) → IsPoint called (Run NonAtomicMode (Ident (name_of r))) (number_of (name_of r) + 3) 1 2
   unfolding called

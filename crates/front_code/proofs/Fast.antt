@@ -11,13 +11,13 @@ use Rattle.matcher_code.specs.Lists.{CodeLists}
 use Rattle.matcher_code.specs.declared.code.Op.TheVariants as op
 use Rattle.matcher_code.specs.Laid.{IsPoint, Point}
 use Rattle.front_code.specs.Codes.{IsCodeOfMetaGrammar, IsFastCode, fast_sets, texts}
-use Rattle.front_code.specs.Layouts.{AreLaidAll, also, done, rep_once, seq}
+use Rattle.front_code.specs.Layouts.{AreLaidAll, also, done, rep_min_max, rep_once, seq}
 use Rattle.front_code.specs.Numbers.{number_of}
 use Rattle.front_code.specs.declared.constants.TheConstants.{FAST_OPS}
 use Rattle.front_code.proofs.Characters.{one_any, one_called, one_of_two, one_other, one_range, one_text}
 use Rattle.front_code.proofs.Flattening.{whole_code}
-use Rattle.front_code.proofs.Outside.{outside_call, outside_choice, outside_not, outside_seq, outside_set, outside_silent, outside_some, outside_sub, outside_text, takes_other, takes_second}
-use Rattle.front_code.proofs.Shapes.{Laid, Setting, all_of, at_once, at_point, atomic, behind_all, between, calls, compound, digits, either, end, enters, gap_in_place, has_op, many, maybe, never, noted, one_of, start, tested, tight_atomic, tight_between, tries, turns, within, word}
+use Rattle.front_code.proofs.Outside.{outside_call, outside_choice, outside_not, outside_seq, outside_set, outside_silent, outside_some, outside_sub, outside_text, takes_other}
+use Rattle.front_code.proofs.Shapes.{Laid, Setting, all_of, at_once, at_point, atomic, behind_all, between, calls, comments, compound, either, end, enters, gap_in_place, has_op, many, maybe, never, noted, one_of, start, tested, tight_atomic, tight_between, tries, turns, within, word}
 
 -- the calls of the rules from outside, and the bodies that are called
 pub called : List Point
@@ -160,7 +160,6 @@ called =
     ∷ record { task = Run AtomicMode (body_of rule.inner_str); label = 1227; next = 1228; way = 0; rank = 0 }
     ∷ record { task = Run AtomicMode (body_of rule.code); label = 1236; next = 1237; way = 0; rank = 0 }
     ∷ record { task = Run AtomicMode (body_of rule.unicode); label = 1238; next = 1239; way = 0; rank = 0 }
-    ∷ record { task = Run AtomicMode (body_of rule.block_comment); label = 1388; next = 1389; way = 0; rank = 0 }
     ∷ []
 
 at_grammar_rules_plain_apart : IsPoint called (Run NonAtomicMode (body_of rule.grammar_rules)) 72 73 0
@@ -450,10 +449,6 @@ at_code_atomic_apart = at_point called 136 refl refl
 at_unicode_atomic_apart : IsPoint called (Run AtomicMode (body_of rule.unicode)) 1238 1239 0
 unfolding called
 at_unicode_atomic_apart = at_point called 137 refl refl
-
-at_block_comment_atomic_apart : IsPoint called (Run AtomicMode (body_of rule.block_comment)) 1388 1389 0
-unfolding called
-at_block_comment_atomic_apart = at_point called 138 refl refl
 
 module _ (classes : Classes) (code : CodeLists) (is : IsFastCode code) where
   abbrev s : Setting
@@ -939,7 +934,7 @@ module _ (classes : Classes) (code : CodeLists) (is : IsFastCode code) where
 
   unicode_atomic : Laid s (Run AtomicMode (body_of rule.unicode)) 174 175 0
   unfolding whitespace comment
-  unicode_atomic = seq 1242 1242 (seq 1243 1243 (seq 1244 1244 (word s 26 refl refl refl) (atomic s) (one_of s 39 (one_called s.classes rule.opening_brace refl refl refl (one_text s.classes 123)) refl refl refl)) (atomic s) (digits s 52 1245 1246 1247 1248 1249 refl refl refl refl refl refl refl refl)) (atomic s) (one_of s 53 (one_called s.classes rule.closing_brace refl refl refl (one_text s.classes 125)) refl refl refl)
+  unicode_atomic = seq 1242 1242 (seq 1243 1243 (seq 1244 1244 (word s 26 refl refl refl) (atomic s) (one_of s 39 (one_called s.classes rule.opening_brace refl refl refl (one_text s.classes 123)) refl refl refl)) (atomic s) (rep_min_max (seq 1245 1245 (one_of s 52 (one_called s.classes rule.hex_digit refl refl refl (one_of_two s.classes (one_of_two s.classes (one_range s.classes 48 57) (one_range s.classes 97 102)) (one_range s.classes 65 70))) refl refl refl) (atomic s) (seq 1246 1246 (one_of s 52 (one_called s.classes rule.hex_digit refl refl refl (one_of_two s.classes (one_of_two s.classes (one_range s.classes 48 57) (one_range s.classes 97 102)) (one_range s.classes 65 70))) refl refl refl) (atomic s) (seq 1247 1247 (maybe s 1246 refl (at_once s) (one_of s 52 (one_called s.classes rule.hex_digit refl refl refl (one_of_two s.classes (one_of_two s.classes (one_range s.classes 48 57) (one_range s.classes 97 102)) (one_range s.classes 65 70))) refl refl refl)) (atomic s) (seq 1248 1248 (maybe s 1247 refl (at_once s) (one_of s 52 (one_called s.classes rule.hex_digit refl refl refl (one_of_two s.classes (one_of_two s.classes (one_range s.classes 48 57) (one_range s.classes 97 102)) (one_range s.classes 65 70))) refl refl refl)) (atomic s) (seq 1249 1249 (maybe s 1248 refl (at_once s) (one_of s 52 (one_called s.classes rule.hex_digit refl refl refl (one_of_two s.classes (one_of_two s.classes (one_range s.classes 48 57) (one_range s.classes 97 102)) (one_range s.classes 65 70))) refl refl refl)) (atomic s) (maybe s 1249 refl (at_once s) (one_of s 52 (one_called s.classes rule.hex_digit refl refl refl (one_of_two s.classes (one_of_two s.classes (one_range s.classes 48 57) (one_range s.classes 97 102)) (one_range s.classes 65 70))) refl refl refl))))))))) (atomic s) (one_of s 53 (one_called s.classes rule.closing_brace refl refl refl (one_text s.classes 125)) refl refl refl)
 
   hex_digit_atomic : Laid s (Run AtomicMode (body_of rule.hex_digit)) 176 177 0
   unfolding whitespace comment
@@ -975,7 +970,7 @@ module _ (classes : Classes) (code : CodeLists) (is : IsFastCode code) where
 
   COMMENT_atomic_apart : Laid s (Run AtomicMode (body_of rule.COMMENT)) 192 193 0
   unfolding whitespace comment
-  COMMENT_atomic_apart = either s 1386 1387 1386 refl (tested s 4 (outside_sub s.classes ((47, 47) ∷ []) rule.block_comment refl refl refl (outside_seq s.classes ((47, 47) ∷ []) false (outside_seq s.classes ((47, 47) ∷ []) false (outside_text s.classes)))) refl refl refl) (enters s rule.block_comment 1388 1389 at_block_comment_atomic_apart refl refl refl refl refl) (at_once s) (within s rule.line_comment refl refl refl (seq 1390 1390 (seq 1391 1391 (word s 32 refl refl refl) (atomic s) (never s 1392 1393 refl (one_of s 54 (one_of_two s.classes (one_text s.classes 47) (one_text s.classes 33)) refl refl refl) refl)) (atomic s) (many s 1394 (op.All 56 1394) refl (λ c z. z) (tight_atomic s) refl (behind_all s 56 (takes_other s.classes ((0, 9) ∷ (11, 12) ∷ (14, 1114111) ∷ []) ((10, 10) ∷ (13, 13) ∷ []) (tight_atomic s) tt (outside_sub s.classes ((10, 10) ∷ (13, 13) ∷ []) rule.newline refl refl refl (outside_choice s.classes ((10, 10) ∷ []) ((13, 13) ∷ []) false false (outside_set s.classes (one_text s.classes 10)) (outside_text s.classes))) refl) refl refl refl) (tries s 1395 1397 1397 1396 refl (never s 1398 1399 refl (within s rule.newline refl refl refl (either s 1400 1398 1400 refl (at_once s) (word s 30 refl refl refl) (at_once s) (word s 31 refl refl refl))) refl) (atomic s) (one_of s 55 (one_any s.classes tt) refl refl refl) refl))))
+  COMMENT_atomic_apart = either s 1386 192 1386 refl (at_once s) (comments s 33 34 refl refl refl) (at_once s) (within s rule.line_comment refl refl refl (seq 1387 1387 (seq 1388 1388 (word s 32 refl refl refl) (atomic s) (never s 1389 1390 refl (one_of s 54 (one_of_two s.classes (one_text s.classes 47) (one_text s.classes 33)) refl refl refl) refl)) (atomic s) (many s 1391 (op.All 56 1391) refl (λ c z. z) (tight_atomic s) refl (behind_all s 56 (takes_other s.classes ((0, 9) ∷ (11, 12) ∷ (14, 1114111) ∷ []) ((10, 10) ∷ (13, 13) ∷ []) (tight_atomic s) tt (outside_sub s.classes ((10, 10) ∷ (13, 13) ∷ []) rule.newline refl refl refl (outside_choice s.classes ((10, 10) ∷ []) ((13, 13) ∷ []) false false (outside_set s.classes (one_text s.classes 10)) (outside_text s.classes))) refl) refl refl refl) (tries s 1392 1394 1394 1393 refl (never s 1395 1396 refl (within s rule.newline refl refl refl (either s 1397 1395 1397 refl (at_once s) (word s 30 refl refl refl) (at_once s) (word s 31 refl refl refl))) refl) (atomic s) (one_of s 55 (one_any s.classes tt) refl refl refl) refl))))
 
   space_plain_apart : Laid s (Run NonAtomicMode (body_of rule.space)) 194 195 0
   unfolding whitespace comment
@@ -983,19 +978,19 @@ module _ (classes : Classes) (code : CodeLists) (is : IsFastCode code) where
 
   grammar_doc_compound : Laid s (Run CompoundAtomicMode (body_of rule.grammar_doc)) 196 197 0
   unfolding whitespace comment
-  grammar_doc_compound = seq 1401 1401 (seq 1402 1402 (word s 35 refl refl refl) (compound s) (maybe s 1402 refl (at_once s) (one_of s 1 (one_called s.classes rule.space refl refl refl (one_of_two s.classes (one_text s.classes 32) (one_text s.classes 9))) refl refl refl))) (compound s) (calls s rule.inner_doc 200 201 at_inner_doc_atomic refl refl refl refl refl)
+  grammar_doc_compound = seq 1398 1398 (seq 1399 1399 (word s 35 refl refl refl) (compound s) (maybe s 1399 refl (at_once s) (one_of s 1 (one_called s.classes rule.space refl refl refl (one_of_two s.classes (one_text s.classes 32) (one_text s.classes 9))) refl refl refl))) (compound s) (calls s rule.inner_doc 200 201 at_inner_doc_atomic refl refl refl refl refl)
 
   line_doc_compound : Laid s (Run CompoundAtomicMode (body_of rule.line_doc)) 198 199 0
   unfolding whitespace comment
-  line_doc_compound = seq 1403 1403 (seq 1404 1404 (word s 36 refl refl refl) (compound s) (maybe s 1404 refl (at_once s) (one_of s 1 (one_called s.classes rule.space refl refl refl (one_of_two s.classes (one_text s.classes 32) (one_text s.classes 9))) refl refl refl))) (compound s) (calls s rule.inner_doc 200 201 at_inner_doc_atomic refl refl refl refl refl)
+  line_doc_compound = seq 1400 1400 (seq 1401 1401 (word s 36 refl refl refl) (compound s) (maybe s 1401 refl (at_once s) (one_of s 1 (one_called s.classes rule.space refl refl refl (one_of_two s.classes (one_text s.classes 32) (one_text s.classes 9))) refl refl refl))) (compound s) (calls s rule.inner_doc 200 201 at_inner_doc_atomic refl refl refl refl refl)
 
   inner_doc_atomic : Laid s (Run AtomicMode (body_of rule.inner_doc)) 200 201 0
   unfolding whitespace comment
-  inner_doc_atomic = many s 1405 (op.All 56 1405) refl (λ c z. z) (tight_atomic s) refl (behind_all s 56 (takes_other s.classes ((0, 9) ∷ (11, 12) ∷ (14, 1114111) ∷ []) ((10, 10) ∷ (13, 13) ∷ []) (tight_atomic s) tt (outside_sub s.classes ((10, 10) ∷ (13, 13) ∷ []) rule.newline refl refl refl (outside_choice s.classes ((10, 10) ∷ []) ((13, 13) ∷ []) false false (outside_set s.classes (one_text s.classes 10)) (outside_text s.classes))) refl) refl refl refl) (tries s 1406 1408 1408 1407 refl (never s 1409 1410 refl (within s rule.newline refl refl refl (either s 1411 1409 1411 refl (at_once s) (word s 30 refl refl refl) (at_once s) (word s 31 refl refl refl))) refl) (atomic s) (one_of s 55 (one_any s.classes tt) refl refl refl) refl)
+  inner_doc_atomic = many s 1402 (op.All 56 1402) refl (λ c z. z) (tight_atomic s) refl (behind_all s 56 (takes_other s.classes ((0, 9) ∷ (11, 12) ∷ (14, 1114111) ∷ []) ((10, 10) ∷ (13, 13) ∷ []) (tight_atomic s) tt (outside_sub s.classes ((10, 10) ∷ (13, 13) ∷ []) rule.newline refl refl refl (outside_choice s.classes ((10, 10) ∷ []) ((13, 13) ∷ []) false false (outside_set s.classes (one_text s.classes 10)) (outside_text s.classes))) refl) refl refl refl) (tries s 1403 1405 1405 1404 refl (never s 1406 1407 refl (within s rule.newline refl refl refl (either s 1408 1406 1408 refl (at_once s) (word s 30 refl refl refl) (at_once s) (word s 31 refl refl refl))) refl) (atomic s) (one_of s 55 (one_any s.classes tt) refl refl refl) refl)
 
   number_atomic_apart : Laid s (Run AtomicMode (body_of rule.number)) 988 989 0
   unfolding whitespace comment
-  number_atomic_apart = rep_once (seq 1412 1412 (one_of s 40 (one_range s.classes 48 57) refl refl refl) (atomic s) (all_of s 40 (one_range s.classes 48 57) (tight_atomic s) refl refl refl))
+  number_atomic_apart = rep_once (seq 1409 1409 (one_of s 40 (one_range s.classes 48 57) refl refl refl) (atomic s) (all_of s 40 (one_range s.classes 48 57) (tight_atomic s) refl refl refl))
 
   quote_compound : Laid s (Run CompoundAtomicMode (body_of rule.quote)) 1169 1170 0
   unfolding whitespace comment
@@ -1007,23 +1002,19 @@ module _ (classes : Classes) (code : CodeLists) (is : IsFastCode code) where
 
   escape_atomic_apart : Laid s (Run AtomicMode (body_of rule.escape)) 1225 1226 0
   unfolding whitespace comment
-  escape_atomic_apart = seq 1413 1413 (word s 24 refl refl refl) (atomic s) (either s 1414 1415 1414 refl (tested s 49 (outside_choice s.classes ((34, 34) ∷ (92, 92) ∷ (114, 114) ∷ (110, 110) ∷ (116, 116) ∷ (48, 48) ∷ (39, 39) ∷ []) ((120, 120) ∷ []) false false (outside_set s.classes (one_of_two s.classes (one_of_two s.classes (one_of_two s.classes (one_of_two s.classes (one_of_two s.classes (one_of_two s.classes (one_text s.classes 34) (one_text s.classes 92)) (one_text s.classes 114)) (one_text s.classes 110)) (one_text s.classes 116)) (one_text s.classes 48)) (one_text s.classes 39))) (outside_sub s.classes ((120, 120) ∷ []) rule.code refl refl refl (outside_seq s.classes ((120, 120) ∷ []) false (outside_seq s.classes ((120, 120) ∷ []) false (outside_set s.classes (one_text s.classes 120)))))) refl refl refl) (either s 1416 1415 1417 refl (at_once s) (one_of s 50 (one_of_two s.classes (one_of_two s.classes (one_of_two s.classes (one_of_two s.classes (one_of_two s.classes (one_of_two s.classes (one_text s.classes 34) (one_text s.classes 92)) (one_text s.classes 114)) (one_text s.classes 110)) (one_text s.classes 116)) (one_text s.classes 48)) (one_text s.classes 39)) refl refl refl) (tested s 51 (outside_sub s.classes ((120, 120) ∷ []) rule.code refl refl refl (outside_seq s.classes ((120, 120) ∷ []) false (outside_seq s.classes ((120, 120) ∷ []) false (outside_set s.classes (one_text s.classes 120))))) refl refl refl) (enters s rule.code 1236 1237 at_code_atomic_apart refl refl refl refl refl)) (at_once s) (enters s rule.unicode 1238 1239 at_unicode_atomic_apart refl refl refl refl refl))
+  escape_atomic_apart = seq 1410 1410 (word s 24 refl refl refl) (atomic s) (either s 1411 1412 1411 refl (tested s 49 (outside_choice s.classes ((34, 34) ∷ (92, 92) ∷ (114, 114) ∷ (110, 110) ∷ (116, 116) ∷ (48, 48) ∷ (39, 39) ∷ []) ((120, 120) ∷ []) false false (outside_set s.classes (one_of_two s.classes (one_of_two s.classes (one_of_two s.classes (one_of_two s.classes (one_of_two s.classes (one_of_two s.classes (one_text s.classes 34) (one_text s.classes 92)) (one_text s.classes 114)) (one_text s.classes 110)) (one_text s.classes 116)) (one_text s.classes 48)) (one_text s.classes 39))) (outside_sub s.classes ((120, 120) ∷ []) rule.code refl refl refl (outside_seq s.classes ((120, 120) ∷ []) false (outside_seq s.classes ((120, 120) ∷ []) false (outside_set s.classes (one_text s.classes 120)))))) refl refl refl) (either s 1413 1412 1414 refl (at_once s) (one_of s 50 (one_of_two s.classes (one_of_two s.classes (one_of_two s.classes (one_of_two s.classes (one_of_two s.classes (one_of_two s.classes (one_text s.classes 34) (one_text s.classes 92)) (one_text s.classes 114)) (one_text s.classes 110)) (one_text s.classes 116)) (one_text s.classes 48)) (one_text s.classes 39)) refl refl refl) (tested s 51 (outside_sub s.classes ((120, 120) ∷ []) rule.code refl refl refl (outside_seq s.classes ((120, 120) ∷ []) false (outside_seq s.classes ((120, 120) ∷ []) false (outside_set s.classes (one_text s.classes 120))))) refl refl refl) (enters s rule.code 1236 1237 at_code_atomic_apart refl refl refl refl refl)) (at_once s) (enters s rule.unicode 1238 1239 at_unicode_atomic_apart refl refl refl refl refl))
 
   inner_str_atomic_apart : Laid s (Run AtomicMode (body_of rule.inner_str)) 1227 1228 0
   unfolding whitespace comment
-  inner_str_atomic_apart = seq 1418 1418 (all_of s 46 (one_other s.classes ((0, 33) ∷ (35, 91) ∷ (93, 1114111) ∷ []) (tight_atomic s) tt (one_of_two s.classes (one_text s.classes 34) (one_text s.classes 92)) refl refl) (tight_atomic s) refl refl refl) (atomic s) (maybe s 1419 refl (tested s 47 (outside_seq s.classes ((92, 92) ∷ []) false (outside_sub s.classes ((92, 92) ∷ []) rule.escape refl refl refl (outside_seq s.classes ((92, 92) ∷ []) false (outside_set s.classes (one_text s.classes 92))))) refl refl refl) (tries s 1420 1422 1422 1421 refl (enters s rule.escape 1225 1226 at_escape_atomic_apart refl refl refl refl refl) (atomic s) (enters s rule.inner_str 1227 1228 at_inner_str_atomic_apart refl refl refl refl refl) refl))
+  inner_str_atomic_apart = seq 1415 1415 (all_of s 46 (one_other s.classes ((0, 33) ∷ (35, 91) ∷ (93, 1114111) ∷ []) (tight_atomic s) tt (one_of_two s.classes (one_text s.classes 34) (one_text s.classes 92)) refl refl) (tight_atomic s) refl refl refl) (atomic s) (maybe s 1416 refl (tested s 47 (outside_seq s.classes ((92, 92) ∷ []) false (outside_sub s.classes ((92, 92) ∷ []) rule.escape refl refl refl (outside_seq s.classes ((92, 92) ∷ []) false (outside_set s.classes (one_text s.classes 92))))) refl refl refl) (tries s 1417 1419 1419 1418 refl (enters s rule.escape 1225 1226 at_escape_atomic_apart refl refl refl refl refl) (atomic s) (enters s rule.inner_str 1227 1228 at_inner_str_atomic_apart refl refl refl refl refl) refl))
 
   code_atomic_apart : Laid s (Run AtomicMode (body_of rule.code)) 1236 1237 0
   unfolding whitespace comment
-  code_atomic_apart = seq 1423 1423 (seq 1424 1424 (word s 25 refl refl refl) (atomic s) (one_of s 52 (one_called s.classes rule.hex_digit refl refl refl (one_of_two s.classes (one_of_two s.classes (one_range s.classes 48 57) (one_range s.classes 97 102)) (one_range s.classes 65 70))) refl refl refl)) (atomic s) (one_of s 52 (one_called s.classes rule.hex_digit refl refl refl (one_of_two s.classes (one_of_two s.classes (one_range s.classes 48 57) (one_range s.classes 97 102)) (one_range s.classes 65 70))) refl refl refl)
+  code_atomic_apart = seq 1420 1420 (seq 1421 1421 (word s 25 refl refl refl) (atomic s) (one_of s 52 (one_called s.classes rule.hex_digit refl refl refl (one_of_two s.classes (one_of_two s.classes (one_range s.classes 48 57) (one_range s.classes 97 102)) (one_range s.classes 65 70))) refl refl refl)) (atomic s) (one_of s 52 (one_called s.classes rule.hex_digit refl refl refl (one_of_two s.classes (one_of_two s.classes (one_range s.classes 48 57) (one_range s.classes 97 102)) (one_range s.classes 65 70))) refl refl refl)
 
   unicode_atomic_apart : Laid s (Run AtomicMode (body_of rule.unicode)) 1238 1239 0
   unfolding whitespace comment
-  unicode_atomic_apart = seq 1425 1425 (seq 1426 1426 (seq 1427 1427 (word s 26 refl refl refl) (atomic s) (one_of s 39 (one_called s.classes rule.opening_brace refl refl refl (one_text s.classes 123)) refl refl refl)) (atomic s) (digits s 52 1428 1429 1430 1431 1432 refl refl refl refl refl refl refl refl)) (atomic s) (one_of s 53 (one_called s.classes rule.closing_brace refl refl refl (one_text s.classes 125)) refl refl refl)
-
-  block_comment_atomic_apart : Laid s (Run AtomicMode (body_of rule.block_comment)) 1388 1389 0
-  unfolding whitespace comment
-  block_comment_atomic_apart = seq 1433 1433 (seq 1434 1434 (word s 33 refl refl refl) (atomic s) (many s 1435 (op.All 57 1435) refl (λ c z. z) (tight_atomic s) refl (behind_all s 57 (takes_second s.classes ((0, 41) ∷ (43, 46) ∷ (48, 1114111) ∷ []) ((47, 47) ∷ []) (outside_sub s.classes ((47, 47) ∷ []) rule.block_comment refl refl refl (outside_seq s.classes ((47, 47) ∷ []) false (outside_seq s.classes ((47, 47) ∷ []) false (outside_text s.classes)))) refl (takes_other s.classes ((0, 41) ∷ (43, 46) ∷ (48, 1114111) ∷ []) ((42, 42) ∷ []) (tight_atomic s) tt (outside_text s.classes) refl)) refl refl refl) (either s 1436 1437 1438 refl (tested s 4 (outside_sub s.classes ((47, 47) ∷ []) rule.block_comment refl refl refl (outside_seq s.classes ((47, 47) ∷ []) false (outside_seq s.classes ((47, 47) ∷ []) false (outside_text s.classes)))) refl refl refl) (enters s rule.block_comment 1388 1389 at_block_comment_atomic_apart refl refl refl refl refl) (tested s 55 (outside_not s.classes ((0, 1114111) ∷ []) (tight_atomic s) (outside_set s.classes (one_any s.classes tt))) refl refl refl) (tries s 1439 1441 1441 1440 refl (never s 1442 1443 refl (word s 34 refl refl refl) refl) (atomic s) (one_of s 55 (one_any s.classes tt) refl refl refl) refl)))) (atomic s) (word s 34 refl refl refl)
+  unicode_atomic_apart = seq 1422 1422 (seq 1423 1423 (seq 1424 1424 (word s 26 refl refl refl) (atomic s) (one_of s 39 (one_called s.classes rule.opening_brace refl refl refl (one_text s.classes 123)) refl refl refl)) (atomic s) (rep_min_max (seq 1425 1425 (one_of s 52 (one_called s.classes rule.hex_digit refl refl refl (one_of_two s.classes (one_of_two s.classes (one_range s.classes 48 57) (one_range s.classes 97 102)) (one_range s.classes 65 70))) refl refl refl) (atomic s) (seq 1426 1426 (one_of s 52 (one_called s.classes rule.hex_digit refl refl refl (one_of_two s.classes (one_of_two s.classes (one_range s.classes 48 57) (one_range s.classes 97 102)) (one_range s.classes 65 70))) refl refl refl) (atomic s) (seq 1427 1427 (maybe s 1426 refl (at_once s) (one_of s 52 (one_called s.classes rule.hex_digit refl refl refl (one_of_two s.classes (one_of_two s.classes (one_range s.classes 48 57) (one_range s.classes 97 102)) (one_range s.classes 65 70))) refl refl refl)) (atomic s) (seq 1428 1428 (maybe s 1427 refl (at_once s) (one_of s 52 (one_called s.classes rule.hex_digit refl refl refl (one_of_two s.classes (one_of_two s.classes (one_range s.classes 48 57) (one_range s.classes 97 102)) (one_range s.classes 65 70))) refl refl refl)) (atomic s) (seq 1429 1429 (maybe s 1428 refl (at_once s) (one_of s 52 (one_called s.classes rule.hex_digit refl refl refl (one_of_two s.classes (one_of_two s.classes (one_range s.classes 48 57) (one_range s.classes 97 102)) (one_range s.classes 65 70))) refl refl refl)) (atomic s) (maybe s 1429 refl (at_once s) (one_of s 52 (one_called s.classes rule.hex_digit refl refl refl (one_of_two s.classes (one_of_two s.classes (one_range s.classes 48 57) (one_range s.classes 97 102)) (one_range s.classes 65 70))) refl refl refl))))))))) (atomic s) (one_of s 53 (one_called s.classes rule.closing_brace refl refl refl (one_text s.classes 125)) refl refl refl)
 
   all_bodies : AreLaidAll false meta_grammar classes code number_of called called
   unfolding called
@@ -1166,8 +1157,7 @@ module _ (classes : Classes) (code : CodeLists) (is : IsFastCode code) where
       (also inner_str_atomic_apart
       (also code_atomic_apart
       (also unicode_atomic_apart
-      (also block_comment_atomic_apart
-      done)))))))))))))))))))))))))))))))))))))))))))))))))))))))))))))))))))))))))))))))))))))))))))))))))))))))))))))))))))))))))))))))))))))))))))
+      done))))))))))))))))))))))))))))))))))))))))))))))))))))))))))))))))))))))))))))))))))))))))))))))))))))))))))))))))))))))))))))))))))))))))))
 
   has_call : (r : Rule) → IsPoint called (Run NonAtomicMode (Ident (name_of r))) (number_of (name_of r) + 3) 1 2
   unfolding called

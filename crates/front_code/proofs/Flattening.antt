@@ -7,7 +7,7 @@ use Rattle.base_language.specs.Language.Meaning.{Task}
 use Rattle.matcher_code.specs.Lists.{CodeLists}
 use Rattle.matcher_code.specs.Laid as lay
 use Rattle.matcher_code.specs.Laid.{AreLaid, IsPart, IsPoint, Lays, Point, no_point}
-use Rattle.front_code.specs.Layouts.{AreLaidAll, LaysAll, also, call, choice, done, in_place, leaf, neg_pred, nothing, opt, rep, rep_once, routine, seq, skips, sub, switched_choice, tight_rep, tried_seq}
+use Rattle.front_code.specs.Layouts.{AreLaidAll, LaysAll, also, call, choice, done, in_place, leaf, neg_pred, nothing, opt, rep, rep_min_max, rep_once, routine, seq, skips, sub, switched_choice, tight_rep, tried_seq}
 
 -- a point is in a list
 data In (p : Point) : List Point → Type 0 where
@@ -73,6 +73,7 @@ module _ (exact : Bool) (g : Grammar) (classes : Classes) (code : CodeLists) (nu
   height (tight_rep i t o h e a) = suc (height a)
   height (rep i j k x z h e o p a b c) = suc (height a + height b)
   height (rep_once a) = suc (height a)
+  height (rep_min_max a) = suc (height a)
   height (skips a) = suc (height a)
   height (routine i j o p z) = 0
 
@@ -95,6 +96,7 @@ module _ (exact : Bool) (g : Grammar) (classes : Classes) (code : CodeLists) (nu
   below (tight_rep i t o h e a) = top a ∷ below a
   below (rep i j k x z h e o p a b c) = top a ∷ below a ++ top b ∷ below b
   below (rep_once a) = top a ∷ below a
+  below (rep_min_max a) = top a ∷ below a
   below (skips a) = top a ∷ below a
   below (routine i j o p z) = []
 
@@ -127,6 +129,7 @@ module _ (exact : Bool) (g : Grammar) (classes : Classes) (code : CodeLists) (nu
     laid_top (rep i j k y z h e o p a b c) x =
         lay.rep i j k y z h e o p (is_part (x (top a) here) (omega arith)) (is_part (x (top b) (behind (top a ∷ below a) (top b) (below b))) (omega arith)) c
     laid_top (rep_once a) x = lay.rep_once (is_part (x (top a) here) (omega arith))
+    laid_top (rep_min_max a) x = lay.rep_min_max (is_part (x (top a) here) (omega arith))
     laid_top (skips a) x = lay.skips (is_part (x (top a) here) (omega arith))
     laid_top (routine i j o p z) x = lay.routine i j o (has _ _ _ _ p) z
 
@@ -161,6 +164,7 @@ module _ (exact : Bool) (g : Grammar) (classes : Classes) (code : CodeLists) (nu
     laid_below (tight_rep i t o h e a) x q y = with_top a (laid_below a) x q y
     laid_below (rep i j k y z h e o p a b c) x q v = of_two (top a ∷ below a) (top b ∷ below b) (with_top a (laid_below a)) (with_top b (laid_below b)) x q v
     laid_below (rep_once a) x q y = with_top a (laid_below a) x q y
+    laid_below (rep_min_max a) x q y = with_top a (laid_below a) x q y
     laid_below (skips a) x q y = with_top a (laid_below a) x q y
     laid_below (routine i j o p y) x q z = elim z [ ]
 

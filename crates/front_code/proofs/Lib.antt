@@ -1,6 +1,5 @@
 pub mod Flattening
 pub mod Leaves
-pub mod Counted
 pub mod Characters
 pub mod Outside
 pub mod Shapes

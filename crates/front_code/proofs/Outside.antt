@@ -115,16 +115,6 @@ module _ (classes : Classes) where
       some [] h = absurd h
       some (c ∷ cs) h = sym (x.covers c h.0) ∙ h.1
 
-  pub takes_first : {m : Mode} {a b : Expression} (r : List (ℕ × ℕ)) → Takes (Run m a) r → Takes (Run m (Choice a b)) r
-  takes_first r x s h = let u = x s h in (by.left u.0, u.1)
-
-  pub takes_second : {m : Mode} {a b : Expression} (r q : List (ℕ × ℕ)) → Fails (Run m a) q false → are_apart r q ≡ true → Takes (Run m b) r
-      → Takes (Run m (Choice a b)) r
-  takes_second r q x a y s h =
-      let u = x s (hits_miss r q s.rest a h) in
-      let v = y s h in
-      (by.right u.0 v.0, λ place. ap₂ both (u.2 refl place) (v.1 place))
-
   -- any character but those with which an expression begins
   pub takes_other : {m : Mode} {a : Expression} (r q : List (ℕ × ℕ)) → IsTight meta_grammar classes m → IsRuleMode m → Fails (Run m a) q false
       → are_apart r q ≡ true → Takes (Run m (Seq (NegPred a) (Ident (codes "ANY")))) r

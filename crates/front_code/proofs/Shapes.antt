@@ -1,39 +1,40 @@
 -- How the code of a task is made of that of its parts.
-use Rattle.std.proofs.Common.{◌≡◌, if◌then◌else◌, refl, sym, ◌∙◌, ap, subst, ℕ, zero, suc, ◌<◌, inl, inr, List, [], ◌∷◌, Bool, true, false, ◌||◌, ◌&&◌, codes, get_or, length, nat_eq, nat_lt, arith}
+use Rattle.std.proofs.Common.{◌≡◌, refl, sym, ◌∙◌, ap, subst, ℕ, zero, suc, ◌<◌, inl, inr, List, [], ◌∷◌, Bool, true, false, ◌&&◌, chars, codes, get_or, length, nat_eq, nat_lt, arith}
 use Rattle.std.proofs.Math.Bool.{and-false}
 use Rattle.std.specs.Prelude.{IsAscii}
 use Rattle.std.specs.List.{list_all}
 use Rattle.std.proofs.lemmas.Bool.{and_parts, ltb-true}
 use Rattle.std.proofs.lemmas.Str.{IsUtf8-from_ascii, chars-IsAscii}
 use Rattle.base_language.specs.Language.Text.{Text}
-use Rattle.base_language.specs.Language.Expression.{Choice, Expression, Ident, NegPred, Opt, Range, Rep, RepMinMax, Seq, Str}
-use Rattle.base_language.specs.Language.State.{AtomicMode, Between, Classes, CompoundAtomicMode, Failure, IsRuleMode, Mode, NonAtomicMode, None', Success, moved}
-use Rattle.base_language.specs.Language.Matching.{character_outcome, end_outcome, starts_in, text_outcome}
-use Rattle.base_language.specs.Language.Builtins.{is_between}
+use Rattle.base_language.specs.Language.Expression.{Choice, Expression, Ident, NegPred, Opt, Rep, Seq, Str, comment, whitespace}
+use Rattle.base_language.specs.Language.State.{AtomicMode, Between, Classes, CompoundAtomicMode, IsRuleMode, Mode, NonAtomicMode}
+use Rattle.base_language.specs.Language.Matching.{character_outcome, end_outcome, text_outcome}
 use Rattle.base_language.specs.Language.Meaning as by
-use Rattle.base_language.specs.Language.Meaning.{Does, Run, Skipping, Task, body_mode, gives_token, seen_from, skipped}
+use Rattle.base_language.specs.Language.Meaning.{Run, Skipping, Task, body_mode, gives_token, seen_from, skipped}
 use Rattle.base_language.specs.Pieces.MetaRules.{name_of}
 use Rattle.base_language.specs.declared.grammar.Rule.{Rule}
 use Rattle.base_language.specs.declared.grammar.Rule.TheVariants as rule
-use Rattle.front_syntax.specs.MetaGrammar.{body_of, meta_grammar, rule_at, type_of_rule}
+use Rattle.front_syntax.specs.MetaGrammar.{any, body_of, meta_grammar, rule_at, type_of_rule}
 use Rattle.front_syntax.specs.Rows.{is_defined}
-use Rattle.front_syntax.proofs.Lookup.{defined_rule, no_eoi, no_soi}
-use Rattle.matcher_code.specs.Lists.{CodeLists, is_covered}
+use Rattle.front_syntax.proofs.Lookup.{defined_rule, no_any, no_eoi, no_soi}
+use Rattle.matcher_code.specs.Lists.{CodeLists}
 use Rattle.matcher_code.specs.declared.code.Op.{Op}
 use Rattle.matcher_code.specs.declared.code.Op.TheVariants as op
+use Rattle.matcher_code.specs.CommentRules.{comment_outcome}
 use Rattle.matcher_code.specs.Failures.{end_failures, in_silence}
-use Rattle.matcher_code.specs.Laid.{Enters, EntersTurn, FailsOutside, HasOutcome, IsPoint, IsSilent, IsTight, Performs, Point, TakesOne, at_label, no_point, skip_set}
+use Rattle.matcher_code.specs.Laid.{Enters, EntersTurn, FailsOutside, IsPoint, IsTight, Performs, Point, TakesOne, at_label, no_point, skip_set}
 use Rattle.matcher_code.specs.Sets.{IsSetOf}
 use Rattle.matcher_code.specs.Steps.{Config, StopsAt}
-use Rattle.matcher_code.proofs.Characters.{choice_of_sets, silent_call_of_set, span_of_set}
+use Rattle.matcher_code.proofs.Characters.{span_of_set}
+use Rattle.matcher_code.proofs.CommentBytes.{nested_performs}
+use Rattle.matcher_code.proofs.CommentRule.{comments_matched}
 use Rattle.matcher_code.proofs.Ends.{end_performs, start_performs}
 use Rattle.matcher_code.proofs.Leaves.{text_performs}
 use Rattle.front_code.specs.Codes.{HasParts}
 use Rattle.front_code.specs.Layouts.{LaysAll, call, choice, in_place, leaf, neg_pred, nothing, opt, rep, routine, skips, sub, tight_rep, tried_seq}
 use Rattle.front_code.specs.Numbers.{number_of}
 use Rattle.front_code.proofs.Characters.{TakesCharacter}
-use Rattle.front_code.proofs.Counted.{counted, counted_performs, two_to_six}
-use Rattle.front_code.proofs.Leaves.{all_as, end_outcome_of, one_as, start_outcome}
+use Rattle.front_code.proofs.Leaves.{all_as, any_outcome, end_outcome_of, one_as, start_outcome}
 
 -- bytes of ASCII
 ascii : (t : List ℕ) → list_all (λ c. nat_lt c 128) t ≡ true → IsAscii t
@@ -45,40 +46,6 @@ ascii (c ∷ t) h =
     go : (i : ℕ) → c < 128 → IsAscii t → get_or (c ∷ t) i 0 < 128
     go zero a b = a
     go (suc i) a b = b i
-
-or_three : (a b c : Bool) → ((a || b) || c) ≡ (a || (b || (c || false)))
-or_three true b c = refl
-or_three false true c = refl
-or_three false false true = refl
-or_three false false false = refl
-
-starts_same : (f h : ℕ → Bool) → ((c : ℕ) → f c ≡ h c) → (cs : Text) → starts_in f cs ≡ starts_in h cs
-starts_same f h e [] = refl
-starts_same f h e (c ∷ cs) = e c
-
--- the digits of a number in base 16
-abbrev hexadecimal : List (ℕ × ℕ)
-hexadecimal = (48, 57) ∷ (97, 102) ∷ (65, 70) ∷ []
-
-module _ (classes : Classes) where
-  same_set : (k : Task) (f h : ℕ → Bool) → ((c : ℕ) → f c ≡ h c) → HasOutcome meta_grammar classes k (character_outcome f) in_silence
-      → HasOutcome meta_grammar classes k (character_outcome h) in_silence
-  same_set k f h e x s =
-      subst (λ b. (d : Does meta_grammar classes k s (if b then Success (moved 1 s) None' else Failure)) × IsSilent d) (starts_same f h e s.rest) (x s)
-
-  ranges_of : (a b : ℕ) → HasOutcome meta_grammar classes (Run AtomicMode (Range (a ∷ []) (b ∷ []))) (character_outcome (is_between a b)) in_silence
-  ranges_of a b s = (by.range, λ place. refl)
-
-  digit_outcome : HasOutcome meta_grammar classes (Run AtomicMode (Ident (name_of rule.hex_digit))) (character_outcome (is_covered hexadecimal)) in_silence
-  digit_outcome =
-      same_set (Run AtomicMode (Ident (name_of rule.hex_digit))) (λ c. (is_between 48 57 c || is_between 97 102 c) || is_between 65 70 c) (is_covered hexadecimal)
-      (λ c. or_three (is_between 48 57 c) (is_between 97 102 c) (is_between 65 70 c))
-      (silent_call_of_set meta_grammar classes AtomicMode (name_of rule.hex_digit) (rule_at rule.hex_digit) (λ c. (is_between 48 57 c || is_between 97 102 c) || is_between 65 70 c)
-      (defined_rule rule.hex_digit refl) refl
-      (choice_of_sets meta_grammar classes AtomicMode (Choice (Range (48 ∷ []) (57 ∷ [])) (Range (97 ∷ []) (102 ∷ []))) (Range (65 ∷ []) (70 ∷ []))
-      (λ c. is_between 48 57 c || is_between 97 102 c) (is_between 65 70)
-      (choice_of_sets meta_grammar classes AtomicMode (Range (48 ∷ []) (57 ∷ [])) (Range (97 ∷ []) (102 ∷ [])) (is_between 48 57) (is_between 97 102) (ranges_of 48 57) (ranges_of 97 102))
-      (ranges_of 65 70)))
 
 -- a point of a list by its place
 pub at_point : (called : List Point) {k : Task} {l n w : ℕ} (i : ℕ) → nat_lt i (length called) ≡ true
@@ -251,11 +218,18 @@ module _ (s : Setting) where
       → op_of last ≡ op.Ahead w → Laid (Run m (NegPred e)) l n w
   never {l = l} first last o a z = neg_pred first last (has_op l o) a (has_op last z)
 
-  -- from two to six digits
-  pub digits : {l n : ℕ} (i p q r t v : ℕ) → nat_lt i (length s.sets) ≡ true → get_or s.sets i [] ≡ hexadecimal
-      → op_of l ≡ op.One i p 0 → op_of p ≡ op.One i q 0 → op_of q ≡ op.One i r n → op_of r ≡ op.One i t n → op_of t ≡ op.One i v n → op_of v ≡ op.One i n n
-      → Laid (Run AtomicMode (RepMinMax (Ident (name_of rule.hex_digit)) 2 6)) l n 0
-  digits {l} {n} i p q r t v h e a b c d f g =
-      leaf (counted (is_covered hexadecimal) 2 4) in_silence (two_to_six meta_grammar s.classes (is_covered hexadecimal) (Ident (name_of rule.hex_digit)) (digit_outcome s.classes))
-      (counted_performs s.code number_of fails i hexadecimal (has_set i h e) 1 4 l n (omega arith)
-      (p, has_op l a, (q, has_op p b, (r, has_op q c, (t, has_op r d, (v, has_op t f, (n, has_op v g, refl)))))))
+  -- a comment, with the comments within it, where nothing is skipped
+  pub comments : {l n w : ℕ} (i j : ℕ) → op_of l ≡ op.Nested i j n w → get_or s.texts i [] ≡ codes "/*" → get_or s.texts j [] ≡ codes "*/"
+      → Laid (Run AtomicMode (Ident (name_of rule.block_comment))) l n w
+  unfolding whitespace comment
+  comments {l} {n} {w} i j o e f =
+      let a : IsAscii (codes "/*") = ascii (codes "/*") refl in
+      let b : IsAscii (codes "*/") = ascii (codes "*/") refl in
+      within rule.block_comment refl refl refl
+      (leaf (comment_outcome (codes "/*") (codes "*/")) in_silence
+      (comments_matched meta_grammar s.classes AtomicMode tight_atomic (name_of rule.block_comment) (codes "/*") (codes "*/") any (body_of rule.block_comment) (inl refl)
+      (rule_at rule.block_comment) (defined_rule rule.block_comment refl) refl refl refl (any_outcome meta_grammar s.classes AtomicMode tt no_any) (ltb-true 0 2 refl) (ltb-true 0 2 refl))
+      (subst (λ t. Performs s.code number_of l n w (comment_outcome t (codes "*/")) in_silence) (chars-IsAscii (codes "/*") a)
+      (subst (λ t. Performs s.code number_of l n w (comment_outcome (chars (codes "/*")) t) in_silence) (chars-IsAscii (codes "*/") b)
+      (nested_performs s.code number_of fails i j (codes "/*") (codes "*/") (IsUtf8-from_ascii (codes "/*") a) (IsUtf8-from_ascii (codes "*/") b) refl refl
+      (ap (λ ts. get_or ts i []) s.has.texts ∙ e) (ap (λ ts. get_or ts j []) s.has.texts ∙ f) l n w (has_op l o)))))

@@ -16,7 +16,7 @@ use Rattle.matcher_code.specs.declared.state.Places.{Places}
 use Rattle.matcher_code.proofs.Attempting.{called}
 
 -- a state by its parts
-abbrev here : ℕ → Text → List Text → State
+abbrev pub here : ℕ → Text → List Text → State
 here p cs ts = record { position = p; rest = cs; stack = ts }
 
 moved_none : (p : ℕ) (cs : Text) (ts : List Text) → moved 0 (here p cs ts) ≡ here p cs ts
@@ -35,7 +35,7 @@ none_left zero p ts = moved_none p [] ts
 none_left (suc n) p ts = ap (λ q. here q [] ts) (add-zero p)
 
 -- taking characters in two parts
-moved_add : (j i p : ℕ) (cs : Text) (ts : List Text) → moved (j + i) (here p cs ts) ≡ moved i (moved j (here p cs ts))
+pub moved_add : (j i p : ℕ) (cs : Text) (ts : List Text) → moved (j + i) (here p cs ts) ≡ moved i (moved j (here p cs ts))
 moved_add zero i p cs ts =
     let e : 0 + i ≡ i = omega arith in
     ap (λ n. moved n (here p cs ts)) e ∙ ap (moved i) (sym (moved_none p cs ts))
@@ -84,7 +84,7 @@ other_starts : (f h : ℕ → Bool) (t : Text) → starts_in (λ c. not (f c) &&
 other_starts f h [] = refl
 other_starts f h (c ∷ t) = refl
 
-abbrev either : State → Bool → Outcome
+abbrev pub either : State → Bool → Outcome
 either t b = if b then Success t None' else Failure
 
 hidden : (b : Bool) → (b && false) ≡ false
@@ -93,19 +93,19 @@ hidden false = refl
 
 module _ (g : Grammar) (classes : Classes) where
   -- a derivation that notes no failure
-  abbrev Quiet : Task → State → Outcome → Type 0
+  abbrev pub Quiet : Task → State → Outcome → Type 0
   Quiet k s o = (d : Does g classes k s o) × IsSilent d
 
   -- nor do two that note none, or three, nor a negation
-  two_silent : {f h : Places → Failures} → ((asked : Places) → f asked ≡ no_failure) → ((asked : Places) → h asked ≡ no_failure)
+  pub two_silent : {f h : Places → Failures} → ((asked : Places) → f asked ≡ no_failure) → ((asked : Places) → h asked ≡ no_failure)
       → (asked : Places) → both (f asked) (h asked) ≡ no_failure
   two_silent x y asked = ap₂ both (x asked) (y asked)
 
-  three_silent : {f h i : Places → Failures} → ((asked : Places) → f asked ≡ no_failure) → ((asked : Places) → h asked ≡ no_failure) → ((asked : Places) → i asked ≡ no_failure)
+  pub three_silent : {f h i : Places → Failures} → ((asked : Places) → f asked ≡ no_failure) → ((asked : Places) → h asked ≡ no_failure) → ((asked : Places) → i asked ≡ no_failure)
       → (asked : Places) → both (f asked) (both (h asked) (i asked)) ≡ no_failure
   three_silent x y z asked = ap₂ both (x asked) (ap₂ both (y asked) (z asked))
 
-  negated_silent : {f : Places → Failures} → ((asked : Places) → f asked ≡ no_failure) → (asked : Places) → unnamed (f asked) ≡ no_failure
+  pub negated_silent : {f : Places → Failures} → ((asked : Places) → f asked ≡ no_failure) → (asked : Places) → unnamed (f asked) ≡ no_failure
   negated_silent x asked = ap unnamed (x asked)
 
   left_or_right : (m : Mode) (a b : Expression) (s t : State) (p q : Bool) → Quiet (Run m a) s (either t p) → Quiet (Run m b) s (either t q)
@@ -132,7 +132,7 @@ module _ (g : Grammar) (classes : Classes) where
       subst (λ p. Quiet (Run m (Seq (NegPred a) b)) s (either (moved 1 s) p)) (sym (other_starts f h s.rest))
       (not_and_then m a b s (moved 1 s) (starts_in f s.rest) (starts_in h s.rest) tight (x s) (y s))
 
-  silently : (m : Mode) (x : Text) (s : State) (r : Rule) (t : State) (p : Bool) → rule_of g x ≡ Some r → gives_token r.type_of m ≡ false
+  pub silently : (m : Mode) (x : Text) (s : State) (r : Rule) (t : State) (p : Bool) → rule_of g x ≡ Some r → gives_token r.type_of m ≡ false
       → Quiet (Run (body_mode r m) r.body) s (either t p) → Quiet (Run m (Ident x)) s (either t p)
   silently m x s r t true h e d =
       let z : (seen_from m && gives_token r.type_of m) ≡ false = ap (λ b. seen_from m && b) e ∙ hidden (seen_from m) in

@@ -1,4 +1,5 @@
 pub mod ReadingLemmas
+pub mod WideCharacters
 pub mod SetLemmas
 pub mod Trees
 pub mod Reaching
@@ -27,3 +28,8 @@ pub mod Pieces
 pub mod Parts
 pub mod Expected
 pub mod Fusing
+pub mod Closings
+pub mod CommentRule
+pub mod CommentBytes
+pub mod CommentPositions
+pub mod CommentLengths

@@ -4,7 +4,9 @@ pub mod Lists
 pub mod Operations
 pub mod Words
 pub mod Ranges
+pub mod Comments
 pub mod Reading
+pub mod Within
 pub mod Sets
 pub mod Steps
 pub mod Fused
@@ -13,6 +15,7 @@ pub mod Endings
 pub mod Attempts
 pub mod Paths
 pub mod Failures
+pub mod CommentRules
 pub mod Laid
 pub mod Reached
 pub mod Sizes

@@ -76,6 +76,14 @@ pub enum Op {
         list: u32,
         next: u32,
     },
+    /// Takes a comment, with the comments within it, by the numbers of the texts that open and close one. A
+    /// comment that is left open fails, and within another one it is a part of its text.
+    Nested {
+        opening: u32,
+        closing: u32,
+        next: u32,
+        fail: u32,
+    },
     /// Pushes a slot with the state here, which a later failure restores.
     Try {
         next: u32,

@@ -1,5 +1,5 @@
 //! Laws over the definitions alone.
-ghost use Rattle.std.specs.Prelude.{◌≡◌, ◌<◌, ◌*◌, ◌==◌, ◌&&◌, ◌||◌, ℕ, ℤ, Bool, List, [], IsUtf8, Option, Some, chars, codes, false, get_or, if◌then◌else◌, map, nat_eq, not, true};
+ghost use Rattle.std.specs.Prelude.{◌≡◌, ◌<◌, ◌*◌, ◌==◌, ◌&&◌, ◌||◌, ℕ, ℤ, Bool, List, [], IsUtf8, Option, Some, chars, codes, false, get_or, if◌then◌else◌, length, map, nat_eq, not, true};
 ghost use Rattle.std.specs.Char.{eq_ignore_ascii_case};
 ghost use Rattle.base_language.specs.Language.Expression.{Choice, Expression, Grammar, Ident, NegPred, Rep, Rule, Seq, rule_of};
 ghost use Rattle.base_language.specs.Language.Meaning.{Does, Run, Task, body_mode, gives_token, seen_from, with_top};
@@ -8,6 +8,8 @@ ghost use Rattle.base_language.specs.Language.Text.{Text};
 ghost use Rattle.base_language.specs.Language.Matching.{character_outcome, concatenated, distance, drop_outcome, end_outcome, newline_outcome, peek_outcome, pop_outcome, slice_outcome, text_outcome, with_stack};
 ghost use Rattle.matcher_code.specs.Failures.{end_failures, failures_at, in_silence};
 ghost use Rattle.matcher_code.specs.declared.state.Places.{Places};
+ghost use Rattle.matcher_code.specs.CommentRules.{IsCommentBody, comment_outcome};
+ghost use Rattle.matcher_code.specs.Comments.{can_delimit};
 ghost use Rattle.matcher_code.specs.Reading.{text_of};
 ghost use Rattle.matcher_code.specs.Sets.{IsSetOf};
 ghost use Rattle.matcher_code.specs.Steps.{Config, jump, op_at, steps};
@@ -134,6 +136,27 @@ pub fn until_operation_finds_text()
         → (number : Text → ℕ) → op_at code [] 0 ≡ op.Fail → (l n w : ℕ)
         → op_at code [] l ≡ op.Until firsts list n
         → Performs code number l n w (λ s. Success (moved (distance ts s.rest) s) None') in_silence }
+{}
+
+/// Where the operation 0 is `Fail`, the operation `Nested` of two texts, not empty and of fewer than 256
+/// bytes, takes a comment.
+pub fn nested_operation_takes_comment()
+    ensures { (code : CodeLists) (number : Text → ℕ) → op_at code [] 0 ≡ op.Fail
+        → (l n w i j : ℕ) (opening closing : List ℕ) → IsUtf8 opening → IsUtf8 closing
+        → can_delimit opening ≡ true → can_delimit closing ≡ true
+        → text_of code i ≡ opening → text_of code j ≡ closing → op_at code [] l ≡ op.Nested i j n w
+        → Performs code number l n w (comment_outcome (chars opening) (chars closing)) in_silence }
+{}
+
+/// Where nothing is skipped, the body of a rule `opening ~ (name | !closing ~ any)* ~ closing`, whose calls
+/// give no token, takes a comment, with the comments within it; so the operation `Nested` does its task.
+pub fn comment_rule_takes_comment()
+    ensures { (g : Grammar) (classes : Classes) (m : Mode) (name : Text) (r : Rule)
+        → IsTight g classes m → rule_of g name ≡ Some r → body_mode r m ≡ m → gives_token r.type_of m ≡ false
+        → (opening closing : Text) (any : Expression) → 0 < length opening → 0 < length closing
+        → HasOutcome g classes (Run m any) (character_outcome (λ c. true)) in_silence
+        → IsCommentBody name opening closing any r.body
+        → HasOutcome g classes (Run m r.body) (comment_outcome opening closing) in_silence }
 {}
 
 /// Where the operation 0 is `Fail`, the operation `One` of a set matches one character of it.

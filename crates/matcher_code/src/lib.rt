@@ -4,6 +4,7 @@
 
 pub mod bytecode;
 pub mod code;
+pub mod comments;
 pub mod fused;
 mod halves;
 pub mod laws;

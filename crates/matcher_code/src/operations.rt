@@ -85,6 +85,12 @@ fn op_of(words: [u32; 5]) -> Op
         31 => Op::Halt,
         32 => Op::Not { next: a, fail: b },
         33 => Op::Miss { row: a, next: b },
+        34 => Op::Nested {
+            opening: a,
+            closing: b,
+            next: c,
+            fail: d,
+        },
         _ => Op::Lose,
     }
 }

@@ -7,3 +7,6 @@ pub mod Recalling
 pub mod Outlining
 pub mod Circling
 pub mod Advancing
+pub mod Paying
+pub mod Tables
+pub mod Returning

@@ -11,7 +11,7 @@ pub fn own_runs_go_the_same_way_in_frames()
         → IsOwnRun code text (framed f c) (framed f d) }
 {}
 
-/// What a run has found does not say where an operation goes that leaves the stack as it is.
+/// An operation that leaves the stack as it is goes to one place, whatever a run has found.
 pub fn outlines_go_the_same_way()
     ensures { (code : CodeLists) (text : List ℕ) (c d : Config) → outline c ≡ outline d
         → is_plain (op_at code text c.pc) ≡ true → outline (step code text c) ≡ outline (step code text d) }

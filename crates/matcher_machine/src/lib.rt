@@ -1,6 +1,7 @@
 //! Programs of operations, run on texts.
 #![tactic(auto)]
 
+mod comments;
 mod fused_operations;
 mod fused_running;
 pub mod laws;
