@@ -11,3 +11,4 @@ pub mod Reading
 pub mod Noting
 pub mod Relaxing
 pub mod Numbering
+pub mod Columned

@@ -1,5 +1,6 @@
 pub mod Names
 pub mod Sets
 pub mod Plans
+pub mod Columns
 pub mod Compiled
 pub mod Exact

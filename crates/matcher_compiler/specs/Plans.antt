@@ -37,7 +37,7 @@ use Rattle.matcher_sets.specs.Ranges.{Covers}
 abbrev pub body_in : Program → ℕ → Expression
 body_in p i = (get_or (grammar_in p) i no_rule).body
 
--- the parts of the implicit skipping: blanks, and a comment with blanks behind it
+-- the parts of the implicit skipping: blanks, and a comment with blanks after it
 abbrev pub blanks : Expression
 blanks = Rep (Ident whitespace)
 

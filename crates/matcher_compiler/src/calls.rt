@@ -42,19 +42,6 @@ fn body_number(rule: usize, mode: Atomicity, gives: bool) -> usize {
         .saturating_add(other)
 }
 
-/// Returns a label after those of `Fail`, `Halt`, `Lose` and the entries, for the body of a number.
-fn body_label(rules: usize, number: usize) -> u32 {
-    let label = number
-        .saturating_mul(2)
-        .saturating_add(rules)
-        .saturating_add(3);
-    if label < 0xffff_fff0 {
-        label as u32
-    } else {
-        FAIL
-    }
-}
-
 impl<'p> Plan<'p> {
     /// Remembers the point of a body.
     fn remember(&mut self, number: usize, point: usize)
@@ -95,14 +82,23 @@ impl<'p> Plan<'p> {
         }
     }
 
+    /// Returns the labels where the point of a number begins and where it goes on.
+    fn labels_of(&self, number: usize) -> (u32, u32) {
+        match self.points.get(number) {
+            Some(point) => (point.at.label, point.at.next),
+            None => (FAIL, FAIL),
+        }
+    }
+
     /// Plans the body of a rule in a mode, once for each mode and each use of it, and returns the labels where
-    /// it begins and where it goes on.
+    /// it begins and where it goes on: `own` and the next one, which are free, if it is new.
     fn body(
         &mut self,
         program: &Program,
         rule: usize,
         mode: Atomicity,
         gives: bool,
+        own: u32,
     ) -> Result<(u32, u32), NotCompiled>
         requires within { rule < length program.now.rows.items }
         ensures later { OnOk result (IsLater program.now self.old self.new) }
@@ -111,17 +107,16 @@ impl<'p> Plan<'p> {
             → IsPoint laid (Run (mode_of mode) (body_in program.now rule)) labels.0 labels.1 0) }
     {
         let number = body_number(rule, mode, gives);
-        let first = body_label(program.rows.len(), number);
-        let last = first.saturating_add(1);
         let place = Place {
             mode,
-            label: first,
-            next: last,
+            label: own,
+            next: own.saturating_add(1),
             way: FAIL,
             rank: TOP_RANK,
             around: NO_CALL,
         };
         let point = self.body_point(rule, place, number)?;
+        let (first, last) = self.labels_of(point);
         self.demand(Demand::Body {
             rule,
             mode,
@@ -132,13 +127,14 @@ impl<'p> Plan<'p> {
         Ok((first, last))
     }
 
-    /// Plans a call that gives a token.
+    /// Plans a call that gives a token. The labels from `own` on are free.
     fn token_call(
         &mut self,
         program: &Program,
         rule: usize,
         row: &Row,
         at: Place,
+        own: u32,
     ) -> Result<(), NotCompiled>
         requires sound { IsSoundProgram program.now }
         requires last { IsLast program.now.rows.items rule }
@@ -154,7 +150,7 @@ impl<'p> Plan<'p> {
     {
         let inner = body_mode(row.kind, row.blank, at.mode);
         let counts = is_seen_from(at.mode);
-        let (to, last) = self.body(program, rule, inner, true)?;
+        let (to, last) = self.body(program, rule, inner, true, own)?;
         self.operation(last, Op::Return)?;
         self.operation(
             at.label,
@@ -169,13 +165,14 @@ impl<'p> Plan<'p> {
         Ok(())
     }
 
-    /// Plans a call that gives no token.
+    /// Plans a call that gives no token. The labels from `own` on are free.
     fn silent_call(
         &mut self,
         program: &Program,
         rule: usize,
         row: &Row,
         at: Place,
+        own: u32,
     ) -> Result<(), NotCompiled>
         requires sound { IsSoundProgram program.now }
         requires within { rule < length program.now.rows.items }
@@ -188,7 +185,7 @@ impl<'p> Plan<'p> {
             (Run (mode_of at.mode) (Ident (name_at (names_of program.now.rows.items) rule))) at) }
     {
         let inner = body_mode(row.kind, row.blank, at.mode);
-        let (to, last) = self.body(program, rule, inner, false)?;
+        let (to, last) = self.body(program, rule, inner, false, own)?;
         self.operation(last, Op::Back)?;
         self.operation(
             at.label,
@@ -268,13 +265,14 @@ impl<'p> Plan<'p> {
         Ok(())
     }
 
-    /// Plans a call that gives no token, in place if that may be.
+    /// Plans a call that gives no token, in place if that may be. The labels from `own` on are free.
     fn quiet_call(
         &mut self,
         program: &Program,
         rule: usize,
         row: &Row,
         at: Place,
+        own: u32,
     ) -> Result<(), NotCompiled>
         requires sound { IsSoundProgram program.now }
         requires within { rule < length program.now.rows.items }
@@ -289,12 +287,18 @@ impl<'p> Plan<'p> {
         if self.is_placed(row, rule, at) {
             self.placed_call(program, rule, row, at)
         } else {
-            self.silent_call(program, rule, row, at)
+            self.silent_call(program, rule, row, at, own)
         }
     }
 
-    /// Plans a call of a rule that is the last one of its name.
-    fn last_call(&mut self, program: &Program, rule: usize, at: Place) -> Result<(), NotCompiled>
+    /// Plans a call of a rule that is the last one of its name. The labels from `own` on are free.
+    fn last_call(
+        &mut self,
+        program: &Program,
+        rule: usize,
+        at: Place,
+        own: u32,
+    ) -> Result<(), NotCompiled>
         requires sound { IsSoundProgram program.now }
         requires last { IsLast program.now.rows.items rule }
         requires few { length program.now.rows.items < 2 ^ 28 }
@@ -305,19 +309,21 @@ impl<'p> Plan<'p> {
     {
         let row = &program.rows[rule];
         if gives_token(row.kind, at.mode) {
-            self.token_call(program, rule, row, at)
+            self.token_call(program, rule, row, at, own)
         } else {
-            self.quiet_call(program, rule, row, at)
+            self.quiet_call(program, rule, row, at, own)
         }
     }
 
-    /// Plans a call of the last rule of a name, which is that of the rule of a number.
+    /// Plans a call of the last rule of a name, which is that of the rule of a number. The labels from `own`
+    /// on are free.
     pub(crate) fn call(
         &mut self,
         program: &Program,
         lasts: &[usize],
         rule: usize,
         at: Place,
+        own: u32,
     ) -> Result<(), NotCompiled>
         requires sound { IsSoundProgram program.now }
         requires lasts { AreLast program.now.rows.items lasts.now }
@@ -327,6 +333,6 @@ impl<'p> Plan<'p> {
         ensures lays { OnOk result (LaysAt program.now self.new
             (Run (mode_of at.mode) (Ident (name_at (names_of program.now.rows.items) rule))) at) }
     {
-        self.last_call(program, lasts[rule], at)
+        self.last_call(program, lasts[rule], at, own)
     }
 }

@@ -9,8 +9,8 @@ ghost use Rattle.matcher_sets.specs.Modes.{mode_of};
 ghost use Rattle.matcher_compiler.specs.Exact.{IsAllowed, is_exact, is_note};
 ghost use Rattle.matcher_compiler.specs.Plans.{HasBranch, IsMet, body_in, laid_point};
 
+use crate::columns::has_branch;
 use crate::points::{Branch, Demand, Part, Point};
-use crate::tables::has_branch;
 use matcher_code::code::{Code, Op};
 use matcher_sets::modes::Atomicity;
 
@@ -91,7 +91,7 @@ fn is_same_text(one: Op, other: Op) -> bool
     }
 }
 
-/// Returns whether two operations are the same one of those that skip characters and look behind them, or
+/// Returns whether two operations are the same one of those that skip characters and test the next one, or
 /// that match texts.
 fn is_same_gap(one: Op, other: Op) -> bool
     ensures { result ≡ true → one ≡ other }

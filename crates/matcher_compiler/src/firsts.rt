@@ -47,7 +47,7 @@ fn is_wide(ranges: &Ranges) -> bool {
     false
 }
 
-/// Returns the head of a form in a mode, if it is known and tells that the form fails elsewhere.
+/// Returns the head of a form in a mode, if it is known and the form fails elsewhere.
 pub(crate) fn narrow_head(
     alloc: Global,
     program: &Program,
@@ -74,7 +74,7 @@ pub(crate) fn narrow_head(
     }
 }
 
-/// Returns the head of a form in a mode, if it is known and tells that the form takes nothing elsewhere, and
+/// Returns the head of a form in a mode, if it is known and the form takes nothing elsewhere, and
 /// does not fail.
 pub(crate) fn spare_head(
     alloc: Global,

@@ -282,12 +282,13 @@ impl<'p> Plan<'p> {
         }
     }
 
-    /// Plans a call of `WHITESPACE`, which is as one in NonAtomic.
+    /// Plans a call of `WHITESPACE`, which is as one in NonAtomic. The labels from `own` on are free.
     pub(crate) fn blank_call(
         &mut self,
         program: &Program,
         lasts: &[usize],
         at: Place,
+        own: u32,
     ) -> Result<(), NotCompiled>
         requires sound { IsSoundProgram program.now }
         requires lasts { AreLast program.now.rows.items lasts.now }
@@ -303,7 +304,7 @@ impl<'p> Plan<'p> {
             mode: Atomicity::NonAtomic,
             ..at
         };
-        self.call(program, lasts, rule, place)?;
+        self.call(program, lasts, rule, place, own)?;
         Ok(())
     }
 
@@ -365,7 +366,7 @@ impl<'p> Plan<'p> {
         Ok(())
     }
 
-    /// Plans a comment with blanks behind it. The labels from `own` on are free.
+    /// Plans a comment with blanks after it. The labels from `own` on are free.
     pub(crate) fn comment(
         &mut self,
         program: &Program,
@@ -416,12 +417,13 @@ impl<'p> Plan<'p> {
         Ok(())
     }
 
-    /// Plans a call of `COMMENT`, which is as one in NonAtomic.
+    /// Plans a call of `COMMENT`, which is as one in NonAtomic. The labels from `own` on are free.
     pub(crate) fn comment_call(
         &mut self,
         program: &Program,
         lasts: &[usize],
         at: Place,
+        own: u32,
     ) -> Result<(), NotCompiled>
         requires sound { IsSoundProgram program.now }
         requires lasts { AreLast program.now.rows.items lasts.now }
@@ -437,7 +439,7 @@ impl<'p> Plan<'p> {
             mode: Atomicity::NonAtomic,
             ..at
         };
-        self.call(program, lasts, rule, place)?;
+        self.call(program, lasts, rule, place, own)?;
         Ok(())
     }
 }

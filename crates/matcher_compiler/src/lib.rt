@@ -3,6 +3,7 @@
 
 mod calls;
 mod check;
+mod columns;
 pub mod compile;
 mod compounds;
 mod firsts;

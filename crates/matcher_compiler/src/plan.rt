@@ -15,7 +15,7 @@ use std::alloc::Global;
 /// How many sets are compared with a new one, so that many sets take linear time.
 const MOST_KNOWN: usize = 256;
 
-/// What the implicit skipping takes.
+/// The parts of the implicit skipping.
 #[derive(Clone, Copy)]
 pub enum Skips {
     Nothing,
@@ -23,7 +23,7 @@ pub enum Skips {
     Blanks(u32),
     /// Comments, and the characters of a set.
     Comments(u32),
-    /// What calls of `WHITESPACE` take, and comments, if there are such. The set is empty.
+    /// Calls of `WHITESPACE`, and comments, if there are such. The set is empty.
     Calls(u32),
 }
 

@@ -20,21 +20,14 @@ use matcher_sets::heads::Heads;
 use matcher_sets::modes::Atomicity;
 use std::alloc::Global;
 
-/// How many labels a rule has of its own: its entry, and two for its body in each mode, with and without a
-/// token.
-const RULE_LABELS: usize = 13;
-
 /// The number from which on there are too many labels.
 const TOO_MANY_LABELS: u32 = 0xffff_fff0;
 
-/// Returns the first label after `Fail`, `Halt`, `Lose` and the labels of rules, or one of too many.
-fn first_free(rules: usize) -> u32 {
-    let label = rules.saturating_mul(RULE_LABELS).saturating_add(3);
-    if label < TOO_MANY_LABELS as usize {
-        label as u32
-    } else {
-        TOO_MANY_LABELS
-    }
+/// Returns the first label after `Fail`, `Halt`, `Lose` and the entries of rules.
+fn first_free(rules: usize) -> u32
+    requires few { rules < 2 ^ 28 }
+{
+    rules as u32 + 3
 }
 
 /// Returns the first label from one on that comes after those of the points from a number on.
@@ -288,7 +281,7 @@ impl<'p> Plan<'p> {
             Form::Start => self.start(program, at),
             Form::End => self.end_of_text(program, at, own),
             Form::Newline => self.newline(alloc, program, at, own),
-            Form::Call(rule) => self.call(program, lasts, *rule, at),
+            Form::Call(rule) => self.call(program, lasts, *rule, at, own),
             Form::PosPred(body) => self.ahead(program, body, at, own),
             Form::NegPred(body) => self.not_ahead(program, body, at, own),
             Form::Seq(first, second) => { self.two(alloc, program, heads, first, second, at, own) }
@@ -348,14 +341,14 @@ impl<'p> Plan<'p> {
                 }
                 None => Err(NotCompiled::Unsupported),
             },
-            Part::Rule(rule) => self.call(program, lasts, rule, at),
+            Part::Rule(rule) => self.call(program, lasts, rule, at, own),
             Part::Gap => self.gap(program, at),
             Part::Skipped => self.plan_skipping(alloc, program, heads, at, own),
             Part::Blanks => self.blanks(alloc, program, heads, at, own),
-            Part::BlankCall => self.blank_call(program, lasts, at),
+            Part::BlankCall => self.blank_call(program, lasts, at, own),
             Part::Comments => self.comments(alloc, program, heads, at, own),
             Part::Comment => self.comment(program, at, own),
-            Part::CommentCall => self.comment_call(program, lasts, at),
+            Part::CommentCall => self.comment_call(program, lasts, at, own),
             Part::Stay => self.stay_between(program, at),
         }
     }

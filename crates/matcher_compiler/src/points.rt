@@ -24,13 +24,13 @@ pub enum Part<'p> {
     Blanks,
     /// A call of `WHITESPACE`, in the implicit skipping.
     BlankCall,
-    /// As many comments as there are, in the implicit skipping, with blanks behind each.
+    /// As many comments as there are, in the implicit skipping, with blanks after each.
     Comments,
-    /// A comment with blanks behind it, in the implicit skipping.
+    /// A comment with blanks after it, in the implicit skipping.
     Comment,
     /// A call of `COMMENT`, in the implicit skipping.
     CommentCall,
-    /// What is skipped in the implicit skipping: nothing.
+    /// Nothing, in the implicit skipping.
     Stay,
 }
 

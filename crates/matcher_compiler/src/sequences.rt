@@ -1,4 +1,4 @@
-//! Sequences, and blanks with a test of what is behind them.
+//! Sequences, and blanks with a test of the next character.
 ghost use Rattle.std.specs.Prelude.{◌≡◌, None, OnOk};
 ghost use Rattle.base_language.specs.Language.Expression.{Seq, comment, rule_of};
 ghost use Rattle.base_language.specs.Language.Meaning.{Run, skipped};
@@ -21,7 +21,7 @@ use matcher_sets::heads::{Head, Heads};
 use std::alloc::Global;
 
 impl<'p> Plan<'p> {
-    /// Plans blanks of a set, with a test of what is behind them, and then comments. The labels from `own` on
+    /// Plans blanks of a set, with a test of the next character, and then comments. The labels from `own` on
     /// are free.
     fn blanks_before(
         &mut self,
@@ -92,7 +92,7 @@ impl<'p> Plan<'p> {
         }
     }
 
-    /// Plans a sequence with blanks of a set between its parts, and a test of what is behind them: where no
+    /// Plans a sequence with blanks of a set between its parts, and a test of the next character: where no
     /// character of a head is next, the second part takes nothing. A failure goes on as the last slot says.
     /// The labels from `own` on are free.
     fn gap_sequence(
@@ -209,7 +209,7 @@ impl<'p> Plan<'p> {
         }
     }
 
-    /// Plans two expressions with blanks of a set between them, and a test behind these if that spares work.
+    /// Plans two expressions with blanks of a set between them, and a test after these if that spares work.
     fn blank_both(
         &mut self,
         alloc: Global,

@@ -25,7 +25,7 @@ use matcher_sets::texts::{all_characters, single_characters};
 use std::alloc::Global;
 
 /// Returns the characters that the repetition of a sequence takes, where a form refuses some characters, and
-/// one behind it takes others, if these are known.
+/// one after it takes others, if these are known.
 fn other_ranges(
     alloc: Global,
     program: &Program,
@@ -96,7 +96,7 @@ pub(crate) fn repeated_ranges(
     }
 }
 
-/// Returns the characters that a search for the first of some texts takes, if it is a span: each text is one
+/// Returns the characters that a search for the first of some texts takes, if it is a span of texts of one
 /// character.
 pub(crate) fn searched_ranges(
     alloc: Global,
@@ -195,7 +195,7 @@ impl<'p> Plan<'p> {
         Ok(())
     }
 
-    /// Plans a sequence of a span and another form, with a test behind the span if that spares work. The
+    /// Plans a sequence of a span and another form, with a test after the span if that spares work. The
     /// labels from `own` on are free.
     pub(crate) fn span_both(
         &mut self,

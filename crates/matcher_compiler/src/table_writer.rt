@@ -4,7 +4,8 @@ ghost use Rattle.matcher_compiler.specs.Plans.{KeepsData};
 
 use crate::points::{Branch, Demand, NotCompiled};
 use crate::tables::{
-    TABLE_SIZE, flag_at, has_note, index_of, label_for, next_label, operation_at, wide_label,
+    TABLE_SIZE, flag_at, has_note, index_of, is_test, label_for, next_label, operation_at,
+    wide_label,
 };
 use matcher_code::code::{Code, Op};
 use std::alloc::{AllocError, Global};
@@ -47,6 +48,10 @@ fn write_label(code: &mut Code, table: u32, head: Option<u8>, label: u32)
 fn write_alternative(code: &mut Code, table: u32, label: u32, here: Op)
     ensures { KeepsData code.old code.new }
 {
+    if !is_test(here) {
+        write_labels(code, table, 0, TABLE_SIZE, label);
+        return;
+    }
     for index in 0..TABLE_SIZE {
         let head = if index < 256 { Some(index as u8) } else { None };
         let to = next_label(code, label, here, head).unwrap_or(label);
@@ -126,12 +131,47 @@ fn write_notes(
     Ok(())
 }
 
+/// Writes a label where the flag is not 0.
+fn write_marked(labels: &mut [u32], flags: &[u8], label: u32) {
+    for (place, flag) in labels.iter_mut().zip(flags) {
+        if *flag != 0 {
+            *place = label;
+        }
+    }
+}
+
+/// Writes one label into a table for the first bytes from one to before another in whose place the first
+/// alternative of a choice begins.
+fn write_begun(code: &mut Code, branch: Branch, from: u32, to: u32)
+    requires { to ≤ 256 }
+    ensures { KeepsData code.old code.new }
+{
+    let row = branch.set as usize * 256;
+    let flags = match code.rows.get(row + from as usize..row + to as usize) {
+        Some(flags) => flags,
+        None => return,
+    };
+    let start = branch.table as usize + from as usize;
+    let end = branch.table as usize + to as usize;
+    if start <= end && end <= code.tables.len() {
+        write_marked(
+            &mut code.tables.as_mut_slice()[start..end],
+            flags,
+            branch.first,
+        );
+    }
+}
+
 /// Writes into a table where the first alternative of a choice, whose operation is given, leads for the first
 /// bytes with which it begins, from one to before another.
 fn write_first(code: &mut Code, branch: Branch, first: Op, from: u32, to: u32)
     requires { to ≤ 256 }
     ensures { KeepsData code.old code.new }
 {
+    if !is_test(first) {
+        write_begun(code, branch, from, to);
+        return;
+    }
     for byte in from..to {
         let head = Some(byte as u8);
         if flag_at(code, branch.set, head) != 0 {
@@ -141,12 +181,12 @@ fn write_first(code: &mut Code, branch: Branch, first: Op, from: u32, to: u32)
     }
 }
 
-/// Writes one label of a table for all first bytes above ASCII.
-fn write_wide(code: &mut Code, table: u32, label: u32)
+/// Writes one label into a table, so many times from an index in it on.
+fn write_labels(code: &mut Code, table: u32, from: u32, count: u32, label: u32)
     ensures { KeepsData code.old code.new }
 {
-    let start = table as usize + 128;
-    let end = start + 128;
+    let start = table as usize + from as usize;
+    let end = start + count as usize;
     if end <= code.tables.len() {
         code.tables.as_mut_slice()[start..end].fill(label);
     }
@@ -164,7 +204,7 @@ fn write_table(code: &mut Code, notes: &mut Vec<u32>, branch: Branch) -> Result<
     }
     write_first(code, branch, first, 0, 128);
     match wide_label(code, branch.first, first) {
-        Some(label) => write_wide(code, branch.table, label),
+        Some(label) => write_labels(code, branch.table, 128, 128, label),
         None => write_first(code, branch, first, 128, 256),
     }
     Ok(())

@@ -1,11 +1,11 @@
 //! Tables by the first byte.
-ghost use Rattle.std.specs.Prelude.{◌≡◌, ◌<◌, ◌≤◌, IfSome, List, MatchOption, Some, false, nat_eq, true, ℕ};
+ghost use Rattle.std.specs.Prelude.{◌≡◌, ◌<◌, ◌≤◌, IfSome, List, MatchOption, Some, false, get_or, length, nat_eq, true, ℕ};
 ghost use Rattle.base_language.specs.Language.Matching.{begins};
 ghost use Rattle.matcher_code.specs.Lists.{lists_of};
 ghost use Rattle.matcher_code.specs.declared.code.Op.TheVariants as op;
 ghost use Rattle.matcher_code.specs.Reading.{char_len, flag, text_of};
 ghost use Rattle.matcher_code.specs.Laid.{Moves, Notes, Skips, at_label, head_of, label_for};
-ghost use Rattle.matcher_compiler.specs.Plans.{ContinuesAs, HasBranch, IsNoted};
+ghost use Rattle.matcher_compiler.specs.Plans.{ContinuesAs, IsNoted};
 
 use crate::points::Branch;
 use matcher_code::code::{Code, Op};
@@ -52,6 +52,16 @@ pub(crate) fn label_for(code: &Code, table: u32, head: Option<u8>) -> u32
         Some(label) => *label,
         None => 0,
     }
+}
+
+/// Returns the flags of a row, if the program has it.
+pub(crate) fn flags_of(code: &Code, row: u32) -> Option<&[u8]>
+    ensures long { IfSome result (λ flags. length flags.now ≡ 256) }
+    ensures same { IfSome result (λ flags. (b : ℕ) → b < 256
+        → get_or flags.now b 0 ≡ flag (lists_of code.now) row b) }
+{
+    let start = row as usize * 256;
+    code.rows.get(start..start + 256)
 }
 
 /// Returns the first byte of a text.
@@ -111,6 +121,14 @@ pub(crate) fn operation_at(code: &Code, label: u32) -> Op
         Some(here) => *here,
         None => Op::Lose,
     }
+}
+
+/// Returns whether an operation may go on at a label for some first bytes, and do nothing else.
+pub(crate) fn is_test(op: Op) -> bool {
+    matches!(
+        op,
+        Op::Switch { .. } | Op::IsOne { .. } | Op::One { .. } | Op::Text { .. }
+    )
 }
 
 /// Returns the label at which the operation of a label goes on for a first byte, if it does nothing else.
@@ -178,9 +196,9 @@ fn skips(code: &Code, from: u32, here: Op, head: Option<u8>, to: u32) -> bool
 /// The label that the table of a choice has for a first byte, and that at which the operation of the second
 /// alternative goes on, if it does nothing else.
 #[derive(Clone, Copy)]
-struct Lead {
-    next: Option<u32>,
-    to: u32,
+pub(crate) struct Lead {
+    pub next: Option<u32>,
+    pub to: u32,
 }
 
 /// Returns whether a failure of the first alternative is recorded before the second one.
@@ -253,57 +271,46 @@ pub(crate) fn has_note(code: &Code, branch: Branch, second: Op, head: Option<u8>
     is_noted(code, branch, Lead { next, to })
 }
 
-/// Returns a noted lead, `seen` or a new one, if there is one yet, or `None` if the table of a choice does
-/// not have the label for a first byte. The operations are those at which the alternatives begin.
+/// Returns a noted lead, `seen` or a new one, if there is one yet, or `None` if the table of a choice may not
+/// have the label `to` for a first byte. `flag`: that of the byte in the set of the first alternative, whose
+/// operation is given. `next`: where the second alternative leads, if to a label.
 #[inline(always)]
-fn check_label(
+pub(crate) fn check_label(
     code: &Code,
     branch: Branch,
     first: Op,
-    second: Op,
     head: Option<u8>,
+    flag: u8,
+    to: u32,
+    next: Option<u32>,
     seen: Option<Lead>,
 ) -> Option<Option<Lead>>
-    requires { IfSome seen (λ lead. IsNoted (lists_of code.now) branch lead.next lead.to) }
+    requires flag { flag ≤ 4 → (bs : List ℕ) → head_of bs ≡ head
+        → char_len (lists_of code.now) branch.set bs ≡ flag }
+    requires seen { IfSome seen (λ lead. IsNoted (lists_of code.now) branch lead.next lead.to) }
     ensures label { IfSome result (λ _. at_label (lists_of code.now) branch.first ≡ first
-        → at_label (lists_of code.now) branch.second ≡ second
-        → ContinuesAs (lists_of code.now) branch head (label_for (lists_of code.now) branch.table head)) }
+        → IfSome next (Moves (lists_of code.now) head branch.second)
+        → ContinuesAs (lists_of code.now) branch head to) }
     ensures seen { IfSome result (λ found. IfSome found (λ lead.
         IsNoted (lists_of code.now) branch lead.next lead.to)) }
 {
-    let to = label_for(code, branch.table, head);
-    if flag_at(code, branch.set, head) != 0 {
+    if flag != 0 {
         if skips(code, branch.first, first, head, to) {
             return Some(seen);
         }
         return None;
     }
     if branch.noted {
-        let next = next_label(code, branch.second, second, head);
         let lead = Lead { next, to };
         if is_noted_as(code, branch, seen, lead) {
             return Some(Some(lead));
         }
         return None;
     }
-    if skips(code, branch.second, second, head, to) {
+    if to == branch.second || next == Some(to) {
         return Some(seen);
     }
     None
-}
-
-/// Returns whether the table of a choice has the label for a first byte. The operations are those at which
-/// the alternatives begin.
-fn has_label(code: &Code, branch: Branch, first: Op, second: Op, head: Option<u8>) -> bool
-    ensures { at_label (lists_of code.now) branch.first ≡ first
-        → at_label (lists_of code.now) branch.second ≡ second
-        → result ≡ true
-        → ContinuesAs (lists_of code.now) branch head (label_for (lists_of code.now) branch.table head) }
-{
-    match check_label(code, branch, first, second, head, None) {
-        Some(_) => true,
-        None => false,
-    }
 }
 
 /// Returns whether a text is not empty, and begins with a byte of ASCII.
@@ -338,83 +345,4 @@ pub(crate) fn wide_label(code: &Code, label: u32, here: Op) -> Option<u32>
         }
         _ => Some(label),
     }
-}
-
-/// Returns whether a table has one label for all first bytes above ASCII.
-fn is_wide(code: &Code, table: u32, to: u32) -> bool
-    ensures { result ≡ true → (b : ℕ) → 128 ≤ b → b < 256
-        → label_for (lists_of code.now) table (Some b) ≡ to }
-{
-    for byte in 128..256u32 {
-        if label_for(code, table, Some(byte as u8)) != to {
-            return false;
-        }
-    }
-    true
-}
-
-/// Returns whether the table of a choice has the labels for some first bytes, from one to before another.
-/// The operations are those at which the alternatives begin.
-#[inline(always)]
-fn has_each_label(code: &Code, branch: Branch, first: Op, second: Op, from: u32, to: u32) -> bool
-    requires { to ≤ 256 }
-    ensures { at_label (lists_of code.now) branch.first ≡ first
-        → at_label (lists_of code.now) branch.second ≡ second
-        → result ≡ true → (b : ℕ) → from ≤ b → b < to
-        → ContinuesAs (lists_of code.now) branch (Some b) (label_for (lists_of code.now) branch.table
-        (Some b)) }
-{
-    let mut seen = None;
-    for byte in from..to {
-        match check_label(code, branch, first, second, Some(byte as u8), seen) {
-            Some(found) => seen = found,
-            None => return false,
-        }
-    }
-    true
-}
-
-/// Returns whether the table of a choice has the labels for some first bytes, as `has_each_label`, whose loop
-/// is apart for a second alternative that is a table, too.
-fn has_labels(code: &Code, branch: Branch, first: Op, second: Op, from: u32, to: u32) -> bool
-    requires { to ≤ 256 }
-    ensures { at_label (lists_of code.now) branch.first ≡ first
-        → at_label (lists_of code.now) branch.second ≡ second
-        → result ≡ true → (b : ℕ) → from ≤ b → b < to
-        → ContinuesAs (lists_of code.now) branch (Some b) (label_for (lists_of code.now) branch.table
-        (Some b)) }
-{
-    match second {
-        Op::Switch { table } => {
-            has_each_label(code, branch, first, Op::Switch { table }, from, to)
-        }
-        _ => has_each_label(code, branch, first, second, from, to),
-    }
-}
-
-/// Returns whether the table of a choice has the labels for all first bytes above ASCII.
-fn has_wide(code: &Code, branch: Branch, first: Op, second: Op) -> bool
-    ensures { at_label (lists_of code.now) branch.first ≡ first
-        → at_label (lists_of code.now) branch.second ≡ second
-        → result ≡ true → (b : ℕ) → 128 ≤ b → b < 256
-        → ContinuesAs (lists_of code.now) branch (Some b) (label_for (lists_of code.now) branch.table
-        (Some b)) }
-{
-    match wide_label(code, branch.first, first) {
-        Some(to) => {
-            is_wide(code, branch.table, to) || has_labels(code, branch, first, second, 128, 256)
-        }
-        None => has_labels(code, branch, first, second, 128, 256),
-    }
-}
-
-/// Returns whether the table of a choice has the labels for all first bytes and for the end.
-pub(crate) fn has_branch(code: &Code, branch: Branch) -> bool
-    ensures { result ≡ true → HasBranch (lists_of code.now) branch }
-{
-    let first = operation_at(code, branch.first);
-    let second = operation_at(code, branch.second);
-    has_labels(code, branch, first, second, 0, 128)
-        && has_wide(code, branch, first, second)
-        && has_label(code, branch, first, second, None)
 }

@@ -10,7 +10,7 @@ ghost use Rattle.matcher_sets.specs.Heads.{AreHeads, AreHeadsIn, HasHead, IsGapH
 ghost use Rattle.matcher_sets.specs.Modes.{mode_of};
 
 use crate::heads::{DEPTH, Head, Heads, call_head, form_head, heads_in, join, rule_head};
-use crate::modes::Atomicity;
+use crate::modes::{Atomicity, has_body_in};
 use matcher_program::form::Program;
 use std::alloc::{AllocError, Global};
 
@@ -43,44 +43,67 @@ fn set_head(heads: &mut Heads, rule: usize, mode: Atomicity, head: Option<Head>)
     }
 }
 
-/// Looks for the head of a body in a mode, if it is not known.
+/// Looks for the head of a body in a mode, if it is not known and the rule has a body in that mode. Returns
+/// whether it was found.
 fn learn(
     alloc: Global,
     program: &Program,
     heads: &mut Heads,
     rule: usize,
     mode: Atomicity,
-) -> Result<(), AllocError>
+) -> Result<bool, AllocError>
     requires sound { IsSoundProgram program.now }
     requires heads { AreHeads program.now heads.old }
     ensures { OnOk result (AreHeads program.now heads.new) }
 {
     if rule_head(heads_in(heads, mode), rule).is_some() {
-        return Ok(());
+        return Ok(false);
     }
     let row = match program.rows.get(rule) {
         Some(row) => row,
-        None => return Ok(()),
+        None => return Ok(false),
     };
+    if !has_body_in(row, mode) {
+        return Ok(false);
+    }
     let made = form_head(alloc, program, heads, &row.body, mode, DEPTH)?;
+    let is_found = made.is_some();
     set_head(heads, rule, mode, made);
-    Ok(())
+    Ok(is_found)
 }
 
-/// Looks for the heads of all bodies, the last rule first.
-fn learn_all(alloc: Global, program: &Program, heads: &mut Heads) -> Result<(), AllocError>
+/// Looks for the heads of the bodies of a rule. Returns whether one was found.
+fn learn_rule(
+    alloc: Global,
+    program: &Program,
+    heads: &mut Heads,
+    rule: usize,
+) -> Result<bool, AllocError>
     requires sound { IsSoundProgram program.now }
     requires heads { AreHeads program.now heads.old }
     ensures { OnOk result (AreHeads program.now heads.new) }
 {
+    let loose = learn(alloc, program, heads, rule, Atomicity::NonAtomic)?;
+    let atomic = learn(alloc, program, heads, rule, Atomicity::Atomic)?;
+    let compound = learn(alloc, program, heads, rule, Atomicity::CompoundAtomic)?;
+    Ok(loose || atomic || compound)
+}
+
+/// Looks for the heads of all bodies, the last rule first. Returns whether one was found.
+fn learn_all(alloc: Global, program: &Program, heads: &mut Heads) -> Result<bool, AllocError>
+    requires sound { IsSoundProgram program.now }
+    requires heads { AreHeads program.now heads.old }
+    ensures { OnOk result (AreHeads program.now heads.new) }
+{
+    let mut is_found = false;
     let mut below = program.rows.len();
     while below > 0 {
         below -= 1;
-        learn(alloc, program, heads, below, Atomicity::NonAtomic)?;
-        learn(alloc, program, heads, below, Atomicity::Atomic)?;
-        learn(alloc, program, heads, below, Atomicity::CompoundAtomic)?;
+        if learn_rule(alloc, program, heads, below)? {
+            is_found = true;
+        }
     }
-    Ok(())
+    Ok(is_found)
 }
 
 /// Returns the head of a call of a rule of the implicit skipping, which takes something. Without such a rule
@@ -157,8 +180,8 @@ fn none_known(alloc: Global, rules: usize) -> Result<Vec<Option<Head>>, AllocErr
     Ok(list)
 }
 
-/// Returns the heads of the bodies of rules, as far as three rounds find them. The only error is an
-/// allocation failure.
+/// Returns the heads of the bodies of rules, as far as three rounds find them, or fewer if one finds nothing
+/// more. The only error is an allocation failure.
 pub fn rule_heads(alloc: Global, program: &Program, calls_all: bool) -> Result<Heads, AllocError>
     requires sound { IsSoundProgram program.now }
     ensures { IfOk result (AreHeads program.now) }
@@ -174,8 +197,11 @@ pub fn rule_heads(alloc: Global, program: &Program, calls_all: bool) -> Result<H
         gap: None,
         calls_all,
     };
-    'rounds: for _ in 0..ROUNDS {
-        learn_all(alloc, program, &mut heads)?;
+    'rounds: for round in 0..ROUNDS {
+        let is_found = learn_all(alloc, program, &mut heads)?;
+        if round > 0 && !is_found {
+            return Ok(heads);
+        }
         learn_gap(alloc, program, &mut heads)?;
     }
     Ok(heads)

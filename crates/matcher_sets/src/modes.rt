@@ -5,6 +5,7 @@ ghost use Rattle.base_language.specs.Language.Meaning.{gives_token, mode_in, see
 ghost use Rattle.matcher_sets.specs.Modes.{mode_of};
 
 use base_ast::ast::RuleType;
+use matcher_program::form::Row;
 
 /// The atomicity.
 #[derive(Clone, Copy)]
@@ -47,5 +48,21 @@ pub fn body_mode(kind: RuleType, blank: bool, mode: Atomicity) -> Atomicity
             }
         }
         RuleType::Normal | RuleType::Silent => { if blank { Atomicity::Atomic } else { mode } }
+    }
+}
+
+/// Returns whether the body of a rule is run in a mode, whatever its caller's mode is.
+pub(crate) fn has_body_in(row: &Row, mode: Atomicity) -> bool {
+    match mode {
+        Atomicity::NonAtomic => {
+            matches!(body_mode(row.kind, row.blank, mode), Atomicity::NonAtomic)
+        }
+        Atomicity::Atomic => matches!(body_mode(row.kind, row.blank, mode), Atomicity::Atomic),
+        Atomicity::CompoundAtomic => {
+            matches!(
+                body_mode(row.kind, row.blank, mode),
+                Atomicity::CompoundAtomic
+            )
+        }
     }
 }

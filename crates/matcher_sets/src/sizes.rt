@@ -79,6 +79,9 @@ impl Sizes {
             Form::Call(rule) => self.call_size(program, *rule, inside),
             Form::Seq(first, second) | Form::Choice(first, second) => {
                 let size = self.form_size(program, first, inside, less);
+                if size > MOST_FORMS {
+                    return size;
+                }
                 size.saturating_add(self.form_size(program, second, inside, less))
             }
             Form::RepOnce(body) => self
@@ -95,35 +98,46 @@ impl Sizes {
         }
     }
 
-    /// Counts a body again, if it is not too large.
-    fn count(&mut self, program: &Program, body: Body) {
+    /// Counts a body again, if it is not too large. Returns whether it has another size than before.
+    fn count(&mut self, program: &Program, body: Body) -> bool {
+        let before = self.size_of(body);
+        if before > MOST_FORMS {
+            return false;
+        }
         let size = match program.rows.get(body.rule) {
             Some(row) => self.form_size(program, &row.body, body, DEPTH),
-            None => return,
+            None => return false,
         };
         if let Some(place) = self.list.get_mut(index_of(body)) {
-            if *place <= MOST_FORMS {
-                *place = size;
-            }
+            *place = size;
         }
+        size != before
     }
 
-    /// Counts the body of a rule in each mode again.
-    fn count_rule(&mut self, program: &Program, rule: usize) {
+    /// Counts the body of a rule in each mode again. Returns whether one has another size than before.
+    fn count_rule(&mut self, program: &Program, rule: usize) -> bool {
+        let mut changed = false;
         for mode in [
             Atomicity::NonAtomic,
             Atomicity::Atomic,
             Atomicity::CompoundAtomic,
         ] {
-            self.count(program, Body { rule, mode });
+            if self.count(program, Body { rule, mode }) {
+                changed = true;
+            }
         }
+        changed
     }
 
-    /// Counts all bodies again.
-    fn count_all(&mut self, program: &Program) {
+    /// Counts all bodies again. Returns whether one has another size than before.
+    fn count_all(&mut self, program: &Program) -> bool {
+        let mut changed = false;
         for rule in 0..program.rows.len() {
-            self.count_rule(program, rule);
+            if self.count_rule(program, rule) {
+                changed = true;
+            }
         }
+        changed
     }
 }
 
@@ -135,7 +149,9 @@ pub fn body_sizes(alloc: Global, program: &Program) -> Result<Sizes, AllocError>
     }
     let mut sizes = Sizes { list };
     'rounds: for _ in 0..MOST_INSIDE {
-        sizes.count_all(program);
+        if !sizes.count_all(program) {
+            return Ok(sizes);
+        }
     }
     Ok(sizes)
 }

@@ -3,7 +3,7 @@ use Rattle.std.specs.Prelude.{IfSome}
 use Rattle.matcher_code.specs.Lists.{lists_of}
 use Rattle.matcher_code.specs.Laid.{at_label, label_for}
 use Rattle.matcher_compiler.specs.Plans.{ContinuesAs, IsNoted}
-use Rattle.matcher_compiler.proofs.tables.has_each_label.Given as goal
+use Rattle.matcher_compiler.proofs.columns.has_each_label.Given as goal
 
 -- the labels so far; and the lead that was seen last is noted
 abbrev pub invariant-loop-byte : goal.invariant-loop-byte

@@ -1,0 +1,185 @@
+//! The comparison of a table with the alternatives of its choice.
+ghost use Rattle.std.specs.Prelude.{◌≡◌, ◌<◌, ◌≤◌, IfSome, Some, get_or, length, true, ℕ};
+ghost use Rattle.matcher_code.specs.Lists.{lists_of};
+ghost use Rattle.matcher_code.specs.declared.code.Op.TheVariants as op;
+ghost use Rattle.matcher_code.specs.Laid.{at_label, label_for};
+ghost use Rattle.matcher_compiler.specs.Columns.{AreColumns};
+ghost use Rattle.matcher_compiler.specs.Plans.{ContinuesAs, HasBranch};
+
+use crate::points::Branch;
+use crate::tables::{
+    check_label, flag_at, flags_of, label_for, next_label, operation_at, wide_label,
+};
+use matcher_code::code::{Code, Op};
+
+/// Returns the labels that a table has for first bytes, if the program has it.
+fn labels_of(code: &Code, table: u32) -> Option<&[u32]>
+    ensures long { IfSome result (λ labels. length labels.now ≡ 256) }
+    ensures same { IfSome result (λ labels. (b : ℕ) → b < 256
+        → get_or labels.now b 0 ≡ label_for (lists_of code.now) table (Some b)) }
+{
+    let start = table as usize;
+    code.tables.get(start..start + 256)
+}
+
+/// Returns whether the table of a choice has the label for a first byte, or for the end. The operations are
+/// those at which the alternatives begin.
+fn has_label(code: &Code, branch: Branch, first: Op, second: Op, head: Option<u8>) -> bool
+    ensures { at_label (lists_of code.now) branch.first ≡ first
+        → at_label (lists_of code.now) branch.second ≡ second
+        → result ≡ true
+        → ContinuesAs (lists_of code.now) branch head (label_for (lists_of code.now) branch.table head) }
+{
+    let flag = flag_at(code, branch.set, head);
+    let to = label_for(code, branch.table, head);
+    let next = next_label(code, branch.second, second, head);
+    match check_label(code, branch, first, head, flag, to, next, None) {
+        Some(_) => true,
+        None => false,
+    }
+}
+
+/// Returns whether a table has one label for all first bytes above ASCII.
+fn is_wide(code: &Code, table: u32, to: u32) -> bool
+    ensures { result ≡ true → (b : ℕ) → 128 ≤ b → b < 256
+        → label_for (lists_of code.now) table (Some b) ≡ to }
+{
+    for byte in 128..256u32 {
+        if label_for(code, table, Some(byte as u8)) != to {
+            return false;
+        }
+    }
+    true
+}
+
+/// The flags of the set of a choice's first alternative, and the labels of its table, by first bytes.
+#[derive(Clone, Copy)]
+struct Columns<'a> {
+    flags: &'a [u8],
+    labels: &'a [u32],
+}
+
+/// Returns whether the table of a choice has the labels for some first bytes, from one to before another.
+/// The operations are those at which the alternatives begin.
+#[inline(always)]
+fn has_each_label(
+    code: &Code,
+    branch: Branch,
+    first: Op,
+    second: Op,
+    columns: Columns<'_>,
+    from: u32,
+    to: u32,
+) -> bool
+    requires to { to ≤ 256 }
+    requires columns { AreColumns (lists_of code.now) branch columns }
+    ensures { at_label (lists_of code.now) branch.first ≡ first
+        → at_label (lists_of code.now) branch.second ≡ second
+        → result ≡ true → (b : ℕ) → from ≤ b → b < to
+        → ContinuesAs (lists_of code.now) branch (Some b) (label_for (lists_of code.now) branch.table
+        (Some b)) }
+{
+    let mut seen = None;
+    for byte in from..to {
+        let head = Some(byte as u8);
+        let next = next_label(code, branch.second, second, head);
+        let flag = columns.flags[byte as usize];
+        let to = columns.labels[byte as usize];
+        match check_label(code, branch, first, head, flag, to, next, seen) {
+            Some(found) => seen = found,
+            None => return false,
+        }
+    }
+    true
+}
+
+/// Returns whether the table of a choice has the labels for some first bytes, as `has_each_label`, where the
+/// second alternative begins with a table, too, whose labels are `others`.
+#[inline(always)]
+fn has_labels_over(
+    code: &Code,
+    branch: Branch,
+    first: Op,
+    others: &[u32],
+    columns: Columns<'_>,
+    from: u32,
+    to: u32,
+) -> bool
+    requires to { to ≤ 256 }
+    requires columns { AreColumns (lists_of code.now) branch columns }
+    requires others { length others.now ≡ 256 }
+    ensures { (table : ℕ) → ((b : ℕ) → b < 256
+        → get_or others.now b 0 ≡ label_for (lists_of code.now) table (Some b))
+        → at_label (lists_of code.now) branch.first ≡ first
+        → at_label (lists_of code.now) branch.second ≡ op.Switch table
+        → result ≡ true → (b : ℕ) → from ≤ b → b < to
+        → ContinuesAs (lists_of code.now) branch (Some b) (label_for (lists_of code.now) branch.table
+        (Some b)) }
+{
+    let mut seen = None;
+    for byte in from..to {
+        let head = Some(byte as u8);
+        let next = Some(others[byte as usize]);
+        let flag = columns.flags[byte as usize];
+        let to = columns.labels[byte as usize];
+        match check_label(code, branch, first, head, flag, to, next, seen) {
+            Some(found) => seen = found,
+            None => return false,
+        }
+    }
+    true
+}
+
+/// Returns whether the table of a choice has the labels for some first bytes, as `has_each_label`.
+fn has_labels(code: &Code, branch: Branch, first: Op, second: Op, from: u32, to: u32) -> bool
+    requires { to ≤ 256 }
+    ensures { at_label (lists_of code.now) branch.first ≡ first
+        → at_label (lists_of code.now) branch.second ≡ second
+        → result ≡ true → (b : ℕ) → from ≤ b → b < to
+        → ContinuesAs (lists_of code.now) branch (Some b) (label_for (lists_of code.now) branch.table
+        (Some b)) }
+{
+    let flags = match flags_of(code, branch.set) {
+        Some(flags) => flags,
+        None => return false,
+    };
+    let labels = match labels_of(code, branch.table) {
+        Some(labels) => labels,
+        None => return false,
+    };
+    let columns = Columns { flags, labels };
+    match second {
+        Op::Switch { table } => match labels_of(code, table) {
+            Some(others) => has_labels_over(code, branch, first, others, columns, from, to),
+            None => false,
+        },
+        _ => has_each_label(code, branch, first, second, columns, from, to),
+    }
+}
+
+/// Returns whether the table of a choice has the labels for all first bytes above ASCII.
+fn has_wide(code: &Code, branch: Branch, first: Op, second: Op) -> bool
+    ensures { at_label (lists_of code.now) branch.first ≡ first
+        → at_label (lists_of code.now) branch.second ≡ second
+        → result ≡ true → (b : ℕ) → 128 ≤ b → b < 256
+        → ContinuesAs (lists_of code.now) branch (Some b) (label_for (lists_of code.now) branch.table
+        (Some b)) }
+{
+    match wide_label(code, branch.first, first) {
+        Some(to) => {
+            is_wide(code, branch.table, to) || has_labels(code, branch, first, second, 128, 256)
+        }
+        None => has_labels(code, branch, first, second, 128, 256),
+    }
+}
+
+/// Returns whether the table of a choice has the labels for all first bytes and for the end.
+pub(crate) fn has_branch(code: &Code, branch: Branch) -> bool
+    ensures { result ≡ true → HasBranch (lists_of code.now) branch }
+{
+    let first = operation_at(code, branch.first);
+    let second = operation_at(code, branch.second);
+    has_labels(code, branch, first, second, 0, 128)
+        && has_wide(code, branch, first, second)
+        && has_label(code, branch, first, second, None)
+}
