@@ -6,7 +6,9 @@ pub mod Dressing
 pub mod Known
 pub mod Marking
 pub mod OneAnswer
+pub mod OneRecognition
 pub mod OneSoundness
+pub mod Recognized
 pub mod Results
 pub mod Rows
 pub mod RuleSets

@@ -80,7 +80,7 @@ pub first_state : (p : Position) (text : List ℕ) → position_text p ≡ text 
 first_state p text e h = ap (λ t. state_behind t (position_offset p)) e ∙ ap (λ i. state_behind text i) h
 
 -- a run that has ended stands where it comes to
-same_end : (code : CodeLists) (text : List ℕ) (m : ℕ) {i j : ℕ} {c d : Config} (x : Reaches code text i j c d) → IsEnd code d.pc → IsEnd code (steps code text m c).pc
+pub same_end : (code : CodeLists) (text : List ℕ) (m : ℕ) {i j : ℕ} {c d : Config} (x : Reaches code text i j c d) → IsEnd code d.pc → IsEnd code (steps code text m c).pc
     → steps code text m c ≡ d
 same_end code text m {c = c} {d = d} x e h =
     let z : m + x.taken ≡ x.taken + m = omega arith in
@@ -124,14 +124,14 @@ module _ (p : Program) (exact : Bool) (code : CodeLists) (is : IsCodeOf exact p 
 
   module _ (classes : Classes) (fits : Fits p.properties.items classes) where
     -- what a run comes to
-    succeeding : {t : State} {us : Trees} (d : Does (grammar_in p) classes task s (Success t us))
+    pub succeeding : {t : State} {us : Trees} (d : Does (grammar_in p) classes task s (Success t us))
         → Reaches code text 0 (8 * size d) start (jump 1 (with_success (number_in (grammar_in p)) t us (failures_at asked d) start))
     succeeding d =
         let laid = is.laid classes fits in
         let x = comes code text (number_in (grammar_in p)) is.ends.fail exact (grammar_in p) classes is.points laid d (laid task (i + 3) 1 2 entry) start stands asks (guard_forward 2 0 start up) in
         within code text 0 (8 * size d) x.reaches (omega arith) (omega arith)
 
-    failing : (d : Does (grammar_in p) classes task s Failure) → Reaches code text 0 (8 * size d) start (jump 2 (with_failure (number_in (grammar_in p)) (failures_at asked d) start))
+    pub failing : (d : Does (grammar_in p) classes task s Failure) → Reaches code text 0 (8 * size d) start (jump 2 (with_failure (number_in (grammar_in p)) (failures_at asked d) start))
     failing d =
         let laid = is.laid classes fits in
         let x = comes code text (number_in (grammar_in p)) is.ends.fail exact (grammar_in p) classes is.points laid d (laid task (i + 3) 1 2 entry) start stands asks (guard_forward 2 0 start up) in
@@ -140,7 +140,7 @@ module _ (p : Program) (exact : Bool) (code : CodeLists) (is : IsCodeOf exact p 
     goes_here : (m : ℕ) → Goes code text (grammar_in p) classes 0 m task s start
     goes_here m = goes code text (number_in (grammar_in p)) is.ends.fail exact (grammar_in p) classes is.points (is.laid classes fits) entry s start stands asks (guard_forward 2 0 start up) m
 
-    outcome_of : (m : ℕ) → IsEnd code (after m).pc → IsFound (grammar_in p) classes task s
+    pub outcome_of : (m : ℕ) → IsEnd code (after m).pc → IsFound (grammar_in p) classes task s
     outcome_of m h = finds code text (number_in (grammar_in p)) is.ends.fail exact (grammar_in p) classes is.points (is.laid classes fits) entry s start stands asks (guard_forward 2 0 start up) m (record { ended = h })
 
     unfinished : (m : ℕ) → (IsEnd code (after m).pc → ⊥) → (o : Outcome) (d : Does (grammar_in p) classes task s o) → m < 8 * size d

@@ -5,6 +5,7 @@ pub mod Marks
 pub mod Matchers
 pub mod Preorders
 pub mod Reasons
+pub mod Recognitions
 pub mod Runs
 pub mod Soundness
 pub mod Traces

@@ -8,5 +8,6 @@ pub mod laws;
 pub mod mark;
 pub mod matcher;
 pub mod paths;
+pub mod recognize;
 pub mod tracer;
 pub mod walk;

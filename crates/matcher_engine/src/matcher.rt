@@ -97,7 +97,7 @@ impl Matcher {
     }
 
     /// Returns the code.
-    fn code(&self) -> Bytecode<'_>
+    pub(crate) fn code(&self) -> Bytecode<'_>
         ensures { lists_in result ≡ lists_at self.entry.now.code.items }
     {
         read_code(&self.code)

@@ -7,6 +7,7 @@ ghost use Rattle.base_language.specs.Language.State.{Classes, State};
 ghost use Rattle.base_language.specs.Language.Text.{Text};
 ghost use Rattle.matcher_compiler.specs.Names.{HaveNumbers, number_in};
 ghost use Rattle.matcher_engine.specs.Preorders.{HasPreorder};
+ghost use Rattle.matcher_engine.specs.Recognitions.{IsRecognition};
 ghost use Rattle.matcher_engine.specs.Walks.{AreNamesOf, visits, visits_left};
 ghost use Rattle.matcher_program.specs.Answers.{start_of};
 ghost use Rattle.matcher_program.specs.ExpectedNames.{name_texts};
@@ -17,9 +18,11 @@ use crate::attempts::{NamedAttempts, name_attempts};
 use base_language::runtime::Span;
 use matcher_code::state::OpenCall;
 use matcher_engine::block::{
-    BlockStop, attempts_block, expected_block, paths_block, rule_count, rule_name, run_block,
+    BlockStop, attempts_block, expected_block, paths_block, recognize_block, rule_count, rule_name,
+    run_block,
 };
 use matcher_engine::matcher::Preorder;
+use matcher_engine::recognize::Recognition;
 use matcher_engine::walk::{TreeWalk, text_name, walk_names};
 use matcher_program::answers::Stop;
 use matcher_program::texts::same;
@@ -89,6 +92,32 @@ impl<'b> CompiledRules<'b> {
         };
         let start = Span::of(text, 0, 0).start_pos();
         run_block(alloc, self.block, number, start, steps)
+    }
+
+    /// Looks whether the rule of a name matches from the start of a text, and where the match ends, without
+    /// trees, in at most so many turns, as `recognize_block`. Errors: `NoRule` where no rule has the name, an
+    /// allocation failure, a text of 4 GiB or more, and bytes that are no block.
+    pub fn recognize(
+        &self,
+        alloc: Global,
+        rule: &str,
+        text: &str,
+        turns: u64,
+    ) -> Result<Recognition, BlockStop>
+        ensures recognized { (g : Grammar) → IsCompiledOf g self.now
+            → IfOk result (IsRecognition g (chars rule.now) (start_of text.now) is_in_property) }
+        ensures refused { (g : Grammar) → IsCompiledOf g self.now → (steps : ℕ)
+            → IfErr result (IsUnanswered g rule.now text.now steps) }
+    {
+        let number = match self.find_rule(rule) {
+            Ok(number) => number,
+            Err(stop) => return Err(stop),
+        };
+        let start = Span::of(text, 0, 0).start_pos();
+        match recognize_block(alloc, self.block, number, start, turns) {
+            Ok(recognition) => Ok(recognition),
+            Err(stop) => Err(stop),
+        }
     }
 
     /// Returns the names that are expected at `place`, in bytes, each once, in the order in which they are

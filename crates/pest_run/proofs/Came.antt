@@ -27,6 +27,7 @@ use Rattle.matcher_program.specs.declared.compile.Unfit.{Unfit}
 use Rattle.matcher_program.specs.declared.compile.Unfit.TheVariants as no
 use Rattle.matcher_engine.specs.BlockRuns.{IsStopped}
 use Rattle.matcher_engine.specs.Preorders.{HasPreorder}
+use Rattle.matcher_engine.specs.Recognitions.{HasEnd}
 use Rattle.matcher_engine.specs.declared.matcher.Preorder.{Preorder}
 use Rattle.matcher_program.specs.Answers.{Has, start_of}
 use Rattle.matcher_program.specs.declared.answers.Stop.{Stop}
@@ -36,8 +37,8 @@ use Rattle.matcher_support.specs.Compiled.{AreExpectedIn, FailsIn}
 use Rattle.matcher_support.specs.Sets.{has_set, is_in_property}
 use Rattle.matcher_support.specs.Compiled.{AreAttemptsIn}
 use Rattle.pest_run.specs.Failures.{AreOfError, IsFound}
-use Rattle.pest_run.specs.Outcomes.{HasNoRule, IsFailureReport, IsMatchReport, IsNoRuleReport, IsNoted, IsOutcome, IsStopReport, end_note, tells_expected, trees_text, unfit_outcome}
-use Rattle.pest_run.specs.Messages.{expected_text, is_more, note_between}
+use Rattle.pest_run.specs.Outcomes.{HasNoRule, IsFailureReport, IsMatchReport, IsNoRuleReport, IsNoted, IsOutcome, IsStopReport, IsUnnamedReport, ReportsAt, TakesTooManySteps, end_note, tells_expected, trees_text, unfit_outcome}
+use Rattle.pest_run.specs.Messages.{expected_text, is_more, note_between, unnamed_text}
 use Rattle.pest_run.specs.declared.arguments.Format.{Format}
 use Rattle.pest_run.specs.declared.arguments.Format.TheVariants as format_is
 use Rattle.matcher_support.specs.declared.attempts.NamedAttempts.{NamedAttempts}
@@ -97,6 +98,8 @@ failed g rule name text format limit place it (is.Failed report) f a t = record 
   ];
   reports = t;
 }
+failed g rule name text format limit place it (is.Unnamed report) f a t = absurd t
+failed g rule name text format limit place it (is.Treeless said) f a t = absurd t
 failed g rule name text format limit place it (is.NoRule message) f a t = absurd t
 failed g rule name text format limit place it (is.OutOfSteps said) f a t = absurd t
 failed g rule name text format limit place it is.EmptyStack f a t = absurd t
@@ -105,11 +108,31 @@ failed g rule name text format limit place it is.UnknownName f a t = absurd t
 failed g rule name text format limit place it is.Bound f a t = absurd t
 failed g rule name text format limit place it is.Memory f a t = tt
 
+-- what is told of a failure of which the expected names were not found
+pub unnamed : (g : Grammar) (rule name text : List ℕ) (format : Format) (limit : ℕ) (place : ℕ) (o : Outcome)
+    → FailsIn g rule text place → TakesTooManySteps g rule text limit → IsUnnamedReport name text place limit o
+    → IsOutcome g rule name text format limit o
+unnamed g rule name text format limit place (is.Unnamed report) f long t =
+    let P : ℕ → Type 0 = λ q. ReportsAt name text q (unnamed_text limit) (string_bytes report) in
+    record { fails = f.0; long = long; reports = subst P f.1 t }
+unnamed g rule name text format limit place (is.Shown lines _) f long t = absurd t
+unnamed g rule name text format limit place (is.Failed report) f long t = absurd t
+unnamed g rule name text format limit place (is.Treeless said) f long t = absurd t
+unnamed g rule name text format limit place (is.NoRule message) f long t = absurd t
+unnamed g rule name text format limit place (is.OutOfSteps said) f long t = absurd t
+unnamed g rule name text format limit place is.EmptyStack f long t = absurd t
+unnamed g rule name text format limit place is.LongText f long t = absurd t
+unnamed g rule name text format limit place is.UnknownName f long t = absurd t
+unnamed g rule name text format limit place is.Bound f long t = absurd t
+unnamed g rule name text format limit place is.Memory f long t = tt
+
 -- what is told of a name that no rule has
 pub unknown : (g : Grammar) (rule name text : List ℕ) (format : Format) (limit : ℕ) (o : Outcome) → HasNoRule g rule → IsNoRuleReport g rule o
     → IsOutcome g rule name text format limit o
 unknown g rule name text format limit (is.Shown lines _) h t = absurd t
 unknown g rule name text format limit (is.Failed report) h t = absurd t
+unknown g rule name text format limit (is.Unnamed report) h t = absurd t
+unknown g rule name text format limit (is.Treeless said) h t = absurd t
 unknown g rule name text format limit (is.NoRule message) h t = (h, t)
 unknown g rule name text format limit (is.OutOfSteps said) h t = absurd t
 unknown g rule name text format limit is.EmptyStack h t = absurd t
@@ -168,6 +191,8 @@ module _ (g : Grammar) (rule name text : List ℕ) (format : Format) (limit : �
     notes names (option_map string_bytes note) a t.1,
   )
   shows names (is.Failed report) t a = absurd t
+  shows names (is.Unnamed report) t a = absurd t
+  shows names (is.Treeless said) t a = absurd t
   shows names (is.NoRule message) t a = absurd t
   shows names (is.OutOfSteps said) t a = absurd t
   shows names is.EmptyStack t a = absurd t
@@ -184,13 +209,18 @@ stands_here g n text place d utf8 e =
     subst (λ n. IsCharBoundary text n) (sym e) here
 
 -- a match ends between two characters, and so does its furthest failure
-pub ends_at_character : (g : Grammar) (n : Text) (text : List ℕ) (it : Preorder) → IsUtf8 text → HasPreorder g n (start_of text) is_in_property it
-    → IsCharBoundary text it.end
-ends_at_character g n text it utf8 x =
+pub end_at_character : (g : Grammar) (n : Text) (text : List ℕ) (end_ : ℕ) → IsUtf8 text → HasEnd g n (start_of text) is_in_property end_
+    → IsCharBoundary text end_
+end_at_character g n text end_ utf8 x =
     let start : IsStateIn (chars text) (start_of text) = record { front = []; split = refl; size = refl } in
     let inside = (fits_in (chars text) x.found start).0 in
     let here : IsCharBoundary text x.state.position = on_bytes text utf8 x.state.position (record { front = inside.front; back = x.state.rest; split = inside.split; size = inside.size }) in
     subst (λ n. IsCharBoundary text n) (sym x.ends) here
+
+pub ends_at_character : (g : Grammar) (n : Text) (text : List ℕ) (it : Preorder) → IsUtf8 text → HasPreorder g n (start_of text) is_in_property it
+    → IsCharBoundary text it.end
+ends_at_character g n text it utf8 x =
+    end_at_character g n text it.end utf8 (record { state = x.state; trees = x.trees; found = x.found; ends = x.ends })
 
 pub stops_at_character : (g : Grammar) (n : Text) (text : List ℕ) (it : Preorder) → IsUtf8 text → HasPreorder g n (start_of text) is_in_property it
     → IsCharBoundary text it.furthest
@@ -217,6 +247,8 @@ stopped g rule name text format limit stop.OutOfSteps (is.OutOfSteps said) utf8 
 stopped g rule name text format limit stop.OutOfSteps is.Memory utf8 h t = tt
 stopped g rule name text format limit stop.OutOfSteps (is.Shown lines _) utf8 h t = absurd t
 stopped g rule name text format limit stop.OutOfSteps (is.Failed report) utf8 h t = absurd t
+stopped g rule name text format limit stop.OutOfSteps (is.Unnamed report) utf8 h t = absurd t
+stopped g rule name text format limit stop.OutOfSteps (is.Treeless said) utf8 h t = absurd t
 stopped g rule name text format limit stop.OutOfSteps (is.NoRule message) utf8 h t = absurd t
 stopped g rule name text format limit stop.OutOfSteps is.EmptyStack utf8 h t = absurd t
 stopped g rule name text format limit stop.OutOfSteps is.LongText utf8 h t = absurd t

@@ -9,7 +9,7 @@ use Rattle.matcher_support.specs.Sets.{is_in_property}
 use Rattle.matcher_program.specs.Answers.{start_of}
 use Rattle.pest_run.specs.Messages.{no_rule_text, steps_text}
 use Rattle.pest_run.specs.Outcomes.{IsOutcome, IsShown}
-use Rattle.pest_run.specs.Written.{AreMatched, AreRun, IsFormOutcome, NotesEnd, PrintsTrees, ReportsReason, ReportsRefusal, ReportsStop, WritesLine, empty_stack, long_text, no_match, no_rule, refused, too_many_steps, unknown_name, wide_bound}
+use Rattle.pest_run.specs.Written.{AreMatched, AreRun, IsFormOutcome, NotesEnd, PrintsTrees, ReportsReason, ReportsRefusal, ReportsStop, WritesLine, empty_stack, long_text, no_match, no_rule, refused, too_many_steps, treeless, unknown_name, unnamed, wide_bound}
 use Rattle.pest_run.specs.declared.arguments.Format.{Format}
 use Rattle.pest_run.specs.declared.arguments.RuleForm.{RuleForm}
 use Rattle.pest_run.specs.declared.arguments.RuleForm.TheVariants as form_is
@@ -55,7 +55,9 @@ prints (is.Shown lines note) name grammar rule text format form rules limit told
     let m = matched form grammar rule text format rules (string_bytes lines) a i.0 in
     record { rules = m.rules; matched = m.matched; lines = string_bytes lines; shows = m.shows; gained = e.1 zero }
 prints (is.Failed report) name grammar rule text format form rules limit told same status old_out new_out old new a i e zero = absurd (apart status 0 1 zero e.0 (omega arith))
+prints (is.Unnamed report) name grammar rule text format form rules limit told same status old_out new_out old new a i e zero = absurd (apart status 0 1 zero e.0 (omega arith))
 prints (is.NoRule said) name grammar rule text format form rules limit told same status old_out new_out old new a i e zero = absurd (apart status 0 1 zero e.0 (omega arith))
+prints (is.Treeless said) name grammar rule text format form rules limit told same status old_out new_out old new a i e zero = absurd (apart status 0 5 zero e.0 (omega arith))
 prints (is.OutOfSteps said) name grammar rule text format form rules limit told same status old_out new_out old new a i e zero = absurd (apart status 0 5 zero e.0 (omega arith))
 prints is.EmptyStack name grammar rule text format form rules limit told same status old_out new_out old new a i e zero = absurd (apart status 0 5 zero e.0 (omega arith))
 prints is.LongText name grammar rule text format form rules limit told same status old_out new_out old new a i e zero = absurd (apart status 0 5 zero e.0 (omega arith))
@@ -70,7 +72,9 @@ pub notes : {X E : Type 0} (o : Outcome) (name grammar rule text : List ℕ) (fo
 notes (is.Shown lines note) name grammar rule text format form rules limit told same status old_out new_out old new a i e zero =
     record { rules = rules; are = a; note = option_map string_bytes note; noted = i.1; line = e.2 zero }
 notes (is.Failed report) name grammar rule text format form rules limit told same status old_out new_out old new a i e zero = absurd (apart status 0 1 zero e.0 (omega arith))
+notes (is.Unnamed report) name grammar rule text format form rules limit told same status old_out new_out old new a i e zero = absurd (apart status 0 1 zero e.0 (omega arith))
 notes (is.NoRule said) name grammar rule text format form rules limit told same status old_out new_out old new a i e zero = absurd (apart status 0 1 zero e.0 (omega arith))
+notes (is.Treeless said) name grammar rule text format form rules limit told same status old_out new_out old new a i e zero = absurd (apart status 0 5 zero e.0 (omega arith))
 notes (is.OutOfSteps said) name grammar rule text format form rules limit told same status old_out new_out old new a i e zero = absurd (apart status 0 5 zero e.0 (omega arith))
 notes is.EmptyStack name grammar rule text format form rules limit told same status old_out new_out old new a i e zero = absurd (apart status 0 5 zero e.0 (omega arith))
 notes is.LongText name grammar rule text format form rules limit told same status old_out new_out old new a i e zero = absurd (apart status 0 5 zero e.0 (omega arith))
@@ -81,13 +85,16 @@ notes is.Memory name grammar rule text format form rules limit told same status 
 -- where it is 1, a reason was told
 pub tells : {X E : Type 0} (o : Outcome) (name grammar rule text : List ℕ) (format : Format) (form : RuleForm) (rules : Grammar) (limit : ℕ) (told : Result X E) (same : Type 0) (status : ℕ)
     (old_out new_out old new : Option (List ℕ)) → AreRun form grammar rules → IsOutcome rules rule name text format limit o
-    → EndsAs o same status told old_out new_out old new → status ≡ 1 → ReportsReason form grammar rule name text told old new
+    → EndsAs o same status told old_out new_out old new → status ≡ 1 → ReportsReason form grammar rule name text limit told old new
 tells (is.Shown lines _) name grammar rule text format form rules limit told same status old_out new_out old new a i e one = absurd (neither status 1 e.0 one (omega arith) (omega arith))
 tells (is.Failed report) name grammar rule text format form rules limit told same status old_out new_out old new a i e one =
     record { message = string_bytes report; reason = no_match rules (string_bytes report) a i; line = e.1 }
+tells (is.Unnamed report) name grammar rule text format form rules limit told same status old_out new_out old new a i e one =
+    record { message = string_bytes report; reason = unnamed rules (string_bytes report) a i; line = e.1 }
 tells (is.NoRule said) name grammar rule text format form rules limit told same status old_out new_out old new a i e one =
     let P : List ℕ → Type 0 = λ t. WritesLine t told old new in
     record { message = no_rule_text rules rule; reason = no_rule rules a i.0; line = subst P i.1 e.1 }
+tells (is.Treeless said) name grammar rule text format form rules limit told same status old_out new_out old new a i e one = absurd (apart status 1 5 one e.0 (omega arith))
 tells (is.OutOfSteps said) name grammar rule text format form rules limit told same status old_out new_out old new a i e one = absurd (apart status 1 5 one e.0 (omega arith))
 tells is.EmptyStack name grammar rule text format form rules limit told same status old_out new_out old new a i e one = absurd (apart status 1 5 one e.0 (omega arith))
 tells is.LongText name grammar rule text format form rules limit told same status old_out new_out old new a i e one = absurd (apart status 1 5 one e.0 (omega arith))
@@ -101,7 +108,10 @@ pub stops : {X E : Type 0} (o : Outcome) (name grammar rule text : List ℕ) (fo
     → EndsAs o same status told old_out new_out old new → status ≡ 5 → ReportsStop form grammar rule text limit told old new
 stops (is.Shown lines _) name grammar rule text format form rules limit told same status old_out new_out old new a i e five = absurd (neither status 5 e.0 five (omega arith) (omega arith))
 stops (is.Failed report) name grammar rule text format form rules limit told same status old_out new_out old new a i e five = absurd (apart status 1 5 e.0 five (omega arith))
+stops (is.Unnamed report) name grammar rule text format form rules limit told same status old_out new_out old new a i e five = absurd (apart status 1 5 e.0 five (omega arith))
 stops (is.NoRule said) name grammar rule text format form rules limit told same status old_out new_out old new a i e five = absurd (apart status 1 5 e.0 five (omega arith))
+stops (is.Treeless said) name grammar rule text format form rules limit told same status old_out new_out old new a i e five =
+    record { rules = rules; are = a; message = string_bytes said; stop = treeless (string_bytes said) i; line = e.1 }
 stops (is.OutOfSteps said) name grammar rule text format form rules limit told same status old_out new_out old new a i e five =
     let P : List ℕ → Type 0 = λ t. WritesLine t told old new in
     record { rules = rules; are = a; message = steps_text limit; stop = too_many_steps i.0; line = subst P i.1 e.1 }
@@ -112,9 +122,9 @@ stops is.Bound name grammar rule text format form rules limit told same status o
 stops is.Memory name grammar rule text format form rules limit told same status old_out new_out old new a i e five = absurd (apart status 2 5 e five (omega arith))
 
 -- a refusal is a reason
-pub refusal_is_reason : {X E : Type 0} (form : RuleForm) (grammar rule name text : List ℕ) (told : Result X E) (old new : Option (List ℕ))
-    → ReportsRefusal grammar told old new → ReportsReason form grammar rule name text told old new
-refusal_is_reason form grammar rule name text told old new r =
+pub refusal_is_reason : {X E : Type 0} (form : RuleForm) (grammar rule name text : List ℕ) (limit : ℕ) (told : Result X E) (old new : Option (List ℕ))
+    → ReportsRefusal grammar told old new → ReportsReason form grammar rule name text limit told old new
+refusal_is_reason form grammar rule name text limit told old new r =
     record { message = r.tells.report; reason = refused r.errors r.tells.report r.refused r.tells.shows; line = r.tells.line }
 
 -- the same of an outcome by the rules of a grammar
@@ -138,7 +148,7 @@ module _ {X E : Type 0} (o : Outcome) (name grammar rule text : List ℕ) (forma
     | inr x ↦ notes o name grammar rule text format form x.0 limit told same status old_out new_out old new x.1 x.2 e zero
   ]
 
-  pub form_tells : status ≡ 1 → ReportsReason form grammar rule name text told old new
+  pub form_tells : status ≡ 1 → ReportsReason form grammar rule name text limit told old new
   form_tells one = elim comes [
     | inl m ↦ absurd (no_memory 1 m one (λ z. omega (arith, z)))
     | inr x ↦ tells o name grammar rule text format form x.0 limit told same status old_out new_out old new x.1 x.2 e one

@@ -25,6 +25,8 @@ module _ {X E : Type 0} (grammar : List ℕ) (rules : Grammar) (told : Result X 
       let P : List ℕ → Type 0 = λ t. Appends old_out new_out t in
       record { rules = written.spelled; spelled = written.accepted; gained = subst P shows (e.1 zero) }
   lists (is.Failed report) a i e zero = absurd i
+  lists (is.Unnamed report) a i e zero = absurd i
+  lists (is.Treeless message) a i e zero = absurd i
   lists (is.NoRule message) a i e zero = absurd i
   lists (is.OutOfSteps said) a i e zero = absurd i
   lists is.EmptyStack a i e zero = absurd i
@@ -39,6 +41,8 @@ module _ {X E : Type 0} (grammar : List ℕ) (rules : Grammar) (told : Result X 
       let P : Option (String Global) → Type 0 = λ n. WritesNote (option_map string_bytes n) same told old new in
       subst P i.1 (e.2 zero)
   silent (is.Failed report) i e zero = absurd i
+  silent (is.Unnamed report) i e zero = absurd i
+  silent (is.Treeless message) i e zero = absurd i
   silent (is.NoRule message) i e zero = absurd i
   silent (is.OutOfSteps said) i e zero = absurd i
   silent is.EmptyStack i e zero = absurd i
@@ -51,6 +55,8 @@ module _ {X E : Type 0} (grammar : List ℕ) (rules : Grammar) (told : Result X 
   pub only : (o : Outcome) (k : ℕ) → IsListOutcome rules o → EndsAs o same status told old_out new_out old new → status ≡ k → k ≢ 0 → k ≢ 2 → k ≢ 4 → ⊥
   only (is.Shown lines _) k i e one z t f = neither status k e.0 one z f
   only (is.Failed report) k i e one z t f = absurd i
+  only (is.Unnamed report) k i e one z t f = absurd i
+  only (is.Treeless message) k i e one z t f = absurd i
   only (is.NoRule message) k i e one z t f = absurd i
   only (is.OutOfSteps said) k i e one z t f = absurd i
   only is.EmptyStack k i e one z t f = absurd i

@@ -23,6 +23,18 @@ abbrev pub steps_text : ℕ → List ℕ
 steps_text steps =
     codes "the match was stopped after " ++ (decimal steps ++ codes " steps; --steps N allows N")
 
+-- that the expected set of a failure was not found in so many steps
+abbrev pub unnamed_text : ℕ → List ℕ
+unnamed_text steps =
+    codes "what is expected here was not found in "
+    ++ (decimal steps ++ codes " steps; --steps N allows N")
+
+-- that a match ends at a line and a column, and that its trees take more than so many steps
+abbrev pub treeless_text : ℕ × ℕ → ℕ → List ℕ
+treeless_text end_ steps =
+    codes "matched up to " ++ (decimal end_.0 ++ (codes ":" ++ (decimal end_.1
+    ++ (codes "; the trees take more than " ++ (decimal steps ++ codes " steps; --steps N allows N")))))
+
 -- more than a line's end is left of a text
 abbrev pub is_more : List ℕ → Bool
 is_more rest = not (length rest == 0 || bytes_eq rest (codes "\n") || bytes_eq rest (codes "\r\n"))

@@ -26,7 +26,7 @@ use Rattle.matcher_support.specs.Shown.{shown}
 use Rattle.matcher_support.specs.Values.{answer_data}
 use Rattle.program_support.specs.Escapes.{escaped_json, escaped_lines}
 use Rattle.program_support.specs.Messages.{ShowsError}
-use Rattle.pest_run.specs.Messages.{end_text, failure_text, is_more, no_rule_text, steps_text}
+use Rattle.pest_run.specs.Messages.{end_text, failure_text, is_more, no_rule_text, steps_text, treeless_text, unnamed_text}
 use Rattle.pest_run.specs.Failures.{AreTold}
 use Rattle.pest_run.specs.declared.arguments.Format.{Format}
 use Rattle.pest_run.specs.declared.arguments.Format.TheVariants as format_is
@@ -73,15 +73,18 @@ pub record IsNoted (g : Grammar) (rule text : List ℕ) (format : Format) (note 
   pub matches : Has g (chars rule) text is_in_property (Success end_ trees)
   pub tells : note ≡ end_note format text end_.position (furthest matches) (each_once (expected matches))
 
--- a report of an error at a position of the text of a file, where these names are expected, and others are
--- not
-pub record ReportsFailure (name text : List ℕ) (place : ℕ) (names others : List Text) (report : List ℕ)
-    : Type 0 where
+-- a report of a message on a position of the text of a file
+pub record ReportsAt (name text : List ℕ) (place : ℕ) (message report : List ℕ) : Type 0 where
   pub error : Error Rule
-  pub says : message_of error.variant ≡ failure_text names others
+  pub says : message_of error.variant ≡ message
   pub at_place : error.line_col ≡ Pos (line_column text place)
   pub line : error_line error ≡ printed_line text place
   pub shows : ShowsError (Some name) error report
+
+-- a report of a failure there, where these names are expected, and others are not
+abbrev pub ReportsFailure : (name text : List ℕ) → ℕ → (names others : List Text) → List ℕ → Type 0
+ReportsFailure name text place names others report =
+    ReportsAt name text place (failure_text names others) report
 
 -- the rule, called at the start of the text of a file, fails, and the report shows the furthest position of a
 -- failure, and the names that are expected there; or the position and the names of pest's own error
@@ -93,6 +96,28 @@ pub record HasFailed (g : Grammar) (rule name text report : List ℕ) : Type 0 w
   pub are : AreTold fails place names others
   pub reports : ReportsFailure name text place names others report
 
+-- for each outcome of the rule the matcher may take more steps than the limit
+abbrev pub TakesTooManySteps : Grammar → List ℕ → List ℕ → ℕ → Type 0
+TakesTooManySteps g rule text limit = (o : Result) (found : Has g (chars rule) text is_in_property o)
+    → limit < most_steps found
+
+-- the rule, called at the start of the text of a file, fails, and the report shows the furthest position of a
+-- failure, where what is expected was not found in so many steps; and for each outcome the matcher may take
+-- more
+pub record HasUnnamed (g : Grammar) (rule name text : List ℕ) (limit : ℕ) (report : List ℕ) : Type 0 where
+  pub fails : Has g (chars rule) text is_in_property Failure
+  pub long : TakesTooManySteps g rule text limit
+  pub reports : ReportsAt name text (furthest fails) (unnamed_text limit) report
+
+-- the rule, called at the start of the text, succeeds, and the message says where the match ends; for each
+-- outcome the matcher may take more than so many steps
+pub record IsTreeless (g : Grammar) (rule text : List ℕ) (limit : ℕ) (message : List ℕ) : Type 0 where
+  pub end_ : State
+  pub trees : Trees
+  pub matches : Has g (chars rule) text is_in_property (Success end_ trees)
+  pub long : TakesTooManySteps g rule text limit
+  pub tells : message ≡ treeless_text (line_column text end_.position) limit
+
 -- no rule has the name
 abbrev pub HasNoRule : Grammar → List ℕ → Type 0
 HasNoRule g rule = rule_of g (chars rule) ≡ None
@@ -100,11 +125,6 @@ HasNoRule g rule = rule_of g (chars rule) ≡ None
 -- the rule, called at the start of the text, has no outcome
 abbrev pub HasNoOutcome : Grammar → List ℕ → List ℕ → Type 0
 HasNoOutcome g rule text = (o : Result) → Has g (chars rule) text is_in_property o → ⊥
-
--- for each outcome of the rule the matcher may take more steps than the limit
-abbrev pub TakesTooManySteps : Grammar → List ℕ → List ℕ → ℕ → Type 0
-TakesTooManySteps g rule text limit = (o : Result) (found : Has g (chars rule) text is_in_property o)
-    → limit < most_steps found
 
 -- some rule calls a name that no rule has, and that is no builtin's with a known set
 abbrev pub CallsUnknownName : Grammar → Type 0
@@ -137,6 +157,14 @@ IsFailureReport name text failure (is.Failed report) =
 IsFailureReport name text failure is.Memory = ⊤
 IsFailureReport name text failure _ = ⊥
 
+-- the outcome reports a failure at a position of the text of a file, where what is expected was not found in
+-- so many steps; or it reports an allocation failure
+abbrev pub IsUnnamedReport : List ℕ → List ℕ → (place limit : ℕ) → Outcome → Type 0
+IsUnnamedReport name text place limit (is.Unnamed report) =
+    ReportsAt name text place (unnamed_text limit) (string_bytes report)
+IsUnnamedReport name text place limit is.Memory = ⊤
+IsUnnamedReport name text place limit _ = ⊥
+
 -- the outcome shows the trees of a match that ends at a position, and has its furthest failure at another,
 -- where these names are expected; or it reports an allocation failure
 abbrev pub IsMatchReport : List ℕ → Format → (end_ place : ℕ) → List Text → Trees → Outcome → Type 0
@@ -159,6 +187,10 @@ IsOutcome g rule name text format limit (is.Shown lines note) =
     IsShown g rule text format (string_bytes lines)
     × IsNoted g rule text format (option_map string_bytes note)
 IsOutcome g rule name text format limit (is.Failed report) = HasFailed g rule name text (string_bytes report)
+IsOutcome g rule name text format limit (is.Unnamed report) =
+    HasUnnamed g rule name text limit (string_bytes report)
+IsOutcome g rule name text format limit (is.Treeless message) =
+    IsTreeless g rule text limit (string_bytes message)
 IsOutcome g rule name text format limit (is.NoRule message) =
     HasNoRule g rule × (string_bytes message ≡ no_rule_text g rule)
 IsOutcome g rule name text format limit (is.OutOfSteps message) =

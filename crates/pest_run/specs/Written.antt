@@ -11,7 +11,7 @@ use Rattle.pest_meta.specs.Spelling.{IsAnswer, IsRefusedWith}
 use Rattle.pest_meta.specs.Written.{IsWritten, SpellsAccepted}
 use Rattle.program_support.specs.Messages.{IsReport}
 use Rattle.pest_run.specs.Messages.{no_rule_text, steps_text, unread_text}
-use Rattle.pest_run.specs.Outcomes.{CallsUnknownName, HasFailed, HasNoOutcome, HasNoRule, HasWrongBound, IsNoted, IsOutcome, IsShown, TakesTooManySteps}
+use Rattle.pest_run.specs.Outcomes.{CallsUnknownName, HasFailed, HasNoOutcome, HasNoRule, HasUnnamed, HasWrongBound, IsNoted, IsOutcome, IsShown, IsTreeless, TakesTooManySteps}
 use Rattle.pest_run.specs.declared.arguments.Format.{Format}
 use Rattle.pest_run.specs.declared.arguments.RuleForm.{RuleForm}
 use Rattle.pest_run.specs.declared.arguments.RuleForm.TheVariants as form_is
@@ -108,27 +108,31 @@ pub record NotesEnd {X E : Type 0} (form : RuleForm) (grammar rule text : List �
   pub line : WritesNote note same written old new
 
 -- the reason why there are no trees, and its text: the grammar is refused, and its report is the text; or
--- it has no rule of that name; or the rule fails, and the text reports that on the text of the file
-pub data IsReason (form : RuleForm) (grammar rule name text : List ℕ) : List ℕ → Type 0 where
+-- it has no rule of that name; or the rule fails, and the text reports that on the text of the file, with
+-- what is expected, or that this was not found in so many steps
+pub data IsReason (form : RuleForm) (grammar rule name text : List ℕ) (limit : ℕ) : List ℕ → Type 0 where
   refused : (errors : List (Error Rule)) (report : List ℕ) → IsRefusedWith grammar errors
-      → IsReport errors report → IsReason form grammar rule name text report
+      → IsReport errors report → IsReason form grammar rule name text limit report
   no_rule : (rules : Grammar) → AreRun form grammar rules → HasNoRule rules rule
-      → IsReason form grammar rule name text (no_rule_text rules rule)
+      → IsReason form grammar rule name text limit (no_rule_text rules rule)
   no_match : (rules : Grammar) (report : List ℕ) → AreRun form grammar rules
-      → HasFailed rules rule name text report → IsReason form grammar rule name text report
+      → HasFailed rules rule name text report → IsReason form grammar rule name text limit report
+  unnamed : (rules : Grammar) (report : List ℕ) → AreRun form grammar rules
+      → HasUnnamed rules rule name text limit report → IsReason form grammar rule name text limit report
 
 -- there is such a reason, and it is the line
-pub record ReportsReason {X E : Type 0} (form : RuleForm) (grammar rule name text : List ℕ)
+pub record ReportsReason {X E : Type 0} (form : RuleForm) (grammar rule name text : List ℕ) (limit : ℕ)
     (written : Result X E) (old new : Option (List ℕ)) : Type 0 where
   pub message : List ℕ
-  pub reason : IsReason form grammar rule name text message
+  pub reason : IsReason form grammar rule name text limit message
   pub line : WritesLine message written old new
 
--- the reason why the matcher was stopped on the text, and its text: too many steps; or the rule has no
--- outcome and `PEEK` or `POP` met the empty stack; or the text has 4 GiB; or the rules can't be run, for an
--- unknown name or a bound
+-- the reason why the matcher was stopped on the text, and its text: too many steps, where the rule may be
+-- known to match; or the rule has no outcome and `PEEK` or `POP` met the empty stack; or the text has 4 GiB;
+-- or the rules can't be run, for an unknown name or a bound
 pub data IsStop (g : Grammar) (rule text : List ℕ) (limit : ℕ) : List ℕ → Type 0 where
   too_many_steps : TakesTooManySteps g rule text limit → IsStop g rule text limit (steps_text limit)
+  treeless : (message : List ℕ) → IsTreeless g rule text limit message → IsStop g rule text limit message
   empty_stack : HasNoOutcome g rule text
       → IsStop g rule text limit (codes "PEEK or POP found nothing on the stack")
   long_text : 2 ^ 32 ≤ length text → IsStop g rule text limit (codes "the text has 4 GiB or more")

@@ -6,7 +6,7 @@ ghost use Rattle.matcher_support.specs.Expectations.{list_text};
 ghost use Rattle.base_language.specs.Language.Expression.{Grammar};
 ghost use Rattle.matcher_engine.specs.Walks.{AreNamesOf};
 ghost use Rattle.program_support.specs.Escapes.{escaped_bytes};
-ghost use Rattle.pest_run.specs.Messages.{end_text, expected_or_none, expected_text, expected_too, failure_text, is_more, no_rule_text, note_between, place_text, steps_text, suggestion, unread_text};
+ghost use Rattle.pest_run.specs.Messages.{end_text, expected_or_none, expected_text, expected_too, failure_text, is_more, no_rule_text, note_between, place_text, steps_text, suggestion, treeless_text, unnamed_text, unread_text};
 ghost use Rattle.base_language.specs.Pieces.LineColumn.{line_column};
 
 use crate::rule_names::near_names;
@@ -81,6 +81,29 @@ pub fn steps_message(alloc: Global, steps: u64) -> Result<String, AllocError>
     ensures { IfOk result (λ message. string_bytes message ≡ steps_text steps) }
 {
     format!(in alloc; "the match was stopped after {steps} steps; --steps N allows N")
+}
+
+/// Returns the message that the expected set of a failure was not found in so many steps. The only error is
+/// an allocation failure.
+pub fn unnamed_message(alloc: Global, steps: u64) -> Result<String, AllocError>
+    ensures { IfOk result (λ message. string_bytes message ≡ unnamed_text steps) }
+{
+    format!(in alloc; "what is expected here was not found in {steps} steps; --steps N allows N")
+}
+
+/// Returns the message that a match ends at a position, and that its trees take more than so many steps. The
+/// only error is an allocation failure.
+pub fn treeless_message(
+    alloc: Global,
+    end: (usize, usize),
+    steps: u64,
+) -> Result<String, AllocError>
+    ensures { IfOk result (λ message. string_bytes message ≡ treeless_text end steps) }
+{
+    let (line, column) = end;
+    format!(in alloc;
+        "matched up to {line}:{column}; the trees take more than {steps} steps; --steps N allows N"
+    )
 }
 
 /// Returns whether more than a line's end is left of a text.

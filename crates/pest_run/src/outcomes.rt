@@ -1,11 +1,12 @@
 //! Outcomes of rules.
-ghost use Rattle.std.specs.Prelude.{◌≡◌, ℕ, List, IfOk, IsSomeAnd, IsUtf8, chars, option_map, string_bytes};
+ghost use Rattle.std.specs.Prelude.{◌≡◌, ℕ, List, IfOk, IsSomeAnd, IsUtf8, chars, option_map, string_bytes, true};
 ghost use Rattle.base_ast.specs.Optimized.{optimized_rules_of};
 ghost use Rattle.base_ast.specs.declared.optimized.OptimizedRule.{OptimizedRule};
 ghost use Rattle.base_language.specs.Language.Expression.{Grammar};
 ghost use Rattle.base_language.specs.Language.State.{Trees};
 ghost use Rattle.base_language.specs.Language.Text.{Text};
 ghost use Rattle.matcher_engine.specs.Preorders.{HasPreorder};
+ghost use Rattle.matcher_engine.specs.Recognitions.{HasEnd};
 ghost use Rattle.matcher_engine.specs.Walks.{AreNamesOf, visits, visits_left};
 ghost use Rattle.matcher_program.specs.Answers.{start_of};
 ghost use Rattle.matcher_program.specs.ExpectedNames.{name_texts};
@@ -14,14 +15,18 @@ ghost use Rattle.matcher_support.specs.Compiled.{FailsIn, IsCompiled, IsCompiled
 ghost use Rattle.matcher_support.specs.Sets.{is_in_property};
 ghost use Rattle.matcher_support.specs.Shown.{shown};
 ghost use Rattle.program_support.specs.Escapes.{escaped_lines};
-ghost use Rattle.pest_run.specs.Outcomes.{IsFailureReport, IsMatchReport, IsNoRuleReport, IsOutcome, IsStopReport, ReportsFailure, end_note, trees_text, unfit_outcome};
+ghost use Rattle.pest_run.specs.Outcomes.{IsFailureReport, IsMatchReport, IsNoRuleReport, IsOutcome, IsStopReport, IsUnnamedReport, ReportsAt, ReportsFailure, TakesTooManySteps, end_note, trees_text, unfit_outcome};
 
 use crate::arguments::Format;
 use crate::failures::{find_failure, names_after};
-use crate::messages::{describe_failure, end_message, is_more, no_rule_message, steps_message};
+use crate::messages::{
+    describe_failure, end_message, is_more, no_rule_message, steps_message, treeless_message,
+    unnamed_message,
+};
 use base_language::runtime::{Error, ErrorVariant, Fault, Position};
 use matcher_engine::block::{BlockStop, compile_block};
 use matcher_engine::matcher::Preorder;
+use matcher_engine::recognize::Recognition;
 use matcher_engine::walk::TreeWalk;
 use matcher_program::answers::Stop;
 use matcher_program::compile::Unfit;
@@ -37,6 +42,9 @@ use program_support::json::escape_json;
 use program_support::messages::show_error;
 use std::alloc::{AllocError, Global};
 
+/// How many turns a run without trees may take for each step that is allowed: a step is four operations.
+const TURNS: u64 = 4;
+
 /// The outcome of a rule on a text.
 #[derive(Drop)]
 pub enum Outcome {
@@ -44,8 +52,14 @@ pub enum Outcome {
     Shown { lines: String, note: Option<String> },
     /// The rule fails; the report has the position and the expected set.
     Failed(String),
+    /// The rule fails; the report has the position, and says that the expected set was not found in so many
+    /// steps.
+    Unnamed(String),
     /// The grammar has no rule of that name, and the message says so.
     NoRule(String),
+    /// The rule matches, but its trees take more steps than the matcher may take; the message says so, and
+    /// where the match ends.
+    Treeless(String),
     /// The run takes more steps than the matcher may take, and the message says so.
     OutOfSteps(String),
     /// `PEEK` or `POP` met the empty stack, and the rule has no outcome on the text.
@@ -122,9 +136,56 @@ fn run_outcome(
         }
         Err(BlockStop::NoRule) => refusal_outcome(alloc, rules, rule, BlockStop::NoRule, steps),
         Err(BlockStop::Stopped(stop)) => {
-            refusal_outcome(alloc, rules, rule, BlockStop::Stopped(stop), steps)
+            let stopped = BlockStop::Stopped(stop);
+            if is_out_of_steps(&stopped) {
+                treeless_outcome(alloc, rules, rule, name, text, steps)
+            } else {
+                refusal_outcome(alloc, rules, rule, stopped, steps)
+            }
         }
         Err(BlockStop::Flaw(_)) => None,
+    }
+}
+
+/// Returns the outcome of a rule on the text of a file where its trees take more than so many steps: by a run
+/// without trees, of as many turns as operations were allowed. Returns none where a position is not between
+/// two characters.
+fn treeless_outcome(
+    alloc: Global,
+    rules: &CompiledRules<'_>,
+    rule: &str,
+    name: &str,
+    text: &str,
+    steps: u64,
+) -> Option<Outcome>
+    ensures { (g : Grammar) → IsCompiledOf g rules.now → (format : Format)
+        → TakesTooManySteps g rule.now text.now steps
+        → IsSomeAnd result (IsOutcome g rule.now name.now text.now format steps) }
+{
+    match rules.recognize(alloc, rule, text, steps.saturating_mul(TURNS)) {
+        Ok(Recognition::Failed(place)) => {
+            failure_outcome(alloc, rules, rule, name, text, place, steps)
+        }
+        Ok(Recognition::Found(end)) => end_outcome(alloc, text, end, steps),
+        Ok(Recognition::Endless | Recognition::OutOfTurns | Recognition::Unknown) | Err(_) => {
+            Some(stopped_outcome(alloc, Stop::OutOfSteps, steps))
+        }
+    }
+}
+
+/// Returns the outcome of a rule that matches a text up to a byte position, where its trees take more than so
+/// many steps. Returns none where the position is not between two characters.
+fn end_outcome(alloc: Global, text: &str, end: usize, steps: u64) -> Option<Outcome>
+    ensures { (g : Grammar) (rule name : List ℕ) (format : Format) → TakesTooManySteps g rule text.now steps
+        → HasEnd g (chars rule) (start_of text.now) is_in_property end
+        → IsSomeAnd result (IsOutcome g rule name text.now format steps) }
+{
+    let Some(place) = Position::new(text, end) else {
+        return None;
+    };
+    match treeless_message(alloc, place.line_col(), steps) {
+        Ok(message) => Some(Outcome::Treeless(message)),
+        Err(_) => Some(Outcome::Memory),
     }
 }
 
@@ -175,7 +236,23 @@ fn failure_outcome(
     }
     match find_failure(alloc, rules, rule, text, place, steps) {
         Ok(failure) => Some(failed_outcome(alloc, name, text, &failure)),
-        Err(stop) => refusal_outcome(alloc, rules, rule, stop, steps),
+        Err(stop) => {
+            if is_out_of_steps(&stop) {
+                Some(unnamed_outcome(alloc, name, text, place, steps))
+            } else {
+                refusal_outcome(alloc, rules, rule, stop, steps)
+            }
+        }
+    }
+}
+
+/// Returns whether a run was stopped since it takes more steps than were allowed.
+fn is_out_of_steps(stop: &BlockStop) -> bool
+    ensures { result ≡ true → stop.now ≡ BlockStop.Stopped Stop.OutOfSteps }
+{
+    match stop {
+        BlockStop::Stopped(Stop::OutOfSteps) => true,
+        _ => false,
     }
 }
 
@@ -321,6 +398,21 @@ fn failed_outcome(alloc: Global, name: &str, text: &str, failure: &NamedAttempts
     }
 }
 
+/// Returns the outcome of a rule that fails on the text of a file at a byte position, where the expected set
+/// was not found in so many steps.
+fn unnamed_outcome(alloc: Global, name: &str, text: &str, place: usize, steps: u64) -> Outcome
+    requires { IsCharBoundary text.now place }
+    ensures { IsUnnamedReport name.now text.now place steps result }
+{
+    let Ok(message) = unnamed_message(alloc, steps) else {
+        return Outcome::Memory;
+    };
+    match report_at(alloc, name, text, place, message) {
+        Ok(report) => Outcome::Unnamed(report),
+        Err(_) => Outcome::Memory,
+    }
+}
+
 /// Returns the outcome of a name that no rule has, by the names of the rules.
 fn no_rule_outcome(alloc: Global, names: &[&str], rule: &str) -> Outcome
     ensures { (g : Grammar) → AreNamesOf g names.now → IsNoRuleReport g rule.now result }
@@ -343,10 +435,26 @@ fn report_failure(
         (name_texts failure.now.positives.items) (name_texts failure.now.negatives.items)
         (string_bytes report)) }
 {
-    let Some(place) = Position::new(text, failure.place) else {
+    let message = describe_failure(alloc, failure)?;
+    report_at(alloc, name, text, failure.place, message)
+}
+
+/// Returns the report of a message on a byte position of the text of a file. The only error is an allocation
+/// failure.
+fn report_at(
+    alloc: Global,
+    name: &str,
+    text: &str,
+    place: usize,
+    message: String,
+) -> Result<String, Fault>
+    requires { IsCharBoundary text.now place }
+    ensures { IfOk result (λ report. ReportsAt name.now text.now place
+        (string_bytes message) (string_bytes report)) }
+{
+    let Some(place) = Position::new(text, place) else {
         unreachable!()
     };
-    let message = describe_failure(alloc, failure)?;
     let error = Error::new_from_pos(alloc, ErrorVariant::CustomError { message }, place)?;
     Ok(show_error(alloc, Some(name), &error)?)
 }

@@ -46,7 +46,8 @@ pub fn run_files<W: Write, E: Write>(
         (E.contents err.old.writer) (E.contents err.new.writer) }
     ensures reason { result.status ≡ 1
         → ReportsReason request.entry.form grammar.now.bytes.items request.entry.rule.now text.now.name.now
-        text.now.bytes.items result.write_result (E.contents err.old.writer) (E.contents err.new.writer) }
+        text.now.bytes.items (step_limit request.entry.steps (length text.now.bytes.items))
+        result.write_result (E.contents err.old.writer) (E.contents err.new.writer) }
     ensures tells_memory { result.status ≡ 2
         → WritesLine (codes "out of memory") result.write_result
         (E.contents err.old.writer) (E.contents err.new.writer) }
@@ -80,7 +81,7 @@ pub fn run_files<W: Write, E: Write>(
 ///
 /// Otherwise one text with a line break at its end goes to `err`: the report of a grammar that is refused,
 /// that the grammar has no such rule, or the furthest position at which the rule fails with the expected set
-/// there (1); `out of memory` (2); `cannot write` where `out` refuses
+/// there, or with a note that this was not found (1); `out of memory` (2); `cannot write` where `out` refuses
 /// a write (4); why the run was stopped (5). A write that `err` refuses changes no status. `reading` is what
 /// was read of the grammar: the rules, or the errors of a refusal, or nothing where an allocation failed.
 pub fn run<W: Write, E: Write>(
@@ -107,7 +108,7 @@ pub fn run<W: Write, E: Write>(
         (E.contents err.old.writer) (E.contents err.new.writer) }
     ensures reason { result.status ≡ 1
         → ReportsReason request.entry.form grammar.now request.entry.rule.now name.now text.now
-        result.write_result
+        (step_limit request.entry.steps (length text.now)) result.write_result
         (E.contents err.old.writer) (E.contents err.new.writer) }
     ensures tells_memory { result.status ≡ 2
         → WritesLine (codes "out of memory") result.write_result
@@ -191,9 +192,13 @@ pub fn print_outcome<W: Write, E: Write>(
             let written = out.write_text(lines.as_str());
             exit_after_write(err, written, note)
         }
-        Outcome::Failed(report) => exit_with(err, report.as_str(), Status::Found),
+        Outcome::Failed(report) | Outcome::Unnamed(report) => {
+            exit_with(err, report.as_str(), Status::Found)
+        }
         Outcome::NoRule(message) => exit_with(err, message.as_str(), Status::Found),
-        Outcome::OutOfSteps(message) => exit_with(err, message.as_str(), Status::Stopped),
+        Outcome::Treeless(message) | Outcome::OutOfSteps(message) => {
+            exit_with(err, message.as_str(), Status::Stopped)
+        }
         Outcome::EmptyStack => exit_with(
             err,
             "PEEK or POP found nothing on the stack",

@@ -32,5 +32,5 @@ returns-in-Err-Grammar-clause-reason g c =
     let told = c.report_refusal-exit in
     let errors = c.deref.result.now in
     let refusal = rw (c.in-Err-Grammar.is ∙ ap Err c.in-Err-Grammar.field-0-is) at c.read_grammar.ensures.refused in
-    λ one. refusal_is_reason c.args.request.form c.args.grammar.now c.args.request.rule.now c.args.name.now c.args.text.now told.result.write_result _ _
+    λ one. refusal_is_reason c.args.request.form c.args.grammar.now c.args.request.rule.now c.args.name.now c.args.text.now _ told.result.write_result _ _
     (record { errors = errors; refused = subst (IsRefusedWith c.args.grammar.now) (sym c.deref.ensures.value) refusal; tells = told.ensures.tells one })
