@@ -1,64 +1,53 @@
 -- A text's diagnostics, by the outcome of its front end.
-use Rattle.std.proofs.Common.{◌≡◌, ◌≢◌, ◌⊎◌, inl, inr, ◌∙◌, ℕ, List, [], ◌∷◌, ◌++◌, Bool, true, false, ◌||◌, Result, Ok, Err, IfOk, Vec, Global, filter, map, refl, subst, sym, ap}
+use Rattle.std.proofs.Common.{◌≡◌, ◌≢◌, ◌∙◌, ℕ, List, [], ◌∷◌, ◌++◌, Bool, true, false, ◌||◌, Result, Ok, Err, IfOk, Vec, Global, filter, map, refl, subst, sym, ap}
 use Rattle.std.specs.Borrow.{Bor}
 use Rattle.std.specs.List.{AllZip, list_any}
 use Rattle.lint_findings.specs.Codes.{warning}
 use Rattle.lint_findings.specs.Fragments.{Fragment}
 use Rattle.lint_findings.specs.Starts.{is_unknown, names_of, place_of, stated_starts}
 use Rattle.lint_findings.specs.declared.codes.Code.TheVariants as code
-use Rattle.lint_findings.specs.Reports.{ReportsError, ReportsWarning, is_error, is_severe}
+use Rattle.lint_findings.specs.Reports.{ReportsFlawFound, ReportsNameFinding, ReportsRefusal, ReportsRuleFinding, ReportsSyntax, ReportsWarning, is_error, is_severe}
+use Rattle.lint_findings.specs.declared.codes.Severity.TheVariants as severity
 use Rattle.lint_findings.specs.declared.diagnostic.Diagnostic.{Diagnostic}
 use Rattle.base_language.specs.Language.Text.{Text}
-use Rattle.base_language.specs.declared.grammar.Rule.{Rule}
-use Rattle.base_language.specs.declared.runtime.errors.Error.{Error}
 use Rattle.lint_diagnostics.specs.Diagnosis.{IfSpells, IsDiagnosisWith, ReportRules, ReportWarnings, accepted, all_starts, refused}
-use Rattle.front_names.proofs.Places.{tell_none}
+use Rattle.front_names.specs.NameFindings.{told_by}
 use Rattle.front_spanned.specs.Spanned.{SpannedRule}
 use Rattle.lint_findings.specs.Allowances.{ArePartsOf, LeavesOutAllowed}
-use Rattle.pest_meta.specs.Spelling.{HasAnswer, HasWrongRules, IsMisnamed, AreFlawed, HaveFindings, IsRefusedWith, complaints_in}
+use Rattle.pest_meta.specs.Opening.{IsOpenError}
+use Rattle.pest_meta.specs.Spelling.{HasAnswer}
 use Rattle.pest_meta.specs.WithSpans.{SpellsWithSpans}
+use Rattle.pest_meta.specs.declared.opened.OpenError.{OpenError}
+use Rattle.pest_meta.specs.declared.opened.OpenError.TheVariants as refusal
 use Rattle.lint_diagnostics.proofs.Parts.{rules_text}
 use Rattle.pest_meta.proofs.Accepted.{spelled_have_answers}
 
-one_some : {X : Type 0} (xs : List X) (x : X) → xs ≡ x ∷ [] → xs ≢ []
-one_some xs x e h = let z = sym e ∙ h in cc
+-- a refusal has a diagnostic that is an error
+first_severe : {X : Type 0} (R : X → Diagnostic → Type 0) → ((x : X) (d : Diagnostic) → R x d → d.severity ≡ severity.Error) → (xs : List X) (ds : List Diagnostic) → xs ≢ [] → AllZip R xs ds
+    → list_any is_error ds ≡ true
+first_severe R f [] ds n h = absurd (n refl)
+first_severe R f (x ∷ xs) [] n h = absurd h
+first_severe R f (x ∷ xs) (d ∷ ds) n h = ap (λ b. b || list_any is_error ds) (ap is_severe (f x d h.0))
 
-rules_some : (text : List ℕ) (errors : List (Error Rule)) (trees : _) → AreFlawed text trees errors ⊎ HaveFindings text trees errors → errors ≢ []
-rules_some text errors trees (inl f) = one_some errors f.tells.error f.tells.one
-rules_some text errors trees (inr f) = f.some
+one_some : {X : Type 0} (x : X) → x ∷ [] ≢ []
+one_some x h = cc
 
-grammar_some : (text : List ℕ) (errors : List (Error Rule)) (trees : _) → IsMisnamed text trees errors ⊎ HasWrongRules text trees errors → errors ≢ []
-grammar_some text errors trees (inl m) = λ e. m.some (tell_none (complaints_in text trees) errors m.tell e)
-grammar_some text errors trees (inr w) = rules_some text errors trees w.why
+severe : (text : List ℕ) (error : OpenError) (ds : List Diagnostic) → IsOpenError text error → ReportsRefusal text error ds → list_any is_error ds ≡ true
+severe text (refusal.Memory e) ds o r = absurd r
+severe text (refusal.Syntax error) ds o r = first_severe (ReportsSyntax text) (λ x d k. k.severity) (error ∷ []) ds (one_some error) r
+severe text (refusal.Names findings) ds o r = first_severe ReportsNameFinding (λ x d k. k.complaint.severity) findings.items ds (λ e. o.some (sym o.told ∙ ap told_by e)) r
+severe text (refusal.Flaw flaw) ds o r = first_severe ReportsFlawFound (λ x d k. k.severity) (flaw ∷ []) ds (one_some flaw) r
+severe text (refusal.Rules findings) ds o r = first_severe ReportsRuleFinding (λ x d k. k.severity) findings.items ds o.some r
 
--- a refusal has errors
-pub errors_some : (text : List ℕ) (errors : List (Error Rule)) → IsRefusedWith text errors → errors ≢ []
-errors_some text errors (inl n) = one_some errors n.says.says.error n.says.says.one
-errors_some text errors (inr bad) = grammar_some text errors bad.trees bad.why
+pub diagnosed_refused : {E : Type 0} (all : Bool) (starts : List Text) (text : List ℕ) (error : OpenError) (result : Result (Vec Diagnostic Global) E) → IsOpenError text error
+    → IfOk result (λ ds. ReportsRefusal text error ds.items) → IfOk result (λ ds. IsDiagnosisWith all starts text ds.items)
+diagnosed_refused all starts text error (Ok ds) o r = refused error o r
+diagnosed_refused all starts text error (Err e) o r = tt
 
--- so one of its diagnostics is an error
-is_error_of : (e : Error Rule) (d : Diagnostic) → ReportsError e d → is_error d ≡ true
-is_error_of e d r = ap is_severe r.severity
-
-first_error : (errors : List (Error Rule)) (ds : List Diagnostic) → errors ≢ [] → AllZip ReportsError errors ds → list_any is_error ds ≡ true
-first_error [] ds n h = absurd (n refl)
-first_error (e ∷ errors) [] n h = absurd h
-first_error (e ∷ errors) (d ∷ ds) n h = ap (λ b. b || list_any is_error ds) (is_error_of e d h.0)
-
-pub no_refusal : {A : Type 0} (text : List ℕ) (errors : List (Error Rule)) (ds : List Diagnostic) → IsRefusedWith text errors → AllZip ReportsError errors ds → list_any is_error ds ≡ false → A
-no_refusal text errors ds r each none =
-    let z = first_error errors ds (errors_some text errors r) each in
-    absurd (let y : true ≡ false = sym z ∙ none in cc)
-
-pub diagnosed_refused : {E : Type 0} (all : Bool) (starts : List Text) (text : List ℕ) (errors : List (Error Rule)) (result : Result (Vec Diagnostic Global) E) → IsRefusedWith text errors
-    → IfOk result (λ ds. AllZip ReportsError errors ds.items) → IfOk result (λ ds. IsDiagnosisWith all starts text ds.items)
-diagnosed_refused all starts text errors (Ok ds) r each = refused errors r each
-diagnosed_refused all starts text errors (Err e) r each = tt
-
-pub answered_refused : {E : Type 0} (text : List ℕ) (errors : List (Error Rule)) (result : Result (Vec Diagnostic Global) E) → IsRefusedWith text errors
-    → IfOk result (λ ds. AllZip ReportsError errors ds.items) → IfOk result (λ ds. list_any is_error ds.items ≡ false → HasAnswer text)
-answered_refused text errors (Ok ds) r each = λ none. no_refusal text errors ds.items r each none
-answered_refused text errors (Err e) r each = tt
+pub answered_refused : {E : Type 0} (text : List ℕ) (error : OpenError) (result : Result (Vec Diagnostic Global) E) → IsOpenError text error
+    → IfOk result (λ ds. ReportsRefusal text error ds.items) → IfOk result (λ ds. list_any is_error ds.items ≡ false → HasAnswer text)
+answered_refused text error (Ok ds) o r = λ none. absurd (let wrong : true ≡ false = sym (severe text error ds.items o r) ∙ none in cc)
+answered_refused text error (Err e) o r = tt
 
 pub diagnosed_accepted : {E : Type 0} (all : Bool) (starts : List Text) (text : List ℕ) (builtins : List (Bor (List ℕ))) (rules : List SpannedRule) (result : Result (Vec Diagnostic Global) E)
     → SpellsWithSpans text builtins rules → IfOk result (λ ds. IfSpells text rules (ReportWarnings all starts text ds.items))

@@ -4,15 +4,13 @@ use Rattle.std.specs.Borrow.{Bor}
 use Rattle.std.specs.List.{AllZip}
 use Rattle.lint_findings.specs.Allowances.{LeavesOutAllowed}
 use Rattle.lint_findings.specs.Codes.{chosen_warnings, warning}
-use Rattle.lint_findings.specs.Reports.{ReportsError, ReportsWarning}
+use Rattle.lint_findings.specs.Reports.{ReportsRefusal, ReportsWarning}
 use Rattle.lint_findings.specs.Starts.{names_of, stated_starts, unknown_starts}
 use Rattle.lint_findings.specs.declared.codes.Code.TheVariants as code
 use Rattle.lint_findings.specs.declared.diagnostic.Diagnostic.{Diagnostic}
 use Rattle.base_language.specs.Language.State.{Trees}
 use Rattle.base_language.specs.Language.Text.{Text}
 use Rattle.base_language.specs.Pieces.Saying.{written}
-use Rattle.base_language.specs.declared.grammar.Rule.{Rule}
-use Rattle.base_language.specs.declared.runtime.errors.Error.{Error}
 use Rattle.front_names.specs.Builtins.{name_of}
 use Rattle.front_names.specs.declared.builtin.Builtin.TheVariants.{Soi}
 use Rattle.front_reader.specs.Reading.{ReadsRules}
@@ -20,7 +18,9 @@ use Rattle.lint_diagnostics.specs.Messages.{ReportsDifference}
 use Rattle.lint_hints.specs.declared.help.Related.{Related}
 use Rattle.lint_patterns.specs.Rewritten.{FindsLists, is_optional_name}
 use Rattle.front_spanned.specs.Spanned.{Span, SpannedRule}
-use Rattle.pest_meta.specs.Spelling.{HasAnswer, HasTrees, IsRefusedWith}
+use Rattle.pest_meta.specs.Opening.{IsOpenError}
+use Rattle.pest_meta.specs.Spelling.{HasAnswer, HasTrees}
+use Rattle.pest_meta.specs.declared.opened.OpenError.{OpenError}
 use Rattle.pest_meta.specs.WithSpans.{SpellsWithSpans}
 
 -- all notes are about texts on which the rule of a name ends otherwise as pest runs it
@@ -70,12 +70,12 @@ pub record ReportWarnings (has_all : Bool) (starts : List Text) (text : List ℕ
 abbrev pub IfSpells : List ℕ → List SpannedRule → Type 0 → Type 0
 IfSpells text rules P = (builtins : List (Bor (List ℕ))) → SpellsWithSpans text builtins rules → P
 
--- the diagnostics of a text, where rules of some names are starts: the errors with which it is refused, or
--- its warnings, all of them or not
+-- the diagnostics of a text, where rules of some names are starts: why it is refused, or its warnings, all of
+-- them or not
 pub data IsDiagnosisWith (has_all : Bool) (starts : List Text) (text : List ℕ) (diagnostics : List Diagnostic)
     : Type 0 where
-  refused : (errors : List (Error Rule)) → IsRefusedWith text errors
-      → AllZip ReportsError errors diagnostics → IsDiagnosisWith has_all starts text diagnostics
+  refused : (error : OpenError) → IsOpenError text error → ReportsRefusal text error diagnostics
+      → IsDiagnosisWith has_all starts text diagnostics
   accepted : HasAnswer text → ReportWarnings has_all starts text diagnostics
       → IsDiagnosisWith has_all starts text diagnostics
 

@@ -10,7 +10,7 @@ mod texts;
 ghost use Rattle.std.specs.Prelude.{◌≡◌, IfOk, IfSome, chars, false, map, string_bytes, true};
 ghost use Rattle.std.specs.List.{AllZip, list_any};
 ghost use Rattle.lint_findings.specs.Codes.{chosen_warnings};
-ghost use Rattle.lint_findings.specs.Reports.{ReportsError, ReportsWarning, is_error};
+ghost use Rattle.lint_findings.specs.Reports.{ReportsWarning, is_error};
 ghost use Rattle.lint_findings.specs.Fragments.{fragment_of};
 ghost use Rattle.lint_findings.specs.Starts.{names_of};
 ghost use Rattle.lint_diagnostics.specs.Diagnosis.{IsDiagnosis, IsDiagnosisWith, IsFullDiagnosis};
@@ -24,19 +24,16 @@ ghost use Rattle.pest_meta.specs.Spelling.{HasAnswer};
 
 pub use crate::comparer::Comparer;
 pub use crate::difference::{Difference, RuleEnd};
-use base_ast::deep::Deep;
-use base_language::grammar::Rule;
-use base_language::runtime::{Error, ErrorVariant, Fault, Span};
+use base_language::runtime::Span;
 use front_names::Builtin;
 use front_spanned::ParserRule;
 pub use lint_findings::{Code, Diagnostic, Fix, Help, Options, Related, Severity};
 use lint_findings::{
-    Fragment, diagnose_all_rules, diagnose_errors, diagnose_list, diagnose_rules, diagnose_starts,
+    Fragment, diagnose_all_rules, diagnose_list, diagnose_refusal, diagnose_rules, diagnose_starts,
     leave_out_allowed, stated_starts,
 };
 use lint_patterns::rewritten_lists;
-use pest_meta::parse_with_spans;
-use pest_meta::parser::{PestParser, common_name};
+use pest_meta::open;
 use std::alloc::{AllocError, Global};
 
 /// How many warnings of rewritten lists have a note.
@@ -87,63 +84,27 @@ fn diagnose_with(
     ensures accepted { IfOk result (λ diagnostics.
         list_any is_error diagnostics.items ≡ false → HasAnswer text.now) }
 {
-    match parse_with_spans(alloc, text) {
-        Ok((_, rules)) => diagnose_accepted(alloc, text, rules, starts, has_all),
-        Err(Fault::Grammar(errors)) => diagnose_refused(alloc, text, &errors),
-        Err(Fault::Memory(error)) => Err(error),
+    match open(alloc, text) {
+        Ok(opened) => diagnose_accepted(alloc, text, &opened.rules.value, starts, has_all),
+        Err(error) => diagnose_refusal(alloc, text, &error),
     }
 }
 
-/// The diagnostics of the errors with which a text is refused.
-fn diagnose_refused(
-    alloc: Global,
-    text: &str,
-    errors: &[Error<Rule>],
-) -> Result<Vec<Diagnostic>, AllocError>
-    ensures { IfOk result (λ diagnostics. AllZip ReportsError errors.now diagnostics.items) }
-{
-    let expected = if is_syntax_error(errors) {
-        expected_names(alloc, text)?
-    } else {
-        Vec::new(alloc)
-    };
-    diagnose_errors(alloc, text, errors, &expected)
-}
-
-/// Whether the errors are one syntax error.
-fn is_syntax_error(errors: &[Error<Rule>]) -> bool {
-    match errors {
-        [error] => matches!(error.variant, ErrorVariant::ParsingError),
-        _ => false,
-    }
-}
-
-/// The expected set of a text's syntax error, by name, in the order of the meta-grammar.
-fn expected_names(alloc: Global, text: &str) -> Result<Vec<&'static str>, AllocError> {
-    let rules = PestParser::expected_set(alloc, Rule::grammar_rules, text)?;
-    let mut names = Vec::new(alloc);
-    for rule in &rules {
-        names.push(common_name(*rule))?;
-    }
-    Ok(names)
-}
-
-/// The warnings of an accepted text, all of them or not. `rules` are those of `parse_with_spans`.
+/// The warnings of an accepted text with these rules, all of them or not.
 fn diagnose_accepted(
     alloc: Global,
     text: &str,
-    rules: Vec<ParserRule<'_>>,
+    rules: &[ParserRule<'_>],
     starts: &[&str],
     has_all: bool,
 ) -> Result<Vec<Diagnostic>, AllocError>
-    ensures { IfOk result (λ diagnostics. IfSpells text.now (rule_views rules.entry.items)
+    ensures { IfOk result (λ diagnostics. IfSpells text.now (rule_views rules.now)
         (ReportWarnings has_all (texts_of starts.now) text.now diagnostics.items)) }
 {
-    let rules = Deep { value: rules };
     let stated = stated_starts(alloc, text)?;
-    let mut diagnostics = diagnose_starts(alloc, &rules.value, &stated)?;
-    let warnings = warn_from(alloc, text, &rules.value, starts, &stated, has_all)?;
-    let mut left = leave_out_allowed(alloc, text, &rules.value, warnings)?;
+    let mut diagnostics = diagnose_starts(alloc, rules, &stated)?;
+    let warnings = warn_from(alloc, text, rules, starts, &stated, has_all)?;
+    let mut left = leave_out_allowed(alloc, text, rules, warnings)?;
     diagnostics.append(&mut left)?;
     Ok(diagnostics)
 }

@@ -5,8 +5,6 @@ use Rattle.std.specs.Prelude.{IsSomeAnd, codes}
 use Rattle.lint_findings.specs.Helps.{IsHelpOf, IsSuggestion}
 use Rattle.lint_findings.specs.declared.codes.Code.{Code}
 use Rattle.lint_findings.specs.declared.codes.Code.TheVariants as code
-use Rattle.front_names.specs.Builtins.{name_of}
-use Rattle.front_names.specs.declared.builtin.Builtin.{Builtin}
 use Rattle.lint_hints.specs.Hints.{IsReplacement}
 use Rattle.lint_hints.specs.declared.help.Fix.{Fix}
 use Rattle.lint_hints.specs.declared.help.Help.{Help}
@@ -21,22 +19,18 @@ pub unsuggested : {E : Type 0} (c : Code) (result : Result (Option Help) E) → 
 unsuggested c (Ok help) n = λ e. absurd (n e)
 unsuggested c (Err x) n = tt
 
--- nor does a syntax error
-pub syntax_help : (c : Code) (help : Option Help) → c ≡ code.Syntax → IsHelpOf c help
-syntax_help c help s = λ e. (let no : code.Syntax ≡ code.UndefinedRule = sym s ∙ e in cc)
-
 -- the message has the text of the fix
 pub suggests : (fix : Option Fix) (message : List ℕ) (start end : ℕ) (name : List ℕ) → IsSomeAnd fix (IsReplacement start end name) → message ≡ codes "did you mean `" ++ (name ++ codes "`?")
     → IsSomeAnd fix (λ f. message ≡ codes "did you mean `" ++ (string_bytes f.replacement ++ codes "`?"))
 suggests None message start end name h e = absurd h
 suggests (Some f) message start end name h e = e ∙ ap (λ t. codes "did you mean `" ++ (t ++ codes "`?")) (sym h.written)
 
--- the name of one builtin more
-pub one_name_more : (bs : List Builtin) (i : ℕ) (d : Builtin) (old new : List (Bor (List ℕ))) (n : Bor (List ℕ)) → i < length bs → new ≡ old ++ n ∷ [] → n.now ≡ name_of (get_or bs i d)
-    → map (λ name. name.now) old ≡ map name_of (take i bs) → map (λ name. name.now) new ≡ map name_of (take (i + 1) bs)
-one_name_more bs i d old new n h e a o =
+-- one name more of a list's elements
+pub one_name_more : {X : Type 0} (f : X → List ℕ) (xs : List X) (i : ℕ) (d : X) (old new : List (Bor (List ℕ))) (n : Bor (List ℕ)) → i < length xs → new ≡ old ++ n ∷ [] → n.now ≡ f (get_or xs i d)
+    → map (λ name. name.now) old ≡ map f (take i xs) → map (λ name. name.now) new ≡ map f (take (i + 1) xs)
+one_name_more f xs i d old new n h e a o =
     let now : Bor (List ℕ) → List ℕ = λ name. name.now in
     ap (map now) e
     ∙ (map-append now old (n ∷ [])
     ∙ (ap₂ ◌++◌ o (ap (λ t. t ∷ []) a)
-    ∙ sym (ap (map name_of) (take_more bs i d h) ∙ map-append name_of (take i bs) (get_or bs i d ∷ []))))
+    ∙ sym (ap (map f) (take_more xs i d h) ∙ map-append f (take i xs) (get_or xs i d ∷ []))))

@@ -2,6 +2,7 @@ pub mod Above
 pub mod Allowed
 pub mod Helping
 pub mod Named
+pub mod OneCode
 pub mod Placing
 pub mod Straying
 pub mod Telling

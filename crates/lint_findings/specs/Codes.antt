@@ -75,6 +75,7 @@ facts_of code.RewrittenList = warned (codes "pest::rewritten_list") nowhere
 facts_of code.KeywordName = on_request (codes "pest::keyword_name") (named_rules is_keyword)
 facts_of code.BuiltinName = on_request (codes "pest::builtin_name") (named_rules is_builtin_name)
 facts_of code.RepeatedBody = on_request (codes "pest::repeated_body") repeated_bodies
+facts_of code.StackRead = on_request (codes "pest::stack_read") (suspects suspect.StackRead)
 
 -- all codes, in order
 abbrev pub all_codes : List Code
@@ -84,7 +85,7 @@ all_codes = code.Syntax ∷ code.EscapeValue ∷ code.NumberRange ∷ code.ZeroR
     code.UncalledRule ∷ code.MissingEnd ∷ code.UnknownStart ∷ code.Unreachable ∷ code.ReversedRange ∷
     code.ReversedCount ∷ code.IdleTest ∷ code.NeverMatches ∷ code.BlanksInToken ∷ code.ManyCopies ∷
     code.RepeatedAlternative ∷ code.RewrittenList ∷ code.KeywordName ∷ code.BuiltinName ∷
-    code.RepeatedBody ∷ []
+    code.RepeatedBody ∷ code.StackRead ∷ []
 
 abbrev pub code_name : Code → List ℕ
 code_name c = (facts_of c).name

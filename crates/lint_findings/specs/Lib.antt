@@ -3,5 +3,7 @@ pub mod Codes
 pub mod Fragments
 pub mod Helps
 pub mod Names
+pub mod OneCode
+pub mod Problems
 pub mod Reports
 pub mod Starts

@@ -119,6 +119,8 @@ pub enum Code {
     BuiltinName,
     /// A rule has the type and the body of one before it.
     RepeatedBody,
+    /// The stack is read, and no bound is known for the time of matches.
+    StackRead,
 }
 
 impl Code {

@@ -1,81 +1,64 @@
-//! Errors as diagnostics.
-ghost use Rattle.std.specs.Prelude.{◌≡◌, ◌≢◌, IfOk, string_bytes};
+//! Why a grammar is refused, as diagnostics.
+ghost use Rattle.std.specs.Prelude.{IfOk};
 ghost use Rattle.std.specs.List.{AllZip};
 ghost use Rattle.lint_findings.specs.Helps.{IsHelpOf};
-ghost use Rattle.lint_findings.specs.Reports.{IsAt, ReportsError};
-ghost use Rattle.lint_findings.specs.declared.codes.Code.TheVariants as code;
-ghost use Rattle.lint_findings.specs.declared.codes.Severity.TheVariants as severity;
+ghost use Rattle.lint_findings.specs.Reports.{IsAt, ReportsFlawFound, ReportsNameFinding, ReportsRefusal};
+ghost use Rattle.lint_findings.specs.Reports.{ReportsRuleFinding, ReportsSyntax};
 
 use crate::codes::Code;
 use crate::diagnostic::Diagnostic;
-use crate::helps::listed_help;
-use crate::messages::{code_of, cycle_of, rule_name, syntax_message};
+use crate::helps::{help_of, listed_help};
+use crate::messages::{expected_names, syntax_message};
+use crate::problems::{flaw_code, flaw_help, name_code, rule_code, rule_help};
 use crate::undefined::Definitions;
 use base_language::grammar::Rule;
-use base_language::runtime::{Error, ErrorVariant, InputLocation};
+use base_language::runtime::{Error, InputLocation};
+use front_names::NameFinding;
+use front_reader::rules::Flaw;
+use front_validator::{RuleFinding, RuleProblem};
 use lint_hints::{Help, Hint, Related, hint_at};
+use pest_meta::OpenError;
 use std::alloc::{AllocError, Global};
 
-/// Calls of a left recursion that are shown, at most.
-const LONGEST_CYCLE: usize = 20;
+/// The most calls of a left recursion that are shown.
+const MOST_CALLS: usize = 19;
 
-/// The diagnostics of the errors with which a text is refused, in their order. A syntax error expects these
-/// names. The only error is an allocation failure.
-pub fn diagnose_errors(
+/// The diagnostics of why a text is not opened, in the order of the errors with which it is refused. The only
+/// error is an allocation failure.
+pub fn diagnose_refusal(
     alloc: Global,
     text: &str,
-    errors: &[Error<Rule>],
-    expected: &[&'static str],
+    error: &OpenError<'_>,
 ) -> Result<Vec<Diagnostic>, AllocError>
-    ensures { IfOk result (λ diagnostics. AllZip ReportsError errors.now diagnostics.items) }
+    ensures { IfOk result (λ diagnostics. ReportsRefusal text.now error.now diagnostics.items) }
 {
-    let mut names = Definitions::new(alloc, text)?;
-    let mut diagnostics = Vec::new(alloc);
-    for error in errors {
-        let diagnostic = diagnose_error(alloc, text, expected, &mut names, error)?;
-        diagnostics.push(diagnostic)?;
+    match error {
+        OpenError::Memory(_) => Err(AllocError),
+        OpenError::Syntax(error) => {
+            let diagnostic = diagnose_syntax(alloc, text, error)?;
+            Ok(vec![in alloc; diagnostic]?)
+        }
+        OpenError::Names(findings) => diagnose_names(alloc, text, findings),
+        OpenError::Flaw(flaw) => {
+            let diagnostic = diagnose_flaw(alloc, *flaw)?;
+            Ok(vec![in alloc; diagnostic]?)
+        }
+        OpenError::Rules(findings) => diagnose_findings(alloc, text, findings),
     }
-    Ok(diagnostics)
 }
 
-/// The diagnostic of an error.
-fn diagnose_error(
-    alloc: Global,
-    text: &str,
-    expected: &[&'static str],
-    names: &mut Definitions<'_>,
-    error: &Error<Rule>,
-) -> Result<Diagnostic, AllocError>
-    ensures { IfOk result (ReportsError error.now) }
+/// The diagnostic of a syntax error.
+fn diagnose_syntax(alloc: Global, text: &str, error: &Error<Rule>) -> Result<Diagnostic, AllocError>
+    ensures { IfOk result (ReportsSyntax text.now error.now) }
 {
     let (start, end) = bytes_of(error);
-    match &error.variant {
-        ErrorVariant::ParsingError => diagnose_syntax(alloc, text, expected, start, end),
-        ErrorVariant::CustomError { message } => {
-            diagnose_custom(alloc, names, start, end, message.as_str())
-        }
-    }
-}
-
-/// The diagnostic of an error with a message of its own.
-fn diagnose_custom(
-    alloc: Global,
-    names: &mut Definitions<'_>,
-    start: usize,
-    end: usize,
-    message: &str,
-) -> Result<Diagnostic, AllocError>
-    ensures code { IfOk result (λ diagnostic. diagnostic.code ≢ code.Syntax) }
-    ensures severity { IfOk result (λ diagnostic. diagnostic.severity ≡ severity.Error) }
-    ensures start { IfOk result (λ diagnostic. diagnostic.start ≡ start) }
-    ensures end { IfOk result (λ diagnostic. diagnostic.end ≡ end) }
-    ensures message { IfOk result (λ diagnostic. string_bytes diagnostic.message ≡ message.now) }
-    ensures help { IfOk result (λ diagnostic. IsHelpOf diagnostic.code diagnostic.help) }
-{
-    let code = code_of(message);
-    let mut diagnostic = Diagnostic::new(alloc, code, start, end, message)?;
-    diagnostic.help = help_for(alloc, names, code, start, end, message)?;
-    diagnostic.related = related_to(alloc, names, code, message)?;
+    let expected = expected_names(alloc, text)?;
+    let message = syntax_message(alloc, text, start, &expected)?;
+    let Hint { help, related, .. } = hint_at(alloc, text, start)?;
+    let mut diagnostic = Diagnostic::new(alloc, Code::Syntax, start, end, message.as_str())?;
+    diagnostic.expected = expected;
+    diagnostic.related = related;
+    diagnostic.help = help;
     Ok(diagnostic)
 }
 
@@ -89,84 +72,119 @@ fn bytes_of(error: &Error<Rule>) -> (usize, usize)
     }
 }
 
-/// The diagnostic of a syntax error.
-fn diagnose_syntax(
+/// The diagnostics of findings about names.
+fn diagnose_names(
     alloc: Global,
     text: &str,
-    expected: &[&'static str],
-    start: usize,
-    end: usize,
-) -> Result<Diagnostic, AllocError>
-    ensures code { IfOk result (λ diagnostic. diagnostic.code ≡ code.Syntax) }
-    ensures severity { IfOk result (λ diagnostic. diagnostic.severity ≡ severity.Error) }
-    ensures start { IfOk result (λ diagnostic. diagnostic.start ≡ start) }
-    ensures end { IfOk result (λ diagnostic. diagnostic.end ≡ end) }
-    ensures help { IfOk result (λ diagnostic. IsHelpOf diagnostic.code diagnostic.help) }
+    findings: &[NameFinding<'_>],
+) -> Result<Vec<Diagnostic>, AllocError>
+    ensures { IfOk result (λ diagnostics. AllZip ReportsNameFinding findings.now diagnostics.items) }
 {
-    let message = syntax_message(alloc, text, start, expected)?;
-    let Hint { help, related, .. } = hint_at(alloc, text, start)?;
-    let mut diagnostic = Diagnostic::new(alloc, Code::Syntax, start, end, message.as_str())?;
-    diagnostic.expected = expected.to_vec(alloc)?;
-    diagnostic.related = related;
-    diagnostic.help = help;
+    let mut names = Definitions::new(alloc, text)?;
+    let mut diagnostics = Vec::new(alloc);
+    for finding in findings {
+        let diagnostic = diagnose_name(alloc, &mut names, *finding)?;
+        diagnostics.push(diagnostic)?;
+    }
+    Ok(diagnostics)
+}
+
+/// The diagnostic of a finding about a name. Of a rule that is defined twice the first definition is shown.
+fn diagnose_name(
+    alloc: Global,
+    names: &mut Definitions<'_>,
+    finding: NameFinding<'_>,
+) -> Result<Diagnostic, AllocError>
+    ensures { IfOk result (ReportsNameFinding finding.entry) }
+{
+    let name = finding.span.as_str();
+    let code = name_code(finding.problem, name);
+    let (start, end) = (finding.span.start(), finding.span.end());
+    let message = finding.message(alloc)?;
+    let mut diagnostic = Diagnostic::new(alloc, code, start, end, message.as_str())?;
+    diagnostic.help = help_for_name(alloc, names, code, name, start, end)?;
+    if let Code::DuplicateRule = code {
+        let first = "it is first defined here";
+        names.push_definition(alloc, name, first, &mut diagnostic.related)?;
+    }
     Ok(diagnostic)
 }
 
-/// The help for an error that is no syntax error.
-fn help_for(
+/// The help for a name at the bytes `start..end`.
+fn help_for_name(
     alloc: Global,
     names: &mut Definitions<'_>,
     code: Code,
+    name: &str,
     start: usize,
     end: usize,
-    message: &str,
 ) -> Result<Option<Help>, AllocError>
     ensures { IfOk result (IsHelpOf code) }
 {
     match code {
-        Code::UndefinedRule => names.help_undefined(alloc, rule_name(message), start, end),
-        _ => listed_help(alloc, code, message, false),
+        Code::UndefinedRule => names.help_undefined(alloc, name, start, end),
+        _ => listed_help(alloc, code, name, false),
     }
 }
 
-/// The definitions that matter to an error: the first of a rule that is defined twice, and those of the rules
-/// of a left recursion.
-fn related_to(
+/// The diagnostic of a flaw.
+fn diagnose_flaw(alloc: Global, flaw: Flaw<'_>) -> Result<Diagnostic, AllocError>
+    ensures { IfOk result (ReportsFlawFound flaw.entry) }
+{
+    let code = flaw_code(flaw.cause);
+    let (start, end) = (flaw.span.start(), flaw.span.end());
+    let mut diagnostic = Diagnostic::new(alloc, code, start, end, flaw.cause.message())?;
+    diagnostic.help = help_of(alloc, flaw_help(flaw.cause))?;
+    Ok(diagnostic)
+}
+
+/// The diagnostics of findings in rules.
+fn diagnose_findings(
+    alloc: Global,
+    text: &str,
+    findings: &[RuleFinding<'_>],
+) -> Result<Vec<Diagnostic>, AllocError>
+    ensures { IfOk result (λ diagnostics. AllZip ReportsRuleFinding findings.now diagnostics.items) }
+{
+    let names = Definitions::new(alloc, text)?;
+    let mut diagnostics = Vec::new(alloc);
+    for finding in findings {
+        let diagnostic = diagnose_finding(alloc, &names, finding)?;
+        diagnostics.push(diagnostic)?;
+    }
+    Ok(diagnostics)
+}
+
+/// The diagnostic of a finding in rules. Of a left recursion the definitions of its rules are shown.
+fn diagnose_finding(
     alloc: Global,
     names: &Definitions<'_>,
-    code: Code,
-    message: &str,
-) -> Result<Vec<Related>, AllocError> {
-    let mut related = Vec::new(alloc);
-    match code {
-        Code::DuplicateRule => {
-            names.push_definition(
-                alloc,
-                rule_name(message),
-                "it is first defined here",
-                &mut related,
-            )?;
-        }
-        Code::LeftRecursion => push_cycle(alloc, names, cycle_of(message), &mut related)?,
-        _ => {}
+    finding: &RuleFinding<'_>,
+) -> Result<Diagnostic, AllocError>
+    ensures { IfOk result (ReportsRuleFinding finding.now) }
+{
+    let code = rule_code(&finding.problem);
+    let (start, end) = (finding.span.start(), finding.span.end());
+    let message = finding.message(alloc)?;
+    let mut diagnostic = Diagnostic::new(alloc, code, start, end, message.as_str())?;
+    diagnostic.help = help_of(alloc, rule_help(&finding.problem))?;
+    if let RuleProblem::LeftRecursion(cycle) = &finding.problem {
+        push_cycle(alloc, names, cycle, &mut diagnostic.related)?;
     }
-    Ok(related)
+    Ok(diagnostic)
 }
 
-/// Adds the definitions of a cycle `a -> b -> a`, each once.
+/// Adds the definitions of a cycle of calls, each once.
 fn push_cycle(
     alloc: Global,
     names: &Definitions<'_>,
-    cycle: &str,
+    cycle: &[String],
     related: &mut Vec<Related>,
 ) -> Result<(), AllocError> {
-    let mut caller = "";
-    for name in cycle.split(" -> ").take(LONGEST_CYCLE) {
-        if !caller.is_empty() {
-            let message = format!(in alloc; "{caller} calls {name} first")?;
-            names.push_definition(alloc, caller, message.as_str(), related)?;
-        }
-        caller = name;
+    let calls = cycle.iter().zip(cycle.iter().skip(1));
+    for (caller, name) in calls.take(MOST_CALLS) {
+        let message = format!(in alloc; "{caller} calls {name} first")?;
+        names.push_definition(alloc, caller.as_str(), message.as_str(), related)?;
     }
     Ok(())
 }

@@ -21,7 +21,7 @@ pub struct Facts {
 }
 
 /// The facts of all codes, in the order of the codes.
-static FACTS: [Facts; 28] = [
+static FACTS: [Facts; 29] = [
     Facts {
         code: Code::Syntax,
         name: "pest::syntax",
@@ -313,6 +313,18 @@ static FACTS: [Facts; 28] = [
                names may be meant. A literal, a call, and more than 256 signs are not compared.\n\n    \
                count = @{ ASCII_DIGIT+ }\n    number = @{ ASCII_DIGIT+ }\n\n\
                Let one call the other, or take one away.",
+    },
+    Facts {
+        code: Code::StackRead,
+        name: "pest::stack_read",
+        report: Report::OnRequest,
+        message: Some("the stack is read: the time of a match has no bound that is known"),
+        help: Some("give each match a limit on steps"),
+        page: "The stack is read. Of rules that do not use the stack it is known after a number of turns that \
+               is linear in the text whether they match; with the stack, backtracking may take exponential \
+               time. Reported only with --warn all.\n\n    \
+               quoted = { PUSH(\"'\"+) ~ (!PEEK ~ ANY)* ~ POP }\n\n\
+               Give each match a limit on steps.",
     },
 ];
 

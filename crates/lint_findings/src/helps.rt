@@ -2,18 +2,26 @@
 use crate::codes::{Code, Severity};
 use crate::facts::facts_of;
 use lint_hints::{Help, pest_property_text};
-use lint_warnings::{is_blank_name, is_blank_name_in_any_case};
+use lint_warnings::is_blank_name_in_any_case;
 use std::alloc::{AllocError, Global};
 
-/// The help for a code about the message of an error or a part of the text, which may be the same as one
-/// before it; none for a syntax error or an undefined name.
+/// The help for a code about a part of the text, which may be the same as one before it; none for a syntax
+/// error or an undefined name.
 pub(crate) fn listed_help(
     alloc: Global,
     code: Code,
     about: &str,
     is_repeat: bool,
 ) -> Result<Option<Help>, AllocError> {
-    match help_text(code, about, is_repeat) {
+    help_of(alloc, help_text(code, about, is_repeat))
+}
+
+/// The help of this text, if there is one.
+pub(crate) fn help_of(
+    alloc: Global,
+    text: Option<&'static str>,
+) -> Result<Option<Help>, AllocError> {
+    match text {
         None => Ok(None),
         Some(text) => Ok(Some(Help::new(alloc, text)?)),
     }
@@ -23,32 +31,12 @@ pub(crate) fn listed_help(
 fn help_text(code: Code, about: &str, is_repeat: bool) -> Option<&'static str> {
     match code {
         Code::MissingProperty => Some(pest_property_text()),
-        Code::NumberRange => Some(number_text(about)),
-        Code::EndlessRepetition => Some(endless_text(about)),
         Code::UncalledRule => Some(uncalled_text(about)),
         Code::Unreachable => Some(unreachable_text(is_repeat)),
         Code::IdleTest => Some(idle_text(about)),
         Code::NeverMatches => Some(never_text(about)),
         Code::BuiltinName => Some(builtin_text(about)),
         _ => facts_of(code).help,
-    }
-}
-
-/// The help for a number, by the message of its error.
-fn number_text(message: &str) -> &'static str {
-    if message.ends_with("i32") {
-        "a bound of `PEEK[..]` has 32 bits with its sign"
-    } else {
-        "a count is at most 4294967295; `e*` and `e+` have no greatest count"
-    }
-}
-
-/// The help for an endless repetition, by the message of its error.
-fn endless_text(message: &str) -> &'static str {
-    if is_of_blanks(message) {
-        "it is repeated by itself: match one turn, which takes a character"
-    } else {
-        "each turn of a repetition has to take a character"
     }
 }
 
@@ -129,14 +117,6 @@ fn allowance_text(allowed: Option<Code>) -> &'static str {
         Some(Severity::Warning) => "take the comment away",
         Some(Severity::Error) => "an error is mended, and not allowed",
         None => "name the code of a warning, as `// pest-lint: allow(pest::idle_test)`",
-    }
-}
-
-/// Whether an endless repetition is that of WHITESPACE or COMMENT, with whose name its message begins.
-fn is_of_blanks(message: &str) -> bool {
-    match message.split_once(' ') {
-        Some((name, _)) => is_blank_name(name),
-        None => false,
     }
 }
 

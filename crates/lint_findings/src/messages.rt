@@ -1,12 +1,22 @@
-//! Messages of syntax errors, and codes of others.
-ghost use Rattle.std.specs.Prelude.{◌≡◌, ◌≢◌};
-ghost use Rattle.lint_findings.specs.Codes.{severity_of};
-ghost use Rattle.lint_findings.specs.declared.codes.Code.TheVariants as code;
-ghost use Rattle.lint_findings.specs.declared.codes.Severity.TheVariants as severity;
+//! Messages of syntax errors, and what is expected there.
+ghost use Rattle.std.specs.Prelude.{IfOk};
+ghost use Rattle.lint_findings.specs.Reports.{AreExpectedNames};
 
-use crate::codes::Code;
-use lint_hints::is_pest_property;
+use base_language::grammar::Rule;
+use pest_meta::parser::{PestParser, common_name};
 use std::alloc::{AllocError, Global};
+
+/// The expected set of a text's syntax error, by name, in the order of the meta-grammar.
+pub(crate) fn expected_names(alloc: Global, text: &str) -> Result<Vec<&'static str>, AllocError>
+    ensures { IfOk result (λ names. AreExpectedNames text.now names.items) }
+{
+    let rules = PestParser::expected_set(alloc, Rule::grammar_rules, text)?;
+    let mut names = Vec::new(alloc);
+    for rule in &rules {
+        names.push(common_name(*rule))?;
+    }
+    Ok(names)
+}
 
 /// The message of a syntax error at a byte, where these names are expected.
 pub(crate) fn syntax_message(
@@ -53,70 +63,4 @@ fn join_names(alloc: Global, names: &[&str]) -> Result<String, AllocError> {
         text.push_str(" or something else")?;
     }
     Ok(text)
-}
-
-/// The code of an error that is no syntax error, by its message.
-pub(crate) fn code_of(message: &str) -> Code
-    ensures severity { severity_of result ≡ severity.Error }
-    ensures other { result ≢ code.Syntax }
-{
-    if message.ends_with(" already defined") {
-        Code::DuplicateRule
-    } else if message.ends_with(" is undefined") {
-        undefined_code(rule_name(message))
-    } else if message.ends_with(" keyword") {
-        Code::ReservedName
-    } else if message.contains(" is left-recursive (") {
-        Code::LeftRecursion
-    } else if message.ends_with(" will repeat infinitely") {
-        Code::EndlessRepetition
-    } else if message.starts_with("expression cannot fail") {
-        Code::UnreachableChoice
-    } else if message.starts_with("tags on ") {
-        Code::TagWithoutToken
-    } else {
-        flaw_code(message)
-    }
-}
-
-/// The code of the error that a name is undefined.
-fn undefined_code(name: &str) -> Code
-    ensures severity { severity_of result ≡ severity.Error }
-    ensures other { result ≢ code.Syntax }
-{
-    if is_pest_property(name) {
-        Code::MissingProperty
-    } else {
-        Code::UndefinedRule
-    }
-}
-
-/// The code of a flaw of a number or an escape, by its message.
-fn flaw_code(message: &str) -> Code
-    ensures severity { severity_of result ≡ severity.Error }
-    ensures other { result ≢ code.Syntax }
-{
-    if message.starts_with("escape ") {
-        Code::EscapeValue
-    } else if message.starts_with("number ") {
-        Code::NumberRange
-    } else {
-        Code::ZeroRepetition
-    }
-}
-
-/// The name of a rule in a message `rule NAME ..`.
-pub(crate) fn rule_name(message: &str) -> &str {
-    let rest = message.strip_prefix("rule ").unwrap_or("");
-    match rest.split_once(' ') {
-        Some((name, _)) => name,
-        None => rest,
-    }
-}
-
-/// The rules `a -> b -> a` of the message of a left recursion.
-pub(crate) fn cycle_of(message: &str) -> &str {
-    let (_, rest) = message.split_once('(').unwrap_or(("", ""));
-    let (cycle, _) = rest.split_once(')').unwrap_or(("", ""));
-    cycle
 }

@@ -286,6 +286,7 @@ fn spans_of<'i>(
         Code::KeywordName => keyword_names(alloc, rules),
         Code::BuiltinName => builtin_names(alloc, rules),
         Code::RepeatedBody => repeated_bodies(alloc, rules),
+        Code::StackRead => suspect_spans(alloc, Suspect::StackRead, rules),
         _ => Ok(Vec::new(alloc)),
     }
 }

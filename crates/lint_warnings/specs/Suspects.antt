@@ -1,8 +1,10 @@
 -- Nodes that are suspect by themselves.
-use Rattle.std.specs.Prelude.{List, [], ◌∷◌, Bool, true, false, ◌&&◌, if◌then◌else◌, nat_lt, bytes_eq, flat_map}
+use Rattle.std.specs.Prelude.{List, [], ◌∷◌, Bool, true, false, ◌&&◌, ◌||◌, if◌then◌else◌, nat_lt, bytes_eq, flat_map}
 use Rattle.base_language.specs.Language.Text.{Text}
-use Rattle.base_language.specs.Language.Expression.{Expression, Str, Insens, Range, Ident}
+use Rattle.base_language.specs.Language.Expression.{Expression, Str, Insens, Range, Ident, PeekSlice}
+use Rattle.front_names.specs.Builtins.{name_of}
 use Rattle.front_names.specs.CharSets.{set_name}
+use Rattle.front_names.specs.declared.builtin.Builtin.TheVariants.{Drop, Peek, PeekAll, Pop, PopAll}
 use Rattle.front_names.specs.declared.char_set.CharSet.TheVariants.{Any}
 use Rattle.front_spanned.specs.Spanned.{Span, Spanned, SpannedRule, Leaf, One, Two, PosPred, NegPred, Opt, Rep, RepOnce, RepMax, RepMinMax, Seq, span_of}
 use Rattle.front_spanned.specs.Walk.{preorder}
@@ -66,6 +68,20 @@ abbrev pub takes_rest : Spanned → Bool
 takes_rest (Two s Seq x y) = takes_rest y
 takes_rest x = repeats_any x
 
+-- a builtin that reads the stack
+abbrev pub reads_stack : Text → Bool
+reads_stack n = bytes_eq n (name_of Peek) || bytes_eq n (name_of PeekAll) || bytes_eq n (name_of Pop)
+    || bytes_eq n (name_of PopAll) || bytes_eq n (name_of Drop)
+
+abbrev pub is_stack_leaf : Expression → Bool
+is_stack_leaf (PeekSlice i j) = true
+is_stack_leaf (Ident n) = reads_stack n
+is_stack_leaf e = false
+
+abbrev pub is_stack_read : Spanned → Bool
+is_stack_read (Leaf s e) = is_stack_leaf e
+is_stack_read _ = false
+
 -- a refusal of an optional node, and a character where none is left
 abbrev pub is_unmatchable : Spanned → Bool
 is_unmatchable (One s NegPred x) = is_optional x
@@ -77,6 +93,7 @@ is_suspect suspect.ReversedRange x = is_reversed x
 is_suspect suspect.ReversedCount x = has_reversed_count x
 is_suspect suspect.IdleTest x = is_idle_test x
 is_suspect suspect.Unmatchable x = is_unmatchable x
+is_suspect suspect.StackRead x = is_stack_read x
 
 -- the span of a node, where it is suspect
 abbrev pub suspects_at : Suspect → Spanned → List Span

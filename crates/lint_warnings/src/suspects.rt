@@ -2,6 +2,7 @@
 //! like.
 ghost use Rattle.std.specs.Prelude.{◌≡◌, ◌++◌, IfOk, OnOk, map};
 ghost use Rattle.std.specs.Str.{chars};
+ghost use Rattle.base_ast.specs.Ast.{text_of};
 ghost use Rattle.front_spanned.specs.Nodes.{piece_of, rule_views, view};
 ghost use Rattle.lint_warnings.specs.Suspects as spec;
 
@@ -23,6 +24,8 @@ pub enum Suspect {
     IdleTest,
     /// An expression that matches nowhere, as `!e*`, and `ANY*` before a literal.
     Unmatchable,
+    /// A call that reads the stack, as `POP`: no bound is known for the time of matches.
+    StackRead,
 }
 
 /// The spans of the nodes that are suspect for a reason, in the order of the text. The only error is an
@@ -85,6 +88,7 @@ fn is_suspect(reason: Suspect, node: &ParserNode<'_>) -> bool
         Suspect::ReversedCount => has_reversed_count(node),
         Suspect::IdleTest => is_idle_test(node),
         Suspect::Unmatchable => is_unmatchable(node),
+        Suspect::StackRead => is_stack_read(node),
     }
 }
 
@@ -117,6 +121,28 @@ fn is_unmatchable(node: &ParserNode<'_>) -> bool
         ParserExpr::Seq(left, right) => takes_rest(left) && takes_character(right),
         _ => false,
     }
+}
+
+/// Whether a node reads the stack.
+fn is_stack_read(node: &ParserNode<'_>) -> bool
+    ensures { result ≡ spec.is_stack_read (view node.now) }
+{
+    match &node.expr {
+        ParserExpr::PeekSlice(_, _) => true,
+        ParserExpr::Ident(name) => reads_stack(name),
+        _ => false,
+    }
+}
+
+/// Whether a name is that of a builtin which reads the stack.
+fn reads_stack(name: &String) -> bool
+    ensures { result ≡ spec.reads_stack (text_of name.now) }
+{
+    is_named(name, Builtin::Peek)
+        || is_named(name, Builtin::PeekAll)
+        || is_named(name, Builtin::Pop)
+        || is_named(name, Builtin::PopAll)
+        || is_named(name, Builtin::Drop)
 }
 
 /// Whether a node cannot fail, as an option and a repetition that may be of no turns.

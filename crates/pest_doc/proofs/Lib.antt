@@ -1,2 +1,1 @@
-pub mod SamePairs
 pub mod Showing

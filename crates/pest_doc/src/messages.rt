@@ -1,18 +1,17 @@
 //! Messages on standard error. A character that a terminal obeys is shown as an escape.
 ghost use Rattle.std.specs.Prelude.{◌≡◌, ◌++◌, IfOk, codes, string_bytes};
 ghost use Rattle.program_support.specs.Escapes.{escaped_bytes};
-ghost use Rattle.std.specs.List.{AllZip};
-ghost use Rattle.lint_findings.specs.Reports.{ReportsError};
+ghost use Rattle.std.specs.List.{zip};
+ghost use Rattle.pest_meta.specs.Opening.{IsOpenError};
 ghost use Rattle.pest_doc.specs.Messages.{IsAbsence, IsNamedAbsence};
 ghost use Rattle.pest_doc.specs.Refusals.{IsRefusal, ShowsError, help_line};
 ghost use Rattle.program_support.specs.Messages.{ArePartsOf};
 
 use base_language::grammar::Rule;
 use base_language::runtime::Error;
-use front_reader::rules::common_name;
-use front_syntax::grammar::PestParser;
-use lint_findings::{Diagnostic, Help, diagnose_errors};
+use lint_findings::{Diagnostic, Help, diagnose_refusal};
 use lint_hints::nearest_name;
+use pest_meta::OpenError;
 use program_support::escape::{escape, escape_lines};
 use program_support::messages::place_error;
 use std::alloc::{AllocError, Global};
@@ -64,37 +63,41 @@ fn has_no_rules(alloc: Global, file: &str) -> Result<String, AllocError>
     format!(in alloc; "{file} has no rules\n")
 }
 
-/// Returns the message that a grammar is refused: for each error what is wrong, the
-/// place and the line, and how it may be mended.
+/// Returns the message that a grammar is refused: for each error what is wrong, the place and the line, and
+/// how it may be mended.
 pub fn refusal_message(
     alloc: Global,
     name: &str,
     text: &str,
-    errors: &[Error<Rule>],
+    error: OpenError<'_>,
 ) -> Result<String, AllocError>
+    requires { IsOpenError text.now error }
     ensures { IfOk result (λ message.
-        IsRefusal (escaped_bytes name.now) errors.now (string_bytes message)) }
+        IsRefusal (escaped_bytes name.now) text.now error.entry (string_bytes message)) }
 {
-    let expected = expected_names(alloc, text)?;
-    let diagnostics = diagnose_errors(alloc, text, errors, &expected)?;
+    let diagnostics = diagnose_refusal(alloc, text, &error)?;
+    let Ok(errors) = error.into_errors(alloc, text) else {
+        // The only fault is this.
+        return Err(AllocError);
+    };
     let name = escape(alloc, name)?;
-    let shown = show_errors(alloc, name.as_str(), errors, &diagnostics)?;
+    let shown = show_errors(alloc, name.as_str(), &errors, &diagnostics)?;
     escape_lines(alloc, shown.as_str())
 }
 
-/// Shows errors with the messages of their diagnostics.
+/// Shows errors with their diagnostics.
 fn show_errors(
     alloc: Global,
     name: &str,
     errors: &[Error<Rule>],
     diagnostics: &[Diagnostic],
 ) -> Result<String, AllocError>
-    requires { AllZip ReportsError errors.now diagnostics.now }
-    ensures { IfOk result (λ text. ArePartsOf (ShowsError name.now) errors.now (string_bytes text)) }
+    ensures { IfOk result (λ text.
+        ArePartsOf (ShowsError name.now) (zip errors.now diagnostics.now) (string_bytes text)) }
 {
     let mut text = String::new(alloc);
-    for (i, error) in errors.iter().enumerate() {
-        let part = show_error(alloc, name, error, &diagnostics[i])?;
+    for (error, diagnostic) in errors.iter().zip(diagnostics) {
+        let part = show_error(alloc, name, error, diagnostic)?;
         text.push_str(part.as_str())?;
     }
     Ok(text)
@@ -107,8 +110,7 @@ fn show_error(
     error: &Error<Rule>,
     diagnostic: &Diagnostic,
 ) -> Result<String, AllocError>
-    requires { ReportsError error.now diagnostic.now }
-    ensures { IfOk result (λ part. ShowsError name.now error.now (string_bytes part)) }
+    ensures { IfOk result (λ part. ShowsError name.now (error.now, diagnostic.now) (string_bytes part)) }
 {
     let placed = place_error(alloc, name, error)?;
     let help = help_line(alloc, &diagnostic.help)?;
@@ -127,14 +129,4 @@ fn help_line(alloc: Global, help: &Option<Help>) -> Result<String, AllocError>
         }
         None => Ok(String::new(alloc)),
     }
-}
-
-/// Returns the names of the rules that are expected where a text is refused.
-fn expected_names(alloc: Global, text: &str) -> Result<Vec<&'static str>, AllocError> {
-    let rules = PestParser::expected_set(alloc, Rule::grammar_rules, text)?;
-    let mut names = Vec::new(alloc);
-    for rule in &rules {
-        names.push(common_name(*rule))?;
-    }
-    Ok(names)
 }

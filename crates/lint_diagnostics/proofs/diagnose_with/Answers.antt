@@ -5,19 +5,17 @@ use Rattle.lint_diagnostics.proofs.diagnose_with.Goals as goal
 
 pub returns-in-Ok-clause-diagnosis : goal.returns-in-Ok-clause-diagnosis
 returns-in-Ok-clause-diagnosis c =
-    diagnosed_accepted c.args.has_all (texts_of c.args.starts.now) c.args.text.now c.in-Ok.field-0-0.items (rule_views c.in-Ok.rules.items) c.diagnose_accepted.result
-    c.in-Ok.ensures.rules c.diagnose_accepted.ensures
+    diagnosed_accepted c.args.has_all (texts_of c.args.starts.now) c.args.text.now c.in-Ok.opened.builtins.items (rule_views c.in-Ok.opened.rules.value.items) c.diagnose_accepted.result
+    c.in-Ok.ensures.rules (rw c.deref.ensures.value at c.diagnose_accepted.ensures)
 
 pub returns-in-Ok-clause-accepted : goal.returns-in-Ok-clause-accepted
 returns-in-Ok-clause-accepted c =
-    answered c.args.text.now c.in-Ok.field-0-0.items (rule_views c.in-Ok.rules.items) c.diagnose_accepted.result c.in-Ok.ensures.rules
+    answered c.args.text.now c.in-Ok.opened.builtins.items (rule_views c.in-Ok.opened.rules.value.items) c.diagnose_accepted.result c.in-Ok.ensures.rules
 
-pub returns-in-Err-Grammar-clause-diagnosis : goal.returns-in-Err-Grammar-clause-diagnosis
-returns-in-Err-Grammar-clause-diagnosis c =
-    diagnosed_refused c.args.has_all (texts_of c.args.starts.now) c.args.text.now c.in-Err-Grammar.errors.items c.diagnose_refused.result
-    (rw c.in-Err-Grammar.field-0-is at c.in-Err-Grammar.ensures.refused) (rw c.deref.ensures.value at c.diagnose_refused.ensures)
+pub returns-in-Err-clause-diagnosis : goal.returns-in-Err-clause-diagnosis
+returns-in-Err-clause-diagnosis c =
+    diagnosed_refused c.args.has_all (texts_of c.args.starts.now) c.args.text.now c.in-Err.error c.diagnose_refusal.result c.in-Err.ensures.refused c.diagnose_refusal.ensures
 
-pub returns-in-Err-Grammar-clause-accepted : goal.returns-in-Err-Grammar-clause-accepted
-returns-in-Err-Grammar-clause-accepted c =
-    answered_refused c.args.text.now c.in-Err-Grammar.errors.items c.diagnose_refused.result
-    (rw c.in-Err-Grammar.field-0-is at c.in-Err-Grammar.ensures.refused) (rw c.deref.ensures.value at c.diagnose_refused.ensures)
+pub returns-in-Err-clause-accepted : goal.returns-in-Err-clause-accepted
+returns-in-Err-clause-accepted c =
+    answered_refused c.args.text.now c.in-Err.error c.diagnose_refusal.result c.in-Err.ensures.refused c.diagnose_refusal.ensures

@@ -8,7 +8,7 @@ use Rattle.lint_findings.proofs.undefined.names_of_builtins.Goals as goal
 
 pub loop-builtin-preserved : goal.loop-builtin-preserved
 loop-builtin-preserved c =
-    one_name_more c.all-builtin-items.result.now c.loop-builtin.builtin-index _ c.loop-builtin.names.items c.push.new.self.items c.name.result
+    one_name_more name_of c.all-builtin-items.result.now c.loop-builtin.builtin-index _ c.loop-builtin.names.items c.push.new.self.items c.name.result
     c.loop-builtin-test.true c.in_ok-push.ensures.items c.name.ensures c.loop-builtin.invariant
 
 pub returns : goal.returns

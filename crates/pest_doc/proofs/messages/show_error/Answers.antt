@@ -7,8 +7,6 @@ returns c =
     let placed = string_bytes c.in_ok-placed.placed in
     IfOk-weaker c.format.result _ _
     (λ part written. record {
-      diagnostic = c.args.diagnostic.now;
-      reported = c.requires;
       placed = placed;
       at_place = c.in_ok-placed.ensures;
       whole = written ∙ ap₂ (λ what help. codes "error: " ++ (what ++ (codes "\n" ++ (placed ++ help)))) c.as_str-what.ensures.value c.in_ok-help.ensures;

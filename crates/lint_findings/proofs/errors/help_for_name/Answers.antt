@@ -1,5 +1,5 @@
 use Rattle.lint_findings.proofs.Helping.{suggested, unsuggested}
-use Rattle.lint_findings.proofs.errors.help_for.Goals as goal
+use Rattle.lint_findings.proofs.errors.help_for_name.Goals as goal
 
 pub returns-in-UndefinedRule : goal.returns-in-UndefinedRule
 returns-in-UndefinedRule c = suggested c.args.code c.help_undefined.result c.help_undefined.ensures
