@@ -2,6 +2,7 @@
 use Rattle.std.specs.Prelude.{◌⊎◌, ℕ, List, [], ◌∷◌, MatchBool, MatchOption, Option, bytes_eq, codes, find, option_map, unwrap_or}
 use Rattle.server_features.specs.Actions.{AreActions}
 use Rattle.server_features.specs.Formatting.{AreFormatting, AreRangeFormatting}
+use Rattle.server_features.specs.Renames.{stated_names}
 use Rattle.server_protocol.specs.Asked.{text_in}
 use Rattle.server_protocol.specs.declared.client.Client.{Client}
 use Rattle.server_protocol.specs.declared.documents.Documents.{Documents}
@@ -55,7 +56,7 @@ IsAnswerOf request.Definition context params a = AreDefinitions context params a
 IsAnswerOf request.References context params a = AreReferences context params a
 IsAnswerOf request.DocumentHighlight context params a = IsResult a
 IsAnswerOf request.PrepareRename context params a = IsPrepared context params a
-IsAnswerOf request.Rename context params a = IsRename context params a
+IsAnswerOf request.Rename context params a = IsRename context (stated_names context.text.now) params a
 IsAnswerOf request.Hover context params a = IsResult a
 IsAnswerOf request.Completion context params a = AreCompletions context params a
 IsAnswerOf request.Formatting context params a = AreFormatting context a

@@ -5,3 +5,4 @@ pub mod Earlier
 pub mod Facts
 pub mod Formatting
 pub mod Remedies
+pub mod Renames

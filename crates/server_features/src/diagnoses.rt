@@ -1,4 +1,4 @@
-//! Diagnoses of texts, kept for the documents that have these texts.
+//! Diagnoses of texts, kept for their documents.
 ghost use Rattle.std.specs.List.{list_any};
 ghost use Rattle.std.specs.Prelude.{◌≡◌, ℕ, List, [], IfOk, IfSome, None, OnErr, OnOk, option_and_then, Some, option_copied, string_bytes};
 ghost use Rattle.lint_diagnostics.specs.Diagnosis.{IsDiagnosis};

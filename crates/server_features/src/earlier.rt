@@ -1,5 +1,4 @@
-//! Warnings of an earlier text that stay, in definitions whose bytes are the same in the later text, by a map
-//! from these bytes to their place.
+//! Warnings of an earlier text that stay, by a map from the bytes of definitions to their place.
 ghost use Rattle.std.specs.Prelude.{◌≡◌, ◌++◌, All, IfOk, IfSome, List, OnOk, false, string_bytes};
 ghost use Rattle.lint_findings.specs.Reports as reports;
 ghost use Rattle.lint_findings.specs.declared.diagnostic.Diagnostic.{Diagnostic};

@@ -10,3 +10,4 @@ pub mod formatting;
 pub mod hovers;
 pub mod notes;
 pub mod remedies;
+pub mod renames;

@@ -1,5 +1,5 @@
 -- Answers to requests by name.
-use Rattle.std.specs.Prelude.{◌≡◌, ◌⊎◌, ℕ, List, Bool, true, false, Some, None, filter, map, codes, ⊤}
+use Rattle.std.specs.Prelude.{◌≡◌, ◌⊎◌, bytes_eq, ℕ, List, Bool, true, false, Some, None, filter, map, codes, ⊤}
 use Rattle.serde_json.specs.Data.{Data, null}
 use Rattle.serde_json.specs.View.{view, items_of}
 use Rattle.server_protocol.specs.Asked.{is_true_in, text_in}
@@ -7,6 +7,7 @@ use Rattle.server_requests.specs.Calls.{is_call}
 use Rattle.server_requests.specs.Locations.{edit_at, locations_at}
 use Rattle.server_requests.specs.Names.{HasNoName, IsAskedName}
 use Rattle.server_requests.specs.Refusals.{IsRefused}
+use Rattle.server_requests.specs.Shown.{shown}
 use Rattle.server_protocol.specs.Values.{workspace_edit_data}
 use Rattle.server_requests.specs.declared.context.Context.{Context}
 use Rattle.server_requests.specs.declared.context.Name.{Name}
@@ -43,21 +44,26 @@ abbrev pub rename_data : Context → List ℕ → List Extent → Data
 rename_data context new extents = workspace_edit_data context.uri.now (items_of
     (map (edit_at context new) extents))
 
--- the edits that give the rule at the position in parameters the new name in them
-pub record IsRenameTo (context : Context) (d v : Data) : Type 0 where
+-- whether an extent has a name
+abbrev pub is_mention : List ℕ → List ℕ → Extent → Bool
+is_mention text name extent = bytes_eq (shown text extent) name
+
+-- the edits that give the rule at the position in parameters the new name in them, also among stated names
+pub record IsRenameTo (context : Context) (stated : List Extent) (d v : Data) : Type 0 where
   pub name : Name
   pub new : List ℕ
   pub edits : List Extent
   pub asked_name : IsAskedName context d name
   pub asked_new : text_in (codes "/newName") d ≡ Some new
-  pub renames : Renames context.text.now name.text.now new edits
+  pub renames : Renames context.text.now name.text.now new
+      (filter (is_mention context.text.now name.text.now) stated) edits
   pub value : v ≡ rename_data context new edits
 
 -- the edits of a rename, or the reason of a refusal: there is no new name, no name at the position, or that
 -- rule is not given the new name
-abbrev pub IsRename : Context → Data → Answer → Type 0
-IsRename context d (answer.Result v) = IsRenameTo context d (view v)
-IsRename context d (answer.Error code reason) =
+abbrev pub IsRename : Context → List Extent → Data → Answer → Type 0
+IsRename context stated d (answer.Result v) = IsRenameTo context stated d (view v)
+IsRename context stated d (answer.Error code reason) =
     ((text_in (codes "/newName") d ≡ None) × (code ≡ InvalidParams))
     ⊎ ((HasNoName context d ⊎ IsRefused context d reason.now) × (code ≡ RequestFailed))
 

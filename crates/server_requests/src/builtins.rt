@@ -2,11 +2,21 @@
 
 use front_names::{Builtin, CharSet};
 
-/// Returns what the builtin of a name matches, or `None` if no builtin but perhaps a Unicode property has it.
+/// Returns what the builtin or the call form of a name matches, or `None` if neither but perhaps a Unicode
+/// property has it.
 pub fn builtin_doc(name: &str) -> Option<&'static str> {
     match Builtin::from_name(name) {
         Some(builtin) => Some(describe(builtin)),
-        None => None,
+        None => call_doc(name),
+    }
+}
+
+/// Returns what a call form that is no builtin matches.
+fn call_doc(name: &str) -> Option<&'static str> {
+    match name {
+        "PUSH" => Some("what its operand matches; puts that text on the stack"),
+        "PUSH_LITERAL" => Some("nothing; puts its string on the stack"),
+        _ => None,
     }
 }
 

@@ -1,5 +1,6 @@
 //! Definitions, references and renames.
 ghost use Rattle.std.specs.Prelude.{◌≡◌, ◌++◌, ◌∷◌, [], IfOk, OnOk, filter, map, if◌then◌else◌};
+ghost use Rattle.server_requests.specs.Answers as answers;
 ghost use Rattle.server_requests.specs.Answers.{AreDefinitions, AreReferences, IsRename, IsResult, references_to, rename_data};
 ghost use Rattle.server_requests.specs.Calls as spec;
 ghost use Rattle.server_requests.specs.Calls.{AreStarts, is_call};
@@ -9,7 +10,7 @@ ghost use Rattle.server_requests.specs.Refusals.{IsPrepared, IsPreparedAt, prepa
 ghost use Rattle.server_symbols.specs.Occurrences.{names_of, occurrences};
 ghost use Rattle.serde_json.specs.View.{view};
 
-use crate::context::{Context, Name};
+use crate::context::{Context, Name, part_of};
 use crate::locations::{edit_at, locations_at, range_at};
 use serde_json::{Value, json};
 use server_protocol::messages::{Answer, ErrorCode};
@@ -192,13 +193,15 @@ fn name_value(alloc: Global, context: &Context<'_>, name: Name<'_>) -> Result<Va
     json!(in alloc; { "range": range, "placeholder": name.text })
 }
 
-/// Returns the edits that rename the rule at a position.
+/// Returns the edits that rename the rule at a position, also where it is among the names that comments at
+/// the head of the document state.
 pub fn rename_rule(
     alloc: Global,
     context: &Context<'_>,
+    stated: &[Extent],
     params: &Value,
 ) -> Result<Answer, AllocError>
-    ensures { IfOk result (IsRename context.now (view params.now)) }
+    ensures { IfOk result (IsRename context.now stated.now (view params.now)) }
 {
     let Some(new_name) = text_at(params, "/newName") else {
         return Ok(Answer::Error(ErrorCode::InvalidParams, "no new name"));
@@ -209,7 +212,8 @@ pub fn rename_rule(
             "there is no name at this position",
         ));
     };
-    match rename(alloc, context.text, name.text, new_name)? {
+    let mentions = mentions_of(alloc, context.text, stated, name.text)?;
+    match rename(alloc, context.text, name.text, new_name, &mentions)? {
         Renaming::Refused(refusal) => Ok(Answer::Error(
             ErrorCode::RequestFailed,
             reason_of(refusal),
@@ -219,6 +223,29 @@ pub fn rename_rule(
             Ok(Answer::Result(value))
         }
     }
+}
+
+/// Returns those of some extents that have this name.
+fn mentions_of(
+    alloc: Global,
+    text: &str,
+    stated: &[Extent],
+    name: &str,
+) -> Result<Vec<Extent>, AllocError>
+    ensures { IfOk result (λ found. found.items ≡ filter (answers.is_mention text.now name.now) stated.now) }
+{
+    stated
+        .iter()
+        .copied()
+        .filter(|extent| is_mention(text, name, *extent))
+        .collect(alloc)
+}
+
+/// Whether an extent has this name.
+fn is_mention(text: &str, name: &str, extent: Extent) -> bool
+    ensures { result ≡ answers.is_mention text.now name.now extent }
+{
+    part_of(text, extent) == name
 }
 
 /// Returns the edits that write a name at extents.

@@ -33,6 +33,10 @@ abbrev pub is_definition_rule : Rule → Bool
 is_definition_rule rule_is.grammar_rule = true
 is_definition_rule _ = false
 
+abbrev pub is_doc_rule : Rule → Bool
+is_doc_rule rule_is.inner_doc = true
+is_doc_rule _ = false
+
 -- whether a token of a rule, from one byte up to another, is an identifier of a name
 abbrev pub is_place : List ℕ → List ℕ → Rule → ℕ → ℕ → Bool
 is_place text name r i j = is_identifier r && bytes_eq (slice_range text i j) name
@@ -63,19 +67,19 @@ is_defined_after text name d e (f ∷ es) =
 abbrev pub is_defined : List ℕ → List ℕ → List Entry → Bool
 is_defined text name entries = is_defined_after text name first first entries
 
--- the text of a token that holds no other, between two neighbouring entries
+-- the text of a token that holds no other and is no documentation, between two neighbouring entries
 abbrev pub text_between : List ℕ → Entry → Entry → List ℕ
-text_between text (Start r i m) (End j n) = slice_range text i j
+text_between text (Start r i m) (End j n) = if is_doc_rule r then [] else slice_range text i j
 text_between text e f = []
 
 -- the same with a new name in place of one
 abbrev pub renamed_between : List ℕ → List ℕ → List ℕ → Entry → Entry → List ℕ
 renamed_between text name new (Start r i m) (End j n) =
-    if is_place text name r i j then new else slice_range text i j
+    if is_doc_rule r then [] else (if is_place text name r i j then new else slice_range text i j)
 renamed_between text name new e f = []
 
 -- the tokens after an entry: where they start and end among one another, and the texts of those that hold
--- no other
+-- no other and are no documentation
 abbrev pub tokens_after : List ℕ → Entry → List Entry → List (Entry × List ℕ)
 tokens_after text e [] = []
 tokens_after text e (f ∷ es) = (unplaced f, text_between text e f) ∷ tokens_after text f es
@@ -86,7 +90,7 @@ renamed_after text name new e [] = []
 renamed_after text name new e (f ∷ es) =
     (unplaced f, renamed_between text name new e f) ∷ renamed_after text name new f es
 
--- an edited text is a grammar that has the tokens of another one, but for a new name
+-- an edited text is a grammar that has the tokens of another one, but for a new name and documentation
 pub record IsEdited (text name new : List ℕ) (entries : List Entry) (edited : List ℕ) : Type 0 where
   pub others : List Entry
   pub of_edited : AreTokensOf grammar_rules edited others
@@ -97,15 +101,15 @@ abbrev pub IsFree : List ℕ → List ℕ → List ℕ → List Entry → Type 0
 IsFree text name new entries =
     (bytes_eq name new ≡ true) ⊎ (places_after text new first entries ≡ [])
 
--- edits rename a rule: they are where its name is an identifier, and the edited text has the tokens of the
--- text, with the new name in place of the old one
-pub record Renames (text name new : List ℕ) (edits : List Extent) : Type 0 where
+-- edits rename a rule: they are where it is mentioned, and where its name is an identifier, and the edited
+-- text has the tokens of the text, with the new name in place of the old one
+pub record Renames (text name new : List ℕ) (mentions edits : List Extent) : Type 0 where
   pub new_name : IsNewName new
   pub entries : List Entry
   pub of_text : AreTokensOf grammar_rules text entries
   pub is_defined : is_defined text name entries ≡ true
   pub is_free : IsFree text name new entries
-  pub places : edits ≡ places_after text name first entries
+  pub places : edits ≡ mentions ++ places_after text name first entries
   pub edited : IsEdited text name new entries (replaced text 0 edits new)
 
 -- a text is no grammar
@@ -135,6 +139,6 @@ IsReason text name new refusal.NoGrammar = IsNoGrammar text
 IsReason text name new refusal.OtherTokens = Unit {0}
 
 -- the edits of a rename, or a reason for none
-abbrev pub IsRenaming : List ℕ → List ℕ → List ℕ → Renaming → Type 0
-IsRenaming text name new (answer.Edits edits) = Renames text name new edits.items
-IsRenaming text name new (answer.Refused reason) = IsReason text name new reason
+abbrev pub IsRenaming : List ℕ → List ℕ → List ℕ → List Extent → Renaming → Type 0
+IsRenaming text name new mentions (answer.Edits edits) = Renames text name new mentions edits.items
+IsRenaming text name new mentions (answer.Refused reason) = IsReason text name new reason

@@ -26,11 +26,17 @@ pub enum Renaming {
     Refused(RenameRefusal),
 }
 
-/// Renames a rule. The edits are where its name is an identifier of the grammar, in definitions and in
-/// calls. They are given out only where the new name is a free one, and the edited text is a grammar with the
-/// same tokens, but for the new name.
-pub fn rename(alloc: Global, text: &str, name: &str, new_name: &str) -> Result<Renaming, AllocError>
-    ensures { IfOk result (IsRenaming text.now name.now new_name.now) }
+/// Renames a rule. The edits are where comments at the head of the text mention it, and where its name is an
+/// identifier of the grammar, in definitions and in calls. They are given out only where the new name is a
+/// free one, and the edited text is a grammar with the same tokens, but for the new name and documentation.
+pub fn rename(
+    alloc: Global,
+    text: &str,
+    name: &str,
+    new_name: &str,
+    mentions: &[Extent],
+) -> Result<Renaming, AllocError>
+    ensures { IfOk result (IsRenaming text.now name.now new_name.now mentions.now) }
 {
     if !is_identifier(new_name.as_bytes()) {
         return Ok(Renaming::Refused(RenameRefusal::NoIdentifier));
@@ -42,7 +48,7 @@ pub fn rename(alloc: Global, text: &str, name: &str, new_name: &str) -> Result<R
         return Ok(Renaming::Refused(RenameRefusal::Keyword));
     }
     match entries_of(alloc, text)? {
-        Some(entries) => rename_among(alloc, text, &entries, name, new_name),
+        Some(entries) => rename_among(alloc, text, &entries, name, new_name, mentions),
         None => Ok(Renaming::Refused(RenameRefusal::NoGrammar)),
     }
 }
@@ -54,10 +60,11 @@ fn rename_among(
     entries: &[Entry],
     name: &str,
     new_name: &str,
+    mentions: &[Extent],
 ) -> Result<Renaming, AllocError>
     requires entries { AreTokensOf grammar_rules text.now entries.now }
     requires name { IsNewName new_name.now }
-    ensures { IfOk result (IsRenaming text.now name.now new_name.now) }
+    ensures { IfOk result (IsRenaming text.now name.now new_name.now mentions.now) }
 {
     let bytes = text.as_bytes();
     if !is_defined(bytes, name.as_bytes(), entries) {
@@ -66,7 +73,7 @@ fn rename_among(
     if is_taken(alloc, bytes, name.as_bytes(), entries, new_name.as_bytes())? {
         return Ok(Renaming::Refused(RenameRefusal::Taken));
     }
-    rename_in(alloc, text, entries, name, new_name)
+    rename_in(alloc, text, entries, name, new_name, mentions)
 }
 
 /// Whether a rule other than the one of this name has the new name.
@@ -95,15 +102,18 @@ fn rename_in(
     entries: &[Entry],
     name: &str,
     new_name: &str,
+    mentions: &[Extent],
 ) -> Result<Renaming, AllocError>
     requires entries { AreTokensOf grammar_rules text.now entries.now }
     requires name { IsNewName new_name.now }
     requires defined { spec.is_defined text.now name.now entries.now ≡ true }
     requires free { spec.IsFree text.now name.now new_name.now entries.now }
-    ensures { IfOk result (IsRenaming text.now name.now new_name.now) }
+    ensures { IfOk result (IsRenaming text.now name.now new_name.now mentions.now) }
 {
     let bytes = text.as_bytes();
-    let edits = places_of(alloc, bytes, name.as_bytes(), entries)?;
+    let places = places_of(alloc, bytes, name.as_bytes(), entries)?;
+    let mut edits = mentions.to_vec(alloc)?;
+    edits.extend_from_slice(&places)?;
     let edited = replace_all(alloc, bytes, &edits, new_name.as_bytes())?;
     if is_renaming(alloc, bytes, entries, name, &edited, new_name)? {
         Ok(Renaming::Edits(edits))
@@ -144,6 +154,13 @@ fn is_definition_rule(rule: Rule) -> bool
     ensures { result ≡ spec.is_definition_rule rule }
 {
     matches!(rule, Rule::grammar_rule)
+}
+
+/// Whether a rule is that of documentation.
+fn is_doc_rule(rule: Rule) -> bool
+    ensures { result ≡ spec.is_doc_rule rule }
+{
+    matches!(rule, Rule::inner_doc)
 }
 
 /// Whether a part of a text is an identifier of this name.
@@ -224,7 +241,7 @@ fn is_definition_of(text: &[u8], name: &[u8], before: Entry, last: Entry, entry:
     }
 }
 
-/// Whether an edited text is a grammar with the tokens of a text, but for a new name.
+/// Whether an edited text is a grammar with the tokens of a text, but for a new name and documentation.
 fn is_renaming(
     alloc: Global,
     text: &[u8],
@@ -242,7 +259,7 @@ fn is_renaming(
     }
 }
 
-/// Whether an edited text is a grammar with the tokens of a text, but for a new name.
+/// Whether an edited text is a grammar with the tokens of a text, but for a new name and documentation.
 fn is_edited(
     alloc: Global,
     text: &[u8],
@@ -267,7 +284,7 @@ fn is_edited(
     ))
 }
 
-/// Whether a text has the tokens of another one, with a new name in place of one.
+/// Whether a text has the tokens of another one, with a new name in place of one, but for documentation.
 fn is_renamed(
     text: &[u8],
     entries: &[Entry],
@@ -326,8 +343,8 @@ fn is_same_entry(entry: Entry, other: Entry) -> bool
     }
 }
 
-/// Whether tokens that hold no others have the same text, or the old and the new name. The entries are
-/// neighbours.
+/// Whether tokens that hold no others are documentation, have the same text, or the old and the new name. The
+/// entries are neighbours.
 fn is_renamed_between(
     text: &[u8],
     last: Entry,
@@ -345,11 +362,17 @@ fn is_renamed_between(
         (
             Entry::Start { rule, pos, .. },
             Entry::End { pos: end, .. },
-            Entry::Start { pos: other_pos, .. },
+            Entry::Start {
+                rule: other_rule,
+                pos: other_pos,
+                ..
+            },
             Entry::End { pos: other_end, .. },
         ) => {
             let other_token = part(edited, other_pos, other_end);
-            if is_place(text, rule, pos, end, name) {
+            if is_doc_rule(rule) || is_doc_rule(other_rule) {
+                is_doc_rule(rule) && is_doc_rule(other_rule)
+            } else if is_place(text, rule, pos, end, name) {
                 other_token == new_name
             } else {
                 other_token == part(text, pos, end)
