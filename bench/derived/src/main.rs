@@ -149,6 +149,7 @@ parsers! {
     lua_levels chunk "../../../out/bench/grammars/lua_levels.pest"
     ladder program "../../../out/bench/grammars/ladder.pest"
     indentation outline "../../../out/bench/grammars/indentation.pest"
+    letters letters "../../../out/bench/grammars/letters.pest"
 }
 
 fn main() {
