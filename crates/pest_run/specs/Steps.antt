@@ -1,5 +1,5 @@
 -- The limit of the steps of a match.
-use Rattle.std.specs.Prelude.{ℕ, ◌+◌, ◌*◌, ◌-◌, ◌/◌, ◌^◌, ◌<◌, List, Option, Some, None, SomeIff, min}
+use Rattle.std.specs.Prelude.{ℕ, ◌+◌, ◌*◌, ◌-◌, ◌^◌, ◌<◌, List, Option, Some, None, SomeIff, min}
 use Rattle.std.specs.Str.Parse.{IsNumeral, digits_value, without_leading_plus}
 
 -- the number that a text writes in digits, if it writes one of 64 bits
@@ -7,13 +7,8 @@ abbrev pub CountsSteps : List ℕ → Option ℕ → Type 0
 CountsSteps text steps = let digits = without_leading_plus text in
     SomeIff steps (IsNumeral 10 digits × (digits_value 10 digits < 2 ^ 64)) (digits_value 10 digits)
 
--- the given limit; or 100,000 steps for each byte of a text of this length and for a thousand more, as far as
+-- the given limit; or 1,000 steps for each byte of a text of this length and for a thousand more, as far as
 -- they can be counted
 abbrev pub step_limit : Option ℕ → ℕ → ℕ
 step_limit (Some steps) length = steps
-step_limit None length = min (100000 * (length + 1000)) (2 ^ 64 - 1)
-
--- the given limit; or a hundredth of that one
-abbrev pub path_limit : Option ℕ → ℕ → ℕ
-path_limit (Some steps) length = steps
-path_limit None length = step_limit None length / 100
+step_limit None length = min (1000 * (length + 1000)) (2 ^ 64 - 1)

@@ -3,7 +3,7 @@ ghost use Rattle.std.specs.Prelude.{◌≡◌, ◌∷◌, ℕ, List, [], IfOk, N
 ghost use Rattle.clap.specs.Matches.{first_value, found_of, one_text};
 ghost use Rattle.clap.specs.Simple.{app_of};
 ghost use Rattle.program_support.specs.Arguments.{HasForm, arguments_of, flag, option, positional};
-ghost use Rattle.pest_run.specs.Steps.{CountsSteps, path_limit, step_limit};
+ghost use Rattle.pest_run.specs.Steps.{CountsSteps, step_limit};
 
 use clap::builder::ValueParser;
 use clap::{Arg, ArgMatches, Command};
@@ -94,8 +94,8 @@ fn steps_argument<'a>(alloc: Global) -> Arg<'a>
     ensures { HasForm (option (codes "steps")) result }
 {
     let help =
-        "Stop a match after N steps; where it is not given, after 100000 for each byte of the text \
-                and 100000000 more";
+        "Stop a match after N steps; where it is not given, after 1000 for each byte of the text \
+                and 1000000 more";
     option(alloc, "steps", help)
         .value_name("N")
         .value_parser(ValueParser::unsigned(1, u64::MAX))
@@ -229,7 +229,7 @@ pub fn steps_of(matches: &ArgMatches<'_>) -> Option<u64>
 }
 
 /// The steps that each byte of a text is allowed where no limit is given.
-const STEPS_PER_BYTE: u64 = 100_000;
+const STEPS_PER_BYTE: u64 = 1_000;
 
 /// The bytes by which every text counts for longer.
 const MORE_BYTES: u64 = 1_000;
@@ -244,16 +244,5 @@ pub fn step_limit(steps: Option<u64>, length: usize) -> u64
         None => (length as u64)
             .saturating_add(MORE_BYTES)
             .saturating_mul(STEPS_PER_BYTE),
-    }
-}
-
-/// Returns the greatest number of steps of a run that looks for open calls: the given one, or else a
-/// hundredth of what `step_limit` allows, since such a run remembers nothing of earlier calls.
-pub fn path_limit(steps: Option<u64>, length: usize) -> u64
-    ensures { result ≡ path_limit steps length }
-{
-    match steps {
-        Some(given) => given,
-        None => step_limit(None, length) / 100,
     }
 }

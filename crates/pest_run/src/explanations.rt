@@ -11,10 +11,10 @@ ghost use Rattle.matcher_support.specs.Compiled.{ArePathsIn, FailsIn, IsCompiled
 ghost use Rattle.matcher_support.specs.Sets.{is_in_property};
 ghost use Rattle.pest_run.specs.Explanations.{Explains, IsExplanation, IsFormExplanation, IsReportedAt, WritesExplanation, unfound_text};
 ghost use Rattle.pest_run.specs.Grammars.{IsReadFrom};
-ghost use Rattle.pest_run.specs.Steps.{path_limit};
+ghost use Rattle.pest_run.specs.Steps.{step_limit};
 ghost use Rattle.pest_run.specs.Written.{IsReadable};
 
-use crate::arguments::{Format, Request, path_limit};
+use crate::arguments::{Format, Request, step_limit};
 use crate::failures::find_failure;
 use crate::grammars::GrammarRules;
 use crate::paths::show_paths;
@@ -62,7 +62,7 @@ pub fn explain_failure<W: Write, E: Write>(
     ensures explains { (spelled : List ℕ) → IsReadFrom spelled grammar.now → IsReadable text.now
         → Explains (IsFormExplanation request.entry.form spelled request.entry.rule.now
         text.now.bytes.items request.entry.format
-        (path_limit request.entry.steps (length text.now.bytes.items)))
+        (step_limit request.entry.steps (length text.now.bytes.items)))
         request.entry.format (out.new ≡ out.old) (err.new ≡ err.old) result
         (W.contents out.old.writer) (W.contents out.new.writer)
         (E.contents err.old.writer) (E.contents err.new.writer) }
@@ -88,7 +88,7 @@ pub fn explain_code<W: Write, E: Write>(
     ensures explains { (rules : List OptimizedRule) → IsCompiled rules code.now.bytes.items
         → IsReadable text.now
         → Explains (IsExplanation (optimized_rules_of rules) request.entry.rule.now text.now.bytes.items
-        request.entry.format (path_limit request.entry.steps (length text.now.bytes.items)))
+        request.entry.format (step_limit request.entry.steps (length text.now.bytes.items)))
         request.entry.format (out.new ≡ out.old) (err.new ≡ err.old) result
         (W.contents out.old.writer) (W.contents out.new.writer)
         (E.contents err.old.writer) (E.contents err.new.writer) }
@@ -98,7 +98,7 @@ pub fn explain_code<W: Write, E: Write>(
         return Ok(());
     };
     let (rule, format) = (request.rule, request.format);
-    let steps = path_limit(request.steps, input.len());
+    let steps = step_limit(request.steps, input.len());
     let explanation = explain_block(alloc, &code.bytes, rule, input, format, steps);
     write_explanation(&explanation, format, out, err)
 }
@@ -134,12 +134,12 @@ fn explanation_of(
 ) -> Explanation
     ensures { (spelled : List ℕ) → IsReadFrom spelled grammar.now
         → IsFormExplanation request.entry.form spelled request.entry.rule.now text.now
-        request.entry.format (path_limit request.entry.steps (length text.now)) result }
+        request.entry.format (step_limit request.entry.steps (length text.now)) result }
 {
     match grammar.to_run(alloc, request.form) {
         Ok(rules) => {
             let (rule, format) = (request.rule, request.format);
-            let steps = path_limit(request.steps, text.len());
+            let steps = step_limit(request.steps, text.len());
             let explanation = explain_rules(alloc, &rules, rule, text, format, steps);
             release(rules);
             explanation

@@ -15,13 +15,9 @@ use matcher_support::attempts::NamedAttempts;
 use matcher_support::compiled::CompiledRules;
 use std::alloc::Global;
 
-/// The part of the steps of a run in which pest's own error is looked for. Such a run remembers nothing of
-/// earlier calls, and there may be three.
-const ERROR_PART: u64 = 100;
-
 /// Looks for the names that are expected at the furthest failure; where there are none, for those of pest's
-/// own error, and its position. Where that has none either, or they are not found in a hundredth of the steps
-/// or for want of memory, no name is told. Errors are those of `CompiledRules::expected_at`.
+/// own error, and its position. Where that has none either, or they are not found in so many steps or
+/// for want of memory, no name is told. Errors are those of `CompiledRules::expected_at`.
 pub fn find_failure<'a>(
     alloc: Global,
     rules: &'a CompiledRules<'a>,
@@ -39,8 +35,7 @@ pub fn find_failure<'a>(
 {
     let positives = rules.expected_at(alloc, rule, text, furthest, steps)?;
     if positives.is_empty() {
-        let few = steps / ERROR_PART;
-        if let Some(attempts) = find_attempts(alloc, rules, rule, text, furthest, few) {
+        if let Some(attempts) = find_attempts(alloc, rules, rule, text, furthest, steps) {
             return Ok(attempts);
         }
     }
