@@ -1,5 +1,6 @@
 pub mod ReadingLemmas
 pub mod WideCharacters
+pub mod SetLengths
 pub mod SetLemmas
 pub mod Trees
 pub mod Reaching

@@ -1,5 +1,6 @@
 pub mod Bytecodes
 pub mod Halves
+pub mod SetRanges
 pub mod Lists
 pub mod Operations
 pub mod Words
