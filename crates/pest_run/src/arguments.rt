@@ -94,8 +94,8 @@ fn steps_argument<'a>(alloc: Global) -> Arg<'a>
     ensures { HasForm (option (codes "steps")) result }
 {
     let help =
-        "Stop a match after N steps; where it is not given, after 1000 for each byte of the text \
-                and 1000000 more";
+        "Stop a match after N steps, and then look without trees where it fails or ends; where it is not \
+                given, after 1000 for each byte of the text and 1000000 more";
     option(alloc, "steps", help)
         .value_name("N")
         .value_parser(ValueParser::unsigned(1, u64::MAX))
@@ -234,8 +234,8 @@ const STEPS_PER_BYTE: u64 = 1_000;
 /// The bytes by which every text counts for longer.
 const MORE_BYTES: u64 = 1_000;
 
-/// Returns the greatest number of steps on a text of this length: the given one, or else one that no rule
-/// reaches which takes linear time.
+/// Returns the greatest number of steps on a text of this length: the given one, or else one that is linear in
+/// the length.
 pub fn step_limit(steps: Option<u64>, length: usize) -> u64
     ensures { result ≡ step_limit steps length }
 {
