@@ -1,5 +1,5 @@
 -- The names of the rules of a block, and the last rule of a name.
-use Rattle.std.proofs.Common.{◌≡◌, ◌∙◌, ap, ap₂, refl, sym, subst, ℕ, zero, suc, ◌+◌, ◌<◌, List, [], ◌∷◌, ◌++◌, None, Option, Some, arith, bytes_eq, chars, drop, false, get_or, length, map, string_bytes, take, true}
+use Rattle.std.proofs.Common.{◌≡◌, ◌∙◌, ap, ap₂, refl, sym, subst, ℕ, zero, suc, ◌+◌, ◌<◌, List, [], ◌∷◌, ◌++◌, None, Some, arith, bytes_eq, chars, drop, false, get_or, length, map, string_bytes, take, true}
 use Rattle.std.specs.Borrow.{Bor}
 use Rattle.std.specs.Prelude.{IsUtf8}
 use Rattle.std.proofs.Math.Seq.{take-suc}

@@ -1,5 +1,5 @@
 -- Runs of compiled grammars by the names of their rules.
-use Rattle.std.proofs.Common.{◌≡◌, ℕ, List, Ok, Err, Result, chars}
+use Rattle.std.proofs.Common.{ℕ, List, Ok, Err, Result, chars}
 use Rattle.std.specs.Prelude.{IfErr}
 use Rattle.base_language.specs.Language.Expression.{Grammar}
 use Rattle.matcher_engine.specs.BlockRuns.{IsOutcome, IsRefusal}

@@ -1,5 +1,5 @@
 -- Numbers that are written from the last to the first, among blanks.
-use Rattle.std.proofs.Common.{◌≡◌, ◌∙◌, ap, ap₂, sym, ℕ, suc, ◌+◌, ◌-◌, ◌<◌, ◌≤◌, ◌^◌, List, [], ◌∷◌, ◌++◌, append_assoc, arith, codes, drop, get_or, length, subst, take}
+use Rattle.std.proofs.Common.{◌≡◌, ◌∙◌, ap, ap₂, sym, ℕ, suc, ◌-◌, ◌<◌, ◌≤◌, ◌^◌, List, [], ◌∷◌, ◌++◌, append_assoc, arith, codes, drop, get_or, length, subst, take}
 use Rattle.std.specs.Fmt.{decimal}
 use Rattle.std.specs.Prelude.{IsUtf8, replicate}
 use Rattle.std.proofs.Math.Seq.{drop-cons, take-length}

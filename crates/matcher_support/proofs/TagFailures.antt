@@ -1,5 +1,5 @@
 -- Where wrapped rules fail, a match by the rules themselves has no tags to show.
-use Rattle.std.proofs.Common.{◌≡◌, List, ℕ, Ok, Err, Result, subst}
+use Rattle.std.proofs.Common.{List, ℕ, Ok, Err, Result, subst}
 use Rattle.std.specs.Prelude.{IfOk}
 use Rattle.base_language.specs.Language.State.{Failure, Success}
 use Rattle.base_language.specs.Language.Text.{Text}

@@ -1,4 +1,4 @@
-use Rattle.std.proofs.Common.{arith, refl, sym, ◌∙◌, ap, ◌≡◌, [], bytes_eq, true, false, chars, drop, get_or, ◌<◌, ◌-◌, length, None, subst}
+use Rattle.std.proofs.Common.{arith, sym, ◌∙◌, ap, ◌≡◌, [], bytes_eq, true, false, chars, drop, get_or, ◌<◌, ◌-◌, length, None, subst}
 use Rattle.std.proofs.lemmas.List.{get_or-map, length-map}
 use Rattle.base_language.specs.Language.Expression.{last_place}
 use Rattle.matcher_program.specs.ExpectedNames.{name_texts}

@@ -1,4 +1,4 @@
-use Rattle.std.proofs.Common.{◌≡◌, ◌∙◌, ◌<◌, arith, length, subst, sym}
+use Rattle.std.proofs.Common.{◌∙◌, ◌<◌, arith, length, subst, sym}
 use Rattle.std.specs.Prelude.{IsUtf8}
 use Rattle.matcher_engine.specs.Blocks.{part_of}
 use Rattle.matcher_support.proofs.CompiledNames.{name_is_utf8, one_name}

@@ -1,6 +1,5 @@
-use Rattle.std.proofs.Common.{◌≡◌, ◌∙◌, ◌<◌, ◌≤◌, ◌++◌, ◌∷◌, ◌+◌, ◌-◌, ◌^◌, ℕ, ap, ap₂, arith, codes, drop, length, sym}
+use Rattle.std.proofs.Common.{◌≡◌, ◌∙◌, ◌<◌, ◌≤◌, ◌++◌, ◌^◌, ℕ, ap, ap₂, arith, drop, length}
 use Rattle.std.specs.Fmt.{decimal}
-use Rattle.std.proofs.lemmas.Fmt.{length-decimal-le}
 use Rattle.std.proofs.lemmas.List.{length-replicate}
 use Rattle.matcher_support.proofs.LineNumbers.{HasBlank, all_blank, blank_before, blanks_stay, fewer_blanks, short, three_numbers}
 use Rattle.matcher_support.proofs.lines.format_numbers.Goals as goal

@@ -1,9 +1,9 @@
-use Rattle.std.proofs.Common.{◌≡◌, ◌∙◌, ℕ, List, chars, subst, sym}
+use Rattle.std.proofs.Common.{◌∙◌, ℕ, List, chars, subst, sym}
 use Rattle.std.proofs.lemmas.Str.{IsCharBoundary-start}
 use Rattle.base_language.specs.Language.State.{State}
 use Rattle.matcher_engine.proofs.Results.{first_state}
 use Rattle.matcher_engine.specs.Matchers.{grammar_in, properties_in}
-use Rattle.matcher_program.specs.Answers.{FailsWith, start_of, state_at}
+use Rattle.matcher_program.specs.Answers.{FailsWith, state_at}
 use Rattle.matcher_support.specs.Parses.{IsRefusedFrom}
 use Rattle.matcher_support.proofs.tags.tag_matcher.TagMatcher.parse_plain.Goals as goal
 
