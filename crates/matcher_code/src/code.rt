@@ -121,13 +121,9 @@ pub enum Op {
         next: u32,
         fail: u32,
     },
-    /// Opens a tree.
-    Open {
+    /// Adds a tree of a row, without width and descendants.
+    Leaf {
         row: u32,
-        next: u32,
-    },
-    /// Closes the tree that was opened last, without descendants.
-    Close {
         next: u32,
     },
     /// Pops the last slot, and pushes the text from its position to here on the stack.

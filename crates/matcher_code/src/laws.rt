@@ -188,12 +188,12 @@ pub fn end_operation_matches_end()
         → Performs code number l n w (λ s. end_outcome AtomicMode s.rest s) in_silence }
 {}
 
-/// Where the operation 0 is `Fail`, the operations `End`, `Open`, `Close` and `Miss` match the end of a text
-/// as `EOI` does in a mode that gives its tree.
+/// Where the operation 0 is `Fail`, the operations `End`, `Leaf` and `Miss` match the end of a text as
+/// `EOI` does in a mode that gives its tree.
 pub fn end_operations_give_tree()
     ensures { (code : CodeLists) (number : Text → ℕ) → op_at code [] 0 ≡ op.Fail
-        → (m : Mode) (l n w begin close note : ℕ) → seen_from m ≡ true → op_at code [] l ≡ op.End begin note
-        → op_at code [] begin ≡ op.Open (number (codes "EOI")) close → op_at code [] close ≡ op.Close n
+        → (m : Mode) (l n w leaf note : ℕ) → seen_from m ≡ true → op_at code [] l ≡ op.End leaf note
+        → op_at code [] leaf ≡ op.Leaf (number (codes "EOI")) n
         → op_at code [] note ≡ op.Miss (number (codes "EOI")) w
         → Performs code number l n w (λ s. end_outcome m s.rest s)
         (λ asked s. end_failures asked s (end_outcome m s.rest s)) }

@@ -61,8 +61,13 @@ fn op_of(words: [u32; 5]) -> Op
         17 => Op::Note { next: a },
         18 => Op::Start { next: a, fail: b },
         19 => Op::End { next: a, fail: b },
-        20 => Op::Open { row: a, next: b },
-        21 => Op::Close { next: a },
+        20 => Op::Leaf { row: a, next: b },
+        21 => Op::Nested {
+            opening: a,
+            closing: b,
+            next: c,
+            fail: d,
+        },
         22 => Op::Push { next: a },
         23 => Op::PushText { text: a, next: b },
         24 => Op::Peek { next: a, fail: b },
@@ -85,12 +90,6 @@ fn op_of(words: [u32; 5]) -> Op
         31 => Op::Halt,
         32 => Op::Not { next: a, fail: b },
         33 => Op::Miss { row: a, next: b },
-        34 => Op::Nested {
-            opening: a,
-            closing: b,
-            next: c,
-            fail: d,
-        },
         _ => Op::Lose,
     }
 }
