@@ -45,8 +45,13 @@ fn words_of(op: Op) -> [u32; 5]
         Op::Note { next } => [17, next, 0, 0, 0],
         Op::Start { next, fail } => [18, next, fail, 0, 0],
         Op::End { next, fail } => [19, next, fail, 0, 0],
-        Op::Open { row, next } => [20, row, next, 0, 0],
-        Op::Close { next } => [21, next, 0, 0, 0],
+        Op::Leaf { row, next } => [20, row, next, 0, 0],
+        Op::Nested {
+            opening,
+            closing,
+            next,
+            fail,
+        } => [21, opening, closing, next, fail],
         Op::Push { .. }
         | Op::PushText { .. }
         | Op::Peek { .. }
@@ -58,12 +63,6 @@ fn words_of(op: Op) -> [u32; 5]
         Op::Halt => [31, 0, 0, 0, 0],
         Op::Not { next, fail } => [32, next, fail, 0, 0],
         Op::Miss { row, next } => [33, row, next, 0, 0],
-        Op::Nested {
-            opening,
-            closing,
-            next,
-            fail,
-        } => [34, opening, closing, next, fail],
         Op::Lose => [255, 0, 0, 0, 0],
     }
 }
