@@ -5,7 +5,7 @@ ghost use Rattle.matcher_code.specs.Steps.{Config, op_at, step};
 ghost use Rattle.matcher_machine.specs.Frames.{Frame, IsOwnRun, framed, pops_slot};
 ghost use Rattle.matcher_machine.specs.Outlines.{ComesBack, is_plain, outline};
 
-/// A run that uses none of the slots and trees of its start goes the same way in every frame.
+/// A run that uses none of the slots of its start goes the same way in every frame.
 pub fn own_runs_go_the_same_way_in_frames()
     ensures { (code : CodeLists) (text : List ℕ) (f : Frame) (c d : Config) → IsOwnRun code text c d
         → IsOwnRun code text (framed f c) (framed f d) }
