@@ -28,8 +28,8 @@ no_place (r ∷ g) n h = go (no_place g n) (rule_of g n) refl (bytes_eq r.name n
     go ih None e true f = let z : Some r ≡ None = sym (ap₂ (λ x y. or_else x (if y then Some r else None)) e f) ∙ h in cc
     go ih None e false f = rw (ih e, f) refl
 
-pub open_row : (code : CodeLists) (l : ℕ) {a b close : ℕ} → a ≡ b → at_label code l ≡ op.Open a close → at_label code l ≡ op.Open b close
-open_row code l {close = close} e h = h ∙ ap (λ k. op.Open k close) e
+pub leaf_row : (code : CodeLists) (l : ℕ) {a b next : ℕ} → a ≡ b → at_label code l ≡ op.Leaf a next → at_label code l ≡ op.Leaf b next
+leaf_row code l {next = next} e h = h ∙ ap (λ k. op.Leaf k next) e
 
 pub miss_row : (code : CodeLists) (l : ℕ) {a b next : ℕ} → a ≡ b → at_label code l ≡ op.Miss a next → at_label code l ≡ op.Miss b next
 miss_row code l {next = next} e h = h ∙ ap (λ k. op.Miss k next) e

@@ -294,15 +294,11 @@ fn is_same(one: Op, other: Op) -> bool
             Op::Switch { table: table2 } => table == table2,
             _ => false,
         },
-        Op::Open { row, next } => match other {
-            Op::Open {
+        Op::Leaf { row, next } => match other {
+            Op::Leaf {
                 row: row2,
                 next: next2,
             } => row == row2 && next == next2,
-            _ => false,
-        },
-        Op::Close { next } => match other {
-            Op::Close { next: next2 } => next == next2,
             _ => false,
         },
         _ => is_same_change(one, other),

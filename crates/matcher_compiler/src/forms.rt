@@ -265,8 +265,7 @@ impl<'p> Plan<'p> {
         ensures lays { OnOk result
             (LaysAt program.now self.new (Run (mode_of at.mode) (Ident (codes "EOI"))) at) }
     {
-        let close = own.saturating_add(1);
-        let note = own.saturating_add(2);
+        let note = own.saturating_add(1);
         let row = end_row(program);
         self.operation(
             at.label,
@@ -275,8 +274,7 @@ impl<'p> Plan<'p> {
                 fail: note,
             },
         )?;
-        self.operation(own, Op::Open { row, next: close })?;
-        self.operation(close, Op::Close { next: at.next })?;
+        self.operation(own, Op::Leaf { row, next: at.next })?;
         self.operation(note, Op::Miss { row, next: at.way })?;
         Ok(())
     }
