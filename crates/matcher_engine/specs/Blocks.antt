@@ -21,7 +21,7 @@ mark = 112 ∷ 101 ∷ 115 ∷ 116 ∷ []
 
 -- `pest`, and the version
 abbrev pub head : List ℕ
-head = 112 ∷ 101 ∷ 115 ∷ 116 ∷ 2 ∷ 0 ∷ 0 ∷ 0 ∷ []
+head = 112 ∷ 101 ∷ 115 ∷ 116 ∷ 3 ∷ 0 ∷ 0 ∷ 0 ∷ []
 
 abbrev pub IsBlock : List ℕ → Type 0
 IsBlock block = starts_with nat_eq block head ≡ true

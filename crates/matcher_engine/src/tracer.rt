@@ -437,11 +437,7 @@ impl Tracer {
                 }
                 Ok(())
             }
-            Op::Close { .. } => {
-                let last = self.machine.trees.len().saturating_sub(1);
-                let tree = self.tree_at(last);
-                self.record_leaf(true, tree.row, tree.start as usize)
-            }
+            Op::Leaf { row, .. } => self.record_leaf(true, row, at),
             _ => Ok(()),
         }
     }

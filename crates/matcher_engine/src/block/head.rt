@@ -8,8 +8,8 @@ use std::alloc::{AllocError, Global};
 /// The beginning of each block, `pest`.
 const MARK: [u8; 4] = [112, 101, 115, 116];
 
-/// The beginning of a block of this version: `pest`, and 2 as a word. The sum and the sections follow.
-const HEAD: [u8; 8] = [112, 101, 115, 116, 2, 0, 0, 0];
+/// The beginning of a block of this version: `pest`, and 3 as a word. The sum and the sections follow.
+const HEAD: [u8; 8] = [112, 101, 115, 116, 3, 0, 0, 0];
 
 /// Where the sum begins, in bytes.
 const SUM: usize = 8;
