@@ -88,370 +88,370 @@ called =
     ∷ record { task = Run NonAtomicMode (Ident (name_of rule.grammar_doc)); label = 66; next = 1; way = 2; rank = 0 }
     ∷ record { task = Run NonAtomicMode (Ident (name_of rule.line_doc)); label = 67; next = 1; way = 2; rank = 0 }
     ∷ record { task = Run NonAtomicMode (Ident (name_of rule.inner_doc)); label = 68; next = 1; way = 2; rank = 0 }
-    ∷ record { task = Run NonAtomicMode (body_of rule.grammar_rules); label = 72; next = 73; way = 0; rank = 0 }
-    ∷ record { task = Run NonAtomicMode (body_of rule.grammar_rule); label = 74; next = 75; way = 0; rank = 0 }
-    ∷ record { task = Run NonAtomicMode (body_of rule.assignment_operator); label = 76; next = 77; way = 0; rank = 0 }
-    ∷ record { task = Run NonAtomicMode (body_of rule.opening_brace); label = 78; next = 79; way = 0; rank = 0 }
-    ∷ record { task = Run NonAtomicMode (body_of rule.closing_brace); label = 80; next = 81; way = 0; rank = 0 }
-    ∷ record { task = Run NonAtomicMode (body_of rule.opening_paren); label = 82; next = 83; way = 0; rank = 0 }
-    ∷ record { task = Run NonAtomicMode (body_of rule.closing_paren); label = 84; next = 85; way = 0; rank = 0 }
-    ∷ record { task = Run NonAtomicMode (body_of rule.opening_brack); label = 86; next = 87; way = 0; rank = 0 }
-    ∷ record { task = Run NonAtomicMode (body_of rule.closing_brack); label = 88; next = 89; way = 0; rank = 0 }
-    ∷ record { task = Run NonAtomicMode (body_of rule.modifier); label = 90; next = 91; way = 0; rank = 0 }
-    ∷ record { task = Run NonAtomicMode (body_of rule.silent_modifier); label = 92; next = 93; way = 0; rank = 0 }
-    ∷ record { task = Run NonAtomicMode (body_of rule.atomic_modifier); label = 94; next = 95; way = 0; rank = 0 }
-    ∷ record { task = Run NonAtomicMode (body_of rule.compound_atomic_modifier); label = 96; next = 97; way = 0; rank = 0 }
-    ∷ record { task = Run NonAtomicMode (body_of rule.non_atomic_modifier); label = 98; next = 99; way = 0; rank = 0 }
-    ∷ record { task = Run AtomicMode (body_of rule.tag_id); label = 100; next = 101; way = 0; rank = 0 }
-    ∷ record { task = Run NonAtomicMode (body_of rule.node_tag); label = 102; next = 103; way = 0; rank = 0 }
-    ∷ record { task = Run NonAtomicMode (body_of rule.expression); label = 104; next = 105; way = 0; rank = 0 }
-    ∷ record { task = Run NonAtomicMode (body_of rule.term); label = 106; next = 107; way = 0; rank = 0 }
-    ∷ record { task = Run NonAtomicMode (body_of rule.node); label = 108; next = 109; way = 0; rank = 0 }
-    ∷ record { task = Run NonAtomicMode (body_of rule.terminal); label = 110; next = 111; way = 0; rank = 0 }
-    ∷ record { task = Run NonAtomicMode (body_of rule.prefix_operator); label = 112; next = 113; way = 0; rank = 0 }
-    ∷ record { task = Run NonAtomicMode (body_of rule.infix_operator); label = 114; next = 115; way = 0; rank = 0 }
-    ∷ record { task = Run NonAtomicMode (body_of rule.postfix_operator); label = 116; next = 117; way = 0; rank = 0 }
-    ∷ record { task = Run NonAtomicMode (body_of rule.positive_predicate_operator); label = 118; next = 119; way = 0; rank = 0 }
-    ∷ record { task = Run NonAtomicMode (body_of rule.negative_predicate_operator); label = 120; next = 121; way = 0; rank = 0 }
-    ∷ record { task = Run NonAtomicMode (body_of rule.sequence_operator); label = 122; next = 123; way = 0; rank = 0 }
-    ∷ record { task = Run NonAtomicMode (body_of rule.choice_operator); label = 124; next = 125; way = 0; rank = 0 }
-    ∷ record { task = Run NonAtomicMode (body_of rule.optional_operator); label = 126; next = 127; way = 0; rank = 0 }
-    ∷ record { task = Run NonAtomicMode (body_of rule.repeat_operator); label = 128; next = 129; way = 0; rank = 0 }
-    ∷ record { task = Run NonAtomicMode (body_of rule.repeat_once_operator); label = 130; next = 131; way = 0; rank = 0 }
-    ∷ record { task = Run NonAtomicMode (body_of rule.repeat_exact); label = 132; next = 133; way = 0; rank = 0 }
-    ∷ record { task = Run NonAtomicMode (body_of rule.repeat_min); label = 134; next = 135; way = 0; rank = 0 }
-    ∷ record { task = Run NonAtomicMode (body_of rule.repeat_max); label = 136; next = 137; way = 0; rank = 0 }
-    ∷ record { task = Run NonAtomicMode (body_of rule.repeat_min_max); label = 138; next = 139; way = 0; rank = 0 }
-    ∷ record { task = Run AtomicMode (body_of rule.number); label = 140; next = 141; way = 0; rank = 0 }
-    ∷ record { task = Run AtomicMode (body_of rule.integer); label = 142; next = 143; way = 0; rank = 0 }
-    ∷ record { task = Run NonAtomicMode (body_of rule.comma); label = 144; next = 145; way = 0; rank = 0 }
-    ∷ record { task = Run NonAtomicMode (body_of rule._push); label = 146; next = 147; way = 0; rank = 0 }
-    ∷ record { task = Run NonAtomicMode (body_of rule._push_literal); label = 148; next = 149; way = 0; rank = 0 }
-    ∷ record { task = Run NonAtomicMode (body_of rule.peek_slice); label = 150; next = 151; way = 0; rank = 0 }
-    ∷ record { task = Run AtomicMode (body_of rule.identifier); label = 152; next = 153; way = 0; rank = 0 }
-    ∷ record { task = Run NonAtomicMode (body_of rule.alpha); label = 154; next = 155; way = 0; rank = 0 }
-    ∷ record { task = Run NonAtomicMode (body_of rule.alpha_num); label = 156; next = 157; way = 0; rank = 0 }
-    ∷ record { task = Run CompoundAtomicMode (body_of rule.string); label = 158; next = 159; way = 0; rank = 0 }
-    ∷ record { task = Run NonAtomicMode (body_of rule.insensitive_string); label = 160; next = 161; way = 0; rank = 0 }
-    ∷ record { task = Run NonAtomicMode (body_of rule.range); label = 162; next = 163; way = 0; rank = 0 }
-    ∷ record { task = Run CompoundAtomicMode (body_of rule.character); label = 164; next = 165; way = 0; rank = 0 }
-    ∷ record { task = Run AtomicMode (body_of rule.inner_str); label = 166; next = 167; way = 0; rank = 0 }
-    ∷ record { task = Run AtomicMode (body_of rule.inner_chr); label = 168; next = 169; way = 0; rank = 0 }
-    ∷ record { task = Run AtomicMode (body_of rule.escape); label = 170; next = 171; way = 0; rank = 0 }
-    ∷ record { task = Run AtomicMode (body_of rule.code); label = 172; next = 173; way = 0; rank = 0 }
-    ∷ record { task = Run AtomicMode (body_of rule.unicode); label = 174; next = 175; way = 0; rank = 0 }
-    ∷ record { task = Run AtomicMode (body_of rule.hex_digit); label = 176; next = 177; way = 0; rank = 0 }
-    ∷ record { task = Run NonAtomicMode (body_of rule.quote); label = 178; next = 179; way = 0; rank = 0 }
-    ∷ record { task = Run NonAtomicMode (body_of rule.single_quote); label = 180; next = 181; way = 0; rank = 0 }
-    ∷ record { task = Run NonAtomicMode (body_of rule.range_operator); label = 182; next = 183; way = 0; rank = 0 }
-    ∷ record { task = Run NonAtomicMode (body_of rule.newline); label = 184; next = 185; way = 0; rank = 0 }
-    ∷ record { task = Run AtomicMode (body_of rule.WHITESPACE); label = 186; next = 187; way = 0; rank = 0 }
-    ∷ record { task = Run NonAtomicMode (body_of rule.line_comment); label = 188; next = 189; way = 0; rank = 0 }
-    ∷ record { task = Run NonAtomicMode (body_of rule.block_comment); label = 190; next = 191; way = 0; rank = 0 }
-    ∷ record { task = Run AtomicMode (body_of rule.COMMENT); label = 192; next = 193; way = 0; rank = 0 }
-    ∷ record { task = Run NonAtomicMode (body_of rule.space); label = 194; next = 195; way = 0; rank = 0 }
-    ∷ record { task = Run CompoundAtomicMode (body_of rule.grammar_doc); label = 196; next = 197; way = 0; rank = 0 }
-    ∷ record { task = Run CompoundAtomicMode (body_of rule.line_doc); label = 198; next = 199; way = 0; rank = 0 }
-    ∷ record { task = Run AtomicMode (body_of rule.inner_doc); label = 200; next = 201; way = 0; rank = 0 }
-    ∷ record { task = Run Between skipped; label = 208; next = 209; way = 0; rank = 0 }
-    ∷ record { task = Run AtomicMode (body_of rule.number); label = 346; next = 347; way = 0; rank = 0 }
-    ∷ record { task = Run CompoundAtomicMode (body_of rule.quote); label = 379; next = 380; way = 0; rank = 0 }
-    ∷ record { task = Run CompoundAtomicMode (body_of rule.single_quote); label = 389; next = 390; way = 0; rank = 0 }
-    ∷ record { task = Run AtomicMode (body_of rule.escape); label = 395; next = 396; way = 0; rank = 0 }
-    ∷ record { task = Run AtomicMode (body_of rule.inner_str); label = 397; next = 398; way = 0; rank = 0 }
-    ∷ record { task = Run AtomicMode (body_of rule.code); label = 403; next = 404; way = 0; rank = 0 }
-    ∷ record { task = Run AtomicMode (body_of rule.unicode); label = 405; next = 406; way = 0; rank = 0 }
+    ∷ record { task = Run NonAtomicMode (body_of rule.grammar_rules); label = 71; next = 72; way = 0; rank = 0 }
+    ∷ record { task = Run NonAtomicMode (body_of rule.grammar_rule); label = 73; next = 74; way = 0; rank = 0 }
+    ∷ record { task = Run NonAtomicMode (body_of rule.assignment_operator); label = 75; next = 76; way = 0; rank = 0 }
+    ∷ record { task = Run NonAtomicMode (body_of rule.opening_brace); label = 77; next = 78; way = 0; rank = 0 }
+    ∷ record { task = Run NonAtomicMode (body_of rule.closing_brace); label = 79; next = 80; way = 0; rank = 0 }
+    ∷ record { task = Run NonAtomicMode (body_of rule.opening_paren); label = 81; next = 82; way = 0; rank = 0 }
+    ∷ record { task = Run NonAtomicMode (body_of rule.closing_paren); label = 83; next = 84; way = 0; rank = 0 }
+    ∷ record { task = Run NonAtomicMode (body_of rule.opening_brack); label = 85; next = 86; way = 0; rank = 0 }
+    ∷ record { task = Run NonAtomicMode (body_of rule.closing_brack); label = 87; next = 88; way = 0; rank = 0 }
+    ∷ record { task = Run NonAtomicMode (body_of rule.modifier); label = 89; next = 90; way = 0; rank = 0 }
+    ∷ record { task = Run NonAtomicMode (body_of rule.silent_modifier); label = 91; next = 92; way = 0; rank = 0 }
+    ∷ record { task = Run NonAtomicMode (body_of rule.atomic_modifier); label = 93; next = 94; way = 0; rank = 0 }
+    ∷ record { task = Run NonAtomicMode (body_of rule.compound_atomic_modifier); label = 95; next = 96; way = 0; rank = 0 }
+    ∷ record { task = Run NonAtomicMode (body_of rule.non_atomic_modifier); label = 97; next = 98; way = 0; rank = 0 }
+    ∷ record { task = Run AtomicMode (body_of rule.tag_id); label = 99; next = 100; way = 0; rank = 0 }
+    ∷ record { task = Run NonAtomicMode (body_of rule.node_tag); label = 101; next = 102; way = 0; rank = 0 }
+    ∷ record { task = Run NonAtomicMode (body_of rule.expression); label = 103; next = 104; way = 0; rank = 0 }
+    ∷ record { task = Run NonAtomicMode (body_of rule.term); label = 105; next = 106; way = 0; rank = 0 }
+    ∷ record { task = Run NonAtomicMode (body_of rule.node); label = 107; next = 108; way = 0; rank = 0 }
+    ∷ record { task = Run NonAtomicMode (body_of rule.terminal); label = 109; next = 110; way = 0; rank = 0 }
+    ∷ record { task = Run NonAtomicMode (body_of rule.prefix_operator); label = 111; next = 112; way = 0; rank = 0 }
+    ∷ record { task = Run NonAtomicMode (body_of rule.infix_operator); label = 113; next = 114; way = 0; rank = 0 }
+    ∷ record { task = Run NonAtomicMode (body_of rule.postfix_operator); label = 115; next = 116; way = 0; rank = 0 }
+    ∷ record { task = Run NonAtomicMode (body_of rule.positive_predicate_operator); label = 117; next = 118; way = 0; rank = 0 }
+    ∷ record { task = Run NonAtomicMode (body_of rule.negative_predicate_operator); label = 119; next = 120; way = 0; rank = 0 }
+    ∷ record { task = Run NonAtomicMode (body_of rule.sequence_operator); label = 121; next = 122; way = 0; rank = 0 }
+    ∷ record { task = Run NonAtomicMode (body_of rule.choice_operator); label = 123; next = 124; way = 0; rank = 0 }
+    ∷ record { task = Run NonAtomicMode (body_of rule.optional_operator); label = 125; next = 126; way = 0; rank = 0 }
+    ∷ record { task = Run NonAtomicMode (body_of rule.repeat_operator); label = 127; next = 128; way = 0; rank = 0 }
+    ∷ record { task = Run NonAtomicMode (body_of rule.repeat_once_operator); label = 129; next = 130; way = 0; rank = 0 }
+    ∷ record { task = Run NonAtomicMode (body_of rule.repeat_exact); label = 131; next = 132; way = 0; rank = 0 }
+    ∷ record { task = Run NonAtomicMode (body_of rule.repeat_min); label = 133; next = 134; way = 0; rank = 0 }
+    ∷ record { task = Run NonAtomicMode (body_of rule.repeat_max); label = 135; next = 136; way = 0; rank = 0 }
+    ∷ record { task = Run NonAtomicMode (body_of rule.repeat_min_max); label = 137; next = 138; way = 0; rank = 0 }
+    ∷ record { task = Run AtomicMode (body_of rule.number); label = 139; next = 140; way = 0; rank = 0 }
+    ∷ record { task = Run AtomicMode (body_of rule.integer); label = 141; next = 142; way = 0; rank = 0 }
+    ∷ record { task = Run NonAtomicMode (body_of rule.comma); label = 143; next = 144; way = 0; rank = 0 }
+    ∷ record { task = Run NonAtomicMode (body_of rule._push); label = 145; next = 146; way = 0; rank = 0 }
+    ∷ record { task = Run NonAtomicMode (body_of rule._push_literal); label = 147; next = 148; way = 0; rank = 0 }
+    ∷ record { task = Run NonAtomicMode (body_of rule.peek_slice); label = 149; next = 150; way = 0; rank = 0 }
+    ∷ record { task = Run AtomicMode (body_of rule.identifier); label = 151; next = 152; way = 0; rank = 0 }
+    ∷ record { task = Run NonAtomicMode (body_of rule.alpha); label = 153; next = 154; way = 0; rank = 0 }
+    ∷ record { task = Run NonAtomicMode (body_of rule.alpha_num); label = 155; next = 156; way = 0; rank = 0 }
+    ∷ record { task = Run CompoundAtomicMode (body_of rule.string); label = 157; next = 158; way = 0; rank = 0 }
+    ∷ record { task = Run NonAtomicMode (body_of rule.insensitive_string); label = 159; next = 160; way = 0; rank = 0 }
+    ∷ record { task = Run NonAtomicMode (body_of rule.range); label = 161; next = 162; way = 0; rank = 0 }
+    ∷ record { task = Run CompoundAtomicMode (body_of rule.character); label = 163; next = 164; way = 0; rank = 0 }
+    ∷ record { task = Run AtomicMode (body_of rule.inner_str); label = 165; next = 166; way = 0; rank = 0 }
+    ∷ record { task = Run AtomicMode (body_of rule.inner_chr); label = 167; next = 168; way = 0; rank = 0 }
+    ∷ record { task = Run AtomicMode (body_of rule.escape); label = 169; next = 170; way = 0; rank = 0 }
+    ∷ record { task = Run AtomicMode (body_of rule.code); label = 171; next = 172; way = 0; rank = 0 }
+    ∷ record { task = Run AtomicMode (body_of rule.unicode); label = 173; next = 174; way = 0; rank = 0 }
+    ∷ record { task = Run AtomicMode (body_of rule.hex_digit); label = 175; next = 176; way = 0; rank = 0 }
+    ∷ record { task = Run NonAtomicMode (body_of rule.quote); label = 177; next = 178; way = 0; rank = 0 }
+    ∷ record { task = Run NonAtomicMode (body_of rule.single_quote); label = 179; next = 180; way = 0; rank = 0 }
+    ∷ record { task = Run NonAtomicMode (body_of rule.range_operator); label = 181; next = 182; way = 0; rank = 0 }
+    ∷ record { task = Run NonAtomicMode (body_of rule.newline); label = 183; next = 184; way = 0; rank = 0 }
+    ∷ record { task = Run AtomicMode (body_of rule.WHITESPACE); label = 185; next = 186; way = 0; rank = 0 }
+    ∷ record { task = Run NonAtomicMode (body_of rule.line_comment); label = 187; next = 188; way = 0; rank = 0 }
+    ∷ record { task = Run NonAtomicMode (body_of rule.block_comment); label = 189; next = 190; way = 0; rank = 0 }
+    ∷ record { task = Run AtomicMode (body_of rule.COMMENT); label = 191; next = 192; way = 0; rank = 0 }
+    ∷ record { task = Run NonAtomicMode (body_of rule.space); label = 193; next = 194; way = 0; rank = 0 }
+    ∷ record { task = Run CompoundAtomicMode (body_of rule.grammar_doc); label = 195; next = 196; way = 0; rank = 0 }
+    ∷ record { task = Run CompoundAtomicMode (body_of rule.line_doc); label = 197; next = 198; way = 0; rank = 0 }
+    ∷ record { task = Run AtomicMode (body_of rule.inner_doc); label = 199; next = 200; way = 0; rank = 0 }
+    ∷ record { task = Run Between skipped; label = 207; next = 208; way = 0; rank = 0 }
+    ∷ record { task = Run AtomicMode (body_of rule.number); label = 344; next = 345; way = 0; rank = 0 }
+    ∷ record { task = Run CompoundAtomicMode (body_of rule.quote); label = 377; next = 378; way = 0; rank = 0 }
+    ∷ record { task = Run CompoundAtomicMode (body_of rule.single_quote); label = 387; next = 388; way = 0; rank = 0 }
+    ∷ record { task = Run AtomicMode (body_of rule.escape); label = 393; next = 394; way = 0; rank = 0 }
+    ∷ record { task = Run AtomicMode (body_of rule.inner_str); label = 395; next = 396; way = 0; rank = 0 }
+    ∷ record { task = Run AtomicMode (body_of rule.code); label = 401; next = 402; way = 0; rank = 0 }
+    ∷ record { task = Run AtomicMode (body_of rule.unicode); label = 403; next = 404; way = 0; rank = 0 }
     ∷ []
 
-at_grammar_rules_plain_apart : IsPoint called (Run NonAtomicMode (body_of rule.grammar_rules)) 72 73 0
+at_grammar_rules_plain_apart : IsPoint called (Run NonAtomicMode (body_of rule.grammar_rules)) 71 72 0
 unfolding called
 at_grammar_rules_plain_apart = at_point called 66 refl refl
 
-at_grammar_rule_plain : IsPoint called (Run NonAtomicMode (body_of rule.grammar_rule)) 74 75 0
+at_grammar_rule_plain : IsPoint called (Run NonAtomicMode (body_of rule.grammar_rule)) 73 74 0
 unfolding called
 at_grammar_rule_plain = at_point called 67 refl refl
 
-at_assignment_operator_plain : IsPoint called (Run NonAtomicMode (body_of rule.assignment_operator)) 76 77 0
+at_assignment_operator_plain : IsPoint called (Run NonAtomicMode (body_of rule.assignment_operator)) 75 76 0
 unfolding called
 at_assignment_operator_plain = at_point called 68 refl refl
 
-at_opening_brace_plain : IsPoint called (Run NonAtomicMode (body_of rule.opening_brace)) 78 79 0
+at_opening_brace_plain : IsPoint called (Run NonAtomicMode (body_of rule.opening_brace)) 77 78 0
 unfolding called
 at_opening_brace_plain = at_point called 69 refl refl
 
-at_closing_brace_plain : IsPoint called (Run NonAtomicMode (body_of rule.closing_brace)) 80 81 0
+at_closing_brace_plain : IsPoint called (Run NonAtomicMode (body_of rule.closing_brace)) 79 80 0
 unfolding called
 at_closing_brace_plain = at_point called 70 refl refl
 
-at_opening_paren_plain : IsPoint called (Run NonAtomicMode (body_of rule.opening_paren)) 82 83 0
+at_opening_paren_plain : IsPoint called (Run NonAtomicMode (body_of rule.opening_paren)) 81 82 0
 unfolding called
 at_opening_paren_plain = at_point called 71 refl refl
 
-at_closing_paren_plain : IsPoint called (Run NonAtomicMode (body_of rule.closing_paren)) 84 85 0
+at_closing_paren_plain : IsPoint called (Run NonAtomicMode (body_of rule.closing_paren)) 83 84 0
 unfolding called
 at_closing_paren_plain = at_point called 72 refl refl
 
-at_opening_brack_plain : IsPoint called (Run NonAtomicMode (body_of rule.opening_brack)) 86 87 0
+at_opening_brack_plain : IsPoint called (Run NonAtomicMode (body_of rule.opening_brack)) 85 86 0
 unfolding called
 at_opening_brack_plain = at_point called 73 refl refl
 
-at_closing_brack_plain : IsPoint called (Run NonAtomicMode (body_of rule.closing_brack)) 88 89 0
+at_closing_brack_plain : IsPoint called (Run NonAtomicMode (body_of rule.closing_brack)) 87 88 0
 unfolding called
 at_closing_brack_plain = at_point called 74 refl refl
 
-at_modifier_plain_apart : IsPoint called (Run NonAtomicMode (body_of rule.modifier)) 90 91 0
+at_modifier_plain_apart : IsPoint called (Run NonAtomicMode (body_of rule.modifier)) 89 90 0
 unfolding called
 at_modifier_plain_apart = at_point called 75 refl refl
 
-at_silent_modifier_plain : IsPoint called (Run NonAtomicMode (body_of rule.silent_modifier)) 92 93 0
+at_silent_modifier_plain : IsPoint called (Run NonAtomicMode (body_of rule.silent_modifier)) 91 92 0
 unfolding called
 at_silent_modifier_plain = at_point called 76 refl refl
 
-at_atomic_modifier_plain : IsPoint called (Run NonAtomicMode (body_of rule.atomic_modifier)) 94 95 0
+at_atomic_modifier_plain : IsPoint called (Run NonAtomicMode (body_of rule.atomic_modifier)) 93 94 0
 unfolding called
 at_atomic_modifier_plain = at_point called 77 refl refl
 
-at_compound_atomic_modifier_plain : IsPoint called (Run NonAtomicMode (body_of rule.compound_atomic_modifier)) 96 97 0
+at_compound_atomic_modifier_plain : IsPoint called (Run NonAtomicMode (body_of rule.compound_atomic_modifier)) 95 96 0
 unfolding called
 at_compound_atomic_modifier_plain = at_point called 78 refl refl
 
-at_non_atomic_modifier_plain : IsPoint called (Run NonAtomicMode (body_of rule.non_atomic_modifier)) 98 99 0
+at_non_atomic_modifier_plain : IsPoint called (Run NonAtomicMode (body_of rule.non_atomic_modifier)) 97 98 0
 unfolding called
 at_non_atomic_modifier_plain = at_point called 79 refl refl
 
-at_tag_id_atomic : IsPoint called (Run AtomicMode (body_of rule.tag_id)) 100 101 0
+at_tag_id_atomic : IsPoint called (Run AtomicMode (body_of rule.tag_id)) 99 100 0
 unfolding called
 at_tag_id_atomic = at_point called 80 refl refl
 
-at_node_tag_plain_apart : IsPoint called (Run NonAtomicMode (body_of rule.node_tag)) 102 103 0
+at_node_tag_plain_apart : IsPoint called (Run NonAtomicMode (body_of rule.node_tag)) 101 102 0
 unfolding called
 at_node_tag_plain_apart = at_point called 81 refl refl
 
-at_expression_plain : IsPoint called (Run NonAtomicMode (body_of rule.expression)) 104 105 0
+at_expression_plain : IsPoint called (Run NonAtomicMode (body_of rule.expression)) 103 104 0
 unfolding called
 at_expression_plain = at_point called 82 refl refl
 
-at_term_plain : IsPoint called (Run NonAtomicMode (body_of rule.term)) 106 107 0
+at_term_plain : IsPoint called (Run NonAtomicMode (body_of rule.term)) 105 106 0
 unfolding called
 at_term_plain = at_point called 83 refl refl
 
-at_node_plain_apart : IsPoint called (Run NonAtomicMode (body_of rule.node)) 108 109 0
+at_node_plain_apart : IsPoint called (Run NonAtomicMode (body_of rule.node)) 107 108 0
 unfolding called
 at_node_plain_apart = at_point called 84 refl refl
 
-at_terminal_plain_apart : IsPoint called (Run NonAtomicMode (body_of rule.terminal)) 110 111 0
+at_terminal_plain_apart : IsPoint called (Run NonAtomicMode (body_of rule.terminal)) 109 110 0
 unfolding called
 at_terminal_plain_apart = at_point called 85 refl refl
 
-at_prefix_operator_plain_apart : IsPoint called (Run NonAtomicMode (body_of rule.prefix_operator)) 112 113 0
+at_prefix_operator_plain_apart : IsPoint called (Run NonAtomicMode (body_of rule.prefix_operator)) 111 112 0
 unfolding called
 at_prefix_operator_plain_apart = at_point called 86 refl refl
 
-at_infix_operator_plain_apart : IsPoint called (Run NonAtomicMode (body_of rule.infix_operator)) 114 115 0
+at_infix_operator_plain_apart : IsPoint called (Run NonAtomicMode (body_of rule.infix_operator)) 113 114 0
 unfolding called
 at_infix_operator_plain_apart = at_point called 87 refl refl
 
-at_postfix_operator_plain_apart : IsPoint called (Run NonAtomicMode (body_of rule.postfix_operator)) 116 117 0
+at_postfix_operator_plain_apart : IsPoint called (Run NonAtomicMode (body_of rule.postfix_operator)) 115 116 0
 unfolding called
 at_postfix_operator_plain_apart = at_point called 88 refl refl
 
-at_positive_predicate_operator_plain : IsPoint called (Run NonAtomicMode (body_of rule.positive_predicate_operator)) 118 119 0
+at_positive_predicate_operator_plain : IsPoint called (Run NonAtomicMode (body_of rule.positive_predicate_operator)) 117 118 0
 unfolding called
 at_positive_predicate_operator_plain = at_point called 89 refl refl
 
-at_negative_predicate_operator_plain : IsPoint called (Run NonAtomicMode (body_of rule.negative_predicate_operator)) 120 121 0
+at_negative_predicate_operator_plain : IsPoint called (Run NonAtomicMode (body_of rule.negative_predicate_operator)) 119 120 0
 unfolding called
 at_negative_predicate_operator_plain = at_point called 90 refl refl
 
-at_sequence_operator_plain : IsPoint called (Run NonAtomicMode (body_of rule.sequence_operator)) 122 123 0
+at_sequence_operator_plain : IsPoint called (Run NonAtomicMode (body_of rule.sequence_operator)) 121 122 0
 unfolding called
 at_sequence_operator_plain = at_point called 91 refl refl
 
-at_choice_operator_plain : IsPoint called (Run NonAtomicMode (body_of rule.choice_operator)) 124 125 0
+at_choice_operator_plain : IsPoint called (Run NonAtomicMode (body_of rule.choice_operator)) 123 124 0
 unfolding called
 at_choice_operator_plain = at_point called 92 refl refl
 
-at_optional_operator_plain : IsPoint called (Run NonAtomicMode (body_of rule.optional_operator)) 126 127 0
+at_optional_operator_plain : IsPoint called (Run NonAtomicMode (body_of rule.optional_operator)) 125 126 0
 unfolding called
 at_optional_operator_plain = at_point called 93 refl refl
 
-at_repeat_operator_plain : IsPoint called (Run NonAtomicMode (body_of rule.repeat_operator)) 128 129 0
+at_repeat_operator_plain : IsPoint called (Run NonAtomicMode (body_of rule.repeat_operator)) 127 128 0
 unfolding called
 at_repeat_operator_plain = at_point called 94 refl refl
 
-at_repeat_once_operator_plain : IsPoint called (Run NonAtomicMode (body_of rule.repeat_once_operator)) 130 131 0
+at_repeat_once_operator_plain : IsPoint called (Run NonAtomicMode (body_of rule.repeat_once_operator)) 129 130 0
 unfolding called
 at_repeat_once_operator_plain = at_point called 95 refl refl
 
-at_repeat_exact_plain : IsPoint called (Run NonAtomicMode (body_of rule.repeat_exact)) 132 133 0
+at_repeat_exact_plain : IsPoint called (Run NonAtomicMode (body_of rule.repeat_exact)) 131 132 0
 unfolding called
 at_repeat_exact_plain = at_point called 96 refl refl
 
-at_repeat_min_plain : IsPoint called (Run NonAtomicMode (body_of rule.repeat_min)) 134 135 0
+at_repeat_min_plain : IsPoint called (Run NonAtomicMode (body_of rule.repeat_min)) 133 134 0
 unfolding called
 at_repeat_min_plain = at_point called 97 refl refl
 
-at_repeat_max_plain : IsPoint called (Run NonAtomicMode (body_of rule.repeat_max)) 136 137 0
+at_repeat_max_plain : IsPoint called (Run NonAtomicMode (body_of rule.repeat_max)) 135 136 0
 unfolding called
 at_repeat_max_plain = at_point called 98 refl refl
 
-at_repeat_min_max_plain : IsPoint called (Run NonAtomicMode (body_of rule.repeat_min_max)) 138 139 0
+at_repeat_min_max_plain : IsPoint called (Run NonAtomicMode (body_of rule.repeat_min_max)) 137 138 0
 unfolding called
 at_repeat_min_max_plain = at_point called 99 refl refl
 
-at_number_atomic : IsPoint called (Run AtomicMode (body_of rule.number)) 140 141 0
+at_number_atomic : IsPoint called (Run AtomicMode (body_of rule.number)) 139 140 0
 unfolding called
 at_number_atomic = at_point called 100 refl refl
 
-at_integer_atomic : IsPoint called (Run AtomicMode (body_of rule.integer)) 142 143 0
+at_integer_atomic : IsPoint called (Run AtomicMode (body_of rule.integer)) 141 142 0
 unfolding called
 at_integer_atomic = at_point called 101 refl refl
 
-at_comma_plain : IsPoint called (Run NonAtomicMode (body_of rule.comma)) 144 145 0
+at_comma_plain : IsPoint called (Run NonAtomicMode (body_of rule.comma)) 143 144 0
 unfolding called
 at_comma_plain = at_point called 102 refl refl
 
-at_push__plain : IsPoint called (Run NonAtomicMode (body_of rule._push)) 146 147 0
+at_push__plain : IsPoint called (Run NonAtomicMode (body_of rule._push)) 145 146 0
 unfolding called
 at_push__plain = at_point called 103 refl refl
 
-at_push_literal__plain : IsPoint called (Run NonAtomicMode (body_of rule._push_literal)) 148 149 0
+at_push_literal__plain : IsPoint called (Run NonAtomicMode (body_of rule._push_literal)) 147 148 0
 unfolding called
 at_push_literal__plain = at_point called 104 refl refl
 
-at_peek_slice_plain : IsPoint called (Run NonAtomicMode (body_of rule.peek_slice)) 150 151 0
+at_peek_slice_plain : IsPoint called (Run NonAtomicMode (body_of rule.peek_slice)) 149 150 0
 unfolding called
 at_peek_slice_plain = at_point called 105 refl refl
 
-at_identifier_atomic : IsPoint called (Run AtomicMode (body_of rule.identifier)) 152 153 0
+at_identifier_atomic : IsPoint called (Run AtomicMode (body_of rule.identifier)) 151 152 0
 unfolding called
 at_identifier_atomic = at_point called 106 refl refl
 
-at_alpha_plain_apart : IsPoint called (Run NonAtomicMode (body_of rule.alpha)) 154 155 0
+at_alpha_plain_apart : IsPoint called (Run NonAtomicMode (body_of rule.alpha)) 153 154 0
 unfolding called
 at_alpha_plain_apart = at_point called 107 refl refl
 
-at_alpha_num_plain_apart : IsPoint called (Run NonAtomicMode (body_of rule.alpha_num)) 156 157 0
+at_alpha_num_plain_apart : IsPoint called (Run NonAtomicMode (body_of rule.alpha_num)) 155 156 0
 unfolding called
 at_alpha_num_plain_apart = at_point called 108 refl refl
 
-at_string_compound : IsPoint called (Run CompoundAtomicMode (body_of rule.string)) 158 159 0
+at_string_compound : IsPoint called (Run CompoundAtomicMode (body_of rule.string)) 157 158 0
 unfolding called
 at_string_compound = at_point called 109 refl refl
 
-at_insensitive_string_plain : IsPoint called (Run NonAtomicMode (body_of rule.insensitive_string)) 160 161 0
+at_insensitive_string_plain : IsPoint called (Run NonAtomicMode (body_of rule.insensitive_string)) 159 160 0
 unfolding called
 at_insensitive_string_plain = at_point called 110 refl refl
 
-at_range_plain : IsPoint called (Run NonAtomicMode (body_of rule.range)) 162 163 0
+at_range_plain : IsPoint called (Run NonAtomicMode (body_of rule.range)) 161 162 0
 unfolding called
 at_range_plain = at_point called 111 refl refl
 
-at_character_compound : IsPoint called (Run CompoundAtomicMode (body_of rule.character)) 164 165 0
+at_character_compound : IsPoint called (Run CompoundAtomicMode (body_of rule.character)) 163 164 0
 unfolding called
 at_character_compound = at_point called 112 refl refl
 
-at_inner_str_atomic : IsPoint called (Run AtomicMode (body_of rule.inner_str)) 166 167 0
+at_inner_str_atomic : IsPoint called (Run AtomicMode (body_of rule.inner_str)) 165 166 0
 unfolding called
 at_inner_str_atomic = at_point called 113 refl refl
 
-at_inner_chr_atomic : IsPoint called (Run AtomicMode (body_of rule.inner_chr)) 168 169 0
+at_inner_chr_atomic : IsPoint called (Run AtomicMode (body_of rule.inner_chr)) 167 168 0
 unfolding called
 at_inner_chr_atomic = at_point called 114 refl refl
 
-at_escape_atomic : IsPoint called (Run AtomicMode (body_of rule.escape)) 170 171 0
+at_escape_atomic : IsPoint called (Run AtomicMode (body_of rule.escape)) 169 170 0
 unfolding called
 at_escape_atomic = at_point called 115 refl refl
 
-at_code_atomic : IsPoint called (Run AtomicMode (body_of rule.code)) 172 173 0
+at_code_atomic : IsPoint called (Run AtomicMode (body_of rule.code)) 171 172 0
 unfolding called
 at_code_atomic = at_point called 116 refl refl
 
-at_unicode_atomic : IsPoint called (Run AtomicMode (body_of rule.unicode)) 174 175 0
+at_unicode_atomic : IsPoint called (Run AtomicMode (body_of rule.unicode)) 173 174 0
 unfolding called
 at_unicode_atomic = at_point called 117 refl refl
 
-at_hex_digit_atomic : IsPoint called (Run AtomicMode (body_of rule.hex_digit)) 176 177 0
+at_hex_digit_atomic : IsPoint called (Run AtomicMode (body_of rule.hex_digit)) 175 176 0
 unfolding called
 at_hex_digit_atomic = at_point called 118 refl refl
 
-at_quote_plain : IsPoint called (Run NonAtomicMode (body_of rule.quote)) 178 179 0
+at_quote_plain : IsPoint called (Run NonAtomicMode (body_of rule.quote)) 177 178 0
 unfolding called
 at_quote_plain = at_point called 119 refl refl
 
-at_single_quote_plain : IsPoint called (Run NonAtomicMode (body_of rule.single_quote)) 180 181 0
+at_single_quote_plain : IsPoint called (Run NonAtomicMode (body_of rule.single_quote)) 179 180 0
 unfolding called
 at_single_quote_plain = at_point called 120 refl refl
 
-at_range_operator_plain : IsPoint called (Run NonAtomicMode (body_of rule.range_operator)) 182 183 0
+at_range_operator_plain : IsPoint called (Run NonAtomicMode (body_of rule.range_operator)) 181 182 0
 unfolding called
 at_range_operator_plain = at_point called 121 refl refl
 
-at_newline_plain_apart : IsPoint called (Run NonAtomicMode (body_of rule.newline)) 184 185 0
+at_newline_plain_apart : IsPoint called (Run NonAtomicMode (body_of rule.newline)) 183 184 0
 unfolding called
 at_newline_plain_apart = at_point called 122 refl refl
 
-at_WHITESPACE_atomic_apart : IsPoint called (Run AtomicMode (body_of rule.WHITESPACE)) 186 187 0
+at_WHITESPACE_atomic_apart : IsPoint called (Run AtomicMode (body_of rule.WHITESPACE)) 185 186 0
 unfolding called
 at_WHITESPACE_atomic_apart = at_point called 123 refl refl
 
-at_line_comment_plain_apart : IsPoint called (Run NonAtomicMode (body_of rule.line_comment)) 188 189 0
+at_line_comment_plain_apart : IsPoint called (Run NonAtomicMode (body_of rule.line_comment)) 187 188 0
 unfolding called
 at_line_comment_plain_apart = at_point called 124 refl refl
 
-at_block_comment_plain_apart : IsPoint called (Run NonAtomicMode (body_of rule.block_comment)) 190 191 0
+at_block_comment_plain_apart : IsPoint called (Run NonAtomicMode (body_of rule.block_comment)) 189 190 0
 unfolding called
 at_block_comment_plain_apart = at_point called 125 refl refl
 
-at_COMMENT_atomic_apart : IsPoint called (Run AtomicMode (body_of rule.COMMENT)) 192 193 0
+at_COMMENT_atomic_apart : IsPoint called (Run AtomicMode (body_of rule.COMMENT)) 191 192 0
 unfolding called
 at_COMMENT_atomic_apart = at_point called 126 refl refl
 
-at_space_plain_apart : IsPoint called (Run NonAtomicMode (body_of rule.space)) 194 195 0
+at_space_plain_apart : IsPoint called (Run NonAtomicMode (body_of rule.space)) 193 194 0
 unfolding called
 at_space_plain_apart = at_point called 127 refl refl
 
-at_grammar_doc_compound : IsPoint called (Run CompoundAtomicMode (body_of rule.grammar_doc)) 196 197 0
+at_grammar_doc_compound : IsPoint called (Run CompoundAtomicMode (body_of rule.grammar_doc)) 195 196 0
 unfolding called
 at_grammar_doc_compound = at_point called 128 refl refl
 
-at_line_doc_compound : IsPoint called (Run CompoundAtomicMode (body_of rule.line_doc)) 198 199 0
+at_line_doc_compound : IsPoint called (Run CompoundAtomicMode (body_of rule.line_doc)) 197 198 0
 unfolding called
 at_line_doc_compound = at_point called 129 refl refl
 
-at_inner_doc_atomic : IsPoint called (Run AtomicMode (body_of rule.inner_doc)) 200 201 0
+at_inner_doc_atomic : IsPoint called (Run AtomicMode (body_of rule.inner_doc)) 199 200 0
 unfolding called
 at_inner_doc_atomic = at_point called 130 refl refl
 
-at_skipping : IsPoint called (Run Between skipped) 208 209 0
+at_skipping : IsPoint called (Run Between skipped) 207 208 0
 unfolding called
 at_skipping = at_point called 131 refl refl
 
-at_number_atomic_apart : IsPoint called (Run AtomicMode (body_of rule.number)) 346 347 0
+at_number_atomic_apart : IsPoint called (Run AtomicMode (body_of rule.number)) 344 345 0
 unfolding called
 at_number_atomic_apart = at_point called 132 refl refl
 
-at_quote_compound : IsPoint called (Run CompoundAtomicMode (body_of rule.quote)) 379 380 0
+at_quote_compound : IsPoint called (Run CompoundAtomicMode (body_of rule.quote)) 377 378 0
 unfolding called
 at_quote_compound = at_point called 133 refl refl
 
-at_single_quote_compound : IsPoint called (Run CompoundAtomicMode (body_of rule.single_quote)) 389 390 0
+at_single_quote_compound : IsPoint called (Run CompoundAtomicMode (body_of rule.single_quote)) 387 388 0
 unfolding called
 at_single_quote_compound = at_point called 134 refl refl
 
-at_escape_atomic_apart : IsPoint called (Run AtomicMode (body_of rule.escape)) 395 396 0
+at_escape_atomic_apart : IsPoint called (Run AtomicMode (body_of rule.escape)) 393 394 0
 unfolding called
 at_escape_atomic_apart = at_point called 135 refl refl
 
-at_inner_str_atomic_apart : IsPoint called (Run AtomicMode (body_of rule.inner_str)) 397 398 0
+at_inner_str_atomic_apart : IsPoint called (Run AtomicMode (body_of rule.inner_str)) 395 396 0
 unfolding called
 at_inner_str_atomic_apart = at_point called 136 refl refl
 
-at_code_atomic_apart : IsPoint called (Run AtomicMode (body_of rule.code)) 403 404 0
+at_code_atomic_apart : IsPoint called (Run AtomicMode (body_of rule.code)) 401 402 0
 unfolding called
 at_code_atomic_apart = at_point called 137 refl refl
 
-at_unicode_atomic_apart : IsPoint called (Run AtomicMode (body_of rule.unicode)) 405 406 0
+at_unicode_atomic_apart : IsPoint called (Run AtomicMode (body_of rule.unicode)) 403 404 0
 unfolding called
 at_unicode_atomic_apart = at_point called 138 refl refl
 
@@ -471,559 +471,559 @@ module _ (classes : Classes) (code : CodeLists) (is : IsExactCode code) where
 
   call_of_EOI : Laid s (Run NonAtomicMode (Ident (name_of rule.EOI))) 3 1 2
   unfolding whitespace comment
-  call_of_EOI = end s 69 70 71 tt refl refl refl refl refl
+  call_of_EOI = end s 69 70 tt refl refl refl refl
 
   call_of_grammar_rules : Laid s (Run NonAtomicMode (Ident (name_of rule.grammar_rules))) 4 1 2
   unfolding whitespace comment
-  call_of_grammar_rules = enters s rule.grammar_rules 72 73 at_grammar_rules_plain_apart refl refl refl refl refl
+  call_of_grammar_rules = enters s rule.grammar_rules 71 72 at_grammar_rules_plain_apart refl refl refl refl refl
 
   call_of_grammar_rule : Laid s (Run NonAtomicMode (Ident (name_of rule.grammar_rule))) 5 1 2
   unfolding whitespace comment
-  call_of_grammar_rule = calls s rule.grammar_rule 74 75 at_grammar_rule_plain refl refl refl refl refl
+  call_of_grammar_rule = calls s rule.grammar_rule 73 74 at_grammar_rule_plain refl refl refl refl refl
 
   call_of_assignment_operator : Laid s (Run NonAtomicMode (Ident (name_of rule.assignment_operator))) 6 1 2
   unfolding whitespace comment
-  call_of_assignment_operator = calls s rule.assignment_operator 76 77 at_assignment_operator_plain refl refl refl refl refl
+  call_of_assignment_operator = calls s rule.assignment_operator 75 76 at_assignment_operator_plain refl refl refl refl refl
 
   call_of_opening_brace : Laid s (Run NonAtomicMode (Ident (name_of rule.opening_brace))) 7 1 2
   unfolding whitespace comment
-  call_of_opening_brace = calls s rule.opening_brace 78 79 at_opening_brace_plain refl refl refl refl refl
+  call_of_opening_brace = calls s rule.opening_brace 77 78 at_opening_brace_plain refl refl refl refl refl
 
   call_of_closing_brace : Laid s (Run NonAtomicMode (Ident (name_of rule.closing_brace))) 8 1 2
   unfolding whitespace comment
-  call_of_closing_brace = calls s rule.closing_brace 80 81 at_closing_brace_plain refl refl refl refl refl
+  call_of_closing_brace = calls s rule.closing_brace 79 80 at_closing_brace_plain refl refl refl refl refl
 
   call_of_opening_paren : Laid s (Run NonAtomicMode (Ident (name_of rule.opening_paren))) 9 1 2
   unfolding whitespace comment
-  call_of_opening_paren = calls s rule.opening_paren 82 83 at_opening_paren_plain refl refl refl refl refl
+  call_of_opening_paren = calls s rule.opening_paren 81 82 at_opening_paren_plain refl refl refl refl refl
 
   call_of_closing_paren : Laid s (Run NonAtomicMode (Ident (name_of rule.closing_paren))) 10 1 2
   unfolding whitespace comment
-  call_of_closing_paren = calls s rule.closing_paren 84 85 at_closing_paren_plain refl refl refl refl refl
+  call_of_closing_paren = calls s rule.closing_paren 83 84 at_closing_paren_plain refl refl refl refl refl
 
   call_of_opening_brack : Laid s (Run NonAtomicMode (Ident (name_of rule.opening_brack))) 11 1 2
   unfolding whitespace comment
-  call_of_opening_brack = calls s rule.opening_brack 86 87 at_opening_brack_plain refl refl refl refl refl
+  call_of_opening_brack = calls s rule.opening_brack 85 86 at_opening_brack_plain refl refl refl refl refl
 
   call_of_closing_brack : Laid s (Run NonAtomicMode (Ident (name_of rule.closing_brack))) 12 1 2
   unfolding whitespace comment
-  call_of_closing_brack = calls s rule.closing_brack 88 89 at_closing_brack_plain refl refl refl refl refl
+  call_of_closing_brack = calls s rule.closing_brack 87 88 at_closing_brack_plain refl refl refl refl refl
 
   call_of_modifier : Laid s (Run NonAtomicMode (Ident (name_of rule.modifier))) 13 1 2
   unfolding whitespace comment
-  call_of_modifier = enters s rule.modifier 90 91 at_modifier_plain_apart refl refl refl refl refl
+  call_of_modifier = enters s rule.modifier 89 90 at_modifier_plain_apart refl refl refl refl refl
 
   call_of_silent_modifier : Laid s (Run NonAtomicMode (Ident (name_of rule.silent_modifier))) 14 1 2
   unfolding whitespace comment
-  call_of_silent_modifier = calls s rule.silent_modifier 92 93 at_silent_modifier_plain refl refl refl refl refl
+  call_of_silent_modifier = calls s rule.silent_modifier 91 92 at_silent_modifier_plain refl refl refl refl refl
 
   call_of_atomic_modifier : Laid s (Run NonAtomicMode (Ident (name_of rule.atomic_modifier))) 15 1 2
   unfolding whitespace comment
-  call_of_atomic_modifier = calls s rule.atomic_modifier 94 95 at_atomic_modifier_plain refl refl refl refl refl
+  call_of_atomic_modifier = calls s rule.atomic_modifier 93 94 at_atomic_modifier_plain refl refl refl refl refl
 
   call_of_compound_atomic_modifier : Laid s (Run NonAtomicMode (Ident (name_of rule.compound_atomic_modifier))) 16 1 2
   unfolding whitespace comment
-  call_of_compound_atomic_modifier = calls s rule.compound_atomic_modifier 96 97 at_compound_atomic_modifier_plain refl refl refl refl refl
+  call_of_compound_atomic_modifier = calls s rule.compound_atomic_modifier 95 96 at_compound_atomic_modifier_plain refl refl refl refl refl
 
   call_of_non_atomic_modifier : Laid s (Run NonAtomicMode (Ident (name_of rule.non_atomic_modifier))) 17 1 2
   unfolding whitespace comment
-  call_of_non_atomic_modifier = calls s rule.non_atomic_modifier 98 99 at_non_atomic_modifier_plain refl refl refl refl refl
+  call_of_non_atomic_modifier = calls s rule.non_atomic_modifier 97 98 at_non_atomic_modifier_plain refl refl refl refl refl
 
   call_of_tag_id : Laid s (Run NonAtomicMode (Ident (name_of rule.tag_id))) 18 1 2
   unfolding whitespace comment
-  call_of_tag_id = calls s rule.tag_id 100 101 at_tag_id_atomic refl refl refl refl refl
+  call_of_tag_id = calls s rule.tag_id 99 100 at_tag_id_atomic refl refl refl refl refl
 
   call_of_node_tag : Laid s (Run NonAtomicMode (Ident (name_of rule.node_tag))) 19 1 2
   unfolding whitespace comment
-  call_of_node_tag = enters s rule.node_tag 102 103 at_node_tag_plain_apart refl refl refl refl refl
+  call_of_node_tag = enters s rule.node_tag 101 102 at_node_tag_plain_apart refl refl refl refl refl
 
   call_of_expression : Laid s (Run NonAtomicMode (Ident (name_of rule.expression))) 20 1 2
   unfolding whitespace comment
-  call_of_expression = calls s rule.expression 104 105 at_expression_plain refl refl refl refl refl
+  call_of_expression = calls s rule.expression 103 104 at_expression_plain refl refl refl refl refl
 
   call_of_term : Laid s (Run NonAtomicMode (Ident (name_of rule.term))) 21 1 2
   unfolding whitespace comment
-  call_of_term = calls s rule.term 106 107 at_term_plain refl refl refl refl refl
+  call_of_term = calls s rule.term 105 106 at_term_plain refl refl refl refl refl
 
   call_of_node : Laid s (Run NonAtomicMode (Ident (name_of rule.node))) 22 1 2
   unfolding whitespace comment
-  call_of_node = enters s rule.node 108 109 at_node_plain_apart refl refl refl refl refl
+  call_of_node = enters s rule.node 107 108 at_node_plain_apart refl refl refl refl refl
 
   call_of_terminal : Laid s (Run NonAtomicMode (Ident (name_of rule.terminal))) 23 1 2
   unfolding whitespace comment
-  call_of_terminal = enters s rule.terminal 110 111 at_terminal_plain_apart refl refl refl refl refl
+  call_of_terminal = enters s rule.terminal 109 110 at_terminal_plain_apart refl refl refl refl refl
 
   call_of_prefix_operator : Laid s (Run NonAtomicMode (Ident (name_of rule.prefix_operator))) 24 1 2
   unfolding whitespace comment
-  call_of_prefix_operator = enters s rule.prefix_operator 112 113 at_prefix_operator_plain_apart refl refl refl refl refl
+  call_of_prefix_operator = enters s rule.prefix_operator 111 112 at_prefix_operator_plain_apart refl refl refl refl refl
 
   call_of_infix_operator : Laid s (Run NonAtomicMode (Ident (name_of rule.infix_operator))) 25 1 2
   unfolding whitespace comment
-  call_of_infix_operator = enters s rule.infix_operator 114 115 at_infix_operator_plain_apart refl refl refl refl refl
+  call_of_infix_operator = enters s rule.infix_operator 113 114 at_infix_operator_plain_apart refl refl refl refl refl
 
   call_of_postfix_operator : Laid s (Run NonAtomicMode (Ident (name_of rule.postfix_operator))) 26 1 2
   unfolding whitespace comment
-  call_of_postfix_operator = enters s rule.postfix_operator 116 117 at_postfix_operator_plain_apart refl refl refl refl refl
+  call_of_postfix_operator = enters s rule.postfix_operator 115 116 at_postfix_operator_plain_apart refl refl refl refl refl
 
   call_of_positive_predicate_operator : Laid s (Run NonAtomicMode (Ident (name_of rule.positive_predicate_operator))) 27 1 2
   unfolding whitespace comment
-  call_of_positive_predicate_operator = calls s rule.positive_predicate_operator 118 119 at_positive_predicate_operator_plain refl refl refl refl refl
+  call_of_positive_predicate_operator = calls s rule.positive_predicate_operator 117 118 at_positive_predicate_operator_plain refl refl refl refl refl
 
   call_of_negative_predicate_operator : Laid s (Run NonAtomicMode (Ident (name_of rule.negative_predicate_operator))) 28 1 2
   unfolding whitespace comment
-  call_of_negative_predicate_operator = calls s rule.negative_predicate_operator 120 121 at_negative_predicate_operator_plain refl refl refl refl refl
+  call_of_negative_predicate_operator = calls s rule.negative_predicate_operator 119 120 at_negative_predicate_operator_plain refl refl refl refl refl
 
   call_of_sequence_operator : Laid s (Run NonAtomicMode (Ident (name_of rule.sequence_operator))) 29 1 2
   unfolding whitespace comment
-  call_of_sequence_operator = calls s rule.sequence_operator 122 123 at_sequence_operator_plain refl refl refl refl refl
+  call_of_sequence_operator = calls s rule.sequence_operator 121 122 at_sequence_operator_plain refl refl refl refl refl
 
   call_of_choice_operator : Laid s (Run NonAtomicMode (Ident (name_of rule.choice_operator))) 30 1 2
   unfolding whitespace comment
-  call_of_choice_operator = calls s rule.choice_operator 124 125 at_choice_operator_plain refl refl refl refl refl
+  call_of_choice_operator = calls s rule.choice_operator 123 124 at_choice_operator_plain refl refl refl refl refl
 
   call_of_optional_operator : Laid s (Run NonAtomicMode (Ident (name_of rule.optional_operator))) 31 1 2
   unfolding whitespace comment
-  call_of_optional_operator = calls s rule.optional_operator 126 127 at_optional_operator_plain refl refl refl refl refl
+  call_of_optional_operator = calls s rule.optional_operator 125 126 at_optional_operator_plain refl refl refl refl refl
 
   call_of_repeat_operator : Laid s (Run NonAtomicMode (Ident (name_of rule.repeat_operator))) 32 1 2
   unfolding whitespace comment
-  call_of_repeat_operator = calls s rule.repeat_operator 128 129 at_repeat_operator_plain refl refl refl refl refl
+  call_of_repeat_operator = calls s rule.repeat_operator 127 128 at_repeat_operator_plain refl refl refl refl refl
 
   call_of_repeat_once_operator : Laid s (Run NonAtomicMode (Ident (name_of rule.repeat_once_operator))) 33 1 2
   unfolding whitespace comment
-  call_of_repeat_once_operator = calls s rule.repeat_once_operator 130 131 at_repeat_once_operator_plain refl refl refl refl refl
+  call_of_repeat_once_operator = calls s rule.repeat_once_operator 129 130 at_repeat_once_operator_plain refl refl refl refl refl
 
   call_of_repeat_exact : Laid s (Run NonAtomicMode (Ident (name_of rule.repeat_exact))) 34 1 2
   unfolding whitespace comment
-  call_of_repeat_exact = calls s rule.repeat_exact 132 133 at_repeat_exact_plain refl refl refl refl refl
+  call_of_repeat_exact = calls s rule.repeat_exact 131 132 at_repeat_exact_plain refl refl refl refl refl
 
   call_of_repeat_min : Laid s (Run NonAtomicMode (Ident (name_of rule.repeat_min))) 35 1 2
   unfolding whitespace comment
-  call_of_repeat_min = calls s rule.repeat_min 134 135 at_repeat_min_plain refl refl refl refl refl
+  call_of_repeat_min = calls s rule.repeat_min 133 134 at_repeat_min_plain refl refl refl refl refl
 
   call_of_repeat_max : Laid s (Run NonAtomicMode (Ident (name_of rule.repeat_max))) 36 1 2
   unfolding whitespace comment
-  call_of_repeat_max = calls s rule.repeat_max 136 137 at_repeat_max_plain refl refl refl refl refl
+  call_of_repeat_max = calls s rule.repeat_max 135 136 at_repeat_max_plain refl refl refl refl refl
 
   call_of_repeat_min_max : Laid s (Run NonAtomicMode (Ident (name_of rule.repeat_min_max))) 37 1 2
   unfolding whitespace comment
-  call_of_repeat_min_max = calls s rule.repeat_min_max 138 139 at_repeat_min_max_plain refl refl refl refl refl
+  call_of_repeat_min_max = calls s rule.repeat_min_max 137 138 at_repeat_min_max_plain refl refl refl refl refl
 
   call_of_number : Laid s (Run NonAtomicMode (Ident (name_of rule.number))) 38 1 2
   unfolding whitespace comment
-  call_of_number = calls s rule.number 140 141 at_number_atomic refl refl refl refl refl
+  call_of_number = calls s rule.number 139 140 at_number_atomic refl refl refl refl refl
 
   call_of_integer : Laid s (Run NonAtomicMode (Ident (name_of rule.integer))) 39 1 2
   unfolding whitespace comment
-  call_of_integer = calls s rule.integer 142 143 at_integer_atomic refl refl refl refl refl
+  call_of_integer = calls s rule.integer 141 142 at_integer_atomic refl refl refl refl refl
 
   call_of_comma : Laid s (Run NonAtomicMode (Ident (name_of rule.comma))) 40 1 2
   unfolding whitespace comment
-  call_of_comma = calls s rule.comma 144 145 at_comma_plain refl refl refl refl refl
+  call_of_comma = calls s rule.comma 143 144 at_comma_plain refl refl refl refl refl
 
   call_of_push_ : Laid s (Run NonAtomicMode (Ident (name_of rule._push))) 41 1 2
   unfolding whitespace comment
-  call_of_push_ = calls s rule._push 146 147 at_push__plain refl refl refl refl refl
+  call_of_push_ = calls s rule._push 145 146 at_push__plain refl refl refl refl refl
 
   call_of_push_literal_ : Laid s (Run NonAtomicMode (Ident (name_of rule._push_literal))) 42 1 2
   unfolding whitespace comment
-  call_of_push_literal_ = calls s rule._push_literal 148 149 at_push_literal__plain refl refl refl refl refl
+  call_of_push_literal_ = calls s rule._push_literal 147 148 at_push_literal__plain refl refl refl refl refl
 
   call_of_peek_slice : Laid s (Run NonAtomicMode (Ident (name_of rule.peek_slice))) 43 1 2
   unfolding whitespace comment
-  call_of_peek_slice = calls s rule.peek_slice 150 151 at_peek_slice_plain refl refl refl refl refl
+  call_of_peek_slice = calls s rule.peek_slice 149 150 at_peek_slice_plain refl refl refl refl refl
 
   call_of_identifier : Laid s (Run NonAtomicMode (Ident (name_of rule.identifier))) 44 1 2
   unfolding whitespace comment
-  call_of_identifier = calls s rule.identifier 152 153 at_identifier_atomic refl refl refl refl refl
+  call_of_identifier = calls s rule.identifier 151 152 at_identifier_atomic refl refl refl refl refl
 
   call_of_alpha : Laid s (Run NonAtomicMode (Ident (name_of rule.alpha))) 45 1 2
   unfolding whitespace comment
-  call_of_alpha = enters s rule.alpha 154 155 at_alpha_plain_apart refl refl refl refl refl
+  call_of_alpha = enters s rule.alpha 153 154 at_alpha_plain_apart refl refl refl refl refl
 
   call_of_alpha_num : Laid s (Run NonAtomicMode (Ident (name_of rule.alpha_num))) 46 1 2
   unfolding whitespace comment
-  call_of_alpha_num = enters s rule.alpha_num 156 157 at_alpha_num_plain_apart refl refl refl refl refl
+  call_of_alpha_num = enters s rule.alpha_num 155 156 at_alpha_num_plain_apart refl refl refl refl refl
 
   call_of_string : Laid s (Run NonAtomicMode (Ident (name_of rule.string))) 47 1 2
   unfolding whitespace comment
-  call_of_string = calls s rule.string 158 159 at_string_compound refl refl refl refl refl
+  call_of_string = calls s rule.string 157 158 at_string_compound refl refl refl refl refl
 
   call_of_insensitive_string : Laid s (Run NonAtomicMode (Ident (name_of rule.insensitive_string))) 48 1 2
   unfolding whitespace comment
-  call_of_insensitive_string = calls s rule.insensitive_string 160 161 at_insensitive_string_plain refl refl refl refl refl
+  call_of_insensitive_string = calls s rule.insensitive_string 159 160 at_insensitive_string_plain refl refl refl refl refl
 
   call_of_range : Laid s (Run NonAtomicMode (Ident (name_of rule.range))) 49 1 2
   unfolding whitespace comment
-  call_of_range = calls s rule.range 162 163 at_range_plain refl refl refl refl refl
+  call_of_range = calls s rule.range 161 162 at_range_plain refl refl refl refl refl
 
   call_of_character : Laid s (Run NonAtomicMode (Ident (name_of rule.character))) 50 1 2
   unfolding whitespace comment
-  call_of_character = calls s rule.character 164 165 at_character_compound refl refl refl refl refl
+  call_of_character = calls s rule.character 163 164 at_character_compound refl refl refl refl refl
 
   call_of_inner_str : Laid s (Run NonAtomicMode (Ident (name_of rule.inner_str))) 51 1 2
   unfolding whitespace comment
-  call_of_inner_str = calls s rule.inner_str 166 167 at_inner_str_atomic refl refl refl refl refl
+  call_of_inner_str = calls s rule.inner_str 165 166 at_inner_str_atomic refl refl refl refl refl
 
   call_of_inner_chr : Laid s (Run NonAtomicMode (Ident (name_of rule.inner_chr))) 52 1 2
   unfolding whitespace comment
-  call_of_inner_chr = calls s rule.inner_chr 168 169 at_inner_chr_atomic refl refl refl refl refl
+  call_of_inner_chr = calls s rule.inner_chr 167 168 at_inner_chr_atomic refl refl refl refl refl
 
   call_of_escape : Laid s (Run NonAtomicMode (Ident (name_of rule.escape))) 53 1 2
   unfolding whitespace comment
-  call_of_escape = calls s rule.escape 170 171 at_escape_atomic refl refl refl refl refl
+  call_of_escape = calls s rule.escape 169 170 at_escape_atomic refl refl refl refl refl
 
   call_of_code : Laid s (Run NonAtomicMode (Ident (name_of rule.code))) 54 1 2
   unfolding whitespace comment
-  call_of_code = calls s rule.code 172 173 at_code_atomic refl refl refl refl refl
+  call_of_code = calls s rule.code 171 172 at_code_atomic refl refl refl refl refl
 
   call_of_unicode : Laid s (Run NonAtomicMode (Ident (name_of rule.unicode))) 55 1 2
   unfolding whitespace comment
-  call_of_unicode = calls s rule.unicode 174 175 at_unicode_atomic refl refl refl refl refl
+  call_of_unicode = calls s rule.unicode 173 174 at_unicode_atomic refl refl refl refl refl
 
   call_of_hex_digit : Laid s (Run NonAtomicMode (Ident (name_of rule.hex_digit))) 56 1 2
   unfolding whitespace comment
-  call_of_hex_digit = calls s rule.hex_digit 176 177 at_hex_digit_atomic refl refl refl refl refl
+  call_of_hex_digit = calls s rule.hex_digit 175 176 at_hex_digit_atomic refl refl refl refl refl
 
   call_of_quote : Laid s (Run NonAtomicMode (Ident (name_of rule.quote))) 57 1 2
   unfolding whitespace comment
-  call_of_quote = calls s rule.quote 178 179 at_quote_plain refl refl refl refl refl
+  call_of_quote = calls s rule.quote 177 178 at_quote_plain refl refl refl refl refl
 
   call_of_single_quote : Laid s (Run NonAtomicMode (Ident (name_of rule.single_quote))) 58 1 2
   unfolding whitespace comment
-  call_of_single_quote = calls s rule.single_quote 180 181 at_single_quote_plain refl refl refl refl refl
+  call_of_single_quote = calls s rule.single_quote 179 180 at_single_quote_plain refl refl refl refl refl
 
   call_of_range_operator : Laid s (Run NonAtomicMode (Ident (name_of rule.range_operator))) 59 1 2
   unfolding whitespace comment
-  call_of_range_operator = calls s rule.range_operator 182 183 at_range_operator_plain refl refl refl refl refl
+  call_of_range_operator = calls s rule.range_operator 181 182 at_range_operator_plain refl refl refl refl refl
 
   call_of_newline : Laid s (Run NonAtomicMode (Ident (name_of rule.newline))) 60 1 2
   unfolding whitespace comment
-  call_of_newline = enters s rule.newline 184 185 at_newline_plain_apart refl refl refl refl refl
+  call_of_newline = enters s rule.newline 183 184 at_newline_plain_apart refl refl refl refl refl
 
   call_of_WHITESPACE : Laid s (Run NonAtomicMode (Ident (name_of rule.WHITESPACE))) 61 1 2
   unfolding whitespace comment
-  call_of_WHITESPACE = enters s rule.WHITESPACE 186 187 at_WHITESPACE_atomic_apart refl refl refl refl refl
+  call_of_WHITESPACE = enters s rule.WHITESPACE 185 186 at_WHITESPACE_atomic_apart refl refl refl refl refl
 
   call_of_line_comment : Laid s (Run NonAtomicMode (Ident (name_of rule.line_comment))) 62 1 2
   unfolding whitespace comment
-  call_of_line_comment = enters s rule.line_comment 188 189 at_line_comment_plain_apart refl refl refl refl refl
+  call_of_line_comment = enters s rule.line_comment 187 188 at_line_comment_plain_apart refl refl refl refl refl
 
   call_of_block_comment : Laid s (Run NonAtomicMode (Ident (name_of rule.block_comment))) 63 1 2
   unfolding whitespace comment
-  call_of_block_comment = enters s rule.block_comment 190 191 at_block_comment_plain_apart refl refl refl refl refl
+  call_of_block_comment = enters s rule.block_comment 189 190 at_block_comment_plain_apart refl refl refl refl refl
 
   call_of_COMMENT : Laid s (Run NonAtomicMode (Ident (name_of rule.COMMENT))) 64 1 2
   unfolding whitespace comment
-  call_of_COMMENT = enters s rule.COMMENT 192 193 at_COMMENT_atomic_apart refl refl refl refl refl
+  call_of_COMMENT = enters s rule.COMMENT 191 192 at_COMMENT_atomic_apart refl refl refl refl refl
 
   call_of_space : Laid s (Run NonAtomicMode (Ident (name_of rule.space))) 65 1 2
   unfolding whitespace comment
-  call_of_space = enters s rule.space 194 195 at_space_plain_apart refl refl refl refl refl
+  call_of_space = enters s rule.space 193 194 at_space_plain_apart refl refl refl refl refl
 
   call_of_grammar_doc : Laid s (Run NonAtomicMode (Ident (name_of rule.grammar_doc))) 66 1 2
   unfolding whitespace comment
-  call_of_grammar_doc = calls s rule.grammar_doc 196 197 at_grammar_doc_compound refl refl refl refl refl
+  call_of_grammar_doc = calls s rule.grammar_doc 195 196 at_grammar_doc_compound refl refl refl refl refl
 
   call_of_line_doc : Laid s (Run NonAtomicMode (Ident (name_of rule.line_doc))) 67 1 2
   unfolding whitespace comment
-  call_of_line_doc = calls s rule.line_doc 198 199 at_line_doc_compound refl refl refl refl refl
+  call_of_line_doc = calls s rule.line_doc 197 198 at_line_doc_compound refl refl refl refl refl
 
   call_of_inner_doc : Laid s (Run NonAtomicMode (Ident (name_of rule.inner_doc))) 68 1 2
   unfolding whitespace comment
-  call_of_inner_doc = calls s rule.inner_doc 200 201 at_inner_doc_atomic refl refl refl refl refl
+  call_of_inner_doc = calls s rule.inner_doc 199 200 at_inner_doc_atomic refl refl refl refl refl
 
-  grammar_rules_plain_apart : Laid s (Run NonAtomicMode (body_of rule.grammar_rules)) 72 73 0
+  grammar_rules_plain_apart : Laid s (Run NonAtomicMode (body_of rule.grammar_rules)) 71 72 0
   unfolding whitespace comment
-  grammar_rules_plain_apart = seq 202 203 (seq 204 205 (seq 206 207 (start s tt refl) (gap s 208 209 at_skipping refl refl) (turns s 207 210 211 212 213 refl (at_once s) refl refl (gap s 208 209 at_skipping refl refl) (calls s rule.grammar_doc 196 197 at_grammar_doc_compound refl refl refl refl refl) refl)) (gap s 208 209 at_skipping refl refl) (turns s 205 214 215 216 217 refl (at_once s) refl refl (gap s 208 209 at_skipping refl refl) (calls s rule.grammar_rule 74 75 at_grammar_rule_plain refl refl refl refl refl) refl)) (gap s 208 209 at_skipping refl refl) (end s 218 219 220 tt refl refl refl refl refl)
+  grammar_rules_plain_apart = seq 201 202 (seq 203 204 (seq 205 206 (start s tt refl) (gap s 207 208 at_skipping refl refl) (turns s 206 209 210 211 212 refl (at_once s) refl refl (gap s 207 208 at_skipping refl refl) (calls s rule.grammar_doc 195 196 at_grammar_doc_compound refl refl refl refl refl) refl)) (gap s 207 208 at_skipping refl refl) (turns s 204 213 214 215 216 refl (at_once s) refl refl (gap s 207 208 at_skipping refl refl) (calls s rule.grammar_rule 73 74 at_grammar_rule_plain refl refl refl refl refl) refl)) (gap s 207 208 at_skipping refl refl) (end s 217 218 tt refl refl refl refl)
 
-  grammar_rule_plain : Laid s (Run NonAtomicMode (body_of rule.grammar_rule)) 74 75 0
+  grammar_rule_plain : Laid s (Run NonAtomicMode (body_of rule.grammar_rule)) 73 74 0
   unfolding whitespace comment
-  grammar_rule_plain = either s 221 74 221 refl (at_once s) (tries s 222 224 225 223 refl (seq 226 227 (seq 228 229 (seq 230 231 (seq 232 233 (calls s rule.identifier 152 153 at_identifier_atomic refl refl refl refl refl) (gap s 208 209 at_skipping refl refl) (calls s rule.assignment_operator 76 77 at_assignment_operator_plain refl refl refl refl refl)) (gap s 208 209 at_skipping refl refl) (maybe s 231 refl (at_once s) (within s rule.modifier refl refl refl (either s 234 231 234 refl (at_once s) (either s 235 231 235 refl (at_once s) (either s 236 231 236 refl (at_once s) (calls s rule.silent_modifier 92 93 at_silent_modifier_plain refl refl refl refl refl) (at_once s) (calls s rule.atomic_modifier 94 95 at_atomic_modifier_plain refl refl refl refl refl)) (at_once s) (calls s rule.compound_atomic_modifier 96 97 at_compound_atomic_modifier_plain refl refl refl refl refl)) (at_once s) (calls s rule.non_atomic_modifier 98 99 at_non_atomic_modifier_plain refl refl refl refl refl))))) (gap s 208 209 at_skipping refl refl) (calls s rule.opening_brace 78 79 at_opening_brace_plain refl refl refl refl refl)) (gap s 208 209 at_skipping refl refl) (calls s rule.expression 104 105 at_expression_plain refl refl refl refl refl)) (gap s 208 209 at_skipping refl refl) (calls s rule.closing_brace 80 81 at_closing_brace_plain refl refl refl refl refl) refl) (at_once s) (calls s rule.line_doc 198 199 at_line_doc_compound refl refl refl refl refl)
+  grammar_rule_plain = either s 219 73 219 refl (at_once s) (tries s 220 222 223 221 refl (seq 224 225 (seq 226 227 (seq 228 229 (seq 230 231 (calls s rule.identifier 151 152 at_identifier_atomic refl refl refl refl refl) (gap s 207 208 at_skipping refl refl) (calls s rule.assignment_operator 75 76 at_assignment_operator_plain refl refl refl refl refl)) (gap s 207 208 at_skipping refl refl) (maybe s 229 refl (at_once s) (within s rule.modifier refl refl refl (either s 232 229 232 refl (at_once s) (either s 233 229 233 refl (at_once s) (either s 234 229 234 refl (at_once s) (calls s rule.silent_modifier 91 92 at_silent_modifier_plain refl refl refl refl refl) (at_once s) (calls s rule.atomic_modifier 93 94 at_atomic_modifier_plain refl refl refl refl refl)) (at_once s) (calls s rule.compound_atomic_modifier 95 96 at_compound_atomic_modifier_plain refl refl refl refl refl)) (at_once s) (calls s rule.non_atomic_modifier 97 98 at_non_atomic_modifier_plain refl refl refl refl refl))))) (gap s 207 208 at_skipping refl refl) (calls s rule.opening_brace 77 78 at_opening_brace_plain refl refl refl refl refl)) (gap s 207 208 at_skipping refl refl) (calls s rule.expression 103 104 at_expression_plain refl refl refl refl refl)) (gap s 207 208 at_skipping refl refl) (calls s rule.closing_brace 79 80 at_closing_brace_plain refl refl refl refl refl) refl) (at_once s) (calls s rule.line_doc 197 198 at_line_doc_compound refl refl refl refl refl)
 
-  assignment_operator_plain : Laid s (Run NonAtomicMode (body_of rule.assignment_operator)) 76 77 0
+  assignment_operator_plain : Laid s (Run NonAtomicMode (body_of rule.assignment_operator)) 75 76 0
   unfolding whitespace comment
   assignment_operator_plain = word s 0 refl refl refl
 
-  opening_brace_plain : Laid s (Run NonAtomicMode (body_of rule.opening_brace)) 78 79 0
+  opening_brace_plain : Laid s (Run NonAtomicMode (body_of rule.opening_brace)) 77 78 0
   unfolding whitespace comment
   opening_brace_plain = word s 1 refl refl refl
 
-  closing_brace_plain : Laid s (Run NonAtomicMode (body_of rule.closing_brace)) 80 81 0
+  closing_brace_plain : Laid s (Run NonAtomicMode (body_of rule.closing_brace)) 79 80 0
   unfolding whitespace comment
   closing_brace_plain = word s 2 refl refl refl
 
-  opening_paren_plain : Laid s (Run NonAtomicMode (body_of rule.opening_paren)) 82 83 0
+  opening_paren_plain : Laid s (Run NonAtomicMode (body_of rule.opening_paren)) 81 82 0
   unfolding whitespace comment
   opening_paren_plain = word s 3 refl refl refl
 
-  closing_paren_plain : Laid s (Run NonAtomicMode (body_of rule.closing_paren)) 84 85 0
+  closing_paren_plain : Laid s (Run NonAtomicMode (body_of rule.closing_paren)) 83 84 0
   unfolding whitespace comment
   closing_paren_plain = word s 4 refl refl refl
 
-  opening_brack_plain : Laid s (Run NonAtomicMode (body_of rule.opening_brack)) 86 87 0
+  opening_brack_plain : Laid s (Run NonAtomicMode (body_of rule.opening_brack)) 85 86 0
   unfolding whitespace comment
   opening_brack_plain = word s 5 refl refl refl
 
-  closing_brack_plain : Laid s (Run NonAtomicMode (body_of rule.closing_brack)) 88 89 0
+  closing_brack_plain : Laid s (Run NonAtomicMode (body_of rule.closing_brack)) 87 88 0
   unfolding whitespace comment
   closing_brack_plain = word s 6 refl refl refl
 
-  modifier_plain_apart : Laid s (Run NonAtomicMode (body_of rule.modifier)) 90 91 0
+  modifier_plain_apart : Laid s (Run NonAtomicMode (body_of rule.modifier)) 89 90 0
   unfolding whitespace comment
-  modifier_plain_apart = either s 237 90 237 refl (at_once s) (either s 238 90 238 refl (at_once s) (either s 239 90 239 refl (at_once s) (calls s rule.silent_modifier 92 93 at_silent_modifier_plain refl refl refl refl refl) (at_once s) (calls s rule.atomic_modifier 94 95 at_atomic_modifier_plain refl refl refl refl refl)) (at_once s) (calls s rule.compound_atomic_modifier 96 97 at_compound_atomic_modifier_plain refl refl refl refl refl)) (at_once s) (calls s rule.non_atomic_modifier 98 99 at_non_atomic_modifier_plain refl refl refl refl refl)
+  modifier_plain_apart = either s 235 89 235 refl (at_once s) (either s 236 89 236 refl (at_once s) (either s 237 89 237 refl (at_once s) (calls s rule.silent_modifier 91 92 at_silent_modifier_plain refl refl refl refl refl) (at_once s) (calls s rule.atomic_modifier 93 94 at_atomic_modifier_plain refl refl refl refl refl)) (at_once s) (calls s rule.compound_atomic_modifier 95 96 at_compound_atomic_modifier_plain refl refl refl refl refl)) (at_once s) (calls s rule.non_atomic_modifier 97 98 at_non_atomic_modifier_plain refl refl refl refl refl)
 
-  silent_modifier_plain : Laid s (Run NonAtomicMode (body_of rule.silent_modifier)) 92 93 0
+  silent_modifier_plain : Laid s (Run NonAtomicMode (body_of rule.silent_modifier)) 91 92 0
   unfolding whitespace comment
   silent_modifier_plain = word s 7 refl refl refl
 
-  atomic_modifier_plain : Laid s (Run NonAtomicMode (body_of rule.atomic_modifier)) 94 95 0
+  atomic_modifier_plain : Laid s (Run NonAtomicMode (body_of rule.atomic_modifier)) 93 94 0
   unfolding whitespace comment
   atomic_modifier_plain = word s 8 refl refl refl
 
-  compound_atomic_modifier_plain : Laid s (Run NonAtomicMode (body_of rule.compound_atomic_modifier)) 96 97 0
+  compound_atomic_modifier_plain : Laid s (Run NonAtomicMode (body_of rule.compound_atomic_modifier)) 95 96 0
   unfolding whitespace comment
   compound_atomic_modifier_plain = word s 9 refl refl refl
 
-  non_atomic_modifier_plain : Laid s (Run NonAtomicMode (body_of rule.non_atomic_modifier)) 98 99 0
+  non_atomic_modifier_plain : Laid s (Run NonAtomicMode (body_of rule.non_atomic_modifier)) 97 98 0
   unfolding whitespace comment
   non_atomic_modifier_plain = word s 10 refl refl refl
 
-  tag_id_atomic : Laid s (Run AtomicMode (body_of rule.tag_id)) 100 101 0
+  tag_id_atomic : Laid s (Run AtomicMode (body_of rule.tag_id)) 99 100 0
   unfolding whitespace comment
-  tag_id_atomic = seq 240 240 (seq 241 241 (word s 11 refl refl refl) (atomic s) (one_of s 0 (one_of_two s.classes (one_text s.classes 95) (one_called s.classes rule.alpha refl refl refl (one_of_two s.classes (one_range s.classes 97 122) (one_range s.classes 65 90)))) refl refl refl)) (atomic s) (all_of s 1 (one_of_two s.classes (one_text s.classes 95) (one_called s.classes rule.alpha_num refl refl refl (one_of_two s.classes (one_called s.classes rule.alpha refl refl refl (one_of_two s.classes (one_range s.classes 97 122) (one_range s.classes 65 90))) (one_range s.classes 48 57)))) (tight_atomic s) refl refl refl)
+  tag_id_atomic = seq 238 238 (seq 239 239 (word s 11 refl refl refl) (atomic s) (one_of s 0 (one_of_two s.classes (one_text s.classes 95) (one_called s.classes rule.alpha refl refl refl (one_of_two s.classes (one_range s.classes 97 122) (one_range s.classes 65 90)))) refl refl refl)) (atomic s) (all_of s 1 (one_of_two s.classes (one_text s.classes 95) (one_called s.classes rule.alpha_num refl refl refl (one_of_two s.classes (one_called s.classes rule.alpha refl refl refl (one_of_two s.classes (one_range s.classes 97 122) (one_range s.classes 65 90))) (one_range s.classes 48 57)))) (tight_atomic s) refl refl refl)
 
-  node_tag_plain_apart : Laid s (Run NonAtomicMode (body_of rule.node_tag)) 102 103 0
+  node_tag_plain_apart : Laid s (Run NonAtomicMode (body_of rule.node_tag)) 101 102 0
   unfolding whitespace comment
-  node_tag_plain_apart = seq 242 243 (calls s rule.tag_id 100 101 at_tag_id_atomic refl refl refl refl refl) (gap s 208 209 at_skipping refl refl) (calls s rule.assignment_operator 76 77 at_assignment_operator_plain refl refl refl refl refl)
+  node_tag_plain_apart = seq 240 241 (calls s rule.tag_id 99 100 at_tag_id_atomic refl refl refl refl refl) (gap s 207 208 at_skipping refl refl) (calls s rule.assignment_operator 75 76 at_assignment_operator_plain refl refl refl refl refl)
 
-  expression_plain : Laid s (Run NonAtomicMode (body_of rule.expression)) 104 105 0
+  expression_plain : Laid s (Run NonAtomicMode (body_of rule.expression)) 103 104 0
   unfolding whitespace comment
-  expression_plain = seq 244 245 (seq 246 247 (maybe s 104 refl (at_once s) (calls s rule.choice_operator 124 125 at_choice_operator_plain refl refl refl refl refl)) (gap s 208 209 at_skipping refl refl) (calls s rule.term 106 107 at_term_plain refl refl refl refl refl)) (gap s 208 209 at_skipping refl refl) (turns s 245 248 249 250 251 refl (at_once s) refl refl (gap s 208 209 at_skipping refl refl) (seq 252 253 (within s rule.infix_operator refl refl refl (either s 254 250 254 refl (at_once s) (calls s rule.sequence_operator 122 123 at_sequence_operator_plain refl refl refl refl refl) (at_once s) (calls s rule.choice_operator 124 125 at_choice_operator_plain refl refl refl refl refl))) (gap s 208 209 at_skipping refl refl) (calls s rule.term 106 107 at_term_plain refl refl refl refl refl)) refl)
+  expression_plain = seq 242 243 (seq 244 245 (maybe s 103 refl (at_once s) (calls s rule.choice_operator 123 124 at_choice_operator_plain refl refl refl refl refl)) (gap s 207 208 at_skipping refl refl) (calls s rule.term 105 106 at_term_plain refl refl refl refl refl)) (gap s 207 208 at_skipping refl refl) (turns s 243 246 247 248 249 refl (at_once s) refl refl (gap s 207 208 at_skipping refl refl) (seq 250 251 (within s rule.infix_operator refl refl refl (either s 252 248 252 refl (at_once s) (calls s rule.sequence_operator 121 122 at_sequence_operator_plain refl refl refl refl refl) (at_once s) (calls s rule.choice_operator 123 124 at_choice_operator_plain refl refl refl refl refl))) (gap s 207 208 at_skipping refl refl) (calls s rule.term 105 106 at_term_plain refl refl refl refl refl)) refl)
 
-  term_plain : Laid s (Run NonAtomicMode (body_of rule.term)) 106 107 0
+  term_plain : Laid s (Run NonAtomicMode (body_of rule.term)) 105 106 0
   unfolding whitespace comment
-  term_plain = seq 255 256 (seq 257 258 (seq 259 260 (maybe s 106 refl (at_once s) (within s rule.node_tag refl refl refl (tries s 261 263 264 262 refl (calls s rule.tag_id 100 101 at_tag_id_atomic refl refl refl refl refl) (gap s 208 209 at_skipping refl refl) (calls s rule.assignment_operator 76 77 at_assignment_operator_plain refl refl refl refl refl) refl))) (gap s 208 209 at_skipping refl refl) (turns s 260 265 266 267 268 refl (at_once s) refl refl (gap s 208 209 at_skipping refl refl) (within s rule.prefix_operator refl refl refl (either s 269 267 269 refl (at_once s) (calls s rule.positive_predicate_operator 118 119 at_positive_predicate_operator_plain refl refl refl refl refl) (at_once s) (calls s rule.negative_predicate_operator 120 121 at_negative_predicate_operator_plain refl refl refl refl refl))) refl)) (gap s 208 209 at_skipping refl refl) (within s rule.node refl refl refl (either s 270 258 270 refl (at_once s) (tries s 271 273 274 272 refl (seq 275 276 (calls s rule.opening_paren 82 83 at_opening_paren_plain refl refl refl refl refl) (gap s 208 209 at_skipping refl refl) (calls s rule.expression 104 105 at_expression_plain refl refl refl refl refl)) (gap s 208 209 at_skipping refl refl) (calls s rule.closing_paren 84 85 at_closing_paren_plain refl refl refl refl refl) refl) (at_once s) (within s rule.terminal refl refl refl (either s 277 270 277 refl (at_once s) (either s 278 270 278 refl (at_once s) (either s 279 270 279 refl (at_once s) (either s 280 270 280 refl (at_once s) (either s 281 270 281 refl (at_once s) (either s 282 270 282 refl (at_once s) (calls s rule._push_literal 148 149 at_push_literal__plain refl refl refl refl refl) (at_once s) (calls s rule._push 146 147 at_push__plain refl refl refl refl refl)) (at_once s) (calls s rule.peek_slice 150 151 at_peek_slice_plain refl refl refl refl refl)) (at_once s) (calls s rule.identifier 152 153 at_identifier_atomic refl refl refl refl refl)) (at_once s) (calls s rule.string 158 159 at_string_compound refl refl refl refl refl)) (at_once s) (calls s rule.insensitive_string 160 161 at_insensitive_string_plain refl refl refl refl refl)) (at_once s) (calls s rule.range 162 163 at_range_plain refl refl refl refl refl)))))) (gap s 208 209 at_skipping refl refl) (turns s 256 283 284 285 286 refl (at_once s) refl refl (gap s 208 209 at_skipping refl refl) (within s rule.postfix_operator refl refl refl (either s 287 285 287 refl (at_once s) (either s 288 285 288 refl (at_once s) (either s 289 285 289 refl (at_once s) (either s 290 285 290 refl (at_once s) (either s 291 285 291 refl (at_once s) (either s 292 285 292 refl (at_once s) (calls s rule.optional_operator 126 127 at_optional_operator_plain refl refl refl refl refl) (at_once s) (calls s rule.repeat_operator 128 129 at_repeat_operator_plain refl refl refl refl refl)) (at_once s) (calls s rule.repeat_once_operator 130 131 at_repeat_once_operator_plain refl refl refl refl refl)) (at_once s) (calls s rule.repeat_exact 132 133 at_repeat_exact_plain refl refl refl refl refl)) (at_once s) (calls s rule.repeat_min 134 135 at_repeat_min_plain refl refl refl refl refl)) (at_once s) (calls s rule.repeat_max 136 137 at_repeat_max_plain refl refl refl refl refl)) (at_once s) (calls s rule.repeat_min_max 138 139 at_repeat_min_max_plain refl refl refl refl refl))) refl)
+  term_plain = seq 253 254 (seq 255 256 (seq 257 258 (maybe s 105 refl (at_once s) (within s rule.node_tag refl refl refl (tries s 259 261 262 260 refl (calls s rule.tag_id 99 100 at_tag_id_atomic refl refl refl refl refl) (gap s 207 208 at_skipping refl refl) (calls s rule.assignment_operator 75 76 at_assignment_operator_plain refl refl refl refl refl) refl))) (gap s 207 208 at_skipping refl refl) (turns s 258 263 264 265 266 refl (at_once s) refl refl (gap s 207 208 at_skipping refl refl) (within s rule.prefix_operator refl refl refl (either s 267 265 267 refl (at_once s) (calls s rule.positive_predicate_operator 117 118 at_positive_predicate_operator_plain refl refl refl refl refl) (at_once s) (calls s rule.negative_predicate_operator 119 120 at_negative_predicate_operator_plain refl refl refl refl refl))) refl)) (gap s 207 208 at_skipping refl refl) (within s rule.node refl refl refl (either s 268 256 268 refl (at_once s) (tries s 269 271 272 270 refl (seq 273 274 (calls s rule.opening_paren 81 82 at_opening_paren_plain refl refl refl refl refl) (gap s 207 208 at_skipping refl refl) (calls s rule.expression 103 104 at_expression_plain refl refl refl refl refl)) (gap s 207 208 at_skipping refl refl) (calls s rule.closing_paren 83 84 at_closing_paren_plain refl refl refl refl refl) refl) (at_once s) (within s rule.terminal refl refl refl (either s 275 268 275 refl (at_once s) (either s 276 268 276 refl (at_once s) (either s 277 268 277 refl (at_once s) (either s 278 268 278 refl (at_once s) (either s 279 268 279 refl (at_once s) (either s 280 268 280 refl (at_once s) (calls s rule._push_literal 147 148 at_push_literal__plain refl refl refl refl refl) (at_once s) (calls s rule._push 145 146 at_push__plain refl refl refl refl refl)) (at_once s) (calls s rule.peek_slice 149 150 at_peek_slice_plain refl refl refl refl refl)) (at_once s) (calls s rule.identifier 151 152 at_identifier_atomic refl refl refl refl refl)) (at_once s) (calls s rule.string 157 158 at_string_compound refl refl refl refl refl)) (at_once s) (calls s rule.insensitive_string 159 160 at_insensitive_string_plain refl refl refl refl refl)) (at_once s) (calls s rule.range 161 162 at_range_plain refl refl refl refl refl)))))) (gap s 207 208 at_skipping refl refl) (turns s 254 281 282 283 284 refl (at_once s) refl refl (gap s 207 208 at_skipping refl refl) (within s rule.postfix_operator refl refl refl (either s 285 283 285 refl (at_once s) (either s 286 283 286 refl (at_once s) (either s 287 283 287 refl (at_once s) (either s 288 283 288 refl (at_once s) (either s 289 283 289 refl (at_once s) (either s 290 283 290 refl (at_once s) (calls s rule.optional_operator 125 126 at_optional_operator_plain refl refl refl refl refl) (at_once s) (calls s rule.repeat_operator 127 128 at_repeat_operator_plain refl refl refl refl refl)) (at_once s) (calls s rule.repeat_once_operator 129 130 at_repeat_once_operator_plain refl refl refl refl refl)) (at_once s) (calls s rule.repeat_exact 131 132 at_repeat_exact_plain refl refl refl refl refl)) (at_once s) (calls s rule.repeat_min 133 134 at_repeat_min_plain refl refl refl refl refl)) (at_once s) (calls s rule.repeat_max 135 136 at_repeat_max_plain refl refl refl refl refl)) (at_once s) (calls s rule.repeat_min_max 137 138 at_repeat_min_max_plain refl refl refl refl refl))) refl)
 
-  node_plain_apart : Laid s (Run NonAtomicMode (body_of rule.node)) 108 109 0
+  node_plain_apart : Laid s (Run NonAtomicMode (body_of rule.node)) 107 108 0
   unfolding whitespace comment
-  node_plain_apart = either s 293 108 293 refl (at_once s) (tries s 294 296 297 295 refl (seq 298 299 (calls s rule.opening_paren 82 83 at_opening_paren_plain refl refl refl refl refl) (gap s 208 209 at_skipping refl refl) (calls s rule.expression 104 105 at_expression_plain refl refl refl refl refl)) (gap s 208 209 at_skipping refl refl) (calls s rule.closing_paren 84 85 at_closing_paren_plain refl refl refl refl refl) refl) (at_once s) (within s rule.terminal refl refl refl (either s 300 293 300 refl (at_once s) (either s 301 293 301 refl (at_once s) (either s 302 293 302 refl (at_once s) (either s 303 293 303 refl (at_once s) (either s 304 293 304 refl (at_once s) (either s 305 293 305 refl (at_once s) (calls s rule._push_literal 148 149 at_push_literal__plain refl refl refl refl refl) (at_once s) (calls s rule._push 146 147 at_push__plain refl refl refl refl refl)) (at_once s) (calls s rule.peek_slice 150 151 at_peek_slice_plain refl refl refl refl refl)) (at_once s) (calls s rule.identifier 152 153 at_identifier_atomic refl refl refl refl refl)) (at_once s) (calls s rule.string 158 159 at_string_compound refl refl refl refl refl)) (at_once s) (calls s rule.insensitive_string 160 161 at_insensitive_string_plain refl refl refl refl refl)) (at_once s) (calls s rule.range 162 163 at_range_plain refl refl refl refl refl)))
+  node_plain_apart = either s 291 107 291 refl (at_once s) (tries s 292 294 295 293 refl (seq 296 297 (calls s rule.opening_paren 81 82 at_opening_paren_plain refl refl refl refl refl) (gap s 207 208 at_skipping refl refl) (calls s rule.expression 103 104 at_expression_plain refl refl refl refl refl)) (gap s 207 208 at_skipping refl refl) (calls s rule.closing_paren 83 84 at_closing_paren_plain refl refl refl refl refl) refl) (at_once s) (within s rule.terminal refl refl refl (either s 298 291 298 refl (at_once s) (either s 299 291 299 refl (at_once s) (either s 300 291 300 refl (at_once s) (either s 301 291 301 refl (at_once s) (either s 302 291 302 refl (at_once s) (either s 303 291 303 refl (at_once s) (calls s rule._push_literal 147 148 at_push_literal__plain refl refl refl refl refl) (at_once s) (calls s rule._push 145 146 at_push__plain refl refl refl refl refl)) (at_once s) (calls s rule.peek_slice 149 150 at_peek_slice_plain refl refl refl refl refl)) (at_once s) (calls s rule.identifier 151 152 at_identifier_atomic refl refl refl refl refl)) (at_once s) (calls s rule.string 157 158 at_string_compound refl refl refl refl refl)) (at_once s) (calls s rule.insensitive_string 159 160 at_insensitive_string_plain refl refl refl refl refl)) (at_once s) (calls s rule.range 161 162 at_range_plain refl refl refl refl refl)))
 
-  terminal_plain_apart : Laid s (Run NonAtomicMode (body_of rule.terminal)) 110 111 0
+  terminal_plain_apart : Laid s (Run NonAtomicMode (body_of rule.terminal)) 109 110 0
   unfolding whitespace comment
-  terminal_plain_apart = either s 306 110 306 refl (at_once s) (either s 307 110 307 refl (at_once s) (either s 308 110 308 refl (at_once s) (either s 309 110 309 refl (at_once s) (either s 310 110 310 refl (at_once s) (either s 311 110 311 refl (at_once s) (calls s rule._push_literal 148 149 at_push_literal__plain refl refl refl refl refl) (at_once s) (calls s rule._push 146 147 at_push__plain refl refl refl refl refl)) (at_once s) (calls s rule.peek_slice 150 151 at_peek_slice_plain refl refl refl refl refl)) (at_once s) (calls s rule.identifier 152 153 at_identifier_atomic refl refl refl refl refl)) (at_once s) (calls s rule.string 158 159 at_string_compound refl refl refl refl refl)) (at_once s) (calls s rule.insensitive_string 160 161 at_insensitive_string_plain refl refl refl refl refl)) (at_once s) (calls s rule.range 162 163 at_range_plain refl refl refl refl refl)
+  terminal_plain_apart = either s 304 109 304 refl (at_once s) (either s 305 109 305 refl (at_once s) (either s 306 109 306 refl (at_once s) (either s 307 109 307 refl (at_once s) (either s 308 109 308 refl (at_once s) (either s 309 109 309 refl (at_once s) (calls s rule._push_literal 147 148 at_push_literal__plain refl refl refl refl refl) (at_once s) (calls s rule._push 145 146 at_push__plain refl refl refl refl refl)) (at_once s) (calls s rule.peek_slice 149 150 at_peek_slice_plain refl refl refl refl refl)) (at_once s) (calls s rule.identifier 151 152 at_identifier_atomic refl refl refl refl refl)) (at_once s) (calls s rule.string 157 158 at_string_compound refl refl refl refl refl)) (at_once s) (calls s rule.insensitive_string 159 160 at_insensitive_string_plain refl refl refl refl refl)) (at_once s) (calls s rule.range 161 162 at_range_plain refl refl refl refl refl)
 
-  prefix_operator_plain_apart : Laid s (Run NonAtomicMode (body_of rule.prefix_operator)) 112 113 0
+  prefix_operator_plain_apart : Laid s (Run NonAtomicMode (body_of rule.prefix_operator)) 111 112 0
   unfolding whitespace comment
-  prefix_operator_plain_apart = either s 312 112 312 refl (at_once s) (calls s rule.positive_predicate_operator 118 119 at_positive_predicate_operator_plain refl refl refl refl refl) (at_once s) (calls s rule.negative_predicate_operator 120 121 at_negative_predicate_operator_plain refl refl refl refl refl)
+  prefix_operator_plain_apart = either s 310 111 310 refl (at_once s) (calls s rule.positive_predicate_operator 117 118 at_positive_predicate_operator_plain refl refl refl refl refl) (at_once s) (calls s rule.negative_predicate_operator 119 120 at_negative_predicate_operator_plain refl refl refl refl refl)
 
-  infix_operator_plain_apart : Laid s (Run NonAtomicMode (body_of rule.infix_operator)) 114 115 0
+  infix_operator_plain_apart : Laid s (Run NonAtomicMode (body_of rule.infix_operator)) 113 114 0
   unfolding whitespace comment
-  infix_operator_plain_apart = either s 313 114 313 refl (at_once s) (calls s rule.sequence_operator 122 123 at_sequence_operator_plain refl refl refl refl refl) (at_once s) (calls s rule.choice_operator 124 125 at_choice_operator_plain refl refl refl refl refl)
+  infix_operator_plain_apart = either s 311 113 311 refl (at_once s) (calls s rule.sequence_operator 121 122 at_sequence_operator_plain refl refl refl refl refl) (at_once s) (calls s rule.choice_operator 123 124 at_choice_operator_plain refl refl refl refl refl)
 
-  postfix_operator_plain_apart : Laid s (Run NonAtomicMode (body_of rule.postfix_operator)) 116 117 0
+  postfix_operator_plain_apart : Laid s (Run NonAtomicMode (body_of rule.postfix_operator)) 115 116 0
   unfolding whitespace comment
-  postfix_operator_plain_apart = either s 314 116 314 refl (at_once s) (either s 315 116 315 refl (at_once s) (either s 316 116 316 refl (at_once s) (either s 317 116 317 refl (at_once s) (either s 318 116 318 refl (at_once s) (either s 319 116 319 refl (at_once s) (calls s rule.optional_operator 126 127 at_optional_operator_plain refl refl refl refl refl) (at_once s) (calls s rule.repeat_operator 128 129 at_repeat_operator_plain refl refl refl refl refl)) (at_once s) (calls s rule.repeat_once_operator 130 131 at_repeat_once_operator_plain refl refl refl refl refl)) (at_once s) (calls s rule.repeat_exact 132 133 at_repeat_exact_plain refl refl refl refl refl)) (at_once s) (calls s rule.repeat_min 134 135 at_repeat_min_plain refl refl refl refl refl)) (at_once s) (calls s rule.repeat_max 136 137 at_repeat_max_plain refl refl refl refl refl)) (at_once s) (calls s rule.repeat_min_max 138 139 at_repeat_min_max_plain refl refl refl refl refl)
+  postfix_operator_plain_apart = either s 312 115 312 refl (at_once s) (either s 313 115 313 refl (at_once s) (either s 314 115 314 refl (at_once s) (either s 315 115 315 refl (at_once s) (either s 316 115 316 refl (at_once s) (either s 317 115 317 refl (at_once s) (calls s rule.optional_operator 125 126 at_optional_operator_plain refl refl refl refl refl) (at_once s) (calls s rule.repeat_operator 127 128 at_repeat_operator_plain refl refl refl refl refl)) (at_once s) (calls s rule.repeat_once_operator 129 130 at_repeat_once_operator_plain refl refl refl refl refl)) (at_once s) (calls s rule.repeat_exact 131 132 at_repeat_exact_plain refl refl refl refl refl)) (at_once s) (calls s rule.repeat_min 133 134 at_repeat_min_plain refl refl refl refl refl)) (at_once s) (calls s rule.repeat_max 135 136 at_repeat_max_plain refl refl refl refl refl)) (at_once s) (calls s rule.repeat_min_max 137 138 at_repeat_min_max_plain refl refl refl refl refl)
 
-  positive_predicate_operator_plain : Laid s (Run NonAtomicMode (body_of rule.positive_predicate_operator)) 118 119 0
+  positive_predicate_operator_plain : Laid s (Run NonAtomicMode (body_of rule.positive_predicate_operator)) 117 118 0
   unfolding whitespace comment
   positive_predicate_operator_plain = word s 12 refl refl refl
 
-  negative_predicate_operator_plain : Laid s (Run NonAtomicMode (body_of rule.negative_predicate_operator)) 120 121 0
+  negative_predicate_operator_plain : Laid s (Run NonAtomicMode (body_of rule.negative_predicate_operator)) 119 120 0
   unfolding whitespace comment
   negative_predicate_operator_plain = word s 10 refl refl refl
 
-  sequence_operator_plain : Laid s (Run NonAtomicMode (body_of rule.sequence_operator)) 122 123 0
+  sequence_operator_plain : Laid s (Run NonAtomicMode (body_of rule.sequence_operator)) 121 122 0
   unfolding whitespace comment
   sequence_operator_plain = word s 13 refl refl refl
 
-  choice_operator_plain : Laid s (Run NonAtomicMode (body_of rule.choice_operator)) 124 125 0
+  choice_operator_plain : Laid s (Run NonAtomicMode (body_of rule.choice_operator)) 123 124 0
   unfolding whitespace comment
   choice_operator_plain = word s 14 refl refl refl
 
-  optional_operator_plain : Laid s (Run NonAtomicMode (body_of rule.optional_operator)) 126 127 0
+  optional_operator_plain : Laid s (Run NonAtomicMode (body_of rule.optional_operator)) 125 126 0
   unfolding whitespace comment
   optional_operator_plain = word s 15 refl refl refl
 
-  repeat_operator_plain : Laid s (Run NonAtomicMode (body_of rule.repeat_operator)) 128 129 0
+  repeat_operator_plain : Laid s (Run NonAtomicMode (body_of rule.repeat_operator)) 127 128 0
   unfolding whitespace comment
   repeat_operator_plain = word s 16 refl refl refl
 
-  repeat_once_operator_plain : Laid s (Run NonAtomicMode (body_of rule.repeat_once_operator)) 130 131 0
+  repeat_once_operator_plain : Laid s (Run NonAtomicMode (body_of rule.repeat_once_operator)) 129 130 0
   unfolding whitespace comment
   repeat_once_operator_plain = word s 17 refl refl refl
 
-  repeat_exact_plain : Laid s (Run NonAtomicMode (body_of rule.repeat_exact)) 132 133 0
+  repeat_exact_plain : Laid s (Run NonAtomicMode (body_of rule.repeat_exact)) 131 132 0
   unfolding whitespace comment
-  repeat_exact_plain = seq 320 321 (seq 322 323 (calls s rule.opening_brace 78 79 at_opening_brace_plain refl refl refl refl refl) (gap s 208 209 at_skipping refl refl) (calls s rule.number 140 141 at_number_atomic refl refl refl refl refl)) (gap s 208 209 at_skipping refl refl) (calls s rule.closing_brace 80 81 at_closing_brace_plain refl refl refl refl refl)
+  repeat_exact_plain = seq 318 319 (seq 320 321 (calls s rule.opening_brace 77 78 at_opening_brace_plain refl refl refl refl refl) (gap s 207 208 at_skipping refl refl) (calls s rule.number 139 140 at_number_atomic refl refl refl refl refl)) (gap s 207 208 at_skipping refl refl) (calls s rule.closing_brace 79 80 at_closing_brace_plain refl refl refl refl refl)
 
-  repeat_min_plain : Laid s (Run NonAtomicMode (body_of rule.repeat_min)) 134 135 0
+  repeat_min_plain : Laid s (Run NonAtomicMode (body_of rule.repeat_min)) 133 134 0
   unfolding whitespace comment
-  repeat_min_plain = seq 324 325 (seq 326 327 (seq 328 329 (calls s rule.opening_brace 78 79 at_opening_brace_plain refl refl refl refl refl) (gap s 208 209 at_skipping refl refl) (calls s rule.number 140 141 at_number_atomic refl refl refl refl refl)) (gap s 208 209 at_skipping refl refl) (calls s rule.comma 144 145 at_comma_plain refl refl refl refl refl)) (gap s 208 209 at_skipping refl refl) (calls s rule.closing_brace 80 81 at_closing_brace_plain refl refl refl refl refl)
+  repeat_min_plain = seq 322 323 (seq 324 325 (seq 326 327 (calls s rule.opening_brace 77 78 at_opening_brace_plain refl refl refl refl refl) (gap s 207 208 at_skipping refl refl) (calls s rule.number 139 140 at_number_atomic refl refl refl refl refl)) (gap s 207 208 at_skipping refl refl) (calls s rule.comma 143 144 at_comma_plain refl refl refl refl refl)) (gap s 207 208 at_skipping refl refl) (calls s rule.closing_brace 79 80 at_closing_brace_plain refl refl refl refl refl)
 
-  repeat_max_plain : Laid s (Run NonAtomicMode (body_of rule.repeat_max)) 136 137 0
+  repeat_max_plain : Laid s (Run NonAtomicMode (body_of rule.repeat_max)) 135 136 0
   unfolding whitespace comment
-  repeat_max_plain = seq 330 331 (seq 332 333 (seq 334 335 (calls s rule.opening_brace 78 79 at_opening_brace_plain refl refl refl refl refl) (gap s 208 209 at_skipping refl refl) (calls s rule.comma 144 145 at_comma_plain refl refl refl refl refl)) (gap s 208 209 at_skipping refl refl) (calls s rule.number 140 141 at_number_atomic refl refl refl refl refl)) (gap s 208 209 at_skipping refl refl) (calls s rule.closing_brace 80 81 at_closing_brace_plain refl refl refl refl refl)
+  repeat_max_plain = seq 328 329 (seq 330 331 (seq 332 333 (calls s rule.opening_brace 77 78 at_opening_brace_plain refl refl refl refl refl) (gap s 207 208 at_skipping refl refl) (calls s rule.comma 143 144 at_comma_plain refl refl refl refl refl)) (gap s 207 208 at_skipping refl refl) (calls s rule.number 139 140 at_number_atomic refl refl refl refl refl)) (gap s 207 208 at_skipping refl refl) (calls s rule.closing_brace 79 80 at_closing_brace_plain refl refl refl refl refl)
 
-  repeat_min_max_plain : Laid s (Run NonAtomicMode (body_of rule.repeat_min_max)) 138 139 0
+  repeat_min_max_plain : Laid s (Run NonAtomicMode (body_of rule.repeat_min_max)) 137 138 0
   unfolding whitespace comment
-  repeat_min_max_plain = seq 336 337 (seq 338 339 (seq 340 341 (seq 342 343 (calls s rule.opening_brace 78 79 at_opening_brace_plain refl refl refl refl refl) (gap s 208 209 at_skipping refl refl) (calls s rule.number 140 141 at_number_atomic refl refl refl refl refl)) (gap s 208 209 at_skipping refl refl) (calls s rule.comma 144 145 at_comma_plain refl refl refl refl refl)) (gap s 208 209 at_skipping refl refl) (calls s rule.number 140 141 at_number_atomic refl refl refl refl refl)) (gap s 208 209 at_skipping refl refl) (calls s rule.closing_brace 80 81 at_closing_brace_plain refl refl refl refl refl)
+  repeat_min_max_plain = seq 334 335 (seq 336 337 (seq 338 339 (seq 340 341 (calls s rule.opening_brace 77 78 at_opening_brace_plain refl refl refl refl refl) (gap s 207 208 at_skipping refl refl) (calls s rule.number 139 140 at_number_atomic refl refl refl refl refl)) (gap s 207 208 at_skipping refl refl) (calls s rule.comma 143 144 at_comma_plain refl refl refl refl refl)) (gap s 207 208 at_skipping refl refl) (calls s rule.number 139 140 at_number_atomic refl refl refl refl refl)) (gap s 207 208 at_skipping refl refl) (calls s rule.closing_brace 79 80 at_closing_brace_plain refl refl refl refl refl)
 
-  number_atomic : Laid s (Run AtomicMode (body_of rule.number)) 140 141 0
+  number_atomic : Laid s (Run AtomicMode (body_of rule.number)) 139 140 0
   unfolding whitespace comment
-  number_atomic = rep_once (seq 344 344 (one_of s 2 (one_range s.classes 48 57) refl refl refl) (atomic s) (all_of s 2 (one_range s.classes 48 57) (tight_atomic s) refl refl refl))
+  number_atomic = rep_once (seq 342 342 (one_of s 2 (one_range s.classes 48 57) refl refl refl) (atomic s) (all_of s 2 (one_range s.classes 48 57) (tight_atomic s) refl refl refl))
 
-  integer_atomic : Laid s (Run AtomicMode (body_of rule.integer)) 142 143 0
+  integer_atomic : Laid s (Run AtomicMode (body_of rule.integer)) 141 142 0
   unfolding whitespace comment
-  integer_atomic = either s 345 142 345 refl (at_once s) (enters s rule.number 346 347 at_number_atomic_apart refl refl refl refl refl) (at_once s) (seq 348 348 (seq 349 349 (seq 350 350 (word s 18 refl refl refl) (atomic s) (all_of s 3 (one_text s.classes 48) (tight_atomic s) refl refl refl)) (atomic s) (one_of s 4 (one_range s.classes 49 57) refl refl refl)) (atomic s) (maybe s 348 refl (at_once s) (enters s rule.number 346 347 at_number_atomic_apart refl refl refl refl refl)))
+  integer_atomic = either s 343 141 343 refl (at_once s) (enters s rule.number 344 345 at_number_atomic_apart refl refl refl refl refl) (at_once s) (seq 346 346 (seq 347 347 (seq 348 348 (word s 18 refl refl refl) (atomic s) (all_of s 3 (one_text s.classes 48) (tight_atomic s) refl refl refl)) (atomic s) (one_of s 4 (one_range s.classes 49 57) refl refl refl)) (atomic s) (maybe s 346 refl (at_once s) (enters s rule.number 344 345 at_number_atomic_apart refl refl refl refl refl)))
 
-  comma_plain : Laid s (Run NonAtomicMode (body_of rule.comma)) 144 145 0
+  comma_plain : Laid s (Run NonAtomicMode (body_of rule.comma)) 143 144 0
   unfolding whitespace comment
   comma_plain = word s 19 refl refl refl
 
-  push__plain : Laid s (Run NonAtomicMode (body_of rule._push)) 146 147 0
+  push__plain : Laid s (Run NonAtomicMode (body_of rule._push)) 145 146 0
   unfolding whitespace comment
-  push__plain = seq 351 352 (seq 353 354 (seq 355 356 (word s 20 refl refl refl) (gap s 208 209 at_skipping refl refl) (calls s rule.opening_paren 82 83 at_opening_paren_plain refl refl refl refl refl)) (gap s 208 209 at_skipping refl refl) (calls s rule.expression 104 105 at_expression_plain refl refl refl refl refl)) (gap s 208 209 at_skipping refl refl) (calls s rule.closing_paren 84 85 at_closing_paren_plain refl refl refl refl refl)
+  push__plain = seq 349 350 (seq 351 352 (seq 353 354 (word s 20 refl refl refl) (gap s 207 208 at_skipping refl refl) (calls s rule.opening_paren 81 82 at_opening_paren_plain refl refl refl refl refl)) (gap s 207 208 at_skipping refl refl) (calls s rule.expression 103 104 at_expression_plain refl refl refl refl refl)) (gap s 207 208 at_skipping refl refl) (calls s rule.closing_paren 83 84 at_closing_paren_plain refl refl refl refl refl)
 
-  push_literal__plain : Laid s (Run NonAtomicMode (body_of rule._push_literal)) 148 149 0
+  push_literal__plain : Laid s (Run NonAtomicMode (body_of rule._push_literal)) 147 148 0
   unfolding whitespace comment
-  push_literal__plain = seq 357 358 (seq 359 360 (seq 361 362 (word s 21 refl refl refl) (gap s 208 209 at_skipping refl refl) (calls s rule.opening_paren 82 83 at_opening_paren_plain refl refl refl refl refl)) (gap s 208 209 at_skipping refl refl) (calls s rule.string 158 159 at_string_compound refl refl refl refl refl)) (gap s 208 209 at_skipping refl refl) (calls s rule.closing_paren 84 85 at_closing_paren_plain refl refl refl refl refl)
+  push_literal__plain = seq 355 356 (seq 357 358 (seq 359 360 (word s 21 refl refl refl) (gap s 207 208 at_skipping refl refl) (calls s rule.opening_paren 81 82 at_opening_paren_plain refl refl refl refl refl)) (gap s 207 208 at_skipping refl refl) (calls s rule.string 157 158 at_string_compound refl refl refl refl refl)) (gap s 207 208 at_skipping refl refl) (calls s rule.closing_paren 83 84 at_closing_paren_plain refl refl refl refl refl)
 
-  peek_slice_plain : Laid s (Run NonAtomicMode (body_of rule.peek_slice)) 150 151 0
+  peek_slice_plain : Laid s (Run NonAtomicMode (body_of rule.peek_slice)) 149 150 0
   unfolding whitespace comment
-  peek_slice_plain = seq 363 364 (seq 365 366 (seq 367 368 (seq 369 370 (seq 371 372 (word s 22 refl refl refl) (gap s 208 209 at_skipping refl refl) (calls s rule.opening_brack 86 87 at_opening_brack_plain refl refl refl refl refl)) (gap s 208 209 at_skipping refl refl) (maybe s 370 refl (at_once s) (calls s rule.integer 142 143 at_integer_atomic refl refl refl refl refl))) (gap s 208 209 at_skipping refl refl) (calls s rule.range_operator 182 183 at_range_operator_plain refl refl refl refl refl)) (gap s 208 209 at_skipping refl refl) (maybe s 366 refl (at_once s) (calls s rule.integer 142 143 at_integer_atomic refl refl refl refl refl))) (gap s 208 209 at_skipping refl refl) (calls s rule.closing_brack 88 89 at_closing_brack_plain refl refl refl refl refl)
+  peek_slice_plain = seq 361 362 (seq 363 364 (seq 365 366 (seq 367 368 (seq 369 370 (word s 22 refl refl refl) (gap s 207 208 at_skipping refl refl) (calls s rule.opening_brack 85 86 at_opening_brack_plain refl refl refl refl refl)) (gap s 207 208 at_skipping refl refl) (maybe s 368 refl (at_once s) (calls s rule.integer 141 142 at_integer_atomic refl refl refl refl refl))) (gap s 207 208 at_skipping refl refl) (calls s rule.range_operator 181 182 at_range_operator_plain refl refl refl refl refl)) (gap s 207 208 at_skipping refl refl) (maybe s 364 refl (at_once s) (calls s rule.integer 141 142 at_integer_atomic refl refl refl refl refl))) (gap s 207 208 at_skipping refl refl) (calls s rule.closing_brack 87 88 at_closing_brack_plain refl refl refl refl refl)
 
-  identifier_atomic : Laid s (Run AtomicMode (body_of rule.identifier)) 152 153 0
+  identifier_atomic : Laid s (Run AtomicMode (body_of rule.identifier)) 151 152 0
   unfolding whitespace comment
-  identifier_atomic = seq 373 373 (seq 374 374 (never s 375 376 refl (word s 20 refl refl refl) refl) (atomic s) (one_of s 0 (one_of_two s.classes (one_text s.classes 95) (one_called s.classes rule.alpha refl refl refl (one_of_two s.classes (one_range s.classes 97 122) (one_range s.classes 65 90)))) refl refl refl)) (atomic s) (all_of s 1 (one_of_two s.classes (one_text s.classes 95) (one_called s.classes rule.alpha_num refl refl refl (one_of_two s.classes (one_called s.classes rule.alpha refl refl refl (one_of_two s.classes (one_range s.classes 97 122) (one_range s.classes 65 90))) (one_range s.classes 48 57)))) (tight_atomic s) refl refl refl)
+  identifier_atomic = seq 371 371 (seq 372 372 (never s 373 374 refl (word s 20 refl refl refl) refl) (atomic s) (one_of s 0 (one_of_two s.classes (one_text s.classes 95) (one_called s.classes rule.alpha refl refl refl (one_of_two s.classes (one_range s.classes 97 122) (one_range s.classes 65 90)))) refl refl refl)) (atomic s) (all_of s 1 (one_of_two s.classes (one_text s.classes 95) (one_called s.classes rule.alpha_num refl refl refl (one_of_two s.classes (one_called s.classes rule.alpha refl refl refl (one_of_two s.classes (one_range s.classes 97 122) (one_range s.classes 65 90))) (one_range s.classes 48 57)))) (tight_atomic s) refl refl refl)
 
-  alpha_plain_apart : Laid s (Run NonAtomicMode (body_of rule.alpha)) 154 155 0
+  alpha_plain_apart : Laid s (Run NonAtomicMode (body_of rule.alpha)) 153 154 0
   unfolding whitespace comment
   alpha_plain_apart = one_of s 5 (one_of_two s.classes (one_range s.classes 97 122) (one_range s.classes 65 90)) refl refl refl
 
-  alpha_num_plain_apart : Laid s (Run NonAtomicMode (body_of rule.alpha_num)) 156 157 0
+  alpha_num_plain_apart : Laid s (Run NonAtomicMode (body_of rule.alpha_num)) 155 156 0
   unfolding whitespace comment
   alpha_num_plain_apart = one_of s 6 (one_of_two s.classes (one_called s.classes rule.alpha refl refl refl (one_of_two s.classes (one_range s.classes 97 122) (one_range s.classes 65 90))) (one_range s.classes 48 57)) refl refl refl
 
-  string_compound : Laid s (Run CompoundAtomicMode (body_of rule.string)) 158 159 0
+  string_compound : Laid s (Run CompoundAtomicMode (body_of rule.string)) 157 158 0
   unfolding whitespace comment
-  string_compound = seq 377 377 (seq 378 378 (calls s rule.quote 379 380 at_quote_compound refl refl refl refl refl) (compound s) (calls s rule.inner_str 166 167 at_inner_str_atomic refl refl refl refl refl)) (compound s) (calls s rule.quote 379 380 at_quote_compound refl refl refl refl refl)
+  string_compound = seq 375 375 (seq 376 376 (calls s rule.quote 377 378 at_quote_compound refl refl refl refl refl) (compound s) (calls s rule.inner_str 165 166 at_inner_str_atomic refl refl refl refl refl)) (compound s) (calls s rule.quote 377 378 at_quote_compound refl refl refl refl refl)
 
-  insensitive_string_plain : Laid s (Run NonAtomicMode (body_of rule.insensitive_string)) 160 161 0
+  insensitive_string_plain : Laid s (Run NonAtomicMode (body_of rule.insensitive_string)) 159 160 0
   unfolding whitespace comment
-  insensitive_string_plain = seq 381 382 (word s 23 refl refl refl) (gap s 208 209 at_skipping refl refl) (calls s rule.string 158 159 at_string_compound refl refl refl refl refl)
+  insensitive_string_plain = seq 379 380 (word s 23 refl refl refl) (gap s 207 208 at_skipping refl refl) (calls s rule.string 157 158 at_string_compound refl refl refl refl refl)
 
-  range_plain : Laid s (Run NonAtomicMode (body_of rule.range)) 162 163 0
+  range_plain : Laid s (Run NonAtomicMode (body_of rule.range)) 161 162 0
   unfolding whitespace comment
-  range_plain = seq 383 384 (seq 385 386 (calls s rule.character 164 165 at_character_compound refl refl refl refl refl) (gap s 208 209 at_skipping refl refl) (calls s rule.range_operator 182 183 at_range_operator_plain refl refl refl refl refl)) (gap s 208 209 at_skipping refl refl) (calls s rule.character 164 165 at_character_compound refl refl refl refl refl)
+  range_plain = seq 381 382 (seq 383 384 (calls s rule.character 163 164 at_character_compound refl refl refl refl refl) (gap s 207 208 at_skipping refl refl) (calls s rule.range_operator 181 182 at_range_operator_plain refl refl refl refl refl)) (gap s 207 208 at_skipping refl refl) (calls s rule.character 163 164 at_character_compound refl refl refl refl refl)
 
-  character_compound : Laid s (Run CompoundAtomicMode (body_of rule.character)) 164 165 0
+  character_compound : Laid s (Run CompoundAtomicMode (body_of rule.character)) 163 164 0
   unfolding whitespace comment
-  character_compound = seq 387 387 (seq 388 388 (calls s rule.single_quote 389 390 at_single_quote_compound refl refl refl refl refl) (compound s) (calls s rule.inner_chr 168 169 at_inner_chr_atomic refl refl refl refl refl)) (compound s) (calls s rule.single_quote 389 390 at_single_quote_compound refl refl refl refl refl)
+  character_compound = seq 385 385 (seq 386 386 (calls s rule.single_quote 387 388 at_single_quote_compound refl refl refl refl refl) (compound s) (calls s rule.inner_chr 167 168 at_inner_chr_atomic refl refl refl refl refl)) (compound s) (calls s rule.single_quote 387 388 at_single_quote_compound refl refl refl refl refl)
 
-  inner_str_atomic : Laid s (Run AtomicMode (body_of rule.inner_str)) 166 167 0
+  inner_str_atomic : Laid s (Run AtomicMode (body_of rule.inner_str)) 165 166 0
   unfolding whitespace comment
-  inner_str_atomic = seq 391 391 (all_of s 7 (one_other s.classes ((0, 33) ∷ (35, 91) ∷ (93, 1114111) ∷ []) (tight_atomic s) tt (one_of_two s.classes (one_text s.classes 34) (one_text s.classes 92)) refl refl) (tight_atomic s) refl refl refl) (atomic s) (maybe s 391 refl (at_once s) (tries s 392 394 394 393 refl (enters s rule.escape 395 396 at_escape_atomic_apart refl refl refl refl refl) (atomic s) (enters s rule.inner_str 397 398 at_inner_str_atomic_apart refl refl refl refl refl) refl))
+  inner_str_atomic = seq 389 389 (all_of s 7 (one_other s.classes ((0, 33) ∷ (35, 91) ∷ (93, 1114111) ∷ []) (tight_atomic s) tt (one_of_two s.classes (one_text s.classes 34) (one_text s.classes 92)) refl refl) (tight_atomic s) refl refl refl) (atomic s) (maybe s 389 refl (at_once s) (tries s 390 392 392 391 refl (enters s rule.escape 393 394 at_escape_atomic_apart refl refl refl refl refl) (atomic s) (enters s rule.inner_str 395 396 at_inner_str_atomic_apart refl refl refl refl refl) refl))
 
-  inner_chr_atomic : Laid s (Run AtomicMode (body_of rule.inner_chr)) 168 169 0
+  inner_chr_atomic : Laid s (Run AtomicMode (body_of rule.inner_chr)) 167 168 0
   unfolding whitespace comment
-  inner_chr_atomic = either s 399 168 399 refl (at_once s) (enters s rule.escape 395 396 at_escape_atomic_apart refl refl refl refl refl) (at_once s) (one_of s 8 (one_other s.classes ((0, 38) ∷ (40, 91) ∷ (93, 1114111) ∷ []) (tight_atomic s) tt (one_of_two s.classes (one_text s.classes 39) (one_text s.classes 92)) refl refl) refl refl refl)
+  inner_chr_atomic = either s 397 167 397 refl (at_once s) (enters s rule.escape 393 394 at_escape_atomic_apart refl refl refl refl refl) (at_once s) (one_of s 8 (one_other s.classes ((0, 38) ∷ (40, 91) ∷ (93, 1114111) ∷ []) (tight_atomic s) tt (one_of_two s.classes (one_text s.classes 39) (one_text s.classes 92)) refl refl) refl refl refl)
 
-  escape_atomic : Laid s (Run AtomicMode (body_of rule.escape)) 170 171 0
+  escape_atomic : Laid s (Run AtomicMode (body_of rule.escape)) 169 170 0
   unfolding whitespace comment
-  escape_atomic = seq 400 400 (word s 24 refl refl refl) (atomic s) (either s 401 400 401 refl (at_once s) (either s 402 400 402 refl (at_once s) (one_of s 9 (one_of_two s.classes (one_of_two s.classes (one_of_two s.classes (one_of_two s.classes (one_of_two s.classes (one_of_two s.classes (one_text s.classes 34) (one_text s.classes 92)) (one_text s.classes 114)) (one_text s.classes 110)) (one_text s.classes 116)) (one_text s.classes 48)) (one_text s.classes 39)) refl refl refl) (at_once s) (enters s rule.code 403 404 at_code_atomic_apart refl refl refl refl refl)) (at_once s) (enters s rule.unicode 405 406 at_unicode_atomic_apart refl refl refl refl refl))
+  escape_atomic = seq 398 398 (word s 24 refl refl refl) (atomic s) (either s 399 398 399 refl (at_once s) (either s 400 398 400 refl (at_once s) (one_of s 9 (one_of_two s.classes (one_of_two s.classes (one_of_two s.classes (one_of_two s.classes (one_of_two s.classes (one_of_two s.classes (one_text s.classes 34) (one_text s.classes 92)) (one_text s.classes 114)) (one_text s.classes 110)) (one_text s.classes 116)) (one_text s.classes 48)) (one_text s.classes 39)) refl refl refl) (at_once s) (enters s rule.code 401 402 at_code_atomic_apart refl refl refl refl refl)) (at_once s) (enters s rule.unicode 403 404 at_unicode_atomic_apart refl refl refl refl refl))
 
-  code_atomic : Laid s (Run AtomicMode (body_of rule.code)) 172 173 0
+  code_atomic : Laid s (Run AtomicMode (body_of rule.code)) 171 172 0
   unfolding whitespace comment
-  code_atomic = seq 407 407 (seq 408 408 (word s 25 refl refl refl) (atomic s) (one_of s 10 (one_called s.classes rule.hex_digit refl refl refl (one_of_two s.classes (one_of_two s.classes (one_range s.classes 48 57) (one_range s.classes 97 102)) (one_range s.classes 65 70))) refl refl refl)) (atomic s) (one_of s 10 (one_called s.classes rule.hex_digit refl refl refl (one_of_two s.classes (one_of_two s.classes (one_range s.classes 48 57) (one_range s.classes 97 102)) (one_range s.classes 65 70))) refl refl refl)
+  code_atomic = seq 405 405 (seq 406 406 (word s 25 refl refl refl) (atomic s) (one_of s 10 (one_called s.classes rule.hex_digit refl refl refl (one_of_two s.classes (one_of_two s.classes (one_range s.classes 48 57) (one_range s.classes 97 102)) (one_range s.classes 65 70))) refl refl refl)) (atomic s) (one_of s 10 (one_called s.classes rule.hex_digit refl refl refl (one_of_two s.classes (one_of_two s.classes (one_range s.classes 48 57) (one_range s.classes 97 102)) (one_range s.classes 65 70))) refl refl refl)
 
-  unicode_atomic : Laid s (Run AtomicMode (body_of rule.unicode)) 174 175 0
+  unicode_atomic : Laid s (Run AtomicMode (body_of rule.unicode)) 173 174 0
   unfolding whitespace comment
-  unicode_atomic = seq 409 409 (seq 410 410 (seq 411 411 (word s 26 refl refl refl) (atomic s) (one_of s 11 (one_called s.classes rule.opening_brace refl refl refl (one_text s.classes 123)) refl refl refl)) (atomic s) (rep_min_max (seq 412 412 (one_of s 10 (one_called s.classes rule.hex_digit refl refl refl (one_of_two s.classes (one_of_two s.classes (one_range s.classes 48 57) (one_range s.classes 97 102)) (one_range s.classes 65 70))) refl refl refl) (atomic s) (seq 413 413 (one_of s 10 (one_called s.classes rule.hex_digit refl refl refl (one_of_two s.classes (one_of_two s.classes (one_range s.classes 48 57) (one_range s.classes 97 102)) (one_range s.classes 65 70))) refl refl refl) (atomic s) (seq 414 414 (maybe s 413 refl (at_once s) (one_of s 10 (one_called s.classes rule.hex_digit refl refl refl (one_of_two s.classes (one_of_two s.classes (one_range s.classes 48 57) (one_range s.classes 97 102)) (one_range s.classes 65 70))) refl refl refl)) (atomic s) (seq 415 415 (maybe s 414 refl (at_once s) (one_of s 10 (one_called s.classes rule.hex_digit refl refl refl (one_of_two s.classes (one_of_two s.classes (one_range s.classes 48 57) (one_range s.classes 97 102)) (one_range s.classes 65 70))) refl refl refl)) (atomic s) (seq 416 416 (maybe s 415 refl (at_once s) (one_of s 10 (one_called s.classes rule.hex_digit refl refl refl (one_of_two s.classes (one_of_two s.classes (one_range s.classes 48 57) (one_range s.classes 97 102)) (one_range s.classes 65 70))) refl refl refl)) (atomic s) (maybe s 416 refl (at_once s) (one_of s 10 (one_called s.classes rule.hex_digit refl refl refl (one_of_two s.classes (one_of_two s.classes (one_range s.classes 48 57) (one_range s.classes 97 102)) (one_range s.classes 65 70))) refl refl refl))))))))) (atomic s) (one_of s 12 (one_called s.classes rule.closing_brace refl refl refl (one_text s.classes 125)) refl refl refl)
+  unicode_atomic = seq 407 407 (seq 408 408 (seq 409 409 (word s 26 refl refl refl) (atomic s) (one_of s 11 (one_called s.classes rule.opening_brace refl refl refl (one_text s.classes 123)) refl refl refl)) (atomic s) (rep_min_max (seq 410 410 (one_of s 10 (one_called s.classes rule.hex_digit refl refl refl (one_of_two s.classes (one_of_two s.classes (one_range s.classes 48 57) (one_range s.classes 97 102)) (one_range s.classes 65 70))) refl refl refl) (atomic s) (seq 411 411 (one_of s 10 (one_called s.classes rule.hex_digit refl refl refl (one_of_two s.classes (one_of_two s.classes (one_range s.classes 48 57) (one_range s.classes 97 102)) (one_range s.classes 65 70))) refl refl refl) (atomic s) (seq 412 412 (maybe s 411 refl (at_once s) (one_of s 10 (one_called s.classes rule.hex_digit refl refl refl (one_of_two s.classes (one_of_two s.classes (one_range s.classes 48 57) (one_range s.classes 97 102)) (one_range s.classes 65 70))) refl refl refl)) (atomic s) (seq 413 413 (maybe s 412 refl (at_once s) (one_of s 10 (one_called s.classes rule.hex_digit refl refl refl (one_of_two s.classes (one_of_two s.classes (one_range s.classes 48 57) (one_range s.classes 97 102)) (one_range s.classes 65 70))) refl refl refl)) (atomic s) (seq 414 414 (maybe s 413 refl (at_once s) (one_of s 10 (one_called s.classes rule.hex_digit refl refl refl (one_of_two s.classes (one_of_two s.classes (one_range s.classes 48 57) (one_range s.classes 97 102)) (one_range s.classes 65 70))) refl refl refl)) (atomic s) (maybe s 414 refl (at_once s) (one_of s 10 (one_called s.classes rule.hex_digit refl refl refl (one_of_two s.classes (one_of_two s.classes (one_range s.classes 48 57) (one_range s.classes 97 102)) (one_range s.classes 65 70))) refl refl refl))))))))) (atomic s) (one_of s 12 (one_called s.classes rule.closing_brace refl refl refl (one_text s.classes 125)) refl refl refl)
 
-  hex_digit_atomic : Laid s (Run AtomicMode (body_of rule.hex_digit)) 176 177 0
+  hex_digit_atomic : Laid s (Run AtomicMode (body_of rule.hex_digit)) 175 176 0
   unfolding whitespace comment
   hex_digit_atomic = one_of s 10 (one_of_two s.classes (one_of_two s.classes (one_range s.classes 48 57) (one_range s.classes 97 102)) (one_range s.classes 65 70)) refl refl refl
 
-  quote_plain : Laid s (Run NonAtomicMode (body_of rule.quote)) 178 179 0
+  quote_plain : Laid s (Run NonAtomicMode (body_of rule.quote)) 177 178 0
   unfolding whitespace comment
   quote_plain = word s 27 refl refl refl
 
-  single_quote_plain : Laid s (Run NonAtomicMode (body_of rule.single_quote)) 180 181 0
+  single_quote_plain : Laid s (Run NonAtomicMode (body_of rule.single_quote)) 179 180 0
   unfolding whitespace comment
   single_quote_plain = word s 28 refl refl refl
 
-  range_operator_plain : Laid s (Run NonAtomicMode (body_of rule.range_operator)) 182 183 0
+  range_operator_plain : Laid s (Run NonAtomicMode (body_of rule.range_operator)) 181 182 0
   unfolding whitespace comment
   range_operator_plain = word s 29 refl refl refl
 
-  newline_plain_apart : Laid s (Run NonAtomicMode (body_of rule.newline)) 184 185 0
+  newline_plain_apart : Laid s (Run NonAtomicMode (body_of rule.newline)) 183 184 0
   unfolding whitespace comment
-  newline_plain_apart = either s 417 184 417 refl (at_once s) (word s 30 refl refl refl) (at_once s) (word s 31 refl refl refl)
+  newline_plain_apart = either s 415 183 415 refl (at_once s) (word s 30 refl refl refl) (at_once s) (word s 31 refl refl refl)
 
-  WHITESPACE_atomic_apart : Laid s (Run AtomicMode (body_of rule.WHITESPACE)) 186 187 0
+  WHITESPACE_atomic_apart : Laid s (Run AtomicMode (body_of rule.WHITESPACE)) 185 186 0
   unfolding whitespace comment
-  WHITESPACE_atomic_apart = either s 418 186 418 refl (at_once s) (one_of s 13 (one_of_two s.classes (one_text s.classes 32) (one_text s.classes 9)) refl refl refl) (at_once s) (within s rule.newline refl refl refl (either s 419 418 419 refl (at_once s) (word s 30 refl refl refl) (at_once s) (word s 31 refl refl refl)))
+  WHITESPACE_atomic_apart = either s 416 185 416 refl (at_once s) (one_of s 13 (one_of_two s.classes (one_text s.classes 32) (one_text s.classes 9)) refl refl refl) (at_once s) (within s rule.newline refl refl refl (either s 417 416 417 refl (at_once s) (word s 30 refl refl refl) (at_once s) (word s 31 refl refl refl)))
 
-  line_comment_plain_apart : Laid s (Run NonAtomicMode (body_of rule.line_comment)) 188 189 0
+  line_comment_plain_apart : Laid s (Run NonAtomicMode (body_of rule.line_comment)) 187 188 0
   unfolding whitespace comment
-  line_comment_plain_apart = seq 420 421 (seq 422 423 (word s 32 refl refl refl) (gap s 208 209 at_skipping refl refl) (never s 424 425 refl (one_of s 14 (one_of_two s.classes (one_text s.classes 47) (one_text s.classes 33)) refl refl refl) refl)) (gap s 208 209 at_skipping refl refl) (turns s 421 426 427 428 429 refl (at_once s) refl refl (gap s 208 209 at_skipping refl refl) (seq 430 431 (never s 432 433 refl (within s rule.newline refl refl refl (either s 434 432 434 refl (at_once s) (word s 30 refl refl refl) (at_once s) (word s 31 refl refl refl))) refl) (gap s 208 209 at_skipping refl refl) (one_of s 15 (one_any s.classes tt) refl refl refl)) refl)
+  line_comment_plain_apart = seq 418 419 (seq 420 421 (word s 32 refl refl refl) (gap s 207 208 at_skipping refl refl) (never s 422 423 refl (one_of s 14 (one_of_two s.classes (one_text s.classes 47) (one_text s.classes 33)) refl refl refl) refl)) (gap s 207 208 at_skipping refl refl) (turns s 419 424 425 426 427 refl (at_once s) refl refl (gap s 207 208 at_skipping refl refl) (seq 428 429 (never s 430 431 refl (within s rule.newline refl refl refl (either s 432 430 432 refl (at_once s) (word s 30 refl refl refl) (at_once s) (word s 31 refl refl refl))) refl) (gap s 207 208 at_skipping refl refl) (one_of s 15 (one_any s.classes tt) refl refl refl)) refl)
 
-  block_comment_plain_apart : Laid s (Run NonAtomicMode (body_of rule.block_comment)) 190 191 0
+  block_comment_plain_apart : Laid s (Run NonAtomicMode (body_of rule.block_comment)) 189 190 0
   unfolding whitespace comment
-  block_comment_plain_apart = seq 435 436 (seq 437 438 (word s 33 refl refl refl) (gap s 208 209 at_skipping refl refl) (turns s 438 439 440 441 442 refl (at_once s) refl refl (gap s 208 209 at_skipping refl refl) (either s 443 441 443 refl (at_once s) (enters s rule.block_comment 190 191 at_block_comment_plain_apart refl refl refl refl refl) (at_once s) (seq 444 445 (never s 446 447 refl (word s 34 refl refl refl) refl) (gap s 208 209 at_skipping refl refl) (one_of s 15 (one_any s.classes tt) refl refl refl))) refl)) (gap s 208 209 at_skipping refl refl) (word s 34 refl refl refl)
+  block_comment_plain_apart = seq 433 434 (seq 435 436 (word s 33 refl refl refl) (gap s 207 208 at_skipping refl refl) (turns s 436 437 438 439 440 refl (at_once s) refl refl (gap s 207 208 at_skipping refl refl) (either s 441 439 441 refl (at_once s) (enters s rule.block_comment 189 190 at_block_comment_plain_apart refl refl refl refl refl) (at_once s) (seq 442 443 (never s 444 445 refl (word s 34 refl refl refl) refl) (gap s 207 208 at_skipping refl refl) (one_of s 15 (one_any s.classes tt) refl refl refl))) refl)) (gap s 207 208 at_skipping refl refl) (word s 34 refl refl refl)
 
-  COMMENT_atomic_apart : Laid s (Run AtomicMode (body_of rule.COMMENT)) 192 193 0
+  COMMENT_atomic_apart : Laid s (Run AtomicMode (body_of rule.COMMENT)) 191 192 0
   unfolding whitespace comment
-  COMMENT_atomic_apart = either s 448 192 448 refl (at_once s) (comments s 33 34 refl refl refl) (at_once s) (within s rule.line_comment refl refl refl (seq 449 449 (seq 450 450 (word s 32 refl refl refl) (atomic s) (never s 451 452 refl (one_of s 14 (one_of_two s.classes (one_text s.classes 47) (one_text s.classes 33)) refl refl refl) refl)) (atomic s) (many s 453 (op.All 16 453) refl (λ c z. z) (tight_atomic s) refl (behind_all s 16 (takes_other s.classes ((0, 9) ∷ (11, 12) ∷ (14, 1114111) ∷ []) ((10, 10) ∷ (13, 13) ∷ []) (tight_atomic s) tt (outside_sub s.classes ((10, 10) ∷ (13, 13) ∷ []) rule.newline refl refl refl (outside_choice s.classes ((10, 10) ∷ []) ((13, 13) ∷ []) false false (outside_set s.classes (one_text s.classes 10)) (outside_text s.classes))) refl) refl refl refl) (tries s 454 456 456 455 refl (never s 457 458 refl (within s rule.newline refl refl refl (either s 459 457 459 refl (at_once s) (word s 30 refl refl refl) (at_once s) (word s 31 refl refl refl))) refl) (atomic s) (one_of s 15 (one_any s.classes tt) refl refl refl) refl))))
+  COMMENT_atomic_apart = either s 446 191 446 refl (at_once s) (comments s 33 34 refl refl refl) (at_once s) (within s rule.line_comment refl refl refl (seq 447 447 (seq 448 448 (word s 32 refl refl refl) (atomic s) (never s 449 450 refl (one_of s 14 (one_of_two s.classes (one_text s.classes 47) (one_text s.classes 33)) refl refl refl) refl)) (atomic s) (many s 451 (op.All 16 451) refl (λ c z. z) (tight_atomic s) refl (behind_all s 16 (takes_other s.classes ((0, 9) ∷ (11, 12) ∷ (14, 1114111) ∷ []) ((10, 10) ∷ (13, 13) ∷ []) (tight_atomic s) tt (outside_sub s.classes ((10, 10) ∷ (13, 13) ∷ []) rule.newline refl refl refl (outside_choice s.classes ((10, 10) ∷ []) ((13, 13) ∷ []) false false (outside_set s.classes (one_text s.classes 10)) (outside_text s.classes))) refl) refl refl refl) (tries s 452 454 454 453 refl (never s 455 456 refl (within s rule.newline refl refl refl (either s 457 455 457 refl (at_once s) (word s 30 refl refl refl) (at_once s) (word s 31 refl refl refl))) refl) (atomic s) (one_of s 15 (one_any s.classes tt) refl refl refl) refl))))
 
-  space_plain_apart : Laid s (Run NonAtomicMode (body_of rule.space)) 194 195 0
+  space_plain_apart : Laid s (Run NonAtomicMode (body_of rule.space)) 193 194 0
   unfolding whitespace comment
   space_plain_apart = one_of s 13 (one_of_two s.classes (one_text s.classes 32) (one_text s.classes 9)) refl refl refl
 
-  grammar_doc_compound : Laid s (Run CompoundAtomicMode (body_of rule.grammar_doc)) 196 197 0
+  grammar_doc_compound : Laid s (Run CompoundAtomicMode (body_of rule.grammar_doc)) 195 196 0
   unfolding whitespace comment
-  grammar_doc_compound = seq 460 460 (seq 461 461 (word s 35 refl refl refl) (compound s) (maybe s 461 refl (at_once s) (one_of s 13 (one_called s.classes rule.space refl refl refl (one_of_two s.classes (one_text s.classes 32) (one_text s.classes 9))) refl refl refl))) (compound s) (calls s rule.inner_doc 200 201 at_inner_doc_atomic refl refl refl refl refl)
+  grammar_doc_compound = seq 458 458 (seq 459 459 (word s 35 refl refl refl) (compound s) (maybe s 459 refl (at_once s) (one_of s 13 (one_called s.classes rule.space refl refl refl (one_of_two s.classes (one_text s.classes 32) (one_text s.classes 9))) refl refl refl))) (compound s) (calls s rule.inner_doc 199 200 at_inner_doc_atomic refl refl refl refl refl)
 
-  line_doc_compound : Laid s (Run CompoundAtomicMode (body_of rule.line_doc)) 198 199 0
+  line_doc_compound : Laid s (Run CompoundAtomicMode (body_of rule.line_doc)) 197 198 0
   unfolding whitespace comment
-  line_doc_compound = seq 462 462 (seq 463 463 (word s 36 refl refl refl) (compound s) (maybe s 463 refl (at_once s) (one_of s 13 (one_called s.classes rule.space refl refl refl (one_of_two s.classes (one_text s.classes 32) (one_text s.classes 9))) refl refl refl))) (compound s) (calls s rule.inner_doc 200 201 at_inner_doc_atomic refl refl refl refl refl)
+  line_doc_compound = seq 460 460 (seq 461 461 (word s 36 refl refl refl) (compound s) (maybe s 461 refl (at_once s) (one_of s 13 (one_called s.classes rule.space refl refl refl (one_of_two s.classes (one_text s.classes 32) (one_text s.classes 9))) refl refl refl))) (compound s) (calls s rule.inner_doc 199 200 at_inner_doc_atomic refl refl refl refl refl)
 
-  inner_doc_atomic : Laid s (Run AtomicMode (body_of rule.inner_doc)) 200 201 0
+  inner_doc_atomic : Laid s (Run AtomicMode (body_of rule.inner_doc)) 199 200 0
   unfolding whitespace comment
-  inner_doc_atomic = many s 464 (op.All 16 464) refl (λ c z. z) (tight_atomic s) refl (behind_all s 16 (takes_other s.classes ((0, 9) ∷ (11, 12) ∷ (14, 1114111) ∷ []) ((10, 10) ∷ (13, 13) ∷ []) (tight_atomic s) tt (outside_sub s.classes ((10, 10) ∷ (13, 13) ∷ []) rule.newline refl refl refl (outside_choice s.classes ((10, 10) ∷ []) ((13, 13) ∷ []) false false (outside_set s.classes (one_text s.classes 10)) (outside_text s.classes))) refl) refl refl refl) (tries s 465 467 467 466 refl (never s 468 469 refl (within s rule.newline refl refl refl (either s 470 468 470 refl (at_once s) (word s 30 refl refl refl) (at_once s) (word s 31 refl refl refl))) refl) (atomic s) (one_of s 15 (one_any s.classes tt) refl refl refl) refl)
+  inner_doc_atomic = many s 462 (op.All 16 462) refl (λ c z. z) (tight_atomic s) refl (behind_all s 16 (takes_other s.classes ((0, 9) ∷ (11, 12) ∷ (14, 1114111) ∷ []) ((10, 10) ∷ (13, 13) ∷ []) (tight_atomic s) tt (outside_sub s.classes ((10, 10) ∷ (13, 13) ∷ []) rule.newline refl refl refl (outside_choice s.classes ((10, 10) ∷ []) ((13, 13) ∷ []) false false (outside_set s.classes (one_text s.classes 10)) (outside_text s.classes))) refl) refl refl refl) (tries s 463 465 465 464 refl (never s 466 467 refl (within s rule.newline refl refl refl (either s 468 466 468 refl (at_once s) (word s 30 refl refl refl) (at_once s) (word s 31 refl refl refl))) refl) (atomic s) (one_of s 15 (one_any s.classes tt) refl refl refl) refl)
 
-  skipping : Laid s (Run Between skipped) 208 209 0
+  skipping : Laid s (Run Between skipped) 207 208 0
   unfolding whitespace comment
-  skipping = seq 471 471 (many s 472 (op.IsOne 17 472 471) refl (λ c z. z) (tight_between s) refl (inl (tested s 17 (outside_sub s.classes ((32, 32) ∷ (9, 9) ∷ (10, 10) ∷ (13, 13) ∷ []) rule.WHITESPACE refl refl refl (outside_choice s.classes ((32, 32) ∷ (9, 9) ∷ []) ((10, 10) ∷ (13, 13) ∷ []) false false (outside_set s.classes (one_of_two s.classes (one_text s.classes 32) (one_text s.classes 9))) (outside_sub s.classes ((10, 10) ∷ (13, 13) ∷ []) rule.newline refl refl refl (outside_choice s.classes ((10, 10) ∷ []) ((13, 13) ∷ []) false false (outside_set s.classes (one_text s.classes 10)) (outside_text s.classes))))) refl refl refl)) (within s rule.WHITESPACE refl refl refl (either s 473 472 473 refl (at_once s) (one_of s 13 (one_of_two s.classes (one_text s.classes 32) (one_text s.classes 9)) refl refl refl) (at_once s) (within s rule.newline refl refl refl (either s 474 473 474 refl (at_once s) (word s 30 refl refl refl) (at_once s) (word s 31 refl refl refl)))))) (between s) (many s 475 (op.IsOne 18 475 209) refl (λ c z. z) (tight_between s) refl (inl (tested s 18 (outside_seq s.classes ((47, 47) ∷ (47, 47) ∷ []) false (outside_sub s.classes ((47, 47) ∷ (47, 47) ∷ []) rule.COMMENT refl refl refl (outside_choice s.classes ((47, 47) ∷ []) ((47, 47) ∷ []) false false (outside_sub s.classes ((47, 47) ∷ []) rule.block_comment refl refl refl (outside_seq s.classes ((47, 47) ∷ []) false (outside_seq s.classes ((47, 47) ∷ []) false (outside_text s.classes)))) (outside_sub s.classes ((47, 47) ∷ []) rule.line_comment refl refl refl (outside_seq s.classes ((47, 47) ∷ []) false (outside_seq s.classes ((47, 47) ∷ []) false (outside_text s.classes))))))) refl refl refl)) (tries s 476 478 478 477 refl (enters s rule.COMMENT 192 193 at_COMMENT_atomic_apart refl refl refl refl refl) (between s) (many s 479 (op.IsOne 17 479 477) refl (λ c z. z) (tight_between s) refl (inl (tested s 17 (outside_sub s.classes ((32, 32) ∷ (9, 9) ∷ (10, 10) ∷ (13, 13) ∷ []) rule.WHITESPACE refl refl refl (outside_choice s.classes ((32, 32) ∷ (9, 9) ∷ []) ((10, 10) ∷ (13, 13) ∷ []) false false (outside_set s.classes (one_of_two s.classes (one_text s.classes 32) (one_text s.classes 9))) (outside_sub s.classes ((10, 10) ∷ (13, 13) ∷ []) rule.newline refl refl refl (outside_choice s.classes ((10, 10) ∷ []) ((13, 13) ∷ []) false false (outside_set s.classes (one_text s.classes 10)) (outside_text s.classes))))) refl refl refl)) (within s rule.WHITESPACE refl refl refl (either s 480 479 480 refl (at_once s) (one_of s 13 (one_of_two s.classes (one_text s.classes 32) (one_text s.classes 9)) refl refl refl) (at_once s) (within s rule.newline refl refl refl (either s 481 480 481 refl (at_once s) (word s 30 refl refl refl) (at_once s) (word s 31 refl refl refl)))))) refl))
+  skipping = seq 469 469 (many s 470 (op.IsOne 17 470 469) refl (λ c z. z) (tight_between s) refl (inl (tested s 17 (outside_sub s.classes ((32, 32) ∷ (9, 9) ∷ (10, 10) ∷ (13, 13) ∷ []) rule.WHITESPACE refl refl refl (outside_choice s.classes ((32, 32) ∷ (9, 9) ∷ []) ((10, 10) ∷ (13, 13) ∷ []) false false (outside_set s.classes (one_of_two s.classes (one_text s.classes 32) (one_text s.classes 9))) (outside_sub s.classes ((10, 10) ∷ (13, 13) ∷ []) rule.newline refl refl refl (outside_choice s.classes ((10, 10) ∷ []) ((13, 13) ∷ []) false false (outside_set s.classes (one_text s.classes 10)) (outside_text s.classes))))) refl refl refl)) (within s rule.WHITESPACE refl refl refl (either s 471 470 471 refl (at_once s) (one_of s 13 (one_of_two s.classes (one_text s.classes 32) (one_text s.classes 9)) refl refl refl) (at_once s) (within s rule.newline refl refl refl (either s 472 471 472 refl (at_once s) (word s 30 refl refl refl) (at_once s) (word s 31 refl refl refl)))))) (between s) (many s 473 (op.IsOne 18 473 208) refl (λ c z. z) (tight_between s) refl (inl (tested s 18 (outside_seq s.classes ((47, 47) ∷ (47, 47) ∷ []) false (outside_sub s.classes ((47, 47) ∷ (47, 47) ∷ []) rule.COMMENT refl refl refl (outside_choice s.classes ((47, 47) ∷ []) ((47, 47) ∷ []) false false (outside_sub s.classes ((47, 47) ∷ []) rule.block_comment refl refl refl (outside_seq s.classes ((47, 47) ∷ []) false (outside_seq s.classes ((47, 47) ∷ []) false (outside_text s.classes)))) (outside_sub s.classes ((47, 47) ∷ []) rule.line_comment refl refl refl (outside_seq s.classes ((47, 47) ∷ []) false (outside_seq s.classes ((47, 47) ∷ []) false (outside_text s.classes))))))) refl refl refl)) (tries s 474 476 476 475 refl (enters s rule.COMMENT 191 192 at_COMMENT_atomic_apart refl refl refl refl refl) (between s) (many s 477 (op.IsOne 17 477 475) refl (λ c z. z) (tight_between s) refl (inl (tested s 17 (outside_sub s.classes ((32, 32) ∷ (9, 9) ∷ (10, 10) ∷ (13, 13) ∷ []) rule.WHITESPACE refl refl refl (outside_choice s.classes ((32, 32) ∷ (9, 9) ∷ []) ((10, 10) ∷ (13, 13) ∷ []) false false (outside_set s.classes (one_of_two s.classes (one_text s.classes 32) (one_text s.classes 9))) (outside_sub s.classes ((10, 10) ∷ (13, 13) ∷ []) rule.newline refl refl refl (outside_choice s.classes ((10, 10) ∷ []) ((13, 13) ∷ []) false false (outside_set s.classes (one_text s.classes 10)) (outside_text s.classes))))) refl refl refl)) (within s rule.WHITESPACE refl refl refl (either s 478 477 478 refl (at_once s) (one_of s 13 (one_of_two s.classes (one_text s.classes 32) (one_text s.classes 9)) refl refl refl) (at_once s) (within s rule.newline refl refl refl (either s 479 478 479 refl (at_once s) (word s 30 refl refl refl) (at_once s) (word s 31 refl refl refl)))))) refl))
 
-  number_atomic_apart : Laid s (Run AtomicMode (body_of rule.number)) 346 347 0
+  number_atomic_apart : Laid s (Run AtomicMode (body_of rule.number)) 344 345 0
   unfolding whitespace comment
-  number_atomic_apart = rep_once (seq 482 482 (one_of s 2 (one_range s.classes 48 57) refl refl refl) (atomic s) (all_of s 2 (one_range s.classes 48 57) (tight_atomic s) refl refl refl))
+  number_atomic_apart = rep_once (seq 480 480 (one_of s 2 (one_range s.classes 48 57) refl refl refl) (atomic s) (all_of s 2 (one_range s.classes 48 57) (tight_atomic s) refl refl refl))
 
-  quote_compound : Laid s (Run CompoundAtomicMode (body_of rule.quote)) 379 380 0
+  quote_compound : Laid s (Run CompoundAtomicMode (body_of rule.quote)) 377 378 0
   unfolding whitespace comment
   quote_compound = word s 27 refl refl refl
 
-  single_quote_compound : Laid s (Run CompoundAtomicMode (body_of rule.single_quote)) 389 390 0
+  single_quote_compound : Laid s (Run CompoundAtomicMode (body_of rule.single_quote)) 387 388 0
   unfolding whitespace comment
   single_quote_compound = word s 28 refl refl refl
 
-  escape_atomic_apart : Laid s (Run AtomicMode (body_of rule.escape)) 395 396 0
+  escape_atomic_apart : Laid s (Run AtomicMode (body_of rule.escape)) 393 394 0
   unfolding whitespace comment
-  escape_atomic_apart = seq 483 483 (word s 24 refl refl refl) (atomic s) (either s 484 483 484 refl (at_once s) (either s 485 483 485 refl (at_once s) (one_of s 9 (one_of_two s.classes (one_of_two s.classes (one_of_two s.classes (one_of_two s.classes (one_of_two s.classes (one_of_two s.classes (one_text s.classes 34) (one_text s.classes 92)) (one_text s.classes 114)) (one_text s.classes 110)) (one_text s.classes 116)) (one_text s.classes 48)) (one_text s.classes 39)) refl refl refl) (at_once s) (enters s rule.code 403 404 at_code_atomic_apart refl refl refl refl refl)) (at_once s) (enters s rule.unicode 405 406 at_unicode_atomic_apart refl refl refl refl refl))
+  escape_atomic_apart = seq 481 481 (word s 24 refl refl refl) (atomic s) (either s 482 481 482 refl (at_once s) (either s 483 481 483 refl (at_once s) (one_of s 9 (one_of_two s.classes (one_of_two s.classes (one_of_two s.classes (one_of_two s.classes (one_of_two s.classes (one_of_two s.classes (one_text s.classes 34) (one_text s.classes 92)) (one_text s.classes 114)) (one_text s.classes 110)) (one_text s.classes 116)) (one_text s.classes 48)) (one_text s.classes 39)) refl refl refl) (at_once s) (enters s rule.code 401 402 at_code_atomic_apart refl refl refl refl refl)) (at_once s) (enters s rule.unicode 403 404 at_unicode_atomic_apart refl refl refl refl refl))
 
-  inner_str_atomic_apart : Laid s (Run AtomicMode (body_of rule.inner_str)) 397 398 0
+  inner_str_atomic_apart : Laid s (Run AtomicMode (body_of rule.inner_str)) 395 396 0
   unfolding whitespace comment
-  inner_str_atomic_apart = seq 486 486 (all_of s 7 (one_other s.classes ((0, 33) ∷ (35, 91) ∷ (93, 1114111) ∷ []) (tight_atomic s) tt (one_of_two s.classes (one_text s.classes 34) (one_text s.classes 92)) refl refl) (tight_atomic s) refl refl refl) (atomic s) (maybe s 486 refl (at_once s) (tries s 487 489 489 488 refl (enters s rule.escape 395 396 at_escape_atomic_apart refl refl refl refl refl) (atomic s) (enters s rule.inner_str 397 398 at_inner_str_atomic_apart refl refl refl refl refl) refl))
+  inner_str_atomic_apart = seq 484 484 (all_of s 7 (one_other s.classes ((0, 33) ∷ (35, 91) ∷ (93, 1114111) ∷ []) (tight_atomic s) tt (one_of_two s.classes (one_text s.classes 34) (one_text s.classes 92)) refl refl) (tight_atomic s) refl refl refl) (atomic s) (maybe s 484 refl (at_once s) (tries s 485 487 487 486 refl (enters s rule.escape 393 394 at_escape_atomic_apart refl refl refl refl refl) (atomic s) (enters s rule.inner_str 395 396 at_inner_str_atomic_apart refl refl refl refl refl) refl))
 
-  code_atomic_apart : Laid s (Run AtomicMode (body_of rule.code)) 403 404 0
+  code_atomic_apart : Laid s (Run AtomicMode (body_of rule.code)) 401 402 0
   unfolding whitespace comment
-  code_atomic_apart = seq 490 490 (seq 491 491 (word s 25 refl refl refl) (atomic s) (one_of s 10 (one_called s.classes rule.hex_digit refl refl refl (one_of_two s.classes (one_of_two s.classes (one_range s.classes 48 57) (one_range s.classes 97 102)) (one_range s.classes 65 70))) refl refl refl)) (atomic s) (one_of s 10 (one_called s.classes rule.hex_digit refl refl refl (one_of_two s.classes (one_of_two s.classes (one_range s.classes 48 57) (one_range s.classes 97 102)) (one_range s.classes 65 70))) refl refl refl)
+  code_atomic_apart = seq 488 488 (seq 489 489 (word s 25 refl refl refl) (atomic s) (one_of s 10 (one_called s.classes rule.hex_digit refl refl refl (one_of_two s.classes (one_of_two s.classes (one_range s.classes 48 57) (one_range s.classes 97 102)) (one_range s.classes 65 70))) refl refl refl)) (atomic s) (one_of s 10 (one_called s.classes rule.hex_digit refl refl refl (one_of_two s.classes (one_of_two s.classes (one_range s.classes 48 57) (one_range s.classes 97 102)) (one_range s.classes 65 70))) refl refl refl)
 
-  unicode_atomic_apart : Laid s (Run AtomicMode (body_of rule.unicode)) 405 406 0
+  unicode_atomic_apart : Laid s (Run AtomicMode (body_of rule.unicode)) 403 404 0
   unfolding whitespace comment
-  unicode_atomic_apart = seq 492 492 (seq 493 493 (seq 494 494 (word s 26 refl refl refl) (atomic s) (one_of s 11 (one_called s.classes rule.opening_brace refl refl refl (one_text s.classes 123)) refl refl refl)) (atomic s) (rep_min_max (seq 495 495 (one_of s 10 (one_called s.classes rule.hex_digit refl refl refl (one_of_two s.classes (one_of_two s.classes (one_range s.classes 48 57) (one_range s.classes 97 102)) (one_range s.classes 65 70))) refl refl refl) (atomic s) (seq 496 496 (one_of s 10 (one_called s.classes rule.hex_digit refl refl refl (one_of_two s.classes (one_of_two s.classes (one_range s.classes 48 57) (one_range s.classes 97 102)) (one_range s.classes 65 70))) refl refl refl) (atomic s) (seq 497 497 (maybe s 496 refl (at_once s) (one_of s 10 (one_called s.classes rule.hex_digit refl refl refl (one_of_two s.classes (one_of_two s.classes (one_range s.classes 48 57) (one_range s.classes 97 102)) (one_range s.classes 65 70))) refl refl refl)) (atomic s) (seq 498 498 (maybe s 497 refl (at_once s) (one_of s 10 (one_called s.classes rule.hex_digit refl refl refl (one_of_two s.classes (one_of_two s.classes (one_range s.classes 48 57) (one_range s.classes 97 102)) (one_range s.classes 65 70))) refl refl refl)) (atomic s) (seq 499 499 (maybe s 498 refl (at_once s) (one_of s 10 (one_called s.classes rule.hex_digit refl refl refl (one_of_two s.classes (one_of_two s.classes (one_range s.classes 48 57) (one_range s.classes 97 102)) (one_range s.classes 65 70))) refl refl refl)) (atomic s) (maybe s 499 refl (at_once s) (one_of s 10 (one_called s.classes rule.hex_digit refl refl refl (one_of_two s.classes (one_of_two s.classes (one_range s.classes 48 57) (one_range s.classes 97 102)) (one_range s.classes 65 70))) refl refl refl))))))))) (atomic s) (one_of s 12 (one_called s.classes rule.closing_brace refl refl refl (one_text s.classes 125)) refl refl refl)
+  unicode_atomic_apart = seq 490 490 (seq 491 491 (seq 492 492 (word s 26 refl refl refl) (atomic s) (one_of s 11 (one_called s.classes rule.opening_brace refl refl refl (one_text s.classes 123)) refl refl refl)) (atomic s) (rep_min_max (seq 493 493 (one_of s 10 (one_called s.classes rule.hex_digit refl refl refl (one_of_two s.classes (one_of_two s.classes (one_range s.classes 48 57) (one_range s.classes 97 102)) (one_range s.classes 65 70))) refl refl refl) (atomic s) (seq 494 494 (one_of s 10 (one_called s.classes rule.hex_digit refl refl refl (one_of_two s.classes (one_of_two s.classes (one_range s.classes 48 57) (one_range s.classes 97 102)) (one_range s.classes 65 70))) refl refl refl) (atomic s) (seq 495 495 (maybe s 494 refl (at_once s) (one_of s 10 (one_called s.classes rule.hex_digit refl refl refl (one_of_two s.classes (one_of_two s.classes (one_range s.classes 48 57) (one_range s.classes 97 102)) (one_range s.classes 65 70))) refl refl refl)) (atomic s) (seq 496 496 (maybe s 495 refl (at_once s) (one_of s 10 (one_called s.classes rule.hex_digit refl refl refl (one_of_two s.classes (one_of_two s.classes (one_range s.classes 48 57) (one_range s.classes 97 102)) (one_range s.classes 65 70))) refl refl refl)) (atomic s) (seq 497 497 (maybe s 496 refl (at_once s) (one_of s 10 (one_called s.classes rule.hex_digit refl refl refl (one_of_two s.classes (one_of_two s.classes (one_range s.classes 48 57) (one_range s.classes 97 102)) (one_range s.classes 65 70))) refl refl refl)) (atomic s) (maybe s 497 refl (at_once s) (one_of s 10 (one_called s.classes rule.hex_digit refl refl refl (one_of_two s.classes (one_of_two s.classes (one_range s.classes 48 57) (one_range s.classes 97 102)) (one_range s.classes 65 70))) refl refl refl))))))))) (atomic s) (one_of s 12 (one_called s.classes rule.closing_brace refl refl refl (one_text s.classes 125)) refl refl refl)
 
   all_bodies : AreLaidAll true meta_grammar classes code number_of called called
   unfolding called

@@ -94,12 +94,12 @@ module _ (s : Setting) where
   pub start : {m : Mode} {l n w : ℕ} → IsRuleMode m → op_of l ≡ op.Start n w → Laid (Run m (Ident (codes "SOI"))) l n w
   start {m} {l} {n} {w} r o = leaf _ in_silence (start_outcome meta_grammar s.classes m r no_soi) (start_performs s.code number_of fails l n w (has_op l o))
 
-  pub end : {m : Mode} {l n w : ℕ} (begin close note : ℕ) → IsRuleMode m → seen_from m ≡ true → op_of l ≡ op.End begin note
-      → op_of begin ≡ op.Open (number_of (codes "EOI")) close → op_of close ≡ op.Close n → op_of note ≡ op.Miss (number_of (codes "EOI")) w
+  pub end : {m : Mode} {l n w : ℕ} (found note : ℕ) → IsRuleMode m → seen_from m ≡ true → op_of l ≡ op.End found note
+      → op_of found ≡ op.Leaf (number_of (codes "EOI")) n → op_of note ≡ op.Miss (number_of (codes "EOI")) w
       → Laid (Run m (Ident (codes "EOI"))) l n w
-  end {m} {l} {n} {w} begin close note r h a b c d =
+  end {m} {l} {n} {w} found note r h a b d =
       leaf (λ x. end_outcome m x.rest x) (λ place x. end_failures place x (end_outcome m x.rest x)) (end_outcome_of meta_grammar s.classes m r no_eoi h)
-      (end_performs s.code number_of fails m l n w begin close note h (has_op l a) (has_op begin b) (has_op close c) (has_op note d))
+      (end_performs s.code number_of fails m l n w found note h (has_op l a) (has_op found b) (has_op note d))
 
   -- the mode of a rule's body
   in_mode : (m b : Mode) {first last : ℕ} (r : Rule) → body_mode (rule_at r) m ≡ b → IsPoint s.called (Run b (body_of r)) first last 0
