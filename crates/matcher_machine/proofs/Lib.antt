@@ -10,3 +10,5 @@ pub mod Advancing
 pub mod Paying
 pub mod Tables
 pub mod Returning
+pub mod Baring
+pub mod Skipping

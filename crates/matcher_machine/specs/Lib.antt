@@ -1,4 +1,5 @@
 pub mod Frames
+pub mod Guides
 pub mod Links
 pub mod Machines
 pub mod Memories

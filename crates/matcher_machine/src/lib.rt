@@ -4,6 +4,7 @@
 mod comments;
 mod fused_operations;
 mod fused_running;
+pub mod guiding;
 pub mod laws;
 pub mod machine;
 mod memo;
