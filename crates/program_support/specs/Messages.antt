@@ -1,5 +1,5 @@
 -- Messages of errors.
-use Rattle.std.specs.Prelude.{◌≡◌, ℕ, List, [], ◌++◌, None, Option, Some, codes, decimal}
+use Rattle.std.specs.Prelude.{◌≡◌, ◌⊎◌, ℕ, List, [], ◌++◌, None, Option, Some, codes, decimal}
 use Rattle.std.specs.List.{AllZip, concat}
 use Rattle.base_language.specs.Pieces.PrintedError.{error_text, message_of, start_of}
 use Rattle.base_language.specs.declared.grammar.Rule.{Rule}
@@ -53,3 +53,15 @@ pub record IsReport (errors : List (Error Rule)) (report : List ℕ) : Type 0 wh
   pub parts : List ℕ
   pub each : ArePartsOf ShowsNext errors parts
   pub whole : report ≡ codes "grammar error" ++ parts
+
+-- that nothing can go on with what is found, and that names are expected in its place
+abbrev pub unexpected_text : List ℕ → List ℕ
+unexpected_text found = codes "nothing of a grammar can go on with " ++ found
+
+abbrev pub expected_text : List ℕ → List ℕ → List ℕ
+expected_text names found = codes "expected " ++ (names ++ (codes ", and found " ++ found))
+
+-- the sentence of a syntax error is one of these
+abbrev pub TellsSyntax : List ℕ → Type 0
+TellsSyntax message = ((found : List ℕ) × (message ≡ unexpected_text found))
+    ⊎ ((names found : List ℕ) × (message ≡ expected_text names found))

@@ -12,4 +12,6 @@ pub mod messages;
 pub mod output;
 pub mod replacement;
 pub mod status;
+pub mod syntax;
+pub mod usage;
 pub mod version;
