@@ -8,7 +8,7 @@ ghost use Rattle.lint_findings.specs.Reports.{ReportsRuleFinding, ReportsSyntax}
 use crate::codes::Code;
 use crate::diagnostic::Diagnostic;
 use crate::helps::{help_of, listed_help};
-use crate::messages::{expected_names, syntax_message};
+use crate::messages::expected_names;
 use crate::problems::{flaw_code, flaw_help, name_code, rule_code, rule_help};
 use crate::undefined::Definitions;
 use base_language::grammar::Rule;
@@ -18,6 +18,7 @@ use front_reader::rules::Flaw;
 use front_validator::{RuleFinding, RuleProblem};
 use lint_hints::{Help, Hint, Related, hint_at};
 use pest_meta::OpenError;
+use program_support::syntax::syntax_message;
 use std::alloc::{AllocError, Global};
 
 /// The most calls of a left recursion that are shown.

@@ -9,10 +9,8 @@ use front_reader::rules::common_name;
 use front_syntax::grammar::PestParser;
 use program_support::escape::{escape, escape_lines};
 use program_support::messages::place_error;
+use program_support::syntax::syntax_message;
 use std::alloc::{AllocError, Global};
-
-/// The greatest number of expected rules that a message names.
-const NAMED: usize = 5;
 
 /// Returns the message that a file is left alone, since its formatted text would be another grammar.
 pub fn cannot_format(alloc: Global, name: &str) -> Result<String, AllocError>
@@ -39,7 +37,7 @@ pub fn refusal_message(
     let expected = expected_names(alloc, text)?;
     let mut message = String::new(alloc);
     for error in errors {
-        let part = error_message(alloc, name.as_str(), text, expected.as_str(), error)?;
+        let part = error_message(alloc, name.as_str(), text, &expected, error)?;
         message.push_str(part.as_str())?;
     }
     escape_lines(alloc, message.as_str())
@@ -50,36 +48,20 @@ fn error_message(
     alloc: Global,
     name: &str,
     text: &str,
-    expected: &str,
+    expected: &[&str],
     error: &Error<Rule>,
 ) -> Result<String, AllocError>
     ensures { IfOk result (λ part. TellsError name.now error.now (string_bytes part)) }
 {
-    let found = found_at(alloc, text, start_of(error))?;
+    let told = syntax_message(alloc, text, start_of(error), expected)?;
     let placed = place_error(alloc, name, error)?;
-    format!(in alloc; "cannot format {name}: {expected}found {found}\n{placed}")
+    format!(in alloc; "cannot format {name}: {told}\n{placed}")
 }
 
-/// Returns the names of the rules that are expected where a text is refused, as `expected A or B, `.
-fn expected_names(alloc: Global, text: &str) -> Result<String, AllocError> {
+/// Returns the names of the rules that are expected where a text is refused.
+fn expected_names(alloc: Global, text: &str) -> Result<Vec<&'static str>, AllocError> {
     let rules = PestParser::expected_set(alloc, Rule::grammar_rules, text)?;
-    let mut names = String::new(alloc);
-    for (i, rule) in rules.iter().take(NAMED).enumerate() {
-        let separator = match i {
-            0 => "expected ",
-            _ if i + 1 == rules.len() => " or ",
-            _ => ", ",
-        };
-        names.push_str(separator)?;
-        names.push_str(common_name(*rule))?;
-    }
-    if rules.len() > NAMED {
-        names.push_str(" or something else")?;
-    }
-    if !rules.is_empty() {
-        names.push_str(", ")?;
-    }
-    Ok(names)
+    rules.iter().map(|rule| common_name(*rule)).collect(alloc)
 }
 
 /// Returns the byte at which an error begins.
@@ -87,17 +69,5 @@ fn start_of(error: &Error<Rule>) -> usize {
     match error.location {
         InputLocation::Pos(place) => place,
         InputLocation::Span((start, _)) => start,
-    }
-}
-
-/// Returns in words what a text has at a byte.
-fn found_at(alloc: Global, text: &str, place: usize) -> Result<String, AllocError> {
-    let rest = text.get(place..).unwrap_or("");
-    match rest.chars().next() {
-        None => String::from_str(alloc, "the end of the text"),
-        Some('\n' | '\r') => String::from_str(alloc, "the end of the line"),
-        Some('`') => String::from_str(alloc, "a grave accent"),
-        Some('\u{feff}') => String::from_str(alloc, "a byte order mark"),
-        Some(c) => format!(in alloc; "`{c}`"),
     }
 }

@@ -5,9 +5,9 @@ pub returns : goal.returns
 returns c =
     IfOk-weaker c.format.result _ _
     (λ part written. record {
-      expected = c.args.expected.now;
-      found = _;
+      told = _;
       placed = _;
+      tells = c.in_ok-told.ensures;
       at_place = c.in_ok-placed.ensures;
       whole = written;
     })
