@@ -1,10 +1,8 @@
 //! Reads a grammar and prints its rules.
 #![tactic(auto)]
 
-ghost use Rattle.std.specs.Prelude.{◌≡◌, ◌≢◌, ◌≤◌, ◌⊎◌, ◌↔◌, IfNone, IfOk, IfSome, IsUtf8};
+ghost use Rattle.std.specs.Prelude.{◌≡◌, ◌≤◌, ◌↔◌, IfNone, IfSome, IsUtf8};
 ghost use Rattle.std.specs.Process.{exit_status};
-ghost use Rattle.clap.specs.Values.{kind_of};
-ghost use Rattle.clap.specs.declared.error.kind.ErrorKind.TheVariants.{DisplayHelp, DisplayVersion};
 ghost use Rattle.pest_meta.specs.Spelling.{HasAnswer, HasRefusal};
 
 mod arguments;
@@ -12,11 +10,10 @@ mod checks;
 
 use arguments::command;
 use checks::run;
-use program_support::escape::escape_lines;
 use program_support::input::read_input;
 use program_support::output::Output;
 use program_support::status::Status;
-use std::alloc::AllocError;
+use program_support::usage::print_usage;
 use std::env;
 use std::process::ExitCode;
 
@@ -32,25 +29,6 @@ fn check(rt: &HostRuntime, grammar: Option<&[u8]>) -> ExitCode
     let mut err = Output::new(rt.stderr());
     let exit = run(rt.alloc(), grammar, &mut out, &mut err);
     ExitCode::from(exit.status)
-}
-
-/// Prints help, the version or what is wrong with a command line, and returns the status.
-fn print_usage(rt: &HostRuntime, error: &clap::Error) -> Result<Status, AllocError>
-    ensures wrong { IfOk result (λ status. kind_of error.now ≢ DisplayHelp
-        → kind_of error.now ≢ DisplayVersion → status ≡ Status.Unreadable) }
-    ensures asked { IfOk result (λ status. status ≡ Status.Done
-        → (kind_of error.now ≡ DisplayHelp) ⊎ (kind_of error.now ≡ DisplayVersion)) }
-{
-    let alloc = rt.alloc();
-    let usage = format!(in alloc; "{error}")?;
-    let shown = escape_lines(alloc, usage.as_str())?;
-    if error.use_stderr() {
-        let _ = rt.eprint(shown.as_str());
-        Ok(Status::Unreadable)
-    } else {
-        let _ = rt.print(shown.as_str());
-        Ok(Status::Done)
-    }
 }
 
 /// Runs the program for the words of the command line, and returns the status.

@@ -10,6 +10,7 @@ use messages::NO_DIAGRAM;
 use program_support::input::read_input;
 use program_support::messages::{cannot_read, cannot_write, is_not_utf8};
 use program_support::status::Status;
+use program_support::usage::print_usage;
 use run::{DocumentOutcome, Request, outcome_of};
 use std::alloc::AllocError;
 use std::io::{self, Write};
@@ -79,14 +80,7 @@ fn answer(rt: &HostRuntime) -> Result<Status, clap::Error> {
     let words: Vec<String> = words.collect(alloc)?;
     let matches = match command(alloc)?.try_get_matches_from(words.as_slice()) {
         Ok(matches) => matches,
-        Err(error) => {
-            let _ = error.print(rt);
-            return Ok(if error.use_stderr() {
-                Status::Unreadable
-            } else {
-                Status::Done
-            });
-        }
+        Err(error) => return Ok(print_usage(rt, &error)?),
     };
     let Some(format) = format_of(&matches) else {
         return Ok(report(rt, NO_DIAGRAM, Status::Unreadable));

@@ -11,6 +11,7 @@ mod sources;
 
 use arguments::{command, delivery_of, options_of};
 use program_support::status::Status;
+use program_support::usage::print_usage;
 use run::format_files;
 use sources::find_files;
 use std::env;
@@ -29,14 +30,7 @@ fn answer(rt: &HostRuntime) -> Result<Status, clap::Error> {
     let words: Vec<String> = words.collect(alloc)?;
     let matches = match command(alloc)?.try_get_matches_from(words.as_slice()) {
         Ok(matches) => matches,
-        Err(error) => {
-            let _ = error.print(rt);
-            return Ok(if error.use_stderr() {
-                Status::Unreadable
-            } else {
-                Status::Done
-            });
-        }
+        Err(error) => return Ok(print_usage(rt, &error)?),
     };
     let names = matches.get_strs("FILE").unwrap_or(&["-"]);
     let delivery = delivery_of(&matches, rt.stdout().is_terminal());

@@ -29,6 +29,7 @@ use front_names::Builtin;
 use lint::{CLEAN, MEMORY, Source, UNREADABLE, print_sources};
 use log::log_files;
 use program_support::output::Output;
+use program_support::usage::print_usage;
 use sources::read_sources;
 use starts::{named_starts, report_start, unknown_start};
 use std::alloc::{AllocError, Global};
@@ -139,10 +140,7 @@ fn answer(rt: &HostRuntime) -> Result<u8, clap::Error> {
     let words: Vec<String> = words.collect(alloc)?;
     match command(alloc)?.try_get_matches_from(words.as_slice()) {
         Ok(matches) => Ok(run(rt, &matches)?),
-        Err(error) => {
-            let _ = error.print(rt);
-            Ok(if error.use_stderr() { UNREADABLE } else { 0 })
-        }
+        Err(error) => Ok(print_usage(rt, &error)?.code()),
     }
 }
 
