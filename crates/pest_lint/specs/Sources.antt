@@ -1,15 +1,8 @@
 -- The files that are read for the names of a command line.
-use Rattle.std.specs.Prelude.{◌≡◌, ◌⊎◌, ℕ, List, [], ◌∷◌, ◌++◌, All, IsSome, String, codes, string_bytes}
+use Rattle.std.specs.Prelude.{◌≡◌, ◌⊎◌, ℕ, List, [], ◌∷◌, ◌++◌, All, IsSome, string_bytes}
 use Rattle.std.specs.Borrow.{Bor}
-use Rattle.std.specs.declared.alloc.Global.{Global}
+use Rattle.program_support.specs.Folders.{IsGrammarName}
 use Rattle.pest_lint.specs.declared.lint.Source.{Source}
-
--- the name of a grammar
-abbrev pub EndsInPest : List ℕ → Type 0
-EndsInPest name = (stem : List ℕ) × (name ≡ stem ++ codes ".pest")
-
-abbrev pub IsGrammarName : String Global → Type 0
-IsGrammarName name = EndsInPest (string_bytes name)
 
 -- one of a folder: it has the name of a grammar, or can't be read
 abbrev pub IsOfFolder : Source → Type 0

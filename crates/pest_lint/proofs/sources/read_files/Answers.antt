@@ -1,5 +1,6 @@
 use Rattle.std.proofs.Common.{◌∙◌, inl, subst, sym}
-use Rattle.pest_lint.specs.Sources.{EndsInPest, IsGrammarName, IsOfFolder}
+use Rattle.program_support.specs.Folders.{EndsInPest, IsGrammarName}
+use Rattle.pest_lint.specs.Sources.{IsOfFolder}
 use Rattle.pest_lint.proofs.Gaining.{gain_more, gain_none, gain_one}
 use Rattle.pest_lint.proofs.sources.read_files.Goals as goal
 
