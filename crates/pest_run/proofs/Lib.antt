@@ -5,7 +5,6 @@ pub mod Listed
 pub mod OptimizedMatch
 pub mod RuleNames
 pub mod ReadRules
-pub mod Undefined
 pub mod CodeFiles
 pub mod PathTexts
 pub mod NoFailures

@@ -5,8 +5,8 @@ pub mod Paths
 pub mod Failures
 pub mod Outcomes
 pub mod Written
-pub mod Grammars
 pub mod Properties
+pub mod Grammars
 pub mod Codes
 pub mod Ends
 pub mod Listing

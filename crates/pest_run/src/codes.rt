@@ -5,26 +5,27 @@ ghost use Rattle.base_ast.specs.Optimized.{optimized_rules_of};
 ghost use Rattle.base_ast.specs.declared.optimized.OptimizedRule.{OptimizedRule};
 ghost use Rattle.matcher_engine.specs.Blocks.{IsWhole};
 ghost use Rattle.matcher_support.specs.Compiled.{IsCompiled};
+ghost use Rattle.front_spanned.specs.Nodes.{rule_views};
 ghost use Rattle.pest_meta.specs.Spelling.{IsAnswer};
+ghost use Rattle.pest_meta.specs.WithSpans.{SpellsWithSpans};
 ghost use Rattle.pest_run.specs.Codes.{EndsAsRules, begins_as_code, code_text, is_code, why_refused};
 ghost use Rattle.pest_run.specs.Grammars.{IsReadingOf};
 ghost use Rattle.pest_run.specs.Steps.{step_limit};
 ghost use Rattle.pest_run.specs.Written.{IsReadable, ReportsRefusal, ReportsUnread, WritesLine};
 
 use crate::arguments::{Request, step_limit};
-use crate::ends::{RunExit, exit_with, exit_with_code, report_refusal};
-use crate::grammars::Reading;
+use crate::ends::{RunExit, exit_with, exit_with_code};
+use crate::grammars::{Reading, refuse_grammar};
 use crate::messages::code_message;
 use crate::outcomes::block_outcome;
 use crate::run::print_outcome;
 use crate::sources::{Source, text_of, unreadable};
 use base_ast::deep::Deep;
 use base_ast::optimized::OptimizedRule;
-use base_language::runtime::Fault;
 use matcher_engine::block::{BlockFlaw, check_block, compile_block};
 use matcher_program::compile::Unfit;
 use matcher_support::unicode_properties::UnicodeProperties;
-use pest_meta::parse_and_optimize;
+use pest_meta::{OpenGrammar, open, optimize_with_spans};
 use program_support::output::Output;
 use program_support::status::Status;
 use std::alloc::Global;
@@ -128,11 +129,11 @@ fn why_refused(code: &[u8]) -> &'static str
 
 /// Compiles the optimized rules of a grammar, read from a file, to a block. Otherwise the end of the run is
 /// returned, after a line on `err`: the report of a grammar that is refused (1), `out of memory` (2), why the
-/// file can't be read (3), or that the rules can't be run (5). `reading` has the errors of a refusal.
-pub fn compile_file<E: Write>(
+/// file can't be read (3), or that the rules can't be run (5). `reading` tells of a refusal.
+pub fn compile_file<'g, E: Write>(
     alloc: Global,
-    grammar: &Source<'_>,
-    reading: &mut Reading,
+    grammar: &'g Source<'_>,
+    reading: &mut Reading<'g>,
     err: &mut Output<E>,
 ) -> Result<Vec<u8>, RunExit>
     ensures compiled { IfOk result (λ block. (builtins : List (Bor (List ℕ))) × (rules : List OptimizedRule)
@@ -151,17 +152,31 @@ pub fn compile_file<E: Write>(
     let Some(text) = text_of(grammar) else {
         return Err(unreadable(alloc, grammar, err));
     };
-    match parse_and_optimize(alloc, text) {
-        Ok((_, rules)) => {
+    match open(alloc, text) {
+        Ok(opened) => compile_opened(alloc, opened, err),
+        Err(error) => Err(refuse_grammar(alloc, text, error, reading, err)),
+    }
+}
+
+/// Compiles the optimized rules of an opened grammar to a block, or reports why they can't be run.
+fn compile_opened<E: Write>(
+    alloc: Global,
+    opened: OpenGrammar<'_>,
+    err: &mut Output<E>,
+) -> Result<Vec<u8>, RunExit>
+    ensures compiled { (text : List ℕ)
+        → SpellsWithSpans text opened.entry.builtins.items (rule_views opened.entry.rules.value.items)
+        → IfOk result (λ block. (builtins : List (Bor (List ℕ))) × (rules : List OptimizedRule)
+        × IsAnswer text builtins rules × IsCompiled rules block.items) }
+    ensures silent { IsOk result → err.new ≡ err.old }
+    ensures known { IfErr result (λ exit. (exit.status ≡ 2) ⊎ (exit.status ≡ 5)) }
+{
+    match optimize_with_spans(alloc, opened.rules.into_inner()) {
+        Ok(rules) => {
             let rules = Deep { value: rules };
             compile_rules(alloc, &rules.value, err)
         }
-        Err(Fault::Memory(_)) => Err(exit_with(err, "out of memory", Status::OutOfMemory)),
-        Err(Fault::Grammar(errors)) => {
-            let exit = report_refusal(alloc, &errors, err);
-            *reading = Reading::Refused(errors);
-            Err(exit)
-        }
+        Err(_) => Err(exit_with(err, "out of memory", Status::OutOfMemory)),
     }
 }
 

@@ -1,9 +1,7 @@
 //! Matches a text by a rule of a grammar, and prints the trees.
 #![tactic(auto)]
 
-ghost use Rattle.std.specs.Prelude.{◌≡◌, ◌≢◌, ◌≤◌, ◌⊎◌, IfOk, None, false, true};
-ghost use Rattle.clap.specs.Values.{kind_of};
-ghost use Rattle.clap.specs.declared.error.kind.ErrorKind.TheVariants.{DisplayHelp, DisplayVersion};
+ghost use Rattle.std.specs.Prelude.{◌≡◌, ◌≢◌, ◌≤◌, IfOk, None, false, true};
 ghost use Rattle.pest_run.specs.Codes.{is_code};
 ghost use Rattle.pest_run.specs.Listing.{ListsRules};
 ghost use Rattle.pest_run.specs.Written.{IsReadable, PrintsTrees};
@@ -34,11 +32,11 @@ use explanations::{explain_code, explain_failure};
 use forms::note_forms;
 use grammars::Reading;
 use listing::list_file;
-use program_support::escape::escape_lines;
 use program_support::input::read_input;
 use program_support::messages::cannot_write;
 use program_support::output::{Output, RefusedWrite};
 use program_support::status::Status;
+use program_support::usage::print_usage;
 use properties::note_property;
 use run::run_files;
 use sources::Source;
@@ -120,7 +118,7 @@ fn match_files(
 /// optimized rules match; or that a property is pest's.
 fn print_more<W: Write, E: Write>(
     alloc: Global,
-    reading: &Reading,
+    reading: &Reading<'_>,
     text: &Source<'_>,
     request: Request<'_>,
     out: &mut Output<W>,
@@ -128,7 +126,7 @@ fn print_more<W: Write, E: Write>(
 ) -> Result<(), RefusedWrite> {
     match reading {
         Reading::Nothing => Ok(()),
-        Reading::Refused(errors) => note_property(alloc, errors, err),
+        Reading::Refused(property) => note_property(alloc, *property, err),
         Reading::Accepted(rules) => {
             if request.why {
                 explain_failure(alloc, rules, text, request, out, err)?;
@@ -172,8 +170,8 @@ fn compile(rt: &HostRuntime, grammar: &Source<'_>, target: &str) -> Result<u8, A
             }
         },
         Err(exit) => {
-            if let Reading::Refused(errors) = &reading {
-                let _ = note_property(alloc, errors, &mut err);
+            if let Reading::Refused(property) = reading {
+                let _ = note_property(alloc, property, &mut err);
             }
             Ok(exit.status)
         }
@@ -201,25 +199,6 @@ fn list_names(rt: &HostRuntime, grammar: &Source<'_>) -> u8
     let mut out = Output::new(rt.stdout());
     let mut err = Output::new(rt.stderr());
     list_file(rt.alloc(), grammar, &mut out, &mut err).status
-}
-
-/// Prints help, the version or what is wrong with a command line, and returns the status.
-fn print_usage(rt: &HostRuntime, error: &clap::Error) -> Result<Status, AllocError>
-    ensures wrong { IfOk result (λ status. kind_of error.now ≢ DisplayHelp
-        → kind_of error.now ≢ DisplayVersion → status ≡ Status.Unreadable) }
-    ensures asked { IfOk result (λ status. status ≡ Status.Done
-        → (kind_of error.now ≡ DisplayHelp) ⊎ (kind_of error.now ≡ DisplayVersion)) }
-{
-    let alloc = rt.alloc();
-    let usage = format!(in alloc; "{error}")?;
-    let shown = escape_lines(alloc, usage.as_str())?;
-    if error.use_stderr() {
-        let _ = rt.eprint(shown.as_str());
-        Ok(Status::Unreadable)
-    } else {
-        let _ = rt.print(shown.as_str());
-        Ok(Status::Done)
-    }
 }
 
 /// Does what a command line asks for, and returns the status.

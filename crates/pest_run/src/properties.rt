@@ -1,27 +1,28 @@
 //! The note on properties that only pest has.
-ghost use Rattle.std.specs.Prelude.{◌≡◌, ◌≢◌, List, ℕ, Any, IfOk, IsErr, IsOk, MatchOption, string_bytes, true};
-ghost use Rattle.pest_run.specs.Properties.{IsMissing, IsNoneMissing, TellsProperty, property_text, undefined_text};
+ghost use Rattle.std.specs.Prelude.{◌≡◌, IfOk, IsErr, IsOk, MatchOption, false, string_bytes, true};
+ghost use Rattle.std.specs.Option.{option_copied};
+ghost use Rattle.pest_run.specs.Properties.{IsMissing, IsPropertyIn, IsPropertyOf, TellsProperty, is_missing, is_missing_property, property_text};
 
-use base_language::grammar::Rule;
-use base_language::runtime::{Error, ErrorVariant};
+use front_names::{NameFinding, NameProblem};
 use lint_hints::is_pest_property;
+use pest_meta::OpenError;
 use program_support::output::{Output, RefusedWrite};
 use std::alloc::{AllocError, Global};
 use std::io::Write;
 
-/// Writes a note to `err` if a grammar is refused with these errors for a Unicode property that pest has.
-/// None is written after an allocation failure.
+/// Writes a note to `err` that pest has a Unicode property which this front end does not have, if one is
+/// given. None is written after an allocation failure.
 pub fn note_property<E: Write>(
     alloc: Global,
-    errors: &[Error<Rule>],
+    property: Option<&str>,
     err: &mut Output<E>,
 ) -> Result<(), RefusedWrite>
-    ensures tells { TellsProperty errors.now (err.new ≡ err.old) result
+    ensures tells { TellsProperty (option_copied property.entry) (err.new ≡ err.old) result
         (E.contents err.old.writer) (E.contents err.new.writer) }
     ensures told { IsOk result → err.new.refused ≡ err.old.refused }
     ensures refused_line { IsErr result → err.new.refused ≡ true }
 {
-    let Some(name) = find_property(errors) else {
+    let Some(name) = property else {
         return Ok(());
     };
     match property_message(alloc, name) {
@@ -30,40 +31,49 @@ pub fn note_property<E: Write>(
     }
 }
 
-/// Returns the first property of pest that errors call undefined, if there is one.
-fn find_property<'e>(errors: &'e [Error<Rule>]) -> Option<&'e str>
-    ensures { MatchOption result (IsNoneMissing errors.entry.now)
-        (λ name. Any (λ error. IsMissing error name.now) errors.entry.now) }
+/// Returns the first property of pest that a grammar calls undefined, if it is refused for one.
+pub fn find_property<'g>(error: &OpenError<'g>) -> Option<&'g str>
+    ensures { IsPropertyOf error.now result }
 {
-    for error in errors {
-        if let Some(name) = missing_property(error) {
+    match error {
+        OpenError::Names(findings) => first_missing(findings),
+        OpenError::Memory(_) | OpenError::Syntax(_) | OpenError::Flaw(_) | OpenError::Rules(_) =>
+            None,
+    }
+}
+
+/// Returns the first property of pest that findings call undefined, if there is one.
+fn first_missing<'g>(findings: &[NameFinding<'g>]) -> Option<&'g str>
+    ensures { IsPropertyIn findings.now result }
+{
+    for finding in findings {
+        if let Some(name) = missing_property(*finding) {
             return Some(name);
         }
     }
     None
 }
 
-/// Returns the property of pest that an error calls undefined, if it does.
-fn missing_property<'e>(error: &'e Error<Rule>) -> Option<&'e str>
-    ensures { MatchOption result ((n : List ℕ) → IsMissing error.entry.now n → ⊥)
-        (λ name. IsMissing error.entry.now name.now) }
+/// Returns the property of pest that a finding calls undefined, if it does.
+fn missing_property<'g>(finding: NameFinding<'g>) -> Option<&'g str>
+    ensures { MatchOption result (is_missing finding ≡ false) (IsMissing finding) }
 {
-    match &error.variant {
-        ErrorVariant::ParsingError => None,
-        ErrorVariant::CustomError { message } => match undefined_name(message.as_str()) {
-            Some(name) if is_pest_property(name) => Some(name),
-            _ => None,
-        },
+    let name = finding.span.as_str();
+    if is_missing(finding.problem, name) {
+        Some(name)
+    } else {
+        None
     }
 }
 
-/// Returns the name that a message calls undefined, if it does.
-fn undefined_name(message: &str) -> Option<&str>
-    ensures { MatchOption result ((n : List ℕ) → message.entry.now ≢ undefined_text n)
-        (λ name. message.entry.now ≡ undefined_text name.now) }
+/// Returns whether a problem with a name is that a property of pest is undefined.
+fn is_missing(problem: NameProblem, name: &str) -> bool
+    ensures { result ≡ is_missing_property problem name.now }
 {
-    let name = message.strip_prefix("rule ")?;
-    name.strip_suffix(" is undefined")
+    match problem {
+        NameProblem::Undefined => is_pest_property(name),
+        NameProblem::RustKeyword | NameProblem::PestKeyword | NameProblem::AlreadyDefined => false,
+    }
 }
 
 /// Returns the note that this front end does not have a property. The only error is an allocation failure.

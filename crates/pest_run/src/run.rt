@@ -6,12 +6,11 @@ ghost use Rattle.pest_run.specs.Steps.{step_limit};
 ghost use Rattle.pest_run.specs.Written.{IsFormOutcome, IsReadable, NotesEnd, PrintsTrees, ReportsReason, ReportsStop, ReportsUnread, WritesLine};
 
 use crate::arguments::{Request, step_limit};
-use crate::ends::{RunExit, exit_after_write, exit_with, report_refusal};
-use crate::grammars::{GrammarRules, Reading, read_grammar};
+use crate::ends::{RunExit, exit_after_write, exit_with};
+use crate::grammars::{GrammarRules, Reading, read_grammar, refuse_grammar};
 use crate::outcomes::{Outcome, outcome_of};
 use crate::sources::{Source, text_of, unreadable};
 use base_ast::optimized::release;
-use base_language::runtime::Fault;
 use program_support::output::Output;
 use program_support::status::Status;
 use std::alloc::Global;
@@ -20,12 +19,12 @@ use std::io::Write;
 /// Matches a text by the requested rule of a grammar, both read from files, and prints the trees to `out`, as
 /// `run` does. A file that can't be read or is not UTF-8 is reported on `err` with its name and the reason
 /// (3). `reading` is what was read of the grammar.
-pub fn run_files<W: Write, E: Write>(
+pub fn run_files<'g, W: Write, E: Write>(
     alloc: Global,
-    grammar: &Source<'_>,
+    grammar: &'g Source<'_>,
     text: &Source<'_>,
     request: Request<'_>,
-    reading: &mut Reading,
+    reading: &mut Reading<'g>,
     out: &mut Output<W>,
     err: &mut Output<E>,
 ) -> RunExit
@@ -83,14 +82,14 @@ pub fn run_files<W: Write, E: Write>(
 /// that the grammar has no such rule, or the furthest position at which the rule fails with the expected set
 /// there, or with a note that this was not found (1); `out of memory` (2); `cannot write` where `out` refuses
 /// a write (4); why the run was stopped (5). A write that `err` refuses changes no status. `reading` is what
-/// was read of the grammar: the rules, or the errors of a refusal, or nothing where an allocation failed.
-pub fn run<W: Write, E: Write>(
+/// was read of the grammar; nothing where an allocation failed.
+pub fn run<'g, W: Write, E: Write>(
     alloc: Global,
-    grammar: &str,
+    grammar: &'g str,
     name: &str,
     text: &str,
     request: Request<'_>,
-    reading: &mut Reading,
+    reading: &mut Reading<'g>,
     out: &mut Output<W>,
     err: &mut Output<E>,
 ) -> RunExit
@@ -124,19 +123,13 @@ pub fn run<W: Write, E: Write>(
     ensures refused_line { IsErr result.write_result → err.new.refused ≡ true }
     ensures kept { result.status ≢ 2 → reading.new ≢ Reading.Nothing }
 {
-    *reading = Reading::Nothing;
     match read_grammar(alloc, grammar) {
         Ok(rules) => {
             let outcome = form_outcome(alloc, &rules, name, text, request);
             *reading = Reading::Accepted(rules);
             print_outcome(outcome, out, err)
         }
-        Err(Fault::Memory(_)) => exit_with(err, "out of memory", Status::OutOfMemory),
-        Err(Fault::Grammar(errors)) => {
-            let exit = report_refusal(alloc, &errors, err);
-            *reading = Reading::Refused(errors);
-            exit
-        }
+        Err(error) => refuse_grammar(alloc, grammar, error, reading, err),
     }
 }
 

@@ -1,5 +1,3 @@
-use Rattle.std.proofs.Common.{Err, ap, ◌∙◌, subst, sym}
-use Rattle.pest_meta.specs.Spelling.{IsRefusedWith}
 use Rattle.pest_run.proofs.Ended.{form_notes, form_prints, form_stops, form_tells, refusal_is_reason}
 use Rattle.pest_run.proofs.run.run.Goals as goal
 
@@ -27,10 +25,10 @@ returns-in-Ok-clause-stopped g c =
     let comes = o.ensures c.args.grammar.now c.in-Ok.ensures.rules in
     form_stops o.result c.args.name.now c.args.grammar.now c.args.request.rule.now c.args.text.now c.args.request.format c.args.request.form _ c.print_outcome.result.write_result _ c.print_outcome.result.status _ _ _ _ comes c.print_outcome.ensures.ends
 
-pub returns-in-Err-Grammar-clause-reason : goal.returns-in-Err-Grammar-clause-reason
-returns-in-Err-Grammar-clause-reason g c =
-    let told = c.report_refusal-exit in
-    let errors = c.deref.result.now in
-    let refusal = rw (c.in-Err-Grammar.is ∙ ap Err c.in-Err-Grammar.field-0-is) at c.read_grammar.ensures.refused in
-    λ one. refusal_is_reason c.args.request.form c.args.grammar.now c.args.request.rule.now c.args.name.now c.args.text.now _ told.result.write_result _ _
-    (record { errors = errors; refused = subst (IsRefusedWith c.args.grammar.now) (sym c.deref.ensures.value) refusal; tells = told.ensures.tells one })
+pub returns-in-Err-clause-reason : goal.returns-in-Err-clause-reason
+returns-in-Err-clause-reason g c = λ one.
+    refusal_is_reason c.args.request.form c.args.grammar.now c.args.request.rule.now c.args.name.now c.args.text.now _ c.refuse_grammar.result.write_result _ _
+    (c.refuse_grammar.ensures.reason one)
+
+pub refuse_grammar-requires : goal.refuse_grammar-requires
+refuse_grammar-requires g c = c.in-Err.ensures.refused
