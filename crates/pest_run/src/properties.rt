@@ -56,7 +56,7 @@ fn first_missing<'g>(findings: &[NameFinding<'g>]) -> Option<&'g str>
 
 /// Returns the property of pest that a finding calls undefined, if it does.
 fn missing_property<'g>(finding: NameFinding<'g>) -> Option<&'g str>
-    ensures { MatchOption result (is_missing finding ≡ false) (IsMissing finding) }
+    ensures { MatchOption result (is_missing finding.entry ≡ false) (IsMissing finding.entry) }
 {
     let name = finding.span.as_str();
     if is_missing(finding.problem, name) {
