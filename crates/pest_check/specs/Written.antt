@@ -1,5 +1,5 @@
 -- The texts that the program writes.
-use Rattle.std.specs.Prelude.{ℕ, List, [], ◌∷◌, ◌++◌, Option, Result, OnOk, encode_utf8_all}
+use Rattle.std.specs.Prelude.{ℕ, List, Option, Result, encode_utf8_all}
 use Rattle.std.specs.Borrow.{Bor}
 use Rattle.std.specs.Io.KnownBytes.{Appends}
 use Rattle.base_language.specs.declared.grammar.Rule.{Rule}
@@ -8,7 +8,7 @@ use Rattle.base_ast.specs.Optimized.{optimized_rules_of}
 use Rattle.base_ast.specs.declared.optimized.OptimizedRule.{OptimizedRule}
 use Rattle.pest_meta.specs.Spelling.{IsAnswer, IsRefusedWith}
 use Rattle.front_roundtrip.specs.ReadsBack.{grammar_text}
-use Rattle.program_support.specs.Messages.{IsReport}
+pub use Rattle.program_support.specs.Ends.{WritesLine, WritesReport}
 
 -- there is an answer for the text, and the writer's contents grew by its rules, a line each
 pub record PrintsAnswer (text : List ℕ) (old new : Option (List ℕ)) : Type 0 where
@@ -16,17 +16,6 @@ pub record PrintsAnswer (text : List ℕ) (old new : Option (List ℕ)) : Type 0
   pub rules : List OptimizedRule
   pub answers : IsAnswer text builtins rules
   pub gained : Appends old new (encode_utf8_all (grammar_text (optimized_rules_of rules)))
-
--- unless a write was refused, the writer's contents grew by the message and a line feed
-abbrev pub WritesLine : {X E : Type 0} → List ℕ → Result X E → Option (List ℕ) → Option (List ℕ) → Type 0
-WritesLine message written old new = OnOk written (Appends old new (message ++ 10 ∷ []))
-
--- a report of errors is the line
-pub record WritesReport {X E : Type 0} (errors : List (Error Rule)) (written : Result X E)
-    (old new : Option (List ℕ)) : Type 0 where
-  pub report : List ℕ
-  pub shows : IsReport errors report
-  pub line : WritesLine report written old new
 
 -- there is a reason to refuse the text, and its report is the line
 pub record ReportsRefusal {X E : Type 0} (text : List ℕ) (written : Result X E)

@@ -3,31 +3,20 @@ ghost use Rattle.std.specs.Prelude.{◌≡◌, ◌≢◌, ◌≤◌, ◌⊎◌, 
 ghost use Rattle.std.specs.Io.KnownBytes.{Appends};
 ghost use Rattle.base_ast.specs.Ast.{rule_type_of};
 ghost use Rattle.base_ast.specs.Optimized.{optimized_rules_of};
-ghost use Rattle.pest_check.specs.Written.{PrintsAnswer, ReportsRefusal, WritesLine, WritesReport};
+ghost use Rattle.pest_check.specs.Written.{PrintsAnswer, ReportsRefusal, WritesLine};
 ghost use Rattle.pest_meta.specs.Spelling.{HasAnswer};
 ghost use Rattle.front_roundtrip.specs.ReadsBack.{grammar_text, modifier};
-ghost use Rattle.program_support.specs.Statuses.{status_code};
 
 use base_ast::optimized::release;
-use base_language::grammar::Rule;
-use base_language::runtime::{Error, Fault};
+use base_language::runtime::Fault;
 use pest_meta::ast::RuleType;
 use pest_meta::optimizer::OptimizedRule;
 use pest_meta::parse_and_optimize;
-use program_support::messages::show_report;
-use program_support::output::{Output, RefusedWrite};
+use program_support::ends::{RunExit, exit_after_write, exit_with, report_refusal};
+use program_support::output::Output;
 use program_support::status::Status;
 use std::alloc::{AllocError, Global};
 use std::io::Write;
-
-/// The end of a run.
-#[derive(Drop)]
-pub struct Exit {
-    /// The status that the program ends with.
-    pub status: u8,
-    /// An error if `err` refused the line that it was given.
-    pub write_result: Result<(), RefusedWrite>,
-}
 
 /// Prints the rules of a grammar to `out`, a line each as `name = modifier{ expr }`, and answers 0.
 ///
@@ -40,7 +29,7 @@ pub fn run<W: Write, E: Write>(
     input: Option<&[u8]>,
     out: &mut Output<W>,
     err: &mut Output<E>,
-) -> Exit
+) -> RunExit
     ensures known { result.status ≤ 4 }
     ensures unread { IfNone input.entry (result.status ≡ 3) }
     ensures decoded { IfSome input.entry (λ bytes. result.status ≡ 3 ↔ ¬ (IsUtf8 bytes.now)) }
@@ -79,24 +68,7 @@ pub fn run<W: Write, E: Write>(
     match parse_and_optimize(alloc, grammar) {
         Ok((_, rules)) => print_rules(alloc, rules, out, err),
         Err(Fault::Memory(_)) => exit_with(err, "out of memory", Status::OutOfMemory),
-        Err(Fault::Grammar(errors)) => report_errors(alloc, &errors, err),
-    }
-}
-
-/// Ends a run on a text that is refused with these errors, after their report.
-fn report_errors<E: Write>(alloc: Global, errors: &[Error<Rule>], err: &mut Output<E>) -> Exit
-    ensures known { (result.status ≡ 1) ⊎ (result.status ≡ 2) }
-    ensures refused { result.status ≡ 1 → WritesReport errors.now result.write_result
-        (E.contents err.old.writer) (E.contents err.new.writer) }
-    ensures tells_memory { result.status ≡ 2
-        → WritesLine (codes "out of memory") result.write_result
-        (E.contents err.old.writer) (E.contents err.new.writer) }
-    ensures told { IsOk result.write_result → err.new.refused ≡ err.old.refused }
-    ensures refused_line { IsErr result.write_result → err.new.refused ≡ true }
-{
-    match show_report(alloc, errors) {
-        Ok(report) => exit_with(err, report.as_str(), Status::Found),
-        Err(_) => exit_with(err, "out of memory", Status::OutOfMemory),
+        Err(Fault::Grammar(errors)) => report_refusal(alloc, &errors, err),
     }
 }
 
@@ -106,7 +78,7 @@ fn print_rules<W: Write, E: Write>(
     rules: Vec<OptimizedRule>,
     out: &mut Output<W>,
     err: &mut Output<E>,
-) -> Exit
+) -> RunExit
     ensures known { (result.status ≡ 0) ⊎ (result.status ≡ 2) ⊎ (result.status ≡ 4) }
     ensures printed { result.status ≡ 0 → Appends (W.contents out.old.writer) (W.contents out.new.writer)
         (encode_utf8_all (grammar_text (optimized_rules_of rules.items))) }
@@ -124,44 +96,11 @@ fn print_rules<W: Write, E: Write>(
     ensures refused_line { IsErr result.write_result → err.new.refused ≡ true }
 {
     match rules_text(alloc, rules) {
-        Ok(text) => exit_after_write(err, out.write_text(text.as_str())),
+        Ok(text) => {
+            let written = out.write_text(text.as_str());
+            exit_after_write(err, written, None)
+        }
         Err(_) => exit_with(err, "out of memory", Status::OutOfMemory),
-    }
-}
-
-/// Ends a run after its rules were printed, and reports a write of them that was refused.
-fn exit_after_write<E: Write>(err: &mut Output<E>, outcome: Result<(), RefusedWrite>) -> Exit
-    ensures known { (result.status ≡ 0) ⊎ (result.status ≡ 4) }
-    ensures printed { IsOk outcome → result.status ≡ 0 }
-    ensures silent { IsOk outcome → err.new ≡ err.old }
-    ensures unwritten { IsErr outcome → result.status ≡ 4 }
-    ensures tells { IsErr outcome
-        → WritesLine (codes "cannot write") result.write_result
-        (E.contents err.old.writer) (E.contents err.new.writer) }
-    ensures told { IsOk result.write_result → err.new.refused ≡ err.old.refused }
-    ensures refused_line { IsErr result.write_result → err.new.refused ≡ true }
-{
-    match outcome {
-        Ok(()) => Exit {
-            status: Status::Done.code(),
-            write_result: Ok(()),
-        },
-        Err(_) => exit_with(err, "cannot write", Status::Unwritable),
-    }
-}
-
-/// Ends a run with this status, after writing a message and a line break to `err`.
-fn exit_with<E: Write>(err: &mut Output<E>, message: &str, status: Status) -> Exit
-    ensures status { result.status ≡ status_code status }
-    ensures tells { WritesLine message.now result.write_result
-        (E.contents err.old.writer) (E.contents err.new.writer) }
-    ensures told { IsOk result.write_result → err.new.refused ≡ err.old.refused }
-    ensures refused_line { IsErr result.write_result → err.new.refused ≡ true }
-{
-    let write_result = err.write_line(&[message]);
-    Exit {
-        status: status.code(),
-        write_result,
     }
 }
 

@@ -1,5 +1,5 @@
 -- The texts that the program writes.
-use Rattle.std.specs.Prelude.{◌≡◌, ◌⊎◌, ◌≤◌, ◌^◌, ℕ, List, [], ◌∷◌, ◌++◌, Option, Some, None, Result, OnOk, IsUtf8, codes, length, string_bytes}
+use Rattle.std.specs.Prelude.{◌≡◌, ◌⊎◌, ◌≤◌, ◌^◌, ℕ, List, Option, Some, None, Result, IsUtf8, codes, length, string_bytes}
 use Rattle.std.specs.Borrow.{Bor}
 use Rattle.std.specs.Io.KnownBytes.{Appends}
 use Rattle.base_ast.specs.Optimized.{optimized_rules_of}
@@ -9,6 +9,7 @@ use Rattle.base_language.specs.declared.grammar.Rule.{Rule}
 use Rattle.base_language.specs.declared.runtime.errors.Error.{Error}
 use Rattle.pest_meta.specs.Spelling.{IsAnswer, IsRefusedWith}
 use Rattle.pest_meta.specs.Written.{IsWritten, SpellsAccepted}
+pub use Rattle.program_support.specs.Ends.{WritesLine, WritesNote, WritesReport}
 use Rattle.program_support.specs.Messages.{IsReport}
 use Rattle.pest_run.specs.Messages.{no_rule_text, steps_text, unread_text}
 use Rattle.pest_run.specs.Outcomes.{CallsUnknownName, HasFailed, HasNoOutcome, HasNoRule, HasUnnamed, HasWrongBound, IsNoted, IsOutcome, IsShown, IsTreeless, TakesTooManySteps}
@@ -27,10 +28,6 @@ IsReadable source = (source.why ≡ None) × IsUtf8 source.bytes.items
 abbrev pub why_unread : Source → List ℕ
 why_unread source = elim source.why [ Some why ↦ string_bytes why | None ↦ codes "it is not UTF-8" ]
 
--- unless a write was refused, the writer's contents grew by the message and a line feed
-abbrev pub WritesLine : {X E : Type 0} → List ℕ → Result X E → Option (List ℕ) → Option (List ℕ) → Type 0
-WritesLine message written old new = OnOk written (Appends old new (message ++ 10 ∷ []))
-
 -- the line says that the file can't be read and why, or that an allocation failed
 abbrev pub WritesUnread : {X E : Type 0} → Source → Result X E → Option (List ℕ) → Option (List ℕ) → Type 0
 WritesUnread source written old new =
@@ -44,13 +41,6 @@ pub record ReportsUnread {X E : Type 0} (grammar text : Source) (written : Resul
   pub given : (source ≡ grammar) ⊎ (source ≡ text)
   pub unreadable : IsReadable source → ⊥
   pub line : WritesUnread source written old new
-
--- a report of errors is the line
-pub record WritesReport {X E : Type 0} (errors : List (Error Rule)) (written : Result X E)
-    (old new : Option (List ℕ)) : Type 0 where
-  pub report : List ℕ
-  pub shows : IsReport errors report
-  pub line : WritesLine report written old new
 
 -- the grammar is refused, and the report is the line
 pub record ReportsRefusal {X E : Type 0} (grammar : List ℕ) (written : Result X E)
@@ -91,12 +81,6 @@ pub record PrintsTrees (form : RuleForm) (grammar rule text : List ℕ) (format 
   pub lines : List ℕ
   pub shows : IsShown rules rule text format lines
   pub gained : Appends old new lines
-
--- a note is a line; where there is none, the writer is the same
-abbrev pub WritesNote : {X E : Type 0} → Option (List ℕ) → Type 0 → Result X E
-    → Option (List ℕ) → Option (List ℕ) → Type 0
-WritesNote None same written old new = same
-WritesNote (Some note) same written old new = WritesLine note written old new
 
 -- the rule of the grammar matches the text, and the note on its end was written
 pub record NotesEnd {X E : Type 0} (form : RuleForm) (grammar rule text : List ℕ) (format : Format)

@@ -14,7 +14,6 @@ ghost use Rattle.pest_run.specs.Steps.{step_limit};
 ghost use Rattle.pest_run.specs.Written.{IsReadable, ReportsRefusal, ReportsUnread, WritesLine};
 
 use crate::arguments::{Request, step_limit};
-use crate::ends::{RunExit, exit_with, exit_with_code};
 use crate::grammars::{Reading, refuse_grammar};
 use crate::messages::code_message;
 use crate::outcomes::block_outcome;
@@ -26,6 +25,7 @@ use matcher_engine::block::{BlockFlaw, check_block, compile_block};
 use matcher_program::compile::Unfit;
 use matcher_support::unicode_properties::UnicodeProperties;
 use pest_meta::{OpenGrammar, open, optimize_with_spans};
+use program_support::ends::{RunExit, exit_with, exit_with_code};
 use program_support::output::Output;
 use program_support::status::Status;
 use std::alloc::Global;

@@ -8,7 +8,6 @@ ghost use Rattle.pest_run.specs.Grammars.{IsReadFrom, IsReadingOf};
 ghost use Rattle.pest_run.specs.Written.{AreRun, ReportsRefusal, WritesLine};
 
 use crate::arguments::RuleForm;
-use crate::ends::{RunExit, exit_with, report_refusal};
 use crate::properties::find_property;
 use base_ast::ast::Rule;
 use base_ast::deep::Deep;
@@ -17,6 +16,7 @@ use base_language::runtime::Fault;
 use front_optimizer::{optimize, unroll_rules};
 use front_spanned::erase_spans;
 use pest_meta::{OpenError, open};
+use program_support::ends::{RunExit, exit_with, report_refusal};
 use program_support::output::Output;
 use program_support::status::Status;
 use std::alloc::{AllocError, Global};

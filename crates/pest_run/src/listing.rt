@@ -5,7 +5,6 @@ ghost use Rattle.pest_run.specs.Ends.{IsStatus};
 ghost use Rattle.pest_run.specs.Listing.{IsListOutcome, ListsRules};
 ghost use Rattle.pest_run.specs.Written.{IsReadable, ReportsRefusal, ReportsUnread, WritesLine};
 
-use crate::ends::{RunExit, exit_with, report_refusal};
 use crate::outcomes::Outcome;
 use crate::rule_names::name_lines;
 use crate::run::print_outcome;
@@ -13,6 +12,7 @@ use crate::sources::{Source, text_of, unreadable};
 use base_ast::optimized::{OptimizedRule, release};
 use base_language::runtime::Fault;
 use pest_meta::parse_as_written;
+use program_support::ends::{RunExit, exit_with, report_refusal};
 use program_support::output::Output;
 use program_support::status::Status;
 use std::alloc::Global;

@@ -8,7 +8,6 @@ ghost use Rattle.pest_run.specs.Written.{IsReadable, PrintsTrees};
 
 mod arguments;
 mod codes;
-mod ends;
 mod explanations;
 mod failures;
 mod forms;

@@ -6,11 +6,11 @@ ghost use Rattle.pest_run.specs.Steps.{step_limit};
 ghost use Rattle.pest_run.specs.Written.{IsFormOutcome, IsReadable, NotesEnd, PrintsTrees, ReportsReason, ReportsStop, ReportsUnread, WritesLine};
 
 use crate::arguments::{Request, step_limit};
-use crate::ends::{RunExit, exit_after_write, exit_with};
 use crate::grammars::{GrammarRules, Reading, read_grammar, refuse_grammar};
 use crate::outcomes::{Outcome, outcome_of};
 use crate::sources::{Source, text_of, unreadable};
 use base_ast::optimized::release;
+use program_support::ends::{RunExit, exit_after_write, exit_with};
 use program_support::output::Output;
 use program_support::status::Status;
 use std::alloc::Global;

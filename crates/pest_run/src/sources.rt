@@ -2,8 +2,8 @@
 ghost use Rattle.std.specs.Prelude.{◌≡◌, ◌↔◌, IfSome, IsErr, IsOk, IsSome, true};
 ghost use Rattle.pest_run.specs.Written.{IsReadable, WritesUnread, why_unread};
 
-use crate::ends::{RunExit, exit_with};
 use crate::messages::unread_message;
+use program_support::ends::{RunExit, exit_with};
 use program_support::output::Output;
 use program_support::status::Status;
 use std::alloc::Global;

@@ -5,3 +5,4 @@ pub mod Lines
 pub mod Messages
 pub mod Statuses
 pub mod Arguments
+pub mod Ends

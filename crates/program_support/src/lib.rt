@@ -3,6 +3,7 @@
 #![tactic(auto)]
 
 pub mod arguments;
+pub mod ends;
 pub mod escape;
 pub mod excerpt;
 pub mod folders;

@@ -1,13 +1,13 @@
-//! Ends of a run.
+//! Ends of a run on standard error.
 ghost use Rattle.std.specs.Prelude.{◌≡◌, ◌⊎◌, IsErr, IsOk, codes, option_map, string_bytes, true};
-ghost use Rattle.pest_run.specs.Written.{WritesLine, WritesNote, WritesReport};
+ghost use Rattle.program_support.specs.Ends.{WritesLine, WritesNote, WritesReport};
 ghost use Rattle.program_support.specs.Statuses.{status_code};
 
+use crate::messages::show_report;
+use crate::output::{Output, RefusedWrite};
+use crate::status::Status;
 use base_language::grammar::Rule;
 use base_language::runtime::Error;
-use program_support::messages::show_report;
-use program_support::output::{Output, RefusedWrite};
-use program_support::status::Status;
 use std::alloc::Global;
 use std::io::Write;
 
