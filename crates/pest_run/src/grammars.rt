@@ -75,7 +75,7 @@ pub fn refuse_grammar<'g, E: Write>(
     reading: &mut Reading<'g>,
     err: &mut Output<E>,
 ) -> RunExit
-    requires { IsOpenError grammar.entry.now error }
+    requires { IsOpenError grammar.now error }
     ensures known { (result.status ≡ 1) ⊎ (result.status ≡ 2) }
     ensures reading { IsReadingOf grammar.entry.now reading.new }
     ensures reason { result.status ≡ 1 → ReportsRefusal grammar.entry.now result.write_result
