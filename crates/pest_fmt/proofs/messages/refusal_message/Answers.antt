@@ -11,7 +11,7 @@ pub loop-error-preserved : goal.loop-error-preserved
 loop-error-preserved c =
     let name = string_bytes c.in_ok-name.name in
     let error = c.error-item.result in
-    let shown = c.as_str-in-loop-error-2 in
+    let shown = c.as_str-in-loop-error in
     let told : TellsError name error shown.result.now =
     subst (λ t. TellsError name error t) (sym shown.ensures.value)
     (subst (λ n. TellsError n error (string_bytes c.in_ok-part.part)) c.as_str.ensures.value c.in_ok-part.ensures) in
