@@ -234,8 +234,8 @@ const STEPS_PER_BYTE: u64 = 1_000;
 /// The bytes by which every text counts for longer.
 const MORE_BYTES: u64 = 1_000;
 
-/// Returns the greatest number of steps on a text of this length: the given one, or else one that is linear in
-/// the length.
+/// Returns the greatest number of steps on a text of this length: the given one, or else one that is linear
+/// in the length.
 pub fn step_limit(steps: Option<u64>, length: usize) -> u64
     ensures { result ≡ step_limit steps length }
 {
