@@ -9,7 +9,7 @@ use Rattle.pest_lint.specs.declared.lint.Source.{Source}
 abbrev pub memory_line : Source → List ℕ
 memory_line source = codes "out of memory at " ++ (visible (string_bytes source.name) ++ codes "\n")
 
--- why a file can't be read: what the system says, if it says something
+-- why a file can't be read: the words of the system, if there are any
 abbrev pub reason : Option (String Global) → List ℕ
 reason None = codes "it is not UTF-8"
 reason (Some why) = string_bytes why

@@ -4,7 +4,7 @@ use Rattle.std.specs.Borrow.{Bor}
 use Rattle.program_support.specs.Folders.{IsGrammarName}
 use Rattle.pest_lint.specs.declared.lint.Source.{Source}
 
--- one of a folder: it has the name of a grammar, or can't be read
+-- one of a folder: a file with the name of a grammar, or one that can't be read
 abbrev pub IsOfFolder : Source → Type 0
 IsOfFolder source = IsGrammarName source.name ⊎ IsSome source.why
 
