@@ -11,10 +11,13 @@ use Rattle.base_language.specs.Language.Text.{Text}
 use Rattle.matcher_code.proofs.OneDerivation.{Answer, one_answer}
 use Rattle.matcher_program.specs.Answers.{HasAt}
 use Rattle.matcher_program.specs.declared.form.Property.{Property}
+use Rattle.matcher_engine.specs.Guided.{IsGuidedFrom}
+use Rattle.matcher_engine.specs.declared.guide.Guided.{Guided}
+use Rattle.matcher_engine.specs.declared.guide.Guided.TheVariants as guided
 use Rattle.matcher_engine.specs.Recognitions.{HasEnd, IsRecognitionFrom}
 use Rattle.matcher_engine.specs.declared.recognize.Recognition.{Recognition}
 use Rattle.matcher_engine.specs.declared.recognize.Recognition.TheVariants as known
-use Rattle.matcher_engine.proofs.OneAnswer.{one_failure}
+use Rattle.matcher_engine.proofs.OneAnswer.{one_failure, one_match}
 
 module _ (g : Grammar) (ps : List Property) (n : Text) (s : State) where
   -- an outcome of the rule from the state, with its derivation
@@ -50,3 +53,8 @@ module _ (g : Grammar) (ps : List Property) (n : Text) (s : State) where
   one_recognition known.Endless x classes fits = ∥∥₁_elim x (none_prop classes) (λ y. y classes fits)
   one_recognition known.OutOfTurns x classes fits = tt
   one_recognition known.Unknown x classes fits = tt
+
+  pub one_guided : (it : Guided) → ∥ IsGuidedFrom g ps n s it ∥₁ → IsGuidedFrom g ps n s it
+  one_guided (guided.Matched found) x classes fits = one_match g ps n s found classes (∥∥₁_map x (λ y. y classes fits))
+  one_guided (guided.Failed place) x classes fits = one_failure g ps n s place x classes fits
+  one_guided guided.Unanswered x classes fits = tt

@@ -1,6 +1,7 @@
 pub mod BlockRuns
 pub mod Blocks
 pub mod ExpectedRows
+pub mod Guided
 pub mod Marks
 pub mod Matchers
 pub mod Preorders

@@ -4,6 +4,7 @@
 pub mod attempts;
 pub mod block;
 pub mod codes;
+pub mod guide;
 pub mod laws;
 pub mod mark;
 pub mod matcher;
