@@ -37,8 +37,8 @@ use Rattle.matcher_support.specs.Compiled.{AreExpectedIn, FailsIn}
 use Rattle.matcher_support.specs.Sets.{has_set, is_in_property}
 use Rattle.matcher_support.specs.Compiled.{AreAttemptsIn}
 use Rattle.pest_run.specs.Failures.{AreOfError, IsFound}
-use Rattle.pest_run.specs.Outcomes.{HasNoRule, IsFailureReport, IsMatchReport, IsNoRuleReport, IsNoted, IsOutcome, IsStopReport, IsUnnamedReport, ReportsAt, TakesTooManySteps, end_note, tells_expected, trees_text, unfit_outcome}
-use Rattle.pest_run.specs.Messages.{expected_text, is_more, note_between, unnamed_text}
+use Rattle.pest_run.specs.Outcomes.{HasNoRule, IsFailureReport, IsMatchReport, IsNoRuleReport, IsNoted, IsOutcome, IsStopReport, IsUnnamedMatchReport, IsUnnamedReport, ReportsAt, TakesTooManySteps, end_note, tells_expected, trees_text, unfit_outcome}
+use Rattle.pest_run.specs.Messages.{expected_text, is_more, note_between, unnamed_end_text, unnamed_text}
 use Rattle.pest_run.specs.declared.arguments.Format.{Format}
 use Rattle.pest_run.specs.declared.arguments.Format.TheVariants as format_is
 use Rattle.matcher_support.specs.declared.attempts.NamedAttempts.{NamedAttempts}
@@ -99,7 +99,6 @@ failed g rule name text format limit place it (is.Failed report) f a t = record 
   reports = t;
 }
 failed g rule name text format limit place it (is.Unnamed report) f a t = absurd t
-failed g rule name text format limit place it (is.Treeless said) f a t = absurd t
 failed g rule name text format limit place it (is.NoRule message) f a t = absurd t
 failed g rule name text format limit place it (is.OutOfSteps said) f a t = absurd t
 failed g rule name text format limit place it is.EmptyStack f a t = absurd t
@@ -117,7 +116,6 @@ unnamed g rule name text format limit place (is.Unnamed report) f long t =
     record { fails = f.0; long = long; reports = subst P f.1 t }
 unnamed g rule name text format limit place (is.Shown lines _) f long t = absurd t
 unnamed g rule name text format limit place (is.Failed report) f long t = absurd t
-unnamed g rule name text format limit place (is.Treeless said) f long t = absurd t
 unnamed g rule name text format limit place (is.NoRule message) f long t = absurd t
 unnamed g rule name text format limit place (is.OutOfSteps said) f long t = absurd t
 unnamed g rule name text format limit place is.EmptyStack f long t = absurd t
@@ -132,7 +130,6 @@ pub unknown : (g : Grammar) (rule name text : List ℕ) (format : Format) (limit
 unknown g rule name text format limit (is.Shown lines _) h t = absurd t
 unknown g rule name text format limit (is.Failed report) h t = absurd t
 unknown g rule name text format limit (is.Unnamed report) h t = absurd t
-unknown g rule name text format limit (is.Treeless said) h t = absurd t
 unknown g rule name text format limit (is.NoRule message) h t = (h, t)
 unknown g rule name text format limit (is.OutOfSteps said) h t = absurd t
 unknown g rule name text format limit is.EmptyStack h t = absurd t
@@ -163,19 +160,19 @@ same_note format_is.Lines text end_ place ns ms h = refl
 module _ (g : Grammar) (rule name text : List ℕ) (format : Format) (limit : ℕ) (it : Preorder) (found : HasPreorder g (chars rule) (start_of text) is_in_property it) where
   -- where the note on it has these names
   noted : (names : List Text) (note : Option (List ℕ)) → names ≡ each_once (expected found.found)
-      → note ≡ end_note format text it.end it.furthest names → IsNoted g rule text format note
+      → note ≡ end_note format text it.end it.furthest names → IsNoted g rule text format limit note
   noted names note a t =
       let P : ℕ → ℕ → List Text → Option (List ℕ) = end_note format text in
       record {
         end_ = found.state;
         trees = found.trees;
         matches = found.found;
-        tells = t ∙ (ap₂ (λ e p. P e p names) found.ends found.place ∙ ap (P found.state.position (furthest found.found)) a);
+        tells = inl (t ∙ (ap₂ (λ e p. P e p names) found.ends found.place ∙ ap (P found.state.position (furthest found.found)) a));
       }
 
   -- where the names are known if the note tells them
   notes : (names : List (Bor (List ℕ))) (note : Option (List ℕ)) → (tells_expected format text it.end it.furthest ≡ true → AreExpectedIn g rule text it.furthest names)
-      → note ≡ end_note format text it.end it.furthest (name_texts names) → IsNoted g rule text format note
+      → note ≡ end_note format text it.end it.furthest (name_texts names) → IsNoted g rule text format limit note
   notes names note a t =
       let all = each_once (expected found.found) in
       elim (told (tells_expected format text it.end it.furthest)) [
@@ -192,7 +189,6 @@ module _ (g : Grammar) (rule name text : List ℕ) (format : Format) (limit : �
   )
   shows names (is.Failed report) t a = absurd t
   shows names (is.Unnamed report) t a = absurd t
-  shows names (is.Treeless said) t a = absurd t
   shows names (is.NoRule message) t a = absurd t
   shows names (is.OutOfSteps said) t a = absurd t
   shows names is.EmptyStack t a = absurd t
@@ -200,6 +196,29 @@ module _ (g : Grammar) (rule name text : List ℕ) (format : Format) (limit : �
   shows names is.UnknownName t a = absurd t
   shows names is.Bound t a = absurd t
   shows names is.Memory t a = tt
+
+  -- where they were not found
+  pub shows_unnamed : (o : Outcome) → IsUnnamedMatchReport text format it.end it.furthest limit found.trees o
+      → tells_expected format text it.end it.furthest ≡ true → TakesTooManySteps g rule text limit → IsOutcome g rule name text format limit o
+  shows_unnamed (is.Shown lines note) t asked long =
+      let P : ℕ → ℕ → Option (List ℕ) = λ e p. Some (unnamed_end_text text e p limit) in (
+        record { end_ = found.state; trees = found.trees; matches = found.found; lines_show = t.0 ∙ ap (λ e. trees_text format text e found.trees) found.ends },
+        record {
+          end_ = found.state;
+          trees = found.trees;
+          matches = found.found;
+          tells = inr (sym (ap₂ (tells_expected format text) found.ends found.place) ∙ asked, long, t.1 ∙ ap₂ P found.ends found.place);
+        },
+      )
+  shows_unnamed (is.Failed report) t asked long = absurd t
+  shows_unnamed (is.Unnamed report) t asked long = absurd t
+  shows_unnamed (is.NoRule message) t asked long = absurd t
+  shows_unnamed (is.OutOfSteps said) t asked long = absurd t
+  shows_unnamed is.EmptyStack t asked long = absurd t
+  shows_unnamed is.LongText t asked long = absurd t
+  shows_unnamed is.UnknownName t asked long = absurd t
+  shows_unnamed is.Bound t asked long = absurd t
+  shows_unnamed is.Memory t asked long = tt
 
 -- the furthest failure of a derivation is one of the text
 stands_here : (g : Grammar) (n : Text) (text : List ℕ) (place : ℕ) {o : Result} (d : Has g n text is_in_property o) → IsUtf8 text → place ≡ furthest d → IsCharBoundary text place
@@ -248,7 +267,6 @@ stopped g rule name text format limit stop.OutOfSteps is.Memory utf8 h t = tt
 stopped g rule name text format limit stop.OutOfSteps (is.Shown lines _) utf8 h t = absurd t
 stopped g rule name text format limit stop.OutOfSteps (is.Failed report) utf8 h t = absurd t
 stopped g rule name text format limit stop.OutOfSteps (is.Unnamed report) utf8 h t = absurd t
-stopped g rule name text format limit stop.OutOfSteps (is.Treeless said) utf8 h t = absurd t
 stopped g rule name text format limit stop.OutOfSteps (is.NoRule message) utf8 h t = absurd t
 stopped g rule name text format limit stop.OutOfSteps is.EmptyStack utf8 h t = absurd t
 stopped g rule name text format limit stop.OutOfSteps is.LongText utf8 h t = absurd t

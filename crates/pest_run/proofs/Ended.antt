@@ -9,7 +9,7 @@ use Rattle.matcher_support.specs.Sets.{is_in_property}
 use Rattle.matcher_program.specs.Answers.{start_of}
 use Rattle.pest_run.specs.Messages.{no_rule_text, steps_text}
 use Rattle.pest_run.specs.Outcomes.{IsOutcome, IsShown}
-use Rattle.pest_run.specs.Written.{AreMatched, AreRun, IsFormOutcome, NotesEnd, PrintsTrees, ReportsReason, ReportsRefusal, ReportsStop, WritesLine, empty_stack, long_text, no_match, no_rule, refused, too_many_steps, treeless, unknown_name, unnamed, wide_bound}
+use Rattle.pest_run.specs.Written.{AreMatched, AreRun, IsFormOutcome, NotesEnd, PrintsTrees, ReportsReason, ReportsRefusal, ReportsStop, WritesLine, empty_stack, long_text, no_match, no_rule, refused, too_many_steps, unknown_name, unnamed, wide_bound}
 use Rattle.pest_run.specs.declared.arguments.Format.{Format}
 use Rattle.pest_run.specs.declared.arguments.RuleForm.{RuleForm}
 use Rattle.pest_run.specs.declared.arguments.RuleForm.TheVariants as form_is
@@ -57,7 +57,6 @@ prints (is.Shown lines note) name grammar rule text format form rules limit told
 prints (is.Failed report) name grammar rule text format form rules limit told same status old_out new_out old new a i e zero = absurd (apart status 0 1 zero e.0 (omega arith))
 prints (is.Unnamed report) name grammar rule text format form rules limit told same status old_out new_out old new a i e zero = absurd (apart status 0 1 zero e.0 (omega arith))
 prints (is.NoRule said) name grammar rule text format form rules limit told same status old_out new_out old new a i e zero = absurd (apart status 0 1 zero e.0 (omega arith))
-prints (is.Treeless said) name grammar rule text format form rules limit told same status old_out new_out old new a i e zero = absurd (apart status 0 5 zero e.0 (omega arith))
 prints (is.OutOfSteps said) name grammar rule text format form rules limit told same status old_out new_out old new a i e zero = absurd (apart status 0 5 zero e.0 (omega arith))
 prints is.EmptyStack name grammar rule text format form rules limit told same status old_out new_out old new a i e zero = absurd (apart status 0 5 zero e.0 (omega arith))
 prints is.LongText name grammar rule text format form rules limit told same status old_out new_out old new a i e zero = absurd (apart status 0 5 zero e.0 (omega arith))
@@ -68,13 +67,12 @@ prints is.Memory name grammar rule text format form rules limit told same status
 -- and the note on their end was written
 pub notes : {X E : Type 0} (o : Outcome) (name grammar rule text : List ℕ) (format : Format) (form : RuleForm) (rules : Grammar) (limit : ℕ) (told : Result X E) (same : Type 0) (status : ℕ)
     (old_out new_out old new : Option (List ℕ)) → AreRun form grammar rules → IsOutcome rules rule name text format limit o
-    → EndsAs o same status told old_out new_out old new → status ≡ 0 → NotesEnd form grammar rule text format same told old new
+    → EndsAs o same status told old_out new_out old new → status ≡ 0 → NotesEnd form grammar rule text format limit same told old new
 notes (is.Shown lines note) name grammar rule text format form rules limit told same status old_out new_out old new a i e zero =
     record { rules = rules; are = a; note = option_map string_bytes note; noted = i.1; line = e.2 zero }
 notes (is.Failed report) name grammar rule text format form rules limit told same status old_out new_out old new a i e zero = absurd (apart status 0 1 zero e.0 (omega arith))
 notes (is.Unnamed report) name grammar rule text format form rules limit told same status old_out new_out old new a i e zero = absurd (apart status 0 1 zero e.0 (omega arith))
 notes (is.NoRule said) name grammar rule text format form rules limit told same status old_out new_out old new a i e zero = absurd (apart status 0 1 zero e.0 (omega arith))
-notes (is.Treeless said) name grammar rule text format form rules limit told same status old_out new_out old new a i e zero = absurd (apart status 0 5 zero e.0 (omega arith))
 notes (is.OutOfSteps said) name grammar rule text format form rules limit told same status old_out new_out old new a i e zero = absurd (apart status 0 5 zero e.0 (omega arith))
 notes is.EmptyStack name grammar rule text format form rules limit told same status old_out new_out old new a i e zero = absurd (apart status 0 5 zero e.0 (omega arith))
 notes is.LongText name grammar rule text format form rules limit told same status old_out new_out old new a i e zero = absurd (apart status 0 5 zero e.0 (omega arith))
@@ -94,7 +92,6 @@ tells (is.Unnamed report) name grammar rule text format form rules limit told sa
 tells (is.NoRule said) name grammar rule text format form rules limit told same status old_out new_out old new a i e one =
     let P : List ℕ → Type 0 = λ t. WritesLine t told old new in
     record { message = no_rule_text rules rule; reason = no_rule rules a i.0; line = subst P i.1 e.1 }
-tells (is.Treeless said) name grammar rule text format form rules limit told same status old_out new_out old new a i e one = absurd (apart status 1 5 one e.0 (omega arith))
 tells (is.OutOfSteps said) name grammar rule text format form rules limit told same status old_out new_out old new a i e one = absurd (apart status 1 5 one e.0 (omega arith))
 tells is.EmptyStack name grammar rule text format form rules limit told same status old_out new_out old new a i e one = absurd (apart status 1 5 one e.0 (omega arith))
 tells is.LongText name grammar rule text format form rules limit told same status old_out new_out old new a i e one = absurd (apart status 1 5 one e.0 (omega arith))
@@ -110,8 +107,6 @@ stops (is.Shown lines _) name grammar rule text format form rules limit told sam
 stops (is.Failed report) name grammar rule text format form rules limit told same status old_out new_out old new a i e five = absurd (apart status 1 5 e.0 five (omega arith))
 stops (is.Unnamed report) name grammar rule text format form rules limit told same status old_out new_out old new a i e five = absurd (apart status 1 5 e.0 five (omega arith))
 stops (is.NoRule said) name grammar rule text format form rules limit told same status old_out new_out old new a i e five = absurd (apart status 1 5 e.0 five (omega arith))
-stops (is.Treeless said) name grammar rule text format form rules limit told same status old_out new_out old new a i e five =
-    record { rules = rules; are = a; message = string_bytes said; stop = treeless (string_bytes said) i; line = e.1 }
 stops (is.OutOfSteps said) name grammar rule text format form rules limit told same status old_out new_out old new a i e five =
     let P : List ℕ → Type 0 = λ t. WritesLine t told old new in
     record { rules = rules; are = a; message = steps_text limit; stop = too_many_steps i.0; line = subst P i.1 e.1 }
@@ -142,7 +137,7 @@ module _ {X E : Type 0} (o : Outcome) (name grammar rule text : List ℕ) (forma
     | inr x ↦ prints o name grammar rule text format form x.0 limit told same status old_out new_out old new x.1 x.2 e zero
   ]
 
-  pub form_notes : status ≡ 0 → NotesEnd form grammar rule text format same told old new
+  pub form_notes : status ≡ 0 → NotesEnd form grammar rule text format limit same told old new
   form_notes zero = elim comes [
     | inl m ↦ absurd (no_memory 0 m zero (λ z. omega (arith, z)))
     | inr x ↦ notes o name grammar rule text format form x.0 limit told same status old_out new_out old new x.1 x.2 e zero

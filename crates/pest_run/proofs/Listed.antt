@@ -26,7 +26,6 @@ module _ {X E : Type 0} (grammar : List ℕ) (rules : Grammar) (told : Result X 
       record { rules = written.spelled; spelled = written.accepted; gained = subst P shows (e.1 zero) }
   lists (is.Failed report) a i e zero = absurd i
   lists (is.Unnamed report) a i e zero = absurd i
-  lists (is.Treeless message) a i e zero = absurd i
   lists (is.NoRule message) a i e zero = absurd i
   lists (is.OutOfSteps said) a i e zero = absurd i
   lists is.EmptyStack a i e zero = absurd i
@@ -42,7 +41,6 @@ module _ {X E : Type 0} (grammar : List ℕ) (rules : Grammar) (told : Result X 
       subst P i.1 (e.2 zero)
   silent (is.Failed report) i e zero = absurd i
   silent (is.Unnamed report) i e zero = absurd i
-  silent (is.Treeless message) i e zero = absurd i
   silent (is.NoRule message) i e zero = absurd i
   silent (is.OutOfSteps said) i e zero = absurd i
   silent is.EmptyStack i e zero = absurd i
@@ -56,7 +54,6 @@ module _ {X E : Type 0} (grammar : List ℕ) (rules : Grammar) (told : Result X 
   only (is.Shown lines _) k i e one z t f = neither status k e.0 one z f
   only (is.Failed report) k i e one z t f = absurd i
   only (is.Unnamed report) k i e one z t f = absurd i
-  only (is.Treeless message) k i e one z t f = absurd i
   only (is.NoRule message) k i e one z t f = absurd i
   only (is.OutOfSteps said) k i e one z t f = absurd i
   only is.EmptyStack k i e one z t f = absurd i

@@ -20,8 +20,6 @@ EndsAs (is.Failed report) same status told old_out new_out old new =
     (status ≡ 1) × WritesLine (string_bytes report) told old new
 EndsAs (is.Unnamed report) same status told old_out new_out old new =
     (status ≡ 1) × WritesLine (string_bytes report) told old new
-EndsAs (is.Treeless message) same status told old_out new_out old new =
-    (status ≡ 5) × WritesLine (string_bytes message) told old new
 EndsAs (is.NoRule message) same status told old_out new_out old new =
     (status ≡ 1) × WritesLine (string_bytes message) told old new
 EndsAs (is.OutOfSteps message) same status told old_out new_out old new =

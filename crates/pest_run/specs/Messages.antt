@@ -29,12 +29,6 @@ unnamed_text steps =
     codes "what is expected here was not found in "
     ++ (decimal steps ++ codes " steps; --steps N allows N")
 
--- that a match ends at a line and a column, and that its trees take more than so many steps
-abbrev pub treeless_text : ℕ × ℕ → ℕ → List ℕ
-treeless_text end_ steps =
-    codes "matched up to " ++ (decimal end_.0 ++ (codes ":" ++ (decimal end_.1
-    ++ (codes "; the trees take more than " ++ (decimal steps ++ codes " steps; --steps N allows N")))))
-
 -- more than a line's end is left of a text
 abbrev pub is_more : List ℕ → Bool
 is_more rest = not (length rest == 0 || bytes_eq rest (codes "\n") || bytes_eq rest (codes "\r\n"))
@@ -75,6 +69,17 @@ abbrev pub end_text : List ℕ → (end_ place : ℕ) → List Text → List ℕ
 end_text text end_ place names =
     note_between (line_column text end_) (line_column text (length text))
     ++ (if nat_le end_ place then expected_text (line_column text place) names else [])
+
+-- that something was not found in so many steps
+abbrev pub not_found_text : ℕ → List ℕ
+not_found_text steps = codes " was not found in " ++ (decimal steps ++ codes " steps; --steps N allows N")
+
+-- that a match ends at a byte position of a text, and that what is expected at another was not found in so
+-- many steps
+abbrev pub unnamed_end_text : List ℕ → (end_ place limit : ℕ) → List ℕ
+unnamed_end_text text end_ place limit =
+    note_between (line_column text end_) (line_column text (length text))
+    ++ codes "; what is expected at " ++ place_text (line_column text place) ++ not_found_text limit
 
 -- that the optimized rules match
 abbrev pub optimized_text : List ℕ

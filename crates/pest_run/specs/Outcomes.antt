@@ -1,5 +1,5 @@
 -- The outcome of a rule on a text.
-use Rattle.std.specs.Prelude.{◌≡◌, ◌<◌, ◌≤◌, ◌^◌, ◌&&◌, ℕ, List, ◌++◌, Option, Some, None, Bool, false, codes, drop, if◌then◌else◌, length, nat_le, option_map, string_bytes, ⊤}
+use Rattle.std.specs.Prelude.{◌≡◌, ◌⊎◌, ◌<◌, ◌≤◌, ◌^◌, ◌&&◌, ℕ, List, ◌++◌, Option, Some, None, Bool, false, true, codes, drop, if◌then◌else◌, length, nat_le, option_map, string_bytes, ⊤}
 use Rattle.std.specs.Str.{chars}
 use Rattle.base_language.specs.Language.Expression.{Grammar, Ident, rule_of}
 use Rattle.base_language.specs.Language.Expected.{expected}
@@ -26,7 +26,7 @@ use Rattle.matcher_support.specs.Shown.{shown}
 use Rattle.matcher_support.specs.Values.{answer_data}
 use Rattle.program_support.specs.Escapes.{escaped_json, escaped_lines}
 use Rattle.program_support.specs.Messages.{ShowsError}
-use Rattle.pest_run.specs.Messages.{end_text, failure_text, is_more, no_rule_text, steps_text, treeless_text, unnamed_text}
+use Rattle.pest_run.specs.Messages.{end_text, failure_text, is_more, no_rule_text, steps_text, unnamed_end_text, unnamed_text}
 use Rattle.pest_run.specs.Failures.{AreTold}
 use Rattle.pest_run.specs.declared.arguments.Format.{Format}
 use Rattle.pest_run.specs.declared.arguments.Format.TheVariants as format_is
@@ -64,14 +64,24 @@ pub record IsShown (g : Grammar) (rule text : List ℕ) (format : Format) (lines
   pub matches : Has g (chars rule) text is_in_property (Success end_ trees)
   pub lines_show : lines ≡ trees_text format text end_.position trees
 
+-- for each outcome of the rule the matcher may take more steps than the limit
+abbrev pub TakesTooManySteps : Grammar → List ℕ → List ℕ → ℕ → Type 0
+TakesTooManySteps g rule text limit = (o : Result) (found : Has g (chars rule) text is_in_property o)
+    → limit < most_steps found
+
 -- the rule, called at the start of the text, succeeds, and the note, if there is one, tells where it ends,
--- and the names that are expected at its furthest failure
-pub record IsNoted (g : Grammar) (rule text : List ℕ) (format : Format) (note : Option (List ℕ))
+-- and the names that are expected at its furthest failure; or that these were not found in so many steps, and
+-- for each outcome the matcher may take more
+pub record IsNoted (g : Grammar) (rule text : List ℕ) (format : Format) (limit : ℕ) (note : Option (List ℕ))
     : Type 0 where
   pub end_ : State
   pub trees : Trees
   pub matches : Has g (chars rule) text is_in_property (Success end_ trees)
-  pub tells : note ≡ end_note format text end_.position (furthest matches) (each_once (expected matches))
+  pub tells :
+      (note ≡ end_note format text end_.position (furthest matches) (each_once (expected matches)))
+      ⊎ (tells_expected format text end_.position (furthest matches) ≡ true
+      × TakesTooManySteps g rule text limit
+      × (note ≡ Some (unnamed_end_text text end_.position (furthest matches) limit)))
 
 -- a report of a message on a position of the text of a file
 pub record ReportsAt (name text : List ℕ) (place : ℕ) (message report : List ℕ) : Type 0 where
@@ -96,11 +106,6 @@ pub record HasFailed (g : Grammar) (rule name text report : List ℕ) : Type 0 w
   pub are : AreTold fails place names others
   pub reports : ReportsFailure name text place names others report
 
--- for each outcome of the rule the matcher may take more steps than the limit
-abbrev pub TakesTooManySteps : Grammar → List ℕ → List ℕ → ℕ → Type 0
-TakesTooManySteps g rule text limit = (o : Result) (found : Has g (chars rule) text is_in_property o)
-    → limit < most_steps found
-
 -- the rule, called at the start of the text of a file, fails, and the report shows the furthest position of a
 -- failure, where what is expected was not found in so many steps; and for each outcome the matcher may take
 -- more
@@ -108,15 +113,6 @@ pub record HasUnnamed (g : Grammar) (rule name text : List ℕ) (limit : ℕ) (r
   pub fails : Has g (chars rule) text is_in_property Failure
   pub long : TakesTooManySteps g rule text limit
   pub reports : ReportsAt name text (furthest fails) (unnamed_text limit) report
-
--- the rule, called at the start of the text, succeeds, and the message says where the match ends; for each
--- outcome the matcher may take more than so many steps
-pub record IsTreeless (g : Grammar) (rule text : List ℕ) (limit : ℕ) (message : List ℕ) : Type 0 where
-  pub end_ : State
-  pub trees : Trees
-  pub matches : Has g (chars rule) text is_in_property (Success end_ trees)
-  pub long : TakesTooManySteps g rule text limit
-  pub tells : message ≡ treeless_text (line_column text end_.position) limit
 
 -- no rule has the name
 abbrev pub HasNoRule : Grammar → List ℕ → Type 0
@@ -174,6 +170,14 @@ IsMatchReport text format end_ place names trees (is.Shown lines note) =
 IsMatchReport text format end_ place names trees is.Memory = ⊤
 IsMatchReport text format end_ place names trees _ = ⊥
 
+-- so it does where what is expected there was not found in so many steps
+abbrev pub IsUnnamedMatchReport : List ℕ → Format → (end_ place limit : ℕ) → Trees → Outcome → Type 0
+IsUnnamedMatchReport text format end_ place limit trees (is.Shown lines note) =
+    (string_bytes lines ≡ trees_text format text end_ trees)
+    × (option_map string_bytes note ≡ Some (unnamed_end_text text end_ place limit))
+IsUnnamedMatchReport text format end_ place limit trees is.Memory = ⊤
+IsUnnamedMatchReport text format end_ place limit trees _ = ⊥
+
 -- the outcome says that no rule has the name, or reports an allocation failure
 abbrev pub IsNoRuleReport : Grammar → List ℕ → Outcome → Type 0
 IsNoRuleReport g rule (is.NoRule message) = string_bytes message ≡ no_rule_text g rule
@@ -185,12 +189,10 @@ IsNoRuleReport g rule _ = ⊥
 abbrev pub IsOutcome : Grammar → (rule name text : List ℕ) → Format → ℕ → Outcome → Type 0
 IsOutcome g rule name text format limit (is.Shown lines note) =
     IsShown g rule text format (string_bytes lines)
-    × IsNoted g rule text format (option_map string_bytes note)
+    × IsNoted g rule text format limit (option_map string_bytes note)
 IsOutcome g rule name text format limit (is.Failed report) = HasFailed g rule name text (string_bytes report)
 IsOutcome g rule name text format limit (is.Unnamed report) =
     HasUnnamed g rule name text limit (string_bytes report)
-IsOutcome g rule name text format limit (is.Treeless message) =
-    IsTreeless g rule text limit (string_bytes message)
 IsOutcome g rule name text format limit (is.NoRule message) =
     HasNoRule g rule × (string_bytes message ≡ no_rule_text g rule)
 IsOutcome g rule name text format limit (is.OutOfSteps message) =

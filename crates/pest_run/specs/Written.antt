@@ -12,7 +12,7 @@ use Rattle.pest_meta.specs.Written.{IsWritten, SpellsAccepted}
 pub use Rattle.program_support.specs.Ends.{WritesLine, WritesNote, WritesReport}
 use Rattle.program_support.specs.Messages.{IsReport}
 use Rattle.pest_run.specs.Messages.{no_rule_text, steps_text, unread_text}
-use Rattle.pest_run.specs.Outcomes.{CallsUnknownName, HasFailed, HasNoOutcome, HasNoRule, HasUnnamed, HasWrongBound, IsNoted, IsOutcome, IsShown, IsTreeless, TakesTooManySteps}
+use Rattle.pest_run.specs.Outcomes.{CallsUnknownName, HasFailed, HasNoOutcome, HasNoRule, HasUnnamed, HasWrongBound, IsNoted, IsOutcome, IsShown, TakesTooManySteps}
 use Rattle.pest_run.specs.declared.arguments.Format.{Format}
 use Rattle.pest_run.specs.declared.arguments.RuleForm.{RuleForm}
 use Rattle.pest_run.specs.declared.arguments.RuleForm.TheVariants as form_is
@@ -84,11 +84,11 @@ pub record PrintsTrees (form : RuleForm) (grammar rule text : List ℕ) (format 
 
 -- the rule of the grammar matches the text, and the note on its end was written
 pub record NotesEnd {X E : Type 0} (form : RuleForm) (grammar rule text : List ℕ) (format : Format)
-    (same : Type 0) (written : Result X E) (old new : Option (List ℕ)) : Type 0 where
+    (limit : ℕ) (same : Type 0) (written : Result X E) (old new : Option (List ℕ)) : Type 0 where
   pub rules : Grammar
   pub are : AreRun form grammar rules
   pub note : Option (List ℕ)
-  pub noted : IsNoted rules rule text format note
+  pub noted : IsNoted rules rule text format limit note
   pub line : WritesNote note same written old new
 
 -- the reason why there are no trees, and its text: the grammar is refused, and its report is the text; or
@@ -111,12 +111,10 @@ pub record ReportsReason {X E : Type 0} (form : RuleForm) (grammar rule name tex
   pub reason : IsReason form grammar rule name text limit message
   pub line : WritesLine message written old new
 
--- the reason why the matcher was stopped on the text, and its text: too many steps, where the rule may be
--- known to match; or the rule has no outcome and `PEEK` or `POP` met the empty stack; or the text has 4 GiB;
+-- the reason why the matcher was stopped on the text, and its text: too many steps; or the rule has no outcome and `PEEK` or `POP` met the empty stack; or the text has 4 GiB;
 -- or the rules can't be run, for an unknown name or a bound
 pub data IsStop (g : Grammar) (rule text : List ℕ) (limit : ℕ) : List ℕ → Type 0 where
   too_many_steps : TakesTooManySteps g rule text limit → IsStop g rule text limit (steps_text limit)
-  treeless : (message : List ℕ) → IsTreeless g rule text limit message → IsStop g rule text limit message
   empty_stack : HasNoOutcome g rule text
       → IsStop g rule text limit (codes "PEEK or POP found nothing on the stack")
   long_text : 2 ^ 32 ≤ length text → IsStop g rule text limit (codes "the text has 4 GiB or more")

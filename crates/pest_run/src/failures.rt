@@ -1,6 +1,6 @@
 //! Names that the report of a failure tells, and its position: the names that are expected at the furthest
 //! failure, or, where there are none, those of pest's own error.
-ghost use Rattle.std.specs.Prelude.{◌≡◌, IfErr, IfOk, IfSome, true};
+ghost use Rattle.std.specs.Prelude.{◌≡◌, IfErr, IfOk, IfSome, IsErr, true};
 ghost use Rattle.std.specs.Str.{IsCharBoundary};
 ghost use Rattle.base_language.specs.Language.Expression.{Grammar};
 ghost use Rattle.matcher_support.specs.Compiled.{AreAttemptsIn, AreExpectedIn, IsCompiledOf, IsUnanswered};
@@ -88,6 +88,8 @@ pub fn names_after<'a>(
         → AreExpectedIn g rule.entry.now text.entry.now found.now.furthest names.items) }
     ensures refused { (g : Grammar) → IsCompiledOf g rules.entry.now
         → IfErr result (IsUnanswered g rule.entry.now text.entry.now steps) }
+    ensures asked { IsErr result
+        → tells_expected format text.entry.now found.now.end found.now.furthest ≡ true }
 {
     match format {
         Format::Text if found.furthest >= found.end && is_more(&text[found.end..]) => {

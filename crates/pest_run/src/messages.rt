@@ -1,12 +1,12 @@
 //! Messages.
-ghost use Rattle.std.specs.Prelude.{◌≡◌, ◌++◌, IfOk, OnOk, codes, string_bytes};
+ghost use Rattle.std.specs.Prelude.{◌≡◌, ◌++◌, IfOk, OnOk, codes, length, string_bytes};
 ghost use Rattle.std.specs.Str.{IsCharBoundary};
 ghost use Rattle.matcher_program.specs.ExpectedNames.{name_texts};
 ghost use Rattle.matcher_support.specs.Expectations.{list_text};
 ghost use Rattle.base_language.specs.Language.Expression.{Grammar};
 ghost use Rattle.matcher_engine.specs.Walks.{AreNamesOf};
 ghost use Rattle.program_support.specs.Escapes.{escaped_bytes};
-ghost use Rattle.pest_run.specs.Messages.{end_text, expected_or_none, expected_text, expected_too, failure_text, is_more, no_rule_text, note_between, place_text, steps_text, suggestion, treeless_text, unnamed_text, unread_text};
+ghost use Rattle.pest_run.specs.Messages.{end_text, expected_or_none, expected_text, expected_too, failure_text, is_more, no_rule_text, not_found_text, note_between, place_text, steps_text, suggestion, unnamed_end_text, unnamed_text, unread_text};
 ghost use Rattle.base_language.specs.Pieces.LineColumn.{line_column};
 
 use crate::rule_names::near_names;
@@ -89,21 +89,6 @@ pub fn unnamed_message(alloc: Global, steps: u64) -> Result<String, AllocError>
     ensures { IfOk result (λ message. string_bytes message ≡ unnamed_text steps) }
 {
     format!(in alloc; "what is expected here was not found in {steps} steps; --steps N allows N")
-}
-
-/// Returns the message that a match ends at a position, and that its trees take more than so many steps. The
-/// only error is an allocation failure.
-pub fn treeless_message(
-    alloc: Global,
-    end: (usize, usize),
-    steps: u64,
-) -> Result<String, AllocError>
-    ensures { IfOk result (λ message. string_bytes message ≡ treeless_text end steps) }
-{
-    let (line, column) = end;
-    format!(in alloc;
-        "matched up to {line}:{column}; the trees take more than {steps} steps; --steps N allows N"
-    )
 }
 
 /// Returns whether more than a line's end is left of a text.
@@ -195,20 +180,63 @@ pub fn end_message(
     requires place { IsCharBoundary text.now place }
     ensures { IfOk result (λ note. string_bytes note ≡ end_text text.now end place (name_texts names.now)) }
 {
+    let Some(failed) = Position::new(text, place) else {
+        unreachable!()
+    };
+    let mut note = end_note(alloc, text, end)?;
+    if end <= place {
+        add_expected(alloc, &mut note, failed.line_col(), names)?;
+    }
+    Ok(note)
+}
+
+/// Returns the note that a match ends at a byte position, and where the text ends; and that what is expected
+/// at the furthest failure, at another byte position, was not found in so many steps. Both positions are
+/// between two characters. The only error is an allocation failure.
+pub fn unnamed_note(
+    alloc: Global,
+    text: &str,
+    end: usize,
+    place: usize,
+    steps: u64,
+) -> Result<String, AllocError>
+    requires end { IsCharBoundary text.now end }
+    requires place { IsCharBoundary text.now place }
+    ensures { IfOk result (λ note. string_bytes note ≡ unnamed_end_text text.now end place steps) }
+{
+    let Some(failed) = Position::new(text, place) else {
+        unreachable!()
+    };
+    let mut note = end_note(alloc, text, end)?;
+    let shown = show_place(alloc, failed.line_col())?;
+    let limit = steps_note(alloc, steps)?;
+    note.push_str("; what is expected at ")?;
+    note.push_str(shown.as_str())?;
+    note.push_str(limit.as_str())?;
+    Ok(note)
+}
+
+/// Returns the note that a match ends at a byte position, between two characters, and where the text ends.
+/// The only error is an allocation failure.
+fn end_note(alloc: Global, text: &str, end: usize) -> Result<String, AllocError>
+    requires { IsCharBoundary text.now end }
+    ensures { IfOk result (λ note. string_bytes note
+        ≡ note_between (line_column text.now end) (line_column text.now (length text.now))) }
+{
     let Some(ended) = Position::new(text, end) else {
         unreachable!()
     };
     let Some(last) = Position::new(text, text.len()) else {
         unreachable!()
     };
-    let Some(failed) = Position::new(text, place) else {
-        unreachable!()
-    };
-    let mut note = note_between(alloc, ended.line_col(), last.line_col())?;
-    if end <= place {
-        add_expected(alloc, &mut note, failed.line_col(), names)?;
-    }
-    Ok(note)
+    note_between(alloc, ended.line_col(), last.line_col())
+}
+
+/// Returns the words that something was not found in so many steps. The only error is an allocation failure.
+fn steps_note(alloc: Global, steps: u64) -> Result<String, AllocError>
+    ensures { IfOk result (λ words. string_bytes words ≡ not_found_text steps) }
+{
+    format!(in alloc; " was not found in {steps} steps; --steps N allows N")
 }
 
 /// Adds to a note the names that are expected at a position, if there are any.

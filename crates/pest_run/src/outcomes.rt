@@ -6,7 +6,6 @@ ghost use Rattle.base_language.specs.Language.Expression.{Grammar};
 ghost use Rattle.base_language.specs.Language.State.{Trees};
 ghost use Rattle.base_language.specs.Language.Text.{Text};
 ghost use Rattle.matcher_engine.specs.Preorders.{HasPreorder};
-ghost use Rattle.matcher_engine.specs.Recognitions.{HasEnd};
 ghost use Rattle.matcher_engine.specs.Walks.{AreNamesOf, visits, visits_left};
 ghost use Rattle.matcher_program.specs.Answers.{start_of};
 ghost use Rattle.matcher_program.specs.ExpectedNames.{name_texts};
@@ -15,18 +14,17 @@ ghost use Rattle.matcher_support.specs.Compiled.{FailsIn, IsCompiled, IsCompiled
 ghost use Rattle.matcher_support.specs.Sets.{is_in_property};
 ghost use Rattle.matcher_support.specs.Shown.{shown};
 ghost use Rattle.program_support.specs.Escapes.{escaped_lines};
-ghost use Rattle.pest_run.specs.Outcomes.{IsFailureReport, IsMatchReport, IsNoRuleReport, IsOutcome, IsStopReport, IsUnnamedReport, ReportsAt, ReportsFailure, TakesTooManySteps, end_note, trees_text, unfit_outcome};
+ghost use Rattle.pest_run.specs.Outcomes.{IsFailureReport, IsMatchReport, IsNoRuleReport, IsOutcome, IsStopReport, IsUnnamedMatchReport, IsUnnamedReport, ReportsAt, ReportsFailure, TakesTooManySteps, end_note, trees_text, unfit_outcome};
 
 use crate::arguments::Format;
 use crate::failures::{find_failure, names_after};
 use crate::messages::{
-    describe_failure, end_message, is_more, no_rule_message, steps_message, treeless_message,
-    unnamed_message,
+    describe_failure, end_message, is_more, no_rule_message, steps_message, unnamed_message,
+    unnamed_note,
 };
 use base_language::runtime::{Error, ErrorVariant, Fault, Position};
 use matcher_engine::block::{BlockStop, compile_block};
 use matcher_engine::matcher::Preorder;
-use matcher_engine::recognize::Recognition;
 use matcher_engine::walk::TreeWalk;
 use matcher_program::answers::Stop;
 use matcher_program::compile::Unfit;
@@ -42,7 +40,8 @@ use program_support::json::escape_json;
 use program_support::messages::show_error;
 use std::alloc::{AllocError, Global};
 
-/// How many turns a run without trees may take for each step that is allowed: a step is four operations.
+/// How many turns and operations a guided run may take for each step that is allowed: a step is four
+/// operations.
 const TURNS: u64 = 4;
 
 /// The outcome of a rule on a text.
@@ -57,9 +56,6 @@ pub enum Outcome {
     Unnamed(String),
     /// The grammar has no rule of that name, and the message says so.
     NoRule(String),
-    /// The rule matches, but its trees take more steps than the matcher may take; the message says so, and
-    /// where the match ends.
-    Treeless(String),
     /// The run takes more steps than the matcher may take, and the message says so.
     OutOfSteps(String),
     /// `PEEK` or `POP` met the empty stack, and the rule has no outcome on the text.
@@ -129,63 +125,16 @@ fn run_outcome(
     ensures { (g : Grammar) → IsCompiledOf g rules.now → IsSomeAnd result
         (IsOutcome g rule.now name.now text.now format steps) }
 {
-    match rules.match_text(alloc, rule, text, steps) {
+    match rules.match_guided(alloc, rule, text, steps, steps.saturating_mul(TURNS)) {
         Ok(found) => match_outcome(alloc, rules, rule, text, &found, format, steps),
         Err(BlockStop::NoMatch(place)) => {
             failure_outcome(alloc, rules, rule, name, text, place, steps)
         }
         Err(BlockStop::NoRule) => refusal_outcome(alloc, rules, rule, BlockStop::NoRule, steps),
         Err(BlockStop::Stopped(stop)) => {
-            let stopped = BlockStop::Stopped(stop);
-            if is_out_of_steps(&stopped) {
-                treeless_outcome(alloc, rules, rule, name, text, steps)
-            } else {
-                refusal_outcome(alloc, rules, rule, stopped, steps)
-            }
+            refusal_outcome(alloc, rules, rule, BlockStop::Stopped(stop), steps)
         }
         Err(BlockStop::Flaw(_)) => None,
-    }
-}
-
-/// Returns the outcome of a rule on the text of a file where its trees take more than so many steps: by a run
-/// without trees, of as many turns as operations were allowed. Returns none where a position is not between
-/// two characters.
-fn treeless_outcome(
-    alloc: Global,
-    rules: &CompiledRules<'_>,
-    rule: &str,
-    name: &str,
-    text: &str,
-    steps: u64,
-) -> Option<Outcome>
-    ensures { (g : Grammar) → IsCompiledOf g rules.now → (format : Format)
-        → TakesTooManySteps g rule.now text.now steps
-        → IsSomeAnd result (IsOutcome g rule.now name.now text.now format steps) }
-{
-    match rules.recognize(alloc, rule, text, steps.saturating_mul(TURNS)) {
-        Ok(Recognition::Failed(place)) => {
-            failure_outcome(alloc, rules, rule, name, text, place, steps)
-        }
-        Ok(Recognition::Found(end)) => end_outcome(alloc, text, end, steps),
-        Ok(Recognition::Endless | Recognition::OutOfTurns | Recognition::Unknown) | Err(_) => {
-            Some(stopped_outcome(alloc, Stop::OutOfSteps, steps))
-        }
-    }
-}
-
-/// Returns the outcome of a rule that matches a text up to a byte position, where its trees take more than so
-/// many steps. Returns none where the position is not between two characters.
-fn end_outcome(alloc: Global, text: &str, end: usize, steps: u64) -> Option<Outcome>
-    ensures { (g : Grammar) (rule name : List ℕ) (format : Format) → TakesTooManySteps g rule text.now steps
-        → HasEnd g (chars rule) (start_of text.now) is_in_property end
-        → IsSomeAnd result (IsOutcome g rule name text.now format steps) }
-{
-    let Some(place) = Position::new(text, end) else {
-        return None;
-    };
-    match treeless_message(alloc, place.line_col(), steps) {
-        Ok(message) => Some(Outcome::Treeless(message)),
-        Err(_) => Some(Outcome::Memory),
     }
 }
 
@@ -212,7 +161,14 @@ fn match_outcome(
             let walk = rules.walk(alloc, found);
             Some(shown_outcome(alloc, text, walk, found, &names, format))
         }
-        Err(stop) => refusal_outcome(alloc, rules, rule, stop, steps),
+        Err(stop) => {
+            if is_out_of_steps(&stop) {
+                let walk = rules.walk(alloc, found);
+                Some(unnamed_match(alloc, text, walk, found, format, steps))
+            } else {
+                refusal_outcome(alloc, rules, rule, stop, steps)
+            }
+        }
     }
 }
 
@@ -293,6 +249,34 @@ fn shown_outcome(
     match lines_of(alloc, text, walk, found.end, format) {
         Ok(lines) => match note_of(alloc, text, found, names, format) {
             Ok(note) => Outcome::Shown { lines, note },
+            Err(_) => Outcome::Memory,
+        },
+        Err(_) => Outcome::Memory,
+    }
+}
+
+/// Returns the outcome of a rule that matches a text, up to a byte position between two characters, where what
+/// is expected at the furthest failure was not found in so many steps. The walk is that over the trees of the
+/// match.
+fn unnamed_match(
+    alloc: Global,
+    text: &str,
+    walk: TreeWalk<'_, '_>,
+    found: &Preorder,
+    format: Format,
+    steps: u64,
+) -> Outcome
+    requires end { IsCharBoundary text.now found.now.end }
+    requires place { IsCharBoundary text.now found.now.furthest }
+    ensures { (row : Text → ℕ) (trees : Trees) → visits_left walk.entry ≡ visits row 0 0 trees
+        → IsUnnamedMatchReport text.now format found.now.end found.now.furthest steps trees result }
+{
+    match lines_of(alloc, text, walk, found.end, format) {
+        Ok(lines) => match unnamed_note(alloc, text, found.end, found.furthest, steps) {
+            Ok(note) => Outcome::Shown {
+                lines,
+                note: Some(note),
+            },
             Err(_) => Outcome::Memory,
         },
         Err(_) => Outcome::Memory,

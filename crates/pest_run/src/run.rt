@@ -41,8 +41,9 @@ pub fn run_files<'g, W: Write, E: Write>(
     ensures refused_write { result.status ≡ 4 → out.new.refused ≡ true }
     ensures noted { result.status ≡ 0
         → NotesEnd request.entry.form grammar.now.bytes.items request.entry.rule.now
-        text.now.bytes.items request.entry.format (err.new ≡ err.old) result.write_result
-        (E.contents err.old.writer) (E.contents err.new.writer) }
+        text.now.bytes.items request.entry.format
+        (step_limit request.entry.steps (length text.now.bytes.items)) (err.new ≡ err.old)
+        result.write_result (E.contents err.old.writer) (E.contents err.new.writer) }
     ensures reason { result.status ≡ 1
         → ReportsReason request.entry.form grammar.now.bytes.items request.entry.rule.now text.now.name.now
         text.now.bytes.items (step_limit request.entry.steps (length text.now.bytes.items))
@@ -103,7 +104,7 @@ pub fn run<'g, W: Write, E: Write>(
     ensures refused_write { result.status ≡ 4 → out.new.refused ≡ true }
     ensures noted { result.status ≡ 0
         → NotesEnd request.entry.form grammar.now request.entry.rule.now text.now request.entry.format
-        (err.new ≡ err.old) result.write_result
+        (step_limit request.entry.steps (length text.now)) (err.new ≡ err.old) result.write_result
         (E.contents err.old.writer) (E.contents err.new.writer) }
     ensures reason { result.status ≡ 1
         → ReportsReason request.entry.form grammar.now request.entry.rule.now name.now text.now
@@ -189,9 +190,7 @@ pub fn print_outcome<W: Write, E: Write>(
             exit_with(err, report.as_str(), Status::Found)
         }
         Outcome::NoRule(message) => exit_with(err, message.as_str(), Status::Found),
-        Outcome::Treeless(message) | Outcome::OutOfSteps(message) => {
-            exit_with(err, message.as_str(), Status::Stopped)
-        }
+        Outcome::OutOfSteps(message) => exit_with(err, message.as_str(), Status::Stopped),
         Outcome::EmptyStack => exit_with(
             err,
             "PEEK or POP found nothing on the stack",

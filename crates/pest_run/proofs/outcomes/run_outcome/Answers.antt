@@ -1,6 +1,3 @@
-use Rattle.std.proofs.Common.{subst}
-use Rattle.matcher_engine.specs.declared.block.runs.BlockStop.{BlockStop}
-use Rattle.matcher_support.specs.Compiled.{IsUnanswered}
 use Rattle.pest_run.proofs.outcomes.run_outcome.Goals as goal
 
 pub returns-in-Ok : goal.returns-in-Ok
@@ -16,14 +13,7 @@ returns-in-Err-NoRule c = λ g of.
     let told = rw c.in-Err-NoRule.field-0-is at c.in-Err-NoRule.ensures.refused in
     c.refusal_outcome.ensures g of c.args.name.now c.args.text.now c.utf8.text c.args.format (told g of)
 
-pub returns-then-is_out_of_steps : goal.returns-then-is_out_of_steps
-returns-then-is_out_of_steps c = λ g of.
+pub returns-in-Err-Stopped : goal.returns-in-Err-Stopped
+returns-in-Err-Stopped c = λ g of.
     let told = rw c.in-Err-Stopped.field-0-is at c.in-Err-Stopped.ensures.refused in
-    let P : BlockStop → Type 0 = λ s. IsUnanswered g c.args.rule.now c.args.text.now c.args.steps s in
-    let long = subst P (c.is_out_of_steps.ensures c.if-is_out_of_steps.true) (rw c.in-Err-Stopped.field-0-is (told g of)) in
-    c.treeless_outcome.ensures g of c.args.format long
-
-pub returns-else-is_out_of_steps : goal.returns-else-is_out_of_steps
-returns-else-is_out_of_steps c = λ g of.
-    let told = rw c.in-Err-Stopped.field-0-is at c.in-Err-Stopped.ensures.refused in
-    c.refusal_outcome-else-is_out_of_steps.ensures g of c.args.name.now c.args.text.now c.utf8.text c.args.format (rw c.in-Err-Stopped.field-0-is (told g of))
+    c.refusal_outcome-in-Err-Stopped.ensures g of c.args.name.now c.args.text.now c.utf8.text c.args.format (rw c.in-Err-Stopped.field-0-is (told g of))
