@@ -94,8 +94,8 @@ impl<'b> CompiledRules<'b> {
         run_block(alloc, self.block, number, start, steps)
     }
 
-    /// Runs the rule of a name from the start of a text, as `match_text`, and where that is out of steps, by a
-    /// guided run in at most so many turns, as `guide_block`. Errors are those of `match_text`.
+    /// Runs the rule of a name from the start of a text, as `match_text`, and where that is out of steps, by
+    /// a guided run in at most so many turns, as `guide_block`. Errors are those of `match_text`.
     pub fn match_guided(
         &self,
         alloc: Global,

@@ -111,7 +111,8 @@ pub record ReportsReason {X E : Type 0} (form : RuleForm) (grammar rule name tex
   pub reason : IsReason form grammar rule name text limit message
   pub line : WritesLine message written old new
 
--- the reason why the matcher was stopped on the text, and its text: too many steps; or the rule has no outcome and `PEEK` or `POP` met the empty stack; or the text has 4 GiB;
+-- the reason why the matcher was stopped on the text, and its text: too many steps; or the rule has no
+-- outcome and `PEEK` or `POP` met the empty stack; or the text has 4 GiB;
 -- or the rules can't be run, for an unknown name or a bound
 pub data IsStop (g : Grammar) (rule text : List ℕ) (limit : ℕ) : List ℕ → Type 0 where
   too_many_steps : TakesTooManySteps g rule text limit → IsStop g rule text limit (steps_text limit)

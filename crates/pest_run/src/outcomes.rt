@@ -255,9 +255,9 @@ fn shown_outcome(
     }
 }
 
-/// Returns the outcome of a rule that matches a text, up to a byte position between two characters, where what
-/// is expected at the furthest failure was not found in so many steps. The walk is that over the trees of the
-/// match.
+/// Returns the outcome of a rule that matches a text, up to a byte position between two characters, where
+/// what is expected at the furthest failure was not found in so many steps. The walk is that over the trees
+/// of the match.
 fn unnamed_match(
     alloc: Global,
     text: &str,
