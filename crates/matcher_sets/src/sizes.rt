@@ -1,6 +1,6 @@
 //! Sizes of bodies, with those that are laid in the place of calls in them. Only the size and the speed of
 //! programs depend on them.
-use crate::modes::{Atomicity, body_mode, gives_token};
+use crate::modes::{Atomicity, body_mode, gives_token, has_body_in};
 use matcher_program::form::{Form, Program, Row};
 use std::alloc::{AllocError, Global};
 
@@ -13,8 +13,8 @@ pub const MOST_INSIDE: u32 = 4;
 /// How deep the parts of a form are looked into.
 const DEPTH: u32 = 64;
 
-/// How many forms without parts the bodies of rules have in each mode, with those of bodies in place. What
-/// has too many has more than `MOST_FORMS`.
+/// How many forms without parts the bodies of rules have in each mode in which they are run, with those of
+/// bodies in place. What has too many has more than `MOST_FORMS`.
 #[derive(Drop)]
 pub struct Sizes {
     list: Vec<u32>,
@@ -114,15 +114,16 @@ impl Sizes {
         size != before
     }
 
-    /// Counts the body of a rule in each mode again. Returns whether one has another size than before.
-    fn count_rule(&mut self, program: &Program, rule: usize) -> bool {
+    /// Counts the body of a rule in each mode in which it is run again. Returns whether one has another size
+    /// than before.
+    fn count_rule(&mut self, program: &Program, rule: usize, row: &Row) -> bool {
         let mut changed = false;
         for mode in [
             Atomicity::NonAtomic,
             Atomicity::Atomic,
             Atomicity::CompoundAtomic,
         ] {
-            if self.count(program, Body { rule, mode }) {
+            if has_body_in(row, mode) && self.count(program, Body { rule, mode }) {
                 changed = true;
             }
         }
@@ -132,8 +133,8 @@ impl Sizes {
     /// Counts all bodies again. Returns whether one has another size than before.
     fn count_all(&mut self, program: &Program) -> bool {
         let mut changed = false;
-        for rule in 0..program.rows.len() {
-            if self.count_rule(program, rule) {
+        for (rule, row) in program.rows.iter().enumerate() {
+            if self.count_rule(program, rule, row) {
                 changed = true;
             }
         }
