@@ -24,7 +24,7 @@ use Rattle.matcher_sets.specs.Modes.{mode_of}
 use Rattle.matcher_compiler.specs.Exact.{is_exact}
 use Rattle.matcher_compiler.specs.Names.{number_in}
 use Rattle.matcher_sets.specs.Forms.{grammar_in}
-use Rattle.matcher_compiler.specs.Plans.{AreBound, IsLater, IsMet, IsPointOf, KeepsData, LaysPoint, Meets, body_in, laid_point, task_in}
+use Rattle.matcher_compiler.specs.Plans.{AreBound, IsLater, IsMet, IsPointOf, LaysPoint, Meets, body_in, laid_point, task_in}
 
 pub point_made : (p : Program) (points : List Point) (i : ℕ) (d : Point) → i < length points
     → IsPointOf p (map (laid_point p) points) (get_or points i d)
@@ -148,10 +148,3 @@ one_demand code points demands n x within before here p i d h = elim (cases_lt i
       subst (λ j. IsMet p code (map (laid_point p) points) (get_or demands j d)) e
       (subst (IsMet p code (map (laid_point p) points)) (same_demand demands n x d within) (here p))
 ]
-
--- a set of a program with the same sets
-pub len_kept : {a b : Code} → KeepsData a b → (set : ℕ) (bs : List ℕ) → char_len (lists_of b) set bs ≡ char_len (lists_of a) set bs
-len_kept k set [] = refl
-len_kept k set (x ∷ xs) = ap₂ (λ rows ranges.
-    let f = get_or rows.items (set * 256 + x) 0 in
-    if nat_lt 4 f then wide_len (get_or (map (λ v. is_covered v.ranges.items) ranges.items) set no_characters) (x ∷ xs) else f) k.rows k.ranges

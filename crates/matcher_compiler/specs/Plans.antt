@@ -101,13 +101,6 @@ IsNoted code b next t = (head : Option ℕ) → IfSome next (Moves code head b.s
 abbrev pub HasBranch : CodeLists → Branch → Type 0
 HasBranch code b = Branches code b.table b.set b.noted b.first b.second b.next b.way
 
--- a program has the sets and the texts of another one
-pub record KeepsData (old new : Code) : Type 0 where
-  pub rows : new.rows ≡ old.rows
-  pub ranges : new.ranges ≡ old.ranges
-  pub texts : new.texts ≡ old.texts
-  pub lists : new.lists ≡ old.lists
-
 -- the program has what is demanded
 abbrev pub IsMet : Program → CodeLists → List lay.Point → Demand → Type 0
 IsMet p code laid (demand.Operation l o) = at_label code l ≡ o

@@ -1,5 +1,5 @@
 //! The comparison of a table with the alternatives of its choice.
-ghost use Rattle.std.specs.Prelude.{◌≡◌, ◌<◌, ◌≤◌, IfSome, Some, get_or, length, true, ℕ};
+ghost use Rattle.std.specs.Prelude.{◌≡◌, ◌<◌, ◌≤◌, IfSome, Some, false, get_or, length, true, ℕ};
 ghost use Rattle.matcher_code.specs.Lists.{lists_of};
 ghost use Rattle.matcher_code.specs.declared.code.Op.TheVariants as op;
 ghost use Rattle.matcher_code.specs.Laid.{at_label, label_for};
@@ -8,7 +8,8 @@ ghost use Rattle.matcher_compiler.specs.Plans.{ContinuesAs, HasBranch};
 
 use crate::points::Branch;
 use crate::tables::{
-    check_label, flag_at, flags_of, label_for, next_label, operation_at, wide_label,
+    Lead, check_label, flag_at, flags_of, is_noted, label_for, next_label, operation_at, skips,
+    wide_label,
 };
 use matcher_code::code::{Code, Op};
 
@@ -44,8 +45,12 @@ fn is_wide(code: &Code, table: u32, to: u32) -> bool
     ensures { result ≡ true → (b : ℕ) → 128 ≤ b → b < 256
         → label_for (lists_of code.now) table (Some b) ≡ to }
 {
-    for byte in 128..256u32 {
-        if label_for(code, table, Some(byte as u8)) != to {
+    let labels = match labels_of(code, table) {
+        Some(labels) => labels,
+        None => return false,
+    };
+    for byte in 128..256usize {
+        if labels[byte] != to {
             return false;
         }
     }
@@ -94,8 +99,93 @@ fn has_each_label(
 }
 
 /// Returns whether the table of a choice has the labels for some first bytes, as `has_each_label`, where the
+/// second alternative begins with a table, too, whose labels are `others`, and a failure of the first one is
+/// not recorded.
+fn has_plain_labels(
+    code: &Code,
+    branch: Branch,
+    first: Op,
+    others: &[u32],
+    columns: Columns<'_>,
+    from: u32,
+    to: u32,
+) -> bool
+    requires to { to ≤ 256 }
+    requires columns { AreColumns (lists_of code.now) branch columns }
+    requires others { length others.now ≡ 256 }
+    requires plain { branch.noted ≡ false }
+    ensures { (table : ℕ) → ((b : ℕ) → b < 256
+        → get_or others.now b 0 ≡ label_for (lists_of code.now) table (Some b))
+        → at_label (lists_of code.now) branch.first ≡ first
+        → at_label (lists_of code.now) branch.second ≡ op.Switch table
+        → result ≡ true → (b : ℕ) → from ≤ b → b < to
+        → ContinuesAs (lists_of code.now) branch (Some b) (label_for (lists_of code.now) branch.table
+        (Some b)) }
+{
+    for byte in from..to {
+        let label = columns.labels[byte as usize];
+        if columns.flags[byte as usize] == 0 {
+            if label != others[byte as usize] && label != branch.second {
+                return false;
+            }
+        } else if !skips(code, branch.first, first, Some(byte as u8), label) {
+            return false;
+        }
+    }
+    true
+}
+
+/// Returns whether the table of a choice has the labels for some first bytes, as `has_plain_labels`, where a
+/// failure of the first alternative is recorded.
+fn has_noted_labels(
+    code: &Code,
+    branch: Branch,
+    first: Op,
+    others: &[u32],
+    columns: Columns<'_>,
+    from: u32,
+    to: u32,
+) -> bool
+    requires to { to ≤ 256 }
+    requires columns { AreColumns (lists_of code.now) branch columns }
+    requires others { length others.now ≡ 256 }
+    requires noted { branch.noted ≡ true }
+    ensures { (table : ℕ) → ((b : ℕ) → b < 256
+        → get_or others.now b 0 ≡ label_for (lists_of code.now) table (Some b))
+        → at_label (lists_of code.now) branch.first ≡ first
+        → at_label (lists_of code.now) branch.second ≡ op.Switch table
+        → result ≡ true → (b : ℕ) → from ≤ b → b < to
+        → ContinuesAs (lists_of code.now) branch (Some b) (label_for (lists_of code.now) branch.table
+        (Some b)) }
+{
+    let mut seen_to = 0;
+    let mut seen_next = 0;
+    let mut is_seen = false;
+    for byte in from..to {
+        let label = columns.labels[byte as usize];
+        let next = others[byte as usize];
+        if columns.flags[byte as usize] == 0 {
+            if !is_seen || label != seen_to || next != seen_next {
+                let lead = Lead {
+                    next: Some(next),
+                    to: label,
+                };
+                if !is_noted(code, branch, lead) {
+                    return false;
+                }
+                seen_to = label;
+                seen_next = next;
+                is_seen = true;
+            }
+        } else if !skips(code, branch.first, first, Some(byte as u8), label) {
+            return false;
+        }
+    }
+    true
+}
+
+/// Returns whether the table of a choice has the labels for some first bytes, as `has_each_label`, where the
 /// second alternative begins with a table, too, whose labels are `others`.
-#[inline(always)]
 fn has_labels_over(
     code: &Code,
     branch: Branch,
@@ -116,18 +206,11 @@ fn has_labels_over(
         → ContinuesAs (lists_of code.now) branch (Some b) (label_for (lists_of code.now) branch.table
         (Some b)) }
 {
-    let mut seen = None;
-    for byte in from..to {
-        let head = Some(byte as u8);
-        let next = Some(others[byte as usize]);
-        let flag = columns.flags[byte as usize];
-        let to = columns.labels[byte as usize];
-        match check_label(code, branch, first, head, flag, to, next, seen) {
-            Some(found) => seen = found,
-            None => return false,
-        }
+    if branch.noted {
+        has_noted_labels(code, branch, first, others, columns, from, to)
+    } else {
+        has_plain_labels(code, branch, first, others, columns, from, to)
     }
-    true
 }
 
 /// Returns whether the table of a choice has the labels for some first bytes, as `has_each_label`.

@@ -15,7 +15,8 @@ use crate::check::{has_ends, is_exact, meets_all};
 use crate::names::last_rows;
 use crate::plan::{Plan, Skips};
 use crate::points::{Demand, NO_CALL, NotCompiled, Part, Place, Point, TOP_RANK};
-use crate::table_writer::{write_tables, zeros};
+use crate::table_writer::{Made, write_tables};
+use crate::tables::TABLE_SIZE;
 use base_ast::ast::RuleType;
 use matcher_code::code::{Code, Op};
 use matcher_code::ranges::Ranges;
@@ -29,6 +30,9 @@ use std::alloc::Global;
 
 /// The number from which on there are too many rules.
 const TOO_MANY_RULES: usize = 1 << 28;
+
+/// For how many points of each rule there is room at first.
+const EXPECTED_POINTS: usize = 24;
 
 /// Returns a program of nothing.
 fn empty_code(alloc: Global) -> Code
@@ -60,9 +64,10 @@ fn fresh_plan<'p>(
     let sizes = body_sizes(alloc, program)?;
     let mut bodies = Vec::new(alloc);
     bodies.resize(program.rows.len().saturating_mul(6), None)?;
+    let expected = program.rows.len().saturating_mul(EXPECTED_POINTS);
     Ok(Plan {
-        points: Vec::new(alloc),
-        demands: Vec::new(alloc),
+        points: Vec::with_capacity(alloc, expected)?,
+        demands: Vec::with_capacity(alloc, expected)?,
         sets,
         known: Vec::new(alloc),
         texts: Vec::new(alloc),
@@ -265,7 +270,7 @@ fn put(ops: &mut Vec<Op>, label: usize, op: Op) -> Result<(), NotCompiled> {
 
 /// Writes the operations that are demanded.
 fn write(alloc: Global, demands: &[Demand]) -> Result<Vec<Op>, NotCompiled> {
-    let mut ops = Vec::new(alloc);
+    let mut ops = Vec::with_capacity(alloc, demands.len())?;
     for demand in demands {
         if let Demand::Operation { label, op } = demand {
             put(&mut ops, *label as usize, *op)?;
@@ -317,9 +322,15 @@ fn finish(alloc: Global, plan: Plan<'_>) -> Result<Code, NotCompiled>
         texts: _,
         lists: _,
     } = sets;
-    let tables = zeros(alloc, size as usize)?;
-    let mut notes = zeros(alloc, ops.len())?;
-    let mut code = Code {
+    let Made { ops, tables } = write_tables(
+        alloc,
+        ops,
+        size / TABLE_SIZE,
+        &rows,
+        &texts,
+        &demands,
+    )?;
+    let code = Code {
         ops,
         rows,
         ranges,
@@ -327,7 +338,6 @@ fn finish(alloc: Global, plan: Plan<'_>) -> Result<Code, NotCompiled>
         texts,
         lists,
     };
-    write_tables(&mut code, &mut notes, &demands)?;
     let made = points.as_slice();
     let wanted = demands.as_slice();
     let code = compare(code, made, wanted)?;

@@ -1,134 +1,71 @@
 //! Writing of tables.
-ghost use Rattle.std.specs.Prelude.{◌≤◌, OnOk};
-ghost use Rattle.matcher_compiler.specs.Plans.{KeepsData};
-
-use crate::points::{Branch, Demand, NotCompiled};
-use crate::tables::{
-    TABLE_SIZE, flag_at, has_note, index_of, is_test, label_for, next_label, operation_at,
-    wide_label,
-};
-use matcher_code::code::{Code, Op};
+use crate::points::{Branch, Demand};
+use crate::tables::TABLE_SIZE;
+use matcher_code::code::Op;
 use std::alloc::{AllocError, Global};
 
-/// Returns so many zeros.
-pub(crate) fn zeros(alloc: Global, count: usize) -> Result<Vec<u32>, AllocError> {
-    let mut list = Vec::new(alloc);
-    list.resize(count, 0)?;
-    Ok(list)
+/// The operations and the tables of a program.
+#[derive(Drop)]
+pub(crate) struct Made {
+    pub(crate) ops: Vec<Op>,
+    pub(crate) tables: Vec<u32>,
 }
 
-/// Returns the label of an operation that records a failure and goes on at a label. It is added to the
-/// program if `notes`, by the label after it, has none.
-fn note_before(code: &mut Code, notes: &mut Vec<u32>, label: u32) -> Result<u32, AllocError>
-    ensures { OnOk result (KeepsData code.old code.new) }
-{
-    let known = match notes.get_mut(label as usize) {
-        Some(known) => known,
-        None => return Ok(0),
-    };
-    if *known == 0 {
-        let added = (code.ops.len() & 0xffff_ffff) as u32;
-        code.ops.push(Op::Note { next: label })?;
-        *known = added;
+/// The operations of a program that is being made, with the rows and the texts that it has.
+#[derive(Drop)]
+struct Draft<'a> {
+    ops: Vec<Op>,
+    /// For each label the one of an operation that records a failure and goes on there, or 0 if none is known.
+    notes: Vec<u32>,
+    rows: &'a [u8],
+    texts: &'a [Vec<u8>],
+}
+
+/// Returns a list of zeros, so many times as many as a table has labels.
+fn empty_tables(alloc: Global, count: u32) -> Result<Vec<u32>, AllocError> {
+    let empty = [0u32; 257];
+    let mut tables = Vec::with_capacity(alloc, count as usize * 257)?;
+    for _ in 0..count {
+        tables.extend_from_slice(&empty)?;
     }
-    Ok(*known)
+    Ok(tables)
 }
 
-/// Writes the label of a table for a first byte, or for the end.
-#[inline(always)]
-fn write_label(code: &mut Code, table: u32, head: Option<u8>, label: u32)
-    ensures { KeepsData code.old code.new }
-{
-    if let Some(place) = code.tables.get_mut(table as usize + index_of(head)) {
+/// Returns the labels of a table for bytes and for the end.
+fn labels_of(tables: &mut Vec<u32>, table: u32) -> &mut [u32] {
+    let start = table as usize;
+    let end = start + TABLE_SIZE as usize;
+    if end <= tables.len() {
+        &mut tables.as_mut_slice()[start..end]
+    } else {
+        &mut []
+    }
+}
+
+/// Writes the label for the end.
+fn write_end(labels: &mut [u32], label: u32) {
+    if let Some(place) = labels.get_mut(256) {
         *place = label;
     }
 }
 
-/// Writes for all first bytes and for the end where an operation at a label goes on, or the label.
-fn write_alternative(code: &mut Code, table: u32, label: u32, here: Op)
-    ensures { KeepsData code.old code.new }
-{
-    if !is_test(here) {
-        write_labels(code, table, 0, TABLE_SIZE, label);
-        return;
-    }
-    for index in 0..TABLE_SIZE {
-        let head = if index < 256 { Some(index as u8) } else { None };
-        let to = next_label(code, label, here, head).unwrap_or(label);
-        write_label(code, table, head, to);
+/// Writes one label where the flag is 0, and another elsewhere.
+fn write_either(labels: &mut [u32], flags: &[u8], marked: u32, other: u32) {
+    for (place, flag) in labels.iter_mut().zip(flags) {
+        *place = if *flag == 0 { other } else { marked };
     }
 }
 
-/// Writes the labels of a table into another one.
-fn copy_table(code: &mut Code, from: u32, table: u32)
-    ensures { KeepsData code.old code.new }
-{
-    let start = from as usize;
-    let end = start + TABLE_SIZE as usize;
-    let place = table as usize;
-    if end <= code.tables.len() && place + TABLE_SIZE as usize <= code.tables.len() {
-        code.tables.copy_within(start..end, place);
+/// Writes one label where the flag is 0, another where it is the length of a character, and `unknown` where
+/// it is neither.
+fn write_tested(labels: &mut [u32], flags: &[u8], next: u32, fail: u32, unknown: u32) {
+    for (place, flag) in labels.iter_mut().zip(flags) {
+        *place = match *flag {
+            0 => fail,
+            1..=4 => next,
+            _ => unknown,
+        };
     }
-}
-
-/// Writes into a table where the second alternative of a choice leads, for all first bytes and for the end.
-fn write_second(code: &mut Code, branch: Branch, second: Op)
-    ensures { KeepsData code.old code.new }
-{
-    match second {
-        Op::Switch { table } => copy_table(code, table, branch.table),
-        _ => write_alternative(code, branch.table, branch.second, second),
-    }
-}
-
-/// Returns the label that the table of a choice has in place of that to which its second alternative, whose
-/// operation is given, leads for a first byte.
-fn label_with_note(
-    code: &mut Code,
-    notes: &mut Vec<u32>,
-    branch: Branch,
-    second: Op,
-    head: Option<u8>,
-    to: u32,
-) -> Result<u32, AllocError>
-    ensures { OnOk result (KeepsData code.old code.new) }
-{
-    if has_note(code, branch, second, head, to) {
-        Ok(to)
-    } else {
-        note_before(code, notes, to)
-    }
-}
-
-/// Writes into a table that has the labels of the second alternative those before which a failure of the
-/// first one is recorded, for all first bytes of ASCII with which that does not begin.
-fn write_notes(
-    code: &mut Code,
-    notes: &mut Vec<u32>,
-    branch: Branch,
-    second: Op,
-) -> Result<(), AllocError>
-    ensures { OnOk result (KeepsData code.old code.new) }
-{
-    let mut last = 0;
-    let mut label = 0;
-    let mut is_known = false;
-    for byte in 0..128u32 {
-        let head = Some(byte as u8);
-        if flag_at(code, branch.set, head) == 0 {
-            let to = label_for(code, branch.table, head);
-            if !is_known || to != last {
-                label = label_with_note(code, notes, branch, second, head, to)?;
-                last = to;
-                is_known = true;
-            }
-            write_label(code, branch.table, head, label);
-        }
-    }
-    let to = label_for(code, branch.table, None);
-    label = label_with_note(code, notes, branch, second, None, to)?;
-    write_label(code, branch.table, None, label);
-    Ok(())
 }
 
 /// Writes a label where the flag is not 0.
@@ -140,89 +77,250 @@ fn write_marked(labels: &mut [u32], flags: &[u8], label: u32) {
     }
 }
 
-/// Writes one label into a table for the first bytes from one to before another in whose place the first
-/// alternative of a choice begins.
-fn write_begun(code: &mut Code, branch: Branch, from: u32, to: u32)
-    requires { to ≤ 256 }
-    ensures { KeepsData code.old code.new }
-{
-    let row = branch.set as usize * 256;
-    let flags = match code.rows.get(row + from as usize..row + to as usize) {
-        Some(flags) => flags,
-        None => return,
-    };
-    let start = branch.table as usize + from as usize;
-    let end = branch.table as usize + to as usize;
-    if start <= end && end <= code.tables.len() {
-        write_marked(
-            &mut code.tables.as_mut_slice()[start..end],
-            flags,
-            branch.first,
-        );
+/// Writes where the operation of a text at a label goes on.
+fn write_text(labels: &mut [u32], first: Option<u8>, label: u32, fail: u32) {
+    match first {
+        Some(byte) => {
+            labels.fill(fail);
+            if let Some(place) = labels.get_mut(byte as usize) {
+                *place = label;
+            }
+        }
+        None => labels.fill(label),
     }
 }
 
-/// Writes into a table where the first alternative of a choice, whose operation is given, leads for the first
-/// bytes with which it begins, from one to before another.
-fn write_first(code: &mut Code, branch: Branch, first: Op, from: u32, to: u32)
-    requires { to ≤ 256 }
-    ensures { KeepsData code.old code.new }
-{
-    if !is_test(first) {
-        write_begun(code, branch, from, to);
-        return;
+/// Writes the labels of a table into another one.
+fn copy_table(tables: &mut Vec<u32>, from: u32, table: u32) {
+    let start = from as usize;
+    let end = start + TABLE_SIZE as usize;
+    let place = table as usize;
+    if end <= tables.len() && place + TABLE_SIZE as usize <= tables.len() {
+        tables.copy_within(start..end, place);
     }
-    for byte in from..to {
-        let head = Some(byte as u8);
-        if flag_at(code, branch.set, head) != 0 {
-            let label = next_label(code, branch.first, first, head).unwrap_or(branch.first);
-            write_label(code, branch.table, head, label);
+}
+
+/// Writes into a table the labels of another one where the flag is not 0.
+fn copy_marked(tables: &mut Vec<u32>, flags: &[u8], from: u32, table: u32) {
+    for (byte, flag) in flags.iter().enumerate() {
+        if *flag != 0 {
+            let label = match tables.get((from as usize).saturating_add(byte)) {
+                Some(label) => *label,
+                None => return,
+            };
+            if let Some(place) = tables.get_mut((table as usize).saturating_add(byte)) {
+                *place = label;
+            }
         }
     }
 }
 
-/// Writes one label into a table, so many times from an index in it on.
-fn write_labels(code: &mut Code, table: u32, from: u32, count: u32, label: u32)
-    ensures { KeepsData code.old code.new }
-{
-    let start = table as usize + from as usize;
-    let end = start + count as usize;
-    if end <= code.tables.len() {
-        code.tables.as_mut_slice()[start..end].fill(label);
+/// Writes where a test leads, or a label where that is not known, where the flag is not 0. `tested`: the
+/// flags of the test.
+fn write_test(labels: &mut [u32], flags: &[u8], tested: &[u8], next: u32, fail: u32, unknown: u32) {
+    for (place, (flag, other)) in labels.iter_mut().zip(flags.iter().zip(tested)) {
+        if *flag != 0 {
+            *place = match *other {
+                0 => fail,
+                1..=4 => next,
+                _ => unknown,
+            };
+        }
     }
 }
 
-/// Writes a table.
-fn write_table(code: &mut Code, notes: &mut Vec<u32>, branch: Branch) -> Result<(), AllocError>
-    ensures { OnOk result (KeepsData code.old code.new) }
-{
-    let first = operation_at(code, branch.first);
-    let second = operation_at(code, branch.second);
-    write_second(code, branch, second);
-    if branch.noted {
-        write_notes(code, notes, branch, second)?;
+impl<'a> Draft<'a> {
+    /// Returns the operation of a label.
+    fn operation(&self, label: u32) -> Op {
+        match self.ops.get(label as usize) {
+            Some(op) => *op,
+            None => Op::Lose,
+        }
     }
-    write_first(code, branch, first, 0, 128);
-    match wide_label(code, branch.first, first) {
-        Some(label) => write_labels(code, branch.table, 128, 128, label),
-        None => write_first(code, branch, first, 128, 256),
+
+    /// Returns the flags of a set.
+    fn flags(&self, set: u32) -> &'a [u8] {
+        let start = set as usize * 256;
+        match self.rows.get(start..start + 256) {
+            Some(flags) => flags,
+            None => &[],
+        }
     }
-    Ok(())
+
+    /// Returns the first byte of a text.
+    fn first_byte(&self, text: u32) -> Option<u8> {
+        match self.texts.get(text as usize) {
+            Some(bytes) => bytes.first().copied(),
+            None => None,
+        }
+    }
+
+    /// Returns the label of an operation that records a failure and goes on at a label. It is added if there
+    /// is none.
+    fn note_before(&mut self, label: u32) -> Result<u32, AllocError> {
+        let known = match self.notes.get_mut(label as usize) {
+            Some(known) => known,
+            None => return Ok(0),
+        };
+        if *known == 0 {
+            let added = (self.ops.len() & 0xffff_ffff) as u32;
+            self.ops.push(Op::Note { next: label })?;
+            *known = added;
+        }
+        Ok(*known)
+    }
+
+    /// Writes into a table where the second alternative of a choice leads, for all first bytes and for the end.
+    fn write_second(&self, tables: &mut Vec<u32>, branch: Branch) {
+        let table = branch.table;
+        match self.operation(branch.second) {
+            Op::Switch { table: from } => copy_table(tables, from, table),
+            Op::IsOne { set, next, fail } => {
+                let labels = labels_of(tables, table);
+                write_tested(labels, self.flags(set), next, fail, branch.second);
+                write_end(labels, fail);
+            }
+            Op::One { set, next: _, fail } => {
+                let labels = labels_of(tables, table);
+                write_either(labels, self.flags(set), branch.second, fail);
+                write_end(labels, fail);
+            }
+            Op::Text {
+                text,
+                next: _,
+                fail,
+            } => {
+                let first = self.first_byte(text);
+                write_text(labels_of(tables, table), first, branch.second, fail);
+            }
+            _ => labels_of(tables, table).fill(branch.second),
+        }
+    }
+
+    /// Returns whether a label to which the second alternative of a choice leads is one that the table of the
+    /// choice may have, too, since its operation records a failure.
+    fn is_noted(&self, branch: Branch, label: u32) -> bool {
+        match self.operation(label) {
+            Op::Note { next } => {
+                next == branch.second
+                    || label != branch.second && label != branch.next && label != branch.way
+            }
+            _ => false,
+        }
+    }
+
+    /// Returns the label that the table of a choice has in place of that to which its second alternative
+    /// leads.
+    fn label_with_note(&mut self, branch: Branch, label: u32) -> Result<u32, AllocError> {
+        if self.is_noted(branch, label) {
+            Ok(label)
+        } else {
+            self.note_before(label)
+        }
+    }
+
+    /// Writes in place of the labels of the second alternative of a choice those before which a failure of the
+    /// first one is recorded, where the flag is 0, and for the end.
+    fn write_notes(
+        &mut self,
+        labels: &mut [u32],
+        flags: &[u8],
+        branch: Branch,
+    ) -> Result<(), AllocError> {
+        let mut last = labels.get(256).copied().unwrap_or(0);
+        let mut noted = self.label_with_note(branch, last)?;
+        write_end(labels, noted);
+        for (place, flag) in labels.iter_mut().zip(flags) {
+            if *flag == 0 {
+                if *place != last {
+                    last = *place;
+                    noted = self.label_with_note(branch, last)?;
+                }
+                *place = noted;
+            }
+        }
+        Ok(())
+    }
+
+    /// Writes into a table where the first alternative of a choice leads for the first bytes with which it
+    /// begins.
+    fn write_first(&self, tables: &mut Vec<u32>, branch: Branch) {
+        let flags = self.flags(branch.set);
+        match self.operation(branch.first) {
+            Op::Switch { table } => copy_marked(tables, flags, table, branch.table),
+            Op::IsOne { set, next, fail } => {
+                let labels = labels_of(tables, branch.table);
+                write_test(labels, flags, self.flags(set), next, fail, branch.first);
+            }
+            Op::Text {
+                text,
+                next: _,
+                fail,
+            } => {
+                let labels = labels_of(tables, branch.table);
+                write_marked(labels, flags, branch.first);
+                self.write_outside(labels, text, fail);
+            }
+            _ => write_marked(labels_of(tables, branch.table), flags, branch.first),
+        }
+    }
+
+    /// Writes where a text leads for the first bytes above ASCII, if it begins otherwise.
+    fn write_outside(&self, labels: &mut [u32], text: u32, fail: u32) {
+        if let Some(first) = self.first_byte(text) {
+            if first < 128 && labels.len() > 256 {
+                labels[128..256].fill(fail);
+            }
+        }
+    }
+
+    /// Writes a table.
+    fn write_table(&mut self, tables: &mut Vec<u32>, branch: Branch) -> Result<(), AllocError> {
+        self.write_second(tables, branch);
+        if branch.noted {
+            let flags = self.flags(branch.set);
+            self.write_notes(labels_of(tables, branch.table), flags, branch)?;
+        }
+        self.write_first(tables, branch);
+        Ok(())
+    }
+
+    /// Writes the tables that are demanded, the last first, since those of the parts of a choice come later.
+    fn write_all(&mut self, tables: &mut Vec<u32>, demands: &[Demand]) -> Result<(), AllocError> {
+        for demand in demands.iter().rev() {
+            if let Demand::Branch(branch) = demand {
+                self.write_table(tables, *branch)?;
+            }
+        }
+        Ok(())
+    }
 }
 
-/// Writes the tables that are demanded, the last first, since those of the parts of a choice come later. The
-/// program gets operations that record failures. `notes` has a zero for each label.
-pub(crate) fn write_tables(
-    code: &mut Code,
-    notes: &mut Vec<u32>,
+/// Returns some operations with those that record failures before tables lead on, and so many tables as are
+/// demanded.
+pub(crate) fn write_tables<'a>(
+    alloc: Global,
+    ops: Vec<Op>,
+    count: u32,
+    rows: &'a [u8],
+    texts: &'a [Vec<u8>],
     demands: &[Demand],
-) -> Result<(), NotCompiled>
-    ensures { OnOk result (KeepsData code.old code.new) }
-{
-    for demand in demands.iter().rev() {
-        if let Demand::Branch(branch) = demand {
-            write_table(code, notes, *branch)?;
-        }
-    }
-    Ok(())
+) -> Result<Made, AllocError> {
+    let mut tables = empty_tables(alloc, count)?;
+    let mut notes = Vec::new(alloc);
+    notes.resize(ops.len(), 0)?;
+    let mut draft = Draft {
+        ops,
+        notes,
+        rows,
+        texts,
+    };
+    draft.write_all(&mut tables, demands)?;
+    let Draft {
+        ops,
+        notes: _,
+        rows: _,
+        texts: _,
+    } = draft;
+    Ok(Made { ops, tables })
 }

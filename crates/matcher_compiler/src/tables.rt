@@ -4,7 +4,7 @@ ghost use Rattle.base_language.specs.Language.Matching.{begins};
 ghost use Rattle.matcher_code.specs.Lists.{lists_of};
 ghost use Rattle.matcher_code.specs.declared.code.Op.TheVariants as op;
 ghost use Rattle.matcher_code.specs.Reading.{char_len, flag, text_of};
-ghost use Rattle.matcher_code.specs.Laid.{Moves, Notes, Skips, at_label, head_of, label_for};
+ghost use Rattle.matcher_code.specs.Laid.{Moves, Skips, at_label, head_of, label_for};
 ghost use Rattle.matcher_compiler.specs.Plans.{ContinuesAs, IsNoted};
 
 use crate::points::Branch;
@@ -123,14 +123,6 @@ pub(crate) fn operation_at(code: &Code, label: u32) -> Op
     }
 }
 
-/// Returns whether an operation may go on at a label for some first bytes, and do nothing else.
-pub(crate) fn is_test(op: Op) -> bool {
-    matches!(
-        op,
-        Op::Switch { .. } | Op::IsOne { .. } | Op::One { .. } | Op::Text { .. }
-    )
-}
-
 /// Returns the label at which the operation of a label goes on for a first byte, if it does nothing else.
 #[inline(always)]
 pub(crate) fn next_label(code: &Code, label: u32, here: Op, head: Option<u8>) -> Option<u32>
@@ -186,7 +178,7 @@ fn moves(code: &Code, from: u32, here: Op, head: Option<u8>, to: u32) -> bool
 
 /// Returns whether a label is another one, or where the operation of that one goes on for a first byte.
 #[inline(always)]
-fn skips(code: &Code, from: u32, here: Op, head: Option<u8>, to: u32) -> bool
+pub(crate) fn skips(code: &Code, from: u32, here: Op, head: Option<u8>, to: u32) -> bool
     ensures { at_label (lists_of code.now) from ≡ here → result ≡ true
         → Skips (lists_of code.now) head from to }
 {
@@ -203,7 +195,7 @@ pub(crate) struct Lead {
 
 /// Returns whether a failure of the first alternative is recorded before the second one.
 #[inline(always)]
-fn is_noted(code: &Code, branch: Branch, lead: Lead) -> bool
+pub(crate) fn is_noted(code: &Code, branch: Branch, lead: Lead) -> bool
     ensures { result ≡ true → IsNoted (lists_of code.now) branch lead.next lead.to }
 {
     let behind = match label_after_note(code, lead.to) {
@@ -258,17 +250,6 @@ fn is_noted_as(code: &Code, branch: Branch, seen: Option<Lead>, lead: Lead) -> b
         }
         None => is_noted(code, branch, lead),
     }
-}
-
-/// Returns whether a failure of the first alternative is recorded before the second one, whose operation is
-/// given.
-#[inline(always)]
-pub(crate) fn has_note(code: &Code, branch: Branch, second: Op, head: Option<u8>, to: u32) -> bool
-    ensures { at_label (lists_of code.now) branch.second ≡ second → result ≡ true
-        → Notes (lists_of code.now) head branch.second branch.next branch.way to }
-{
-    let next = next_label(code, branch.second, second, head);
-    is_noted(code, branch, Lead { next, to })
 }
 
 /// Returns a noted lead, `seen` or a new one, if there is one yet, or `None` if the table of a choice may not

@@ -1,10 +1,9 @@
-use Rattle.std.proofs.Common.{◌≡◌, ℕ, ◌<◌, ◌≤◌, Some, get_or}
-use Rattle.std.specs.Prelude.{IfSome}
+use Rattle.std.proofs.Common.{◌≡◌, ℕ, ◌<◌, ◌≤◌, Some, get_or, true}
 use Rattle.matcher_code.specs.declared.code.Op.TheVariants as op
 use Rattle.matcher_code.specs.Lists.{lists_of}
 use Rattle.matcher_code.specs.Laid.{at_label, label_for}
 use Rattle.matcher_compiler.specs.Plans.{ContinuesAs, IsNoted}
-use Rattle.matcher_compiler.proofs.columns.has_labels_over.Given as goal
+use Rattle.matcher_compiler.proofs.columns.has_noted_labels.Given as goal
 
 -- the labels so far; and the lead that was seen last is noted
 abbrev pub invariant-loop-byte : goal.invariant-loop-byte
@@ -13,5 +12,5 @@ invariant-loop-byte l = record {
       → at_label (lists_of l.code) l.branch.first ≡ l.first → at_label (lists_of l.code) l.branch.second ≡ op.Switch table
       → (b : ℕ) → l.from ≤ b → b < l.byte
       → ContinuesAs (lists_of l.code) l.branch (Some b) (label_for (lists_of l.code) l.branch.table (Some b));
-  seen : IfSome l.seen (λ lead. IsNoted (lists_of l.code) l.branch lead.next lead.to);
+  seen : l.is_seen ≡ true → IsNoted (lists_of l.code) l.branch (Some l.seen_next) l.seen_to;
 }
