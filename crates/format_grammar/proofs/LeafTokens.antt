@@ -4,8 +4,8 @@ use Rattle.std.specs.Prelude.{bytes_eq}
 use Rattle.base_language.specs.Language.Text.{Text}
 use Rattle.base_language.specs.Language.State.{Trees, None', Tree}
 use Rattle.front_reader.specs.Flaws.{first_inner}
-use Rattle.front_syntax.specs.Shape as shape
-use Rattle.front_syntax.specs.Shape.{IsQuoted, IsCounted, IsPostfix, ArePostfixes, IsSliceEnd, IsSliceStart, IsSlice, IsTerminal, IsExpression, AreTerms, IsMore, IsTerm, IsNode, IsRule, AreGrammarTrees}
+use Rattle.front_grammar.specs.Shape as shape
+use Rattle.front_grammar.specs.Shape.{IsQuoted, IsCounted, IsPostfix, ArePostfixes, IsSliceEnd, IsSliceStart, IsSlice, IsTerminal, IsExpression, AreTerms, IsMore, IsTerm, IsNode, IsRule, AreGrammarTrees}
 
 abbrev pub is_none : Trees → Bool
 is_none None' = true

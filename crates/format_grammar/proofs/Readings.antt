@@ -6,9 +6,9 @@ use Rattle.base_language.specs.Language.State.{Classes, Trees, None', Outcome, S
 use Rattle.base_language.specs.declared.grammar.Rule.{Rule}
 use Rattle.base_language.specs.declared.grammar.Rule.TheVariants.{grammar_rules}
 use Rattle.base_language.proofs.OneOutcome as once
-use Rattle.front_syntax.specs.MetaGrammar.{meta_grammar}
-use Rattle.front_syntax.specs.Parses.{Spells}
-use Rattle.front_syntax.specs.Shape.{AreGrammarTrees}
+use Rattle.front_grammar.specs.MetaGrammar.{meta_grammar}
+use Rattle.front_grammar.specs.Outcomes.{Spells}
+use Rattle.front_grammar.specs.Shape.{AreGrammarTrees}
 use Rattle.front_syntax.specs.declared.entries.Entry.{Entry}
 use Rattle.front_reader.specs.Flaws.{first_flaw}
 use Rattle.front_reader.specs.Reading.{ReadsRules}

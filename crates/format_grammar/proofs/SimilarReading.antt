@@ -12,7 +12,7 @@ use Rattle.base_language.specs.Language.Expression.{Expression, Rule, Grammar}
 use Rattle.base_language.specs.Language.State.{Trees, None', Tree, joined}
 use Rattle.front_spanned.specs.Erasure.{round, without_spans, rule_without_spans, rules_without_spans}
 use Rattle.front_spanned.specs.Spanned.{Span, Spanned, Leaf, One, Two, Unary, Seq, Choice, placed, ending, SpannedRule}
-use Rattle.front_syntax.specs.Shape.{Lone}
+use Rattle.front_grammar.specs.Shape.{Lone}
 use Rattle.front_reader.specs.Literal.{unescaped}
 use Rattle.front_reader.specs.Flaws.{Flaw, Cause, PastU32, ZeroTimes, flaw_if, own_flaw, first_flaw, first_inner, closes}
 use Rattle.front_reader.specs.Reading as reading

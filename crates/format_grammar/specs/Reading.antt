@@ -7,7 +7,7 @@ use Rattle.front_reader.specs.Flaws.{first_flaw}
 use Rattle.front_reader.specs.Reading.{ReadsRules}
 use Rattle.front_spanned.specs.Erasure.{rules_without_spans}
 use Rattle.front_spanned.specs.Spanned.{SpannedRule}
-use Rattle.front_syntax.specs.Parses.{Spells}
+use Rattle.front_grammar.specs.Outcomes.{Spells}
 
 -- a text is read as these rules, with spans or without them
 pub record IsReadAs (text : List ℕ) (rules : Grammar) : Type 0 where

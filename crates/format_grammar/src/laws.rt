@@ -5,7 +5,7 @@ ghost use Rattle.front_syntax.specs.declared.entries.Entry.{Entry};
 ghost use Rattle.format_grammar.specs.Formatting.{AreTokens, SameTokens};
 ghost use Rattle.format_grammar.specs.Reading.{SameRules};
 
-use front_syntax::laws::trees_of_a_grammar_have_their_shape;
+use front_grammar::laws::trees_of_a_grammar_have_their_shape;
 
 /// Proves that grammars of equal tokens are read as the same rules, their spans left out.
 pub fn same_tokens_have_the_same_rules()

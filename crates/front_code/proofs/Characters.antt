@@ -12,9 +12,9 @@ use Rattle.base_language.specs.Language.Meaning.{Does, Run, body_mode, gives_tok
 use Rattle.base_language.specs.Language.State.{Classes, Failure, IsRuleMode, Mode, None', State, Success, moved}
 use Rattle.base_language.specs.Pieces.MetaRules.{name_of}
 use Rattle.base_language.specs.declared.grammar.Rule.{Rule}
-use Rattle.front_syntax.specs.MetaGrammar.{body_of, meta_grammar, rule_at, type_of_rule}
-use Rattle.front_syntax.specs.Rows.{is_defined}
-use Rattle.front_syntax.proofs.Lookup.{defined_rule, no_any}
+use Rattle.front_grammar.specs.MetaGrammar.{body_of, meta_grammar, rule_at, type_of_rule}
+use Rattle.front_grammar.specs.Rules.{is_defined}
+use Rattle.front_grammar.proofs.Lookup.{defined_rule, no_any}
 use Rattle.matcher_code.specs.Failures.{in_silence}
 use Rattle.matcher_code.specs.Lists.{is_covered}
 use Rattle.matcher_code.specs.Laid.{HasOutcome, IsSilent, IsTight}

@@ -6,7 +6,7 @@ use Rattle.base_language.specs.Language.State.{AtomicMode, Classes, CompoundAtom
 use Rattle.base_language.specs.Pieces.MetaRules.{name_of}
 use Rattle.base_language.specs.declared.grammar.Rule.{Rule}
 use Rattle.base_language.specs.declared.grammar.Rule.TheVariants as rule
-use Rattle.front_syntax.specs.MetaGrammar.{body_of, meta_grammar}
+use Rattle.front_grammar.specs.MetaGrammar.{body_of, meta_grammar}
 use Rattle.matcher_code.specs.Lists.{CodeLists}
 use Rattle.matcher_code.specs.declared.code.Op.TheVariants as op
 use Rattle.matcher_code.specs.Laid.{IsPoint, Point}

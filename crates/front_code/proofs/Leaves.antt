@@ -24,7 +24,7 @@ use Rattle.matcher_code.specs.Paths.{told_paths}
 use Rattle.matcher_code.specs.Reached.{Comes, IsAt}
 use Rattle.matcher_code.proofs.CharacterSets.{all_performs, below, one_performs}
 use Rattle.matcher_code.proofs.Attempting.{called}
-use Rattle.front_syntax.proofs.Lookup.{any_builtin, eoi_builtin, soi_builtin}
+use Rattle.front_grammar.proofs.Lookup.{any_builtin, eoi_builtin, soi_builtin}
 
 -- two sets that have the same characters
 abbrev pub Covers : List (ℕ × ℕ) → (ℕ → Bool) → Type 0

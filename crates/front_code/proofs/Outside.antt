@@ -11,9 +11,9 @@ use Rattle.base_language.specs.Language.Meaning.{Does, Run, Task, body_mode, giv
 use Rattle.base_language.specs.Language.State.{Classes, Failure, IsRuleMode, Mode, None', Outcome, State, Success, moved}
 use Rattle.base_language.specs.Pieces.MetaRules.{name_of}
 use Rattle.base_language.specs.declared.grammar.Rule.{Rule}
-use Rattle.front_syntax.specs.MetaGrammar.{body_of, meta_grammar, rule_at, type_of_rule}
-use Rattle.front_syntax.specs.Rows.{is_defined}
-use Rattle.front_syntax.proofs.Lookup.{defined_rule}
+use Rattle.front_grammar.specs.MetaGrammar.{body_of, meta_grammar, rule_at, type_of_rule}
+use Rattle.front_grammar.specs.Rules.{is_defined}
+use Rattle.front_grammar.proofs.Lookup.{defined_rule}
 use Rattle.matcher_code.specs.Failures.{both, unnamed}
 use Rattle.matcher_code.specs.Lists.{is_covered}
 use Rattle.matcher_code.specs.Laid.{FailsOutside, Hits, IsSilent, IsSilentUnless, IsTight, Misses, TakesOne}

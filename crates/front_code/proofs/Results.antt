@@ -8,8 +8,8 @@ use Rattle.base_language.specs.Language.Meaning.{Does, Run, Task}
 use Rattle.base_language.specs.Language.State.{Classes, Failure, NonAtomicMode, Outcome, Success, State, Trees}
 use Rattle.base_language.specs.Pieces.MetaRules.{name_of}
 use Rattle.base_language.specs.declared.grammar.Rule.{Rule}
-use Rattle.front_syntax.specs.MetaGrammar.{meta_grammar}
-use Rattle.front_syntax.specs.Parses.{start_of}
+use Rattle.front_grammar.specs.MetaGrammar.{meta_grammar}
+use Rattle.front_grammar.specs.Outcomes.{start_of}
 use Rattle.matcher_code.specs.Lists.{CodeLists}
 use Rattle.matcher_code.specs.declared.code.Op.TheVariants as op
 use Rattle.matcher_code.specs.Failures.{failures_at}

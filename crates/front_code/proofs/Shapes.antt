@@ -14,9 +14,9 @@ use Rattle.base_language.specs.Language.Meaning.{Run, Skipping, Task, body_mode,
 use Rattle.base_language.specs.Pieces.MetaRules.{name_of}
 use Rattle.base_language.specs.declared.grammar.Rule.{Rule}
 use Rattle.base_language.specs.declared.grammar.Rule.TheVariants as rule
-use Rattle.front_syntax.specs.MetaGrammar.{any, body_of, meta_grammar, rule_at, type_of_rule}
-use Rattle.front_syntax.specs.Rows.{is_defined}
-use Rattle.front_syntax.proofs.Lookup.{defined_rule, no_any, no_eoi, no_soi}
+use Rattle.front_grammar.specs.MetaGrammar.{any, body_of, meta_grammar, rule_at, type_of_rule}
+use Rattle.front_grammar.specs.Rules.{is_defined}
+use Rattle.front_grammar.proofs.Lookup.{defined_rule, no_any, no_eoi, no_soi}
 use Rattle.matcher_code.specs.Lists.{CodeLists}
 use Rattle.matcher_code.specs.declared.code.Op.{Op}
 use Rattle.matcher_code.specs.declared.code.Op.TheVariants as op

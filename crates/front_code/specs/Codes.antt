@@ -5,7 +5,7 @@ use Rattle.base_language.specs.Language.Meaning.{Run}
 use Rattle.base_language.specs.Language.State.{Classes, NonAtomicMode}
 use Rattle.base_language.specs.Pieces.MetaRules.{name_of}
 use Rattle.base_language.specs.declared.grammar.Rule.{Rule}
-use Rattle.front_syntax.specs.MetaGrammar.{meta_grammar}
+use Rattle.front_grammar.specs.MetaGrammar.{meta_grammar}
 use Rattle.matcher_code.specs.Lists.{CodeLists}
 use Rattle.matcher_code.specs.declared.code.Op.{Op}
 use Rattle.matcher_code.specs.declared.code.Op.TheVariants as op

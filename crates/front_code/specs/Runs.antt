@@ -4,7 +4,7 @@ use Rattle.base_language.specs.Language.Expected.{expected_at}
 use Rattle.base_language.specs.Language.FurthestFailure.{furthest}
 use Rattle.base_language.specs.Language.State.{Classes, Failure, State, Success, Trees}
 use Rattle.base_language.specs.declared.grammar.Rule.{Rule}
-use Rattle.front_syntax.specs.Parses.{Recognizes}
+use Rattle.front_grammar.specs.Outcomes.{Recognizes}
 use Rattle.matcher_code.specs.Reached.{nodes_of}
 use Rattle.matcher_code.specs.Steps.{with_rows}
 use Rattle.front_code.specs.Numbers.{number_of}

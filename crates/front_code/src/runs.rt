@@ -8,7 +8,7 @@ ghost use Rattle.front_code.specs.Runs.{IsParseOf, IsRunOf};
 use crate::bytes::{exact_code, fast_code};
 use crate::numbers::rule_number;
 use base_language::grammar::Rule;
-use front_syntax::laws::each_rule_has_one_outcome;
+use front_grammar::laws::each_rule_has_one_outcome;
 use matcher_code::fused::fuse;
 use matcher_code::state::TreeNode;
 use matcher_machine::machine::{Machine, RunEnd};

@@ -9,7 +9,7 @@ use Rattle.front_reader.specs.Pieces.{IsPiece, NestedInBytes, AreInText}
 use Rattle.front_reader.specs.Reading as reading
 use Rattle.front_reader.specs.Reading.{Reads, AnExpression, Alternatives, ASequence, ATerm, both}
 use Rattle.base_language.specs.Pieces.MetaRules.{name_of}
-use Rattle.front_syntax.specs.Shape.{Lone, IsExpression, AreTerms, IsMore, IsTerm, barred, unbarred, terms, infix_operator, tilde, bar}
+use Rattle.front_grammar.specs.Shape.{Lone, IsExpression, AreTerms, IsMore, IsTerm, barred, unbarred, terms, infix_operator, tilde, bar}
 use Rattle.front_spanned.specs.Spanned.{Span, Spanned, Binary, Seq, Choice}
 use Rattle.front_reader.specs.Levels.{InFront, SplitOff}
 use Rattle.front_reader.specs.Views.{IsAfterBar, IsRest, at_bar, TakesTerm, takes_term}

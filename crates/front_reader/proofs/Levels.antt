@@ -33,7 +33,7 @@ use Rattle.front_reader.proofs.Chains.{sequence_start, sequence_step, sequence_p
 use Rattle.front_reader.proofs.FlawsInOrder.{first_in, first_as, or_none}
 use Rattle.front_reader.proofs.Terms.{inside, outermost, Outermost, before_operators, push_piece}
 use Rattle.front_reader.proofs.TreesStandInText.{stand_inner, stand_behind, stand_alone}
-use Rattle.front_syntax.specs.Shape.{Lone, IsExpression, IsNode, ArePostfixes, terminal, pushed}
+use Rattle.front_grammar.specs.Shape.{Lone, IsExpression, IsNode, ArePostfixes, terminal, pushed}
 
 -- where what is at hand stands
 

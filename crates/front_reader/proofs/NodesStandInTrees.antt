@@ -5,7 +5,7 @@ use Rattle.base_language.specs.Language.State.{Trees, None', Tree, joined}
 use Rattle.front_reader.specs.Pieces.{NestedInBytes}
 use Rattle.front_reader.specs.Reading.{Category, Reads, Postfixed, done, more, barred, unbarred, one_alternative, choice, one_term, sequence, tagged, pos_pred, neg_pred, bare, grouped, leaf, pushed, literally_pushed}
 use Rattle.front_spanned.specs.Spanned.{Span, Spanned, Leaf, One, Two, span_of, start_of, end_of, placed, ending}
-use Rattle.front_syntax.specs.Shape.{Lone}
+use Rattle.front_grammar.specs.Shape.{Lone}
 use Rattle.front_reader.proofs.TreesStandInText.{nested_order}
 
 pub span_of-placed : (t : Span) (x : Spanned) → span_of (placed t x) ≡ t

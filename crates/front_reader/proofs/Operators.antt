@@ -8,7 +8,7 @@ use Rattle.front_reader.specs.Flaws.{first_flaw, own_flaw, not_a_count, past_u32
 use Rattle.front_reader.specs.Reading as reading
 use Rattle.front_reader.specs.Reading.{Postfix, number}
 use Rattle.base_language.specs.Pieces.MetaRules.{name_of}
-use Rattle.front_syntax.specs.Shape.{IsNumber, IsCounted, exact, min, max, min_max, IsPostfix, opt, rep, rep_once, counted, ArePostfixes, more}
+use Rattle.front_grammar.specs.Shape.{IsNumber, IsCounted, exact, min, max, min_max, IsPostfix, opt, rep, rep_once, counted, ArePostfixes, more}
 use Rattle.front_spanned.specs.Spanned.{Unary, RepExact, RepMin, RepMax, RepMinMax}
 use Rattle.base_language.specs.declared.grammar.Rule.{Rule}
 use Rattle.base_language.specs.declared.grammar.Rule.TheVariants as rule_is

@@ -10,7 +10,7 @@ use Rattle.front_reader.specs.Pieces.{AreInText}
 use Rattle.front_reader.specs.Reading as reading
 use Rattle.front_reader.specs.Reading.{Reads, AnExpression, ReadsRule, ReadsRules, Modifies, characters_between}
 use Rattle.base_language.specs.Pieces.MetaRules.{name_of}
-use Rattle.front_syntax.specs.Shape.{Lone, IsRule, AreGrammarTrees, IsExpression, line_doc, normal, modified, silent, atomic, compound_atomic, non_atomic, end_of_input, grammar_doc, grammar_rule}
+use Rattle.front_grammar.specs.Shape.{Lone, IsRule, AreGrammarTrees, IsExpression, line_doc, normal, modified, silent, atomic, compound_atomic, non_atomic, end_of_input, grammar_doc, grammar_rule}
 use Rattle.front_spanned.specs.Spanned.{Spanned, SpannedRule}
 use Rattle.front_spanned.specs.declared.node.ParserRule.{ParserRule}
 use Rattle.front_reader.specs.Views.{MayBeModifier, a_modifier, the_brace, TakesModifier, a_type, no_type}

@@ -13,7 +13,7 @@ use Rattle.base_language.specs.declared.grammar.Rule.{Rule}
 use Rattle.base_language.specs.declared.grammar.Rule.TheVariants as rule_is
 use Rattle.base_language.proofs.MetaNames.{name_of-injective}
 use Rattle.base_language.specs.Pieces.Saying.{piece}
-use Rattle.front_syntax.specs.Shape.{Lone, IsTerm, tagged, predicate, grouped, bare, terminal, positive, negative}
+use Rattle.front_grammar.specs.Shape.{Lone, IsTerm, tagged, predicate, grouped, bare, terminal, positive, negative}
 use Rattle.front_spanned.specs.Spanned.{Spanned, One, Unary, PosPred, NegPred, Tag, end_of}
 use Rattle.front_spanned.specs.Nodes.{view, piece_of}
 use Rattle.front_spanned.specs.declared.node.ParserNode.{ParserNode}

@@ -11,8 +11,8 @@ use Rattle.front_reader.specs.Reading as reading
 use Rattle.front_reader.specs.Reading.{Terminal, Reads, ANode, literal_value, integer}
 use Rattle.base_language.specs.Pieces.MetaRules.{name_of}
 use Rattle.front_spanned.specs.Spanned.{Leaf}
-use Rattle.front_syntax.specs.Shape.{Lone, IsQuoted, in_quotes, in_single_quotes, IsTerminal, identifier, string, insensitive, range, slice, push_literal, IsInteger, MayBeNumber, IsSlice, in_brackets, IsSliceStart, IsSliceEnd}
-use Rattle.front_syntax.specs.Shape as shape
+use Rattle.front_grammar.specs.Shape.{Lone, IsQuoted, in_quotes, in_single_quotes, IsTerminal, identifier, string, insensitive, range, slice, push_literal, IsInteger, MayBeNumber, IsSlice, in_brackets, IsSliceStart, IsSliceEnd}
+use Rattle.front_grammar.specs.Shape as shape
 use Rattle.front_reader.specs.Views as views
 use Rattle.front_reader.specs.Views.{TakesNumber, TakesBound}
 use Rattle.base_language.specs.declared.grammar.Rule.{Rule}

@@ -10,7 +10,7 @@ use Rattle.front_reader.specs.Pieces.{IsPiece, NestedInBytes, AreInText}
 use Rattle.front_reader.specs.Reading as reading
 use Rattle.front_reader.specs.Reading.{Reads, AnExpression, ATerm, ANode, tag_name}
 use Rattle.base_language.specs.Pieces.MetaRules.{name_of}
-use Rattle.front_syntax.specs.Shape.{Lone, IsTerm, IsNode, IsTerminal, ArePostfixes, tagged, predicate, bare, terminal, pushed, identifier, string, insensitive, range, slice, push_literal}
+use Rattle.front_grammar.specs.Shape.{Lone, IsTerm, IsNode, IsTerminal, ArePostfixes, tagged, predicate, bare, terminal, pushed, identifier, string, insensitive, range, slice, push_literal}
 use Rattle.front_spanned.specs.Spanned as spanned
 use Rattle.front_spanned.specs.Spanned.{Spanned, One, PosPred, NegPred, Push, Tag, span_of, end_of, placed, starting, ending}
 use Rattle.front_reader.specs.Signs.{IsOperand, group, node}

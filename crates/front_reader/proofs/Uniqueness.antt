@@ -9,7 +9,7 @@ use Rattle.base_language.specs.Language.State.{Trees, None', Tree, joined}
 use Rattle.base_language.specs.Pieces.Saying.{piece}
 use Rattle.front_reader.specs.Reading as reading
 use Rattle.front_reader.specs.Reading.{Category, AnExpression, Alternatives, ASequence, ATerm, ANode, Modifies, Postfix, Postfixed, done, more, Terminal, Reads, barred, unbarred, one_alternative, choice, one_term, sequence, tagged, pos_pred, neg_pred, bare, grouped, leaf, pushed, literally_pushed, tag_name, both, around, characters_between, ReadsRule, ReadsRules, line_doc, normal, modified, end_of_input, grammar_doc, documented, defined}
-use Rattle.front_syntax.specs.Shape.{Lone}
+use Rattle.front_grammar.specs.Shape.{Lone}
 use Rattle.front_spanned.specs.Spanned.{Spanned, Unary, SpannedRule, Seq, Choice, ending, starting, end_of, Leaf, One, PosPred, NegPred, Push, Tag}
 
 -- names that a test tells apart

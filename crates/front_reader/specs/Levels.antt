@@ -22,7 +22,7 @@ use Rattle.front_reader.specs.declared.rules.levels.Next.TheVariants as next_is
 use Rattle.front_reader.specs.declared.rules.levels.Enclosure.{Enclosure}
 use Rattle.front_reader.specs.declared.rules.levels.Enclosure.TheVariants as within_is
 use Rattle.front_reader.specs.declared.rules.signs.Sign.{Sign}
-use Rattle.front_syntax.specs.Shape.{Lone, IsExpression, AreTerms, IsMore, IsTerm, IsTerminal, ArePostfixes}
+use Rattle.front_grammar.specs.Shape.{Lone, IsExpression, AreTerms, IsMore, IsTerm, IsTerminal, ArePostfixes}
 
 -- a node of code, if there is one
 abbrev pub node_view : Option (Deep ParserNode) → Option Spanned

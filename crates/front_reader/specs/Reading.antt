@@ -6,7 +6,7 @@ use Rattle.base_language.specs.Language.Text.{Text}
 use Rattle.base_language.specs.Language.Expression.{Expression, Str, Insens, Range, Ident, PeekSlice, PushLiteral, RuleType, Normal, Silent, Atomic, CompoundAtomic, NonAtomic}
 use Rattle.base_language.specs.Language.State.{Trees, None', Tree, joined}
 use Rattle.base_language.specs.Pieces.Saying.{piece}
-use Rattle.front_syntax.specs.Shape.{Lone, Braced}
+use Rattle.front_grammar.specs.Shape.{Lone, Braced}
 use Rattle.front_spanned.specs.Spanned.{Span, Spanned, Leaf, One, Two, Unary, PosPred, NegPred, Opt, Rep, RepOnce, RepExact, RepMin, RepMax, RepMinMax, Push, Tag, Binary, Seq, Choice, start_of, end_of, starting, ending, SpannedRule}
 use Rattle.front_reader.specs.Literal.{unescaped}
 

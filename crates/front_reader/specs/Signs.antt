@@ -4,7 +4,7 @@ use Rattle.std.specs.Str.{IsCharBoundary}
 use Rattle.base_language.specs.Language.Text.{Text}
 use Rattle.base_language.specs.Language.State.{Trees, Tree}
 use Rattle.base_language.specs.Pieces.Saying.{piece}
-use Rattle.front_syntax.specs.Shape.{Lone, IsExpression, IsNode, ArePostfixes}
+use Rattle.front_grammar.specs.Shape.{Lone, IsExpression, IsNode, ArePostfixes}
 use Rattle.front_spanned.specs.Spanned.{Spanned, One, Unary, PosPred, NegPred, Tag, end_of}
 use Rattle.front_reader.specs.Flaws.{first_flaw}
 use Rattle.front_reader.specs.Pieces.{NestedInBytes, AreInText}

@@ -11,7 +11,7 @@ use Rattle.base_language.specs.Language.State.{joined}
 use Rattle.base_language.specs.Pieces.Span.{span_text, span_end}
 use Rattle.front_spanned.specs.Spanned as spanned
 use Rattle.front_reader.specs.Pieces.{AreAfter, AreInText}
-use Rattle.front_syntax.specs.Shape.{Lone, AreTerms, IsMore, IsTerm, IsModifier}
+use Rattle.front_grammar.specs.Shape.{Lone, AreTerms, IsMore, IsTerm, IsModifier}
 use Rattle.front_spanned.specs.Spanned.{Spanned, Binary, Seq, Choice, One, Unary, Opt, Rep, RepOnce, RepExact, RepMin, RepMax, RepMinMax}
 use Rattle.front_spanned.specs.Nodes.{piece_of, view, rule_view, rule_views}
 use Rattle.base_language.specs.Pieces.NamedTrees.{named_trees_of}

@@ -5,7 +5,7 @@ ghost use Rattle.base_language.specs.Pieces.NamedTrees.{named_trees_of};
 ghost use Rattle.front_syntax.specs.Parses.{AreOfAGrammar, AreSpelled, ParseRefuses};
 ghost use Rattle.front_reader.specs.Refusals.{AreReadAs, IsReadRefusal, first_flaw_of};
 ghost use Rattle.front_reader.specs.Pieces.{AreInText};
-ghost use Rattle.front_syntax.specs.Shape.{AreGrammarTrees, IsRule};
+ghost use Rattle.front_grammar.specs.Shape.{AreGrammarTrees, IsRule};
 ghost use Rattle.front_reader.specs.Views.{AnswersRule, AnswersRules, IsFirst, MayBeModifier, TakesModifier};
 ghost use Rattle.front_spanned.specs.Nodes.{rule_views, type_of};
 
@@ -33,7 +33,7 @@ pub use base_language::grammar::Rule;
 use base_language::runtime::{Fault, Pairs, TokenTree};
 pub use front_spanned::{ParserExpr, ParserNode, ParserRule, filter_internal};
 pub use front_syntax::grammar::PestParser;
-use front_syntax::laws::trees_of_a_grammar_have_their_shape;
+use front_grammar::laws::trees_of_a_grammar_have_their_shape;
 use front_syntax::trees::{first_tree, leading_tree};
 use std::alloc::Global;
 

@@ -6,7 +6,7 @@ use Rattle.base_language.specs.Language.State.{Trees, None', Tree, Success, Fail
 use Rattle.base_language.specs.declared.grammar.Rule.TheVariants as is
 use Rattle.base_language.proofs.Steps.{joined_assoc}
 use Rattle.base_language.specs.Pieces.Saying.{piece}
-use Rattle.front_syntax.specs.Shape.{Lone}
+use Rattle.front_grammar.specs.Shape.{Lone}
 use Rattle.front_spanned.specs.Spanned as spanned
 use Rattle.front_spanned.specs.Spanned.{Spanned, Leaf, One, Two, Span, Unary, starting, ending, end_of}
 use Rattle.front_reader.specs.Reading.{AnExpression, ATerm, Reads, Postfixed, done, more, Postfix, pos_pred, neg_pred, tagged, tag_name, one_term, one_alternative, sequence, choice, unbarred, grouped, around, both}

@@ -9,7 +9,7 @@ use Rattle.base_language.specs.Language.Meaning.{Run}
 use Rattle.base_language.specs.declared.grammar.Rule.TheVariants as is
 use Rattle.base_language.proofs.Basics.{first_of_neither, second_of_neither}
 use Rattle.front_syntax.specs.Firsts.{is_among}
-use Rattle.front_syntax.specs.MetaGrammar.{rule, ◌or◌}
+use Rattle.front_grammar.specs.MetaGrammar.{rule, ◌or◌}
 use Rattle.front_roundtrip.proofs.Deriving.{at, Gives, str, range, call, left, right, is_solid}
 
 -- what one test accepts is none of what it refuses

@@ -10,10 +10,10 @@ use Rattle.base_language.specs.Pieces.MetaRules.{name_of}
 use Rattle.base_language.specs.declared.grammar.Rule.{Rule}
 use Rattle.base_language.specs.declared.grammar.Rule.TheVariants as is
 use Rattle.front_syntax.specs.declared.modes.Mode.TheVariants as in_mode
-use Rattle.front_syntax.specs.MetaGrammar.{meta_grammar, rule_at, body_of}
-use Rattle.front_syntax.specs.Rows.{is_defined}
+use Rattle.front_grammar.specs.MetaGrammar.{meta_grammar, rule_at, body_of}
+use Rattle.front_grammar.specs.Rules.{is_defined}
 use Rattle.front_syntax.specs.Firsts.{may_begin}
-use Rattle.front_syntax.proofs.Lookup.{defined_rule}
+use Rattle.front_grammar.proofs.Lookup.{defined_rule}
 use Rattle.front_syntax.proofs.FirstCharacters.{fails_at_once}
 use Rattle.front_syntax.proofs.Steps.{ran_whitespace, ran_comment}
 

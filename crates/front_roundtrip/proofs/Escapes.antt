@@ -12,7 +12,7 @@ use Rattle.base_ast.specs.Printing.{escaped, is_control, numbered, hex_digit}
 use Rattle.base_language.specs.Language.Meaning.{Run, from_to}
 use Rattle.base_language.specs.declared.grammar.Rule.TheVariants as is
 use Rattle.base_language.proofs.Basics.{second_of_both}
-use Rattle.front_syntax.specs.MetaGrammar.{rule}
+use Rattle.front_grammar.specs.MetaGrammar.{rule}
 use Rattle.front_reader.specs.Literal as literal
 use Rattle.front_reader.specs.Literal.{unescaped}
 use Rattle.front_roundtrip.proofs.Deriving.{at, Gives, str, range, call, seq, seq_first, left, right, opt, opt_none, rep_min_max, atomic}

@@ -8,7 +8,7 @@ use Rattle.base_language.specs.Language.Meaning.{Does, Run}
 use Rattle.base_language.specs.Pieces.MetaRules.{name_of}
 use Rattle.base_language.specs.declared.grammar.Rule.TheVariants as is
 use Rattle.base_language.proofs.OneOutcome.{same}
-use Rattle.front_syntax.specs.MetaGrammar.{meta_grammar}
+use Rattle.front_grammar.specs.MetaGrammar.{meta_grammar}
 use Rattle.front_roundtrip.specs.ReadsBack.{TakesAll, NamesAreIdentifiers, is_name, is_name_start, is_name_character, are_name_characters}
 use Rattle.front_roundtrip.proofs.Deriving.{at, Gives, Calls, str, call, neg_pred, seq_first, seq_second, right, atomic}
 use Rattle.front_roundtrip.proofs.Characters.{start_misses, text_misses}

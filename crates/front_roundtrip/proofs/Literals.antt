@@ -12,8 +12,8 @@ use Rattle.base_ast.specs.Printing.{escaped}
 use Rattle.base_language.specs.Language.Meaning.{Run, Turns}
 use Rattle.base_language.specs.declared.grammar.Rule.TheVariants as is
 use Rattle.front_syntax.specs.declared.modes.Mode.TheVariants as in_mode
-use Rattle.front_syntax.specs.MetaGrammar.{rule, ◌or◌, ◌~◌, any, double_quote, backslash}
-use Rattle.front_syntax.specs.Shape.{Lone}
+use Rattle.front_grammar.specs.MetaGrammar.{rule, ◌or◌, ◌~◌, any, double_quote, backslash}
+use Rattle.front_grammar.specs.Shape.{Lone}
 use Rattle.front_syntax.specs.Firsts.{may_begin}
 use Rattle.front_roundtrip.specs.ReadsBack.{is_name_start}
 use Rattle.front_syntax.proofs.Steps.{ran_any}

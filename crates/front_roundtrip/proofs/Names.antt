@@ -11,7 +11,7 @@ use Rattle.base_language.specs.declared.grammar.Rule.TheVariants as is
 use Rattle.base_language.proofs.Basics.{first_of_both, second_of_both}
 use Rattle.base_language.proofs.Beginnings.{begins-gives}
 use Rattle.front_syntax.specs.Firsts.{is_among}
-use Rattle.front_syntax.specs.MetaGrammar.{rule, ◌or◌}
+use Rattle.front_grammar.specs.MetaGrammar.{rule, ◌or◌}
 use Rattle.front_reader.specs.Reading.{leaf, identifier}
 use Rattle.front_reader.specs.Flaws.{own_flaw}
 use Rattle.front_roundtrip.specs.ReadsBack.{is_name, is_name_start, is_name_character, are_name_characters}

@@ -4,7 +4,7 @@ use Rattle.base_language.specs.Language.Text.{Text}
 use Rattle.base_language.specs.Language.Expression.{Expression, Push, whitespace, comment}
 use Rattle.base_language.specs.Language.State.{State, Trees, None', Tree, Success}
 use Rattle.base_language.specs.declared.grammar.Rule.TheVariants as is
-use Rattle.front_syntax.specs.Shape.{Lone}
+use Rattle.front_grammar.specs.Shape.{Lone}
 use Rattle.front_spanned.specs.Spanned as spanned
 use Rattle.front_spanned.specs.Spanned.{Spanned, Leaf, One, end_of}
 use Rattle.front_reader.specs.Reading.{ANode, Reads, bare, pushed}

@@ -14,8 +14,8 @@ use Rattle.base_language.specs.Language.State.{AtomicMode, None', Tree, Trees, S
 use Rattle.base_language.specs.Language.Builtins.{is_between}
 use Rattle.base_language.specs.Language.Meaning.{Run, Turns}
 use Rattle.base_language.specs.declared.grammar.Rule.TheVariants as is
-use Rattle.front_syntax.specs.MetaGrammar.{body_of}
-use Rattle.front_syntax.specs.Shape.{Lone}
+use Rattle.front_grammar.specs.MetaGrammar.{body_of}
+use Rattle.front_grammar.specs.Shape.{Lone}
 use Rattle.front_reader.specs.Reading.{number}
 use Rattle.front_reader.specs.Flaws.{own_flaw, flaw_if, past_u32, zero_times, number_flaw, closes, PastU32, ZeroTimes}
 use Rattle.front_roundtrip.proofs.Deriving.{at, Gives, Calls, Skips, call, seq, rep, rep_none, turn, turn_none, rep_once, atomic, stays}

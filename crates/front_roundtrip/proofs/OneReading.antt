@@ -2,7 +2,7 @@
 use Rattle.std.proofs.Common.{◌≡◌, sym, ◌∙◌, ap, refl, subst, [], ◌∷◌, false, codes}
 use Rattle.base_language.specs.Language.Expression.{Expression, Ident, NegPred, Opt, Grammar}
 use Rattle.base_language.proofs.OneOutcome.{same, same_trees}
-use Rattle.front_syntax.specs.MetaGrammar.{meta_grammar}
+use Rattle.front_grammar.specs.MetaGrammar.{meta_grammar}
 use Rattle.front_spanned.specs.Erasure.{rules_without_spans}
 use Rattle.front_reader.specs.Reading.{ReadsRules}
 use Rattle.front_reader.proofs.Uniqueness.{rules_once}

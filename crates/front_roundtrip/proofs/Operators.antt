@@ -11,8 +11,8 @@ use Rattle.base_language.specs.Language.Meaning.{Run}
 use Rattle.base_language.specs.declared.grammar.Rule.TheVariants as is
 use Rattle.front_spanned.specs.Spanned as spanned
 use Rattle.front_spanned.specs.Spanned.{Unary}
-use Rattle.front_syntax.specs.MetaGrammar.{rule, ◌or◌}
-use Rattle.front_syntax.specs.Shape.{Lone}
+use Rattle.front_grammar.specs.MetaGrammar.{rule, ◌or◌}
+use Rattle.front_grammar.specs.Shape.{Lone}
 use Rattle.front_reader.specs.Reading as reading
 use Rattle.front_reader.specs.Reading.{Postfix, exact, min, max, min_max, number}
 use Rattle.front_spanned.specs.Erasure.{round}

@@ -14,8 +14,8 @@ use Rattle.base_language.specs.Language.Expression.{Expression, PeekSlice, white
 use Rattle.base_language.specs.Language.State.{State, NonAtomicMode, AtomicMode, None', Tree, Trees, Success, Failure}
 use Rattle.base_language.specs.Language.Meaning.{Run}
 use Rattle.base_language.specs.declared.grammar.Rule.TheVariants as is
-use Rattle.front_syntax.specs.MetaGrammar.{rule}
-use Rattle.front_syntax.specs.Shape.{Lone}
+use Rattle.front_grammar.specs.MetaGrammar.{rule}
+use Rattle.front_grammar.specs.Shape.{Lone}
 use Rattle.front_reader.specs.Reading.{integer, leaf, slice_from, slice_between}
 use Rattle.front_reader.specs.Flaws.{own_flaw, flaw_if, past_i32, fits_i32, PastI32}
 use Rattle.front_roundtrip.specs.ReadsBack.{FitsI32}

@@ -8,7 +8,7 @@ use Rattle.base_language.specs.Pieces.MetaRules.{name_of}
 use Rattle.base_language.specs.declared.grammar.Rule.TheVariants as is
 use Rattle.base_language.proofs.OneOutcome.{same}
 use Rattle.base_language.proofs.Basics.{first_of_both, second_of_both}
-use Rattle.front_syntax.specs.MetaGrammar.{meta_grammar}
+use Rattle.front_grammar.specs.MetaGrammar.{meta_grammar}
 use Rattle.front_roundtrip.specs.ReadsBack.{TakesAll, TagsAreTagIds, is_tag, is_name_start, are_name_characters}
 use Rattle.front_roundtrip.proofs.Deriving.{at, Gives, Calls, str, call, seq, seq_first, seq_second, right, atomic}
 use Rattle.front_roundtrip.proofs.Characters.{past, sign_takes, start_takes, start_misses}

@@ -13,8 +13,8 @@ use Rattle.base_language.proofs.Steps.{joined_assoc}
 use Rattle.base_language.specs.Pieces.Saying.{piece}
 use Rattle.base_language.proofs.Basics.{first_of_both, second_of_both}
 use Rattle.front_syntax.specs.declared.modes.Mode.TheVariants as in_mode
-use Rattle.front_syntax.specs.MetaGrammar.{meta_grammar, rule}
-use Rattle.front_syntax.specs.Shape.{Lone, Braced}
+use Rattle.front_grammar.specs.MetaGrammar.{meta_grammar, rule}
+use Rattle.front_grammar.specs.Shape.{Lone, Braced}
 use Rattle.front_syntax.proofs.Steps.{ran_soi, ran_end}
 use Rattle.front_spanned.specs.Spanned.{Spanned, SpannedRule}
 use Rattle.front_spanned.specs.Erasure.{without_spans, rules_without_spans}

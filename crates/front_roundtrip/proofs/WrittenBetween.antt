@@ -7,7 +7,7 @@ use Rattle.std.specs.Char.{len_utf8}
 use Rattle.std.proofs.Math.Utf8.{encodes}
 use Rattle.std.proofs.lemmas.List.Sums.{sum_by-append}
 use Rattle.std.proofs.lemmas.Str.{encodes-append, chars-encodes, scalars-chars}
-use Rattle.front_syntax.proofs.Numerals.{middle}
+use Rattle.front_grammar.proofs.Numerals.{middle}
 use Rattle.base_language.specs.Language.Text.{Text, size_of}
 use Rattle.base_language.proofs.InBytes.{sizes, split_bytes}
 use Rattle.base_language.proofs.Beginnings.{scalars_parts}

@@ -8,10 +8,10 @@ use Rattle.base_language.specs.Language.Expression.{Expression, Str, Insens, Ran
 use Rattle.base_language.specs.Language.State.{Classes, NonAtomicMode, State, Success, Trees}
 use Rattle.base_language.specs.Language.Meaning.{Matches}
 use Rattle.base_language.specs.Pieces.MetaRules.{name_of}
-use Rattle.front_syntax.specs.MetaGrammar.{meta_grammar}
+use Rattle.front_grammar.specs.MetaGrammar.{meta_grammar}
 use Rattle.base_language.specs.declared.grammar.Rule as meta
 use Rattle.base_language.specs.declared.grammar.Rule.TheVariants.{grammar_rules, identifier, tag_id}
-use Rattle.front_syntax.specs.Parses.{Spells}
+use Rattle.front_grammar.specs.Outcomes.{Spells}
 use Rattle.front_spanned.specs.Spanned.{SpannedRule}
 use Rattle.front_spanned.specs.Erasure.{rules_without_spans}
 use Rattle.front_reader.specs.Reading.{ReadsRules}

@@ -7,7 +7,8 @@ use Rattle.base_language.specs.Pieces.MetaRules.{name_of}
 use Rattle.base_language.specs.declared.grammar.Rule.{Rule}
 use Rattle.base_language.proofs.Basics.{first_of_both, second_of_both}
 use Rattle.front_syntax.specs.declared.entries.Entry.{Entry}
-use Rattle.front_syntax.specs.Forms.{all_take, choice_among, greatest_rank, nullable, rank_of}
+use Rattle.front_grammar.specs.Rules.{rank_of}
+use Rattle.front_syntax.specs.Forms.{all_take, choice_among, greatest_rank, nullable}
 use Rattle.front_syntax.specs.Runs.{Fails, Finds, GoesOn}
 use Rattle.front_syntax.proofs.Steps.{fails_right, finds_left, finds_right}
 

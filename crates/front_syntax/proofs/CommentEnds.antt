@@ -18,12 +18,12 @@ use Rattle.front_syntax.specs.declared.modes.Mode.TheVariants as in_mode
 use Rattle.front_syntax.specs.declared.sets.Set.TheVariants as set
 use Rattle.front_syntax.specs.CommentEnds.{AreEnds, GoesOnTo, IsEnd, HasNoComment, left_of}
 use Rattle.front_syntax.specs.Entries.{named_entries}
-use Rattle.front_syntax.specs.MetaGrammar.{meta_grammar, body_of, any, rule_at}
+use Rattle.front_grammar.specs.MetaGrammar.{meta_grammar, body_of, any, rule_at}
 use Rattle.front_syntax.specs.Runs.{Fails, FailsOrFinds, IsLeft, at, leaving}
 use Rattle.front_syntax.specs.Sets.{IsBefore, spelled_by}
 use Rattle.front_syntax.proofs.EntryLists.{not_grown}
 use Rattle.front_syntax.proofs.LeafLemmas.{begins-gives}
-use Rattle.front_syntax.proofs.Quiet.{body_stays}
+use Rattle.front_grammar.proofs.Quiet.{body_stays}
 use Rattle.front_syntax.proofs.SetCharacters.{rep_of_turns}
 use Rattle.front_syntax.proofs.Steps.{call_failed, call_found, ran_any}
 

@@ -19,8 +19,9 @@ use Rattle.base_language.proofs.OneOutcome.{same}
 use Rattle.base_language.proofs.Comparisons.{one_rule}
 use Rattle.front_syntax.specs.ExpectedRules.{AreExpected, AreRecordedAt, ExpectsNothing, is_named, rules_named}
 use Rattle.front_syntax.specs.Expecting.{FailsOrFindsRecording, DoesRecording, Sought}
-use Rattle.front_syntax.specs.MetaGrammar.{meta_grammar}
-use Rattle.front_syntax.specs.Parses.{FailsAt, Recognizes, start_of}
+use Rattle.front_grammar.specs.MetaGrammar.{meta_grammar}
+use Rattle.front_grammar.specs.Outcomes.{Recognizes, start_of}
+use Rattle.front_syntax.specs.Parses.{FailsAt}
 use Rattle.front_syntax.specs.Runs.{at}
 use Rattle.front_syntax.proofs.Parsing.{at_start}
 

@@ -16,11 +16,11 @@ use Rattle.front_syntax.specs.declared.modes.Mode.TheVariants as in_mode
 use Rattle.base_language.specs.Language.Builtins.{is_lower, is_upper}
 use Rattle.base_language.proofs.Basics.{first_of_both, second_of_both}
 use Rattle.front_syntax.specs.Firsts.{begins_name, firsts, is_among, is_among_any, is_recorded_at_once, may_begin}
-use Rattle.front_syntax.specs.MetaGrammar.{meta_grammar, rule_at, type_of_rule, body_of}
-use Rattle.front_syntax.specs.Rows.{is_defined}
+use Rattle.front_grammar.specs.MetaGrammar.{meta_grammar, rule_at, type_of_rule, body_of}
+use Rattle.front_grammar.specs.Rules.{is_defined}
 use Rattle.front_syntax.specs.Runs.{at, mode_of}
-use Rattle.front_syntax.proofs.Lookup.{defined_rule}
-use Rattle.front_syntax.proofs.Naming.{rule_named, name_of_named}
+use Rattle.front_grammar.proofs.Lookup.{defined_rule}
+use Rattle.front_grammar.proofs.Naming.{rule_named, name_of_named}
 use Rattle.front_syntax.proofs.SingleCharacters as single
 use Rattle.front_syntax.proofs.SingleCharacters.{fails_within}
 use Rattle.front_syntax.proofs.Steps.{ran_whitespace, ran_comment}

@@ -19,8 +19,9 @@ use Rattle.front_syntax.specs.declared.table.Form.{Form}
 use Rattle.front_syntax.specs.declared.table.Kind.{Kind}
 use Rattle.front_syntax.specs.Entries.{Entry as NamedEntry}
 use Rattle.front_syntax.specs.Entries.{AddsEntries, entry_of, named_entries, open_start}
-use Rattle.front_syntax.specs.Forms.{AreParts, IsGood, IsRunnable, IsRunnableTurn, IsSpelled, all_take, calls_cost, choice_among, cost, expression_of, followed, good, kind_of, null, nullable, rank_of}
-use Rattle.front_syntax.specs.MetaGrammar.{rule_at}
+use Rattle.front_grammar.specs.Rules.{rank_of}
+use Rattle.front_syntax.specs.Forms.{AreParts, IsGood, IsRunnable, IsRunnableTurn, IsSpelled, all_take, calls_cost, choice_among, cost, expression_of, followed, good, kind_of, null, nullable}
+use Rattle.front_grammar.specs.MetaGrammar.{rule_at}
 use Rattle.front_syntax.specs.Nesting.{Follows, GoesOnAfter, HasTurned, IsAnswered, IsAsked, IsPartWay, IsTried, IsWaiting, Question, Serves, effort, steps, work_aside}
 use Rattle.front_syntax.specs.Rows.{IsRow}
 use Rattle.front_syntax.specs.Runs.{Fails, Finds, GoesOn, IsLeft, mode_of}

@@ -13,7 +13,7 @@ use Rattle.front_syntax.specs.declared.entries.Entry.{Entry}
 use Rattle.front_syntax.specs.declared.modes.Mode as mode
 use Rattle.front_syntax.specs.declared.recognize.Recognizer.{Recognizer}
 use Rattle.base_language.specs.Language.Ran.{Ran}
-use Rattle.front_syntax.specs.MetaGrammar.{meta_grammar}
+use Rattle.front_grammar.specs.MetaGrammar.{meta_grammar}
 use Rattle.front_syntax.specs.Remembering.{FailsWithin, RemembersTruly, Remembers}
 use Rattle.front_syntax.specs.Runs.{Fails, IsLeft, at, mode_of}
 

@@ -18,12 +18,12 @@ use Rattle.front_syntax.specs.declared.table.Form.{Form}
 use Rattle.front_syntax.specs.declared.table.Form.TheVariants as form
 use Rattle.front_syntax.specs.Expecting.{Sought, with_names, with_failure, DoesRecording, FailsRecording, FindsRecording, FailsOrFindsRecording}
 use Rattle.front_syntax.specs.Forms.{AreParts, choice_among, expression_of, followed}
-use Rattle.front_syntax.specs.MetaGrammar.{meta_grammar, rule_at, type_of_rule, body_of}
-use Rattle.front_syntax.specs.Rows.{is_defined}
+use Rattle.front_grammar.specs.MetaGrammar.{meta_grammar, rule_at, type_of_rule, body_of}
+use Rattle.front_grammar.specs.Rules.{is_defined}
 use Rattle.front_syntax.specs.Runs.{IsLeft, at, leaving, mode_of}
 use Rattle.front_syntax.specs.SecondReading.{FoundSoFar}
 use Rattle.front_syntax.proofs.Choices.{among_more, among_parts}
-use Rattle.front_syntax.proofs.Lookup.{defined_rule, no_any, no_soi, no_eoi, any_builtin, soi_builtin, eoi_builtin}
+use Rattle.front_grammar.proofs.Lookup.{defined_rule, no_any, no_soi, no_eoi, any_builtin, soi_builtin, eoi_builtin}
 use Rattle.front_syntax.proofs.Steps.{by_builtin}
 
 -- no names are added

@@ -11,7 +11,7 @@ use Rattle.base_language.specs.Pieces.MetaRules.{name_of}
 use Rattle.base_language.specs.declared.grammar.Rule.{Rule}
 use Rattle.front_syntax.specs.declared.entries.Entry.{Entry}
 use Rattle.front_syntax.specs.Entries.{IsWhole, entries_of, named_entries}
-use Rattle.front_syntax.specs.MetaGrammar.{meta_grammar}
+use Rattle.front_grammar.specs.MetaGrammar.{meta_grammar}
 use Rattle.base_language.specs.Pieces.NamedTrees.{named}
 use Rattle.base_language.specs.Language.Places.{IsStateIn}
 use Rattle.base_language.specs.Pieces.TokenTrees.{TokenTrees, AreNested}
@@ -21,7 +21,8 @@ use Rattle.base_language.proofs.FailuresStand.{stands_at}
 use Rattle.base_language.proofs.InBytes.{ends_within, nested_bytes, on_bytes}
 use Rattle.base_language.proofs.PairLemmas.{AreNested-wider}
 use Rattle.base_language.proofs.TreesAreNested.{fits}
-use Rattle.front_syntax.specs.Parses.{FailsAt, IsSyntaxErrorOrMemory, ParseRefuses, Spells, AreTokensOf, start_of}
+use Rattle.front_grammar.specs.Outcomes.{Spells, start_of}
+use Rattle.front_syntax.specs.Parses.{FailsAt, IsSyntaxErrorOrMemory, ParseRefuses, AreTokensOf}
 use Rattle.front_syntax.specs.Runs.{Fails, FailsOrFinds, Finds, at}
 use Rattle.front_syntax.proofs.EntryLists.{entries-whole}
 

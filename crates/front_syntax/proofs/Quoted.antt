@@ -11,11 +11,11 @@ use Rattle.front_syntax.specs.declared.entries.Entry.{Entry}
 use Rattle.front_syntax.specs.declared.modes.Mode as mode
 use Rattle.front_syntax.specs.declared.modes.Mode.TheVariants as in_mode
 use Rattle.front_syntax.specs.declared.sets.Set.TheVariants as set
-use Rattle.front_syntax.specs.MetaGrammar.{meta_grammar, body_of}
+use Rattle.front_grammar.specs.MetaGrammar.{meta_grammar, body_of}
 use Rattle.front_syntax.specs.Runs.{Fails, Finds, at, mode_of}
 use Rattle.front_syntax.specs.Sets.{spelled_by}
 use Rattle.front_syntax.proofs.EntryLists.{adds_more}
-use Rattle.front_syntax.proofs.Lookup.{defined_rule}
+use Rattle.front_grammar.proofs.Lookup.{defined_rule}
 use Rattle.front_syntax.proofs.Steps.{SoFar}
 
 pub unseen : (m : mode.Mode) → seen_from (mode_of m) ≡ false → m ≡ in_mode.Atomic

@@ -19,7 +19,7 @@ use Rattle.front_syntax.specs.declared.table.Form.{Form}
 use Rattle.front_syntax.specs.declared.table.Kind.{Kind}
 use Rattle.front_syntax.specs.Expecting.{FailsRecording, FindsRecording, IsReadyAgain, HasTrueMemory, Sought, sought_of}
 use Rattle.front_syntax.specs.Forms.{AreParts, IsRunnable, IsRunnableTurn, all_take, choice_among, cost, expression_of, followed, good, null, nullable}
-use Rattle.front_syntax.specs.MetaGrammar.{rule_at}
+use Rattle.front_grammar.specs.MetaGrammar.{rule_at}
 use Rattle.front_syntax.specs.Nesting.{effort, steps}
 use Rattle.front_syntax.specs.Rows.{IsRow}
 use Rattle.front_syntax.specs.Runs.{GoesOn, IsLeft, mode_of}

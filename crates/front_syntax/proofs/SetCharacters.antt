@@ -19,12 +19,12 @@ use Rattle.front_syntax.specs.declared.modes.Mode as mode
 use Rattle.front_syntax.specs.declared.modes.Mode.TheVariants as in_mode
 use Rattle.front_syntax.specs.declared.sets.Set.{Set}
 use Rattle.front_syntax.specs.declared.sets.Set.TheVariants as set
-use Rattle.front_syntax.specs.MetaGrammar.{meta_grammar, rule, any, ◌~◌, ◌or◌, double_quote, backslash}
+use Rattle.front_grammar.specs.MetaGrammar.{meta_grammar, rule, any, ◌~◌, ◌or◌, double_quote, backslash}
 use Rattle.front_syntax.specs.Runs.{Fails, Finds, IsLeft, at, mode_of, skips_in}
 use Rattle.front_syntax.specs.Sets.{IsBefore, is_in, is_of_name, is_out, spelled_by}
 use Rattle.front_syntax.proofs.FirstCharacters.{fails_at_once}
 use Rattle.front_syntax.proofs.LeafLemmas.{one_found}
-use Rattle.front_syntax.proofs.Naming.{rule_named}
+use Rattle.front_grammar.proofs.Naming.{rule_named}
 use Rattle.front_syntax.proofs.SingleCharacters.{all_fail, all_take, call_fails, call_takes, fails_by, fails_within, takes_listed, takes_within}
 use Rattle.front_syntax.proofs.EntryLists.{not_grown}
 use Rattle.front_syntax.proofs.Steps.{SoFar, ran_any}

@@ -16,12 +16,12 @@ use Rattle.base_language.specs.declared.grammar.Rule.TheVariants as is
 use Rattle.base_language.proofs.Steps.{ran_str, ran_range, ran_left, ran_right, ran_call}
 use Rattle.base_language.proofs.Basics.{first_of_both, second_of_both}
 use Rattle.front_syntax.specs.Firsts.{is_among, takes_one}
-use Rattle.front_syntax.specs.MetaGrammar.{meta_grammar, rule_at, type_of_rule, body_of}
-use Rattle.front_syntax.specs.Rows.{is_defined}
+use Rattle.front_grammar.specs.MetaGrammar.{meta_grammar, rule_at, type_of_rule, body_of}
+use Rattle.front_grammar.specs.Rules.{is_defined}
 use Rattle.front_syntax.specs.Runs.{IsLeft, at}
 use Rattle.front_syntax.proofs.LeafLemmas.{one_found}
-use Rattle.front_syntax.proofs.Lookup.{defined_rule}
-use Rattle.front_syntax.proofs.Naming.{rule_named, name_of_named}
+use Rattle.front_grammar.proofs.Lookup.{defined_rule}
+use Rattle.front_grammar.proofs.Naming.{rule_named, name_of_named}
 
 abbrev all : (ℕ → Bool) → List ℕ → Bool
 all P [] = true

@@ -21,11 +21,11 @@ use Rattle.front_syntax.specs.declared.modes.Mode as mode
 use Rattle.front_syntax.specs.declared.modes.Mode.TheVariants as in_mode
 use Rattle.front_syntax.specs.Entries.{Entry as NamedEntry}
 use Rattle.front_syntax.specs.Entries.{named_entries, token, entries_of, AddsEntries}
-use Rattle.front_syntax.specs.MetaGrammar.{meta_grammar, rule_at, type_of_rule, body_of}
-use Rattle.front_syntax.specs.Rows.{is_defined}
+use Rattle.front_grammar.specs.MetaGrammar.{meta_grammar, rule_at, type_of_rule, body_of}
+use Rattle.front_grammar.specs.Rules.{is_defined}
 use Rattle.front_syntax.specs.Runs.{Fails, Finds, FailsOrFinds, IsLeft, at, leaving, mode_of}
 use Rattle.front_syntax.proofs.EntryLists.{adds_more, not_grown, cut_back}
-use Rattle.front_syntax.proofs.Lookup.{defined_rule, no_any, no_soi, no_eoi, any_builtin, soi_builtin, eoi_builtin, whitespace_name, comment_name}
+use Rattle.front_grammar.proofs.Lookup.{defined_rule, no_any, no_soi, no_eoi, any_builtin, soi_builtin, eoi_builtin, whitespace_name, comment_name}
 
 -- a list that was added to, and was cut back to the length that it had
 pub cut_to : (start now cut : List Entry) (n : ℕ) (us : Trees) → AddsEntries start now us → named_entries cut ≡ take n (named_entries now) → n ≡ length (named_entries start) → named_entries cut ≡ named_entries start

@@ -17,13 +17,13 @@ use Rattle.base_language.specs.declared.grammar.Rule.TheVariants as is
 use Rattle.base_language.proofs.Moving.{each_copy, each_of_both, in_all}
 use Rattle.base_language.proofs.Basics.{first_of_both, second_of_both}
 use Rattle.front_syntax.specs.Expecting.{Sought, with_failure, is_unrecorded, DoesRecording}
-use Rattle.front_syntax.specs.MetaGrammar.{meta_grammar, rule_at, type_of_rule, body_of}
-use Rattle.front_syntax.specs.Rows.{is_defined}
-use Rattle.front_syntax.proofs.Lookup.{defined_rule}
-use Rattle.front_syntax.proofs.MetaWellFormed.{known}
-use Rattle.front_syntax.proofs.Naming.{rule_named, named_rule}
+use Rattle.front_grammar.specs.MetaGrammar.{meta_grammar, rule_at, type_of_rule, body_of}
+use Rattle.front_grammar.specs.Rules.{is_defined}
+use Rattle.front_grammar.proofs.Lookup.{defined_rule}
+use Rattle.front_grammar.proofs.MetaWellFormed.{known}
+use Rattle.front_grammar.proofs.Naming.{rule_named, named_rule}
 use Rattle.front_syntax.proofs.NotingSteps.{told_failing, unsaid}
-use Rattle.front_syntax.proofs.Quiet.{body_stays, is_loud, stays_atomic, first_or}
+use Rattle.front_grammar.proofs.Quiet.{body_stays, is_loud, stays_atomic, first_or}
 
 -- the rules that are silent, and call only such rules
 abbrev is_hushed : Rule → Bool

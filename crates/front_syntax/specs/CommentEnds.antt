@@ -5,7 +5,7 @@ use Rattle.base_language.specs.Language.State.{Classes, State, AtomicMode, None'
 use Rattle.base_language.specs.Language.Meaning.{Run, Turns}
 use Rattle.base_language.specs.Language.Ran.{Ran}
 use Rattle.base_language.specs.declared.grammar.Rule.TheVariants.{block_comment}
-use Rattle.front_syntax.specs.MetaGrammar.{meta_grammar, rule}
+use Rattle.front_grammar.specs.MetaGrammar.{meta_grammar, rule}
 use Rattle.front_syntax.specs.Runs.{at}
 use Rattle.front_syntax.specs.Sets.{spelled_by}
 use Rattle.front_syntax.specs.declared.sets.Set.TheVariants.{Comment}

@@ -6,7 +6,7 @@ use Rattle.base_language.specs.Language.Text.{Text}
 use Rattle.base_language.specs.Pieces.MetaRules.{name_of, meta_rules}
 use Rattle.base_language.specs.declared.grammar.Rule.{Rule}
 use Rattle.base_language.specs.declared.grammar.Rule.TheVariants as is
-use Rattle.front_syntax.specs.Parses.{Recognizes}
+use Rattle.front_grammar.specs.Outcomes.{Recognizes}
 
 -- whether the rule's name is among these
 abbrev pub is_named : List Text → Rule → Bool

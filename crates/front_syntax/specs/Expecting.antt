@@ -10,7 +10,7 @@ use Rattle.base_language.specs.Pieces.MetaRules.{name_of}
 use Rattle.base_language.specs.declared.grammar.Rule.{Rule}
 use Rattle.base_language.specs.declared.grammar.Rule.TheVariants as is
 use Rattle.front_syntax.specs.declared.expecting.Expecting.{Expecting}
-use Rattle.front_syntax.specs.MetaGrammar.{meta_grammar}
+use Rattle.front_grammar.specs.MetaGrammar.{meta_grammar}
 use Rattle.front_syntax.specs.Remembering.{RemembersTruly}
 use Rattle.front_syntax.specs.Runs.{IsLeft, at}
 

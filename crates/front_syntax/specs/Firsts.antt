@@ -7,7 +7,7 @@ use Rattle.base_language.specs.declared.grammar.Rule.TheVariants as is
 use Rattle.front_syntax.specs.declared.firsts.Lookahead.{Lookahead}
 use Rattle.front_syntax.specs.declared.firsts.Lookahead.TheVariants as ahead
 use Rattle.front_syntax.specs.declared.modes.Mode as mode
-use Rattle.front_syntax.specs.MetaGrammar.{double_quote, backslash, line_feed}
+use Rattle.front_grammar.specs.MetaGrammar.{double_quote, backslash, line_feed}
 use Rattle.front_syntax.specs.Runs.{mode_of}
 
 -- the first set of a rule, for the rules that fail most often

@@ -5,7 +5,6 @@ pub mod ExpectedRules
 pub mod Expecting
 pub mod Firsts
 pub mod Forms
-pub mod MetaGrammar
 pub mod Nesting
 pub mod Parses
 pub mod Remembering
@@ -13,4 +12,3 @@ pub mod Rows
 pub mod Runs
 pub mod SecondReading
 pub mod Sets
-pub mod Shape

@@ -18,7 +18,7 @@ use Rattle.front_syntax.specs.declared.nesting.Step.{Step}
 use Rattle.front_syntax.specs.declared.nesting.Step.TheVariants as step
 use Rattle.front_syntax.specs.Entries.{AddsEntries, Closes, named_entries}
 use Rattle.front_syntax.specs.Forms.{IsGood, IsRunnable, IsRunnableTurn, IsSpelled, all_take, choice_among, cost, expression_of, followed, kind_of, null}
-use Rattle.front_syntax.specs.MetaGrammar.{meta_grammar}
+use Rattle.front_grammar.specs.MetaGrammar.{meta_grammar}
 use Rattle.front_syntax.specs.Remembering.{FailsWithin, IsReady, RemembersTruly}
 use Rattle.front_syntax.specs.Runs.{Fails, FailsOrFinds, Finds, GoesOnIfFound, IsLeft, at, furthest_with, mode_of}
 

@@ -1,10 +1,7 @@
 -- The trees that a text spells for a rule.
-use Rattle.std.specs.Prelude.{◌≡◌, List, [], ◌∷◌, ℕ, chars, ⊤}
-use Rattle.base_language.specs.Language.Expression.{Ident}
-use Rattle.base_language.specs.Language.State.{NonAtomicMode, State, Trees, Outcome, Success, Failure, Classes}
-use Rattle.base_language.specs.Language.Meaning.{Matches}
+use Rattle.std.specs.Prelude.{◌≡◌, List, [], ◌∷◌, ℕ, ⊤}
+use Rattle.base_language.specs.Language.State.{Trees, Failure, Classes}
 use Rattle.base_language.specs.Language.FurthestFailure.{furthest}
-use Rattle.base_language.specs.Pieces.MetaRules.{name_of}
 use Rattle.base_language.specs.declared.grammar.Rule.{Rule}
 use Rattle.base_language.specs.declared.grammar.Rule.TheVariants as rule_is
 use Rattle.front_syntax.specs.declared.entries.Entry.{Entry}
@@ -20,20 +17,6 @@ use Rattle.base_language.specs.declared.runtime.errors.LineColLocation.TheVarian
 use Rattle.base_language.specs.declared.runtime.faults.Fault.{Fault}
 use Rattle.base_language.specs.declared.runtime.faults.Fault.TheVariants as fault_is
 use Rattle.front_syntax.specs.Entries.{entries_of, named_entries}
-use Rattle.front_syntax.specs.MetaGrammar.{meta_grammar}
-
--- the start of a text, with the empty stack
-abbrev pub start_of : List ℕ → State
-start_of text = record { position = 0; rest = chars text; stack = [] }
-
--- the rule, called in NonAtomic at the start of the text, has this outcome
-abbrev pub Recognizes : Rule → List ℕ → Classes → Outcome → Type 0
-Recognizes rule text classes o =
-    Matches meta_grammar classes (Ident (name_of rule)) NonAtomicMode (start_of text) o
-
--- the text spells these trees for the rule, whatever the classes are
-abbrev pub Spells : Rule → List ℕ → Trees → Type 0
-Spells rule text us = (classes : Classes) → (t : State) × Recognizes rule text classes (Success t us)
 
 -- these are the entries of trees that the text spells
 abbrev pub AreTokensOf : Rule → List ℕ → List Entry → Type 0

@@ -12,7 +12,7 @@ use Rattle.base_language.specs.declared.grammar.Rule.{Rule}
 use Rattle.base_language.specs.declared.grammar.Rule.TheVariants as is
 use Rattle.front_syntax.specs.declared.recognize.Recognizer.{Recognizer}
 use Rattle.front_syntax.specs.CommentEnds.{AreAllEnds}
-use Rattle.front_syntax.specs.MetaGrammar.{meta_grammar}
+use Rattle.front_grammar.specs.MetaGrammar.{meta_grammar}
 use Rattle.front_syntax.specs.Runs.{IsLeft, at}
 
 -- a call fails, for all classes, and nothing in it fails further than at a position

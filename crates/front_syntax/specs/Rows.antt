@@ -1,17 +1,12 @@
 -- Properties of a rule's row.
-use Rattle.std.specs.Prelude.{◌≡◌, ◌≤◌, ℕ, [], ◌∷◌, Bool, true, false}
+use Rattle.std.specs.Prelude.{◌≡◌, ◌≤◌, ℕ, [], ◌∷◌, true}
 use Rattle.base_language.specs.Language.Expression.{Normal, Str}
 use Rattle.base_language.specs.declared.grammar.Rule.{Rule}
-use Rattle.base_language.specs.declared.grammar.Rule.TheVariants.{EOI}
 use Rattle.front_syntax.specs.declared.table.Kind.{Kind}
 use Rattle.front_syntax.specs.declared.table.Form.{Form}
-use Rattle.front_syntax.specs.Forms.{IsGood, IsSpelled, cost, expression_of, kind_of, null, nullable, rank_of}
-use Rattle.front_syntax.specs.MetaGrammar.{body_of, type_of_rule}
-
--- whether it is a rule of the grammar
-abbrev pub is_defined : Rule → Bool
-is_defined EOI = false
-is_defined _ = true
+use Rattle.front_grammar.specs.Rules.{rank_of}
+use Rattle.front_syntax.specs.Forms.{IsGood, IsSpelled, cost, expression_of, kind_of, null, nullable}
+use Rattle.front_grammar.specs.MetaGrammar.{body_of, type_of_rule}
 
 -- a normal rule matches one character, and no other
 abbrev pub IsSign : Rule → ℕ → Type 0

@@ -1,5 +1,5 @@
 -- The answer of a run of the recognizer.
-use Rattle.std.specs.Prelude.{◌≡◌, ℕ, ◌+◌, ◌-◌, ◌*◌, ◌<◌, ◌≤◌, max, List, [], Bool, true, false, Option, Some, None, drop, length, chars, ◌⊎◌, if◌then◌else◌, ⊤}
+use Rattle.std.specs.Prelude.{◌≡◌, ℕ, ◌+◌, ◌-◌, ◌*◌, ◌<◌, ◌≤◌, max, List, [], Bool, true, Option, Some, None, drop, length, chars, ◌⊎◌, if◌then◌else◌, ⊤}
 use Rattle.std.specs.Borrow.{Bor}
 use Rattle.base_language.specs.Language.State.{Mode, NonAtomicMode, AtomicMode, CompoundAtomicMode, State, Trees, None', Outcome, Success, Failure, Classes}
 use Rattle.base_language.specs.Language.Meaning.{Task}
@@ -11,7 +11,7 @@ use Rattle.front_syntax.specs.declared.modes.Mode as mode
 use Rattle.front_syntax.specs.declared.modes.Mode.TheVariants as in_mode
 use Rattle.front_syntax.specs.declared.recognize.Recognizer.{Recognizer}
 use Rattle.front_syntax.specs.Entries.{AddsEntries, named_entries}
-use Rattle.front_syntax.specs.MetaGrammar.{meta_grammar}
+use Rattle.front_grammar.specs.MetaGrammar.{meta_grammar}
 
 -- the mode of a mode of the code
 abbrev pub mode_of : mode.Mode → Mode
@@ -84,12 +84,6 @@ abbrev pub skips_in : mode.Mode → ℕ
 skips_in in_mode.NonAtomic = 1
 skips_in in_mode.Atomic = 0
 skips_in in_mode.CompoundAtomic = 0
-
--- whether a rule is one of the two that are skipped
-abbrev pub is_blank : Rule → Bool
-is_blank is.WHITESPACE = true
-is_blank is.COMMENT = true
-is_blank _ = false
 
 -- whether the skipping is called in the body of a rule that is called in a mode
 abbrev pub skips_in_call : Rule → mode.Mode → ℕ

@@ -18,7 +18,7 @@ use Rattle.front_syntax.specs.declared.nesting.Step.{Step}
 use Rattle.front_syntax.specs.declared.nesting.Step.TheVariants as step
 use Rattle.front_syntax.specs.Expecting.{FailsRecording, FailsOrFindsRecording, FindsRecording, IsReadyAgain, HasTrueMemory, DoesRecording, Sought, sought_of, with_failure}
 use Rattle.front_syntax.specs.Forms.{IsGood, IsRunnable, IsRunnableTurn, IsSpelled, all_take, calls_cost, choice_among, cost, expression_of, followed, kind_of, null}
-use Rattle.front_syntax.specs.MetaGrammar.{meta_grammar}
+use Rattle.front_grammar.specs.MetaGrammar.{meta_grammar}
 use Rattle.front_syntax.specs.Nesting.{effort, steps}
 use Rattle.front_syntax.specs.Runs.{GoesOn, GoesOnIfFound, IsLeft, at, mode_of}
 

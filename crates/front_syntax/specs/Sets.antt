@@ -8,7 +8,7 @@ use Rattle.base_language.specs.Language.Ran.{Ran}
 use Rattle.base_language.specs.declared.grammar.Rule.TheVariants.{alpha_num, newline, block_comment}
 use Rattle.front_syntax.specs.declared.sets.Set.{Set}
 use Rattle.front_syntax.specs.declared.sets.Set.TheVariants as set
-use Rattle.front_syntax.specs.MetaGrammar.{meta_grammar, rule, any, ◌~◌, ◌or◌, double_quote, backslash}
+use Rattle.front_grammar.specs.MetaGrammar.{meta_grammar, rule, any, ◌~◌, ◌or◌, double_quote, backslash}
 
 -- the body of the repetition
 abbrev pub spelled_by : Set → Expression

@@ -7,10 +7,11 @@ ghost use Rattle.base_language.specs.Language.Meaning.{Run, Skipping};
 ghost use Rattle.base_language.specs.Pieces.MetaRules.{name_of};
 ghost use Rattle.front_syntax.specs.Expecting.{IsReadyAgain, HasTrueMemory, RunsRecording, RunsToRecording, is_unrecorded, names_of, sought_of, with_failure};
 ghost use Rattle.front_syntax.specs.ExpectedRules.{AreRecordedAt, is_named, rules_named};
-ghost use Rattle.front_syntax.specs.Forms.{IsRunnable, calls_cost, cost, expression_of, kind_of, null, nullable, rank_of};
-ghost use Rattle.front_syntax.specs.MetaGrammar.{type_of_rule};
+ghost use Rattle.front_grammar.specs.Rules.{rank_of};
+ghost use Rattle.front_syntax.specs.Forms.{IsRunnable, calls_cost, cost, expression_of, kind_of, null, nullable};
+ghost use Rattle.front_grammar.specs.MetaGrammar.{type_of_rule};
 ghost use Rattle.front_syntax.specs.Nesting.{effort, steps};
-ghost use Rattle.front_syntax.specs.Rows.{is_defined};
+ghost use Rattle.front_grammar.specs.Rules.{is_defined};
 ghost use Rattle.front_syntax.specs.Runs.{GoesOn, GoesOnIfFound, mode_of};
 ghost use Rattle.front_syntax.specs.SecondReading.{Follows, FrameFollows, GoesOnFailed, GoesOnFound, HasBegun, HasTurned, IsAnswered, IsAsked, IsNext, IsPartWay, IsTrying, IsWaiting, Question, question_of, work_aside, work_of, work_of_wait};
 

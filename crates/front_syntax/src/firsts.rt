@@ -4,7 +4,7 @@ ghost use Rattle.base_language.specs.Language.State.{Classes, None', NonAtomicMo
 ghost use Rattle.base_language.specs.Language.Meaning.{Skipping};
 ghost use Rattle.base_language.specs.Language.Ran.{Ran};
 ghost use Rattle.front_syntax.specs.Firsts.{IsLookahead, is_recorded_at_once, may_begin, takes_one};
-ghost use Rattle.front_syntax.specs.MetaGrammar.{meta_grammar};
+ghost use Rattle.front_grammar.specs.MetaGrammar.{meta_grammar};
 ghost use Rattle.front_syntax.specs.Runs.{at};
 
 use crate::modes::{Mode, is_seen_from};

@@ -6,7 +6,6 @@ pub mod entries;
 mod expecting;
 mod firsts;
 pub mod grammar;
-pub mod laws;
 mod leaves;
 mod modes;
 mod nesting;

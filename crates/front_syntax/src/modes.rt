@@ -2,8 +2,9 @@
 ghost use Rattle.std.specs.Prelude.{◌≡◌, ◌≤◌, ◌&&◌, true};
 ghost use Rattle.base_language.specs.Language.Meaning.{body_mode, gives_token, seen_from};
 ghost use Rattle.front_syntax.specs.Forms.{kind_of};
-ghost use Rattle.front_syntax.specs.MetaGrammar.{rule_at, type_of_rule};
-ghost use Rattle.front_syntax.specs.Runs.{is_blank, furthest_with, mode_of, skips_in, skips_in_call};
+ghost use Rattle.front_grammar.specs.MetaGrammar.{rule_at, type_of_rule};
+ghost use Rattle.front_grammar.specs.Rules.{is_blank};
+ghost use Rattle.front_syntax.specs.Runs.{furthest_with, mode_of, skips_in, skips_in_call};
 
 use crate::table::Kind;
 use base_language::grammar::Rule;

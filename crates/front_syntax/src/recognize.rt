@@ -13,7 +13,7 @@ ghost use Rattle.base_language.specs.declared.grammar.Rule.TheVariants.{block_co
 ghost use Rattle.front_syntax.specs.CommentEnds.{AreAllEnds};
 ghost use Rattle.front_syntax.specs.Entries.{named_entries};
 ghost use Rattle.front_syntax.specs.Forms.{IsRunnable, IsRunnableTurn, IsTurnOf, SpellsOut, all_take, choice_among, cost, expression_of, followed, null, nullable};
-ghost use Rattle.front_syntax.specs.MetaGrammar.{body_of};
+ghost use Rattle.front_grammar.specs.MetaGrammar.{body_of};
 ghost use Rattle.front_syntax.specs.Rows.{IsSign};
 ghost use Rattle.front_syntax.specs.declared.sets.Set.{Set};
 ghost use Rattle.front_syntax.specs.Remembering.{FailsWithin, IsReady, RemembersTruly};

@@ -4,7 +4,7 @@ ghost use Rattle.std.specs.Prelude.{◌≡◌, ℕ, List, true};
 ghost use Rattle.base_language.specs.Language.State.{Classes, Failure};
 ghost use Rattle.base_language.specs.Language.Meaning.{Run};
 ghost use Rattle.base_language.specs.Language.Ran.{Ran};
-ghost use Rattle.front_syntax.specs.MetaGrammar.{meta_grammar};
+ghost use Rattle.front_grammar.specs.MetaGrammar.{meta_grammar};
 ghost use Rattle.front_syntax.specs.Runs.{GoesOn, IsLeft, at, mode_of, skips_in};
 ghost use Rattle.front_syntax.specs.declared.modes.Mode.{Mode};
 ghost use Rattle.front_syntax.specs.Sets.{IsBefore, is_in, is_out, spelled_by};

@@ -3,7 +3,8 @@ use Rattle.std.specs.Prelude.{◌≡◌, ℕ, ◌+◌, ◌<◌, ◌≤◌, List,
 use Rattle.base_language.specs.Language.State.{Trees}
 use Rattle.base_language.specs.declared.grammar.Rule.TheVariants.{grammar_rules}
 use Rattle.lint_hints.specs.declared.help.Fix.{Fix}
-use Rattle.front_syntax.specs.Parses.{FailsAt, Spells}
+use Rattle.front_grammar.specs.Outcomes.{Spells}
+use Rattle.front_syntax.specs.Parses.{FailsAt}
 
 -- the text is read as trees of a grammar, or this is the byte of its syntax error
 abbrev pub IsErrorOf : List ℕ → Option ℕ → Type 0

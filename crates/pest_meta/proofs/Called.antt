@@ -18,7 +18,7 @@ use Rattle.front_spanned.specs.Spanned.{Binary, Choice, Seq, SpannedRule, Unary}
 use Rattle.front_reader.proofs.ReadParts.{IsGiven, IsHandedDown, parts_so}
 use Rattle.front_reader.specs.Reading as reading
 use Rattle.front_reader.specs.Reading.{Postfix, ReadsRule, ReadsRules, Terminal, defined, documented, end_of_input, grammar_doc, line_doc, modified, normal}
-use Rattle.front_syntax.specs.Shape.{Lone}
+use Rattle.front_grammar.specs.Shape.{Lone}
 use Rattle.pest_meta.proofs.WellNamed.{names_of, names_read, true_is_false}
 
 -- 1. a name is written at one of these places

@@ -8,10 +8,10 @@ use Rattle.base_language.specs.Rewritings.Rewriting.{Chain, EachBody}
 use Rattle.base_language.proofs.ListingKeepsGrammars.{Finished}
 use Rattle.front_spanned.specs.Erasure.{round, between}
 use Rattle.front_spanned.specs.Spanned.{Unary, Binary, Seq, Choice}
-use Rattle.front_syntax.specs.MetaGrammar.{body_of}
+use Rattle.front_grammar.specs.MetaGrammar.{body_of}
 use Rattle.base_language.specs.declared.grammar.Rule.TheVariants as is
-use Rattle.front_syntax.proofs.Naming.{rule_named}
-use Rattle.front_syntax.proofs.Yields.{Yields, both, lone}
+use Rattle.front_grammar.proofs.Naming.{rule_named}
+use Rattle.front_grammar.proofs.Yields.{Yields, both, lone}
 use Rattle.front_reader.specs.Reading as reading
 use Rattle.front_reader.specs.Reading.{Postfix, Terminal, literal_value}
 use Rattle.front_reader.proofs.ReadParts.{IsHandedDown, IsGiven, parts_so}

@@ -14,12 +14,12 @@ use Rattle.base_language.specs.Pieces.MetaRules.{name_of}
 use Rattle.base_language.specs.declared.grammar.Rule.{Rule}
 use Rattle.base_language.specs.declared.grammar.Rule.TheVariants as is
 use Rattle.base_language.proofs.TreesAreNested.{fits}
-use Rattle.front_syntax.specs.MetaGrammar.{meta_grammar, rule_at, type_of_rule, body_of}
-use Rattle.front_syntax.specs.Parses.{start_of}
-use Rattle.front_syntax.proofs.MetaWellFormed.{known}
-use Rattle.front_syntax.proofs.Naming.{rule_named, named_rule}
-use Rattle.front_syntax.proofs.Yielding.{yields}
-use Rattle.front_syntax.proofs.Yields.{Yields}
+use Rattle.front_grammar.specs.MetaGrammar.{meta_grammar, rule_at, type_of_rule, body_of}
+use Rattle.front_grammar.specs.Outcomes.{start_of}
+use Rattle.front_grammar.proofs.MetaWellFormed.{known}
+use Rattle.front_grammar.proofs.Naming.{rule_named, named_rule}
+use Rattle.front_grammar.proofs.Yielding.{yields}
+use Rattle.front_grammar.proofs.Yields.{Yields}
 use Rattle.front_reader.specs.Reading.{characters_between}
 use Rattle.pest_meta.proofs.OneCharacter.{IsOneCharacter, one_between}
 use Rattle.pest_meta.proofs.Spelled.{empty_classes}

@@ -22,14 +22,14 @@ use Rattle.base_language.proofs.Basics.{clash, second_of_both}
 use Rattle.base_language.proofs.Beginnings.{scalars_parts}
 use Rattle.base_language.proofs.InBytes.{sizes, split_bytes}
 use Rattle.base_language.proofs.Moving.{each_copy, each_of_both, in_all}
-use Rattle.front_syntax.specs.MetaGrammar.{meta_grammar, rule, rule_at, type_of_rule, body_of}
-use Rattle.front_syntax.specs.Rows.{is_defined}
-use Rattle.front_syntax.specs.Runs.{is_blank}
-use Rattle.front_syntax.proofs.Lookup.{any_builtin, blank_name, defined_rule, undefined}
-use Rattle.front_syntax.proofs.MetaWellFormed.{known}
-use Rattle.front_syntax.proofs.Naming.{rule_named, named_rule, name_of_named}
-use Rattle.front_syntax.proofs.Numerals.{middle}
-use Rattle.front_syntax.proofs.Taken.{Took, Stretch, Steps, stay, step, took_both, took_nothing, one_taken, begins_first}
+use Rattle.front_grammar.specs.MetaGrammar.{meta_grammar, rule, rule_at, type_of_rule, body_of}
+use Rattle.front_grammar.specs.Rules.{is_defined}
+use Rattle.front_grammar.specs.Rules.{is_blank}
+use Rattle.front_grammar.proofs.Lookup.{any_builtin, blank_name, defined_rule, undefined}
+use Rattle.front_grammar.proofs.MetaWellFormed.{known}
+use Rattle.front_grammar.proofs.Naming.{rule_named, named_rule, name_of_named}
+use Rattle.front_grammar.proofs.Numerals.{middle}
+use Rattle.front_grammar.proofs.Taken.{Took, Stretch, Steps, stay, step, took_both, took_nothing, one_taken, begins_first}
 use Rattle.front_reader.specs.Literal.{unescaped, escape, digits, extended}
 use Rattle.front_reader.specs.Reading.{characters_between}
 

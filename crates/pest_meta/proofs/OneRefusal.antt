@@ -11,7 +11,7 @@ use Rattle.base_language.proofs.FailurePlaces.{one_place}
 use Rattle.front_reader.specs.Flaws.{Flaw}
 use Rattle.front_reader.specs.Refusals.{cause_message, ReportsFlaw}
 use Rattle.front_reader.proofs.Uniqueness.{rules_once}
-use Rattle.front_syntax.specs.MetaGrammar.{meta_grammar}
+use Rattle.front_grammar.specs.MetaGrammar.{meta_grammar}
 use Rattle.front_syntax.specs.Parses.{FailsAt, IsSyntaxError}
 use Rattle.base_language.specs.declared.grammar.Rule.TheVariants as rule_is
 use Rattle.front_validator.specs.Alike.{AreAlike, IsAlike}

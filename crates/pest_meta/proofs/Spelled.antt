@@ -22,7 +22,7 @@ use Rattle.front_reader.specs.Flaws.{Flaw, first_flaw}
 use Rattle.front_reader.specs.Reading.{ReadsRules}
 use Rattle.front_reader.specs.Refusals.{AreReadAs, first_flaw_of, IsReadRefusal, ReportsFlaw}
 use Rattle.front_reader.proofs.Uniqueness.{rules_once}
-use Rattle.front_syntax.specs.MetaGrammar.{meta_grammar}
+use Rattle.front_grammar.specs.MetaGrammar.{meta_grammar}
 use Rattle.front_syntax.specs.Parses.{AreOfAGrammar, FailsAt, ParseRefuses}
 use Rattle.front_names.specs.GrammarNames.{AreWrittenAt, complaints_of, first_calls_of, IsNameRefusal}
 use Rattle.front_stack_loops.specs.Certain.{AreReports}

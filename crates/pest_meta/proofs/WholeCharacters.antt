@@ -8,7 +8,7 @@ use Rattle.base_language.specs.Language.Places.{Nested, IsStateIn}
 use Rattle.base_language.specs.Language.State.{Classes, Trees, None', Tree}
 use Rattle.base_language.proofs.InBytes.{on_bytes}
 use Rattle.base_language.proofs.TreesAreNested.{fits}
-use Rattle.front_syntax.specs.Parses.{start_of}
+use Rattle.front_grammar.specs.Outcomes.{start_of}
 use Rattle.pest_meta.specs.Spelling.{HasTrees}
 
 -- what is written at each tree is a text

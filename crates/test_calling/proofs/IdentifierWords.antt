@@ -22,11 +22,11 @@ use Rattle.base_language.specs.declared.grammar.Rule.TheVariants as is
 use Rattle.base_language.proofs.Basics.{first_of_both, second_of_both, same_some}
 use Rattle.base_language.proofs.Beginnings.{begins-gives, scalars_parts}
 use Rattle.base_language.proofs.InBytes.{sizes, split_bytes}
-use Rattle.front_syntax.specs.MetaGrammar.{meta_grammar, rule_at, type_of_rule, body_of}
-use Rattle.front_syntax.specs.Runs.{is_blank}
-use Rattle.front_syntax.proofs.Lookup.{blank_name, defined_rule}
-use Rattle.front_syntax.proofs.Numerals.{middle}
-use Rattle.front_syntax.proofs.Taken.{Took, Stretch, EndsIn, took_both, took_nothing, one_taken}
+use Rattle.front_grammar.specs.MetaGrammar.{meta_grammar, rule_at, type_of_rule, body_of}
+use Rattle.front_grammar.specs.Rules.{is_blank}
+use Rattle.front_grammar.proofs.Lookup.{blank_name, defined_rule}
+use Rattle.front_grammar.proofs.Numerals.{middle}
+use Rattle.front_grammar.proofs.Taken.{Took, Stretch, EndsIn, took_both, took_nothing, one_taken}
 use Rattle.front_reader.specs.Reading.{characters_between}
 use Rattle.matcher_support.specs.Names.{tag_in}
 

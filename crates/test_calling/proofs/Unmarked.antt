@@ -11,7 +11,7 @@ use Rattle.front_optimizer.specs.Passes.{IsOptimized}
 use Rattle.front_reader.specs.Reading.{ReadsRules, end_of_input, grammar_doc, documented, defined, line_doc, normal, modified}
 use Rattle.front_spanned.specs.Erasure.{rules_without_spans}
 use Rattle.front_spanned.specs.Spanned.{SpannedRule}
-use Rattle.front_syntax.proofs.Naming.{rule_named}
+use Rattle.front_grammar.proofs.Naming.{rule_named}
 use Rattle.matcher_support.specs.Spliced.{HasNoMark}
 use Rattle.pest_meta.specs.Spelling.{AreReadAsRules, HasTrees, IsAnsweredBy, SpellsGrammar}
 use Rattle.pest_meta.specs.Written.{IsWritten}

@@ -4,7 +4,7 @@ ghost use Rattle.std.specs.Char.{IsScalar};
 ghost use Rattle.base_language.specs.Pieces.NamedTrees.{named_trees_of};
 ghost use Rattle.front_reader.specs.Literal.{braced, digits, escape, extended, two_digits};
 ghost use Rattle.front_reader.specs.Pieces.{IsPiece, AreInText};
-ghost use Rattle.front_syntax.specs.Shape.{IsQuoted};
+ghost use Rattle.front_grammar.specs.Shape.{IsQuoted};
 ghost use Rattle.front_reader.specs.Views.{AnswersLiteral, IsSameNumber, NamesFirst, Unescapes};
 
 use crate::rules::flaws::{Cause, ReadError};

@@ -4,7 +4,7 @@ ghost use Rattle.base_language.specs.Pieces.NamedTrees.{named_trees_of};
 ghost use Rattle.base_language.specs.Pieces.Span.{span_text};
 ghost use Rattle.front_reader.specs.Pieces.{AreInText};
 ghost use Rattle.base_language.specs.Pieces.MetaRules.{name_of};
-ghost use Rattle.front_syntax.specs.Shape.{ArePostfixes, IsCounted, IsPostfix};
+ghost use Rattle.front_grammar.specs.Shape.{ArePostfixes, IsCounted, IsPostfix};
 ghost use Rattle.front_spanned.specs.Nodes.{view, view_at};
 ghost use Rattle.front_spanned.specs.Spanned as spanned;
 ghost use Rattle.front_spanned.specs.Spanned.{One, RepExact, RepMax, RepMin, RepMinMax};

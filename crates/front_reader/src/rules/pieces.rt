@@ -4,7 +4,7 @@ ghost use Rattle.base_language.specs.Pieces.Saying.{piece};
 ghost use Rattle.front_reader.specs.Flaws.{not_a_count, past_u32, past_i32};
 ghost use Rattle.front_reader.specs.Pieces.{IsPiece};
 ghost use Rattle.front_reader.specs.Reading.{number, integer};
-ghost use Rattle.front_syntax.specs.Shape.{IsNumber, IsInteger};
+ghost use Rattle.front_grammar.specs.Shape.{IsNumber, IsInteger};
 ghost use Rattle.front_reader.specs.Views.{Answers};
 ghost use Rattle.front_spanned.specs.Nodes.{piece_of};
 ghost use Rattle.front_reader.specs.declared.rules.flaws.ReadError.TheVariants.{Found};

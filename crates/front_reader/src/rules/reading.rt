@@ -9,7 +9,7 @@ ghost use Rattle.front_reader.specs.Pieces.{IsPiece, AreInText};
 ghost use Rattle.front_reader.specs.Reading.{ATerm, AnExpression, both};
 ghost use Rattle.front_reader.specs.Levels.{GoesOn, HoldsNoExpression, IsAlternative, IsAlternativeRead, IsOperandRead, IsInsideRead, IsLevelRead, IsTermBeside, IsTermRead, Opens, node_view, together, waits_of, work_of};
 ghost use Rattle.front_reader.specs.Signs.{IsOperand};
-ghost use Rattle.front_syntax.specs.Shape.{IsExpression, IsMore};
+ghost use Rattle.front_grammar.specs.Shape.{IsExpression, IsMore};
 ghost use Rattle.front_spanned.specs.Spanned.{Span, Two};
 ghost use Rattle.front_reader.specs.Views.{IsFirst, TakesTerm, IsAfterBar, IsRest, ReadsAs, all_from, binary_of, count_of};
 ghost use Rattle.front_spanned.specs.Nodes.{view, view_at};

@@ -7,7 +7,7 @@ ghost use Rattle.front_spanned.specs.Spanned.{One, Span};
 ghost use Rattle.front_reader.specs.Pieces.{IsPiece, AreInText};
 ghost use Rattle.front_reader.specs.Reading.{tag_name};
 ghost use Rattle.front_reader.specs.Signs.{IsAfterSigns, sign_of, signed};
-ghost use Rattle.front_syntax.specs.Shape.{IsTerm};
+ghost use Rattle.front_grammar.specs.Shape.{IsTerm};
 
 use crate::rules::pieces::{span_at, text_of};
 use base_ast::deep::Deep;

@@ -4,7 +4,7 @@ ghost use Rattle.base_language.specs.Pieces.NamedTrees.{named_trees_of};
 ghost use Rattle.front_reader.specs.Pieces.{AreInText};
 ghost use Rattle.front_reader.specs.Reading.{ANode};
 ghost use Rattle.base_language.specs.Pieces.MetaRules.{name_of};
-ghost use Rattle.front_syntax.specs.Shape.{IsSlice, IsTerminal, MayBeNumber};
+ghost use Rattle.front_grammar.specs.Shape.{IsSlice, IsTerminal, MayBeNumber};
 ghost use Rattle.front_reader.specs.Views.{AnswersBound, ReadsAs, alone, alone_as};
 
 use crate::rules::flaws::ReadError;

@@ -1,6 +1,6 @@
 use Rattle.std.proofs.Common.{◌+◌, ◌<◌, ap, refl, sym, subst, arith, false, length}
 use Rattle.base_language.specs.Language.State.{NonAtomicMode}
-use Rattle.front_syntax.specs.Parses.{start_of}
+use Rattle.front_grammar.specs.Outcomes.{start_of}
 use Rattle.matcher_code.specs.Bytecodes.{lists_in}
 use Rattle.matcher_code.specs.Fused.{IsFusionOf}
 use Rattle.front_code.specs.Runs.{Parses}

@@ -1,5 +1,5 @@
 use Rattle.std.proofs.Common.{sym, ◌∙◌}
-use Rattle.front_syntax.proofs.Lookup.{inherited_at, inherited_same}
+use Rattle.front_syntax.proofs.BodyModes.{inherited_at, inherited_same}
 use Rattle.front_syntax.proofs.modes.body_mode.Goals as goal
 
 pub returns-then-is_blank-clause-means : goal.returns-then-is_blank-clause-means

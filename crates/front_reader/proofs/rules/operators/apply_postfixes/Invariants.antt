@@ -2,7 +2,7 @@ use Rattle.std.proofs.Common.{◌≡◌}
 use Rattle.base_language.specs.Pieces.NamedTrees.{named_trees_of}
 use Rattle.front_reader.specs.Flaws.{first_flaw}
 use Rattle.front_reader.specs.Reading.{Postfixed}
-use Rattle.front_syntax.specs.Shape.{ArePostfixes}
+use Rattle.front_grammar.specs.Shape.{ArePostfixes}
 use Rattle.front_spanned.specs.Spanned.{Spanned}
 use Rattle.front_reader.specs.Views.{IsNodeBefore, count_of}
 use Rattle.front_spanned.specs.Nodes.{view}

@@ -2,7 +2,7 @@ use Rattle.std.proofs.Common.{refl, ◌∙◌}
 use Rattle.std.proofs.lemmas.Result.{err_from_is_err_and}
 use Rattle.base_language.specs.Pieces.NamedTrees.{named_trees_of}
 use Rattle.front_reader.specs.Reading.{bare}
-use Rattle.front_syntax.specs.Shape.{terminal}
+use Rattle.front_grammar.specs.Shape.{terminal}
 use Rattle.front_reader.proofs.FlawsInOrder.{first_in, answers_as}
 use Rattle.front_reader.proofs.Terms.{node_flaw, before_operators}
 use Rattle.front_reader.proofs.TreesStandInText.{stand_alone}

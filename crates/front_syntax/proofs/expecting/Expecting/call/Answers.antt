@@ -3,7 +3,8 @@ use Rattle.base_language.specs.Language.Expression.{Ident}
 use Rattle.base_language.specs.Language.Meaning.{Run}
 use Rattle.base_language.specs.Pieces.MetaRules.{name_of}
 use Rattle.front_syntax.specs.Expecting.{sought_of}
-use Rattle.front_syntax.specs.Forms.{cost, nullable, rank_of}
+use Rattle.front_grammar.specs.Rules.{rank_of}
+use Rattle.front_syntax.specs.Forms.{cost, nullable}
 use Rattle.front_syntax.specs.Nesting.{effort, steps}
 use Rattle.front_syntax.specs.SecondReading.{IsAnswered, IsWaiting, question_of, work_aside, work_of}
 use Rattle.front_syntax.specs.Runs.{mode_of}

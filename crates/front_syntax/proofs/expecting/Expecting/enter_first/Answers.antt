@@ -1,7 +1,8 @@
 use Rattle.std.proofs.Common.{◌+◌, ◌∷◌, max, length, arith}
 use Rattle.front_syntax.specs.declared.expecting.Wait.TheVariants as wait
 use Rattle.front_syntax.specs.Expecting.{sought_of}
-use Rattle.front_syntax.specs.Forms.{calls_cost, rank_of}
+use Rattle.front_grammar.specs.Rules.{rank_of}
+use Rattle.front_syntax.specs.Forms.{calls_cost}
 use Rattle.front_syntax.specs.Nesting.{effort}
 use Rattle.front_syntax.proofs.SecondReading.{asked_on, rule_follows, work_on}
 use Rattle.front_syntax.proofs.Waiting.{both_steps}

@@ -1,7 +1,7 @@
 use Rattle.std.proofs.Common.{ap, ◌∙◌, sym, subst}
 use Rattle.base_language.specs.Pieces.NamedTrees.{named}
 use Rattle.front_syntax.specs.Entries.{named_entries}
-use Rattle.front_syntax.specs.Parses.{Spells}
+use Rattle.front_grammar.specs.Outcomes.{Spells}
 use Rattle.front_syntax.proofs.Parsing.{nested_in_text}
 use Rattle.front_syntax.proofs.grammar.PestParser.parse.Goals as goal
 

@@ -16,7 +16,7 @@ use Rattle.front_syntax.proofs.Sequences.{begun_further, fails_followed, fails_p
 use Rattle.front_syntax.proofs.Choices.{failed_at, found_among, found_at, goes_on_at}
 use Rattle.base_language.specs.declared.grammar.Rule.TheVariants as is
 use Rattle.base_language.proofs.Basics.{first_of_both, second_of_both}
-use Rattle.front_syntax.specs.MetaGrammar.{body_of}
+use Rattle.front_grammar.specs.MetaGrammar.{body_of}
 use Rattle.front_syntax.specs.declared.sets.Set.TheVariants as set
 use Rattle.front_syntax.proofs.CommentEnds.{comment_gives, never_begun}
 use Rattle.front_syntax.proofs.Quoted.{finds_quoted, so_far_escape, unseen}

@@ -4,7 +4,8 @@ use denote.Text.{Utf8}
 use Rattle.base_language.specs.Language.Expression.{Ident}
 use Rattle.base_language.specs.Language.Meaning.{Run, Turns}
 use Rattle.base_language.specs.Pieces.MetaRules.{name_of}
-use Rattle.front_syntax.specs.Forms.{IsGood, IsSpelled, choice_among, cost, count_of_parts, expression_of, followed, greatest_rank, null, rank_of}
+use Rattle.front_grammar.specs.Rules.{rank_of}
+use Rattle.front_syntax.specs.Forms.{IsGood, IsSpelled, choice_among, cost, count_of_parts, expression_of, followed, greatest_rank, null}
 use Rattle.front_syntax.specs.Remembering.{RemembersTruly}
 use Rattle.front_syntax.specs.Runs.{Fails, IsLeft, measure, mode_of, skips_in, skips_in_call}
 use Rattle.front_syntax.proofs.Quoted.{text_of_string}

@@ -4,7 +4,8 @@ use Rattle.base_language.specs.Language.Meaning.{Run}
 use Rattle.base_language.specs.Pieces.MetaRules.{name_of}
 use Rattle.base_language.proofs.Basics.{first_of_both, second_of_both}
 use Rattle.front_syntax.specs.declared.nesting.Wait.TheVariants as wait
-use Rattle.front_syntax.specs.Forms.{cost, expression_of, good, null, nullable, rank_of}
+use Rattle.front_grammar.specs.Rules.{rank_of}
+use Rattle.front_syntax.specs.Forms.{cost, expression_of, good, null, nullable}
 use Rattle.front_syntax.specs.Nesting.{effort, question_of, steps}
 use Rattle.front_syntax.specs.Runs.{mode_of}
 use Rattle.front_syntax.proofs.Following.{choice_follows, first_turn_follows, turn_of}

@@ -2,7 +2,8 @@ use Rattle.std.proofs.Common.{◌+◌, refl, sym, subst, arith}
 use Rattle.base_language.specs.Language.Expression.{Ident}
 use Rattle.base_language.specs.Language.Meaning.{Run}
 use Rattle.base_language.specs.Pieces.MetaRules.{name_of}
-use Rattle.front_syntax.specs.Forms.{cost, nullable, rank_of}
+use Rattle.front_grammar.specs.Rules.{rank_of}
+use Rattle.front_syntax.specs.Forms.{cost, nullable}
 use Rattle.front_syntax.specs.Nesting.{IsAnswered, IsWaiting, effort, question_of, steps, work_aside, work_of}
 use Rattle.front_syntax.specs.Runs.{mode_of}
 use Rattle.front_syntax.proofs.Waiting.{none_waits, nothing_left, waited, work_on}

@@ -3,7 +3,8 @@ use Rattle.base_language.specs.Language.Expression.{Ident}
 use Rattle.base_language.specs.Language.Meaning.{Run}
 use Rattle.base_language.specs.Pieces.MetaRules.{name_of}
 use Rattle.front_syntax.specs.declared.nesting.Wait.TheVariants as wait
-use Rattle.front_syntax.specs.Forms.{cost, nullable, rank_of}
+use Rattle.front_grammar.specs.Rules.{rank_of}
+use Rattle.front_syntax.specs.Forms.{cost, nullable}
 use Rattle.front_syntax.specs.Nesting.{IsAsked, effort, question_of, steps}
 use Rattle.front_syntax.specs.Runs.{mode_of}
 use Rattle.front_syntax.proofs.Following.{call_follows}

@@ -7,12 +7,12 @@ use Rattle.base_language.specs.Pieces.MetaRules.{name_of}
 use Rattle.base_language.specs.declared.grammar.Rule.{Rule}
 use Rattle.base_language.specs.declared.grammar.Rule.TheVariants as is
 use Rattle.base_language.proofs.Steps.{joined_assoc}
-use Rattle.front_syntax.specs.MetaGrammar.{type_of_rule}
-use Rattle.front_syntax.specs.Rows.{is_defined}
-use Rattle.front_syntax.specs.Shape as shape
-use Rattle.front_syntax.specs.Shape.{IsPrefix, IsInfix, IsPostfix, ArePostfixes, IsExpression, AreTerms, IsMore, IsTerm, IsRule, AreGrammarTrees}
-use Rattle.front_syntax.proofs.Naming.{rule_named}
-use Rattle.front_syntax.proofs.Yields.{IsNone, none, Both, both, Many, no_more, also, IsLone, lone, IsPlaced, placed, IsLoneOf, lone_of, IsTree, tree, IsTreeOf, tree_of, is_dark, Holds, Inside, Stretches}
+use Rattle.front_grammar.specs.MetaGrammar.{type_of_rule}
+use Rattle.front_grammar.specs.Rules.{is_defined}
+use Rattle.front_grammar.specs.Shape as shape
+use Rattle.front_grammar.specs.Shape.{IsPrefix, IsInfix, IsPostfix, ArePostfixes, IsExpression, AreTerms, IsMore, IsTerm, IsRule, AreGrammarTrees}
+use Rattle.front_grammar.proofs.Naming.{rule_named}
+use Rattle.front_grammar.proofs.Yields.{IsNone, none, Both, both, Many, no_more, also, IsLone, lone, IsPlaced, placed, IsLoneOf, lone_of, IsTree, tree, IsTreeOf, tree_of, is_dark, Holds, Inside, Stretches}
 
 -- whether a rule of a type gives a token where tokens are seen
 abbrev pub shows : RuleType → Bool

@@ -11,8 +11,8 @@ use Rattle.base_language.specs.Language.Matching.{begins, starts_in, range_set}
 use Rattle.base_language.specs.Language.Meaning.{Does, Task, Run, Turns, Skipping, str, insens, range, slice, skip, call, other, pos_pred, neg_pred, push, restore, seq, seq_first, seq_second, left, right, opt, opt_none, rep, rep_none, turn, turn_none, rep_once, rep_exact, rep_min, rep_max, rep_min_max, skips, atomic, compound_atomic, between, ahead, not_ahead, pushed, with_token, body_mode, push_literal, tag}
 use Rattle.base_language.specs.declared.grammar.Rule.TheVariants as is
 use Rattle.base_language.proofs.Basics.{same_some}
-use Rattle.front_syntax.specs.MetaGrammar.{meta_grammar, rule_at, body_of}
-use Rattle.front_syntax.proofs.Lookup.{defined_rule}
+use Rattle.front_grammar.specs.MetaGrammar.{meta_grammar, rule_at, body_of}
+use Rattle.front_grammar.proofs.Lookup.{defined_rule}
 
 -- these characters stand between two states
 pub record Took (s u : State) (word : Text) : Type 0 where

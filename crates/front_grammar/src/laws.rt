@@ -8,9 +8,9 @@ ghost use Rattle.base_language.specs.Pieces.MetaRules.{name_of};
 ghost use Rattle.base_language.specs.Language.WellFormed.{HasReadableCounts, IsPlain, IsWellFormed};
 ghost use Rattle.base_language.specs.declared.grammar.Rule.{Rule};
 ghost use Rattle.base_language.specs.declared.grammar.Rule.TheVariants.{grammar_rules};
-ghost use Rattle.front_syntax.specs.MetaGrammar.{meta_grammar};
-ghost use Rattle.front_syntax.specs.Parses.{Spells};
-ghost use Rattle.front_syntax.specs.Shape.{AreGrammarTrees};
+ghost use Rattle.front_grammar.specs.MetaGrammar.{meta_grammar};
+ghost use Rattle.front_grammar.specs.Outcomes.{Spells};
+ghost use Rattle.front_grammar.specs.Shape.{AreGrammarTrees};
 
 use base_language::laws::{one_outcome, terminates};
 

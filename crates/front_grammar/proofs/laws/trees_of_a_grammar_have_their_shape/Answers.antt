@@ -1,10 +1,10 @@
 use Rattle.std.proofs.Common.{refl, List, [], chars, false, ℕ}
 use Rattle.base_language.specs.Language.Places.{IsStateIn}
 use Rattle.base_language.specs.declared.grammar.Rule.TheVariants as is
-use Rattle.front_syntax.proofs.Naming.{named_rule}
-use Rattle.front_syntax.proofs.Yielding.{yields}
-use Rattle.front_syntax.specs.Parses.{start_of}
-use Rattle.front_syntax.proofs.laws.trees_of_a_grammar_have_their_shape.Goals as goal
+use Rattle.front_grammar.proofs.Naming.{named_rule}
+use Rattle.front_grammar.proofs.Yielding.{yields}
+use Rattle.front_grammar.specs.Outcomes.{start_of}
+use Rattle.front_grammar.proofs.laws.trees_of_a_grammar_have_their_shape.Goals as goal
 
 pub returns : goal.returns
 returns c = λ text us utf8 spells.

@@ -13,9 +13,9 @@ use Rattle.base_language.specs.declared.grammar.Rule.{Rule}
 use Rattle.base_language.specs.declared.grammar.Rule.TheVariants as is
 use Rattle.base_language.proofs.Moving.{each_copy, each_of_both, in_all}
 use Rattle.base_language.proofs.Basics.{first_of_both, second_of_both}
-use Rattle.front_syntax.specs.MetaGrammar.{meta_grammar, rule_at, type_of_rule, body_of}
-use Rattle.front_syntax.proofs.MetaWellFormed.{known}
-use Rattle.front_syntax.proofs.Naming.{rule_named, named_rule}
+use Rattle.front_grammar.specs.MetaGrammar.{meta_grammar, rule_at, type_of_rule, body_of}
+use Rattle.front_grammar.proofs.MetaWellFormed.{known}
+use Rattle.front_grammar.proofs.Naming.{rule_named, named_rule}
 
 -- the rules that hold a rule that gives a token in Atomic too, or are one
 abbrev pub is_loud : Rule → Bool

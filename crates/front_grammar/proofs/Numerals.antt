@@ -18,9 +18,9 @@ use Rattle.base_language.specs.Language.Expression.{Str, Range}
 use Rattle.base_language.specs.declared.grammar.Rule.TheVariants as is
 use Rattle.base_language.proofs.InBytes.{sizes}
 use Rattle.base_language.proofs.Basics.{first_of_both, second_of_both}
-use Rattle.front_syntax.specs.MetaGrammar.{body_of}
-use Rattle.front_syntax.specs.Shape.{IsNumber, IsInteger}
-use Rattle.front_syntax.proofs.Taken.{Took, Stretch, Steps, stay, step, Takes, took_both, took_nothing, IsOne, one_taken, begins_first}
+use Rattle.front_grammar.specs.MetaGrammar.{body_of}
+use Rattle.front_grammar.specs.Shape.{IsNumber, IsInteger}
+use Rattle.front_grammar.proofs.Taken.{Took, Stretch, Steps, stay, step, Takes, took_both, took_nothing, IsOne, one_taken, begins_first}
 
 digit : (a c : ℕ) → 48 ≤ a → is_between a 57 c ≡ true → digit_value c < 10
 digit a c k h =

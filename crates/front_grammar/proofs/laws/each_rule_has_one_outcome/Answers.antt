@@ -1,9 +1,9 @@
 use Rattle.base_language.specs.Language.Expression.{Ident}
 use Rattle.base_language.specs.Pieces.MetaRules.{name_of}
 use Rattle.base_language.proofs.SomeRule.{names_readable}
-use Rattle.front_syntax.specs.MetaGrammar.{meta_grammar}
-use Rattle.front_syntax.proofs.Lookup.{each_ends}
-use Rattle.front_syntax.proofs.laws.each_rule_has_one_outcome.Goals as goal
+use Rattle.front_grammar.specs.MetaGrammar.{meta_grammar}
+use Rattle.front_grammar.proofs.Lookup.{each_ends}
+use Rattle.front_grammar.proofs.laws.each_rule_has_one_outcome.Goals as goal
 
 pub returns : goal.returns
 returns c = record {

@@ -13,10 +13,10 @@ use Rattle.base_language.specs.Pieces.MetaRules.{name_of, meta_rules}
 use Rattle.base_language.specs.declared.grammar.Rule.{Rule}
 use Rattle.base_language.specs.declared.grammar.Rule.TheVariants as is
 use Rattle.base_language.proofs.Basics.{first_of_both, second_of_both}
-use Rattle.front_syntax.specs.Forms.{rank_of}
-use Rattle.front_syntax.specs.MetaGrammar.{meta_grammar, rule_at, type_of_rule, body_of}
-use Rattle.front_syntax.specs.Rows.{is_defined}
-use Rattle.front_syntax.proofs.Lookup.{any_builtin, soi_builtin, eoi_builtin}
+use Rattle.front_grammar.specs.Rules.{rank_of}
+use Rattle.front_grammar.specs.MetaGrammar.{meta_grammar, rule_at, type_of_rule, body_of}
+use Rattle.front_grammar.specs.Rules.{is_defined}
+use Rattle.front_grammar.proofs.Lookup.{any_builtin, soi_builtin, eoi_builtin}
 
 pub implied : (a b : Bool) → (not a || b) ≡ true → a ≡ true → b ≡ true
 implied true b h k = h

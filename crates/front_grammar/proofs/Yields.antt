@@ -6,10 +6,10 @@ use Rattle.base_language.specs.Language.State.{Trees, None', Tree, joined}
 use Rattle.base_language.specs.Pieces.MetaRules.{name_of}
 use Rattle.base_language.specs.declared.grammar.Rule.{Rule}
 use Rattle.base_language.specs.declared.grammar.Rule.TheVariants as is
-use Rattle.front_syntax.specs.MetaGrammar.{type_of_rule, body_of}
-use Rattle.front_syntax.specs.Runs.{is_blank}
-use Rattle.front_syntax.specs.Shape.{Lone, IsNumber, IsInteger, IsPrefix, IsInfix, IsModifier, IsQuoted, IsCounted, IsPostfix, IsSlice, IsTerminal, IsExpression, IsTerm, IsNode, IsRule, AreGrammarTrees}
-use Rattle.front_syntax.proofs.Naming.{rule_named}
+use Rattle.front_grammar.specs.MetaGrammar.{type_of_rule, body_of}
+use Rattle.front_grammar.specs.Rules.{is_blank}
+use Rattle.front_grammar.specs.Shape.{Lone, IsNumber, IsInteger, IsPrefix, IsInfix, IsModifier, IsQuoted, IsCounted, IsPostfix, IsSlice, IsTerminal, IsExpression, IsTerm, IsNode, IsRule, AreGrammarTrees}
+use Rattle.front_grammar.proofs.Naming.{rule_named}
 
 -- no trees; some and then others; any number
 pub data IsNone : Trees → Type 0 where

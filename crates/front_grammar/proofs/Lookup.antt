@@ -1,24 +1,19 @@
 -- The rules of the meta-grammar by their names, and the names that are builtins'.
-use Rattle.std.proofs.Common.{◌≡◌, refl, ◌⊎◌, inl, inr, Bool, true, false, ◌||◌, Some, None, bytes_eq, codes}
+use Rattle.std.proofs.Common.{◌≡◌, refl, Bool, true, false, ◌||◌, Some, None, bytes_eq, codes}
 use Rattle.base_language.specs.Language.Expression as spec
 use Rattle.base_language.specs.Language.Text.{Text}
 use Rattle.base_language.specs.Language.Expression.{Ident, rule_of, whitespace, comment}
 use Rattle.base_language.specs.Language.State.{Outcome, Mode, NonAtomicMode, AtomicMode, CompoundAtomicMode, Between, State, Classes}
 use Rattle.base_language.specs.Language.Builtins.{One, Soi, Eoi, builtins, builtin_of}
 use Rattle.base_language.specs.Language.Matching.{end_outcome, other_outcome}
-use Rattle.base_language.specs.Language.Meaning.{other, inherited, body_mode}
+use Rattle.base_language.specs.Language.Meaning.{other}
 use Rattle.base_language.specs.Language.WellFormed.{HasOutcome}
 use Rattle.base_language.specs.Pieces.MetaRules.{name_of}
 use Rattle.base_language.specs.declared.grammar.Rule.{Rule}
 use Rattle.base_language.specs.declared.grammar.Rule.TheVariants as is
-use Rattle.front_syntax.specs.declared.table.Kind.{Kind}
-use Rattle.front_syntax.specs.declared.table.Kind.TheVariants as of
-use Rattle.front_syntax.specs.declared.modes.Mode as mode
-use Rattle.front_syntax.specs.declared.modes.Mode.TheVariants as in_mode
-use Rattle.front_syntax.specs.Forms.{kind_of}
-use Rattle.front_syntax.specs.MetaGrammar.{meta_grammar, rule_at, type_of_rule}
-use Rattle.front_syntax.specs.Rows.{is_defined}
-use Rattle.front_syntax.specs.Runs.{is_blank, mode_of}
+use Rattle.front_grammar.specs.MetaGrammar.{meta_grammar, rule_at}
+use Rattle.front_grammar.specs.Rules.{is_defined}
+use Rattle.front_grammar.specs.Rules.{is_blank}
 
 pub defined_rule : (r : Rule) → is_defined r ≡ true → rule_of meta_grammar (name_of r) ≡ Some (rule_at r)
 unfolding meta_grammar
@@ -189,16 +184,6 @@ blank_name is.space = refl
 blank_name is.grammar_doc = refl
 blank_name is.line_doc = refl
 blank_name is.inner_doc = refl
-
--- the mode of the body of a rule that inherits it
-pub inherited_at : (r : Rule) (kind : Kind) (m : mode.Mode) (b : Bool) → (kind ≡ of.Normal) ⊎ (kind ≡ of.Silent) → kind_of kind ≡ type_of_rule r → is_blank r ≡ b → body_mode (rule_at r) (mode_of m) ≡ inherited b (mode_of m)
-inherited_at r kind m b (inl k) h e = rw (← h, k, blank_name r, e) refl
-inherited_at r kind m b (inr k) h e = rw (← h, k, blank_name r, e) refl
-
-pub inherited_same : (m : mode.Mode) → inherited false (mode_of m) ≡ mode_of m
-inherited_same in_mode.NonAtomic = refl
-inherited_same in_mode.Atomic = refl
-inherited_same in_mode.CompoundAtomic = refl
 
 pub undefined : (r : Rule) → is_defined r ≡ false → r ≡ is.EOI
 undefined is.EOI h = refl

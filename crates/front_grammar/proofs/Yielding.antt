@@ -13,17 +13,17 @@ use Rattle.base_language.specs.Language.Places.{IsStateIn}
 use Rattle.base_language.specs.declared.grammar.Rule.{Rule}
 use Rattle.base_language.specs.declared.grammar.Rule.TheVariants as is
 use Rattle.base_language.proofs.TreesAreNested.{fits}
-use Rattle.front_syntax.specs.MetaGrammar.{meta_grammar, rule_at, type_of_rule, body_of}
-use Rattle.front_syntax.specs.Rows.{is_defined}
-use Rattle.front_syntax.specs.Runs.{is_blank}
-use Rattle.front_syntax.proofs.Lookup.{defined_rule, soi_builtin, eoi_builtin, blank_name, undefined}
-use Rattle.front_syntax.proofs.MetaWellFormed.{known, implied}
-use Rattle.front_syntax.proofs.Naming.{rule_named, named_rule, name_of_named}
-use Rattle.front_syntax.proofs.Numerals.{number_taken, integer_taken, is_number, is_integer}
-use Rattle.front_syntax.proofs.Quiet.{is_loud, is_quiet, quiet_rule, quiet}
-use Rattle.front_syntax.proofs.ShapeOfTrees.{shows, closed}
-use Rattle.front_syntax.proofs.Taken.{takes}
-use Rattle.front_syntax.proofs.Yields.{IsNone, none, Both, both, Many, no_more, also, IsLone, lone, is_dark, Holds, Named, Yields, Inside, Stretches}
+use Rattle.front_grammar.specs.MetaGrammar.{meta_grammar, rule_at, type_of_rule, body_of}
+use Rattle.front_grammar.specs.Rules.{is_defined}
+use Rattle.front_grammar.specs.Rules.{is_blank}
+use Rattle.front_grammar.proofs.Lookup.{defined_rule, soi_builtin, eoi_builtin, blank_name, undefined}
+use Rattle.front_grammar.proofs.MetaWellFormed.{known, implied}
+use Rattle.front_grammar.proofs.Naming.{rule_named, named_rule, name_of_named}
+use Rattle.front_grammar.proofs.Numerals.{number_taken, integer_taken, is_number, is_integer}
+use Rattle.front_grammar.proofs.Quiet.{is_loud, is_quiet, quiet_rule, quiet}
+use Rattle.front_grammar.proofs.ShapeOfTrees.{shows, closed}
+use Rattle.front_grammar.proofs.Taken.{takes}
+use Rattle.front_grammar.proofs.Yields.{IsNone, none, Both, both, Many, no_more, also, IsLone, lone, is_dark, Holds, Named, Yields, Inside, Stretches}
 
 -- the trees of a success are P
 abbrev pub IfSuccess : (Trees → Type 0) → Outcome → Type 0

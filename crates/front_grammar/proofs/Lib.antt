@@ -1,0 +1,9 @@
+pub mod Lookup
+pub mod MetaWellFormed
+pub mod Naming
+pub mod Numerals
+pub mod Quiet
+pub mod ShapeOfTrees
+pub mod Taken
+pub mod Yielding
+pub mod Yields

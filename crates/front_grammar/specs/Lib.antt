@@ -1,0 +1,4 @@
+pub mod MetaGrammar
+pub mod Outcomes
+pub mod Rules
+pub mod Shape

@@ -1,0 +1,4 @@
+//! The meta-grammar, and laws of it.
+#![tactic(auto)]
+
+pub mod laws;
