@@ -1,9 +1,12 @@
+pub mod FirstCharacters
 pub mod Lookup
 pub mod MetaWellFormed
+pub mod Names
 pub mod Naming
 pub mod Numerals
 pub mod Quiet
 pub mod ShapeOfTrees
+pub mod SingleCharacters
 pub mod Taken
 pub mod Yielding
 pub mod Yields

@@ -8,7 +8,7 @@ use Rattle.base_language.specs.Language.Builtins.{is_between, is_letter, is_lowe
 use Rattle.base_language.specs.Language.Meaning.{Run}
 use Rattle.base_language.specs.declared.grammar.Rule.TheVariants as is
 use Rattle.base_language.proofs.Basics.{first_of_neither, second_of_neither}
-use Rattle.front_syntax.specs.Firsts.{is_among}
+use Rattle.front_grammar.proofs.FirstCharacters.{is_among}
 use Rattle.front_grammar.specs.MetaGrammar.{rule, ◌or◌}
 use Rattle.front_roundtrip.proofs.Deriving.{at, Gives, str, range, call, left, right, is_solid}
 

@@ -9,13 +9,11 @@ use Rattle.base_language.specs.Language.Meaning.{Does, Task, Run, Turns, Skippin
 use Rattle.base_language.specs.Pieces.MetaRules.{name_of}
 use Rattle.base_language.specs.declared.grammar.Rule.{Rule}
 use Rattle.base_language.specs.declared.grammar.Rule.TheVariants as is
-use Rattle.front_syntax.specs.declared.modes.Mode.TheVariants as in_mode
 use Rattle.front_grammar.specs.MetaGrammar.{meta_grammar, rule_at, body_of}
 use Rattle.front_grammar.specs.Rules.{is_defined}
-use Rattle.front_syntax.specs.Firsts.{may_begin}
 use Rattle.front_grammar.proofs.Lookup.{defined_rule}
-use Rattle.front_syntax.proofs.FirstCharacters.{fails_at_once}
-use Rattle.front_syntax.proofs.Steps.{ran_whitespace, ran_comment}
+use Rattle.front_grammar.proofs.FirstCharacters.{fails_at_once, may_begin}
+use Rattle.front_grammar.proofs.Names.{ran_whitespace, ran_comment}
 
 -- a position, and what is left behind it
 abbrev pub at : ℕ → Text → State
@@ -112,17 +110,17 @@ solid_comment false false h = refl
 
 -- a rule that can't begin with the next character
 pub fails : (r : Rule) (c : ℕ) (K : Text) (p : ℕ) → may_begin r c ≡ false → Calls r (at p (c ∷ K)) Failure
-fails r c K p h = λ z. (fails_at_once r in_mode.NonAtomic c z (at p (c ∷ K)) K 0 _ h refl refl).found
+fails r c K p h = λ z. (fails_at_once r c z (at p (c ∷ K)) K 0 _ h refl refl).found
 
 no_blank : (c : ℕ) (K : Text) (p : ℕ) → is_solid c ≡ true → Gives (Run Between (Ident whitespace)) (at p (c ∷ K)) Failure
 no_blank c K p h = λ z.
     let i = solid_blank _ (may_begin is.COMMENT c) h in
-    (ran_whitespace {q = 0} (fails_at_once is.WHITESPACE in_mode.NonAtomic c z (at p (c ∷ K)) K 0 0 i refl refl)).found
+    (ran_whitespace {q = 0} (fails_at_once is.WHITESPACE c z (at p (c ∷ K)) K 0 0 i refl refl)).found
 
 no_comment : (c : ℕ) (K : Text) (p : ℕ) → is_solid c ≡ true → Gives (Run Between (Ident comment)) (at p (c ∷ K)) Failure
 no_comment c K p h = λ z.
     let i = solid_comment (may_begin is.WHITESPACE c) _ h in
-    (ran_comment {q = 0} (fails_at_once is.COMMENT in_mode.NonAtomic c z (at p (c ∷ K)) K 0 0 i refl refl)).found
+    (ran_comment {q = 0} (fails_at_once is.COMMENT c z (at p (c ∷ K)) K 0 0 i refl refl)).found
 
 a_blank : (K : Text) (p : ℕ) → Gives (Run Between (Ident whitespace)) (at p (32 ∷ K)) (Success (at (p + 1) K) None')
 unfolding whitespace comment

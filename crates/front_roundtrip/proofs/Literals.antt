@@ -11,12 +11,11 @@ use Rattle.base_language.specs.Language.State.{State, NonAtomicMode, AtomicMode,
 use Rattle.base_ast.specs.Printing.{escaped}
 use Rattle.base_language.specs.Language.Meaning.{Run, Turns}
 use Rattle.base_language.specs.declared.grammar.Rule.TheVariants as is
-use Rattle.front_syntax.specs.declared.modes.Mode.TheVariants as in_mode
 use Rattle.front_grammar.specs.MetaGrammar.{rule, ◌or◌, ◌~◌, any, double_quote, backslash}
 use Rattle.front_grammar.specs.Shape.{Lone}
-use Rattle.front_syntax.specs.Firsts.{may_begin}
+use Rattle.front_grammar.proofs.FirstCharacters.{may_begin}
 use Rattle.front_roundtrip.specs.ReadsBack.{is_name_start}
-use Rattle.front_syntax.proofs.Steps.{ran_any}
+use Rattle.front_grammar.proofs.Names.{ran_any}
 use Rattle.front_reader.specs.Reading.{leaf, literally_pushed, string, insensitive, range, literal_value}
 use Rattle.front_reader.specs.Flaws.{own_flaw, wrong_literal, flaw_if, NoScalarValue}
 use Rattle.front_reader.specs.Literal.{unescaped}
@@ -59,7 +58,7 @@ abbrev escape_and_more : Expression
 escape_and_more = Opt (rule is.escape ~ rule is.inner_str)
 
 any_takes : (c : ℕ) (K : Text) (p : ℕ) → Gives (Run AtomicMode any) (at p (c ∷ K)) (Success (at (past p c) K) None')
-any_takes c K p = λ z. (ran_any {classes = z} in_mode.Atomic {p = 0} refl).found
+any_takes c K p = λ z. (ran_any {classes = z} {p = 0} refl).found
 
 record Inside (p : ℕ) (T K : Text) : Type 0 where
   pub middle : State

@@ -10,7 +10,7 @@ use Rattle.base_language.specs.Language.Meaning.{Run, Turns}
 use Rattle.base_language.specs.declared.grammar.Rule.TheVariants as is
 use Rattle.base_language.proofs.Basics.{first_of_both, second_of_both}
 use Rattle.base_language.proofs.Beginnings.{begins-gives}
-use Rattle.front_syntax.specs.Firsts.{is_among}
+use Rattle.front_grammar.proofs.FirstCharacters.{is_among}
 use Rattle.front_grammar.specs.MetaGrammar.{rule, ◌or◌}
 use Rattle.front_reader.specs.Reading.{leaf, identifier}
 use Rattle.front_reader.specs.Flaws.{own_flaw}

@@ -14,7 +14,7 @@ use Rattle.base_language.specs.declared.grammar.Rule.TheVariants as is
 use Rattle.base_language.proofs.Steps.{joined_assoc, joined_nil}
 use Rattle.base_language.proofs.TreesAreNested.{fits}
 use Rattle.front_grammar.specs.MetaGrammar.{rule, ◌~◌}
-use Rattle.front_syntax.specs.Firsts.{may_begin}
+use Rattle.front_grammar.proofs.FirstCharacters.{may_begin}
 use Rattle.front_spanned.specs.Spanned as spanned
 use Rattle.front_spanned.specs.Spanned.{Spanned, Leaf, One, Two, Span, Unary, starting, ending, placed}
 use Rattle.front_reader.specs.Reading.{Category, AnExpression, Alternatives, ASequence, ATerm, Reads, Postfixed}

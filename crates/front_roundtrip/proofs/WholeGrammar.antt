@@ -12,10 +12,9 @@ use Rattle.base_language.specs.declared.grammar.Rule.TheVariants as is
 use Rattle.base_language.proofs.Steps.{joined_assoc}
 use Rattle.base_language.specs.Pieces.Saying.{piece}
 use Rattle.base_language.proofs.Basics.{first_of_both, second_of_both}
-use Rattle.front_syntax.specs.declared.modes.Mode.TheVariants as in_mode
 use Rattle.front_grammar.specs.MetaGrammar.{meta_grammar, rule}
 use Rattle.front_grammar.specs.Shape.{Lone, Braced}
-use Rattle.front_syntax.proofs.Steps.{ran_soi, ran_end}
+use Rattle.front_grammar.proofs.Names.{ran_soi, ran_end}
 use Rattle.front_spanned.specs.Spanned.{Spanned, SpannedRule}
 use Rattle.front_spanned.specs.Erasure.{without_spans, rules_without_spans}
 use Rattle.front_reader.specs.Reading as reading
@@ -64,10 +63,10 @@ unfolding whitespace comment
 no_doc_at_end p = call is.grammar_doc refl (seq_first (seq_first str))
 
 soi : (t : Text) → Gives (Run NonAtomicMode (Ident (codes "SOI"))) (at 0 t) (Success (at 0 t) None')
-soi t = λ z. (ran_soi {classes = z} in_mode.NonAtomic {p = 0} refl).found
+soi t = λ z. (ran_soi {classes = z} {p = 0} refl).found
 
 eoi : (p : ℕ) → Gives (Run NonAtomicMode (Ident (codes "EOI"))) (at p []) (Success (at p []) (Lone (codes "EOI") p p None'))
-eoi p = λ z. (ran_end {classes = z} in_mode.NonAtomic {p = 0} refl).found
+eoi p = λ z. (ran_end {classes = z} {p = 0} refl).found
 
 -- a rule's text before what stands behind it, and that of rules on lines of their own
 abbrev pub rule_before : Text → RuleType → Expression → Text → Text

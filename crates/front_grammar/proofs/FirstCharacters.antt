@@ -1,29 +1,86 @@
 -- What fails where the next character cannot begin it, and what is noted then.
 use Rattle.std.proofs.Common.{◌≡◌, refl, subst, ℕ, zero, suc, max, List, [], ◌∷◌, Bool, true, false, not, ◌&&◌, ◌||◌, Option, Some, None, arith, if◌then◌else◌, nat_eq, eqb-true, codes, ◌⊎◌, inl, inr}
-use Rattle.std.specs.Str.{chars}
 use Rattle.base_language.specs.Language.Text.{Text}
 use Rattle.base_language.specs.Language.Expression.{Expression, Str, Ident, NegPred, Seq, Choice, rule_of, whitespace, comment}
-use Rattle.base_language.specs.Language.State.{Classes, State, Mode, NonAtomicMode, AtomicMode, None', Success, Failure}
+use Rattle.base_language.specs.Language.State.{Classes, State, Mode, NonAtomicMode, AtomicMode, Failure}
 use Rattle.base_language.specs.Language.Matching.{text_outcome}
-use Rattle.base_language.specs.Language.Meaning.{Run, Skipping, body_mode, gives_token, seen_from}
+use Rattle.base_language.specs.Language.Meaning.{Run, body_mode, gives_token, seen_from}
 use Rattle.base_language.specs.Language.Ran.{Ran}
 use Rattle.base_language.specs.Pieces.MetaRules.{name_of}
 use Rattle.base_language.specs.declared.grammar.Rule.{Rule}
 use Rattle.base_language.specs.declared.grammar.Rule.TheVariants as is
-use Rattle.base_language.proofs.Steps.{ran_atomic, ran_not_ahead, ran_str, ran_seq_fails, ran_right, ran_call, ran_skips, ran_seq, ran_rep_none, ran_between}
-use Rattle.front_syntax.specs.declared.modes.Mode as mode
-use Rattle.front_syntax.specs.declared.modes.Mode.TheVariants as in_mode
+use Rattle.base_language.proofs.Steps.{ran_atomic, ran_not_ahead, ran_str, ran_seq_fails, ran_right, ran_call, ran_seq}
 use Rattle.base_language.specs.Language.Builtins.{is_lower, is_upper}
 use Rattle.base_language.proofs.Basics.{first_of_both, second_of_both}
-use Rattle.front_syntax.specs.Firsts.{begins_name, firsts, is_among, is_among_any, is_recorded_at_once, may_begin}
 use Rattle.front_grammar.specs.MetaGrammar.{meta_grammar, rule_at, type_of_rule, body_of}
 use Rattle.front_grammar.specs.Rules.{is_defined}
-use Rattle.front_syntax.specs.Runs.{at, mode_of}
 use Rattle.front_grammar.proofs.Lookup.{defined_rule}
 use Rattle.front_grammar.proofs.Naming.{rule_named, name_of_named}
-use Rattle.front_syntax.proofs.SingleCharacters as single
-use Rattle.front_syntax.proofs.SingleCharacters.{fails_within}
-use Rattle.front_syntax.proofs.Steps.{ran_whitespace, ran_comment}
+use Rattle.front_grammar.specs.MetaGrammar.{double_quote, backslash}
+use Rattle.front_grammar.proofs.SingleCharacters as single
+use Rattle.front_grammar.proofs.SingleCharacters.{fails_within}
+
+-- the first set of a rule, for the rules that fail most often
+abbrev pub firsts : Rule → Option (List ℕ)
+firsts is.WHITESPACE = Some (32 ∷ 9 ∷ 10 ∷ 13 ∷ [])
+firsts is.newline = Some (10 ∷ 13 ∷ [])
+firsts is.COMMENT = Some (codes "/")
+firsts is.line_comment = Some (codes "/")
+firsts is.block_comment = Some (codes "/")
+firsts is.grammar_doc = Some (codes "/")
+firsts is.line_doc = Some (codes "/")
+firsts is.prefix_operator = Some (codes "&!")
+firsts is.infix_operator = Some (codes "~|")
+firsts is.postfix_operator = Some (codes "?*+{")
+firsts is.modifier = Some (codes "_@$!")
+firsts is.tag_id = Some (codes "#")
+firsts is.node_tag = Some (codes "#")
+firsts is._push = Some (codes "P")
+firsts is._push_literal = Some (codes "P")
+firsts is.peek_slice = Some (codes "P")
+firsts is.string = Some double_quote
+firsts is.quote = Some double_quote
+firsts is.insensitive_string = Some (codes "^")
+firsts is.range = Some (codes "'")
+firsts is.character = Some (codes "'")
+firsts is.single_quote = Some (codes "'")
+firsts is.escape = Some backslash
+firsts is.opening_paren = Some (codes "(")
+firsts is.closing_paren = Some (codes ")")
+firsts is.sequence_operator = Some (codes "~")
+firsts is.choice_operator = Some (codes "|")
+firsts is.optional_operator = Some (codes "?")
+firsts is.repeat_operator = Some (codes "*")
+firsts is.repeat_once_operator = Some (codes "+")
+firsts _ = None
+
+-- whether a character is one of these
+abbrev pub is_among : List ℕ → ℕ → Bool
+is_among [] c = false
+is_among (x ∷ xs) c = nat_eq c x || is_among xs c
+
+abbrev pub is_among_any : Option (List ℕ) → ℕ → Bool
+is_among_any None c = true
+is_among_any (Some xs) c = is_among xs c
+
+-- whether a name begins with a character
+abbrev pub begins_name : ℕ → Bool
+begins_name c = nat_eq 95 c || (is_lower c || is_upper c)
+
+-- whether a match of a rule may begin with a character, as far as first sets are listed
+abbrev pub may_begin : Rule → ℕ → Bool
+may_begin is.identifier c = begins_name c
+may_begin r c = is_among_any (firsts r) c
+
+-- whether a call in NonAtomic that the first set refuses is recorded as a failure: not blanks and comments, which
+-- are silent
+abbrev pub is_recorded_at_once : Rule → Bool
+is_recorded_at_once is.WHITESPACE = false
+is_recorded_at_once is.newline = false
+is_recorded_at_once is.COMMENT = false
+is_recorded_at_once is.line_comment = false
+is_recorded_at_once is.block_comment = false
+is_recorded_at_once _ = true
 
 -- whether all that an expression matches begins with one of these characters, if that is so of what it calls
 abbrev begins_by : (Text → Bool) → List ℕ → Expression → Bool
@@ -114,29 +171,14 @@ module _ (classes : Classes) (xs : List ℕ) (c : ℕ) (elsewhere : is_among xs 
           (noted_twice (notes_by (notes_within k) (body_mode (rule_at r) m) (body_of r)) (seen_from m && gives_token (type_of_rule r) m) p q s.position l)
 
 -- each list of first characters is right, and so is what is noted
-abbrev is_right : Option (List ℕ) → Rule → mode.Mode → Bool
-is_right None r m = true
-is_right (Some xs) r m = begins_within 3 xs (name_of r) && same_bool (notes_within 3 (mode_of m) (name_of r)) (is_recorded_at_once r m)
+abbrev is_right : Option (List ℕ) → Rule → Bool
+is_right None r = true
+is_right (Some xs) r = begins_within 3 xs (name_of r) && same_bool (notes_within 3 NonAtomicMode (name_of r)) (is_recorded_at_once r)
 
-right_in_non_atomic : (r : Rule) → is_right (firsts r) r in_mode.NonAtomic ≡ true
+right_in_non_atomic : (r : Rule) → is_right (firsts r) r ≡ true
 unfolding rule_named whitespace comment
 right_in_non_atomic is.EOI = refl
 right_in_non_atomic _ = refl
-
-right_in_atomic : (r : Rule) → is_right (firsts r) r in_mode.Atomic ≡ true
-unfolding rule_named whitespace comment
-right_in_atomic is.EOI = refl
-right_in_atomic _ = refl
-
-right_in_compound_atomic : (r : Rule) → is_right (firsts r) r in_mode.CompoundAtomic ≡ true
-unfolding rule_named whitespace comment
-right_in_compound_atomic is.EOI = refl
-right_in_compound_atomic _ = refl
-
-all_right : (r : Rule) (m : mode.Mode) → is_right (firsts r) r m ≡ true
-all_right r in_mode.NonAtomic = right_in_non_atomic r
-all_right r in_mode.Atomic = right_in_atomic r
-all_right r in_mode.CompoundAtomic = right_in_compound_atomic r
 
 -- a name fails before a character that begins none
 no_push : (c : ℕ) (b : Bool) → nat_eq 80 c ≡ b → (is_lower c || is_upper c) ≡ false → not b ≡ true
@@ -158,10 +200,8 @@ name_body_fails c classes s u p h e =
     let both : Ran meta_grammar classes (Run AtomicMode (Seq (NegPred (Str (codes "PUSH"))) (Choice (Str (codes "_")) (Ident (name_of is.alpha))))) s Failure p p = ran_seq (ran_not_ahead push) ran_atomic first in
     ran_seq_fails both
 
-name_fails : (m : mode.Mode) (c : ℕ) (classes : Classes) (s : State) (u : Text) (p q : ℕ) → begins_name c ≡ false → s.rest ≡ c ∷ u → q ≡ max p (if seen_from (mode_of m) then s.position else 0) → Ran meta_grammar classes (Run (mode_of m) (Ident (name_of is.identifier))) s Failure p q
-name_fails in_mode.NonAtomic c classes s u p q h e k = ran_call (defined_rule is.identifier refl) (name_body_fails c classes s u p h e) k
-name_fails in_mode.Atomic c classes s u p q h e k = ran_call (defined_rule is.identifier refl) (name_body_fails c classes s u p h e) k
-name_fails in_mode.CompoundAtomic c classes s u p q h e k = ran_call (defined_rule is.identifier refl) (name_body_fails c classes s u p h e) k
+name_fails : (c : ℕ) (classes : Classes) (s : State) (u : Text) (p q : ℕ) → begins_name c ≡ false → s.rest ≡ c ∷ u → q ≡ max p (if seen_from NonAtomicMode then s.position else 0) → Ran meta_grammar classes (Run NonAtomicMode (Ident (name_of is.identifier))) s Failure p q
+name_fails c classes s u p q h e k = ran_call (defined_rule is.identifier refl) (name_body_fails c classes s u p h e) k
 
 name_or_listed : (r : Rule) (c : ℕ) → may_begin r c ≡ false → ((r ≡ is.identifier) × (begins_name c ≡ false)) ⊎ (is_among_any (firsts r) c ≡ false)
 name_or_listed is.identifier c h = inl (refl, h)
@@ -169,22 +209,15 @@ name_or_listed is.EOI c h = inr h
 name_or_listed _ c h = inr h
 
 -- a call fails where the next character cannot begin what its rule matches
-pub fails_at_once : (r : Rule) (m : mode.Mode) (c : ℕ) (classes : Classes) (s : State) (u : Text) (p q : ℕ) → may_begin r c ≡ false → s.rest ≡ c ∷ u → q ≡ max p (if is_recorded_at_once r m then s.position else 0) → Ran meta_grammar classes (Run (mode_of m) (Ident (name_of r))) s Failure p q
-fails_at_once r m c classes s u p q h e k = either (name_or_listed r c h)
+pub fails_at_once : (r : Rule) (c : ℕ) (classes : Classes) (s : State) (u : Text) (p q : ℕ) → may_begin r c ≡ false → s.rest ≡ c ∷ u → q ≡ max p (if is_recorded_at_once r then s.position else 0) → Ran meta_grammar classes (Run NonAtomicMode (Ident (name_of r))) s Failure p q
+fails_at_once r c classes s u p q h e k = either (name_or_listed r c h)
   where
-    go : (o : Option (List ℕ)) → is_among_any o c ≡ false → is_right o r m ≡ true → Ran meta_grammar classes (Run (mode_of m) (Ident (name_of r))) s Failure p q
+    go : (o : Option (List ℕ)) → is_among_any o c ≡ false → is_right o r ≡ true → Ran meta_grammar classes (Run NonAtomicMode (Ident (name_of r))) s Failure p q
     go None a b = cc
     go (Some xs) a b =
-        let same = same_true (notes_within 3 (mode_of m) (name_of r)) (is_recorded_at_once r m) (second_of_both _ _ b) in
-        call_fails classes xs c a 3 (name_of r) (first_of_both _ _ b) (mode_of m) s u p q e (rw same k)
+        let same = same_true (notes_within 3 NonAtomicMode (name_of r)) (is_recorded_at_once r) (second_of_both _ _ b) in
+        call_fails classes xs c a 3 (name_of r) (first_of_both _ _ b) NonAtomicMode s u p q e (rw same k)
 
-    either : ((r ≡ is.identifier) × (begins_name c ≡ false)) ⊎ (is_among_any (firsts r) c ≡ false) → Ran meta_grammar classes (Run (mode_of m) (Ident (name_of r))) s Failure p q
-    either (inl (i, b)) = rw i (name_fails m c classes s u p q b e (rw i at k))
-    either (inr b) = go (firsts r) b (all_right r m)
-
--- nothing is skipped where the next character begins neither white space nor a comment
-pub nothing_skipped : (c : ℕ) (text bs more : List ℕ) → may_begin is.WHITESPACE c ≡ false → may_begin is.COMMENT c ≡ false → chars bs ≡ c ∷ chars more → (classes : Classes) (p : ℕ) → Ran meta_grammar classes (Skipping NonAtomicMode) (at text bs) (Success (at text bs) None') p p
-nothing_skipped c text bs more b k e classes p =
-    let blank = fails_at_once is.WHITESPACE in_mode.NonAtomic c classes (at text bs) (chars more) p p b e (omega arith) in
-    let remark = fails_at_once is.COMMENT in_mode.NonAtomic c classes (at text bs) (chars more) p p k e (omega arith) in
-    ran_skips (ran_seq (ran_rep_none (ran_whitespace blank)) ran_between (ran_rep_none (ran_seq_fails (ran_comment remark))))
+    either : ((r ≡ is.identifier) × (begins_name c ≡ false)) ⊎ (is_among_any (firsts r) c ≡ false) → Ran meta_grammar classes (Run NonAtomicMode (Ident (name_of r))) s Failure p q
+    either (inl (i, b)) = rw i (name_fails c classes s u p q b e (rw i at k))
+    either (inr b) = go (firsts r) b (right_in_non_atomic r)
