@@ -15,8 +15,7 @@ use Rattle.base_language.specs.Language.Expression as spec
 use Rattle.base_language.specs.Language.Expression.{Ident, whitespace, comment}
 use Rattle.std.specs.Borrow.{Bor}
 use Rattle.std.proofs.Math.Seq.{drop-cons}
-use Rattle.front_syntax.specs.Forms.{decoded}
-use Rattle.front_syntax.proofs.LeafLemmas.{chars_empty, decoded_chars}
+use Rattle.matcher_program.proofs.Decoding.{chars_empty, decoded, decoded_chars}
 use Rattle.std.specs.declared.string.String.{String}
 use Rattle.std.specs.declared.alloc.Global.{Global}
 use Rattle.std.proofs.lemmas.Bool.{and_parts}

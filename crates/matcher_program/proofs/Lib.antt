@@ -1,3 +1,4 @@
+pub mod Decoding
 pub mod Compiling
 pub mod Indexing
 pub mod Forming
