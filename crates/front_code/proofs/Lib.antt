@@ -7,3 +7,4 @@ pub mod Exact
 pub mod Fast
 pub mod ByteLemmas
 pub mod Results
+pub mod TreeNames
