@@ -31,9 +31,9 @@ use base_ast::ast::RuleType;
 use base_ast::deep::Deep;
 pub use base_language::grammar::Rule;
 use base_language::runtime::{Fault, Pairs, TokenTree};
+use front_grammar::laws::trees_of_a_grammar_have_their_shape;
 pub use front_spanned::{ParserExpr, ParserNode, ParserRule, filter_internal};
 pub use front_syntax::grammar::PestParser;
-use front_grammar::laws::trees_of_a_grammar_have_their_shape;
 use front_syntax::trees::{first_tree, leading_tree};
 use std::alloc::Global;
 

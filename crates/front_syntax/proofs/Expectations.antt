@@ -1,81 +1,91 @@
--- From what a second reading tells to what is expected.
-use Rattle.std.proofs.Common.{◌≡◌, refl, sym, ◌∙◌, ap, subst, ℕ, List, [], ◌∷◌, ◌++◌, Bool, true, false, Option, Some, None, Result, Ok, Err, IfOk, Vec, Global, bytes_eq, map}
+-- From the numbers of a run to the rules that are expected.
+use Rattle.std.proofs.Common.{◌≡◌, refl, sym, ◌∙◌, ap, subst, ℕ, suc, ◌<◌, List, [], ◌∷◌, ◌++◌, Bool, true, false, ◌||◌, bytes_eq, filter, length, map, nat_eq, arith, if◌then◌else◌}
 use Rattle.std.specs.List.{list_any}
-use Rattle.std.specs.declared.alloc.AllocError.{AllocError}
+use Rattle.std.proofs.lemmas.List.Elements.{filter_agree}
 use Rattle.std.proofs.lemmas.Slice.Eq.{bytes_eq-Decides}
-use Rattle.std.specs.Borrow.{Bor}
-use Rattle.base_language.specs.Language.Expected.{expected_at}
-use Rattle.base_language.specs.Language.FurthestFailure.{furthest}
-use Rattle.base_language.specs.Language.Expression.{Ident}
-use Rattle.base_language.specs.Language.Meaning.{Does, Task, Run}
-use Rattle.base_language.specs.Language.State.{Classes, NonAtomicMode, State, Trees, Outcome, Failure, Success}
-use Rattle.base_language.specs.Pieces.MetaRules.{name_of}
+use Rattle.base_language.specs.Language.Text.{Text}
+use Rattle.base_language.specs.Pieces.MetaRules.{meta_rules, name_of}
 use Rattle.base_language.specs.declared.grammar.Rule.{Rule}
-use Rattle.base_language.specs.contracts.grammar.RulePartialEq.TheImpl as equality
-use Rattle.base_language.proofs.MetaNames.{name_of-injective}
-use Rattle.base_language.proofs.ExpectedOnce.{one_list}
-use Rattle.base_language.proofs.FailurePlaces.{one_place}
-use Rattle.base_language.proofs.OneOutcome.{same}
-use Rattle.base_language.proofs.Comparisons.{one_rule}
-use Rattle.front_syntax.specs.ExpectedRules.{AreExpected, AreRecordedAt, ExpectsNothing, is_named, rules_named}
-use Rattle.front_syntax.specs.Expecting.{FailsOrFindsRecording, DoesRecording, Sought}
-use Rattle.front_grammar.specs.MetaGrammar.{meta_grammar}
-use Rattle.front_grammar.specs.Outcomes.{Recognizes, start_of}
-use Rattle.front_syntax.specs.Parses.{FailsAt}
-use Rattle.front_syntax.specs.Runs.{at}
-use Rattle.front_syntax.proofs.Parsing.{at_start}
+use Rattle.base_language.specs.declared.grammar.Rule.TheVariants as is
+use Rattle.matcher_code.specs.Steps.{is_among, with_row, with_rows}
+use Rattle.front_code.specs.Numbers.{number_of, place_among}
+use Rattle.front_code.proofs.TreeNames.{small_number}
+use Rattle.front_syntax.specs.ExpectedRules.{is_named, is_numbered, rules_named}
 
 tests_agree : (x y : Bool) → (x ≡ true → y ≡ true) → (y ≡ true → x ≡ true) → x ≡ y
 tests_agree true y f g = sym (f refl)
 tests_agree false true f g = g refl
 tests_agree false false f g = refl
 
-same_name : (a b : Rule) → equality.ghosts.eq a b ≡ bytes_eq (name_of a) (name_of b)
-same_name a b = tests_agree _ _
-    (λ h. (bytes_eq-Decides (name_of a) (name_of b)).1 (ap name_of ((one_rule a b).0 h)))
-    (λ h. (one_rule a b).1 (name_of-injective a b ((bytes_eq-Decides (name_of a) (name_of b)).0 h)))
+or_assoc : (a b c : Bool) → ((a || b) || c) ≡ (a || (b || c))
+or_assoc true b c = refl
+or_assoc false b c = refl
 
-pub any_is_named : (rules : List Rule) (r : Rule) → list_any (λ y. equality.ghosts.eq y r) rules ≡ is_named (map name_of rules) r
-any_is_named [] r = refl
-any_is_named (q ∷ rules) r = rw (same_name q r, any_is_named rules r) refl
+or_false : (a : Bool) → (a || false) ≡ a
+or_false true = refl
+or_false false = refl
 
-module _ (rule : Rule) (text : List ℕ) where
-  abbrev task : Task
-  task = Run NonAtomicMode (Ident (name_of rule))
+nat_same : (m n : ℕ) → nat_eq m n ≡ true → m ≡ n
+nat_same m n h = grind arith
 
-  -- what was found at the start is what every start finds
-  told_from : (classes : Classes) (o : Outcome) (p q : Sought) → p.names ≡ [] → DoesRecording meta_grammar classes task (at text text) o p q → (s : State) → at text text ≡ s → (r : Outcome) (d : Does meta_grammar classes task s r) → q.names ≡ expected_at p.place d
-  told_from classes o p q e x s h = subst (λ s. (r : Outcome) (d : Does meta_grammar classes task s r) → q.names ≡ expected_at p.place d) h
-      (λ r d. ap (λ z. z.names) x.noted ∙ (ap (λ l. l ++ expected_at p.place x.found) e ∙ one_list meta_grammar classes p.place x.found d))
+same_nat : (m n : ℕ) → m ≡ n → nat_eq m n ≡ true
+same_nat m n h = grind arith
 
-  pub told_at : (p q : Sought) (answer : Option (Bor (List ℕ))) → FailsOrFindsRecording task text text p q answer → p.names ≡ [] → (rules : List Rule) → rules ≡ rules_named q.names → AreRecordedAt rule text p.place rules
-  told_at p q None x e rules h classes o d = h ∙ ap rules_named (told_from classes _ p q e (x.ran classes) (start_of text) (at_start text) o d)
-  told_at p q (Some after) x e rules h classes o d = h ∙ ap rules_named (told_from classes _ p q e (x.ran classes) (start_of text) (at_start text) o d)
+pub any_is_among : (numbers : List ℕ) (n : ℕ) → list_any (λ y. nat_eq y n) numbers ≡ is_among numbers n
+any_is_among [] n = refl
+any_is_among (m ∷ ms) n = ap (λ b. nat_eq m n || b) (any_is_among ms n)
 
-  -- one outcome from the start
-  one_end : (classes : Classes) (o : Outcome) → Does meta_grammar classes task (at text text) o → (r : Outcome) → Recognizes rule text classes r → o ≡ r
-  one_end classes o d = subst (λ s. (r : Outcome) → Does meta_grammar classes task s r → o ≡ r) (at_start text) (λ r f. same meta_grammar classes d f)
+-- a row that is among others is found there
+among-append : (ms ns : List ℕ) (n : ℕ) → is_among (ms ++ ns) n ≡ (is_among ms n || is_among ns n)
+among-append [] ns n = refl
+among-append (m ∷ ms) ns n = ap (λ b. nat_eq m n || b) (among-append ms ns n) ∙ sym (or_assoc (nat_eq m n) (is_among ms n) (is_among ns n))
 
-  pub nothing_where_it_fails : ((classes : Classes) → Does meta_grammar classes task (at text text) Failure) → (rules : List Rule) → ExpectsNothing rule text rules
-  nothing_where_it_fails f rules classes t us d = let e = one_end classes Failure (f classes) (Success t us) d in cc
+among_row : (rows : List ℕ) (n x : ℕ) → is_among (with_row rows n) x ≡ (is_among rows x || nat_eq n x)
+among_row rows n x = go (is_among rows n) refl
+  where
+    known_row : is_among rows n ≡ true → is_among rows x ≡ (is_among rows x || nat_eq n x)
+    known_row e = tests_agree _ _ (λ h. ap (λ b. b || nat_eq n x) h) (λ h. found (is_among rows x) (nat_eq n x) refl refl h)
+      where
+        found : (a b : Bool) → is_among rows x ≡ a → nat_eq n x ≡ b → (a || b) ≡ true → is_among rows x ≡ true
+        found true b p q h = p
+        found false true p q h = subst (λ y. is_among rows y ≡ true) (nat_same n x q) e
+        found false false p q h = cc
 
-  pub no_failure : (t : State) (us : Trees) → ((classes : Classes) → Does meta_grammar classes task (at text text) (Success t us)) → (rules : List Rule) → AreExpected rule text rules
-  no_failure t us f rules classes d = let e = one_end classes (Success t us) (f classes) Failure d in cc
+    go : (b : Bool) → is_among rows n ≡ b → is_among (if b then rows else rows ++ n ∷ []) x ≡ (is_among rows x || nat_eq n x)
+    go true e = known_row e
+    go false e = among-append rows (n ∷ []) x ∙ ap (λ b. is_among rows x || b) (or_false (nat_eq n x))
 
-  pub expected_where_it_fails : (place : ℕ) (rules : List Rule) → FailsAt rule text place → AreRecordedAt rule text place rules → AreExpected rule text rules
-  expected_where_it_fails place rules f h classes d =
-      let x = f classes in
-      let e : place ≡ furthest d = x.1 ∙ one_place meta_grammar classes x.0 d in
-      h classes Failure d ∙ ap (λ n. rules_named (expected_at n d)) e
+among_rows : (rows ns : List ℕ) (x : ℕ) → is_among (with_rows rows ns) x ≡ (is_among rows x || is_among ns x)
+among_rows rows [] x = sym (or_false (is_among rows x))
+among_rows rows (n ∷ ns) x =
+    among_rows (with_row rows n) ns x
+    ∙ (ap (λ b. b || is_among ns x) (among_row rows n x) ∙ or_assoc (is_among rows x) (nat_eq n x) (is_among ns x))
 
-  pub in_order_told : (place : ℕ) (p q : Sought) (answer : Option (Bor (List ℕ))) (result : Result (Vec Rule Global) AllocError) → FailsOrFindsRecording task text text p q answer → p.names ≡ [] → p.place ≡ place → IfOk result (λ rules. rules.items ≡ rules_named q.names) → IfOk result (λ rules. AreRecordedAt rule text place rules.items)
-  in_order_told place p q answer (Ok rules) x e k h = rw (← k) (told_at p q answer x e rules.items h)
-  in_order_told place p q answer (Err f) x e k h = tt
+-- a name that has the place of a rule's name is that name
+place_same : (rs : List Rule) (n m : Text) → place_among rs m < length rs → place_among rs n ≡ place_among rs m → n ≡ m
+place_same [] n m l e = absurd (omega arith)
+place_same (r ∷ rs) n m l e = at_first (λ a b. place_same rs n m a b) (bytes_eq (name_of r) n) (bytes_eq (name_of r) m) refl refl l e
+  where
+    at_first : (place_among rs m < length rs → place_among rs n ≡ place_among rs m → n ≡ m) → (a b : Bool) → bytes_eq (name_of r) n ≡ a → bytes_eq (name_of r) m ≡ b → (if b then 0 else suc (place_among rs m)) < suc (length rs)
+        → (if a then 0 else suc (place_among rs n)) ≡ (if b then 0 else suc (place_among rs m)) → n ≡ m
+    at_first before true true p q l e = sym ((bytes_eq-Decides (name_of r) n).0 p) ∙ (bytes_eq-Decides (name_of r) m).0 q
+    at_first before true false p q l e = absurd (omega arith)
+    at_first before false true p q l e = absurd (omega arith)
+    at_first before false false p q l e = before (omega arith) (omega arith)
 
-  pub nothing_if_ok : (result : Result (Vec Rule Global) AllocError) → ((classes : Classes) → Does meta_grammar classes task (at text text) Failure) → IfOk result (λ rules. ExpectsNothing rule text rules.items)
-  nothing_if_ok (Ok rules) f = nothing_where_it_fails f rules.items
-  nothing_if_ok (Err e) f = tt
+same_number : (n : Text) (r : Rule) → nat_eq (number_of n) (number_of (name_of r)) ≡ bytes_eq n (name_of r)
+same_number n r = tests_agree _ _
+    (λ h. (bytes_eq-Decides n (name_of r)).1 (place_same (is.EOI ∷ meta_rules) n (name_of r) (small_number r) (nat_same _ _ h)))
+    (λ h. same_nat _ _ (ap number_of ((bytes_eq-Decides n (name_of r)).0 h)))
 
-  pub expected_if_ok : (place : ℕ) (result : Result (Vec Rule Global) AllocError) → FailsAt rule text place → IfOk result (λ rules. AreRecordedAt rule text place rules.items) → IfOk result (λ rules. AreExpected rule text rules.items)
-  expected_if_ok place (Ok rules) f h = expected_where_it_fails place rules.items f h
-  expected_if_ok place (Err e) f h = tt
+among_numbers : (names : List Text) (r : Rule) → is_among (map number_of names) (number_of (name_of r)) ≡ is_named names r
+among_numbers [] r = refl
+among_numbers (n ∷ names) r = rw (same_number n r, among_numbers names r) refl
+
+numbered_named : (numbers : List ℕ) (names : List Text) → numbers ≡ with_rows [] (map number_of names) → (r : Rule) → is_numbered numbers r ≡ is_named names r
+numbered_named numbers names e r =
+    ap (λ ns. is_among ns (number_of (name_of r))) e ∙ (among_rows [] (map number_of names) (number_of (name_of r)) ∙ among_numbers names r)
+
+-- the rules of the numbers of names are the rules that are named
+pub in_order_named : (numbers : List ℕ) (names : List Text) → numbers ≡ with_rows [] (map number_of names) → filter (is_numbered numbers) (is.EOI ∷ meta_rules) ≡ rules_named names
+in_order_named numbers names e = filter_agree (is_numbered numbers) (is_named names) (numbered_named numbers names e) (is.EOI ∷ meta_rules)

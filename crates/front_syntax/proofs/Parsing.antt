@@ -1,76 +1,72 @@
--- From what a call finds at the start of a text to what the text spells.
-use Rattle.std.proofs.Common.{◌≡◌, refl, sym, ◌∙◌, ap, subst, ℕ, ◌-◌, max, List, [], ◌++◌, Option, Some, None, length, chars, false, arith}
-use Rattle.std.specs.Borrow.{Bor}
+-- From a run of a rule to what the text spells.
+use Rattle.std.proofs.Common.{◌≡◌, refl, sym, ◌∙◌, ap, subst, ℕ, List, [], Option, Some, None, Result, Ok, Err, IfOk, Vec, Global, length, map, chars, false, arith}
 use Rattle.std.specs.Str.{IsCharBoundary, IsUtf8}
-use Rattle.base_language.specs.Language.State.{Classes, NonAtomicMode, State, Failure, Success}
-use Rattle.base_language.specs.Language.Expression.{Ident}
-use Rattle.base_language.specs.Language.Meaning.{Does, Task, Run}
+use Rattle.std.specs.declared.alloc.AllocError.{AllocError}
+use Rattle.base_language.specs.Language.Expected.{expected_at}
 use Rattle.base_language.specs.Language.FurthestFailure.{furthest}
-use Rattle.base_language.specs.Language.Ran.{Ran}
-use Rattle.base_language.specs.Pieces.MetaRules.{name_of}
-use Rattle.base_language.specs.declared.grammar.Rule.{Rule}
-use Rattle.front_syntax.specs.declared.entries.Entry.{Entry}
-use Rattle.front_syntax.specs.Entries.{IsWhole, entries_of, named_entries}
-use Rattle.front_grammar.specs.MetaGrammar.{meta_grammar}
-use Rattle.base_language.specs.Pieces.NamedTrees.{named}
 use Rattle.base_language.specs.Language.Places.{IsStateIn}
+use Rattle.base_language.specs.Language.State.{Classes, Trees, Failure, Success}
+use Rattle.base_language.specs.Language.Text.{Text}
+use Rattle.base_language.specs.Pieces.NamedTrees.{named}
 use Rattle.base_language.specs.Pieces.TokenTrees.{TokenTrees, AreNested}
+use Rattle.base_language.specs.declared.grammar.Rule.{Rule}
 use Rattle.base_language.specs.declared.runtime.faults.Fault.{Fault}
 use Rattle.base_language.specs.declared.runtime.faults.Fault.TheVariants as fault_is
+use Rattle.base_language.proofs.ExpectedOnce.{one_list}
+use Rattle.base_language.proofs.FailurePlaces.{one_place}
 use Rattle.base_language.proofs.FailuresStand.{stands_at}
 use Rattle.base_language.proofs.InBytes.{ends_within, nested_bytes, on_bytes}
+use Rattle.base_language.proofs.OneOutcome.{same}
 use Rattle.base_language.proofs.PairLemmas.{AreNested-wider}
 use Rattle.base_language.proofs.TreesAreNested.{fits}
-use Rattle.front_grammar.specs.Outcomes.{Spells, start_of}
-use Rattle.front_syntax.specs.Parses.{FailsAt, IsSyntaxErrorOrMemory, ParseRefuses, AreTokensOf}
-use Rattle.front_syntax.specs.Runs.{Fails, FailsOrFinds, Finds, at}
+use Rattle.front_grammar.specs.MetaGrammar.{meta_grammar}
+use Rattle.front_grammar.specs.Outcomes.{Recognizes, Spells, start_of}
+use Rattle.front_code.specs.Numbers.{number_of}
+use Rattle.front_code.specs.Runs.{HasEnded, IsMatch, IsParseOf, IsRunOf, Parses}
+use Rattle.front_code.specs.declared.runs.RuleRun.{RuleRun}
+use Rattle.front_code.proofs.TreeNames.{numbered}
+use Rattle.matcher_code.specs.Steps.{with_rows}
+use Rattle.front_syntax.specs.declared.entries.Entry.{Entry}
+use Rattle.front_syntax.specs.Entries.{IsWhole, named_entries}
+use Rattle.front_syntax.specs.ExpectedRules.{AreExpected, ExpectsNothing, rules_named}
+use Rattle.front_syntax.specs.Parses.{AreTokensOf, FailsAt, IsSyntaxErrorOrMemory, ParseRefuses}
+use Rattle.front_syntax.specs.Nodes.{AreNodesOf, AreSpelledNodes}
+use Rattle.front_syntax.proofs.Building.{all_built}
 use Rattle.front_syntax.proofs.EntryLists.{entries-whole}
 
-pub at_start : (text : List ℕ) → at text text ≡ start_of text
-at_start text =
-    let z : length text - length text ≡ 0 = omega arith in
-    let f : ℕ → State = λ p. record { position = p; rest = chars text; stack = [] } in
-    ap f z
-
-pub spelled : (rule : Rule) (text : List ℕ) (es fs : List Entry) (p q : ℕ) (after : List ℕ) → Finds (Run NonAtomicMode (Ident (name_of rule))) text text es fs p q after → named_entries es ≡ [] → AreTokensOf rule text fs
-spelled rule text es fs p q after x e =
-    let a = x.added in
-    let b = rw e at a in
-    let s : Spells rule text x.trees = λ classes.
-    (at text after, subst (λ s. Does meta_grammar classes (Run NonAtomicMode (Ident (name_of rule))) s (Success (at text after) x.trees)) (at_start text) (x.ran classes).found) in
-    (x.trees, s, b)
-
--- what one recognizer that has read nothing finds, any other such finds
-pub read_anew : (k : Task) (text rest : List ℕ) (es fs gs : List Entry) (p q z : ℕ) (o : Option (Bor (List ℕ))) → named_entries es ≡ [] → named_entries fs ≡ [] → p ≡ 0 → q ≡ 0 → FailsOrFinds k text rest es gs p z o → FailsOrFinds k text rest fs gs q z o
-read_anew k text rest es fs gs p q z None a b c d x = record {
-  kept = x.kept ∙ (a ∙ sym b);
-  ran = λ classes. subst (λ n. Ran meta_grammar classes k (at text rest) Failure n z) (c ∙ sym d) (x.ran classes);
-}
-read_anew k text rest es fs gs p q z (Some after) a b c d x = record {
-  trees = x.trees;
-  added = subst (λ v. named_entries gs ≡ v ++ entries_of (length v) x.trees) (a ∙ sym b) x.added;
-  ran = λ classes. subst (λ n. Ran meta_grammar classes k (at text rest) (Success (at text after.now) x.trees) n z) (c ∙ sym d) (x.ran classes);
-}
-
-placed : (classes : Classes) (k : Task) (s t : State) (q : ℕ) → s ≡ t → (d : Does meta_grammar classes k s Failure) → q ≡ furthest d → (f : Does meta_grammar classes k t Failure) × (q ≡ furthest f)
-placed classes k s t q e d h = subst (λ s. (f : Does meta_grammar classes k s Failure) × (q ≡ furthest f)) e (d, h)
-
-pub refused : (rule : Rule) (text : List ℕ) (es fs : List Entry) (p q : ℕ) → Fails (Run NonAtomicMode (Ident (name_of rule))) text text es fs p q → p ≡ 0 → FailsAt rule text q
-refused rule text es fs p q x z classes =
-    let r = x.ran classes in
-    let n : q ≡ max p (furthest r.found) = r.noted in
-    placed classes _ (at text text) (start_of text) q (at_start text) r.found (omega (arith, n, z))
-
-pub tokens_whole : (rule : Rule) (text : List ℕ) (es : List Entry) → AreTokensOf rule text es → IsWhole 0 (named_entries es)
-tokens_whole rule text es t = subst (λ l. IsWhole 0 l) (sym t.2) (entries-whole 0 t.0)
-
--- the places of what a text spells, and of a failure
 no_classes : Classes
 no_classes n c = false
 
 stands_first : (text : List ℕ) → IsStateIn (chars text) (start_of text)
 stands_first text = record { front = []; split = refl; size = refl }
 
+module _ (rule : Rule) (text : List ℕ) (run : RuleRun) where
+  match_nodes : (end : ℕ) (classes : Classes) (x : IsMatch rule text run end classes) → AreNodesOf run.trees.items x.trees
+  match_nodes end classes x = record { numbered = numbered classes x.found; same = x.nodes }
+
+  pub spelled_nodes : (end : ℕ) → run.end ≡ Some end → IsParseOf rule text run → AreSpelledNodes rule text run.trees.items
+  spelled_nodes end e h =
+      let x : (classes : Classes) → IsMatch rule text run end classes = subst (Parses rule text run) e h in
+      let us = (x no_classes).trees in
+      let here = match_nodes end no_classes (x no_classes) in
+      record {
+        trees = us;
+        spelled = λ classes.
+            (let y = x classes in
+            let one : y.trees ≡ us = sym (all_built run.trees.items y.trees (match_nodes end classes y)) ∙ all_built run.trees.items us here in
+            (y.state, subst (λ vs. Recognizes rule text classes (Success y.state vs)) one y.found));
+        are_nodes = here;
+      }
+
+  pub fails_at : run.end ≡ None → IsParseOf rule text run → FailsAt rule text run.furthest
+  fails_at e h classes =
+      let x = subst (Parses rule text run) e h in
+      ((x classes).found, (x classes).furthest)
+
+pub tokens_whole : (rule : Rule) (text : List ℕ) (es : List Entry) → AreTokensOf rule text es → IsWhole 0 (named_entries es)
+tokens_whole rule text es t = subst (λ l. IsWhole 0 l) (sym t.2) (entries-whole 0 t.0)
+
+-- the places of what a text spells, and of a failure
 pub nested_in_text : (rule : Rule) (text : List ℕ) (trees : TokenTrees Rule) → IsUtf8 text → Spells rule text (named trees) → AreNested text trees 0 (length text)
 nested_in_text rule text trees utf8 s =
     let x = s no_classes in
@@ -86,3 +82,29 @@ fails_on_character rule text place utf8 f =
 pub refuses : (rule : Rule) (text : List ℕ) (place : ℕ) (fault : Fault) → FailsAt rule text place → IsSyntaxErrorOrMemory text place fault → ParseRefuses rule text fault
 refuses rule text place (fault_is.Memory e) f h = tt
 refuses rule text place (fault_is.Grammar errors) f h = record { place = place; fails = f; says = h }
+
+-- what is expected
+module _ (rule : Rule) (text : List ℕ) where
+  pub nothing_where_it_fails : (place : ℕ) (rules : List Rule) → FailsAt rule text place → ExpectsNothing rule text rules
+  nothing_where_it_fails place rules f classes t us d = let e = same meta_grammar classes (f classes).0 d in cc
+
+  pub no_failure : (us : Trees) (rules : List Rule) → Spells rule text us → AreExpected rule text rules
+  no_failure us rules s classes d = let e = same meta_grammar classes (s classes).1 d in cc
+
+  -- the names of a run that fails
+  names_where_it_fails : (place : ℕ) (run : RuleRun) (end : Option ℕ) (classes : Classes) (d : Recognizes rule text classes Failure) → HasEnded rule text place run end
+      → run.names.items ≡ with_rows [] (map number_of (expected_at place d))
+  names_where_it_fails place run (Some end) classes d h = let e = same meta_grammar classes (h classes).found d in cc
+  names_where_it_fails place run None classes d h =
+      (h classes).names ∙ ap (λ names. with_rows [] (map number_of names)) (one_list meta_grammar classes place (h classes).found d)
+
+  pub nothing_if_ok : (place : ℕ) (result : Result (Vec Rule Global) AllocError) → FailsAt rule text place → IfOk result (λ rules. ExpectsNothing rule text rules.items)
+  nothing_if_ok place (Ok rules) f = nothing_where_it_fails place rules.items f
+  nothing_if_ok place (Err e) f = tt
+
+  pub expected_if_ok : (place : ℕ) (run : RuleRun) (result : Result (Vec Rule Global) AllocError) → FailsAt rule text place → IsRunOf rule text place run
+      → ((names : List Text) → run.names.items ≡ with_rows [] (map number_of names) → IfOk result (λ rules. rules.items ≡ rules_named names)) → IfOk result (λ rules. AreExpected rule text rules.items)
+  expected_if_ok place run (Ok rules) f h told = λ classes d.
+      (let e : place ≡ furthest d = (f classes).1 ∙ one_place meta_grammar classes (f classes).0 d in
+      told (expected_at place d) (names_where_it_fails place run run.end classes d h) ∙ ap (λ n. rules_named (expected_at n d)) e)
+  expected_if_ok place run (Err e) f h told = tt

@@ -1,5 +1,5 @@
 -- Trees as one flat list of entries: where each tree starts, and where it ends.
-use Rattle.std.specs.Prelude.{◌≡◌, ℕ, ◌+◌, List, [], ◌∷◌, ◌++◌, length, map, Bool, if◌then◌else◌}
+use Rattle.std.specs.Prelude.{ℕ, ◌+◌, List, [], ◌∷◌, ◌++◌, length, map}
 use Rattle.base_language.specs.Language.Text.{Text}
 use Rattle.base_language.specs.Language.State.{Trees, None', Tree}
 use Rattle.base_language.specs.Pieces.MetaRules.{name_of}
@@ -32,10 +32,6 @@ entries_of n (Tree r i j inner others) =
     Starts r i (n + 1 + entry_count inner) ∷ entries_of (n + 1) inner
     ++ Ends j n ∷ entries_of (n + 2 + entry_count inner) others
 
--- the list has grown by the entries of trees
-abbrev pub AddsEntries : List code.Entry → List code.Entry → Trees → Type 0
-AddsEntries old new us = named_entries new ≡ named_entries old ++ entries_of (length (named_entries old)) us
-
 -- whole pairs from the number n on: the partner of a start is a later end, its partner is that start, and
 -- the entries between them are whole again
 pub data IsWhole : ℕ → List Entry → Type 0 where
@@ -43,20 +39,3 @@ pub data IsWhole : ℕ → List Entry → Type 0 where
   pair : {n : ℕ} {r : Text} {i : ℕ} (j : ℕ) {inner others : List Entry}
       → IsWhole (n + 1) inner → IsWhole (n + 2 + length inner) others
       → IsWhole n (Starts r i (n + 1 + length inner) ∷ inner ++ Ends j n ∷ others)
-
--- a start whose partner isn't known yet, if there is to be one
-abbrev pub open_start : Bool → Text → ℕ → List Entry
-open_start gives r i = if gives then Starts r i 0 ∷ [] else []
-
--- the trees, or one tree around them
-abbrev pub token : Bool → Text → ℕ → ℕ → Trees → Trees
-token gives r i j us = if gives then Tree r i j us None' else us
-
--- the trees that were written after an open start of the number `first` are now in one tree, if there is to
--- be one
-abbrev pub Closes : Bool → Text → ℕ → ℕ → ℕ → List code.Entry → List code.Entry → Type 0
-Closes gives r i j first old new =
-    (before : List Entry) (us : Trees) → length before ≡ first
-    → named_entries old ≡ (before ++ open_start gives r i)
-    ++ entries_of (length (before ++ open_start gives r i)) us
-    → named_entries new ≡ before ++ entries_of first (token gives r i j us)

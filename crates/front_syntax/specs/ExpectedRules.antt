@@ -1,12 +1,14 @@
 -- The rules that are expected where a text does not match a rule.
 use Rattle.std.specs.Prelude.{◌≡◌, ℕ, List, [], ◌∷◌, Bool, false, ◌||◌, filter, bytes_eq}
-use Rattle.base_language.specs.Language.Expected.{expected, expected_at}
-use Rattle.base_language.specs.Language.State.{Trees, State, Outcome, Success, Failure, Classes}
+use Rattle.base_language.specs.Language.Expected.{expected}
+use Rattle.base_language.specs.Language.State.{Trees, State, Success, Failure, Classes}
 use Rattle.base_language.specs.Language.Text.{Text}
 use Rattle.base_language.specs.Pieces.MetaRules.{name_of, meta_rules}
 use Rattle.base_language.specs.declared.grammar.Rule.{Rule}
 use Rattle.base_language.specs.declared.grammar.Rule.TheVariants as is
+use Rattle.front_code.specs.Numbers.{number_of}
 use Rattle.front_grammar.specs.Outcomes.{Recognizes}
+use Rattle.matcher_code.specs.Steps.{is_among}
 
 -- whether the rule's name is among these
 abbrev pub is_named : List Text → Rule → Bool
@@ -27,7 +29,6 @@ abbrev pub AreExpected : Rule → List ℕ → List Rule → Type 0
 AreExpected rule text rules = (classes : Classes)
     → (d : Recognizes rule text classes Failure) → rules ≡ rules_named (expected d)
 
--- the rules are those that are expected at a position, where the rule fails or matches
-abbrev pub AreRecordedAt : Rule → List ℕ → ℕ → List Rule → Type 0
-AreRecordedAt rule text place rules = (classes : Classes) (o : Outcome)
-    → (d : Recognizes rule text classes o) → rules ≡ rules_named (expected_at place d)
+-- whether the number of the rule is among these
+abbrev pub is_numbered : List ℕ → Rule → Bool
+is_numbered numbers r = is_among numbers (number_of (name_of r))

@@ -1,14 +1,6 @@
 pub mod Building
-pub mod CommentEnds
 pub mod Entries
 pub mod ExpectedRules
-pub mod Expecting
-pub mod Firsts
-pub mod Forms
-pub mod Nesting
+pub mod Nodes
 pub mod Parses
-pub mod Remembering
-pub mod Rows
-pub mod Runs
-pub mod SecondReading
-pub mod Sets
+pub mod Writing

@@ -16,6 +16,7 @@ use Rattle.base_language.specs.declared.runtime.errors.InputLocation.TheVariants
 use Rattle.base_language.specs.declared.runtime.errors.LineColLocation.TheVariants as in_lines
 use Rattle.base_language.specs.declared.runtime.faults.Fault.{Fault}
 use Rattle.base_language.specs.declared.runtime.faults.Fault.TheVariants as fault_is
+use Rattle.front_grammar.specs.Outcomes.{Recognizes, Spells}
 use Rattle.front_syntax.specs.Entries.{entries_of, named_entries}
 
 -- these are the entries of trees that the text spells

@@ -1,10 +1,13 @@
 //! Trees as one flat list of entries.
-ghost use Rattle.std.specs.Prelude.{◌≡◌, ◌<◌, ◌++◌, OnOk, length, take, true};
-ghost use Rattle.base_language.specs.Language.State.{None'};
-ghost use Rattle.base_language.specs.Pieces.MetaRules.{name_of};
-ghost use Rattle.front_syntax.specs.Entries.{AddsEntries, Closes, open_start, named_entries, token};
+ghost use Rattle.std.specs.Prelude.{◌≡◌, ◌∷◌, ◌++◌, [], IfOk, MatchOption, OnOk, length, nat_le, reverse, true};
+ghost use Rattle.base_language.specs.Language.State.{Trees};
+ghost use Rattle.front_syntax.specs.Entries.{entries_of, named_entries};
+ghost use Rattle.front_syntax.specs.Nodes.{AreNodesOf};
+ghost use Rattle.front_syntax.specs.Writing.{GoesOn, closing, left_open, opened, start_entry};
 
 use base_language::grammar::Rule;
+use front_code::numbers::rule_at;
+use matcher_code::state::TreeNode;
 use std::alloc::{AllocError, Global};
 
 /// One end of a tree: where it starts, or where it ends, in bytes, and the number of its other
@@ -22,91 +25,87 @@ pub enum Entry {
     },
 }
 
-/// Counts the entries.
-pub(crate) fn count_of_entries(entries: &Vec<Entry>) -> usize
-    ensures { result ≡ length (named_entries entries.now.items) }
-{
-    entries.len()
-}
-
-/// Starts a tree, if there is to be one. Its partner is not known yet.
-#[inline(always)]
-pub(crate) fn open(
-    entries: &mut Vec<Entry>,
-    gives: bool,
-    rule: Rule,
-    from: usize,
-) -> Result<(), AllocError>
-    ensures { OnOk result
-        (named_entries entries.new.items
-        ≡ named_entries entries.old.items ++ open_start gives (name_of rule) from) }
-{
-    if gives {
-        entries.push(Entry::Start {
-            rule,
-            pos: from,
-            partner: 0,
-        })?;
-    }
-    Ok(())
-}
-
-/// Ends the tree, if there is one, that was started by the entry of a number.
-pub(crate) fn close(
-    entries: &mut Vec<Entry>,
-    gives: bool,
-    rule: Rule,
+/// A tree whose end is not written yet: the number of its first entry, where it ends, in bytes, and the number
+/// of nodes up to its last descendant.
+#[derive(Clone, Copy)]
+struct Open {
     first: usize,
-    from: usize,
-    to: usize,
-) -> Result<(), AllocError>
-    requires { gives ≡ true → first < length entries.old.items }
-    ensures { OnOk result (Closes gives (name_of rule) from to first entries.old.items entries.new.items) }
-{
-    if gives {
-        let last = entries.len();
-        entries.push(Entry::End {
-            pos: to,
-            partner: first,
-        })?;
-        entries[first] = Entry::Start {
-            rule,
-            pos: from,
-            partner: last,
-        };
-    }
-    Ok(())
+    end: usize,
+    after: usize,
 }
 
-/// Adds a tree with no trees inside it, if there is to be one.
-pub(crate) fn leaf(
+/// Takes off the last open tree, if it has no descendant from a number on.
+fn take_ended(pending: &mut Vec<Open>, number: usize) -> Option<Open>
+    ensures { MatchOption result
+        (GoesOn number (reverse pending.old.items) × (pending.new.items ≡ pending.old.items))
+        (λ t. (reverse pending.old.items ≡ t ∷ reverse pending.new.items) × (nat_le t.after number ≡ true)) }
+{
+    let last = *pending.last()?;
+    if last.after > number {
+        return None;
+    }
+    pending.pop();
+    Some(last)
+}
+
+/// Writes the ends of the open trees that have no descendant from a number on.
+fn end_trees(
     entries: &mut Vec<Entry>,
-    gives: bool,
-    rule: Rule,
-    from: usize,
-    to: usize,
+    pending: &mut Vec<Open>,
+    number: usize,
 ) -> Result<(), AllocError>
-    ensures { OnOk result
-        (AddsEntries entries.old.items entries.new.items (token gives (name_of rule) from to None')) }
+    ensures entries { OnOk result (named_entries entries.new.items
+        ≡ named_entries entries.old.items ++ closing number (reverse pending.old.items)) }
+    ensures pending { OnOk result (reverse pending.new.items ≡ left_open number (reverse pending.old.items)) }
 {
-    if gives {
-        let first = entries.len();
-        entries.push(Entry::Start {
-            rule,
-            pos: from,
-            partner: first + 1,
-        })?;
+    'trees: while let Some(tree) = take_ended(pending, number) {
         entries.push(Entry::End {
-            pos: to,
-            partner: first,
+            pos: tree.end,
+            partner: tree.first,
         })?;
     }
     Ok(())
 }
 
-/// Cuts the list back to a length that it had.
-pub(crate) fn cut(entries: &mut Vec<Entry>, length: usize)
-    ensures { named_entries entries.new.items ≡ take length (named_entries entries.old.items) }
+/// Writes the start of the node of a number, and opens its tree.
+fn start_tree(
+    entries: &mut Vec<Entry>,
+    pending: &mut Vec<Open>,
+    node: TreeNode,
+    number: usize,
+) -> Result<(), AllocError>
+    ensures entries { OnOk result (named_entries entries.new.items ≡ named_entries entries.old.items
+        ++ start_entry node number (length (named_entries entries.old.items)) ∷ []) }
+    ensures pending { OnOk result (reverse pending.new.items
+        ≡ opened node (length (named_entries entries.old.items)) ∷ reverse pending.old.items) }
 {
-    entries.truncate(length);
+    let first = entries.len();
+    let after = node.after as usize;
+    let descendants = after.saturating_sub(number).saturating_sub(1);
+    entries.push(Entry::Start {
+        rule: rule_at(node.row),
+        pos: node.start as usize,
+        partner: first + 1 + 2 * descendants,
+    })?;
+    pending.push(Open {
+        first,
+        end: node.end as usize,
+        after,
+    })?;
+    Ok(())
+}
+
+/// Writes the entries of trees that are given by their nodes in preorder.
+pub(crate) fn write_entries(alloc: Global, nodes: &[TreeNode]) -> Result<Vec<Entry>, AllocError>
+    ensures { (us : Trees) → AreNodesOf nodes.now us
+        → IfOk result (λ es. named_entries es.items ≡ entries_of 0 us) }
+{
+    let mut entries = Vec::with_capacity(alloc, 2 * nodes.len())?;
+    let mut pending = Vec::new(alloc);
+    for number in 0..nodes.len() {
+        end_trees(&mut entries, &mut pending, number)?;
+        start_tree(&mut entries, &mut pending, nodes[number], number)?;
+    }
+    end_trees(&mut entries, &mut pending, nodes.len())?;
+    Ok(entries)
 }

@@ -4,15 +4,17 @@ ghost use Rattle.std.specs.Str.{IsCharBoundary};
 ghost use Rattle.base_language.specs.Pieces.Pairs.{pairs_text};
 ghost use Rattle.front_syntax.specs.Entries.{IsWhole, named_entries};
 ghost use Rattle.front_syntax.specs.ExpectedRules.{AreExpected, ExpectsNothing};
+ghost use Rattle.front_syntax.specs.Nodes.{AreSpelledNodes};
 ghost use Rattle.front_syntax.specs.Parses.{AreSpelled, IsSyntaxError, IsSyntaxErrorOrMemory, ParseRefuses, AreTokensOf};
 
 pub use crate::entries::Entry;
-use crate::expecting::expected_rules;
-use crate::modes::Mode;
-use crate::recognize::Recognizer;
-use crate::trees::from_entries;
+use crate::entries::write_entries;
+use crate::expecting::rules_in_order;
+use crate::trees::build_trees;
 pub use base_language::grammar::Rule;
 use base_language::runtime::{Error, ErrorVariant, Fault, Pairs, Position};
+use front_code::runs::{RuleRun, parse_rule, run_rule};
+use matcher_code::state::TreeNode;
 use std::alloc::{AllocError, Global};
 
 /// The parser of the meta-grammar.
@@ -29,13 +31,13 @@ impl PestParser {
     ///
     /// The error is a `ParsingError` at the greatest position, in bytes, at which a rule that gives a
     /// token, or `EOI`, was called and failed, in a mode other than Atomic and in any branch; at 0 where
-    /// there is none. Any other fault is an allocation failure.
+    /// there is none. Any other fault is an allocation failure, as which a text of 2^32 bytes counts.
     pub fn parse(alloc: Global, rule: Rule, text: &str) -> Result<Pairs<'_, Rule>, Fault>
         ensures text { IfOk result (λ pairs. pairs_text pairs ≡ text.entry.now) }
         ensures spelled { MatchResult result (AreSpelled rule) (ParseRefuses rule text.entry.now) }
     {
-        let entries = PestParser::tokens(alloc, rule, text)?;
-        let trees = from_entries(alloc, &entries)?;
+        let nodes = match_nodes(alloc, rule, text)?;
+        let trees = build_trees(alloc, &nodes)?;
         Ok(Pairs::new(text, trees))
     }
 
@@ -47,11 +49,8 @@ impl PestParser {
             (λ v. AreTokensOf rule text.now v.items) (ParseRefuses rule text.now) }
         ensures whole { IfOk result (λ v. IsWhole 0 (named_entries v.items)) }
     {
-        let mut recognizer = Recognizer::new(alloc);
-        let Some(_) = recognizer.recognize(alloc, text, rule, Mode::NonAtomic)? else {
-            return Err(syntax_error(alloc, text, recognizer.furthest));
-        };
-        Ok(recognizer.into_entries())
+        let nodes = match_nodes(alloc, rule, text)?;
+        Ok(write_entries(alloc, &nodes)?)
     }
 
     /// Returns the expected set at the position of the error of `parse`, `EOI` included, in the order of the
@@ -62,16 +61,36 @@ impl PestParser {
     /// where `parse` gives pairs, and where all failures at that position were below a `!`.
     ///
     /// A text that fails is read twice, and another one once: call this where `parse` refused the text. The
-    /// only error is allocation failure.
+    /// only error is allocation failure, as which a text of 2^32 bytes counts.
     pub fn expected_set(alloc: Global, rule: Rule, text: &str) -> Result<Vec<Rule>, AllocError>
         ensures nothing { IfOk result (λ rules. ExpectsNothing rule text.now rules.items) }
         ensures expected { IfOk result (λ rules. AreExpected rule text.now rules.items) }
     {
-        let mut recognizer = Recognizer::new(alloc);
-        match recognizer.recognize(alloc, text, rule, Mode::NonAtomic)? {
+        let run = parse_rule(alloc, rule, text)?;
+        match run.end {
             Some(_) => Ok(Vec::new(alloc)),
-            None => expected_rules(alloc, rule, text, recognizer.furthest),
+            None => {
+                let failed = run_rule(alloc, rule, text, run.furthest)?;
+                rules_in_order(alloc, &failed.names)
+            }
         }
+    }
+}
+
+/// Returns the nodes of the trees that the text spells for a rule, or the errors of `parse`.
+fn match_nodes(alloc: Global, rule: Rule, text: &str) -> Result<Vec<TreeNode>, Fault>
+    ensures { MatchResult result
+        (λ nodes. AreSpelledNodes rule text.now nodes.items) (ParseRefuses rule text.now) }
+{
+    let RuleRun {
+        end,
+        trees,
+        furthest,
+        names: _,
+    } = parse_rule(alloc, rule, text)?;
+    match end {
+        Some(_) => Ok(trees),
+        None => Err(syntax_error(alloc, text, furthest)),
     }
 }
 

@@ -1,14 +1,15 @@
-//! Token trees from the list of their entries.
-ghost use Rattle.std.specs.Prelude.{◌≡◌, ◌≢◌, ◌≤◌, IfOk, MatchOption, length};
+//! Token trees from their nodes.
+ghost use Rattle.std.specs.Prelude.{◌≡◌, ◌≢◌, ◌≤◌, ◌-◌, ◌+◌, ◌∷◌, [], IfOk, IfSome, MatchOption, OnOk, length, reverse, suc};
 ghost use Rattle.base_language.specs.Language.State as spec;
 ghost use Rattle.base_language.specs.Pieces.MetaRules.{name_of};
 ghost use Rattle.base_language.specs.Pieces.NamedTrees.{named_trees_of};
-ghost use Rattle.front_syntax.specs.Building.{making_of, with_one_more};
-ghost use Rattle.front_syntax.specs.Entries.{entries_of, entry_of, named_entries};
+ghost use Rattle.front_syntax.specs.Building.{first_sizes, other_sizes, tree_around};
+ghost use Rattle.front_syntax.specs.Nodes.{AreNodesOf};
 
-use crate::entries::Entry;
 use base_language::grammar::Rule;
 use base_language::runtime::{FirstTree, TokenTree};
+use front_code::numbers::rule_at;
+use matcher_code::state::TreeNode;
 use std::alloc::{AllocError, Global};
 
 /// Returns the first of these trees, of which the last comes first, or `None` where there is no tree.
@@ -34,73 +35,81 @@ pub fn leading_tree(trees: &[TokenTree<Rule>]) -> FirstTree<'_, Rule>
     }
 }
 
-/// The end of a tree whose start is not read yet, and the trees after it, the last first.
-#[derive(Drop)]
-struct Pending {
-    end: usize,
-    others: Vec<TokenTree<Rule>>,
+/// Takes off the last size, unless no node is left to be covered.
+fn take_size(sizes: &mut Vec<usize>, nodes: usize) -> Option<usize>
+    ensures count { MatchOption result
+        ((first_sizes nodes (reverse sizes.old.items) ≡ []) × (sizes.new.items ≡ sizes.old.items))
+        (λ size. first_sizes nodes (reverse sizes.old.items)
+        ≡ size ∷ first_sizes (nodes - size) (reverse sizes.new.items)) }
+    ensures others { MatchOption result
+        (other_sizes nodes (reverse sizes.old.items) ≡ reverse sizes.old.items)
+        (λ size. other_sizes nodes (reverse sizes.old.items)
+        ≡ other_sizes (nodes - size) (reverse sizes.new.items)) }
+    ensures fewer { IfSome result (λ size. length sizes.new.items + 1 ≡ length sizes.old.items) }
+{
+    if nodes == 0 {
+        return None;
+    }
+    sizes.pop()
 }
 
-/// Returns the number of whole pairs that follow one another at the end of a list.
-fn siblings(entries: &[Entry]) -> usize
-    ensures { result ≤ length entries.now }
+/// Takes off the last sizes of trees, until they cover so many nodes, and counts them.
+fn take_sizes(sizes: &mut Vec<usize>, nodes: usize) -> usize
+    ensures count { result ≡ length (first_sizes nodes (reverse sizes.old.items)) }
+    ensures others { reverse sizes.new.items ≡ other_sizes nodes (reverse sizes.old.items) }
+    ensures fewer { length sizes.new.items + result ≡ length sizes.old.items }
 {
     let mut count = 0;
-    let mut left = entries.len();
-    while left > 0 {
-        let last = entries[left - 1];
-        match last {
-            Entry::End { partner, .. } if partner < left => {
-                count += 1;
-                left = partner;
-            }
-            _ => break,
-        }
+    let mut left = nodes;
+    'sizes: while let Some(size) = take_size(sizes, left) {
+        count += 1;
+        left = left.saturating_sub(size);
     }
     count
 }
 
-/// Adds one more entry before those that were read, where `before` are those still to be read. A tree that
-/// the entry ends has capacity for the trees inside it, and for no more.
-fn with_entry(
-    alloc: Global,
-    before: &[Entry],
-    entry: Entry,
-    trees: Vec<TokenTree<Rule>>,
-    waiting: &mut Vec<Pending>,
-) -> Result<Vec<TokenTree<Rule>>, AllocError>
-    ensures { IfOk result (λ us. making_of us.items waiting.new.items
-        ≡ with_one_more (entry_of entry) (making_of trees.items waiting.old.items)) }
+/// Adds the tree of the node of a number before the trees of the nodes after it, and takes its descendants from
+/// these. `sizes` has the number of nodes of each tree.
+fn add_tree(
+    node: TreeNode,
+    number: usize,
+    trees: &mut Vec<TokenTree<Rule>>,
+    sizes: &mut Vec<usize>,
+) -> Result<(), AllocError>
+    requires { length trees.old.items ≡ length sizes.old.items }
+    ensures same { OnOk result (length trees.new.items ≡ length sizes.new.items) }
+    ensures sizes { OnOk result (reverse sizes.new.items
+        ≡ (node.after - number) ∷ other_sizes (node.after - suc number) (reverse sizes.old.items)) }
+    ensures trees { OnOk result (named_trees_of trees.new.items ≡ tree_around node
+        (length (first_sizes (node.after - suc number) (reverse sizes.old.items)))
+        (named_trees_of trees.old.items)) }
 {
-    match entry {
-        Entry::End { pos, .. } => {
-            waiting.push(Pending {
-                end: pos,
-                others: trees,
-            })?;
-            Vec::with_capacity(alloc, siblings(before))
-        }
-        Entry::Start { rule, pos, .. } => match waiting.pop() {
-            Some(Pending { end, mut others }) => {
-                others.push(TokenTree::new(rule, pos, end, trees))?;
-                Ok(others)
-            }
-            None => Ok(trees),
-        },
-    }
+    let size = (node.after as usize).saturating_sub(number);
+    let count = take_sizes(sizes, size.saturating_sub(1));
+    let inner = trees.split_off(trees.len() - count)?;
+    trees.push(TokenTree::new(
+        rule_at(node.row),
+        node.start as usize,
+        node.end as usize,
+        inner,
+    ))?;
+    sizes.push(size)?;
+    Ok(())
 }
 
-/// Builds the trees of these entries. The last tree comes first.
-pub fn from_entries(alloc: Global, entries: &[Entry]) -> Result<Vec<TokenTree<Rule>>, AllocError>
-    ensures { (us : spec.Trees) → named_entries entries.now ≡ entries_of 0 us
-        → IfOk result (λ t. named_trees_of t.items ≡ us) }
+/// Builds the trees of these nodes. The last tree comes first.
+pub(crate) fn build_trees(
+    alloc: Global,
+    nodes: &[TreeNode],
+) -> Result<Vec<TokenTree<Rule>>, AllocError>
+    ensures { (us : spec.Trees) → AreNodesOf nodes.now us → IfOk result (λ t. named_trees_of t.items ≡ us) }
 {
     let mut trees = Vec::new(alloc);
-    let mut waiting = Vec::new(alloc);
-    let mut left = entries.len();
+    let mut sizes = Vec::new(alloc);
+    let mut left = nodes.len();
     while left > 0 {
         left -= 1;
-        trees = with_entry(alloc, &entries[..left], entries[left], trees, &mut waiting)?;
+        add_tree(nodes[left], left, &mut trees, &mut sizes)?;
     }
     Ok(trees)
 }
