@@ -1,11 +1,12 @@
 -- The entries that are written from the nodes of trees are those of the trees.
-use Rattle.std.proofs.Common.{◌≡◌, refl, sym, ◌∙◌, ap, ap₂, ℕ, suc, ◌+◌, ◌-◌, ◌*◌, ◌<◌, ◌≤◌, List, [], ◌∷◌, ◌++◌, true, false, drop, length, nat_le, arith, if◌then◌else◌, append_assoc, append-nil}
+use Rattle.std.proofs.Common.{◌≡◌, refl, sym, ◌∙◌, ap, ap₂, ℕ, suc, ◌+◌, ◌-◌, ◌*◌, ◌<◌, ◌≤◌, List, [], ◌∷◌, ◌++◌, true, false, drop, get_or, length, nat_le, arith, if◌then◌else◌, append_assoc, append-nil}
 use Rattle.std.specs.Prelude.{⊤}
-use Rattle.std.proofs.lemmas.List.{drop_all, length-append}
+use Rattle.std.proofs.lemmas.List.{drop_all, get_or_default, length-append}
 use Rattle.base_language.specs.Language.State.{Trees, None', Tree}
 use Rattle.matcher_code.specs.declared.state.TreeNode.{TreeNode}
 use Rattle.matcher_code.specs.Reached.{count_of, nodes_of}
 use Rattle.front_code.specs.Numbers.{AreNumbered, number_of}
+use Rattle.front_syntax.proofs.Building.{one_back}
 use Rattle.front_syntax.specs.declared.entries.Open.{Open}
 use Rattle.front_syntax.specs.Entries.{Entry, Starts, Ends, entries_of, entry_count}
 use Rattle.front_syntax.specs.Nodes.{AreNodesOf}
@@ -134,3 +135,42 @@ none_closing k (t ∷ ts) h = (ap (λ b. if b then Ends t.end t.first ∷ closin
 pub all_ended : (nodes : List TreeNode) (k n : ℕ) (es now : List Entry) (os : List Open) → length nodes ≤ n → k ≡ n → now ≡ es ++ closing k os → now ≡ es ++ left_entries (drop n nodes) n (length es) os
 all_ended nodes k n es now os l e c =
     c ∙ ap₂ (λ m ts. es ++ left_entries ts m (length es) os) e (sym (drop_all n nodes l))
+
+-- all entries, from those before a node on
+abbrev all_left : TreeNode → List TreeNode → ℕ → List Entry → List Open → List Entry
+all_left t ts k es left = es ++ start_entry t k (length es) ∷ left_entries ts (suc k) (suc (length es)) (opened t (length es) ∷ left)
+
+parted : (t : TreeNode) (ts : List TreeNode) (k : ℕ) (es : List Entry) (os : List Open) → es ++ left_entries (t ∷ ts) k (length es) os ≡ all_left t ts k (es ++ closing k os) (left_open k os)
+parted t ts k es os =
+    let c = closing k os in
+    let n = length (es ++ c) in
+    ap (λ m. es ++ (c ++ start_entry t k m ∷ left_entries ts (suc k) (suc m) (opened t m ∷ left_open k os))) (sym (length-append es c))
+    ∙ sym (append_assoc es c (start_entry t k n ∷ left_entries ts (suc k) (suc n) (opened t n ∷ left_open k os)))
+
+-- what is left depends on the open trees that end first through their entries alone
+same_left : (ts : List TreeNode) (k : ℕ) (es fs : List Entry) (os ps : List Open) → es ++ closing k os ≡ fs ++ closing k ps → left_open k os ≡ left_open k ps
+    → es ++ left_entries ts k (length es) os ≡ fs ++ left_entries ts k (length fs) ps
+same_left [] k es fs os ps e l = e
+same_left (t ∷ ts) k es fs os ps e l = parted t ts k es os ∙ (ap₂ (λ all left. all_left t ts k all left) e l ∙ sym (parted t ts k fs ps))
+
+-- one more node is written, and its end, if it has no descendants
+pub written_on : (t : TreeNode) (ts : List TreeNode) (k : ℕ) (es ended now : List Entry) (os left later : List Open) → ended ≡ es ++ closing k os → left ≡ left_open k os
+    → now ++ closing (suc k) later ≡ (ended ++ start_entry t k (length ended) ∷ []) ++ closing (suc k) (opened t (length ended) ∷ left)
+    → left_open (suc k) later ≡ left_open (suc k) (opened t (length ended) ∷ left)
+    → now ++ left_entries ts (suc k) (length now) later ≡ es ++ left_entries (t ∷ ts) k (length es) os
+written_on t ts k es ended now os left later a b c d =
+    let n = length ended in
+    same_left ts (suc k) now (ended ++ start_entry t k n ∷ []) later (opened t n ∷ left) c d
+    ∙ written_one t ts k es ended (ended ++ start_entry t k n ∷ []) os left (opened t n ∷ left) a b refl refl
+
+-- the same in a list of nodes
+pub written_at : (nodes : List TreeNode) (k n : ℕ) (d : TreeNode) (es ended now : List Entry) (os left later : List Open) → k < length nodes → n ≡ suc k
+    → ended ≡ es ++ closing k os → left ≡ left_open k os
+    → now ++ closing (suc k) later ≡ (ended ++ start_entry (get_or nodes k d) k (length ended) ∷ []) ++ closing (suc k) (opened (get_or nodes k d) (length ended) ∷ left)
+    → left_open (suc k) later ≡ left_open (suc k) (opened (get_or nodes k d) (length ended) ∷ left)
+    → now ++ left_entries (drop n nodes) n (length now) later ≡ es ++ left_entries (drop k nodes) k (length es) os
+written_at nodes k n d es ended now os left later l e a b f g =
+    let t = get_or nodes k d in
+    ap (λ m. now ++ left_entries (drop m nodes) m (length now) later) e
+    ∙ (written_on t (drop (suc k) nodes) k es ended now os left later a b f g
+    ∙ ap (λ ts. es ++ left_entries ts k (length es) os) (sym (one_back nodes k (suc k) t l (get_or_default nodes k d t l) refl)))

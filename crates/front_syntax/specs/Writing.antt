@@ -29,7 +29,8 @@ opened t n = record { first = n; end = t.end; after = t.after }
 abbrev pub start_entry : TreeNode → ℕ → ℕ → Entry
 start_entry t k n = Starts (name_of (rule_numbered t.row)) t.start (n + 1 + 2 * (t.after - suc k))
 
--- the entries that are left of nodes, the first of which has the number k, behind n entries and within open trees
+-- the entries that are left of nodes, the first of which has the number k, behind n entries and within the
+-- open trees
 abbrev pub left_entries : List TreeNode → ℕ → ℕ → List Open → List Entry
 left_entries [] k n os = closing k os
 left_entries (t ∷ ts) k n os =

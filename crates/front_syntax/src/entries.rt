@@ -1,5 +1,5 @@
 //! Trees as one flat list of entries.
-ghost use Rattle.std.specs.Prelude.{◌≡◌, ◌∷◌, ◌++◌, [], IfOk, MatchOption, OnOk, length, nat_le, reverse, true};
+ghost use Rattle.std.specs.Prelude.{◌≡◌, ◌∷◌, ◌++◌, [], IfOk, MatchOption, OnOk, length, nat_le, reverse, suc, true};
 ghost use Rattle.base_language.specs.Language.State.{Trees};
 ghost use Rattle.front_syntax.specs.Entries.{entries_of, named_entries};
 ghost use Rattle.front_syntax.specs.Nodes.{AreNodesOf};
@@ -25,8 +25,8 @@ pub enum Entry {
     },
 }
 
-/// A tree whose end is not written yet: the number of its first entry, where it ends, in bytes, and the number
-/// of nodes up to its last descendant.
+/// A tree whose end is not written yet: the number of its first entry, where it ends, in bytes, and the
+/// number of nodes up to its last descendant.
 #[derive(Clone, Copy)]
 struct Open {
     first: usize,
@@ -67,17 +67,20 @@ fn end_trees(
     Ok(())
 }
 
-/// Writes the start of the node of a number, and opens its tree.
+/// Writes the start of the node of a number, and its end, if it has no descendants; else its tree is open.
 fn start_tree(
     entries: &mut Vec<Entry>,
     pending: &mut Vec<Open>,
     node: TreeNode,
     number: usize,
 ) -> Result<(), AllocError>
-    ensures entries { OnOk result (named_entries entries.new.items ≡ named_entries entries.old.items
-        ++ start_entry node number (length (named_entries entries.old.items)) ∷ []) }
-    ensures pending { OnOk result (reverse pending.new.items
-        ≡ opened node (length (named_entries entries.old.items)) ∷ reverse pending.old.items) }
+    ensures entries { let first = length (named_entries entries.old.items) in OnOk result
+        (named_entries entries.new.items ++ closing (suc number) (reverse pending.new.items)
+        ≡ (named_entries entries.old.items ++ start_entry node number first ∷ [])
+        ++ closing (suc number) (opened node first ∷ reverse pending.old.items)) }
+    ensures pending { let first = length (named_entries entries.old.items) in OnOk result
+        (left_open (suc number) (reverse pending.new.items)
+        ≡ left_open (suc number) (opened node first ∷ reverse pending.old.items)) }
 {
     let first = entries.len();
     let after = node.after as usize;
@@ -87,11 +90,15 @@ fn start_tree(
         pos: node.start as usize,
         partner: first + 1 + 2 * descendants,
     })?;
-    pending.push(Open {
-        first,
-        end: node.end as usize,
-        after,
-    })?;
+    let end = node.end as usize;
+    if descendants == 0 {
+        entries.push(Entry::End {
+            pos: end,
+            partner: first,
+        })?;
+        return Ok(());
+    }
+    pending.push(Open { first, end, after })?;
     Ok(())
 }
 

@@ -68,8 +68,8 @@ fn take_sizes(sizes: &mut Vec<usize>, nodes: usize) -> usize
     count
 }
 
-/// Adds the tree of the node of a number before the trees of the nodes after it, and takes its descendants from
-/// these. `sizes` has the number of nodes of each tree.
+/// Adds the tree of the node of a number before the trees of the nodes after it, and takes its descendants
+/// from these. `sizes` has the number of nodes of each tree.
 fn add_tree(
     node: TreeNode,
     number: usize,

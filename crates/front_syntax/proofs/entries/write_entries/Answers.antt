@@ -1,7 +1,17 @@
-use Rattle.std.proofs.Common.{◌∙◌, reverse, arith}
+use Rattle.std.proofs.Common.{◌+◌, ◌∙◌, reverse, arith}
 use Rattle.front_syntax.specs.Entries.{named_entries}
-use Rattle.front_syntax.proofs.Writing.{all_ended, all_written}
+use Rattle.front_syntax.proofs.Writing.{all_ended, all_written, written_at}
 use Rattle.front_syntax.proofs.entries.write_entries.Goals as goal
+
+pub loop-number-preserved : goal.loop-number-preserved
+loop-number-preserved c =
+    let l = c.loop-number in
+    written_at c.args.nodes.now l.number (l.number + 1) _
+    (named_entries l.entries.items) (named_entries c.end_trees.new.entries.items) (named_entries c.start_tree.new.entries.items)
+    (reverse l.pending.items) (reverse c.end_trees.new.pending.items) (reverse c.start_tree.new.pending.items)
+    (omega arith) (omega arith)
+    c.in_ok-end_trees.ensures.entries c.in_ok-end_trees.ensures.pending c.in_ok-start_tree.ensures.entries c.in_ok-start_tree.ensures.pending
+    ∙ l.invariant
 
 pub returns : goal.returns
 returns c = λ us x.
