@@ -5,17 +5,17 @@ use Rattle.base_language.specs.Pieces.MetaRules.{name_of}
 use Rattle.front_code.specs.Numbers.{rule_numbered}
 use Rattle.matcher_code.specs.declared.state.TreeNode.{TreeNode}
 
--- the first numbers of a list, until they come to a number in sum
+-- the first numbers of a list, until their sum comes to a number
 abbrev pub first_sizes : ℕ → List ℕ → List ℕ
 first_sizes n [] = []
 first_sizes n (s ∷ ss) = if nat_eq n 0 then [] else s ∷ first_sizes (n - s) ss
 
--- the numbers behind those
+-- the numbers after those
 abbrev pub other_sizes : ℕ → List ℕ → List ℕ
 other_sizes n [] = []
 other_sizes n (s ∷ ss) = if nat_eq n 0 then s ∷ ss else other_sizes (n - s) ss
 
--- so many of the first trees, and the trees behind those
+-- so many of the first trees, and the trees after those
 abbrev pub first_trees : ℕ → Trees → Trees
 first_trees zero us = None'
 first_trees (suc n) None' = None'
@@ -26,7 +26,7 @@ other_trees zero us = us
 other_trees (suc n) None' = None'
 other_trees (suc n) (Tree r i j inner others) = other_trees n others
 
--- the tree of a node, with as many of the trees behind it inside it, and the others after it
+-- the tree of a node, with so many of the trees after it inside it, and the others after it
 abbrev pub tree_around : TreeNode → ℕ → Trees → Trees
 tree_around t n us =
     Tree (name_of (rule_numbered t.row)) t.start t.end (first_trees n us) (other_trees n us)

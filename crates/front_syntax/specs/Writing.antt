@@ -25,11 +25,11 @@ GoesOn k (t ∷ ts) = nat_le t.after k ≡ false
 abbrev pub opened : TreeNode → ℕ → Open
 opened t n = record { first = n; end = t.end; after = t.after }
 
--- the first entry of the node of a number, behind so many entries
+-- the first entry of the node of a number, after so many entries
 abbrev pub start_entry : TreeNode → ℕ → ℕ → Entry
 start_entry t k n = Starts (name_of (rule_numbered t.row)) t.start (n + 1 + 2 * (t.after - suc k))
 
--- the entries that are left of nodes, the first of which has the number k, behind n entries and within the
+-- the entries that are left of nodes, the first of which has the number k, after n entries and within the
 -- open trees
 abbrev pub left_entries : List TreeNode → ℕ → ℕ → List Open → List Entry
 left_entries [] k n os = closing k os
