@@ -17,4 +17,5 @@ pub mod Sums
 pub mod Traced
 pub mod TreeNames
 pub mod Totals
+pub mod Unanswered
 pub mod Walking

@@ -6,13 +6,15 @@ ghost use Rattle.std.specs.Prelude.{◌≡◌, ◌+◌, ℕ, Bool, IfErr, IfOk, 
 ghost use Rattle.base_language.specs.Language.Expression.{last_place};
 ghost use Rattle.base_language.specs.Language.State.{Classes};
 ghost use Rattle.base_language.specs.Language.Text.{Text};
+ghost use Rattle.base_language.specs.Pieces.Span.{position_offset, position_text};
+ghost use Rattle.format_code.specs.Codes.{lists_at};
 ghost use Rattle.matcher_code.specs.Bytecodes.{lists_in};
 ghost use Rattle.matcher_compiler.specs.Compiled.{IsCodeOf};
 ghost use Rattle.matcher_program.specs.Answers.{IsRefusedFrom, state_at};
 ghost use Rattle.matcher_program.specs.Programs.{Fits};
 ghost use Rattle.matcher_program.specs.declared.form.Program.{Program};
 ghost use Rattle.matcher_sets.specs.Forms as forms;
-ghost use Rattle.matcher_engine.specs.Guided.{IsGuided, IsGuidedFrom};
+ghost use Rattle.matcher_engine.specs.Guided.{IsGuided, IsGuidedFrom, IsPinnedRefusal, IsPinnedRun};
 ghost use Rattle.matcher_engine.specs.Matchers.{grammar_in, properties_in};
 ghost use Rattle.matcher_engine.specs.Preorders.{IsPreorderFrom};
 ghost use Rattle.matcher_engine.specs.Reasons.{HasReason, StopsFor};
@@ -38,8 +40,8 @@ pub(crate) enum Guided {
 }
 
 impl Matcher {
-    /// Matches as `parse_preorder`, and where that is out of steps, by a guided run: a run without trees looks
-    /// in at most `turns` turns whether the rule matches, as `recognize`, and one of at most as many
+    /// Matches as `parse_preorder`, and where that is out of steps, by a guided run: a run without trees
+    /// looks in at most `turns` turns whether the rule matches, as `recognize`, and one of at most as many
     /// operations makes the trees, which runs nothing that the first has found to fail. Errors are those of
     /// `parse_preorder`; `OutOfSteps` comes where `recognize` has no answer.
     pub fn parse_guided<'a>(
@@ -56,6 +58,10 @@ impl Matcher {
             (properties_in self.entry.now) (chars rule.entry.now) (state_at start.entry) steps) }
         ensures reason { IfErr result (StopsFor (HasReason (grammar_in self.entry.now)
             (properties_in self.entry.now) (chars rule.entry.now) (state_at start.entry) steps)) }
+        ensures pinned { IfErr result (λ why. (number : ℕ)
+            → last_place (grammar_in self.entry.now) (chars rule.entry.now) ≡ Some number
+            → IsPinnedRefusal (lists_at self.entry.now.code.items) (position_text start.entry) (number + 3)
+            (position_offset start.entry) turns why) }
     {
         match self.parse_preorder(alloc, rule, start, steps) {
             Ok(found) => Ok(found),
@@ -80,8 +86,12 @@ impl Matcher {
         start: Position<'_>,
         turns: u64,
     ) -> Result<Guided, AllocError>
-        ensures { IfOk result (IsGuidedFrom (grammar_in self.now) (properties_in self.now)
+        ensures guided { IfOk result (IsGuidedFrom (grammar_in self.now) (properties_in self.now)
             (chars rule.now) (state_at start.entry)) }
+        ensures pinned { IfOk result (λ it. (number : ℕ)
+            → last_place (grammar_in self.now) (chars rule.now) ≡ Some number
+            → IsPinnedRun (lists_at self.now.code.items) (position_text start.entry) (number + 3)
+            (position_offset start.entry) turns it) }
     {
         let Some(number) = last_index(self.program.rows.as_slice(), rule) else {
             return Ok(Guided::Unanswered);
@@ -91,8 +101,8 @@ impl Matcher {
     }
 }
 
-/// Returns the answer of a guided run of code for the rule of a number from a position of a text on, in at most
-/// so many turns, and as many operations. The only error is an allocation failure.
+/// Returns the answer of a guided run of code for the rule of a number from a position of a text on, in at
+/// most so many turns, and as many operations. The only error is an allocation failure.
 pub(crate) fn guide_rule(
     alloc: Global,
     code: &Bytecode<'_>,
@@ -100,10 +110,12 @@ pub(crate) fn guide_rule(
     start: Position<'_>,
     turns: u64,
 ) -> Result<Guided, AllocError>
-    ensures { IfOk result (λ it. (p : Program) (exact : Bool) → IsCodeOf exact p (lists_in code.now)
+    ensures guided { IfOk result (λ it. (p : Program) (exact : Bool) → IsCodeOf exact p (lists_in code.now)
         → (n : Text) → last_place (forms.grammar_in p) n ≡ Some number
         → (classes : Classes) → Fits p.properties.items classes
         → IsGuided (forms.grammar_in p) n (state_at start.entry) classes it) }
+    ensures pinned { IfOk result (IsPinnedRun (lists_in code.now) (position_text start.entry) (number + 3)
+        (position_offset start.entry) turns) }
 {
     let Some(entry) = entry_of(number) else {
         return Err(AllocError);

@@ -10,12 +10,12 @@ use Rattle.matcher_engine.proofs.OneRecognition.{one_guided}
 use Rattle.matcher_engine.proofs.Sound.{ready_in}
 use Rattle.matcher_engine.proofs.matcher.Matcher.guide.Goals as goal
 
-pub returns : goal.returns
-returns c =
+pub returns-clause-guided : goal.returns-clause-guided
+returns-clause-guided c =
     let m = c.args.self.now in
     let n = chars c.args.rule.now in
     let meant : last_place (grammar_in m) n ≡ Some c.in-Some.number = ap (λ rs. last_place (grammar_of rs) n) (sym c.as_slice.ensures.value) ∙ (sym c.last_index.ensures ∙ c.in-Some.is) in
     IfOk-weaker c.guide_rule.result _ _
     (λ it told. one_guided (grammar_in m) (properties_in m) n (state_at c.args.start) it
     (∥∥₁_map (ready_in m) (λ is. told m.program false (subst (IsCodeOf false m.program) (sym c.code-code.ensures) is.0) n meant)))
-    c.guide_rule.ensures
+    c.guide_rule.ensures.guided
