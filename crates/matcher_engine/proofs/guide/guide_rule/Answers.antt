@@ -1,4 +1,4 @@
-use Rattle.std.proofs.Common.{refl, ap, length, inl, inr}
+use Rattle.std.proofs.Common.{refl, inl, inr}
 use Rattle.base_language.specs.Pieces.Span.{position_offset, position_text}
 use Rattle.matcher_code.specs.Bytecodes.{lists_in}
 use Rattle.matcher_engine.specs.Runs.{IsFresh}
