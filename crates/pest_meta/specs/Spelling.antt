@@ -19,7 +19,7 @@ use Rattle.front_optimizer.specs.Passes.{IsOptimized}
 use Rattle.front_reader.specs.Flaws.{Flaw, first_flaw}
 use Rattle.front_reader.specs.Reading.{ReadsRules}
 use Rattle.front_reader.specs.Refusals.{ReportsFlaw}
-use Rattle.front_syntax.specs.Parses as parsed
+use Rattle.front_grammar.specs.Outcomes as parsed
 use Rattle.front_syntax.specs.Parses.{IsRefused}
 use Rattle.front_stack_loops.specs.Certain.{AreReports}
 use Rattle.front_validator.specs.Reported.{AreReported}
