@@ -28,14 +28,14 @@ pub struct GrammarRules {
     rules: Deep<Vec<Rule>>,
 }
 
-/// What was read of a grammar's text.
+/// The result of reading a grammar's text.
 #[derive(Drop)]
 pub enum Reading<'g> {
     /// Nothing: it was not read, or an allocation failed.
     Nothing,
     /// Its rules, which are accepted.
     Accepted(GrammarRules),
-    /// It is refused; the first property of pest that it calls undefined, if there is one.
+    /// A refusal, with the first property of pest that the grammar calls undefined, if there is one.
     Refused(Option<&'g str>),
 }
 
