@@ -15,7 +15,8 @@ pub(crate) struct Made {
 #[derive(Drop)]
 struct Draft<'a> {
     ops: Vec<Op>,
-    /// For each label the one of an operation that records a failure and goes on there, or 0 if none is known.
+    /// For each label the one of an operation that records a failure and goes on there, or 0 if none is
+    /// known.
     notes: Vec<u32>,
     rows: &'a [u8],
     texts: &'a [Vec<u8>],
@@ -170,7 +171,8 @@ impl<'a> Draft<'a> {
         Ok(*known)
     }
 
-    /// Writes into a table where the second alternative of a choice leads, for all first bytes and for the end.
+    /// Writes into a table where the second alternative of a choice leads, for all first bytes and for the
+    /// end.
     fn write_second(&self, tables: &mut Vec<u32>, branch: Branch) {
         let table = branch.table;
         match self.operation(branch.second) {
@@ -219,8 +221,8 @@ impl<'a> Draft<'a> {
         }
     }
 
-    /// Writes in place of the labels of the second alternative of a choice those before which a failure of the
-    /// first one is recorded, where the flag is 0, and for the end.
+    /// Writes in place of the labels of the second alternative of a choice those before which a failure of
+    /// the first one is recorded, where the flag is 0, and for the end.
     fn write_notes(
         &mut self,
         labels: &mut [u32],

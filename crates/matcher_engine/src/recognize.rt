@@ -33,9 +33,9 @@ pub enum Recognition {
     Endless,
     /// As many turns as were allowed do not end the run.
     OutOfTurns,
-    /// None, since the run comes to an operation on the stack, as `PUSH`, `PEEK` and `POP` are, or pops a slot
-    /// that is not its own, or passes the end of the text. No code of rules is known that does one of the
-    /// last two.
+    /// None, since the run comes to an operation on the stack, as `PUSH`, `PEEK` and `POP` are, or pops a
+    /// slot that is not its own, or passes the end of the text. No code of rules is known that does one of
+    /// the last two.
     Unknown,
 }
 
