@@ -12,8 +12,8 @@ use std::alloc::AllocError;
 pub fn print_usage(rt: &HostRuntime, error: &clap::Error) -> Result<Status, AllocError>
     ensures wrong { IfOk result (λ status. kind_of error.now ≢ DisplayHelp
         → kind_of error.now ≢ DisplayVersion → status ≡ Status.Unreadable) }
-    ensures asked { IfOk result (λ status. status ≡ Status.Done
-        → (kind_of error.now ≡ DisplayHelp) ⊎ (kind_of error.now ≡ DisplayVersion)) }
+    ensures asked { IfOk result (λ status.
+        (kind_of error.now ≡ DisplayHelp) ⊎ (kind_of error.now ≡ DisplayVersion) → status ≡ Status.Done) }
 {
     let alloc = rt.alloc();
     let usage = format!(in alloc; "{error}")?;
