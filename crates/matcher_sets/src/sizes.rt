@@ -1,6 +1,6 @@
 //! Sizes of bodies, with those that are laid in the place of calls in them. Only the size and the speed of
 //! programs depend on them.
-use crate::modes::{Atomicity, body_mode, gives_token, has_body_in};
+use crate::modes::{Atomicity, body_mode, gives_token};
 use matcher_program::form::{Form, Program, Row};
 use std::alloc::{AllocError, Global};
 
@@ -13,11 +13,23 @@ pub const MOST_INSIDE: u32 = 4;
 /// How deep the parts of a form are looked into.
 const DEPTH: u32 = 64;
 
-/// How many forms without parts the bodies of rules have in each mode in which they are run, with those of
-/// bodies in place. What has too many has more than `MOST_FORMS`.
+/// How many forms without parts the bodies of rules have in each mode, with those of bodies in place. What
+/// has too many, or is never laid in place, has more than `MOST_FORMS`.
 #[derive(Drop)]
 pub struct Sizes {
     list: Vec<u32>,
+}
+
+/// All modes.
+const MODES: [Atomicity; 3] = [
+    Atomicity::NonAtomic,
+    Atomicity::Atomic,
+    Atomicity::CompoundAtomic,
+];
+
+/// Returns whether two modes are the same.
+fn is_same_mode(one: Atomicity, other: Atomicity) -> bool {
+    index_in(one) == index_in(other)
 }
 
 /// A rule whose body is counted, and the mode of the body.
@@ -27,14 +39,20 @@ struct Body {
     mode: Atomicity,
 }
 
-/// Returns the index of a body in the list of sizes.
-fn index_of(body: Body) -> usize {
-    let in_mode: usize = match body.mode {
+/// Returns the index of a mode.
+fn index_in(mode: Atomicity) -> usize {
+    match mode {
         Atomicity::NonAtomic => 0,
         Atomicity::Atomic => 1,
         Atomicity::CompoundAtomic => 2,
-    };
-    body.rule.saturating_mul(3).saturating_add(in_mode)
+    }
+}
+
+/// Returns the index of a body in the list of sizes.
+fn index_of(body: Body) -> usize {
+    body.rule
+        .saturating_mul(3)
+        .saturating_add(index_in(body.mode))
 }
 
 impl Sizes {
@@ -114,16 +132,11 @@ impl Sizes {
         size != before
     }
 
-    /// Counts the body of a rule in each mode in which it is run again. Returns whether one has another size
-    /// than before.
-    fn count_rule(&mut self, program: &Program, rule: usize, row: &Row) -> bool {
+    /// Counts the body of a rule in each mode again. Returns whether one has another size than before.
+    fn count_rule(&mut self, program: &Program, rule: usize) -> bool {
         let mut changed = false;
-        for mode in [
-            Atomicity::NonAtomic,
-            Atomicity::Atomic,
-            Atomicity::CompoundAtomic,
-        ] {
-            if has_body_in(row, mode) && self.count(program, Body { rule, mode }) {
+        for mode in MODES {
+            if self.count(program, Body { rule, mode }) {
                 changed = true;
             }
         }
@@ -133,8 +146,8 @@ impl Sizes {
     /// Counts all bodies again. Returns whether one has another size than before.
     fn count_all(&mut self, program: &Program) -> bool {
         let mut changed = false;
-        for (rule, row) in program.rows.iter().enumerate() {
-            if self.count_rule(program, rule, row) {
+        for rule in 0..program.rows.len() {
+            if self.count_rule(program, rule) {
                 changed = true;
             }
         }
@@ -142,11 +155,34 @@ impl Sizes {
     }
 }
 
+/// Returns whether a call of a rule that gives no token runs its body in a mode.
+fn is_called_without_token(row: &Row, mode: Atomicity) -> bool {
+    for caller in MODES {
+        if !gives_token(row.kind, caller)
+            && is_same_mode(body_mode(row.kind, row.blank, caller), mode)
+        {
+            return true;
+        }
+    }
+    false
+}
+
+/// Returns the size of a body before it is counted: too large if it is never laid in place.
+fn first_size(row: &Row, mode: Atomicity) -> u32 {
+    if is_called_without_token(row, mode) {
+        1
+    } else {
+        MOST_FORMS + 1
+    }
+}
+
 /// Returns the sizes of all bodies. The only error is an allocation failure.
 pub fn body_sizes(alloc: Global, program: &Program) -> Result<Sizes, AllocError> {
-    let mut list = Vec::new(alloc);
-    'bodies: for _ in 0..program.rows.len().saturating_mul(3) {
-        list.push(1)?;
+    let mut list = Vec::with_capacity(alloc, program.rows.len().saturating_mul(3))?;
+    'bodies: for row in &program.rows {
+        list.push(first_size(row, Atomicity::NonAtomic))?;
+        list.push(first_size(row, Atomicity::Atomic))?;
+        list.push(first_size(row, Atomicity::CompoundAtomic))?;
     }
     let mut sizes = Sizes { list };
     'rounds: for _ in 0..MOST_INSIDE {
