@@ -12,6 +12,7 @@ pub mod Recognized
 pub mod Results
 pub mod Rows
 pub mod RuleSets
+pub mod Saturated
 pub mod Sound
 pub mod Sums
 pub mod Traced

@@ -1,5 +1,5 @@
 //! Runs without trees: their turns are linear in the text.
-ghost use Rattle.std.specs.Prelude.{◌≡◌, ◌+◌, ℕ, Bool, IfErr, IfOk, Some, chars};
+ghost use Rattle.std.specs.Prelude.{◌≡◌, ◌+◌, ℕ, Bool, IfErr, IfOk, Some, chars, length};
 ghost use Rattle.base_language.specs.Language.Expression.{last_place};
 ghost use Rattle.base_language.specs.Language.State.{Classes};
 ghost use Rattle.base_language.specs.Language.Text.{Text};
@@ -12,7 +12,7 @@ ghost use Rattle.matcher_program.specs.Programs.{Fits};
 ghost use Rattle.matcher_program.specs.declared.form.Program.{Program};
 ghost use Rattle.matcher_sets.specs.Forms as forms;
 ghost use Rattle.matcher_engine.specs.Matchers.{grammar_in, properties_in};
-ghost use Rattle.matcher_engine.specs.Recognitions.{IsPinned, IsRecognition, IsRecognitionFrom, IsUnrun};
+ghost use Rattle.matcher_engine.specs.Recognitions.{IsPinned, IsRecognition, IsRecognitionFrom, IsUnrun, enough_turns};
 
 use crate::matcher::{Matcher, entry_of, has_long_text};
 use base_language::runtime::Position;
@@ -75,6 +75,25 @@ impl Matcher {
             Err(_) => Err(Refusal::Stopped(Stop::Memory)),
         }
     }
+
+    /// Returns how many turns suffice on each text of so many bytes: with as many, `recognize` is never out
+    /// of turns, nor `parse_guided` while it looks whether the rule matches. It is one more than a run takes
+    /// at most, or `u64::MAX` where no `u64` holds that.
+    pub fn bound(&self, bytes: usize) -> u64
+        ensures { result ≡ enough_turns (length (lists_at self.now.code.items).ops) bytes }
+    {
+        enough_turns(&self.code(), bytes)
+    }
+}
+
+/// Returns how many turns suffice for runs of code without trees on a text of so many bytes.
+pub(crate) fn enough_turns(code: &Bytecode<'_>, bytes: usize) -> u64
+    ensures { result ≡ enough_turns (length (lists_in code.now).ops) bytes }
+{
+    let operations = code.ops.len() as u64;
+    let labels = operations.saturating_mul((bytes as u64).saturating_add(1));
+    let turns = operations.saturating_mul(labels.saturating_add(1));
+    turns.saturating_mul(3).saturating_add(1)
 }
 
 /// Runs code without trees for the rule of a number from a position of a text on, in at most so many turns.
