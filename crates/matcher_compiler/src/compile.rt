@@ -15,6 +15,7 @@ use crate::check::{has_ends, is_exact, meets_all};
 use crate::names::last_rows;
 use crate::plan::{Plan, Skips};
 use crate::points::{Demand, NO_CALL, NotCompiled, Part, Place, Point, TOP_RANK};
+use crate::sets::KEYS;
 use crate::table_writer::{Made, write_tables};
 use crate::tables::TABLE_SIZE;
 use base_ast::ast::RuleType;
@@ -64,12 +65,15 @@ fn fresh_plan<'p>(
     let sizes = body_sizes(alloc, program)?;
     let mut bodies = Vec::new(alloc);
     bodies.resize(program.rows.len().saturating_mul(6), None)?;
+    let mut places = Vec::with_capacity(alloc, KEYS)?;
+    places.resize(KEYS, u32::MAX)?;
     let expected = program.rows.len().saturating_mul(EXPECTED_POINTS);
     Ok(Plan {
         points: Vec::with_capacity(alloc, expected)?,
         demands: Vec::with_capacity(alloc, expected)?,
         sets,
         known: Vec::new(alloc),
+        places,
         texts: Vec::new(alloc),
         lists: Vec::new(alloc),
         skips,
@@ -306,6 +310,7 @@ fn finish(alloc: Global, plan: Plan<'_>) -> Result<Code, NotCompiled>
         demands,
         sets,
         known: _,
+        places: _,
         texts,
         lists,
         skips: _,

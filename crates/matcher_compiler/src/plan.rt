@@ -1,19 +1,16 @@
 //! Plans of programs.
 ghost use Rattle.matcher_code.specs.Lists.{CodeLists};
 ghost use Rattle.matcher_code.specs.Sets.{IsAligned};
-ghost use Rattle.matcher_compiler.specs.Sets.{AreKnownIn};
+ghost use Rattle.matcher_compiler.specs.Sets.{AreKnownIn, IsKnownIn};
 
 use crate::points::{Demand, NotCompiled, Part, Place, Point};
-use crate::sets::{KnownSet, key_of, known_set};
+use crate::sets::{KnownSet, key_of, known_set, set_place};
 use matcher_code::code::{Code, Op};
 use matcher_code::ranges::Ranges;
 use matcher_code::sets::add_set;
 use matcher_sets::modes::Atomicity;
 use matcher_sets::sizes::Sizes;
 use std::alloc::Global;
-
-/// How many sets are compared with a new one, so that many sets take linear time.
-const MOST_KNOWN: usize = 256;
 
 /// The parts of the implicit skipping.
 #[derive(Clone, Copy)]
@@ -34,8 +31,9 @@ pub struct Plan<'p> {
     pub(crate) demands: Vec<Demand>,
     /// A program that has the sets alone.
     pub(crate) sets: Code,
-    /// The first sets of this program that differ, to be found again.
+    /// The sets of this program, to be found again by `places`: for each key the index of the last one.
     pub(crate) known: Vec<KnownSet>,
+    pub(crate) places: Vec<u32>,
     pub(crate) texts: Vec<Vec<u8>>,
     /// Lists of numbers of texts.
     pub(crate) lists: Vec<Vec<u32>>,
@@ -50,7 +48,7 @@ pub struct Plan<'p> {
 }
 
 impl<'p> Plan<'p> {
-    ghost use Rattle.std.specs.Prelude.{◌≡◌, IfOk, List, OnOk, false, map, true};
+    ghost use Rattle.std.specs.Prelude.{◌≡◌, IfOk, IfSome, List, OnOk, false, map, true};
     ghost use Rattle.base_ast.specs.Ast.{text_of as characters_of};
     ghost use Rattle.base_language.specs.Language.State.{NonAtomicMode};
     ghost use Rattle.matcher_code.specs.Reading.{list_of, text_of};
@@ -138,12 +136,10 @@ impl<'p> Plan<'p> {
             self.known.clear();
             return Err(NotCompiled::Unsupported);
         }
-        if self.known.len() >= MOST_KNOWN {
-            return Ok(number);
-        }
+        let index = self.known.len();
+        set_place(&mut self.places, key, index);
         let known = KnownSet {
             ranges: copy,
-            key,
             number,
         };
         if self.known.push(known).is_err() {
@@ -152,13 +148,23 @@ impl<'p> Plan<'p> {
         Ok(number)
     }
 
+    /// Returns the number of the set of the characters in some ranges, if it is known.
+    fn find_set(&self, ranges: &Ranges) -> Option<u32>
+        ensures { IfSome result (λ number. IsKnownIn self.now.sets number ranges.now.items) }
+    {
+        match known_set(self.known.as_slice(), self.places.as_slice(), ranges) {
+            Some(number) => Some(number),
+            None => None,
+        }
+    }
+
     /// Returns the number of a set of the characters in some ranges, which is added if there is none.
     pub(crate) fn set(&mut self, ranges: Ranges) -> Result<u32, NotCompiled>
         ensures later { OnOk result ((p : Program) → IsLater p self.old self.new) }
         ensures means { IfOk result (λ set. (p : Program) (code : CodeLists) (laid : List lay.Point)
             → Meets p self.new code laid → IsSetOf code set ranges.items) }
     {
-        match known_set(self.known.as_slice(), &ranges) {
+        match self.find_set(&ranges) {
             Some(number) => Ok(number),
             None => self.new_set(ranges),
         }

@@ -14,26 +14,10 @@ invariant_of-self-2-clause-are_known c =
     let l : length old.sets.ranges.items ≤ length c.add_set.new.code.ranges.items = grind (arith, common_steps) in
     let n : c.in_ok-number.number < length c.add_set.new.code.ranges.items = grind (arith, common_steps) in
     let s : c.in_ok-copy.copy.items ≡ c.args.ranges.items = grind (arith, common_steps) in
-    let x : KnownSet = record { ranges = c.in_ok-copy.copy; key = c.key_of-key.result; number = c.in_ok-number.number } in
+    let x : KnownSet = record { ranges = c.in_ok-copy.copy; number = c.in_ok-number.number } in
     known_pushed c.add_set.new.code old.known.items c.push.new.self.items x (is_ok c.push.result) c.push.ensures.items
     (record { within = n; is = subst (IsSetOf (lists_of c.add_set.new.code) c.in_ok-number.number) (sym s) c.in_ok-number.ensures.means })
     (known_kept old.sets c.add_set.new.code old.known.items l c.in_ok-number.ensures.keeps old.are_known)
-
-pub invariant_of-self-then-len-ge-MOST_KNOWN-clause-are_known : goal.invariant_of-self-then-len-ge-MOST_KNOWN-clause-are_known
-invariant_of-self-then-len-ge-MOST_KNOWN-clause-are_known c =
-    let old = c.args.self.now in
-    let l : length old.sets.ranges.items ≤ length c.add_set.new.code.ranges.items = grind (arith, common_steps) in
-    known_kept old.sets c.add_set.new.code old.known.items l c.in_ok-number.ensures.keeps old.are_known
-
-pub returns-then-len-ge-MOST_KNOWN-clause-later : goal.returns-then-len-ge-MOST_KNOWN-clause-later
-returns-then-len-ge-MOST_KNOWN-clause-later c = λ p.
-    let l : length c.args.self.now.sets.ranges.items ≤ length c.add_set.new.code.ranges.items = grind (arith, common_steps) in
-    grown p c.args.self.now _ [] [] (no_more c.args.self.now.points.items _ refl) (no_more c.args.self.now.demands.items _ refl) l c.in_ok-number.ensures.keeps (λ i h. (h, refl)) (λ i h. (h, refl)) refl (none p)
-
-pub returns-then-len-ge-MOST_KNOWN-clause-means : goal.returns-then-len-ge-MOST_KNOWN-clause-means
-returns-then-len-ge-MOST_KNOWN-clause-means c = λ p code laid m b bs h u.
-    let l : c.in_ok-number.number < length c.add_set.new.code.ranges.items = grind (arith, common_steps) in
-    m.sets c.in_ok-number.number b bs l h ∙ c.in_ok-number.ensures.means b bs h u
 
 pub returns-clause-later : goal.returns-clause-later
 returns-clause-later c = λ p.
