@@ -1,13 +1,12 @@
 -- Tables by their columns.
-use Rattle.std.proofs.Common.{rules, ◌≡◌, ◌⊎◌, refl, true, false, ap, subst, sym, ◌∙◌, ℕ, ◌+◌, ◌<◌, ◌≤◌, List, [], ◌∷◌, None, Some, Option, arith, drop, get_or, inl, inr}
+use Rattle.std.proofs.Common.{rules, ◌≡◌, refl, true, false, ap, subst, sym, ◌∙◌, ℕ, ◌+◌, ◌<◌, ◌≤◌, List, [], ◌∷◌, None, Some, Option, arith, drop, get_or, inl, inr}
 use Rattle.std.proofs.lemmas.Bool.{cases_lt}
-use Rattle.std.specs.Option.{IfSome}
 use Rattle.matcher_code.specs.Lists.{CodeLists}
 use Rattle.matcher_code.specs.declared.code.Op.TheVariants as op
-use Rattle.matcher_code.specs.Laid.{Excludes, Leads, Moves, at_label, head_of, label_for}
+use Rattle.matcher_code.specs.Laid.{Excludes, Leads, Moves, Notes, Skips, at_label, head_of, label_for}
 use Rattle.matcher_code.specs.Reading.{flag, target}
 use Rattle.matcher_code.specs.Steps.{Config, apply_op, jump}
-use Rattle.matcher_compiler.specs.Plans.{ContinuesAs, IsNoted}
+use Rattle.matcher_compiler.specs.Plans.{ContinuesAs}
 use Rattle.matcher_compiler.specs.declared.points.Branch.{Branch}
 
 -- a table has the labels for one byte more
@@ -31,10 +30,6 @@ pub leads_by_table : (code : CodeLists) (table l b : ℕ) → at_label code l �
 leads_by_table code table l b e text c h =
     ap (λ o. apply_op code text o (jump l c)) e ∙ ap (λ t. jump t c) (led code table b (drop c.at text) h)
 
-pub leads_as_listed : (code : CodeLists) (table l b t : ℕ) → t ≡ label_for code table (Some b) → at_label code l ≡ op.Switch table
-    → IfSome (Some t) (Moves code (Some b) l)
-leads_as_listed code table l b t same e = subst (λ n. Moves code (Some b) l n) (sym same) (leads_by_table code table l b e)
-
 abbrev some_flag : (code : CodeLists) (set : ℕ) → Option ℕ → ℕ
 some_flag code set None = 0
 some_flag code set (Some b) = flag code set b
@@ -47,18 +42,13 @@ excluded code set b e (a ∷ bs) h =
     rw z refl
 
 -- a label to which the second alternative leads, where no failure is recorded
-pub plain_label : (code : CodeLists) (x : Branch) (table b t : ℕ) → x.noted ≡ false → flag code x.set b ≡ 0
-    → at_label code x.second ≡ op.Switch table → (t ≡ label_for code table (Some b)) ⊎ (t ≡ x.second) → ContinuesAs code x (Some b) t
-plain_label code x table b t plain none e same =
-    let leads : Leads code (Some b) false x.second x.next x.way t = elim same [
-      | inl l ↦ inr (subst (λ n. Moves code (Some b) x.second n) (sym l) (leads_by_table code table x.second b e))
-      | inr m ↦ inl m
-    ] in
+pub plain_label : (code : CodeLists) (x : Branch) (b t : ℕ) → x.noted ≡ false → flag code x.set b ≡ 0
+    → Skips code (Some b) x.second t → ContinuesAs code x (Some b) t
+plain_label code x b t plain none leads =
     inr (excluded code x.set b none, subst (λ n. Leads code (Some b) n x.second x.next x.way t) (sym plain) leads)
 
--- a label that records a failure, and to which the second alternative leads
-pub noted_label : (code : CodeLists) (x : Branch) (table b n t : ℕ) → x.noted ≡ true → flag code x.set b ≡ 0
-    → at_label code x.second ≡ op.Switch table → n ≡ label_for code table (Some b) → IsNoted code x (Some n) t → ContinuesAs code x (Some b) t
-noted_label code x table b n t noted none e same is =
-    let leads : Leads code (Some b) true x.second x.next x.way t = is (Some b) (leads_as_listed code table x.second b n same e) in
-    inr (excluded code x.set b none, subst (λ m. Leads code (Some b) m x.second x.next x.way t) (sym noted) leads)
+-- a label where a failure is recorded, and to which the second alternative leads
+pub noted_label : (code : CodeLists) (x : Branch) (b t : ℕ) → x.noted ≡ true → flag code x.set b ≡ 0
+    → Notes code (Some b) x.second x.next x.way t → ContinuesAs code x (Some b) t
+noted_label code x b t noted none leads =
+    inr (excluded code x.set b none, subst (λ n. Leads code (Some b) n x.second x.next x.way t) (sym noted) leads)

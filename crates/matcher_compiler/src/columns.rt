@@ -1,8 +1,7 @@
 //! The comparison of a table with the alternatives of its choice.
-ghost use Rattle.std.specs.Prelude.{◌≡◌, ◌<◌, ◌≤◌, IfSome, Some, false, get_or, length, true, ℕ};
+ghost use Rattle.std.specs.Prelude.{◌≡◌, ◌<◌, ◌≤◌, IfSome, Option, Some, false, get_or, length, true, ℕ};
 ghost use Rattle.matcher_code.specs.Lists.{lists_of};
-ghost use Rattle.matcher_code.specs.declared.code.Op.TheVariants as op;
-ghost use Rattle.matcher_code.specs.Laid.{at_label, label_for};
+ghost use Rattle.matcher_code.specs.Laid.{Notes, Skips, at_label, label_for};
 ghost use Rattle.matcher_compiler.specs.Columns.{AreColumns};
 ghost use Rattle.matcher_compiler.specs.Plans.{ContinuesAs, HasBranch};
 
@@ -34,10 +33,7 @@ fn has_label(code: &Code, branch: Branch, first: Op, second: Op, head: Option<u8
     let flag = flag_at(code, branch.set, head);
     let to = label_for(code, branch.table, head);
     let next = next_label(code, branch.second, second, head);
-    match check_label(code, branch, first, head, flag, to, next, None) {
-        Some(_) => true,
-        None => false,
-    }
+    check_label(code, branch, first, head, flag, to, next)
 }
 
 /// Returns whether a table has one label for all first bytes above ASCII.
@@ -64,43 +60,52 @@ struct Columns<'a> {
     labels: &'a [u32],
 }
 
-/// Returns whether the table of a choice has the labels for some first bytes, from one to before another.
-/// The operations are those at which the alternatives begin.
-#[inline(always)]
-fn has_each_label(
-    code: &Code,
-    branch: Branch,
-    first: Op,
-    second: Op,
-    columns: Columns<'_>,
-    from: u32,
-    to: u32,
-) -> bool
-    requires to { to ≤ 256 }
-    requires columns { AreColumns (lists_of code.now) branch columns }
-    ensures { at_label (lists_of code.now) branch.first ≡ first
-        → at_label (lists_of code.now) branch.second ≡ second
-        → result ≡ true → (b : ℕ) → from ≤ b → b < to
-        → ContinuesAs (lists_of code.now) branch (Some b) (label_for (lists_of code.now) branch.table
-        (Some b)) }
+/// Returns whether a failure of the first alternative of a choice is recorded at a label, where the second
+/// one leads on to another, or begins there.
+fn is_noted_from(code: &Code, branch: Branch, next: u32, to: u32) -> bool
+    ensures { result ≡ true → (head : Option ℕ) → Skips (lists_of code.now) head branch.second next
+        → Notes (lists_of code.now) head branch.second branch.next branch.way to }
 {
-    let mut seen = None;
-    for byte in from..to {
-        let head = Some(byte as u8);
-        let next = next_label(code, branch.second, second, head);
-        let flag = columns.flags[byte as usize];
-        let to = columns.labels[byte as usize];
-        match check_label(code, branch, first, head, flag, to, next, seen) {
-            Some(found) => seen = found,
-            None => return false,
-        }
+    if next == branch.second {
+        is_noted(code, branch, Lead { next: None, to })
+    } else {
+        let lead = Lead {
+            next: Some(next),
+            to,
+        };
+        is_noted(code, branch, lead)
     }
-    true
 }
 
-/// Returns whether the table of a choice has the labels for some first bytes, as `has_each_label`, where the
-/// second alternative begins with a table, too, whose labels are `others`, and a failure of the first one is
-/// not recorded.
+/// Returns the label at which the operation of a label goes on for a first byte, or the label itself where
+/// that does more.
+fn lead_of(code: &Code, label: u32, here: Op, byte: u8) -> u32
+    ensures { at_label (lists_of code.now) label ≡ here
+        → Skips (lists_of code.now) (Some byte) label result }
+{
+    match next_label(code, label, here, Some(byte)) {
+        Some(next) => next,
+        None => label,
+    }
+}
+
+/// Returns for each first byte, from one to before another, the label at which the operation of a label goes
+/// on, or the label itself where that does more.
+fn leads_of(code: &Code, label: u32, here: Op, from: u32, to: u32) -> [u32; 256]
+    requires to { to ≤ 256 }
+    ensures { at_label (lists_of code.now) label ≡ here → (b : ℕ) → from ≤ b → b < to
+        → Skips (lists_of code.now) (Some b) label (get_or result b 0) }
+{
+    let mut leads = [label; 256];
+    for byte in from..to {
+        leads[byte as usize] = lead_of(code, label, here, byte as u8);
+    }
+    leads
+}
+
+/// Returns whether the table of a choice has the labels for some first bytes, from one to before another,
+/// where a failure of the first alternative is not recorded. `others`: the labels to which the second one
+/// leads.
 fn has_plain_labels(
     code: &Code,
     branch: Branch,
@@ -114,13 +119,11 @@ fn has_plain_labels(
     requires columns { AreColumns (lists_of code.now) branch columns }
     requires others { length others.now ≡ 256 }
     requires plain { branch.noted ≡ false }
-    ensures { (table : ℕ) → ((b : ℕ) → b < 256
-        → get_or others.now b 0 ≡ label_for (lists_of code.now) table (Some b))
-        → at_label (lists_of code.now) branch.first ≡ first
-        → at_label (lists_of code.now) branch.second ≡ op.Switch table
-        → result ≡ true → (b : ℕ) → from ≤ b → b < to
-        → ContinuesAs (lists_of code.now) branch (Some b) (label_for (lists_of code.now) branch.table
-        (Some b)) }
+    ensures { ((b : ℕ) → from ≤ b → b < to
+        → Skips (lists_of code.now) (Some b) branch.second (get_or others.now b 0))
+        → at_label (lists_of code.now) branch.first ≡ first → result ≡ true → (b : ℕ) → from ≤ b → b < to
+        → ContinuesAs (lists_of code.now) branch (Some b)
+        (label_for (lists_of code.now) branch.table (Some b)) }
 {
     for byte in from..to {
         let label = columns.labels[byte as usize];
@@ -150,13 +153,11 @@ fn has_noted_labels(
     requires columns { AreColumns (lists_of code.now) branch columns }
     requires others { length others.now ≡ 256 }
     requires noted { branch.noted ≡ true }
-    ensures { (table : ℕ) → ((b : ℕ) → b < 256
-        → get_or others.now b 0 ≡ label_for (lists_of code.now) table (Some b))
-        → at_label (lists_of code.now) branch.first ≡ first
-        → at_label (lists_of code.now) branch.second ≡ op.Switch table
-        → result ≡ true → (b : ℕ) → from ≤ b → b < to
-        → ContinuesAs (lists_of code.now) branch (Some b) (label_for (lists_of code.now) branch.table
-        (Some b)) }
+    ensures { ((b : ℕ) → from ≤ b → b < to
+        → Skips (lists_of code.now) (Some b) branch.second (get_or others.now b 0))
+        → at_label (lists_of code.now) branch.first ≡ first → result ≡ true → (b : ℕ) → from ≤ b → b < to
+        → ContinuesAs (lists_of code.now) branch (Some b)
+        (label_for (lists_of code.now) branch.table (Some b)) }
 {
     let mut seen_to = 0;
     let mut seen_next = 0;
@@ -166,11 +167,7 @@ fn has_noted_labels(
         let next = others[byte as usize];
         if columns.flags[byte as usize] == 0 {
             if !is_seen || label != seen_to || next != seen_next {
-                let lead = Lead {
-                    next: Some(next),
-                    to: label,
-                };
-                if !is_noted(code, branch, lead) {
+                if !is_noted_from(code, branch, next, label) {
                     return false;
                 }
                 seen_to = label;
@@ -184,8 +181,8 @@ fn has_noted_labels(
     true
 }
 
-/// Returns whether the table of a choice has the labels for some first bytes, as `has_each_label`, where the
-/// second alternative begins with a table, too, whose labels are `others`.
+/// Returns whether the table of a choice has the labels for some first bytes, as `has_plain_labels`, whether
+/// a failure of the first alternative is recorded or not.
 fn has_labels_over(
     code: &Code,
     branch: Branch,
@@ -198,13 +195,11 @@ fn has_labels_over(
     requires to { to ≤ 256 }
     requires columns { AreColumns (lists_of code.now) branch columns }
     requires others { length others.now ≡ 256 }
-    ensures { (table : ℕ) → ((b : ℕ) → b < 256
-        → get_or others.now b 0 ≡ label_for (lists_of code.now) table (Some b))
-        → at_label (lists_of code.now) branch.first ≡ first
-        → at_label (lists_of code.now) branch.second ≡ op.Switch table
-        → result ≡ true → (b : ℕ) → from ≤ b → b < to
-        → ContinuesAs (lists_of code.now) branch (Some b) (label_for (lists_of code.now) branch.table
-        (Some b)) }
+    ensures { ((b : ℕ) → from ≤ b → b < to
+        → Skips (lists_of code.now) (Some b) branch.second (get_or others.now b 0))
+        → at_label (lists_of code.now) branch.first ≡ first → result ≡ true → (b : ℕ) → from ≤ b → b < to
+        → ContinuesAs (lists_of code.now) branch (Some b)
+        (label_for (lists_of code.now) branch.table (Some b)) }
 {
     if branch.noted {
         has_noted_labels(code, branch, first, others, columns, from, to)
@@ -213,7 +208,8 @@ fn has_labels_over(
     }
 }
 
-/// Returns whether the table of a choice has the labels for some first bytes, as `has_each_label`.
+/// Returns whether the table of a choice has the labels for some first bytes, from one to before another.
+/// The operations are those at which the alternatives begin.
 fn has_labels(code: &Code, branch: Branch, first: Op, second: Op, from: u32, to: u32) -> bool
     requires { to ≤ 256 }
     ensures { at_label (lists_of code.now) branch.first ≡ first
@@ -236,7 +232,10 @@ fn has_labels(code: &Code, branch: Branch, first: Op, second: Op, from: u32, to:
             Some(others) => has_labels_over(code, branch, first, others, columns, from, to),
             None => false,
         },
-        _ => has_each_label(code, branch, first, second, columns, from, to),
+        _ => {
+            let leads = leads_of(code, branch.second, second, from, to);
+            has_labels_over(code, branch, first, &leads, columns, from, to)
+        }
     }
 }
 

@@ -213,49 +213,9 @@ pub(crate) fn is_noted(code: &Code, branch: Branch, lead: Lead) -> bool
     }
 }
 
-/// Returns whether two leads are the same.
-#[inline(always)]
-fn is_same_lead(one: Lead, other: Lead) -> bool
-    ensures next { result ≡ true → one.next ≡ other.next }
-    ensures to { result ≡ true → one.to ≡ other.to }
-{
-    if one.to != other.to {
-        return false;
-    }
-    match one.next {
-        Some(next) => match other.next {
-            Some(next2) => next == next2,
-            None => false,
-        },
-        None => match other.next {
-            Some(_) => false,
-            None => true,
-        },
-    }
-}
-
-/// Returns whether a failure of the first alternative is recorded before the second one, as `is_noted`.
-/// `seen`: a lead of which it is known.
-#[inline(always)]
-fn is_noted_as(code: &Code, branch: Branch, seen: Option<Lead>, lead: Lead) -> bool
-    requires { IfSome seen (λ lead. IsNoted (lists_of code.now) branch lead.next lead.to) }
-    ensures { result ≡ true → IsNoted (lists_of code.now) branch lead.next lead.to }
-{
-    match seen {
-        Some(known) => {
-            if is_same_lead(known, lead) {
-                return true;
-            }
-            is_noted(code, branch, lead)
-        }
-        None => is_noted(code, branch, lead),
-    }
-}
-
-/// Returns a noted lead, `seen` or a new one, if there is one yet, or `None` if the table of a choice may not
-/// have the label `to` for a first byte. `flag`: that of the byte in the set of the first alternative, whose
-/// operation is given. `next`: where the second alternative leads, if to a label.
-#[inline(always)]
+/// Returns whether the table of a choice may have the label `to` for a first byte, or for the end. `flag`:
+/// that of the byte in the set of the first alternative, whose operation is given. `next`: where the second
+/// alternative leads, if to a label.
 pub(crate) fn check_label(
     code: &Code,
     branch: Branch,
@@ -264,34 +224,20 @@ pub(crate) fn check_label(
     flag: u8,
     to: u32,
     next: Option<u32>,
-    seen: Option<Lead>,
-) -> Option<Option<Lead>>
+) -> bool
     requires flag { flag ≤ 4 → (bs : List ℕ) → head_of bs ≡ head
         → char_len (lists_of code.now) branch.set bs ≡ flag }
-    requires seen { IfSome seen (λ lead. IsNoted (lists_of code.now) branch lead.next lead.to) }
-    ensures label { IfSome result (λ _. at_label (lists_of code.now) branch.first ≡ first
+    ensures { result ≡ true → at_label (lists_of code.now) branch.first ≡ first
         → IfSome next (Moves (lists_of code.now) head branch.second)
-        → ContinuesAs (lists_of code.now) branch head to) }
-    ensures seen { IfSome result (λ found. IfSome found (λ lead.
-        IsNoted (lists_of code.now) branch lead.next lead.to)) }
+        → ContinuesAs (lists_of code.now) branch head to }
 {
     if flag != 0 {
-        if skips(code, branch.first, first, head, to) {
-            return Some(seen);
-        }
-        return None;
+        return skips(code, branch.first, first, head, to);
     }
     if branch.noted {
-        let lead = Lead { next, to };
-        if is_noted_as(code, branch, seen, lead) {
-            return Some(Some(lead));
-        }
-        return None;
+        return is_noted(code, branch, Lead { next, to });
     }
-    if to == branch.second || next == Some(to) {
-        return Some(seen);
-    }
-    None
+    to == branch.second || next == Some(to)
 }
 
 /// Returns whether a text is not empty, and begins with a byte of ASCII.

@@ -1,16 +1,15 @@
-use Rattle.std.proofs.Common.{◌≡◌, ℕ, ◌<◌, ◌≤◌, Some, get_or, true}
-use Rattle.matcher_code.specs.declared.code.Op.TheVariants as op
+use Rattle.std.proofs.Common.{◌≡◌, ℕ, ◌<◌, ◌≤◌, Some, get_or, Option, true}
 use Rattle.matcher_code.specs.Lists.{lists_of}
-use Rattle.matcher_code.specs.Laid.{at_label, label_for}
-use Rattle.matcher_compiler.specs.Plans.{ContinuesAs, IsNoted}
+use Rattle.matcher_code.specs.Laid.{Notes, Skips, at_label, label_for}
+use Rattle.matcher_compiler.specs.Plans.{ContinuesAs}
 use Rattle.matcher_compiler.proofs.columns.has_noted_labels.Given as goal
 
--- the labels so far; and the lead that was seen last is noted
+-- the labels so far; and the label that was seen last is noted
 abbrev pub invariant-loop-byte : goal.invariant-loop-byte
 invariant-loop-byte l = record {
-  labels : (table : ℕ) → ((b : ℕ) → b < 256 → get_or l.others b 0 ≡ label_for (lists_of l.code) table (Some b))
-      → at_label (lists_of l.code) l.branch.first ≡ l.first → at_label (lists_of l.code) l.branch.second ≡ op.Switch table
-      → (b : ℕ) → l.from ≤ b → b < l.byte
+  labels : ((b : ℕ) → l.from ≤ b → b < l.to → Skips (lists_of l.code) (Some b) l.branch.second (get_or l.others b 0))
+      → at_label (lists_of l.code) l.branch.first ≡ l.first → (b : ℕ) → l.from ≤ b → b < l.byte
       → ContinuesAs (lists_of l.code) l.branch (Some b) (label_for (lists_of l.code) l.branch.table (Some b));
-  seen : l.is_seen ≡ true → IsNoted (lists_of l.code) l.branch (Some l.seen_next) l.seen_to;
+  seen : l.is_seen ≡ true → (head : Option ℕ) → Skips (lists_of l.code) head l.branch.second l.seen_next
+      → Notes (lists_of l.code) head l.branch.second l.branch.next l.branch.way l.seen_to;
 }
