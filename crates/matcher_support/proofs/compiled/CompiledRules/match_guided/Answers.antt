@@ -23,4 +23,4 @@ returns-clause-refused c = λ g of.
     let s = first_state c.start_pos-start.result c.args.text.now (c.start_pos-start.ensures.text ∙ c.of.ensures.text) (c.start_pos-start.ensures.place ∙ c.of.ensures.start) in
     let P : State → Type 0 = λ t. IsOutcome g n t is_in_property c.args.steps c.guide_block.result in
     outcome_refused g c.args.rule.now c.args.text.now c.args.steps c.guide_block.result
-    (subst P s (c.guide_block.ensures g is_in_property of.code n (c.in-Ok.ensures.found g of)))
+    (subst P s (c.guide_block.ensures.outcome g is_in_property of.code n (c.in-Ok.ensures.found g of)))
