@@ -15,7 +15,7 @@ use Rattle.front_grammar.proofs.Yields.{Yields, both, lone}
 use Rattle.front_reader.specs.Reading as reading
 use Rattle.front_reader.specs.Reading.{Postfix, Terminal, literal_value}
 use Rattle.front_reader.proofs.ReadParts.{IsHandedDown, IsGiven, parts_so}
-use Rattle.pest_meta.proofs.CharacterTrees.{HoldCharacters, trees_hold}
+use Rattle.pest_meta.proofs.CharacterTrees.{HoldCharacters, characters_hold}
 use Rattle.pest_meta.proofs.NothingNew.{HasNothingNew, kept_by_all, stands_in}
 use Rattle.base_language.specs.Language.CharacterBounds.{HasCharacterBounds}
 use Rattle.pest_meta.specs.Spelling.{AreReadAsRules, HasTrees}
@@ -81,7 +81,7 @@ module _ (text : List ℕ) where
 
 pub read_bounds : (text : List ℕ) (utf8 : IsUtf8 text) (trees : Trees) (rules : Grammar) → HasTrees text trees → AreReadAsRules text trees rules → HasCharacterBounds rules
 read_bounds text utf8 trees rules h give =
-    let hold = trees_hold text utf8 trees h in
+    let hold = characters_hold text utf8 trees h in
     subst HasCharacterBounds (sym give.same)
     (λ t u i. parts_so text (HoldCharacters text) BoundsAreCharacters (handed_down text) (bounds_given text) give.reads hold (Range t u) i)
 

@@ -3,6 +3,7 @@ pub mod Called
 pub mod CharacterBounds
 pub mod CharacterTrees
 pub mod Fitting
+pub mod HeldTrees
 pub mod KnownNames
 pub mod NothingNew
 pub mod OneCharacter

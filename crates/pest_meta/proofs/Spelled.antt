@@ -162,17 +162,24 @@ answered text pairs builtins rules answer t h e u a o =
       optimized = o;
     })
 
--- what is accepted
-pub spells_accepted : (text : List ℕ) (pairs : Pairs Rule) (rules : Grammar)
-    → pairs_text pairs ≡ text → AreOfAGrammar pairs → complaints_of pairs ≡ []
-    → AreAccepted (pairs_text pairs) (named (pairs_trees pairs)) rules → SpellsAccepted text rules
-spells_accepted text pairs rules t h e a =
-    subst (λ v. SpellsAccepted v rules) t (record {
-      trees = named (pairs_trees pairs);
-      of_text = h;
-      well_named = e;
-      accepted = a;
-    })
+-- the answer for a text that spells rules with spans
+pub spelled_answer : (text : List ℕ) (builtins : List (Bor (List ℕ))) (rules : List SpannedRule) (answer : List OptimizedRule)
+    → SpellsWithSpans text builtins rules → IsOptimized (rules_without_spans rules) (optimized_rules_of answer) → IsAnswer text builtins answer
+spelled_answer text builtins rules answer s o = record {
+  trees = s.trees;
+  of_text = s.of_text;
+  well_named = s.well_named;
+  uses = s.uses;
+  spelled = rules_without_spans rules;
+  accepted = s.accepted;
+  optimized = o;
+}
+
+-- such a text spells accepted rules
+pub spells_accepted : (text : List ℕ) (builtins : List (Bor (List ℕ))) (rules : List SpannedRule)
+    → SpellsWithSpans text builtins rules → SpellsAccepted text (rules_without_spans rules)
+spells_accepted text builtins rules s =
+    record { trees = s.trees; of_text = s.of_text; well_named = s.well_named; accepted = s.accepted }
 
 -- accepted rules with counted repetitions written out, where there are some
 pub written : {E : Type 0} (text : List ℕ) (spelled : Grammar) (answer : Result (Vec OptimizedRule Global) E)
@@ -207,13 +214,5 @@ optimized_spans rules plain answer e o = subst (λ g. IfOk answer (λ answer. Is
 pub optimized_answer : {E : Type 0} (rules : List SpannedRule) (answer : Result (Vec OptimizedRule Global) E)
     → IfOk answer (λ answer. IsOptimized (rules_without_spans rules) (optimized_rules_of answer.items))
     → IfOk answer (λ answer. (text : List ℕ) (builtins : List (Bor (List ℕ))) → SpellsWithSpans text builtins rules → IsAnswer text builtins answer.items)
-optimized_answer rules (Ok answer) o = λ text builtins s. record {
-  trees = s.trees;
-  of_text = s.of_text;
-  well_named = s.well_named;
-  uses = s.uses;
-  spelled = rules_without_spans rules;
-  accepted = s.accepted;
-  optimized = o;
-}
+optimized_answer rules (Ok answer) o = λ text builtins s. spelled_answer text builtins rules answer.items s o
 optimized_answer rules (Err x) o = tt

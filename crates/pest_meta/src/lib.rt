@@ -21,14 +21,12 @@ ghost use Rattle.pest_meta.specs.Promises.{IsWellFormedGrammar, OfRead, OfSpelle
 ghost use Rattle.front_restorer.specs.Agreeing.{AgreesLoosely, WrappersSuffice};
 ghost use Rattle.pest_meta.specs.Spelling.{HasRefusal, IsAnswer, IsRefusal};
 
-use base_language::grammar::Rule;
 pub use base_language::runtime;
-use front_names::collect_builtins;
 pub use front_optimizer as optimizer;
+use front_spanned::erase_spans;
 pub use front_syntax::grammar;
 pub use opened::{OpenError, OpenGrammar, open, open_unvalidated};
 use optimizer::OptimizedRule;
-use parser::{PestParser, consume_rules};
 pub use report::{Report, unwrap_or_report};
 use runtime::Fault;
 pub use spanned::{optimize_with_spans, parse_with_spans};
@@ -74,8 +72,7 @@ pub fn parse_and_optimize<'i>(
     ensures refused { IfErr result (IsRefusal grammar.entry.now) }
     ensures no_refusal { IfOk result (λ answer. HasRefusal grammar.entry.now → ⊥) }
 {
-    let pairs = PestParser::parse(alloc, Rule::grammar_rules, grammar)?;
-    let builtins = collect_builtins(alloc, &pairs)?;
-    let rules = consume_rules(alloc, pairs)?;
+    let (builtins, spanned) = parse_with_spans(alloc, grammar)?;
+    let rules = erase_spans(alloc, spanned)?;
     Ok((builtins, optimizer::optimize(alloc, rules)?))
 }

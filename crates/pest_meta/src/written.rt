@@ -6,11 +6,10 @@ ghost use Rattle.base_language.specs.Language.KnownNames.{HasKnownNames};
 ghost use Rattle.pest_meta.specs.Spelling.{IsRefusal};
 ghost use Rattle.pest_meta.specs.Written.{IsWritten};
 
-use crate::parser::{PestParser, consume_rules};
-use base_language::grammar::Rule;
+use crate::spanned::parse_with_spans;
 use base_language::runtime::Fault;
-use front_names::collect_builtins;
 use front_optimizer::{OptimizedRule, unroll_rules};
+use front_spanned::erase_spans;
 use std::alloc::Global;
 
 /// Parses a grammar; returns its rules as they are written, in the form that runs.
@@ -25,8 +24,7 @@ pub fn parse_as_written(alloc: Global, grammar: &str) -> Result<Vec<OptimizedRul
     ensures character_bounds { IfOk result (λ rules. HasCharacterBounds (optimized_rules_of rules.items)) }
     ensures refused { IfErr result (IsRefusal grammar.now) }
 {
-    let pairs = PestParser::parse(alloc, Rule::grammar_rules, grammar)?;
-    let _ = collect_builtins(alloc, &pairs)?;
-    let rules = consume_rules(alloc, pairs)?;
+    let (_, spanned) = parse_with_spans(alloc, grammar)?;
+    let rules = erase_spans(alloc, spanned)?;
     unroll_rules(alloc, rules)
 }
