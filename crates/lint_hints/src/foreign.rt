@@ -1,16 +1,8 @@
 //! Hints at characters that no part of a grammar has.
-use crate::help::{Fix, Remedy};
-use crate::mistakes::{ForeignMistake, Mistake};
+use crate::help::{Remedy, replace, say};
+use crate::mistakes::ForeignMistake;
 use lint_lexemes::{Lexeme, Site};
 use std::alloc::{AllocError, Global};
-
-/// A remedy without a fix.
-fn say_foreign(mistake: ForeignMistake) -> Option<Remedy> {
-    Some(Remedy {
-        mistake: Mistake::Foreign(mistake),
-        fix: None,
-    })
-}
 
 /// A remedy that puts a text in the place of a lexeme.
 fn fix_foreign(
@@ -19,11 +11,7 @@ fn fix_foreign(
     here: Lexeme,
     replacement: &str,
 ) -> Result<Option<Remedy>, AllocError> {
-    let fix = Fix::new(alloc, here.start, here.end, replacement)?;
-    Ok(Some(Remedy {
-        mistake: Mistake::Foreign(mistake),
-        fix: Some(fix),
-    }))
+    replace(alloc, mistake, here.start, here.end, replacement)
 }
 
 /// The remedy of a byte order mark at the start of the text, or of other characters beyond ASCII.
@@ -52,7 +40,7 @@ pub(crate) fn at_foreign(
     let mistake = mistake_of(first);
     match (characters.next(), replacement_of(first)) {
         (None, Some(replacement)) => fix_foreign(alloc, mistake, here, replacement),
-        _ => Ok(say_foreign(mistake)),
+        _ => Ok(say(mistake)),
     }
 }
 

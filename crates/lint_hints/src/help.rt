@@ -43,6 +43,34 @@ pub(crate) struct Remedy {
     pub fix: Option<Fix>,
 }
 
+/// Returns the remedy of a mistake, without a fix.
+pub(crate) fn say(mistake: impl Into<Mistake>) -> Option<Remedy>
+    ensures { IsSome result }
+{
+    Some(Remedy {
+        mistake: mistake.into(),
+        fix: None,
+    })
+}
+
+/// Returns the remedy of a mistake, which replaces the bytes `start..end`.
+pub(crate) fn replace(
+    alloc: Global,
+    mistake: impl Into<Mistake>,
+    start: usize,
+    end: usize,
+    replacement: &str,
+) -> Result<Option<Remedy>, AllocError>
+    ensures { IfOk result IsSome }
+{
+    let mistake = mistake.into();
+    let fix = Fix::new(alloc, start, end, replacement)?;
+    Ok(Some(Remedy {
+        mistake,
+        fix: Some(fix),
+    }))
+}
+
 impl Fix {
     /// The bytes `start..end` become a text.
     pub(crate) fn new(

@@ -13,15 +13,15 @@ mod signs;
 mod terms;
 
 use crate::foreign::at_foreign;
-use crate::help::Remedy;
+use crate::help::{Remedy, say};
 pub use crate::help::{Fix, Help, Hint, Related};
 use crate::literals::{at_character, in_character, in_text, open_literal};
 pub use crate::mistakes::{
     ForeignMistake, LiteralMistake, Mistake, OuterMistake, SignMistake, TermMistake,
 };
-use crate::outer::{at_definition, before_rule, inner_doc, late_doc, say_outer, starts_doc};
+use crate::outer::{at_definition, before_rule, inner_doc, late_doc, starts_doc};
 pub use crate::properties::{is_pest_property, pest_property_text};
-use crate::signs::{at_sign, say_sign};
+use crate::signs::at_sign;
 use crate::terms::{at_digits, at_end, at_name, at_term, in_count};
 use lint_lexemes::{LexemeClass, Site};
 pub use lint_lexemes::{definitions, nearest_name};
@@ -53,7 +53,7 @@ fn remedy_at(alloc: Global, site: &Site<'_>) -> Result<Option<Remedy>, AllocErro
         return in_count(alloc, site);
     }
     if site.is_within(b'[') {
-        return Ok(say_sign(SignMistake::PeekBounds));
+        return Ok(say(SignMistake::PeekBounds));
     }
     remedy_inside(alloc, site)
 }
@@ -72,7 +72,7 @@ fn remedy_inside(alloc: Global, site: &Site<'_>) -> Result<Option<Remedy>, Alloc
         LexemeClass::Foreign => at_foreign(alloc, site, here),
         LexemeClass::Sign(byte) => at_sign(alloc, site, here, byte),
         LexemeClass::GrammarDoc => late_doc(alloc, here),
-        LexemeClass::OpenComment => Ok(say_outer(OuterMistake::OpenComment)),
+        LexemeClass::OpenComment => Ok(say(OuterMistake::OpenComment)),
         LexemeClass::Edge => at_end(alloc, site),
     }
 }

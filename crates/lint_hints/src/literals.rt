@@ -1,31 +1,8 @@
 //! Hints at literals.
-use crate::help::{Fix, Remedy};
-use crate::mistakes::{LiteralMistake, Mistake};
+use crate::help::{Remedy, replace, say};
+use crate::mistakes::LiteralMistake;
 use lint_lexemes::{Lexeme, LexemeClass, Site, is_sign};
 use std::alloc::{AllocError, Global};
-
-/// A remedy without a fix.
-pub(crate) fn say_literal(mistake: LiteralMistake) -> Option<Remedy> {
-    Some(Remedy {
-        mistake: Mistake::Literal(mistake),
-        fix: None,
-    })
-}
-
-/// A remedy that replaces the bytes `start..end`.
-pub(crate) fn fix_literal(
-    alloc: Global,
-    mistake: LiteralMistake,
-    start: usize,
-    end: usize,
-    replacement: &str,
-) -> Result<Option<Remedy>, AllocError> {
-    let fix = Fix::new(alloc, start, end, replacement)?;
-    Ok(Some(Remedy {
-        mistake: Mistake::Literal(mistake),
-        fix: Some(fix),
-    }))
-}
 
 /// The string, character or comment that is left open at the error.
 pub(crate) fn open_literal(site: &Site<'_>) -> Option<Lexeme> {
@@ -71,9 +48,9 @@ fn escape_at(site: &Site<'_>, here: Lexeme) -> Option<usize> {
 /// The remedy of an escape that is none, by the byte after its backslash.
 fn escape_remedy(byte: u8) -> Option<Remedy> {
     match byte {
-        b'x' => say_literal(LiteralMistake::HexEscape),
-        b'u' => say_literal(LiteralMistake::UnicodeEscape),
-        _ => say_literal(LiteralMistake::UnknownEscape),
+        b'x' => say(LiteralMistake::HexEscape),
+        b'u' => say(LiteralMistake::UnicodeEscape),
+        _ => say(LiteralMistake::UnknownEscape),
     }
 }
 
@@ -88,7 +65,7 @@ pub(crate) fn in_character(
         return Ok(escape_remedy(site.byte(first.saturating_add(1))));
     }
     if is_sign(site.next_lexeme(1), b'.') || is_sign(site.previous_lexeme(1), b'.') {
-        return Ok(say_literal(LiteralMistake::LongBound));
+        return Ok(say(LiteralMistake::LongBound));
     }
     double_quotes(alloc, site, here, LiteralMistake::SingleQuotes)
 }
@@ -102,10 +79,10 @@ fn double_quotes(
 ) -> Result<Option<Remedy>, AllocError> {
     let inner = inner_of(site, quoted);
     if inner.contains('"') {
-        return Ok(say_literal(mistake));
+        return Ok(say(mistake));
     }
     let text = format!(in alloc; "\"{inner}\"")?;
-    fix_literal(alloc, mistake, quoted.start, quoted.end, text.as_str())
+    replace(alloc, mistake, quoted.start, quoted.end, text.as_str())
 }
 
 /// The text in the quotes of a literal.
@@ -120,11 +97,11 @@ pub(crate) fn at_character(
     here: Lexeme,
 ) -> Result<Option<Remedy>, AllocError> {
     if is_open(here) {
-        return Ok(say_literal(LiteralMistake::OpenCharacter));
+        return Ok(say(LiteralMistake::OpenCharacter));
     }
     if is_sign(site.previous_lexeme(1), b'^') {
         if is_sign(site.next_lexeme(1), b'.') {
-            return Ok(say_literal(LiteralMistake::CaretRange));
+            return Ok(say(LiteralMistake::CaretRange));
         }
         return double_quotes(alloc, site, here, LiteralMistake::SingleQuotes);
     }
@@ -138,7 +115,7 @@ pub(crate) fn after_character(
 ) -> Result<Option<Remedy>, AllocError> {
     let character = site.previous_lexeme(1);
     if is_open(character) || is_open(site.previous_lexeme(2)) {
-        return Ok(say_literal(LiteralMistake::OpenCharacter));
+        return Ok(say(LiteralMistake::OpenCharacter));
     }
     if character.class != LexemeClass::Character || is_sign(site.previous_lexeme(2), b'.') {
         return Ok(None);
@@ -161,10 +138,10 @@ pub(crate) fn range_of_strings(
     let low = bound_of(site, first);
     let high = bound_of(site, last);
     if !is_bound(low) || !is_bound(high) {
-        return Ok(say_literal(LiteralMistake::QuotedBounds));
+        return Ok(say(LiteralMistake::QuotedBounds));
     }
     let text = format!(in alloc; "'{low}'..'{high}'")?;
-    fix_literal(
+    replace(
         alloc,
         LiteralMistake::QuotedBounds,
         first.start,

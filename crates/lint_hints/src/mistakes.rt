@@ -23,6 +23,36 @@ impl Mistake {
     }
 }
 
+impl From<LiteralMistake> for Mistake {
+    fn from(mistake: LiteralMistake) -> Self {
+        Mistake::Literal(mistake)
+    }
+}
+
+impl From<OuterMistake> for Mistake {
+    fn from(mistake: OuterMistake) -> Self {
+        Mistake::Outer(mistake)
+    }
+}
+
+impl From<ForeignMistake> for Mistake {
+    fn from(mistake: ForeignMistake) -> Self {
+        Mistake::Foreign(mistake)
+    }
+}
+
+impl From<SignMistake> for Mistake {
+    fn from(mistake: SignMistake) -> Self {
+        Mistake::Sign(mistake)
+    }
+}
+
+impl From<TermMistake> for Mistake {
+    fn from(mistake: TermMistake) -> Self {
+        Mistake::Term(mistake)
+    }
+}
+
 /// A mistake at a string, a character or a range.
 #[derive(Clone, Copy)]
 pub enum LiteralMistake {

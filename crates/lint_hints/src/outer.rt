@@ -1,32 +1,9 @@
 //! Hints outside of bodies: at names, assignments, braces and comments.
 use crate::foreign::{at_control, at_first};
-use crate::help::{Fix, Remedy};
-use crate::mistakes::{Mistake, OuterMistake};
+use crate::help::{Remedy, replace, say};
+use crate::mistakes::OuterMistake;
 use lint_lexemes::{Lexeme, LexemeClass, Site, byte_at, ends_term, is_sign};
 use std::alloc::{AllocError, Global};
-
-/// A remedy without a fix.
-pub(crate) fn say_outer(mistake: OuterMistake) -> Option<Remedy> {
-    Some(Remedy {
-        mistake: Mistake::Outer(mistake),
-        fix: None,
-    })
-}
-
-/// A remedy that replaces the bytes `start..end`.
-pub(crate) fn fix_outer(
-    alloc: Global,
-    mistake: OuterMistake,
-    start: usize,
-    end: usize,
-    replacement: &str,
-) -> Result<Option<Remedy>, AllocError> {
-    let fix = Fix::new(alloc, start, end, replacement)?;
-    Ok(Some(Remedy {
-        mistake: Mistake::Outer(mistake),
-        fix: Some(fix),
-    }))
-}
 
 /// The remedy of an error outside of all brackets.
 pub(crate) fn at_definition(alloc: Global, site: &Site<'_>) -> Result<Option<Remedy>, AllocError> {
@@ -35,10 +12,10 @@ pub(crate) fn at_definition(alloc: Global, site: &Site<'_>) -> Result<Option<Rem
         LexemeClass::GrammarDoc => late_doc(alloc, here),
         LexemeClass::Sign(byte) => at_outer_sign(alloc, site, here, byte),
         LexemeClass::Foreign => at_first(alloc, site, here),
-        LexemeClass::Digits => Ok(say_outer(OuterMistake::DigitFirst)),
+        LexemeClass::Digits => Ok(say(OuterMistake::DigitFirst)),
         LexemeClass::Name => Ok(at_outer_name(site, here)),
         LexemeClass::Text | LexemeClass::Character | LexemeClass::Edge => Ok(lost_braces(site)),
-        LexemeClass::OpenComment => Ok(say_outer(OuterMistake::OpenComment)),
+        LexemeClass::OpenComment => Ok(say(OuterMistake::OpenComment)),
         _ => Ok(None),
     }
 }
@@ -56,13 +33,13 @@ fn at_outer_sign(
             line_comment(alloc, site, here, 2)
         }
         b';' if is_in_front(site, here) => line_comment(alloc, site, here, 1),
-        b';' => fix_outer(alloc, OuterMistake::Semicolon, here.start, here.end, ""),
-        b',' => fix_outer(alloc, OuterMistake::Comma, here.start, here.end, ""),
-        b'=' if site.index == 0 => Ok(say_outer(OuterMistake::NoName)),
+        b';' => replace(alloc, OuterMistake::Semicolon, here.start, here.end, ""),
+        b',' => replace(alloc, OuterMistake::Comma, here.start, here.end, ""),
+        b'=' if site.index == 0 => Ok(say(OuterMistake::NoName)),
         b':' | b'-' | b'<' | b'=' | b'>' => assignment(alloc, site, here),
         b'{' if site.previous_lexeme(1).class == LexemeClass::Name => {
             let at = site.previous_lexeme(1).end;
-            fix_outer(alloc, OuterMistake::Assignment, at, at, " =")
+            replace(alloc, OuterMistake::Assignment, at, at, " =")
         }
         byte if byte.is_ascii_control() => at_control(alloc, here),
         _ => Ok(at_other_sign(site, here, byte)),
@@ -73,17 +50,17 @@ fn at_outer_sign(
 fn at_other_sign(site: &Site<'_>, here: Lexeme, byte: u8) -> Option<Remedy> {
     let after = site.next_lexeme(1);
     match byte {
-        b'|' | b'~' => say_outer(OuterMistake::SplitBody),
+        b'|' | b'~' => say(OuterMistake::SplitBody),
         b'@' | b'$' | b'!' => outer_modifier(site),
-        b'(' if is_adjacent(here, after, b'*') => say_outer(OuterMistake::EbnfComment),
+        b'(' if is_adjacent(here, after, b'*') => say(OuterMistake::EbnfComment),
         b'(' if site.previous_lexeme(1).class == LexemeClass::Name => {
-            say_outer(OuterMistake::Parameters)
+            say(OuterMistake::Parameters)
         }
         b'(' | b'[' | b'^' | b'&' => lost_braces(site),
-        b'*' if is_adjacent(here, after, b'/') => say_outer(OuterMistake::ClosedComment),
-        b'%' => say_outer(OuterMistake::Directive),
-        b'.' => say_outer(OuterMistake::NameSign),
-        b'}' => say_outer(OuterMistake::ClosedBrace),
+        b'*' if is_adjacent(here, after, b'/') => say(OuterMistake::ClosedComment),
+        b'%' => say(OuterMistake::Directive),
+        b'.' => say(OuterMistake::NameSign),
+        b'}' => say(OuterMistake::ClosedBrace),
         _ => None,
     }
 }
@@ -104,7 +81,7 @@ fn is_in_front(site: &Site<'_>, here: Lexeme) -> bool {
 /// The remedy of a hash: a comment, or a directive of another language.
 fn at_hash(alloc: Global, site: &Site<'_>, here: Lexeme) -> Result<Option<Remedy>, AllocError> {
     if is_import(site, site.next_lexeme(1)) {
-        return Ok(say_outer(OuterMistake::Import));
+        return Ok(say(OuterMistake::Import));
     }
     line_comment(alloc, site, here, 1)
 }
@@ -123,9 +100,9 @@ fn line_comment(
 ) -> Result<Option<Remedy>, AllocError> {
     let end = here.start.saturating_add(length);
     if !is_line_start(site.text.as_bytes(), here.start) {
-        return Ok(say_outer(OuterMistake::CommentSign));
+        return Ok(say(OuterMistake::CommentSign));
     }
-    fix_outer(alloc, OuterMistake::CommentSign, here.start, end, "//")
+    replace(alloc, OuterMistake::CommentSign, here.start, end, "//")
 }
 
 /// Whether only blanks are before a byte in its line.
@@ -147,7 +124,7 @@ fn assignment(alloc: Global, site: &Site<'_>, here: Lexeme) -> Result<Option<Rem
         return dash_in_name(alloc, site);
     }
     if is_sign(here, b'<') && site.next_lexeme(1).class == LexemeClass::Name {
-        return Ok(say_outer(OuterMistake::AngleBrackets));
+        return Ok(say(OuterMistake::AngleBrackets));
     }
     let previous = site.previous_lexeme(1);
     let first = if is_sign(previous, b'=') {
@@ -155,10 +132,10 @@ fn assignment(alloc: Global, site: &Site<'_>, here: Lexeme) -> Result<Option<Rem
     } else if previous.class == LexemeClass::Name {
         here
     } else {
-        return Ok(say_outer(OuterMistake::Assignment));
+        return Ok(say(OuterMistake::Assignment));
     };
     let end = signs_end(site.text.as_bytes(), here.start);
-    fix_outer(alloc, OuterMistake::Assignment, first.start, end, "=")
+    replace(alloc, OuterMistake::Assignment, first.start, end, "=")
 }
 
 /// The byte after the signs of an assignment.
@@ -187,7 +164,7 @@ fn dash_in_name(alloc: Global, site: &Site<'_>) -> Result<Option<Remedy>, AllocE
     let first = site.previous_lexeme(1);
     let end = dashed_end(site.text.as_bytes(), first.start);
     let name = site.part(first.start, end).replace(alloc, "-", "_")?;
-    fix_outer(
+    replace(
         alloc,
         OuterMistake::NameSign,
         first.start,
@@ -210,15 +187,15 @@ fn dashed_end(bytes: &[u8], start: usize) -> usize {
 /// The remedy of a modifier before a name or after a body.
 fn outer_modifier(site: &Site<'_>) -> Option<Remedy> {
     if is_import(site, site.previous_lexeme(1)) {
-        return say_outer(OuterMistake::Import);
+        return say(OuterMistake::Import);
     }
     if is_sign(site.previous_lexeme(1), b'=') {
         return lost_braces(site);
     }
     if is_sign(site.previous_lexeme(2), b'=') {
-        return say_outer(OuterMistake::TwoModifiers);
+        return say(OuterMistake::TwoModifiers);
     }
-    say_outer(OuterMistake::OuterModifier)
+    say(OuterMistake::OuterModifier)
 }
 
 /// The remedy of a name outside of all brackets.
@@ -227,10 +204,10 @@ fn at_outer_name(site: &Site<'_>, here: Lexeme) -> Option<Remedy> {
         return lost_braces(site);
     }
     if site.text_of(here).starts_with("PUSH") {
-        return say_outer(OuterMistake::PushName);
+        return say(OuterMistake::PushName);
     }
     if site.previous_lexeme(1).class == LexemeClass::Name {
-        return say_outer(OuterMistake::WordBefore);
+        return say(OuterMistake::WordBefore);
     }
     None
 }
@@ -250,33 +227,33 @@ fn is_modifier(site: &Site<'_>, lexeme: Lexeme) -> bool {
 fn lost_braces(site: &Site<'_>) -> Option<Remedy> {
     let before = site.previous_lexeme(1);
     if is_import(site, before) {
-        return say_outer(OuterMistake::Import);
+        return say(OuterMistake::Import);
     }
     if site.here().class == LexemeClass::Text && is_sign(site.next_lexeme(1), b'=') {
-        return say_outer(OuterMistake::QuotedName);
+        return say(OuterMistake::QuotedName);
     }
     if follows_equals(site) {
-        return say_outer(OuterMistake::NoBraces);
+        return say(OuterMistake::NoBraces);
     }
     if before.class == LexemeClass::Name {
-        return say_outer(OuterMistake::Assignment);
+        return say(OuterMistake::Assignment);
     }
     if site.here().class == LexemeClass::Edge {
         return None;
     }
-    say_outer(OuterMistake::NoName)
+    say(OuterMistake::NoName)
 }
 
 /// The remedy of a comment of the grammar that is not before its first rule.
 pub(crate) fn late_doc(alloc: Global, here: Lexeme) -> Result<Option<Remedy>, AllocError> {
     let end = here.start.saturating_add(3);
-    fix_outer(alloc, OuterMistake::LateDoc, here.start, end, "//")
+    replace(alloc, OuterMistake::LateDoc, here.start, end, "//")
 }
 
 /// The remedy of a comment of a rule that is in its body.
 pub(crate) fn inner_doc(alloc: Global, site: &Site<'_>) -> Result<Option<Remedy>, AllocError> {
     let end = site.position.saturating_add(3);
-    fix_outer(alloc, OuterMistake::InnerDoc, site.position, end, "//")
+    replace(alloc, OuterMistake::InnerDoc, site.position, end, "//")
 }
 
 /// Whether a comment of a rule begins at the error.
@@ -288,7 +265,7 @@ pub(crate) fn starts_doc(site: &Site<'_>) -> bool {
 pub(crate) fn before_rule(alloc: Global, site: &Site<'_>) -> Result<Option<Remedy>, AllocError> {
     let last = site.previous_lexeme(1);
     if site.is_within(b'{') && site.open.len() == 1 && ends_term(last) {
-        return fix_outer(alloc, OuterMistake::OpenRule, last.end, last.end, " }");
+        return replace(alloc, OuterMistake::OpenRule, last.end, last.end, " }");
     }
-    Ok(say_outer(OuterMistake::OpenBracket))
+    Ok(say(OuterMistake::OpenBracket))
 }

@@ -1,38 +1,12 @@
 //! Hints at signs in bodies.
 use crate::foreign::at_control;
-use crate::help::{Fix, Remedy};
-use crate::literals::{
-    after_character, bound_of, fix_literal, is_bound, range_of_strings, say_literal,
-};
-use crate::mistakes::{LiteralMistake, Mistake, OuterMistake, SignMistake};
-use crate::outer::{fix_outer, say_outer};
+use crate::help::{Remedy, replace, say};
+use crate::literals::{after_character, bound_of, is_bound, range_of_strings};
+use crate::mistakes::{LiteralMistake, OuterMistake, SignMistake};
 use crate::terms::{at_term, late_modifier};
 use front_names::{Builtin, CharSet};
 use lint_lexemes::{Lexeme, LexemeClass, Site, ends_term, is_sign, starts_term};
 use std::alloc::{AllocError, Global};
-
-/// A remedy without a fix.
-pub(crate) fn say_sign(mistake: SignMistake) -> Option<Remedy> {
-    Some(Remedy {
-        mistake: Mistake::Sign(mistake),
-        fix: None,
-    })
-}
-
-/// A remedy that replaces the bytes `start..end`.
-pub(crate) fn fix_sign(
-    alloc: Global,
-    mistake: SignMistake,
-    start: usize,
-    end: usize,
-    replacement: &str,
-) -> Result<Option<Remedy>, AllocError> {
-    let fix = Fix::new(alloc, start, end, replacement)?;
-    Ok(Some(Remedy {
-        mistake: Mistake::Sign(mistake),
-        fix: Some(fix),
-    }))
-}
 
 /// The remedy of a sign in a body.
 pub(crate) fn at_sign(
@@ -48,9 +22,9 @@ pub(crate) fn at_sign(
         b'*' | b'+' | b'?' => at_postfix(alloc, site, here),
         b'&' if is_sign(site.next_lexeme(1), b'&') => {
             let end = site.next_lexeme(1).end;
-            fix_sign(alloc, SignMistake::OtherTilde, here.start, end, "~")
+            replace(alloc, SignMistake::OtherTilde, here.start, end, "~")
         }
-        b'!' | b'&' if !starts_term(site.next_lexeme(1)) => Ok(say_sign(SignMistake::LateTest)),
+        b'!' | b'&' if !starts_term(site.next_lexeme(1)) => Ok(say(SignMistake::LateTest)),
         b'(' | b'^' | b'!' | b'&' => at_term(alloc, site),
         b'-' => at_dash(alloc, site, here),
         byte if byte.is_ascii_control() => at_control(alloc, here),
@@ -76,12 +50,12 @@ fn at_other_sign(
         b',' => swap(alloc, site, here, SignMistake::OtherTilde, " ~"),
         b';' if is_sign(site.next_lexeme(1), b'}') => {
             let (start, end) = removed_bytes(site, here);
-            fix_outer(alloc, OuterMistake::Semicolon, start, end, "")
+            replace(alloc, OuterMistake::Semicolon, start, end, "")
         }
         b'\\' => at_backslash(alloc, site, here),
-        b'#' => Ok(say_sign(SignMistake::Hash)),
+        b'#' => Ok(say(SignMistake::Hash)),
         b'<' => at_angle(alloc, site, here),
-        b'`' => Ok(say_literal(LiteralMistake::SingleQuotes)),
+        b'`' => Ok(say(LiteralMistake::SingleQuotes)),
         _ => Ok(None),
     }
 }
@@ -95,7 +69,7 @@ fn swap(
     sign: &str,
 ) -> Result<Option<Remedy>, AllocError> {
     if ends_term(site.previous_lexeme(1)) && starts_term(site.next_lexeme(1)) {
-        return fix_sign(alloc, mistake, here.start, here.end, sign);
+        return replace(alloc, mistake, here.start, here.end, sign);
     }
     Ok(None)
 }
@@ -103,7 +77,7 @@ fn swap(
 /// The remedy of an equals sign: in a range, in an arrow, or of a tag without `#`.
 fn at_equals(alloc: Global, site: &Site<'_>, here: Lexeme) -> Result<Option<Remedy>, AllocError> {
     if is_sign(site.previous_lexeme(1), b'.') {
-        return fix_literal(
+        return replace(
             alloc,
             LiteralMistake::InclusiveRange,
             here.start,
@@ -112,17 +86,17 @@ fn at_equals(alloc: Global, site: &Site<'_>, here: Lexeme) -> Result<Option<Reme
         );
     }
     if is_sign(site.next_lexeme(1), b'>') {
-        return Ok(say_sign(SignMistake::Arrow));
+        return Ok(say(SignMistake::Arrow));
     }
-    Ok(say_sign(SignMistake::Equals))
+    Ok(say(SignMistake::Equals))
 }
 
 /// The remedy of a percent sign: of a list, or of a character by its number.
 fn at_percent(site: &Site<'_>) -> Option<Remedy> {
     if ends_term(site.previous_lexeme(1)) {
-        return say_sign(SignMistake::ListSign);
+        return say(SignMistake::ListSign);
     }
-    say_sign(SignMistake::CharacterNumber)
+    say(SignMistake::CharacterNumber)
 }
 
 /// The remedy of a slash: between alternatives, or around a regular expression.
@@ -130,7 +104,7 @@ fn at_slash(alloc: Global, site: &Site<'_>, here: Lexeme) -> Result<Option<Remed
     if ends_term(site.previous_lexeme(1)) {
         return swap(alloc, site, here, SignMistake::Slash, "|");
     }
-    Ok(say_sign(SignMistake::RegularExpression))
+    Ok(say(SignMistake::RegularExpression))
 }
 
 /// The remedy of a colon after a name, as of a label.
@@ -140,7 +114,7 @@ fn at_colon(alloc: Global, site: &Site<'_>, here: Lexeme) -> Result<Option<Remed
         return Ok(None);
     }
     let text = format!(in alloc; "#{} = ", site.text_of(name))?;
-    fix_sign(
+    replace(
         alloc,
         SignMistake::Label,
         name.start,
@@ -154,19 +128,19 @@ fn at_closing(alloc: Global, site: &Site<'_>, byte: u8) -> Result<Option<Remedy>
     let before = site.previous_lexeme(1);
     if is_sign(before, b'|') || is_sign(before, b'~') {
         let (start, end) = removed_bytes(site, before);
-        return fix_sign(alloc, SignMistake::MissingAfter, start, end, "");
+        return replace(alloc, SignMistake::MissingAfter, start, end, "");
     }
     if is_sign(before, b'{') && byte == b'}' || is_sign(before, b'(') && byte == b')' {
-        return Ok(say_sign(SignMistake::Nothing));
+        return Ok(say(SignMistake::Nothing));
     }
     if is_sign(before, b'.') {
-        return Ok(say_literal(LiteralMistake::LostBound));
+        return Ok(say(LiteralMistake::LostBound));
     }
     if site.is_within(b'(') && byte == b'}' {
-        return Ok(say_sign(SignMistake::OpenParenthesis));
+        return Ok(say(SignMistake::OpenParenthesis));
     }
     if site.is_within(b'{') && byte == b')' {
-        return Ok(say_sign(SignMistake::ClosedParenthesis));
+        return Ok(say(SignMistake::ClosedParenthesis));
     }
     after_character(alloc, site)
 }
@@ -175,14 +149,14 @@ fn at_closing(alloc: Global, site: &Site<'_>, byte: u8) -> Result<Option<Remedy>
 fn at_bracket(alloc: Global, site: &Site<'_>, here: Lexeme) -> Result<Option<Remedy>, AllocError> {
     let start = here.start.saturating_add(1);
     if site.byte(start) == b'^' {
-        return Ok(say_sign(SignMistake::NegatedClass));
+        return Ok(say(SignMistake::NegatedClass));
     }
     let end = class_end(site, start);
     if let Some(text) = class_text(alloc, site, start, end)? {
         let after = end.saturating_add(1);
-        return fix_sign(alloc, SignMistake::Class, here.start, after, text.as_str());
+        return replace(alloc, SignMistake::Class, here.start, after, text.as_str());
     }
-    Ok(say_sign(SignMistake::Brackets))
+    Ok(say(SignMistake::Brackets))
 }
 
 /// The byte of the bracket that closes a class of characters, or where another character comes first.
@@ -237,16 +211,16 @@ fn class_text(
 fn at_dot(alloc: Global, site: &Site<'_>, here: Lexeme) -> Result<Option<Remedy>, AllocError> {
     let before = site.previous_lexeme(1);
     if is_sign(before, b'.') {
-        return fix_literal(alloc, LiteralMistake::ThreeDots, here.start, here.end, "");
+        return replace(alloc, LiteralMistake::ThreeDots, here.start, here.end, "");
     }
     if is_sign(site.next_lexeme(1), b'.') {
         return at_dots(alloc, site, before);
     }
     if ends_term(before) {
-        return Ok(say_sign(SignMistake::DottedName));
+        return Ok(say(SignMistake::DottedName));
     }
     let any = CharSet::Any.name();
-    fix_sign(alloc, SignMistake::Dot, here.start, here.end, any)
+    replace(alloc, SignMistake::Dot, here.start, here.end, any)
 }
 
 /// The remedy of two dots: between strings, or with a bound that is missing.
@@ -255,7 +229,7 @@ fn at_dots(alloc: Global, site: &Site<'_>, before: Lexeme) -> Result<Option<Reme
         LexemeClass::Text | LexemeClass::Name => {
             range_of_strings(alloc, site, before, site.next_lexeme(2))
         }
-        _ => Ok(say_literal(LiteralMistake::LostBound)),
+        _ => Ok(say(LiteralMistake::LostBound)),
     }
 }
 
@@ -266,16 +240,16 @@ fn at_infix(alloc: Global, site: &Site<'_>, here: Lexeme) -> Result<Option<Remed
         return after_character(alloc, site);
     }
     if is_sign(before, b'^') {
-        return Ok(say_sign(SignMistake::CaretForStart));
+        return Ok(say(SignMistake::CaretForStart));
     }
     if is_sign(here, b'~') && !is_sign(before, b'~') && site.next_lexeme(1).start == here.end {
-        return Ok(say_sign(SignMistake::TildeForNot));
+        return Ok(say(SignMistake::TildeForNot));
     }
     if before.class == here.class || is_sign(before, b'{') || is_sign(before, b'(') {
         let (start, end) = removed_bytes(site, here);
-        return fix_sign(alloc, SignMistake::MissingBefore, start, end, "");
+        return replace(alloc, SignMistake::MissingBefore, start, end, "");
     }
-    Ok(say_sign(SignMistake::MissingBefore))
+    Ok(say(SignMistake::MissingBefore))
 }
 
 /// The bytes that go with a sign: the blank after it, too, where one is before it.
@@ -294,15 +268,15 @@ fn at_postfix(alloc: Global, site: &Site<'_>, here: Lexeme) -> Result<Option<Rem
         return after_character(alloc, site);
     }
     if is_sign(site.previous_lexeme(1), b'(') && is_sign(here, b'?') {
-        return Ok(say_sign(SignMistake::RegexGroup));
+        return Ok(say(SignMistake::RegexGroup));
     }
     let operand = site.next_lexeme(1);
     if !matches!(operand.class, LexemeClass::Name | LexemeClass::Text) {
-        return Ok(say_sign(SignMistake::EarlyPostfix));
+        return Ok(say(SignMistake::EarlyPostfix));
     }
     let sign = site.text_of(here);
     let text = format!(in alloc; "{}{sign}", site.text_of(operand))?;
-    fix_sign(
+    replace(
         alloc,
         SignMistake::EarlyPostfix,
         here.start,
@@ -318,9 +292,9 @@ fn at_brace(site: &Site<'_>) -> Option<Remedy> {
         return None;
     }
     if is_sign(before, b'!') {
-        return say_sign(SignMistake::InnerModifier);
+        return say(SignMistake::InnerModifier);
     }
-    say_sign(SignMistake::InnerBraces)
+    say(SignMistake::InnerBraces)
 }
 
 /// The remedy of a modifier in a body.
@@ -336,9 +310,9 @@ fn at_modifier(
     let after = site.next_lexeme(1);
     let is_prefix = after.start == here.end && (starts_term(after) || is_sign(after, b'{'));
     if byte == b'@' || is_prefix {
-        return Ok(say_sign(SignMistake::InnerModifier));
+        return Ok(say(SignMistake::InnerModifier));
     }
-    Ok(say_sign(SignMistake::DollarForEnd))
+    Ok(say(SignMistake::DollarForEnd))
 }
 
 /// The remedy of a dash: a comment, a range, part of a name, or a difference.
@@ -346,10 +320,10 @@ fn at_dash(alloc: Global, site: &Site<'_>, here: Lexeme) -> Result<Option<Remedy
     let before = site.previous_lexeme(1);
     let after = site.next_lexeme(1);
     if is_sign(after, b'-') && after.start == here.end {
-        return Ok(say_outer(OuterMistake::CommentSign));
+        return Ok(say(OuterMistake::CommentSign));
     }
     if before.class == LexemeClass::Character && after.class == LexemeClass::Character {
-        return fix_literal(
+        return replace(
             alloc,
             LiteralMistake::DashedRange,
             here.start,
@@ -358,13 +332,13 @@ fn at_dash(alloc: Global, site: &Site<'_>, here: Lexeme) -> Result<Option<Remedy
         );
     }
     if before.class == LexemeClass::Name && before.end == here.start && after.start == here.end {
-        return Ok(say_outer(OuterMistake::NameSign));
+        return Ok(say(OuterMistake::NameSign));
     }
     if is_letter(site, before) && is_letter(site, after) {
         return range_of_strings(alloc, site, before, after);
     }
     if ends_term(before) && starts_term(after) {
-        return Ok(say_sign(SignMistake::Difference));
+        return Ok(say(SignMistake::Difference));
     }
     Ok(None)
 }
@@ -386,9 +360,9 @@ fn at_backslash(
         "n" => Builtin::Newline.name(),
         "s" => "(\" \" | \"\\t\" | NEWLINE)",
         "w" => "(ASCII_ALPHANUMERIC | \"_\")",
-        _ => return Ok(say_sign(SignMistake::RegexEscape)),
+        _ => return Ok(say(SignMistake::RegexEscape)),
     };
-    fix_sign(
+    replace(
         alloc,
         SignMistake::RegexClass,
         here.start,
@@ -401,7 +375,7 @@ fn at_backslash(
 fn at_angle(alloc: Global, site: &Site<'_>, here: Lexeme) -> Result<Option<Remedy>, AllocError> {
     let before = site.previous_lexeme(1);
     if before.class == LexemeClass::Name && before.end == here.start {
-        return Ok(say_outer(OuterMistake::Parameters));
+        return Ok(say(OuterMistake::Parameters));
     }
     let name = site.next_lexeme(1);
     let close = site.next_lexeme(2);
@@ -409,7 +383,7 @@ fn at_angle(alloc: Global, site: &Site<'_>, here: Lexeme) -> Result<Option<Remed
         return Ok(None);
     }
     let text = site.text_of(name);
-    fix_outer(
+    replace(
         alloc,
         OuterMistake::AngleBrackets,
         here.start,

@@ -1,34 +1,10 @@
 //! Hints in bodies: missing operators, operands and closing brackets.
-use crate::help::{Fix, Remedy};
-use crate::literals::{after_character, inner_of, range_of_strings, say_literal};
-use crate::mistakes::{LiteralMistake, Mistake, SignMistake, TermMistake};
-use crate::signs::say_sign;
+use crate::help::{Remedy, replace, say};
+use crate::literals::{after_character, inner_of, range_of_strings};
+use crate::mistakes::{LiteralMistake, SignMistake, TermMistake};
 use front_names::Builtin;
 use lint_lexemes::{Lexeme, LexemeClass, Site, ends_term, is_sign};
 use std::alloc::{AllocError, Global};
-
-/// A remedy without a fix.
-pub(crate) fn say_term(mistake: TermMistake) -> Option<Remedy> {
-    Some(Remedy {
-        mistake: Mistake::Term(mistake),
-        fix: None,
-    })
-}
-
-/// A remedy that replaces the bytes `start..end`.
-fn fix_term(
-    alloc: Global,
-    mistake: TermMistake,
-    start: usize,
-    end: usize,
-    replacement: &str,
-) -> Result<Option<Remedy>, AllocError> {
-    let fix = Fix::new(alloc, start, end, replacement)?;
-    Ok(Some(Remedy {
-        mistake: Mistake::Term(mistake),
-        fix: Some(fix),
-    }))
-}
 
 /// The remedy of an expression where none may begin.
 pub(crate) fn at_term(alloc: Global, site: &Site<'_>) -> Result<Option<Remedy>, AllocError> {
@@ -37,22 +13,22 @@ pub(crate) fn at_term(alloc: Global, site: &Site<'_>) -> Result<Option<Remedy>, 
         return range_of_strings(alloc, site, site.previous_lexeme(3), site.here());
     }
     if is_sign(before, b'^') {
-        return Ok(say_term(TermMistake::Caret));
+        return Ok(say(TermMistake::Caret));
     }
     if let Some(remedy) = after_name(alloc, site)? {
         return Ok(Some(remedy));
     }
     if is_prefix(site, before, "i") {
-        return fix_term(alloc, TermMistake::AnyCase, before.start, before.end, "^");
+        return replace(alloc, TermMistake::AnyCase, before.start, before.end, "^");
     }
     if let Some(mistake) = word_mistake(site) {
-        return Ok(say_term(mistake));
+        return Ok(say(mistake));
     }
     if let Some(remedy) = after_character(alloc, site)? {
         return Ok(Some(remedy));
     }
     if site.here().class == LexemeClass::OpenText {
-        return Ok(say_literal(LiteralMistake::OpenString));
+        return Ok(say(LiteralMistake::OpenString));
     }
     if !ends_term(before) {
         return Ok(None);
@@ -99,17 +75,17 @@ fn lost_tilde(
 ) -> Result<Option<Remedy>, AllocError> {
     let here = site.here();
     if is_apart(site, before) {
-        return Ok(say_term(TermMistake::Plus));
+        return Ok(say(TermMistake::Plus));
     }
     if before.class == LexemeClass::Name && before.end == here.start && is_sign(here, b'(') {
-        return Ok(say_term(TermMistake::Arguments));
+        return Ok(say(TermMistake::Arguments));
     }
     let tilde = if before.end == here.start {
         " ~ "
     } else {
         " ~"
     };
-    fix_term(alloc, TermMistake::LostTilde, before.end, before.end, tilde)
+    replace(alloc, TermMistake::LostTilde, before.end, before.end, tilde)
 }
 
 /// Whether a postfix operator has blanks on both sides, as a binary one has.
@@ -126,14 +102,14 @@ fn after_name(alloc: Global, site: &Site<'_>) -> Result<Option<Remedy>, AllocErr
         return Ok(None);
     }
     if is_sign(site.previous_lexeme(2), b'#') {
-        return fix_term(alloc, TermMistake::TagSign, before.end, before.end, " =");
+        return replace(alloc, TermMistake::TagSign, before.end, before.end, " =");
     }
     let is_first = is_sign(site.previous_lexeme(2), b'{') && is_sign(site.previous_lexeme(3), b'=');
     let is_called = is_sign(site.here(), b'(');
     match site.text_of(before) {
         "_" if is_first => late_modifier(alloc, site, before, "_{"),
         "push" if is_called => {
-            fix_term(
+            replace(
                 alloc,
                 TermMistake::SmallPush,
                 before.start,
@@ -148,8 +124,8 @@ fn after_name(alloc: Global, site: &Site<'_>) -> Result<Option<Remedy>, AllocErr
 /// The remedy of a builtin of this name that is called with parentheses or without.
 fn after_builtin(name: &str, is_called: bool) -> Option<Remedy> {
     match name {
-        "PUSH" if !is_called => say_term(TermMistake::Push),
-        "PUSH_LITERAL" if !is_called => say_term(TermMistake::PushLiteral),
+        "PUSH" if !is_called => say(TermMistake::Push),
+        "PUSH_LITERAL" if !is_called => say(TermMistake::PushLiteral),
         _ if is_called => called_builtin(Builtin::from_name(name)?),
         _ => None,
     }
@@ -158,9 +134,9 @@ fn after_builtin(name: &str, is_called: bool) -> Option<Remedy> {
 /// The remedy of a builtin that is called with parentheses.
 fn called_builtin(builtin: Builtin) -> Option<Remedy> {
     match builtin {
-        Builtin::Peek => say_term(TermMistake::Peek),
+        Builtin::Peek => say(TermMistake::Peek),
         Builtin::Pop | Builtin::Drop | Builtin::PeekAll | Builtin::PopAll => {
-            say_term(TermMistake::Pop)
+            say(TermMistake::Pop)
         }
         Builtin::Set(_) | Builtin::Soi | Builtin::Eoi | Builtin::Newline => None,
     }
@@ -174,7 +150,7 @@ pub(crate) fn late_modifier(
     replacement: &str,
 ) -> Result<Option<Remedy>, AllocError> {
     let brace = site.open.last().copied().unwrap_or(sign);
-    fix_term(
+    replace(
         alloc,
         TermMistake::LateModifier,
         brace.start,
@@ -195,7 +171,7 @@ pub(crate) fn at_name(
     let before = site.previous_lexeme(1);
     if site.text_of(here) == "i" && before.class == LexemeClass::Text && before.end == here.start {
         let text = format!(in alloc; "^{}", site.text_of(before))?;
-        return fix_term(
+        return replace(
             alloc,
             TermMistake::AnyCase,
             before.start,
@@ -204,10 +180,10 @@ pub(crate) fn at_name(
         );
     }
     if is_sign(before, b'(') && site.text_of(site.previous_lexeme(2)) == "PUSH_LITERAL" {
-        return Ok(say_term(TermMistake::PushLiteral));
+        return Ok(say(TermMistake::PushLiteral));
     }
     if site.text_of(here).starts_with("PUSH") && !ends_term(before) {
-        return Ok(say_term(TermMistake::PushPrefix));
+        return Ok(say(TermMistake::PushPrefix));
     }
     at_term(alloc, site)
 }
@@ -228,11 +204,11 @@ pub(crate) fn at_digits(
         return range_of_strings(alloc, site, here, site.next_lexeme(3));
     }
     if is_sign(before, b'^') {
-        return Ok(say_term(TermMistake::Caret));
+        return Ok(say(TermMistake::Caret));
     }
     if is_sign(before, b'*') && ends_term(site.previous_lexeme(2)) {
         let text = format!(in alloc; "{{{}}}", site.text_of(here))?;
-        return fix_term(
+        return replace(
             alloc,
             TermMistake::EarlyCount,
             before.start,
@@ -240,7 +216,7 @@ pub(crate) fn at_digits(
             text.as_str(),
         );
     }
-    Ok(say_term(TermMistake::EarlyCount))
+    Ok(say(TermMistake::EarlyCount))
 }
 
 /// The remedy of an error in the braces of a count: another sign between two numbers, or no count at all.
@@ -249,9 +225,9 @@ pub(crate) fn in_count(alloc: Global, site: &Site<'_>) -> Result<Option<Remedy>,
     let after = site.next_lexeme(if has_other_dot(site) { 2 } else { 1 });
     let is_between = matches!(site.text_of(site.here()), "." | "-" | ":" | ";");
     if is_between && before.class == LexemeClass::Digits && after.class == LexemeClass::Digits {
-        return fix_term(alloc, TermMistake::CountSign, before.end, after.start, ", ");
+        return replace(alloc, TermMistake::CountSign, before.end, after.start, ", ");
     }
-    Ok(say_term(TermMistake::Count))
+    Ok(say(TermMistake::Count))
 }
 
 /// Whether two dots are at the error.
@@ -263,13 +239,13 @@ fn has_other_dot(site: &Site<'_>) -> bool {
 pub(crate) fn at_end(alloc: Global, site: &Site<'_>) -> Result<Option<Remedy>, AllocError> {
     let last = site.previous_lexeme(1);
     if last.class == LexemeClass::OpenText {
-        return Ok(say_literal(LiteralMistake::OpenString));
+        return Ok(say(LiteralMistake::OpenString));
     }
     if site.is_within(b'(') {
-        return Ok(say_sign(SignMistake::OpenParenthesis));
+        return Ok(say(SignMistake::OpenParenthesis));
     }
     if site.is_within(b'{') && site.open.len() == 1 && ends_term(last) {
-        return fix_term(alloc, TermMistake::LastRule, last.end, last.end, " }");
+        return replace(alloc, TermMistake::LastRule, last.end, last.end, " }");
     }
     Ok(None)
 }
