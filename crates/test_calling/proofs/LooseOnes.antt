@@ -5,7 +5,7 @@ use Rattle.base_language.specs.Language.Expression.{whitespace, comment}
 use Rattle.base_language.specs.Language.Builtins.{builtins, property_names, general_categories, binary_properties, scripts}
 use Rattle.base_language.specs.Language.Meaning.{other, right, restore, call, rep_once, seq, str, skips, rep_none, seq_first, between}
 use Rattle.base_language.specs.Language.LooseMeaning.{loose_other, loose_right, loose_restore, loose_rep_exact, loose_call, loose_rep_once, loose_seq, loose_str, loose_skips, loose_rep_none, loose_seq_first, loose_between}
-use Rattle.test_examples.specs.LooseRuns.{FailuresLose, GoesOnFromWhatIsLeft, RepeatsInBoth}
+use Rattle.test_calling.specs.LooseRuns.{FailuresLose, GoesOnFromWhatIsLeft, RepeatsInBoth}
 
 module _ (classes : Classes) where
   pub failures_lose : FailuresLose classes

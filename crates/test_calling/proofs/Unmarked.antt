@@ -15,7 +15,7 @@ use Rattle.front_grammar.proofs.Naming.{rule_named}
 use Rattle.matcher_support.specs.Spliced.{HasNoMark}
 use Rattle.pest_meta.specs.Spelling.{AreReadAsRules, HasTrees, IsAnsweredBy, SpellsGrammar}
 use Rattle.pest_meta.specs.Written.{IsWritten}
-use Rattle.test_calling.proofs.NamesInTrees.{HoldNames, trees_hold}
+use Rattle.test_calling.proofs.NamesInTrees.{HoldNames, names_hold}
 
 abbrev AreUnmarked : Grammar → Type 0
 AreUnmarked rules = AllByRecursion HasNoMark rules
@@ -42,7 +42,7 @@ optimized_unmarked g answer o a =
 -- 3. of a text, as it is written, and of its answer
 module _ (text : List ℕ) (utf8 : IsUtf8 text) where
   given : (trees : Trees) (rules : Grammar) → HasTrees text trees → AreReadAsRules text trees rules → AreUnmarked rules
-  given trees rules h give = subst AreUnmarked (sym give.same) (read_unmarked give.reads (trees_hold text utf8 trees h))
+  given trees rules h give = subst AreUnmarked (sym give.same) (read_unmarked give.reads (names_hold text utf8 trees h))
 
   pub spelled_unmarked : (rules : Grammar) → SpellsGrammar text rules → All HasNoMark rules
   spelled_unmarked rules s = All-from_recursion HasNoMark rules (given s.trees rules s.of_text s.give)

@@ -6,8 +6,8 @@ use Rattle.base_language.specs.Language.State.{Classes, NonAtomicMode, Outcome}
 use Rattle.base_language.specs.Language.Meaning.{Matches, str, call, seq, seq_second, neg_pred, right, atomic, compound_atomic}
 use Rattle.base_language.specs.Language.FurthestFailure.{furthest}
 use Rattle.base_language.proofs.FailurePlaces.{one_place}
-use Rattle.test_examples.specs.SmallGrammars.{at_start}
-use Rattle.test_examples.specs.FurthestPlaces.{HasRun, CountsUnderPredicate, CountsByMode, CountsWhenGivenUp}
+use Rattle.test_calling.specs.SmallGrammars.{at_start}
+use Rattle.test_calling.specs.FurthestPlaces.{HasRun, CountsUnderPredicate, CountsByMode, CountsWhenGivenUp}
 
 -- all derivations have the place of one
 comes_to : {g : Grammar} {classes : Classes} {t : Text} {o : Outcome} {n : ℕ} (f : Matches g classes (Ident (codes "a")) NonAtomicMode (at_start t) o) → furthest f ≡ n → HasRun g classes t o n

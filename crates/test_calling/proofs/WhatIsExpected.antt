@@ -7,8 +7,8 @@ use Rattle.base_language.specs.Language.Meaning.{Matches, str, call, other, seq,
 use Rattle.base_language.specs.Language.Builtins.{builtins}
 use Rattle.base_language.specs.Language.Expected.{expected}
 use Rattle.base_language.proofs.ExpectedOnce.{one_expected}
-use Rattle.test_examples.specs.SmallGrammars.{at_start}
-use Rattle.test_examples.specs.ExpectedPlaces.{Expects, NoneBelowNot, NoneInAtomic, ExpectsAll, ExpectsTheOuter}
+use Rattle.test_calling.specs.SmallGrammars.{at_start}
+use Rattle.test_calling.specs.ExpectedPlaces.{Expects, NoneBelowNot, NoneInAtomic, ExpectsAll, ExpectsTheOuter}
 
 -- all derivations tell what one tells
 pub expects : {g : Grammar} {classes : Classes} {t : Text} {names : List Text} (f : Matches g classes (Ident (codes "a")) NonAtomicMode (at_start t) Failure) → expected f ≡ names → Expects g classes t names

@@ -4,7 +4,7 @@ use Rattle.base_language.specs.Language.Text.{Text}
 use Rattle.base_language.specs.Language.Expression.{Str, Ident, PosPred, Seq, RepMin, RepMinMax, NodeTag}
 use Rattle.base_language.specs.Language.Builtins.{is_one_of}
 use Rattle.base_language.specs.Language.WellFormed.{IsNullable, nullable_str, nullable_insens, nullable_soi, nullable_eoi, nullable_call, nullable_pos_pred, nullable_neg_pred, nullable_opt, nullable_min_zero, nullable_min, nullable_min_max_zero, nullable_min_max, nullable_push_literal, nullable_tag, CannotFail, cannot_fail_str, cannot_fail_insens, cannot_fail_call, cannot_fail_pos_pred, cannot_fail_min_zero, cannot_fail_min, cannot_fail_min_max_zero, cannot_fail_min_max, cannot_fail_push_literal, cannot_fail_tag, LeftCalls, left_name, left_first, left_second, left_pos_pred, left_neg_pred, left_tag}
-use Rattle.test_examples.specs.NullableExpressions.{NullableOrNot, CannotFailOrMay, LeftCalledOrNot}
+use Rattle.test_calling.specs.NullableExpressions.{NullableOrNot, CannotFailOrMay, LeftCalledOrNot}
 
 -- a literal of at least one character is neither
 takes_some : {c : ℕ} {t : Text} → IsNullable [] (Str (c ∷ t)) → ⊥

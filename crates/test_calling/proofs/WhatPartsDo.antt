@@ -4,8 +4,8 @@ use Rattle.base_language.specs.Language.State.{Classes}
 use Rattle.base_language.specs.Language.Expression.{whitespace, comment}
 use Rattle.base_language.specs.Language.Builtins.{builtins, property_names, general_categories, binary_properties, scripts}
 use Rattle.base_language.specs.Language.Meaning.{str, call, other, seq, seq_first, seq_second, opt, opt_none, rep, rep_none, rep_exact, rep_min, turn_none, skips, atomic, compound_atomic, between}
-use Rattle.test_examples.specs.SmallGrammars.{CompoundInsideAtomic, CompoundComments}
-use Rattle.test_examples.specs.SingleParts.{OnlyAtTheStart, HexDigits, AsksTheSet, TwoCopies, Options, LaterTurnsFail}
+use Rattle.test_calling.specs.SmallGrammars.{CompoundInsideAtomic, CompoundComments}
+use Rattle.test_calling.specs.SingleParts.{OnlyAtTheStart, HexDigits, AsksTheSet, TwoCopies, Options, LaterTurnsFail}
 
 module _ (classes : Classes) where
   pub only_at_the_start : OnlyAtTheStart classes

@@ -6,9 +6,9 @@ use Rattle.base_language.specs.Language.State.{Classes, Mode, State, Outcome}
 use Rattle.base_language.specs.Language.Builtins.{builtins}
 use Rattle.base_language.specs.Language.Meaning.{Matches, str, call, other, seq, seq_second, right, push_literal, tag, atomic, compound_atomic}
 use Rattle.base_language.specs.Language.LooseMeaning.{loose_other, loose_push_literal, loose_tag}
-use Rattle.test_examples.specs.SmallGrammars.{ends_at}
-use Rattle.test_examples.specs.TagsAndPushes.{LiteralPushes, TagsMeanNothing}
-use Rattle.test_examples.proofs.WhatIsExpected.{expects}
+use Rattle.test_calling.specs.SmallGrammars.{ends_at}
+use Rattle.test_calling.specs.TagsAndPushes.{LiteralPushes, TagsMeanNothing}
+use Rattle.test_calling.proofs.WhatIsExpected.{expects}
 
 module _ (classes : Classes) where
   nothing_else : (g : Grammar) (t : Text) (m : Mode) (s : State) (o : Outcome) → Matches g classes (PushLiteral t) m s o → o ≡ ends_at (record { position = s.position; rest = s.rest; stack = t ∷ s.stack })

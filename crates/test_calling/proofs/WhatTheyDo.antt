@@ -4,7 +4,7 @@ use Rattle.base_language.specs.Language.State.{Classes, Mode, NonAtomicMode, Ato
 use Rattle.base_language.specs.Language.Expression.{Str, Ident, Seq, Opt, Rep, Rule, whitespace, comment, rule_of}
 use Rattle.base_language.specs.Language.Text.{Text}
 use Rattle.base_language.specs.Language.Meaning.{slice, push, skip, range, Does, Task, Run, Skipping, str, call, other, seq, seq_first, seq_second, opt_none, rep_none, turn_none, skips, compound_atomic, between, skipped, body_mode, rep, rep_once, Matches, atomic, insens, pos_pred, neg_pred, left, right, turn, rep_min_max}
-use Rattle.test_examples.specs.SmallGrammars.{Alternatives, CommentsAreSkipped, EmptiesTheStack, LoudBlanks, NegativePredicates, ReadsTheTop, SlicesPastTheLength, TokensOfTheEnd, UndefinedNames, endless, at_start, ListingDiffers, BlankIsTaken, HasNone, BlankGivesToken, LastRuleIsMeant, NegativeSlices, Newlines, NonAtomicInside, OrdersOfTheStack, OtherReadings, PredicateRestores, PushPushes, RangesThatFail, ReadsEmptyStack, Skips, TokensOfAtomicRules}
+use Rattle.test_calling.specs.SmallGrammars.{Alternatives, CommentsAreSkipped, EmptiesTheStack, LoudBlanks, NegativePredicates, ReadsTheTop, SlicesPastTheLength, TokensOfTheEnd, UndefinedNames, endless, at_start, ListingDiffers, BlankIsTaken, HasNone, BlankGivesToken, LastRuleIsMeant, NegativeSlices, Newlines, NonAtomicInside, OrdersOfTheStack, OtherReadings, PredicateRestores, PushPushes, RangesThatFail, ReadsEmptyStack, Skips, TokensOfAtomicRules}
 use Rattle.base_language.proofs.OneOutcome.{same, same_state, from}
 use Rattle.base_language.specs.Language.Builtins.{builtins, property_names, general_categories, binary_properties, scripts}
 use Rattle.base_language.specs.Language.Matching.{other_outcome}

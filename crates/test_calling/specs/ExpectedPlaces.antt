@@ -5,7 +5,7 @@ use Rattle.base_language.specs.Language.Expression.{Expression, Str, Ident, Seq,
 use Rattle.base_language.specs.Language.State.{NonAtomicMode, Outcome, Failure, Classes}
 use Rattle.base_language.specs.Language.Meaning.{Matches}
 use Rattle.base_language.specs.Language.Expected.{expected}
-use Rattle.test_examples.specs.SmallGrammars.{at_start}
+use Rattle.test_calling.specs.SmallGrammars.{at_start}
 
 -- the rule `a` fails on a text, and these names are expected where it got no further
 pub record Expects (g : Grammar) (classes : Classes) (t : Text) (names : List Text) : Type 0 where

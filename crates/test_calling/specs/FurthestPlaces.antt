@@ -5,7 +5,7 @@ use Rattle.base_language.specs.Language.Expression.{Expression, Str, Ident, Seq,
 use Rattle.base_language.specs.Language.State.{NonAtomicMode, Outcome, Success, Failure, Classes, None', Tree}
 use Rattle.base_language.specs.Language.Meaning.{Matches}
 use Rattle.base_language.specs.Language.FurthestFailure.{furthest}
-use Rattle.test_examples.specs.SmallGrammars.{at_start, end_of}
+use Rattle.test_calling.specs.SmallGrammars.{at_start, end_of}
 
 -- the rule `a` has this outcome on a text, and this is the position of the furthest failure that counts
 pub record HasRun (g : Grammar) (classes : Classes) (t : Text) (o : Outcome) (place : ℕ) : Type 0 where

@@ -4,7 +4,7 @@ use Rattle.base_language.specs.Language.Expression.{Str, Ident, Choice, RepOnce,
 use Rattle.base_language.specs.Language.State.{NonAtomicMode, None', Tree, Success, Failure, Classes}
 use Rattle.base_language.specs.Language.Meaning.{Matches}
 use Rattle.base_language.specs.Language.LooseMeaning.{Done, Lost, MatchesLoosely}
-use Rattle.test_examples.specs.SmallGrammars.{at_start, stacked, end_of}
+use Rattle.test_calling.specs.SmallGrammars.{at_start, stacked, end_of}
 
 -- a POP that fails loses its entry, a POP_ALL all entries down to and with the first that differs
 pub record FailuresLose (classes : Classes) : Type 0 where

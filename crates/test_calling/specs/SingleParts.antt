@@ -3,7 +3,7 @@ use Rattle.std.specs.Prelude.{◌≡◌, true, false, [], ◌∷◌, codes}
 use Rattle.base_language.specs.Language.Expression.{Str, Ident, Seq, Opt, Rep, RepExact, RepMin, Silent, Normal, Grammar}
 use Rattle.base_language.specs.Language.State.{NonAtomicMode, AtomicMode, None', Tree, Success, Failure, Classes}
 use Rattle.base_language.specs.Language.Meaning.{Matches}
-use Rattle.test_examples.specs.SmallGrammars.{at_start, end_of, ends_at}
+use Rattle.test_calling.specs.SmallGrammars.{at_start, end_of, ends_at}
 
 -- SOI takes nothing at position 0, also before more text, and fails after a character
 pub record OnlyAtTheStart (classes : Classes) : Type 0 where

@@ -3,7 +3,7 @@ use Rattle.std.specs.Prelude.{◌≡◌, [], ◌∷◌, codes, map}
 use Rattle.base_language.specs.Language.Expression.{Str, Ident, Choice, Normal, Rule, Grammar}
 use Rattle.base_language.specs.Rewritings.Listing.{listed}
 use Rattle.base_language.specs.Rewritings.Rewriting.{Strings}
-use Rattle.test_examples.specs.SmallGrammars.{spelled_body, listed_body, spelled_grammar, listed_grammar}
+use Rattle.test_calling.specs.SmallGrammars.{spelled_body, listed_body, spelled_grammar, listed_grammar}
 
 abbrev pub listed_rule : Rule → Rule
 listed_rule r = record r { body = listed r.body }

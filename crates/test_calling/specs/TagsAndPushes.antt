@@ -5,8 +5,8 @@ use Rattle.base_language.specs.Language.Expression.{Expression, Str, Ident, Seq,
 use Rattle.base_language.specs.Language.State.{Mode, NonAtomicMode, AtomicMode, State, None', Tree, Outcome, Success, Failure, Classes}
 use Rattle.base_language.specs.Language.Meaning.{Matches}
 use Rattle.base_language.specs.Language.LooseMeaning.{Done, Lost, MatchesLoosely}
-use Rattle.test_examples.specs.SmallGrammars.{at_start, stacked, end_of, ends_at}
-use Rattle.test_examples.specs.ExpectedPlaces.{Expects, above_b_and_c}
+use Rattle.test_calling.specs.SmallGrammars.{at_start, stacked, end_of, ends_at}
+use Rattle.test_calling.specs.ExpectedPlaces.{Expects, above_b_and_c}
 
 -- a = ${ PUSH_LITERAL("x") ~ b }  b = { "y" }
 abbrev pub pushing : Grammar

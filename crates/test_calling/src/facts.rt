@@ -1,13 +1,13 @@
 //! Facts on small grammars: their outcomes by the definitions.
 ghost use Rattle.base_language.specs.Language.State.{Classes};
-ghost use Rattle.test_examples.specs.SmallGrammars.{ListingDiffers, BlankIsTaken, HasNone, ReadsEmptyStack, OrdersOfTheStack, NegativeSlices, TokensOfAtomicRules, PredicateRestores, PushPushes, Skips, Newlines, RangesThatFail, BlankGivesToken, NonAtomicInside, LastRuleIsMeant, OtherReadings, ReadsTheTop, EmptiesTheStack, NegativePredicates, Alternatives, CommentsAreSkipped, UndefinedNames, LoudBlanks, SlicesPastTheLength, TokensOfTheEnd, CompoundInsideAtomic, CompoundComments};
-ghost use Rattle.test_examples.specs.SingleParts.{OnlyAtTheStart, HexDigits, AsksTheSet, TwoCopies, Options, LaterTurnsFail};
-ghost use Rattle.test_examples.specs.FurthestPlaces.{CountsUnderPredicate, CountsByMode, CountsWhenGivenUp};
-ghost use Rattle.test_examples.specs.ExpectedPlaces.{NoneBelowNot, NoneInAtomic, ExpectsAll, ExpectsTheOuter};
-ghost use Rattle.test_examples.specs.NullableExpressions.{NullableOrNot, CannotFailOrMay, LeftCalledOrNot};
-ghost use Rattle.test_examples.specs.SmallRewritings.{ListingIsComputed, StringsOfNames};
-ghost use Rattle.test_examples.specs.LooseRuns.{FailuresLose, GoesOnFromWhatIsLeft, RepeatsInBoth};
-ghost use Rattle.test_examples.specs.TagsAndPushes.{LiteralPushes, TagsMeanNothing};
+ghost use Rattle.test_calling.specs.SmallGrammars.{ListingDiffers, BlankIsTaken, HasNone, ReadsEmptyStack, OrdersOfTheStack, NegativeSlices, TokensOfAtomicRules, PredicateRestores, PushPushes, Skips, Newlines, RangesThatFail, BlankGivesToken, NonAtomicInside, LastRuleIsMeant, OtherReadings, ReadsTheTop, EmptiesTheStack, NegativePredicates, Alternatives, CommentsAreSkipped, UndefinedNames, LoudBlanks, SlicesPastTheLength, TokensOfTheEnd, CompoundInsideAtomic, CompoundComments};
+ghost use Rattle.test_calling.specs.SingleParts.{OnlyAtTheStart, HexDigits, AsksTheSet, TwoCopies, Options, LaterTurnsFail};
+ghost use Rattle.test_calling.specs.FurthestPlaces.{CountsUnderPredicate, CountsByMode, CountsWhenGivenUp};
+ghost use Rattle.test_calling.specs.ExpectedPlaces.{NoneBelowNot, NoneInAtomic, ExpectsAll, ExpectsTheOuter};
+ghost use Rattle.test_calling.specs.NullableExpressions.{NullableOrNot, CannotFailOrMay, LeftCalledOrNot};
+ghost use Rattle.test_calling.specs.SmallRewritings.{ListingIsComputed, StringsOfNames};
+ghost use Rattle.test_calling.specs.LooseRuns.{FailuresLose, GoesOnFromWhatIsLeft, RepeatsInBoth};
+ghost use Rattle.test_calling.specs.TagsAndPushes.{LiteralPushes, TagsMeanNothing};
 
 /// `r = ${ ("a" ~ "b")* ~ "a" }` and its listed form differ on `ab`: the first fails, the second ends at 1.
 pub fn listing_differs()

@@ -2,6 +2,7 @@
 #![tactic(auto)]
 
 pub mod callers;
+pub mod facts;
 pub mod laws;
 pub mod mapped;
 pub mod tags;

@@ -1,5 +1,5 @@
-use Rattle.test_examples.proofs.facts.asks_the_set.Goals as goal
-use Rattle.test_examples.proofs.WhatPartsDo.{asks_the_set}
+use Rattle.test_calling.proofs.facts.asks_the_set.Goals as goal
+use Rattle.test_calling.proofs.WhatPartsDo.{asks_the_set}
 
 pub returns : goal.returns
 returns c = λ classes. asks_the_set classes

@@ -1,5 +1,5 @@
-use Rattle.test_examples.proofs.facts.expects_all.Goals as goal
-use Rattle.test_examples.proofs.WhatIsExpected.{expects_all}
+use Rattle.test_calling.proofs.facts.expects_all.Goals as goal
+use Rattle.test_calling.proofs.WhatIsExpected.{expects_all}
 
 pub returns : goal.returns
 returns c = λ classes. expects_all classes

@@ -1,5 +1,5 @@
-use Rattle.test_examples.proofs.facts.hex_digits.Goals as goal
-use Rattle.test_examples.proofs.WhatPartsDo.{hex_digits}
+use Rattle.test_calling.proofs.facts.hex_digits.Goals as goal
+use Rattle.test_calling.proofs.WhatPartsDo.{hex_digits}
 
 pub returns : goal.returns
 returns c = λ classes. hex_digits classes

@@ -1,5 +1,5 @@
-use Rattle.test_examples.proofs.facts.none_in_atomic.Goals as goal
-use Rattle.test_examples.proofs.WhatIsExpected.{none_in_atomic}
+use Rattle.test_calling.proofs.facts.none_in_atomic.Goals as goal
+use Rattle.test_calling.proofs.WhatIsExpected.{none_in_atomic}
 
 pub returns : goal.returns
 returns c = λ classes. none_in_atomic classes

@@ -1,5 +1,5 @@
-use Rattle.test_examples.proofs.facts.other_readings.Goals as goal
-use Rattle.test_examples.proofs.WhatTheyDo.{other_readings}
+use Rattle.test_calling.proofs.facts.other_readings.Goals as goal
+use Rattle.test_calling.proofs.WhatTheyDo.{other_readings}
 
 pub returns : goal.returns
 returns c = λ classes. other_readings classes

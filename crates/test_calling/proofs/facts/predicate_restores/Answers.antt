@@ -1,5 +1,5 @@
-use Rattle.test_examples.proofs.facts.predicate_restores.Goals as goal
-use Rattle.test_examples.proofs.WhatTheyDo.{predicate_restores}
+use Rattle.test_calling.proofs.facts.predicate_restores.Goals as goal
+use Rattle.test_calling.proofs.WhatTheyDo.{predicate_restores}
 
 pub returns : goal.returns
 returns c = λ classes. predicate_restores classes

@@ -1,5 +1,5 @@
-use Rattle.test_examples.proofs.facts.tags_mean_nothing.Goals as goal
-use Rattle.test_examples.proofs.WhatTagsDo.{tags_mean_nothing}
+use Rattle.test_calling.proofs.facts.tags_mean_nothing.Goals as goal
+use Rattle.test_calling.proofs.WhatTagsDo.{tags_mean_nothing}
 
 pub returns : goal.returns
 returns c = λ classes. tags_mean_nothing classes
