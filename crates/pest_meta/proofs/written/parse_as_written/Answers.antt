@@ -6,14 +6,14 @@ use Rattle.pest_meta.proofs.Spelled.{spells_accepted, written}
 use Rattle.pest_meta.proofs.WrittenPromised.{written_bounds, written_known}
 use Rattle.pest_meta.proofs.written.parse_as_written.Goals as goal
 
-pub returns-in_err-parse_with_spans-clause-refused : goal.returns-in_err-parse_with_spans-clause-refused
-returns-in_err-parse_with_spans-clause-refused c =
+pub returns-in_err-spanned-clause-refused : goal.returns-in_err-spanned-clause-refused
+returns-in_err-spanned-clause-refused c =
     let p = err_from_is_err_and c.from_residual.result c.from_residual.ensures.1 in
-    rw (p.1, p.2) c.in_err-parse_with_spans.ensures.refused
+    rw (p.1, p.2) c.in_err-spanned.ensures.refused
 
 pub returns-clause-rules : goal.returns-clause-rules
 returns-clause-rules c =
-    let spelled = c.in_ok-parse_with_spans in
+    let spelled = c.in_ok-spanned in
     let read = rule_views spelled.spanned.items in
     let out = rw c.in_ok-rules.ensures at c.unroll_rules.ensures.rules in
     let same = rw c.in_ok-rules.ensures at c.unroll_rules.ensures.outcomes in
@@ -22,12 +22,12 @@ returns-clause-rules c =
 
 pub returns-clause-known_names : goal.returns-clause-known_names
 returns-clause-known_names c =
-    let spelled = c.in_ok-parse_with_spans in
+    let spelled = c.in_ok-spanned in
     let out = rw c.in_ok-rules.ensures at c.unroll_rules.ensures.rules in
     written_known c.args.grammar.now c.utf8.grammar spelled.field-0-0.items (rule_views spelled.spanned.items) c.unroll_rules.result spelled.ensures.rules out
 
 pub returns-clause-character_bounds : goal.returns-clause-character_bounds
 returns-clause-character_bounds c =
-    let spelled = c.in_ok-parse_with_spans in
+    let spelled = c.in_ok-spanned in
     let out = rw c.in_ok-rules.ensures at c.unroll_rules.ensures.rules in
     written_bounds c.args.grammar.now c.utf8.grammar spelled.field-0-0.items (rule_views spelled.spanned.items) c.unroll_rules.result spelled.ensures.rules out
