@@ -120,7 +120,7 @@ module _ (P : Option Rule → ℕ → ℕ → Trees → Type 0) (at_end : (i : �
 
   module _ (text : List ℕ)
       (of_rule : (r : Rule) (m : Mode) (s t : State) (us : Trees) → IsStateIn (chars text) s → Does meta_grammar empty_classes (Run (body_mode (rule_at r) m) (body_of r)) s (Success t us)
-          → P (Some r) s.position t.position us) where
+      → P (Some r) s.position t.position us) where
     -- 2. a call of a rule
     of_call_at : (r : Rule) (m : Mode) (s : State) (o : Outcome) → IsStateIn (chars text) s → Does meta_grammar empty_classes (Run (body_mode (rule_at r) m) (body_of r)) s o
         → OfOutcome o → OfOutcome (with_token (rule_at r) m s o)
