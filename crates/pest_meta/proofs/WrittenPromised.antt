@@ -22,21 +22,18 @@ use Rattle.pest_meta.proofs.Promised.{read_builtins}
 
 module _ {E : Type 0} (text : List ℕ) (utf8 : IsUtf8 text) (builtins : List (Bor (List ℕ))) (read : List SpannedRule) (answer : Result (Vec OptimizedRule Global) E)
     (s : SpellsWithSpans text builtins read) (out : IfOk answer (λ answer. AreWrittenOut (rules_without_spans read) (optimized_rules_of answer.items))) where
-  rules : Grammar
+  abbrev rules : Grammar
   rules = rules_without_spans read
 
   kept_out : (P : Grammar → Type 0) → ((g h : Grammar) → EachBody HasNothingNew g h → P g → P h) → P rules → IfOk answer (λ answer. P (optimized_rules_of answer.items))
-  unfolding rules
   kept_out P keeps x =
       IfOk-weaker answer (λ answer. AreWrittenOut rules (optimized_rules_of answer.items)) (λ answer. P (optimized_rules_of answer.items))
       (λ answer w. kept_by_unrolling P keeps rules (optimized_rules_of answer.items) w x) out
 
   pub written_known : IfOk answer (λ answer. HasKnownNames (optimized_rules_of answer.items))
-  unfolding rules
   written_known =
       let outside = read_builtins text utf8 s.trees rules builtins s.of_text s.well_named s.uses s.accepted.give in
       kept_out HasKnownNames known_on (spelled_known rules builtins outside)
 
   pub written_bounds : IfOk answer (λ answer. HasCharacterBounds (optimized_rules_of answer.items))
-  unfolding rules
   written_bounds = kept_out HasCharacterBounds bounds_on (read_bounds text utf8 s.trees rules s.of_text s.accepted.give)
