@@ -209,6 +209,21 @@ uint8_t pest_meta_run(const uint8_t *block, size_t block_len, uint32_t rule, con
                       size_t text_len, size_t from, uint64_t steps, pest_meta_node_list *nodes,
                       size_t *end);
 
+/* As pest_meta_run, but a run that takes more than `steps` steps is not given up
+ * yet: a guided run looks in at most `turns` turns whether the rule matches, and
+ * makes the nodes in at most as many operations. Status 8 says that it has no
+ * answer either. */
+uint8_t pest_meta_run_guided(const uint8_t *block, size_t block_len, uint32_t rule,
+                             const uint8_t *text, size_t text_len, size_t from, uint64_t steps,
+                             uint64_t turns, pest_meta_node_list *nodes, size_t *end);
+
+/* How many turns suffice for a guided run on a text of so many bytes to tell
+ * whether a rule matches, where the grammar reads no entry of the stack. A turn
+ * may search many bytes, and memory grows with the turns. UINT64_MAX where there
+ * are as many or more. Any bytes may be handed over: of what is no block it says
+ * nothing. */
+uint64_t pest_meta_bound(const uint8_t *block, size_t block_len, size_t bytes);
+
 /* The rules that are expected at `place` in such a run, each once, in the order
  * in which they are first called there. A rule that fails has an answer; the
  * other statuses are those of pest_meta_run. */

@@ -1,4 +1,5 @@
 pub mod Answering
+pub mod Guiding
 pub mod HandedOver
 pub mod Lining
 pub mod Telling

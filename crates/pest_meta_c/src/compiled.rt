@@ -1,13 +1,17 @@
 //! Compiled grammars: blocks that are made once, lent at each run, and freed by the caller.
-ghost use Rattle.std.specs.Prelude.{◌≡◌, ◌≢◌, ◌⊎◌, Err, IfNone, IfSome, List, ℕ};
+ghost use Rattle.std.specs.Prelude.{◌≡◌, ◌≢◌, ◌⊎◌, ◌+◌, Err, IfNone, IfSome, List, length, ℕ};
 ghost use Rattle.std.specs.Borrow.{Bor};
 ghost use Rattle.std.specs.Str.{IsUtf8};
 ghost use Rattle.base_ast.specs.Optimized.{optimized_rules_of};
 ghost use Rattle.base_ast.specs.declared.optimized.OptimizedRule.{OptimizedRule};
 ghost use Rattle.format_binary.specs.Format.{optimized_rules_bytes};
 ghost use Rattle.format_binary.specs.Fronts.{AreOfNoRules};
+ghost use Rattle.base_language.specs.Pieces.Span.{position_offset, position_text};
+ghost use Rattle.format_code.specs.Codes.{lists_at};
 ghost use Rattle.matcher_code.specs.declared.state.TreeNode.{TreeNode};
-ghost use Rattle.matcher_engine.specs.Blocks.{HasFlaw, IsWhole};
+ghost use Rattle.matcher_engine.specs.Blocks.{HasFlaw, IsWhole, part_of};
+ghost use Rattle.matcher_engine.specs.Guided.{IsUnguided};
+ghost use Rattle.matcher_engine.specs.Recognitions.{enough_turns};
 ghost use Rattle.matcher_program.specs.Answers.{state_at};
 ghost use Rattle.matcher_support.specs.Sets.{is_in_property};
 ghost use Rattle.pest_meta_c.specs.Compiled.{AreAttemptsTold, ArePathsTold, AreTold, HasStart, IsBlockStatus, IsCompiled, IsRefusalTold, IsTold, Tells, state_from, status_of};
@@ -21,8 +25,8 @@ use base_language::runtime::{Fault, Position};
 use format_binary::{BinaryRefusal, read_optimized_rules};
 use matcher_code::state::TreeNode;
 use matcher_engine::block::{
-    BlockFlaw, BlockStop, attempts_block, check_block, compile_block, expected_block, paths_block,
-    run_block,
+    BlockFlaw, BlockStop, attempts_block, bound_block, check_block, compile_block, expected_block,
+    guide_block, paths_block, run_block,
 };
 use matcher_engine::matcher::Preorder;
 use matcher_program::answers::Stop;
@@ -68,6 +72,8 @@ fn hand_out<'a, T: Drop>(items: Vec<T>) -> &'a [T]
 /// Returns a place of a text, if the bytes are a text and the place is before a character or at the end.
 fn start_in(text: &[u8], from: usize) -> Option<Position<'_>>
     ensures state { IfSome result (λ start. state_at start ≡ state_from text.entry.now from) }
+    ensures text { IfSome result (λ start. position_text start ≡ text.entry.now) }
+    ensures place { IfSome result (λ start. position_offset start ≡ from) }
     ensures some { IfSome result (λ start. HasStart text.entry.now from) }
     ensures none { IfNone result (HasStart text.entry.now from → ⊥) }
 {
@@ -107,6 +113,32 @@ fn stop_status(stop: BlockStop) -> u8
 {
     let mut end = 0;
     tell_stop(stop, &mut end)
+}
+
+/// Hands out the nodes of a match, and its end, or reports why there is none.
+fn tell_match<'a>(
+    outcome: Result<Preorder, BlockStop>,
+    nodes: &mut &'a [TreeNode],
+    end: &mut usize,
+) -> u8
+    ensures told { Tells outcome nodes.new.now end.new result }
+    ensures text { result ≢ 3 }
+    ensures unchanged { result ≢ 0 → nodes.new ≡ nodes.old }
+    ensures end { result ≢ 0 → result ≢ 1 → end.new ≡ end.old }
+{
+    match outcome {
+        Ok(found) => {
+            let Preorder {
+                trees,
+                end: place,
+                ..
+            } = found;
+            *nodes = hand_out(trees);
+            *end = place;
+            ANSWERED
+        }
+        Err(stop) => tell_stop(stop, end),
+    }
 }
 
 /// Hands out the block of optimized rules, and returns the status.
@@ -215,19 +247,48 @@ pub extern "C" fn pest_meta_run<'a>(
     let Some(start) = start_in(text, from) else {
         return NO_TEXT;
     };
-    match run_block(alloc, block, rule, start, steps) {
-        Ok(found) => {
-            let Preorder {
-                trees,
-                end: place,
-                ..
-            } = found;
-            *nodes = hand_out(trees);
-            *end = place;
-            ANSWERED
-        }
-        Err(stop) => tell_stop(stop, end),
-    }
+    tell_match(run_block(alloc, block, rule, start, steps), nodes, end)
+}
+
+/// Runs the rule of a number as `pest_meta_run`, and where that is out of steps, by a guided run in at most
+/// so many turns.
+#[unsafe(no_mangle)]
+pub extern "C" fn pest_meta_run_guided<'a>(
+    alloc: Global,
+    block: &[u8],
+    rule: u32,
+    text: &[u8],
+    from: usize,
+    steps: u64,
+    turns: u64,
+    nodes: &mut &'a [TreeNode],
+    end: &mut usize,
+) -> u8
+    ensures told { result ≢ 3 → IsTold block.now rule text.now from steps nodes.new.now end.new result }
+    ensures start { result ≢ 3 → HasStart text.now from }
+    ensures no_start { result ≡ 3 → HasStart text.now from → ⊥ }
+    ensures unchanged { result ≢ 0 → nodes.new ≡ nodes.old }
+    ensures end { result ≢ 0 → result ≢ 1 → end.new ≡ end.old }
+    ensures pinned { result ≡ 8
+        → IsUnguided (lists_at (part_of block.now 0)) text.now (rule + 3) from turns }
+{
+    let Some(start) = start_in(text, from) else {
+        return NO_TEXT;
+    };
+    tell_match(
+        guide_block(alloc, block, rule, start, steps, turns),
+        nodes,
+        end,
+    )
+}
+
+/// Returns how many turns suffice for `pest_meta_run_guided` on a text of so many bytes, or `u64::MAX` where
+/// no `u64` holds them.
+#[unsafe(no_mangle)]
+pub extern "C" fn pest_meta_bound(block: &[u8], bytes: usize) -> u64
+    ensures { result ≡ enough_turns (length (lists_at (part_of block.now 0)).ops) bytes }
+{
+    bound_block(block, bytes)
 }
 
 /// Hands out the numbers of the rules that are expected at a place, in a run as by `pest_meta_run`.

@@ -1,11 +1,11 @@
-use Rattle.std.proofs.Common.{Err, subst}
+use Rattle.std.proofs.Common.{subst}
 use Rattle.matcher_engine.specs.BlockRuns.{IsOutcome}
 use Rattle.pest_meta_c.proofs.compiled.pest_meta_run.Goals as goal
 
-pub returns-in-Err-clause-told : goal.returns-in-Err-clause-told
-returns-in-Err-clause-told c = λ h. record {
-  outcome = Err c.in-Err.stop;
-  told = c.tell_stop.ensures.told c.args.nodes.now.now;
+pub returns-clause-told : goal.returns-clause-told
+returns-clause-told c = λ h. record {
+  outcome = c.run_block.result;
+  told = c.tell_match.ensures.told;
   is = λ g classes is n meant.
-      subst (λ s. IsOutcome g n s classes c.args.steps (Err c.in-Err.stop)) c.in-Some.ensures.state (c.in-Err.ensures g classes is n meant);
+      subst (λ s. IsOutcome g n s classes c.args.steps c.run_block.result) c.in-Some.ensures.state (c.run_block.ensures g classes is n meant);
 }
