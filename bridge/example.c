@@ -89,7 +89,7 @@ static void run_block(const uint8_t *grammar, size_t grammar_len)
     for (int i = 0; i < 2; i++) {
         const uint8_t *text = (const uint8_t *)texts[i];
         size_t length = strlen(texts[i]), end = 0;
-        pest_meta_node_list nodes = {PEST_META_EMPTY, 0};
+        pest_meta_node_list nodes = {PEST_META_EMPTY, 0}, guided = {PEST_META_EMPTY, 0};
         pest_meta_row_list rows = {PEST_META_EMPTY, 0}, others = {PEST_META_EMPTY, 0};
         pest_meta_path_list calls = {PEST_META_EMPTY, 0};
         status = pest_meta_run(block.at, block.count, 0, text, length, 0, UINT64_MAX, &nodes, &end);
@@ -99,8 +99,15 @@ static void run_block(const uint8_t *grammar, size_t grammar_len)
             printf("  rule %u from %u to %u, next %u\n", (unsigned)node->row, (unsigned)node->start,
                    (unsigned)node->end, (unsigned)node->after);
         }
+        status = pest_meta_run_guided(block.at, block.count, 0, text, length, 0, 0,
+                                      pest_meta_bound(block.at, block.count, length), &guided, &end);
+        printf("run_guided: status %d, end %zu, %s nodes\n", status, end,
+               guided.count == nodes.count && !memcmp(guided.at, nodes.at, nodes.count * sizeof *nodes.at) ? "the same"
+                                                                                                       : "other");
         if (nodes.count)
             free((void *)nodes.at);
+        if (guided.count)
+            free((void *)guided.at);
         if (status != PEST_META_REFUSED)
             continue;
         status = pest_meta_expected(block.at, block.count, 0, text, length, 0, end, UINT64_MAX, &rows);

@@ -324,16 +324,16 @@ class Match(NamedTuple):
 class MatchError(ValueError):
     """A rule does not match a text."""
 
-    def __init__(self, position: int, expected: Sequence[str], source: bytes) -> None:
+    def __init__(self, position: int, expected: Sequence[str], source: bytes, note: Optional[str] = None) -> None:
         before = source[:position].decode()
         self.position = position
         """The furthest byte at which a rule failed."""
         self.expected = tuple(expected)
-        """The rules that would have let the run get further."""
+        """The rules that would have let the run get further; none where the message says that they were not found."""
         self.line = before.count("\n") + 1
         self.column = len(before) - before.rfind("\n")
         expectation = f"expected {', '.join(expected)}" if expected else "unknown parsing error"
-        super().__init__(f"{self.line}:{self.column}: {expectation}")
+        super().__init__(f"{self.line}:{self.column}: {note or expectation}")
 
 
 class RunError(RuntimeError):
@@ -357,24 +357,34 @@ class Matcher:
     def parse(self, rule: str, text: str, steps: Optional[int] = None) -> Match:
         """Matches a text by the rule of a name, from the text's start on.
 
-        The match takes so many steps at most, and so does the search for the rules that are expected where it fails;
-        with None 1,000 for each byte of the text and 1,000,000 more. A limit of 2**64 - 1 is none.
+        A grammar that reads no entry of the stack needs no limit: where a match takes many steps, a guided run takes
+        its place, in as many turns as suffice for any text of that length (docs/SPEC.md). A turn that searches a text
+        may take many bytes, and memory grows with the turns.
+
+        With `steps` the match takes so many at most, and so does the search for the rules that are expected where it
+        fails. With None these are 1,000 for each byte of the text and 1,000,000 more: for the search, and for
+        a match of other grammars. A limit of 2**64 - 1 is none.
 
         Raises MatchError where the rule does not match, ValueError where no rule has the name, and RunError where
-        the run is stopped, also where the rule fails and only the search takes more. A rule that does not end in EOI
-        may match a part of the text: see Match.end.
+        the run is stopped: with `steps` also where the rule fails and only the search takes more. A rule that does not
+        end in EOI may match a part of the text: see Match.end.
         """
         source = text.encode()
-        steps = _steps_for(source) if steps is None else steps
         words = self._words(rule, source)
+        most = _steps_for(source) if steps is None else steps
         nodes, end = _List(), ctypes.c_size_t()
-        status = _library().pest_meta_run(*words, steps, ctypes.byref(nodes), ctypes.byref(end))
+        found = ctypes.byref(nodes), ctypes.byref(end)
+        if steps is None:
+            turns = _library().pest_meta_bound(*words[:2], len(source))
+            status = _library().pest_meta_run_guided(*words, most, turns, *found)
+        else:
+            status = _library().pest_meta_run(*words, most, *found)
         if status == _ANSWERED:
-            found = _Nodes(_taken(nodes, 16), source, self._all_names)
-            return Match(end.value, found.trees(0, len(found.numbers) // 4))
+            trees = _Nodes(_taken(nodes, 16), source, self._all_names)
+            return Match(end.value, trees.trees(0, len(trees.numbers) // 4))
         if status == _REFUSED:
-            raise MatchError(end.value, self._expected([*words, end.value, steps]), source)
-        raise _stop(status, "pest_meta_run", rule, steps)
+            raise self._failure(words, end.value, most, steps is None)
+        raise _stop(status, "pest_meta_run", rule, most)
 
     def paths(self, rule: str, text: str, position: int, steps: Optional[int] = None) -> List[List[Tuple[str, int]]]:
         """Where in the grammar the rules of a MatchError at a position, in bytes, are expected.
@@ -400,13 +410,20 @@ class Matcher:
             raise ValueError(f"no rule has the name {rule!r}")
         return [self._block, len(self._block), row, source, len(source), 0]
 
-    def _expected(self, words: List[Any]) -> List[str]:
-        """The rules that are expected at a place of a run that fails, sorted by name."""
+    def _failure(self, words: List[Any], position: int, steps: int, may_lack: bool) -> Exception:
+        """The error of a run that fails at a position, with the rules that are expected there, sorted by name.
+
+        They may be lacking, where so many steps do not find them.
+        """
         rows = _List()
-        status = _library().pest_meta_expected(*words, ctypes.byref(rows))
+        status = _library().pest_meta_expected(*words, position, steps, ctypes.byref(rows))
+        if status == _OUT_OF_STEPS and may_lack:
+            note = f"what is expected here was not found in {steps} steps"
+            return MatchError(position, (), words[3], note)
         if status != _ANSWERED:
-            raise _stop(status, "pest_meta_expected", self.names[words[2]], words[-1])
-        return sorted({self._all_names[row] for row in memoryview(_taken(rows, 4)).cast("I")})
+            return _stop(status, "pest_meta_expected", self.names[words[2]], steps)
+        names = sorted({self._all_names[row] for row in memoryview(_taken(rows, 4)).cast("I")})
+        return MatchError(position, names, words[3])
 
 
 def _steps_for(source: bytes) -> int:
@@ -668,9 +685,12 @@ def _declare_runs(library: Any) -> None:
     library.pest_meta_compile.argtypes = [*text, found]
     library.pest_meta_check.argtypes = text
     library.pest_meta_run.argtypes = [*run, ctypes.c_uint64, found, ctypes.POINTER(ctypes.c_size_t)]
+    library.pest_meta_run_guided.argtypes = [*run, ctypes.c_uint64, *library.pest_meta_run.argtypes[-3:]]
+    library.pest_meta_bound.argtypes = [*text, place]
+    library.pest_meta_bound.restype = ctypes.c_uint64
     library.pest_meta_expected.argtypes = [*run, place, ctypes.c_uint64, found]
     library.pest_meta_paths.argtypes = [*run, place, ctypes.c_uint64, found]
-    for name in ("compile", "check", "run", "expected", "paths"):
+    for name in ("compile", "check", "run", "run_guided", "expected", "paths"):
         getattr(library, f"pest_meta_{name}").restype = ctypes.c_uint8
 
 

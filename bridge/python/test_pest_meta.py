@@ -6,6 +6,7 @@ import subprocess
 import sys
 import threading
 import unittest
+import unittest.mock
 
 import pest_meta
 from pest_meta import Expr, GrammarError, LibraryError, Matcher, MatchError, Problem, Rule, RunError
@@ -164,6 +165,30 @@ class Diagnosing(unittest.TestCase):
         self.assertGreater(count, 100)
 
 
+# Between two calls of `item` at a place it is called at others, so that steps grow by three times with each parenthesis.
+NESTED = """
+list = { first | second | pair | item }
+first = { item ~ list ~ "!" }
+second = { item ~ list ~ "?" }
+pair = { item ~ list }
+item = { "(" ~ list ~ ")" | "x" }
+"""
+
+
+def nested(depth):
+    return "(" * depth + "x" + ")x" * depth
+
+
+def answer_of(matcher, text, steps):
+    """The end and all trees of a match of `list`, or where it fails."""
+    try:
+        match = matcher.parse("list", text, steps)
+        trees = [each for tree in match.trees for each in tree.walk()]
+        return match.end, [(tree.rule, tree.start, tree.end) for tree in trees]
+    except MatchError as error:
+        return error.position
+
+
 LISTS = """
 list = { "[" ~ (item ~ ("," ~ item)*)? ~ "]" ~ EOI }
 item = @{ letter+ }
@@ -222,6 +247,30 @@ class Matching(unittest.TestCase):
             with self.assertRaises(MatchError) as caught:
                 ambiguous.parse("s", "x" * length, steps=2**64 - 1)
             self.assertEqual((caught.exception.position, caught.exception.expected), (length, ("a",)))
+
+    def test_no_text_makes_a_plain_grammar_slow(self):
+        matcher, depth = Matcher(NESTED), 2_000
+        [root] = matcher.parse("list", nested(depth)).trees
+        self.assertEqual(sum(1 for _ in root.walk()), 5 * depth + 2)
+        with self.assertRaisesRegex(RunError, "more than 7001000 steps"):
+            matcher.parse("list", nested(depth), steps=7_001_000)
+        words = Matcher('file = { SOI ~ (word | x)* ~ EOI } word = { letter* ~ "!" } letter = { "x" } x = { "x" }')
+        self.assertEqual(len(words.parse("file", "x" * 20_000).trees[0].children), 20_001)
+        with self.assertRaisesRegex(MatchError, "1:20001: what is expected here was not found in 21001000 steps") as caught:
+            words.parse("file", "x" * 20_000 + "?")
+        self.assertEqual((caught.exception.position, caught.exception.expected), (20_000, ()))
+
+    def test_a_guided_run_has_the_same_answers(self):
+        matcher = Matcher(NESTED)
+        for text in ["x", "(x)x", "xx!", "(xx?)x", "((x)x)x?", nested(6), "", "(", "(x)x!y", "((x)y"]:
+            plain = answer_of(matcher, text, 2**64 - 1)
+            with unittest.mock.patch.object(pest_meta, "_steps_for", lambda source: 0):
+                self.assertEqual(answer_of(matcher, text, None), plain)
+
+    def test_a_grammar_that_reads_the_stack_has_a_limit(self):
+        matcher = Matcher(NESTED.replace('| "x"', '| PUSH("x") ~ DROP'))
+        with self.assertRaisesRegex(RunError, "more than 7001000 steps"):
+            matcher.parse("list", nested(2_000))
 
     def test_long_and_deep_texts(self):
         matcher = Matcher('a = { "(" ~ a ~ ")" | "x"* }')

@@ -136,6 +136,18 @@ fn depth_takes_no_stack() {
     assert_eq!((printed.matches("list(").count(), tokens), (100_000, 200_000));
 }
 
+/// Steps run out on so many letters, and a guided run goes on without them.
+#[test]
+fn no_text_makes_a_parser_slow() {
+    assert_eq!(here::hostile::tokens(12), original::hostile::tokens(12));
+    assert_eq!(here::hostile::failure(12), original::hostile::failure(12));
+    let letters = 20_000;
+    assert_eq!(here::hostile::tokens(letters).len(), 2 * (letters + 2));
+    let (pos, printed) = here::hostile::failure(letters);
+    assert_eq!(pos, letters);
+    assert!(printed.ends_with("= what is expected here was not found in 21001000 steps"), "{printed}");
+}
+
 #[test]
 fn the_end_is_a_rule() {
     for text in ["", "1"] {

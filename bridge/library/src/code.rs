@@ -52,7 +52,8 @@ pub fn compile_rules(rules: &[u8]) -> Result<Vec<u8>, Uncompiled> {
     }
 }
 
-/// The most steps that a run on a text may take, if its caller names no limit: 1,000 a byte, and 1,000,000 more.
+/// The most steps that [`run`], [`expected`] and [`attempts`] may take on a text, if their caller names no limit: 1,000 a
+/// byte, and 1,000,000 more.
 pub fn most_steps(text: &str) -> u64 {
     (text.len() as u64).saturating_add(1_000).saturating_mul(1_000)
 }
@@ -66,7 +67,36 @@ pub fn most_steps(text: &str) -> u64 {
 /// Where the library has no memory.
 pub fn run(block: &[u8], row: u32, text: &str, steps: u64) -> Result<Nodes, Unmatched> {
     let (mut nodes, mut end) = (Given::new(), 0);
-    match foreign::run(block, row, text, steps, &mut nodes, &mut end) {
+    let status = foreign::run(block, row, text, steps, &mut nodes, &mut end);
+    answer(status, nodes, end)
+}
+
+/// Runs the rule of a row from the start of a text by a guided run, for a rule that [`run`] gives up: a run without trees
+/// looks in at most so many turns whether the rule matches, and one of at most as many operations makes the trees.
+///
+/// With [`bound`] turns the first is never given up where the grammar reads no entry of the stack. A turn that searches,
+/// as one of `(!"x" ~ ANY)*`, may take many bytes. The memory of such a run grows with its turns.
+///
+/// # Errors
+/// The rule fails, or is stopped, or there is none.
+///
+/// # Panics
+/// Where the library has no memory.
+pub fn run_guided(block: &[u8], row: u32, text: &str, turns: u64) -> Result<Nodes, Unmatched> {
+    let (mut nodes, mut end) = (Given::new(), 0);
+    let status = foreign::run_guided(block, row, text, 0, turns, &mut nodes, &mut end);
+    answer(status, nodes, end)
+}
+
+/// How many turns suffice for [`run_guided`] on a text of so many bytes: one more than `3 * L * (L * (bytes + 1) + 1)`,
+/// where the block has `L` operations.
+pub fn bound(block: &[u8], bytes: usize) -> u64 {
+    foreign::bound(block, bytes)
+}
+
+/// What a status says of a run.
+fn answer(status: u8, nodes: Nodes, end: usize) -> Result<Nodes, Unmatched> {
+    match status {
         0 => Ok(nodes),
         1 => Err(Unmatched::Failed { pos: end }),
         5 | 11 => Err(Unmatched::NoBlock),
@@ -79,16 +109,16 @@ pub fn run(block: &[u8], row: u32, text: &str, steps: u64) -> Result<Nodes, Unma
 }
 
 /// The rows of the rules that could have let a run get further than a position at which [`run`] fails, in the order in
-/// which they are first called there. There are none where the run is stopped.
+/// which they are first called there. Nothing is known of them where the run takes more steps than so many.
 ///
 /// # Panics
 /// Where the library has no memory.
-pub fn expected(block: &[u8], row: u32, text: &str, pos: usize, steps: u64) -> Vec<u32> {
+pub fn expected(block: &[u8], row: u32, text: &str, pos: usize, steps: u64) -> Option<Vec<u32>> {
     let mut rows = Given::new();
     match foreign::expected(block, row, text, pos, steps, &mut rows) {
-        0 => rows.to_vec(),
+        0 => Some(rows.to_vec()),
         2 => no_answer(2),
-        _ => Vec::new(),
+        _ => None,
     }
 }
 

@@ -134,6 +134,19 @@ extern "C" {
         nodes: *mut Lent<Node>,
         end: *mut usize,
     ) -> u8;
+    fn pest_meta_run_guided(
+        block: *const u8,
+        block_len: usize,
+        rule: u32,
+        text: *const u8,
+        text_len: usize,
+        from: usize,
+        steps: u64,
+        turns: u64,
+        nodes: *mut Lent<Node>,
+        end: *mut usize,
+    ) -> u8;
+    fn pest_meta_bound(block: *const u8, block_len: usize, bytes: usize) -> u64;
     fn pest_meta_expected(
         block: *const u8,
         block_len: usize,
@@ -245,6 +258,40 @@ pub fn run(block: &[u8], rule: u32, text: &str, steps: u64, nodes: &mut Given<No
             end,
         )
     }
+}
+
+/// Runs the rule of a row as [`run`], and where that is out of steps, by a guided run in at most so many turns.
+pub fn run_guided(
+    block: &[u8],
+    rule: u32,
+    text: &str,
+    steps: u64,
+    turns: u64,
+    nodes: &mut Given<Node>,
+    end: &mut usize,
+) -> u8 {
+    *nodes = Given::new();
+    // SAFETY: as above.
+    unsafe {
+        pest_meta_run_guided(
+            block.as_ptr(),
+            block.len(),
+            rule,
+            text.as_ptr(),
+            text.len(),
+            0,
+            steps,
+            turns,
+            &mut nodes.lent,
+            end,
+        )
+    }
+}
+
+/// How many turns suffice for [`run_guided`] on a text of so many bytes.
+pub fn bound(block: &[u8], bytes: usize) -> u64 {
+    // SAFETY: as above.
+    unsafe { pest_meta_bound(block.as_ptr(), block.len(), bytes) }
 }
 
 /// The rows of the rules that are expected at a position, where a rule is run as by [`run`].

@@ -3,6 +3,7 @@
 //! The grammars are those of the tests of the crate pest_vm, of ../programs and of this folder.
 pub mod chains;
 pub mod depth;
+pub mod hostile;
 pub mod places;
 
 use pest::error::{ErrorVariant, InputLocation, LineColLocation};

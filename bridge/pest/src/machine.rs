@@ -47,33 +47,89 @@ pub fn parse_block<'i, R: RuleType>(
     Ok(pairs(nodes, text, Rules::List(rules)))
 }
 
-/// Runs the rule of a row of a compiled grammar from the start of a text.
+/// Runs the rule of a row of a compiled grammar from the start of a text: in a number of steps that suffices for nearly
+/// all texts, and then by a guided run, which always ends soon where the grammar reads no entry of the stack.
 fn run<R: RuleType>(block: &[u8], row: u32, text: &str, rule: impl Fn(u32) -> R) -> Result<Nodes, Error<R>> {
     let steps = code::most_steps(text);
     match code::run(block, row, text, steps) {
         Ok(nodes) => Ok(nodes),
-        Err(Unmatched::Failed { pos }) => {
-            let rules = |rows: &[u32]| {
-                let mut rules: Vec<R> = rows.iter().map(|row| rule(*row)).collect();
-                rules.sort_unstable();
-                rules.dedup();
-                rules
-            };
-            // Up to three runs, which remember no calls, so each has the limit of steps of the first. Where one does not end
-            // in these, or has too many attempts, the error names the rules that are expected at the furthest failure.
-            let (pos, positives, negatives) = match code::attempts(block, row, text, pos, steps) {
-                Some(found) => (found.pos, rules(&found.positives), rules(&found.negatives)),
-                None => (pos, rules(&code::expected(block, row, text, pos, steps)), Vec::new()),
-            };
-            Err(error_at(text, pos, ErrorVariant::ParsingError { positives, negatives }))
+        Err(Unmatched::Failed { pos }) => Err(failure(block, row, text, pos, steps, rule)),
+        Err(Unmatched::OutOfSteps) => {
+            match code::run_guided(block, row, text, code::bound(block, text.len())) {
+                Ok(nodes) => Ok(nodes),
+                Err(Unmatched::Failed { pos }) => Err(expectation(block, row, text, pos, steps, rule)),
+                Err(why) => Err(stopped(text, why)),
+            }
         }
-        Err(Unmatched::EmptyStack) => Err(custom(text, "PEEK or POP was called on the empty stack")),
-        Err(Unmatched::OutOfSteps) => Err(custom(text, "the rule takes too many steps")),
-        Err(Unmatched::TooLong) => Err(custom(text, "texts of 4 GiB and more are not parsed")),
-        Err(why @ (Unmatched::NoBlock | Unmatched::NoRule)) => {
-            panic!("the bytes are those of a compiled grammar that has the rule: {why:?}")
+        Err(why) => Err(stopped(text, why)),
+    }
+}
+
+/// The error of a rule that fails with its furthest failure at a byte of a text.
+///
+/// It takes up to three runs, which remember no calls, so each has the limit of steps of the first. Where one does not end
+/// in these, or has too many attempts, the error names the rules that are expected at the furthest failure.
+fn failure<R: RuleType>(
+    block: &[u8],
+    row: u32,
+    text: &str,
+    pos: usize,
+    steps: u64,
+    rule: impl Fn(u32) -> R,
+) -> Error<R> {
+    match code::attempts(block, row, text, pos, steps) {
+        Some(found) => {
+            let (positives, negatives) = (rules(&found.positives, &rule), rules(&found.negatives, &rule));
+            error_at(text, found.pos, ErrorVariant::ParsingError { positives, negatives })
+        }
+        None => expectation(block, row, text, pos, steps, rule),
+    }
+}
+
+/// The error that names the rules that are expected at the furthest failure of a rule, at a byte of a text, if they are
+/// found in so many steps.
+fn expectation<R: RuleType>(
+    block: &[u8],
+    row: u32,
+    text: &str,
+    pos: usize,
+    steps: u64,
+    rule: impl Fn(u32) -> R,
+) -> Error<R> {
+    match code::expected(block, row, text, pos, steps) {
+        Some(rows) => {
+            let positives = rules(&rows, rule);
+            error_at(text, pos, ErrorVariant::ParsingError { positives, negatives: Vec::new() })
+        }
+        None => {
+            let message = format!("what is expected here was not found in {steps} steps");
+            error_at(text, pos, ErrorVariant::CustomError { message })
         }
     }
+}
+
+/// The rules of rows, each once, in their order.
+fn rules<R: RuleType>(rows: &[u32], rule: impl Fn(u32) -> R) -> Vec<R> {
+    let mut rules: Vec<R> = rows.iter().map(|row| rule(*row)).collect();
+    rules.sort_unstable();
+    rules.dedup();
+    rules
+}
+
+/// The error of a rule that has no answer.
+///
+/// # Panics
+/// Where the bytes are no compiled grammar with the rule.
+fn stopped<R: RuleType>(text: &str, why: Unmatched) -> Error<R> {
+    let message = match why {
+        Unmatched::EmptyStack => "PEEK or POP was called on the empty stack",
+        Unmatched::OutOfSteps => "the rule takes too many steps",
+        Unmatched::TooLong => "texts of 4 GiB and more are not parsed",
+        Unmatched::Failed { .. } | Unmatched::NoBlock | Unmatched::NoRule => {
+            panic!("the bytes are those of a compiled grammar that has the rule: {why:?}")
+        }
+    };
+    error_at(text, 0, ErrorVariant::CustomError { message: message.to_owned() })
 }
 
 /// Runs `EOI`, of a row, from the start of a text. The library runs rules of the grammar alone.
@@ -100,9 +156,4 @@ fn pairs<'i, R: RuleType>(nodes: Nodes, text: &'i str, rules: Rules<'i, R>) -> P
 /// An error at a byte of a text.
 fn error_at<R: RuleType>(text: &str, pos: usize, variant: ErrorVariant<R>) -> Error<R> {
     Error::new_from_pos(variant, Position::new(text, pos).expect("the library answers positions of the text"))
-}
-
-/// An error at the start of a text.
-fn custom<R: RuleType>(text: &str, message: &str) -> Error<R> {
-    error_at(text, 0, ErrorVariant::CustomError { message: message.to_owned() })
 }

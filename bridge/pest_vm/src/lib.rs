@@ -22,7 +22,8 @@
 //! | The original | Here |
 //! |---|---|
 //! | `PEEK` or `POP` on the empty stack panics | an error at the start of the text |
-//! | a rule takes any time, unless `pest::set_call_limit` was called | an error at the start of the text after 1,000 steps a byte and 1,000,000 more, also where the rule fails and the search for the expected rules takes more |
+//! | a rule takes any time, unless `pest::set_call_limit` was called | after 1,000 steps a byte and 1,000,000 more a guided run takes its place, which tells in a number of turns that is linear in the text whether the rule matches; where it comes to an operation on the stack, an error at the start of the text |
+//! | an error names its rules after any time | where as many steps do not find them, it says so at the furthest position of a failure |
 //! | the listener is called at each call of a rule | at each token of a match, in the order of their starts |
 //! | a builtin can be parsed as a rule | another name than a rule's panics, as an undefined rule does there |
 //! | pairs of later versions have tags | pairs have none |
@@ -81,7 +82,7 @@ impl Vm {
     /// with the rules expected there.
     ///
     /// A rule that has no outcome, since `PEEK` or `POP` meets the empty stack, is an error at the start, and so is
-    /// one that takes more steps than a text of this length is allowed.
+    /// one that uses the stack and takes more steps than a text of this length is allowed.
     ///
     /// # Panics
     /// Where no rule has the name, where the rules call a name that is neither a rule nor a builtin, and where

@@ -196,6 +196,40 @@ grammar_test!(
     ["1", "{}", "[1, -2.5 , \"a\\n\"]", "{\"a\": [true,{\"b\":null}], \"\": 0}", "[[[[]]]]"]
 );
 
+grammar_test!(
+    nested,
+    "../tests/grammars/nested.pest",
+    list,
+    ["(", ")", "x", "!", "?", "(x)", "(xx)x", "xx!"],
+    ["x", "xx", "(x)x", "((x)x)x", "xx!", "(xx?)x"]
+);
+
+/// So many lists, each in another, with a pair for each.
+fn nested_lists(depth: usize) -> String {
+    format!("{}x{}", "(".repeat(depth), ")x".repeat(depth))
+}
+
+/// The derived parser takes three times as long for each list more.
+#[test]
+fn no_text_makes_a_machine_slow() {
+    let vm = machine(include_str!("grammars/nested.pest"));
+    let (depth, text) = (2_000, nested_lists(2_000));
+    let pairs = vm.parse("list", &text).unwrap();
+    assert_eq!((pairs.as_str(), pairs.flatten().count()), (text.as_str(), 5 * depth + 2));
+    let error = vm.parse("all", &nested_lists(2_000).replace("(x)", "(y)")).unwrap_err();
+    assert_eq!(error.location, InputLocation::Pos(depth));
+}
+
+#[test]
+fn a_grammar_that_reads_the_stack_has_a_limit() {
+    let grammar = include_str!("grammars/nested.pest").replace(r#"| "x""#, r#"| PUSH("x") ~ DROP"#);
+    let error = machine(&grammar).parse("list", &nested_lists(2_000)).unwrap_err();
+    assert_eq!(
+        error.variant,
+        ErrorVariant::CustomError { message: "the rule takes too many steps".to_owned() }
+    );
+}
+
 #[test]
 fn a_failure_has_its_position_and_what_was_expected() {
     let vm = machine(include_str!("grammars/lists.pest"));
