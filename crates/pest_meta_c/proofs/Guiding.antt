@@ -1,5 +1,5 @@
 -- What the status of a guided run says.
-use Rattle.std.proofs.Common.{◌≡◌, sym, ◌∙◌, ℕ, List, Ok, Err}
+use Rattle.std.proofs.Common.{◌≡◌, ℕ, List, Ok, Err, arith}
 use Rattle.std.specs.Prelude.{IfErr, Result}
 use Rattle.matcher_code.specs.Lists.{CodeLists}
 use Rattle.matcher_code.specs.declared.state.TreeNode.{TreeNode}
@@ -15,13 +15,13 @@ module _ (code : CodeLists) (text : List ℕ) (entry from turns : ℕ) (nodes : 
   -- 8 is that of a run without an answer
   pub unguided : (r : Result Preorder BlockStop) → Tells r nodes end status → IfErr r (IsPinnedStop code text entry from turns)
       → IsUnguided code text entry from turns
-  unguided (Ok it) told pinned = let z : 0 ≡ 8 = sym told.0 ∙ is in cc
-  unguided (Err (stop.NoMatch place)) told pinned = let z : 1 ≡ 8 = sym told.0 ∙ is in cc
+  unguided (Ok it) told pinned = let z : status ≡ 0 = told.0 in absurd (omega (arith, z, is))
+  unguided (Err (stop.NoMatch place)) told pinned = let z : status ≡ 1 = told.0 in absurd (omega (arith, z, is))
   unguided (Err (stop.Stopped limit.OutOfSteps)) told pinned = pinned
-  unguided (Err (stop.Stopped limit.Memory)) told pinned = let z : 2 ≡ 8 = sym told ∙ is in cc
-  unguided (Err (stop.Stopped limit.EmptyStack)) told pinned = let z : 9 ≡ 8 = sym told ∙ is in cc
-  unguided (Err (stop.Stopped limit.TextTooLong)) told pinned = let z : 10 ≡ 8 = sym told ∙ is in cc
-  unguided (Err stop.NoRule) told pinned = let z : 7 ≡ 8 = sym told ∙ is in cc
-  unguided (Err (stop.Flaw flaw.NoBlock)) told pinned = let z : 5 ≡ 8 = sym told ∙ is in cc
-  unguided (Err (stop.Flaw flaw.OtherVersion)) told pinned = let z : 11 ≡ 8 = sym told ∙ is in cc
-  unguided (Err (stop.Flaw flaw.Changed)) told pinned = let z : 12 ≡ 8 = sym told ∙ is in cc
+  unguided (Err (stop.Stopped limit.Memory)) told pinned = let z : status ≡ 2 = told in absurd (omega (arith, z, is))
+  unguided (Err (stop.Stopped limit.EmptyStack)) told pinned = let z : status ≡ 9 = told in absurd (omega (arith, z, is))
+  unguided (Err (stop.Stopped limit.TextTooLong)) told pinned = let z : status ≡ 10 = told in absurd (omega (arith, z, is))
+  unguided (Err stop.NoRule) told pinned = let z : status ≡ 7 = told in absurd (omega (arith, z, is))
+  unguided (Err (stop.Flaw flaw.NoBlock)) told pinned = let z : status ≡ 5 = told in absurd (omega (arith, z, is))
+  unguided (Err (stop.Flaw flaw.OtherVersion)) told pinned = let z : status ≡ 11 = told in absurd (omega (arith, z, is))
+  unguided (Err (stop.Flaw flaw.Changed)) told pinned = let z : status ≡ 12 = told in absurd (omega (arith, z, is))

@@ -1,4 +1,5 @@
-use Rattle.std.proofs.Common.{◌+◌, ℕ, List, subst}
+use Rattle.std.proofs.Common.{◌+◌, subst}
+use Rattle.base_language.specs.Pieces.Span.{position_offset, position_text}
 use Rattle.format_code.specs.Codes.{lists_at}
 use Rattle.matcher_engine.specs.Blocks.{part_of}
 use Rattle.matcher_engine.specs.BlockRuns.{IsOutcome}
@@ -17,6 +18,7 @@ returns-clause-told c = λ h. record {
 pub returns-clause-pinned : goal.returns-clause-pinned
 returns-clause-pinned c = λ e.
     let code = lists_at (part_of c.args.block.now 0) in
-    let told = unguided code _ (c.args.rule + 3) _ c.args.turns _ _ _ e c.guide_block.result c.tell_match.ensures.told c.guide_block.ensures.pinned in
+    let start = c.in-Some.start in
+    let told = unguided code (position_text start) (c.args.rule + 3) (position_offset start) c.args.turns _ _ _ e c.guide_block.result c.tell_match.ensures.told c.guide_block.ensures.pinned in
     subst (λ t. IsUnguided code t (c.args.rule + 3) c.args.from c.args.turns) c.in-Some.ensures.text
-    (subst (λ i. IsUnguided code _ (c.args.rule + 3) i c.args.turns) c.in-Some.ensures.place told)
+    (subst (λ i. IsUnguided code (position_text start) (c.args.rule + 3) i c.args.turns) c.in-Some.ensures.place told)
