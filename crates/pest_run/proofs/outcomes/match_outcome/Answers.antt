@@ -1,4 +1,4 @@
-use Rattle.std.proofs.Common.{rules, subst}
+use Rattle.std.proofs.Common.{refl, rules, subst}
 use Rattle.matcher_engine.specs.declared.block.runs.BlockStop.{BlockStop}
 use Rattle.matcher_support.specs.Compiled.{IsUnanswered}
 use Rattle.std.specs.Str.{IsCharBoundary}
@@ -26,7 +26,7 @@ returns-then-is_out_of_steps c = λ g of name found.
     let P : BlockStop → Type 0 = λ s. IsUnanswered g c.args.rule.now c.args.text.now c.args.steps s in
     let long = subst P (c.is_out_of_steps.ensures c.if-is_out_of_steps.true) (c.in-Err.ensures.refused g of) in
     let told = c.unnamed_match.ensures _ _ (c.walk-walk-then-is_out_of_steps.ensures g of _ _ _ found) in
-    shows_unnamed g c.args.rule.now name c.args.text.now c.args.format c.args.steps c.args.found.now found c.unnamed_match.result told (c.in-Err.ensures.asked tt) long
+    shows_unnamed g c.args.rule.now name c.args.text.now c.args.format c.args.steps c.args.found.now found c.unnamed_match.result told (c.in-Err.ensures.asked refl) long
 
 pub returns-else-is_out_of_steps : goal.returns-else-is_out_of_steps
 returns-else-is_out_of_steps c = λ g of name found. c.refusal_outcome.ensures g of name c.args.text.now c.utf8.text c.args.format (c.in-Err.ensures.refused g of)
