@@ -357,7 +357,7 @@ class Matcher:
     def parse(self, rule: str, text: str, steps: Optional[int] = None) -> Match:
         """Matches a text by the rule of a name, from the text's start on.
 
-        A grammar that reads no entry of the stack needs no limit: where a match takes many steps, a guided run takes
+        A grammar that does not use the stack needs no limit: where a match takes many steps, a guided run takes
         its place, in as many turns as suffice for any text of that length (docs/SPEC.md). A turn that searches a text
         may take many bytes, and memory grows with the turns.
 

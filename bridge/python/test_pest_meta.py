@@ -267,7 +267,7 @@ class Matching(unittest.TestCase):
             with unittest.mock.patch.object(pest_meta, "_steps_for", lambda source: 0):
                 self.assertEqual(answer_of(matcher, text, None), plain)
 
-    def test_a_grammar_that_reads_the_stack_has_a_limit(self):
+    def test_a_grammar_that_uses_the_stack_has_a_limit(self):
         matcher = Matcher(NESTED.replace('| "x"', '| PUSH("x") ~ DROP'))
         with self.assertRaisesRegex(RunError, "more than 7001000 steps"):
             matcher.parse("list", nested(2_000))

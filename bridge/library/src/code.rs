@@ -74,8 +74,9 @@ pub fn run(block: &[u8], row: u32, text: &str, steps: u64) -> Result<Nodes, Unma
 /// Runs the rule of a row from the start of a text by a guided run, for a rule that [`run`] gives up: a run without trees
 /// looks in at most so many turns whether the rule matches, and one of at most as many operations makes the trees.
 ///
-/// With [`bound`] turns the first is never given up where the grammar reads no entry of the stack. A turn that searches,
-/// as one of `(!"x" ~ ANY)*`, may take many bytes. The memory of such a run grows with its turns.
+/// [`bound`] turns suffice for the first; it is given up where it comes to an operation on the stack, as `PUSH` and `PEEK`
+/// are. No number of operations is proved to suffice for the second; in measures that of the turns did. A turn that
+/// searches, as one of `(!"x" ~ ANY)*`, may take many bytes. The memory of such a run grows with its turns.
 ///
 /// # Errors
 /// The rule fails, or is stopped, or there is none.

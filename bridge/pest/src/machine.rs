@@ -48,7 +48,7 @@ pub fn parse_block<'i, R: RuleType>(
 }
 
 /// Runs the rule of a row of a compiled grammar from the start of a text: in a number of steps that suffices for nearly
-/// all texts, and then by a guided run, which always ends soon where the grammar reads no entry of the stack.
+/// all texts, and then by a guided run, whose turns are linear in the text, up to an operation on the stack.
 fn run<R: RuleType>(block: &[u8], row: u32, text: &str, rule: impl Fn(u32) -> R) -> Result<Nodes, Error<R>> {
     let steps = code::most_steps(text);
     match code::run(block, row, text, steps) {

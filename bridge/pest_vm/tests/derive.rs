@@ -221,7 +221,7 @@ fn no_text_makes_a_machine_slow() {
 }
 
 #[test]
-fn a_grammar_that_reads_the_stack_has_a_limit() {
+fn a_grammar_that_uses_the_stack_has_a_limit() {
     let grammar = include_str!("grammars/nested.pest").replace(r#"| "x""#, r#"| PUSH("x") ~ DROP"#);
     let error = machine(&grammar).parse("list", &nested_lists(2_000)).unwrap_err();
     assert_eq!(

@@ -218,10 +218,10 @@ uint8_t pest_meta_run_guided(const uint8_t *block, size_t block_len, uint32_t ru
                              uint64_t turns, pest_meta_node_list *nodes, size_t *end);
 
 /* How many turns suffice for a guided run on a text of so many bytes to tell
- * whether a rule matches, where the grammar reads no entry of the stack. A turn
- * may search many bytes, and memory grows with the turns. UINT64_MAX where there
- * are as many or more. Any bytes may be handed over: of what is no block it says
- * nothing. */
+ * whether a rule matches, unless it comes to an operation on the stack, as PUSH
+ * and PEEK are: then its status is 8. A turn may search many bytes, and memory
+ * grows with the turns. UINT64_MAX where there are as many or more. Any bytes may
+ * be handed over: of what is no block it says nothing. */
 uint64_t pest_meta_bound(const uint8_t *block, size_t block_len, size_t bytes);
 
 /* The rules that are expected at `place` in such a run, each once, in the order
