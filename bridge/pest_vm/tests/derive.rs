@@ -216,14 +216,16 @@ fn no_text_makes_a_machine_slow() {
     let (depth, text) = (2_000, nested_lists(2_000));
     let pairs = vm.parse("list", &text).unwrap();
     assert_eq!((pairs.as_str(), pairs.flatten().count()), (text.as_str(), 5 * depth + 2));
-    let error = vm.parse("all", &nested_lists(2_000).replace("(x)", "(y)")).unwrap_err();
+    let wrong = text.replace("(x)", "(y)");
+    let error = vm.parse("all", &wrong).unwrap_err();
     assert_eq!(error.location, InputLocation::Pos(depth));
 }
 
 #[test]
 fn a_grammar_that_uses_the_stack_has_a_limit() {
     let grammar = include_str!("grammars/nested.pest").replace(r#"| "x""#, r#"| PUSH("x") ~ DROP"#);
-    let error = machine(&grammar).parse("list", &nested_lists(2_000)).unwrap_err();
+    let (vm, text) = (machine(&grammar), nested_lists(2_000));
+    let error = vm.parse("list", &text).unwrap_err();
     assert_eq!(
         error.variant,
         ErrorVariant::CustomError { message: "the rule takes too many steps".to_owned() }
