@@ -27,9 +27,10 @@ pub(crate) fn push_word(bytes: &mut Vec<u8>, word: u32) -> Result<(), AllocError
 pub(crate) fn word_pieces(alloc: Global, words: &[u32]) -> Result<Vec<[u8; 4]>, AllocError>
     ensures { IfOk result (λ pieces. words_in (flat_map (λ x. x) pieces.items) ≡ words.now) }
 {
-    let mut pieces = Vec::with_capacity(alloc, words.len())?;
-    for word in words {
-        pieces.push(word_bytes(*word))?;
+    let mut pieces = Vec::new(alloc);
+    pieces.resize(words.len(), [0; 4])?;
+    for index in 0..words.len() {
+        pieces[index] = word_bytes(words[index]);
     }
     Ok(pieces)
 }

@@ -4,8 +4,8 @@ use Rattle.std.specs.Prelude.{if◌then◌else◌, nat_lt}
 use Rattle.std.proofs.lemmas.Bool.{cases_lt}
 use Rattle.std.proofs.lemmas.List.{get_or-map, length-map}
 use Rattle.base_language.specs.Language.Expression.{Ident}
-use Rattle.base_language.specs.Language.Meaning.{Run, Task}
-use Rattle.base_language.specs.Language.State.{Classes, NonAtomicMode}
+use Rattle.base_language.specs.Language.Meaning.{Run, Task, skipped}
+use Rattle.base_language.specs.Language.State.{Between, Classes, NonAtomicMode}
 use Rattle.matcher_code.specs.Lists.{CodeLists, is_covered, lists_of}
 use Rattle.matcher_code.specs.declared.code.Code.{Code}
 use Rattle.matcher_code.specs.Reading.{char_len, no_characters, wide_len}
@@ -131,6 +131,19 @@ body_made p points i x {k} {rule} {m} {first} {last} h is part_is rule_is mode_i
     let f = subst (λ n. IsPoint laid (Run (mode_of m) (body_in p rule)) n x.at.next x.at.way) first_is e in
     let g = subst (λ n. IsPoint laid (Run (mode_of m) (body_in p rule)) first n x.at.way) last_is f in
     subst (λ n. IsPoint laid (Run (mode_of m) (body_in p rule)) first last n) way_is g
+
+pub skipping_made : (p : Program) (points : List Point) (i : ℕ) (x : Point) {first last : ℕ} → i < length points
+    → x ≡ get_or points i x → x.part ≡ part.Skipped → x.at.label ≡ first → x.at.next ≡ last → x.at.way ≡ 0
+    → IsPoint (map (laid_point p) points) (Run Between skipped) first last 0
+skipping_made p points i x {first} {last} h is part_is first_is last_is way_is =
+    let laid = map (laid_point p) points in
+    let y = point_made p points i x h in
+    let P : Point → Type 0 = λ z. IsPointOf p laid z in
+    let a : IsPoint laid (task_in p x.part (mode_of x.at.mode)) x.at.label x.at.next x.at.way = (subst P (sym is) y).point in
+    let b = subst (λ q. IsPoint laid (task_in p q (mode_of x.at.mode)) x.at.label x.at.next x.at.way) part_is a in
+    let f = subst (λ n. IsPoint laid (Run Between skipped) n x.at.next x.at.way) first_is b in
+    let g = subst (λ n. IsPoint laid (Run Between skipped) first n x.at.way) last_is f in
+    subst (λ n. IsPoint laid (Run Between skipped) first last n) way_is g
 
 same_demand : (xs : List Demand) (j : ℕ) (a b : Demand) → j < length xs → get_or xs j a ≡ get_or xs j b
 same_demand [] j a b l = absurd (omega (arith, l))

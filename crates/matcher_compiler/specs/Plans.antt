@@ -106,6 +106,7 @@ abbrev pub IsMet : Program → CodeLists → List lay.Point → Demand → Type 
 IsMet p code laid (demand.Operation l o) = at_label code l ≡ o
 IsMet p code laid (demand.Body i m first last point) =
     IsPoint laid (Run (mode_of m) (body_in p i)) first last 0
+IsMet p code laid (demand.Skipping first last point) = IsPoint laid (Run Between skipped) first last 0
 IsMet p code laid (demand.GoesOn l) = GoesOn code l
 IsMet p code laid (demand.Branch b) = HasBranch code b × IsAllowed code b.noted
 

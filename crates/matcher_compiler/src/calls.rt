@@ -2,7 +2,8 @@
 ghost use Rattle.std.specs.Prelude.{◌≡◌, ◌<◌, ◌^◌, IfOk, List, OnOk, false, get_or, length, true};
 ghost use Rattle.base_ast.specs.Ast.{rule_type_of};
 ghost use Rattle.base_language.specs.Language.Expression.{Ident};
-ghost use Rattle.base_language.specs.Language.Meaning.{Run, gives_token};
+ghost use Rattle.base_language.specs.Language.Meaning.{Run, Skipping, gives_token, skipped};
+ghost use Rattle.base_language.specs.Language.State.{Between, NonAtomicMode};
 ghost use Rattle.matcher_code.specs.Lists.{CodeLists};
 ghost use Rattle.matcher_code.specs.Laid as lay;
 ghost use Rattle.matcher_code.specs.Laid.{IsPoint};
@@ -11,7 +12,7 @@ ghost use Rattle.matcher_program.specs.declared.form.Program.{Program};
 ghost use Rattle.matcher_sets.specs.Modes.{mode_of};
 ghost use Rattle.matcher_compiler.specs.Names.{AreLast, IsLast};
 ghost use Rattle.matcher_sets.specs.Forms.{IsSoundProgram, grammar_in};
-ghost use Rattle.matcher_compiler.specs.Plans.{IsLater, LaysAt, Meets, body_in};
+ghost use Rattle.matcher_compiler.specs.Plans.{IsBoundPart, IsLater, LaysAt, Meets, body_in};
 
 use crate::forms::FAIL;
 use crate::plan::Plan;
@@ -20,6 +21,9 @@ use matcher_code::code::Op;
 use matcher_program::form::{Form, Program, Row};
 use matcher_sets::modes::{Atomicity, body_mode, gives_token, is_seen_from};
 use matcher_sets::sizes::MOST_INSIDE;
+
+/// How many bodies a rule may have: one for each mode, with and without a token.
+pub(crate) const BODIES: usize = 6;
 
 /// Returns whether a point is the body of a rule.
 fn is_body(point: Point<'_>, rule: usize) -> bool {
@@ -37,7 +41,7 @@ fn body_number(rule: usize, mode: Atomicity, gives: bool) -> usize {
         Atomicity::CompoundAtomic => 4,
     };
     let other: usize = if gives { 1 } else { 0 };
-    rule.saturating_mul(6)
+    rule.saturating_mul(BODIES)
         .saturating_add(in_mode)
         .saturating_add(other)
 }
@@ -61,24 +65,24 @@ impl<'p> Plan<'p> {
     }
 
     /// Adds the point of a body, and returns its number.
-    fn new_body(&mut self, rule: usize, at: Place, number: usize) -> Result<usize, NotCompiled>
-        ensures later { OnOk result ((p : Program) → rule < length p.rows.items
+    fn new_body(&mut self, body: Part<'p>, at: Place, number: usize) -> Result<usize, NotCompiled>
+        ensures later { OnOk result ((p : Program) → IsBoundPart p body.entry
             → IsLater p self.old self.new) }
     {
         let point = self.points.len();
-        self.point(Part::Body(rule), at)?;
+        self.point(body, at)?;
         self.remember(number, point);
         Ok(point)
     }
 
     /// Returns the number of the point of a body, which is added if there is none.
-    fn body_point(&mut self, rule: usize, at: Place, number: usize) -> Result<usize, NotCompiled>
-        ensures later { OnOk result ((p : Program) → rule < length p.rows.items
+    fn body_point(&mut self, body: Part<'p>, at: Place, number: usize) -> Result<usize, NotCompiled>
+        ensures later { OnOk result ((p : Program) → IsBoundPart p body.entry
             → IsLater p self.old self.new) }
     {
         match self.known_body(number) {
             Some(point) => Ok(point),
-            None => self.new_body(rule, at, number),
+            None => self.new_body(body, at, number),
         }
     }
 
@@ -90,8 +94,8 @@ impl<'p> Plan<'p> {
         }
     }
 
-    /// Plans the body of a rule in a mode, once for each mode and each use of it, and returns the labels where
-    /// it begins and where it goes on: `own` and the next one, which are free, if it is new.
+    /// Plans the body of a rule in a mode, once for each mode and each use of it, and returns the labels
+    /// where it begins and where it goes on: `own` and the next one, which are free, if it is new.
     fn body(
         &mut self,
         program: &Program,
@@ -115,7 +119,7 @@ impl<'p> Plan<'p> {
             rank: TOP_RANK,
             around: NO_CALL,
         };
-        let point = self.body_point(rule, place, number)?;
+        let point = self.body_point(Part::Body(rule), place, number)?;
         let (first, last) = self.labels_of(point);
         self.demand(Demand::Body {
             rule,
@@ -160,6 +164,53 @@ impl<'p> Plan<'p> {
                 next: at.next,
                 fail: at.way,
                 counts,
+            },
+        )?;
+        Ok(())
+    }
+
+    /// Plans the implicit skipping as an expression, once for all calls of it, and returns the labels where
+    /// it begins and where it goes on: `own` and the next one, which are free, if it is new.
+    fn skipping(&mut self, program: &Program, own: u32) -> Result<(u32, u32), NotCompiled>
+        ensures later { OnOk result (IsLater program.now self.old self.new) }
+        ensures has { IfOk result (λ labels. (code : CodeLists) (laid : List lay.Point)
+            → Meets program.now self.new code laid
+            → IsPoint laid (Run Between skipped) labels.0 labels.1 0) }
+    {
+        let number = program.rows.len().saturating_mul(BODIES);
+        let place = Place {
+            mode: Atomicity::NonAtomic,
+            label: own,
+            next: own.saturating_add(1),
+            way: FAIL,
+            rank: TOP_RANK,
+            around: NO_CALL,
+        };
+        let point = self.body_point(Part::Skipped, place, number)?;
+        let (first, last) = self.labels_of(point);
+        self.demand(Demand::Skipping { first, last, point })?;
+        Ok((first, last))
+    }
+
+    /// Plans the implicit skipping by a call. The labels from `own` on are free.
+    pub(crate) fn skip_call(
+        &mut self,
+        program: &Program,
+        at: Place,
+        own: u32,
+    ) -> Result<(), NotCompiled>
+        requires mode { mode_of at.mode ≡ NonAtomicMode }
+        ensures later { OnOk result (IsLater program.now self.old self.new) }
+        ensures lays { OnOk result (LaysAt program.now self.new (Skipping (mode_of at.mode)) at) }
+    {
+        let (to, last) = self.skipping(program, own)?;
+        self.operation(last, Op::Back)?;
+        self.operation(
+            at.label,
+            Op::Sub {
+                to,
+                next: at.next,
+                fail: at.way,
             },
         )?;
         Ok(())

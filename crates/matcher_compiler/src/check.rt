@@ -1,6 +1,7 @@
 //! The comparison of a program with its demands.
 ghost use Rattle.std.specs.Prelude.{◌≡◌, map, true};
-ghost use Rattle.base_language.specs.Language.Meaning.{Run};
+ghost use Rattle.base_language.specs.Language.Meaning.{Run, skipped};
+ghost use Rattle.base_language.specs.Language.State.{Between};
 ghost use Rattle.matcher_code.specs.Lists.{lists_of};
 ghost use Rattle.matcher_code.specs.Laid.{GoesOn, IsPoint, at_label};
 ghost use Rattle.matcher_program.specs.declared.form.Program.{Program};
@@ -367,6 +368,31 @@ fn has_body(
     true
 }
 
+/// Returns whether the point of a number is the implicit skipping as an expression, with these labels.
+fn has_skipping(points: &[Point<'_>], number: usize, first: u32, last: u32) -> bool
+    ensures { result ≡ true → (p : Program)
+        → IsPoint (map (laid_point p) points.now) (Run Between skipped) first last 0 }
+{
+    let point = match points.get(number) {
+        Some(point) => *point,
+        None => return false,
+    };
+    match point.part {
+        Part::Skipped => {}
+        _ => return false,
+    }
+    if point.at.label != first {
+        return false;
+    }
+    if point.at.next != last {
+        return false;
+    }
+    if point.at.way != 0 {
+        return false;
+    }
+    true
+}
+
 /// Returns whether an operation records a failure without a name.
 fn is_note(op: Op) -> bool
     ensures { result ≡ is_note op }
@@ -414,6 +440,7 @@ fn meets(code: &Code, exact: bool, points: &[Point<'_>], demand: Demand) -> bool
             last,
             point,
         } => has_body(points, point, rule, mode, first, last),
+        Demand::Skipping { first, last, point } => has_skipping(points, point, first, last),
         Demand::GoesOn { label } => goes_on(code, label),
         Demand::Branch(branch) => has_table(code, exact, branch),
     }

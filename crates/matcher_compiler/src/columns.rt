@@ -89,6 +89,14 @@ fn lead_of(code: &Code, label: u32, here: Op, byte: u8) -> u32
     }
 }
 
+/// Returns whether an operation may go on at another label and do nothing else.
+fn is_test(here: Op) -> bool {
+    matches!(
+        here,
+        Op::Switch { .. } | Op::IsOne { .. } | Op::One { .. } | Op::Text { .. }
+    )
+}
+
 /// Returns for each first byte, from one to before another, the label at which the operation of a label goes
 /// on, or the label itself where that does more.
 fn leads_of(code: &Code, label: u32, here: Op, from: u32, to: u32) -> [u32; 256]
@@ -97,6 +105,9 @@ fn leads_of(code: &Code, label: u32, here: Op, from: u32, to: u32) -> [u32; 256]
         → Skips (lists_of code.now) (Some b) label (get_or result b 0) }
 {
     let mut leads = [label; 256];
+    if !is_test(here) {
+        return leads;
+    }
     for byte in from..to {
         leads[byte as usize] = lead_of(code, label, here, byte as u8);
     }

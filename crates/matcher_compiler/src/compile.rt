@@ -11,6 +11,7 @@ ghost use Rattle.matcher_compiler.specs.declared.plan.Skips.TheVariants as skips
 ghost use Rattle.matcher_compiler.specs.Plans.{AreBlanks, IsLater, IsReady, Meets, laid_point};
 ghost use Rattle.matcher_sets.specs.Forms.{IsSoundProgram};
 
+use crate::calls::BODIES;
 use crate::check::{has_ends, is_exact, meets_all};
 use crate::names::last_rows;
 use crate::plan::{Plan, Skips};
@@ -64,7 +65,10 @@ fn fresh_plan<'p>(
 {
     let sizes = body_sizes(alloc, program)?;
     let mut bodies = Vec::new(alloc);
-    bodies.resize(program.rows.len().saturating_mul(6), None)?;
+    bodies.resize(
+        program.rows.len().saturating_mul(BODIES).saturating_add(1),
+        None,
+    )?;
     let mut places = Vec::with_capacity(alloc, KEYS)?;
     places.resize(KEYS, u32::MAX)?;
     let expected = program.rows.len().saturating_mul(EXPECTED_POINTS);

@@ -118,8 +118,8 @@ impl<'p> Plan<'p> {
         Ok(())
     }
 
-    /// Plans the implicit skipping.
-    pub(crate) fn gap(&mut self, program: &Program, at: Place) -> Result<(), NotCompiled>
+    /// Plans the implicit skipping. The labels from `own` on are free.
+    pub(crate) fn gap(&mut self, program: &Program, at: Place, own: u32) -> Result<(), NotCompiled>
         requires ready { IsReady program.now self.old }
         ensures later { OnOk result (IsLater program.now self.old self.new) }
         ensures lays { OnOk result (LaysAt program.now self.new (Skipping (mode_of at.mode)) at) }
@@ -131,7 +131,7 @@ impl<'p> Plan<'p> {
                 Skips::Nothing => Err(NotCompiled::Unsupported),
                 Skips::Blanks(set) => self.skip_blanks(program, set, at),
                 Skips::Comments(_) => self.skip_both(program, at),
-                Skips::Calls(_) => self.skip_both(program, at),
+                Skips::Calls(_) => self.skip_call(program, at, own),
             }
         }
     }

@@ -40,7 +40,8 @@ pub struct Plan<'p> {
     pub(crate) skips: Skips,
     /// How many numbers the tables have.
     pub(crate) tables: u32,
-    /// The number of the point of each rule's body by its mode, and by whether it gives a token.
+    /// The number of the point of each rule's body by its mode, and by whether it gives a token, and the
+    /// number of that of the skipping.
     pub(crate) bodies: Vec<Option<usize>>,
     pub(crate) sizes: Sizes,
     ghost aligned: { IsAligned sets },

@@ -342,7 +342,7 @@ impl<'p> Plan<'p> {
                 None => Err(NotCompiled::Unsupported),
             },
             Part::Rule(rule) => self.call(program, lasts, rule, at, own),
-            Part::Gap => self.gap(program, at),
+            Part::Gap => self.gap(program, at, own),
             Part::Skipped => self.plan_skipping(alloc, program, heads, at, own),
             Part::Blanks => self.blanks(alloc, program, heads, at, own),
             Part::BlankCall => self.blank_call(program, lasts, at, own),

@@ -90,6 +90,13 @@ pub enum Demand {
         last: u32,
         point: usize,
     },
+    /// The implicit skipping as an expression begins at `first`, and goes on at `last`: the point of a
+    /// number.
+    Skipping {
+        first: u32,
+        last: u32,
+        point: usize,
+    },
     /// The operation of a label does not end a run.
     GoesOn {
         label: u32,

@@ -52,29 +52,32 @@ fn write_end(labels: &mut [u32], label: u32) {
 
 /// Writes one label where the flag is 0, and another elsewhere.
 fn write_either(labels: &mut [u32], flags: &[u8], marked: u32, other: u32) {
-    for (place, flag) in labels.iter_mut().zip(flags) {
-        *place = if *flag == 0 { other } else { marked };
+    for byte in 0..labels.len().min(flags.len()) {
+        labels[byte] = if flags[byte] == 0 { other } else { marked };
     }
+}
+
+/// Returns one label where the flag is 0, another where it is the length of a character, and `unknown` where
+/// it is neither.
+#[inline(always)]
+fn lead_by(flag: u8, next: u32, fail: u32, unknown: u32) -> u32 {
+    let other = if flag > 4 { unknown } else { next };
+    if flag == 0 { fail } else { other }
 }
 
 /// Writes one label where the flag is 0, another where it is the length of a character, and `unknown` where
 /// it is neither.
 fn write_tested(labels: &mut [u32], flags: &[u8], next: u32, fail: u32, unknown: u32) {
-    for (place, flag) in labels.iter_mut().zip(flags) {
-        *place = match *flag {
-            0 => fail,
-            1..=4 => next,
-            _ => unknown,
-        };
+    for byte in 0..labels.len().min(flags.len()) {
+        labels[byte] = lead_by(flags[byte], next, fail, unknown);
     }
 }
 
 /// Writes a label where the flag is not 0.
 fn write_marked(labels: &mut [u32], flags: &[u8], label: u32) {
-    for (place, flag) in labels.iter_mut().zip(flags) {
-        if *flag != 0 {
-            *place = label;
-        }
+    for byte in 0..labels.len().min(flags.len()) {
+        let known = labels[byte];
+        labels[byte] = if flags[byte] == 0 { known } else { label };
     }
 }
 
@@ -103,30 +106,27 @@ fn copy_table(tables: &mut Vec<u32>, from: u32, table: u32) {
 
 /// Writes into a table the labels of another one where the flag is not 0.
 fn copy_marked(tables: &mut Vec<u32>, flags: &[u8], from: u32, table: u32) {
-    for (byte, flag) in flags.iter().enumerate() {
-        if *flag != 0 {
-            let label = match tables.get((from as usize).saturating_add(byte)) {
-                Some(label) => *label,
-                None => return,
-            };
-            if let Some(place) = tables.get_mut((table as usize).saturating_add(byte)) {
-                *place = label;
-            }
-        }
+    let start = from as usize;
+    let place = table as usize;
+    let count = flags.len().min(256);
+    if start + 256 > tables.len() || place + 256 > tables.len() {
+        return;
+    }
+    let labels = tables.as_mut_slice();
+    for byte in 0..count {
+        let known = labels[place + byte];
+        let label = labels[start + byte];
+        labels[place + byte] = if flags[byte] == 0 { known } else { label };
     }
 }
 
 /// Writes where a test leads, or a label where that is not known, where the flag is not 0. `tested`: the
 /// flags of the test.
 fn write_test(labels: &mut [u32], flags: &[u8], tested: &[u8], next: u32, fail: u32, unknown: u32) {
-    for (place, (flag, other)) in labels.iter_mut().zip(flags.iter().zip(tested)) {
-        if *flag != 0 {
-            *place = match *other {
-                0 => fail,
-                1..=4 => next,
-                _ => unknown,
-            };
-        }
+    for byte in 0..labels.len().min(flags.len()).min(tested.len()) {
+        let known = labels[byte];
+        let label = lead_by(tested[byte], next, fail, unknown);
+        labels[byte] = if flags[byte] == 0 { known } else { label };
     }
 }
 
@@ -222,7 +222,7 @@ impl<'a> Draft<'a> {
     }
 
     /// Writes in place of the labels of the second alternative of a choice those before which a failure of
-    /// the first one is recorded, where the flag is 0, and for the end.
+    /// the first one is recorded, where the flag is 0, and for the end. Bytes above ASCII have other flags.
     fn write_notes(
         &mut self,
         labels: &mut [u32],
@@ -232,13 +232,14 @@ impl<'a> Draft<'a> {
         let mut last = labels.get(256).copied().unwrap_or(0);
         let mut noted = self.label_with_note(branch, last)?;
         write_end(labels, noted);
-        for (place, flag) in labels.iter_mut().zip(flags) {
-            if *flag == 0 {
-                if *place != last {
-                    last = *place;
+        for byte in 0..labels.len().min(flags.len()).min(128) {
+            if flags[byte] == 0 {
+                let label = labels[byte];
+                if label != last {
+                    last = label;
                     noted = self.label_with_note(branch, last)?;
                 }
-                *place = noted;
+                labels[byte] = noted;
             }
         }
         Ok(())

@@ -174,6 +174,27 @@ fn alternative_and_rest<'f>(left: &'f Form, right: &'f Form) -> (&'f Form, &'f F
     }
 }
 
+/// Returns whether a form may be a set of characters.
+fn may_be_set(form: &Form) -> bool {
+    match form {
+        Form::Property(_, _) => true,
+        _ => included_set(form).is_some(),
+    }
+}
+
+/// Returns whether the alternatives of a choice, or the form itself if it is none, may be sets of characters.
+fn may_be_sets(form: &Form) -> bool {
+    let mut rest = form;
+    'alternatives: while let Form::Choice(left, right) = rest {
+        let (alternative, other) = alternative_and_rest(left, right);
+        if !may_be_set(alternative) {
+            return false;
+        }
+        rest = other;
+    }
+    may_be_set(rest)
+}
+
 /// Returns the ranges of a choice of sets of characters, of which one may be such a choice again, or `None`
 /// if it is another form, or the ranges are too many.
 pub fn choice_ranges(
@@ -184,6 +205,9 @@ pub fn choice_ranges(
     requires bound { IsBoundIn program.now form.now }
     ensures { IfOk result (λ made. IfSome made (λ ranges. HasRanges program.now form.now ranges.items)) }
 {
+    if !may_be_sets(form) {
+        return Ok(None);
+    }
     let mut ranges = Vec::new(alloc);
     let mut rest = form;
     'alternatives: while let Form::Choice(left, right) = rest {

@@ -3,6 +3,9 @@ use Rattle.matcher_code.specs.Words.{words_in}
 use Rattle.format_code.proofs.lists.word_pieces.Given as goal
 
 -- the words so far
-abbrev pub invariant-loop-word : goal.invariant-loop-word
-invariant-loop-word l = (words_in (flat_map (λ x. x) l.pieces.items) ≡ take l.word-index l.words)
-    × (length (flat_map (λ x. x) l.pieces.items) ≡ l.word-index * 4)
+abbrev pub invariant-loop-index : goal.invariant-loop-index
+invariant-loop-index l = record {
+  long : length l.pieces.items ≡ length l.words;
+  words : words_in (flat_map (λ x. x) (take l.index l.pieces.items)) ≡ take l.index l.words;
+  size : length (flat_map (λ x. x) (take l.index l.pieces.items)) ≡ l.index * 4;
+}

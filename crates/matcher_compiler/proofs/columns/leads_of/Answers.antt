@@ -1,7 +1,7 @@
 use Rattle.std.proofs.Common.{◌≡◌, ◌∙◌, ◌≢◌, ◌<◌, Some, arith, inl, inr, length, subst, sym}
 use Rattle.std.proofs.lemmas.Bool.{cases_lt}
 use Rattle.std.proofs.lemmas.Grind.{get_or-set_at}
-use Rattle.std.proofs.lemmas.List.{get_or-set_other, length-replicate, length-set}
+use Rattle.std.proofs.lemmas.List.{get_or-replicate, get_or-set_other, length-replicate, length-set}
 use Rattle.matcher_code.specs.Lists.{lists_of}
 use Rattle.matcher_code.specs.Laid.{Skips}
 use Rattle.matcher_compiler.proofs.columns.leads_of.Goals as goal
@@ -31,6 +31,9 @@ loop-byte-preserved c =
             (subst (λ a. Skips code (Some a) c.args.label r) same (c.lead_of.ensures e))
       ];
     }
+
+pub returns-then-not-is_test : goal.returns-then-not-is_test
+returns-then-not-is_test c = λ e b h k. inl (get_or-replicate 256 b c.args.label 0 (omega (arith, k, c.requires)))
 
 pub returns : goal.returns
 returns c = λ e b h k. c.loop-byte.invariant.known e b h (omega (arith, k, c.loop-byte-test.false))

@@ -1,0 +1,13 @@
+use Rattle.std.proofs.Common.{◌≡◌, ◌<◌, arith, get_or, length}
+use Rattle.std.proofs.lemmas.Grind.{common_steps}
+use Rattle.matcher_compiler.proofs.Finishing.{skipping_made}
+use Rattle.matcher_compiler.proofs.check.has_skipping.Goals as goal
+
+pub returns : goal.returns
+returns c = λ e p.
+    let within : c.args.number < length c.args.points.now = grind (arith, common_steps) in
+    let is : c.in-Some.point.now ≡ get_or c.args.points.now c.args.number c.in-Some.point.now = grind (arith, common_steps) in
+    let first : c.in-Some.point.now.at.label ≡ c.args.first = omega arith in
+    let last : c.in-Some.point.now.at.next ≡ c.args.last = omega arith in
+    let way : c.in-Some.point.now.at.way ≡ 0 = omega arith in
+    skipping_made p c.args.points.now c.args.number c.in-Some.point.now within is c.in-Skipped.is first last way
