@@ -34,16 +34,6 @@ fn push_margin(alloc: Global, number: usize, out: &mut String) -> Result<(), All
     out.push_str(margin_of(alloc, number)?.as_str())
 }
 
-/// Adds a text so many times.
-fn push_repeated(
-    alloc: Global,
-    text: &str,
-    count: usize,
-    out: &mut String,
-) -> Result<(), AllocError> {
-    out.push_str(text.repeat(alloc, count)?.as_str())
-}
-
 /// Adds what a window shows of a line, with dots where it is cut.
 fn push_cut(text: &str, window: Window, out: &mut String) -> Result<(), AllocError> {
     out.push_str(dots(window.is_cut_before))?;
@@ -63,6 +53,6 @@ fn push_mark(
     let before = visible_width(part(text, window.start, start));
     let blanks = before.saturating_add(usize::from(window.is_cut_before));
     let width = visible_width(part(text, start, end.min(window.end))).max(1);
-    push_repeated(alloc, " ", blanks, out)?;
-    push_repeated(alloc, "^", width, out)
+    out.push_str(" ".repeat(alloc, blanks)?.as_str())?;
+    out.push_str("^".repeat(alloc, width)?.as_str())
 }
