@@ -1,5 +1,5 @@
 -- Rules that ask for the end of a text, met one by one.
-use Rattle.std.proofs.Common.{◌≡◌, ◌∙◌, ℕ, suc, ◌+◌, ◌<◌, List, [], ◌∷◌, ◌++◌, Bool, true, false, ◌&&◌, ◌||◌, ◌==◌, Bor, Err, Global, IfOk, Ok, Result, Vec, add-one, ap, append-nil, drop, drop-cons, get_or, if◌then◌else◌, length, map, subst, sym, take}
+use Rattle.std.proofs.Common.{◌≡◌, ◌∙◌, ℕ, zero, suc, ◌+◌, ◌-◌, ◌<◌, List, [], ◌∷◌, ◌++◌, Bool, true, false, ◌&&◌, ◌||◌, ◌==◌, Bor, Err, Global, IfOk, Ok, Result, Vec, add-one, ap, append-nil, arith, drop, drop-cons, get_or, if◌then◌else◌, length, map, subst, sym, take}
 use Rattle.std.specs.Prelude.{flat_map, nat_lt}
 use Rattle.std.specs.List.{list_any}
 use Rattle.std.proofs.lemmas.Grind.{flat_map-append}
@@ -15,7 +15,7 @@ use Rattle.front_spanned.specs.declared.node.ParserRule.{ParserRule}
 use Rattle.front_spanned.proofs.Walks.{waiting_push}
 use Rattle.lint_warnings.proofs.Called.{is_one_of-append}
 use Rattle.lint_warnings.proofs.Names.{first_of}
-use Rattle.lint_warnings.specs.Lists.{HasNames, TextSet}
+use Rattle.lint_warnings.specs.Lists.{HasNames, TextSet, has_name}
 use Rattle.lint_warnings.specs.Rules.{is_needed}
 use Rattle.lint_patterns.specs.Ends.{asking_at, entry_at, has_one_entry, is_asking, is_asking_by, open_among, open_at, open_starts, wants_fronts}
 
@@ -62,6 +62,22 @@ asking_none rules set h = h
 pub asking_more : (k : ℕ) (rules : List SpannedRule) (set : TextSet) → HasNames (is_asking_by (is_asking k rules) rules) set → HasNames (is_asking (k + 1) rules) set
 unfolding is_asking
 asking_more k rules set h = subst (λ j. HasNames (is_asking j rules) set) (sym (add-one k)) h
+
+-- where one more round finds the same names, all further ones do
+asking_on : (j k : ℕ) (rules : List SpannedRule) (set : TextSet) → ((f : Text → Bool) → HasNames f set → HasNames (is_asking_by f rules) set)
+    → HasNames (is_asking k rules) set → HasNames (is_asking (k + j) rules) set
+asking_on zero k rules set step h = let same : k ≡ k + 0 = omega arith in subst (λ i. HasNames (is_asking i rules) set) same h
+asking_on (suc j) k rules set step h =
+    let same : (k + 1) + j ≡ k + suc j = omega arith in
+    subst (λ i. HasNames (is_asking i rules) set) same (asking_on j (k + 1) rules set step (asking_more k rules set (step (is_asking k rules) h)))
+
+pub asking_same : (k most : ℕ) (rules : List SpannedRule) (set found : TextSet) → k < most → HasNames (is_asking k rules) set
+    → ((f : Text → Bool) → HasNames f set → HasNames (is_asking_by f rules) found) → ((name : List ℕ) → has_name found name ≡ has_name set name)
+    → HasNames (is_asking most rules) set
+asking_same k most rules set found below h more same =
+    let all : k + (most - k) ≡ most = omega arith in
+    let step : (f : Text → Bool) → HasNames f set → HasNames (is_asking_by f rules) set = λ f known name u. sym (same name) ∙ more f known name u in
+    subst (λ i. HasNames (is_asking i rules) set) all (asking_on (most - k) k rules set step h)
 
 -- the number of entries
 pub one_entry : (f : Text → Bool) (rules : List SpannedRule) (spans : List code.Span) (many : Bool) → map piece_of spans ≡ flat_map (entry_at f) rules

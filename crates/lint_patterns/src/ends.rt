@@ -1,5 +1,5 @@
 //! Starts that never ask for the end of a text.
-ghost use Rattle.std.specs.Prelude.{◌≡◌, ◌++◌, ◌==◌, ◌&&◌, ◌||◌, Bool, IfOk, OnOk, List, ℕ, flat_map, length, map, nat_lt};
+ghost use Rattle.std.specs.Prelude.{◌≡◌, ◌++◌, ◌==◌, ◌&&◌, ◌||◌, Bool, IfOk, OnOk, List, ℕ, flat_map, length, map, nat_lt, true};
 ghost use Rattle.std.specs.Str.{IsUtf8, chars};
 ghost use Rattle.base_ast.specs.Ast.{text_of};
 ghost use Rattle.base_language.specs.Language.Builtins.{is_one_of};
@@ -109,7 +109,8 @@ fn uses_end(alloc: Global, rules: &[ParserRule<'_>]) -> Result<bool, AllocError>
     Ok(false)
 }
 
-/// The names of rules that ask for the end of the text, by a chain of fewer than `LONGEST_CHAIN` calls.
+/// The names of rules that ask for the end of the text, by a chain of fewer than `LONGEST_CHAIN` calls. The
+/// first round that finds the same names as the one before is the last.
 fn asking_names<'n, 'i>(
     alloc: Global,
     rules: &'n [ParserRule<'i>],
@@ -118,9 +119,20 @@ fn asking_names<'n, 'i>(
 {
     let mut names = HashSet::new(alloc);
     for _calls in 0..LONGEST_CHAIN {
-        names = names_asking(alloc, rules, &names)?;
+        let found = names_asking(alloc, rules, &names)?;
+        if have_same_names(&found, &names) {
+            return Ok(names);
+        }
+        names = found;
     }
     Ok(names)
+}
+
+/// Whether two sets have the same names.
+fn have_same_names(names: &HashSet<&str>, others: &HashSet<&str>) -> bool
+    ensures { result ≡ true → (name : List ℕ) → has_name names.now name ≡ has_name others.now name }
+{
+    names == others
 }
 
 /// The names of rules that ask for the end of the text, where those of these names are known to.
