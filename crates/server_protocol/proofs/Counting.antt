@@ -111,6 +111,23 @@ ascending : (e : Encoding) (text : List ℕ) (k d : ℕ) → IsAtMost (position_
 ascending e text k zero = rw add-zero (at_most_self (position_at e text k))
 ascending e text k (suc d) = rw add-suc (at_most_trans _ _ _ (ascending e text k d) (after_is_further e text (k + d) (position_at e text (k + d))))
 
+line_not_past : (q p : Position) → p.line < q.line → IsAtMost q p → ⊥
+line_not_past q p below h = grind arith
+
+-- behind a line that lies past a position, no place is at most as far
+pub end_early : (e : Encoding) (text : List ℕ) (p : Position) (k last : ℕ) → IsLastBefore e text p k last → p.line < (position_at e text k).line → IsOffset e text p last
+end_early e text p k last s below = record {
+  place = s.place;
+  reached = s.reached;
+  last = λ j h i. ⊎_elim (λ before. s.last j before h i) (λ behind. absurd (past j i behind)) (cases_lt j k);
+}
+  where
+    past : (j : ℕ) → IsAtMost (position_at e text j) p → k ≤ j → ⊥
+    past j i behind =
+        let same : k + (j - k) ≡ j = omega arith in
+        let up : IsAtMost (position_at e text k) (position_at e text j) = subst (λ n. IsAtMost (position_at e text k) (position_at e text n)) same (ascending e text k (j - k)) in
+        line_not_past (position_at e text k) p below (at_most_trans (position_at e text k) (position_at e text j) p up i)
+
 pub later : (e : Encoding) (text : List ℕ) (k j : ℕ) → IsPlace text k → k < length text → k < j → IsBefore (position_at e text k) (position_at e text j)
 later e text k j h l m =
     let first = after_is_later e text k (position_at e text k) (units_of_character e (get_or text k 0) (h.0.1 l)) in

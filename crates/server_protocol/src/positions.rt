@@ -121,6 +121,9 @@ pub fn offset_of(text: &str, encoding: Encoding, position: Position) -> usize
     let mut here = START;
     let mut last = 0;
     for offset in 0..bytes.len() {
+        if here.line > position.line {
+            return last;
+        }
         if here.is_at_most(position) && is_place(text, offset) {
             last = offset;
         }

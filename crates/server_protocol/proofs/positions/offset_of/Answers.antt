@@ -1,7 +1,8 @@
-use Rattle.std.proofs.Common.{◌≡◌, ◌∙◌, ap, refl, sym, subst, length, arith, ◌+◌, true}
+use Rattle.std.proofs.Common.{◌≡◌, ◌∙◌, ap, refl, sym, subst, length, arith, ◌+◌, ◌<◌, true}
 use Rattle.std.proofs.lemmas.Str.{IsCharBoundary-start}
 use Rattle.server_protocol.specs.Positions.{IsAtMost, IsPlace, position_at}
-use Rattle.server_protocol.proofs.Counting.{IsLastBefore, begin_search, end_passed, end_taken, pass_place, take_place}
+use Rattle.server_protocol.specs.declared.positions.Position.{Position}
+use Rattle.server_protocol.proofs.Counting.{IsLastBefore, begin_search, end_early, end_passed, end_taken, pass_place, take_place}
 use Rattle.server_protocol.proofs.positions.offset_of.Goals as goal
 use Rattle.server_protocol.proofs.positions.offset_of.Goals.{then-is_at_most+then-is_place, else-is_at_most, else-is_at_most-via-then-is_at_most+else-is_place, else-is_at_most-via-else-is_at_most}
 
@@ -31,6 +32,12 @@ loop-offset-preserved c =
             ]))
       ];
     }
+
+pub returns-then-here-position : goal.returns-then-here-position
+returns-then-here-position c =
+    let past : c.args.position.line < c.loop-offset.here.line = omega arith in
+    end_early c.args.encoding c.args.text.now c.args.position c.loop-offset.offset c.loop-offset.last c.loop-offset.invariant.last
+    (subst (λ (q : Position). c.args.position.line < q.line) c.loop-offset.invariant.here past)
 
 pub returns-then-is_at_most-2 : goal.returns-then-is_at_most-2
 returns-then-is_at_most-2 c =
