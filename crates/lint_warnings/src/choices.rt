@@ -125,13 +125,26 @@ fn add_of_choice<'i>(
     ensures { OnOk result (map pieces_of found.new.items
         ≡ map pieces_of found.old.items ++ spec.choice_at (view whole.now)) }
 {
-    let spans = unreachable_of(alloc, whole)?;
+    let spans = unreachable_where_choice(alloc, whole)?;
     if spans.as_slice().is_empty() {
         return Ok(());
     }
     let begun_by = beginner_of(alloc, whole, spans[0].start())?;
     found.push(UnreachableChoice { spans, begun_by })?;
     Ok(())
+}
+
+/// The spans of the alternatives of a node that are never taken. A node that is no choice has none.
+fn unreachable_where_choice<'i>(
+    alloc: Global,
+    whole: &ParserNode<'i>,
+) -> Result<Vec<Span<'i>>, AllocError>
+    ensures { IfOk result (λ found. map piece_of found.items ≡ spec.unreachable_at (view whole.now)) }
+{
+    match operands_of(whole) {
+        Operands::Choice(_, _) => unreachable_of(alloc, whole),
+        _ => Ok(Vec::new(alloc)),
+    }
 }
 
 /// The spans of the alternatives of a choice that are never taken.
