@@ -8,4 +8,4 @@ pub returns-in_default : goal.returns-in_default
 returns-in_default c =
     let v = view c.args.whole.now in
     let one = only_choice v c.operands_of.result c.operands_of.ensures c.in_default.not-Choice in
-    sym (alone_has_none v one)
+    ap (map piece_of) c.new.ensures.items ∙ sym (alone_has_none v one)
