@@ -11,6 +11,7 @@ pub mod Within
 pub mod Sets
 pub mod Steps
 pub mod Fused
+pub mod StackUses
 pub mod Begun
 pub mod Endings
 pub mod Attempts

@@ -12,5 +12,6 @@ mod operations;
 pub mod ranges;
 pub mod reading;
 pub mod sets;
+pub mod stack_uses;
 pub mod state;
 pub mod words;

@@ -323,7 +323,7 @@ fn goes_on(code: &Code, label: u32) -> bool
     match code.ops.get(label as usize) {
         Some(op) => match *op {
             Op::Halt | Op::Lose | Op::Fail | Op::Return | Op::Back => false,
-            Op::Ahead { .. } | Op::Push { .. } => false,
+            Op::Commit { .. } | Op::Ahead { .. } | Op::Push { .. } => false,
             _ => true,
         },
         None => false,

@@ -1,6 +1,7 @@
 -- There is one recognition at most, so that what has some has that.
 use Rattle.std.proofs.Common.{◌≡◌, List, ℕ}
 use Rattle.std.proofs.Props.{props}
+use Rattle.std.specs.Coded.{Unit-prop, le_prop}
 use Rattle.std.proofs.Math.Logic.{∥∥₁_elim, ∥∥₁_map}
 use Rattle.std.proofs.Math.Nat.{ℕ_set}
 use mathlib.Core.HLevel.{Σ_prop, ⊥_prop}
@@ -11,10 +12,11 @@ use Rattle.base_language.specs.Language.Text.{Text}
 use Rattle.matcher_code.proofs.OneDerivation.{Answer, one_answer}
 use Rattle.matcher_program.specs.Answers.{HasAt}
 use Rattle.matcher_program.specs.declared.form.Property.{Property}
-use Rattle.matcher_engine.specs.Guided.{IsGuidedFrom}
+use Rattle.matcher_code.specs.Lists.{CodeLists}
+use Rattle.matcher_engine.specs.Guided.{IsGuidedFrom, IsSlowRun}
 use Rattle.matcher_engine.specs.declared.guide.Guided.{Guided}
 use Rattle.matcher_engine.specs.declared.guide.Guided.TheVariants as guided
-use Rattle.matcher_engine.specs.Recognitions.{HasEnd, IsRecognitionFrom}
+use Rattle.matcher_engine.specs.Recognitions.{HasEnd, IsAnswered, IsRecognitionFrom}
 use Rattle.matcher_engine.specs.declared.recognize.Recognition.{Recognition}
 use Rattle.matcher_engine.specs.declared.recognize.Recognition.TheVariants as known
 use Rattle.matcher_engine.proofs.OneAnswer.{one_failure, one_match}
@@ -58,3 +60,18 @@ module _ (g : Grammar) (ps : List Property) (n : Text) (s : State) where
   one_guided (guided.Matched found) x classes fits = one_match g ps n s found classes (∥∥₁_map x (λ y. y classes fits))
   one_guided (guided.Failed place) x classes fits = one_failure g ps n s place x classes fits
   one_guided guided.Unanswered x classes fits = tt
+
+answered_prop : (it : Recognition) → IsProp (IsAnswered it)
+answered_prop (known.Found end) = Unit-prop
+answered_prop (known.Failed place) = Unit-prop
+answered_prop known.Endless = ⊥_prop
+answered_prop known.OutOfTurns = ⊥_prop
+answered_prop known.Unknown = ⊥_prop
+
+pub one_answered : (it : Recognition) → ∥ IsAnswered it ∥₁ → IsAnswered it
+one_answered it x = ∥∥₁_elim x (answered_prop it) (λ y. y)
+
+pub one_slow : (code : CodeLists) (text : List ℕ) (entry from turns : ℕ) (it : Guided) → ∥ IsSlowRun code text entry from turns it ∥₁
+    → IsSlowRun code text entry from turns it
+one_slow code text entry from turns guided.Unanswered x = λ asked n e. ∥∥₁_elim x le_prop (λ y. y asked n e)
+one_slow code text entry from turns _ x = tt

@@ -21,12 +21,12 @@ module _ (m : ℕ) where
       ]
 
   -- the turns of code of so many operations on so many bytes, by sums and products that stop at the greatest number
-  pub stays_below : (size bytes a b c d e r : ℕ) → a ≡ min (bytes + 1) m → b ≡ min (size * a) m → c ≡ min (b + 1) m
-      → d ≡ min (size * c) m → e ≡ min (d * 3) m → r ≡ min (e + 1) m → r ≡ min (3 * size * (size * (bytes + 1) + 1) + 1) m
+  pub stays_below : (size bytes a b c d e r : ℕ) → a ≡ min (bytes + 4) m → b ≡ min (size * a) m → c ≡ min (b + 1) m
+      → d ≡ min (size * c) m → e ≡ min (d * 3) m → r ≡ min (e + 1) m → r ≡ min (3 * size * (size * (bytes + 4) + 1) + 1) m
   stays_below size bytes a b c d e r is_a is_b is_c is_d is_e is_r =
-      let labels = size * (bytes + 1) in
+      let labels = size * (bytes + 4) in
       let turns = size * (labels + 1) in
-      let to_b : b ≡ min labels m = is_b ∙ (ap (λ x. min (size * x) m) is_a ∙ product_below size (bytes + 1)) in
+      let to_b : b ≡ min labels m = is_b ∙ (ap (λ x. min (size * x) m) is_a ∙ product_below size (bytes + 4)) in
       let to_c : c ≡ min (labels + 1) m = is_c ∙ (ap (λ x. min (x + 1) m) to_b ∙ sum_below labels 1) in
       let to_d : d ≡ min turns m = is_d ∙ (ap (λ x. min (size * x) m) to_c ∙ product_below size (labels + 1)) in
       let thrice : min (min turns m * 3) m ≡ min (turns * 3) m = omega arith in

@@ -14,10 +14,11 @@ ghost use Rattle.matcher_program.specs.Answers.{IsRefusedFrom, state_at};
 ghost use Rattle.matcher_program.specs.Programs.{Fits};
 ghost use Rattle.matcher_program.specs.declared.form.Program.{Program};
 ghost use Rattle.matcher_sets.specs.Forms as forms;
-ghost use Rattle.matcher_engine.specs.Guided.{IsGuided, IsGuidedFrom, IsPinnedRefusal, IsPinnedRun};
+ghost use Rattle.matcher_engine.specs.Guided.{IsGuided, IsGuidedFrom, IsPinnedRefusal, IsPinnedRun, IsSlowRefusal, IsSlowRun};
 ghost use Rattle.matcher_engine.specs.Matchers.{grammar_in, properties_in};
 ghost use Rattle.matcher_engine.specs.Preorders.{IsPreorderFrom};
 ghost use Rattle.matcher_engine.specs.Reasons.{HasReason, StopsFor};
+ghost use Rattle.matcher_engine.specs.Recognitions.{HasOutcomeFrom, IsEnough};
 
 use crate::matcher::{Matcher, Preorder, entry_of};
 use base_language::runtime::Position;
@@ -43,7 +44,7 @@ impl Matcher {
     /// Matches as `parse_preorder`, and where that is out of steps, by a guided run: a run without trees
     /// looks in at most `turns` turns whether the rule matches, as `recognize`, and one of at most as many
     /// operations makes the trees, which runs nothing that the first has found to fail. Errors are those of
-    /// `parse_preorder`; `OutOfSteps` comes where `recognize` has no answer.
+    /// `parse_preorder`; `OutOfSteps` comes where `recognize` has no answer, or the trees take longer.
     pub fn parse_guided<'a>(
         &'a self,
         alloc: Global,
@@ -61,6 +62,13 @@ impl Matcher {
         ensures pinned { IfErr result (λ why. (number : ℕ)
             → last_place (grammar_in self.entry.now) (chars rule.entry.now) ≡ Some number
             → IsPinnedRefusal (lists_at self.entry.now.code.items) (position_text start.entry) (number + 3)
+            (position_offset start.entry) turns why) }
+        ensures slow { IfErr result (λ why. (number : ℕ)
+            → last_place (grammar_in self.entry.now) (chars rule.entry.now) ≡ Some number
+            → IsEnough (lists_at self.entry.now.code.items) (position_text start.entry) turns
+            → HasOutcomeFrom (grammar_in self.entry.now) (properties_in self.entry.now)
+            (chars rule.entry.now) (state_at start.entry)
+            → IsSlowRefusal (lists_at self.entry.now.code.items) (position_text start.entry) (number + 3)
             (position_offset start.entry) turns why) }
     {
         match self.parse_preorder(alloc, rule, start, steps) {
@@ -92,6 +100,13 @@ impl Matcher {
             → last_place (grammar_in self.now) (chars rule.now) ≡ Some number
             → IsPinnedRun (lists_at self.now.code.items) (position_text start.entry) (number + 3)
             (position_offset start.entry) turns it) }
+        ensures slow { IfOk result (λ it. (number : ℕ)
+            → last_place (grammar_in self.now) (chars rule.now) ≡ Some number
+            → IsEnough (lists_at self.now.code.items) (position_text start.entry) turns
+            → HasOutcomeFrom (grammar_in self.now) (properties_in self.now) (chars rule.now)
+            (state_at start.entry)
+            → IsSlowRun (lists_at self.now.code.items) (position_text start.entry) (number + 3)
+            (position_offset start.entry) turns it) }
     {
         let Some(number) = last_index(self.program.rows.as_slice(), rule) else {
             return Ok(Guided::Unanswered);
@@ -116,6 +131,12 @@ pub(crate) fn guide_rule(
         → IsGuided (forms.grammar_in p) n (state_at start.entry) classes it) }
     ensures pinned { IfOk result (IsPinnedRun (lists_in code.now) (position_text start.entry) (number + 3)
         (position_offset start.entry) turns) }
+    ensures slow { IfOk result (λ it. (p : Program) (exact : Bool) → IsCodeOf exact p (lists_in code.now)
+        → (n : Text) → last_place (forms.grammar_in p) n ≡ Some number
+        → IsEnough (lists_in code.now) (position_text start.entry) turns
+        → HasOutcomeFrom (forms.grammar_in p) p.properties.items n (state_at start.entry)
+        → IsSlowRun (lists_in code.now) (position_text start.entry) (number + 3)
+        (position_offset start.entry) turns it) }
 {
     let Some(entry) = entry_of(number) else {
         return Err(AllocError);

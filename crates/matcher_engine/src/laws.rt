@@ -1,6 +1,13 @@
-//! Laws of blocks.
-ghost use Rattle.std.specs.Prelude.{◌≡◌, ◌<◌, ◌++◌, ◌∷◌, [], All, List, ℕ, codes};
+//! Laws of blocks, and of rules that have an outcome.
+ghost use Rattle.std.specs.Prelude.{◌≡◌, ◌<◌, ◌++◌, ◌∷◌, [], All, List, Some, ℕ, codes};
+ghost use Rattle.base_language.specs.Language.Expression.{Grammar, Rule, rule_of};
+ghost use Rattle.base_language.specs.Language.State.{Classes, State};
+ghost use Rattle.base_language.specs.Language.Text.{Text};
+ghost use Rattle.base_language.specs.Language.WellFormed.{IsPlain, IsWellFormed, NamesHaveReadableCounts};
 ghost use Rattle.matcher_engine.specs.Blocks.{sum_of};
+ghost use Rattle.matcher_engine.specs.Recognitions.{HasOutcomeFrom};
+ghost use Rattle.matcher_program.specs.Programs.{Fits};
+ghost use Rattle.matcher_program.specs.declared.form.Property.{Property};
 
 /// The sum of a block is FNV-1a of 64 bits, by some of its published values.
 pub fn sums_are_fnv_1a()
@@ -13,4 +20,12 @@ pub fn sums_are_fnv_1a()
 pub fn other_bytes_have_other_sums()
     ensures { (front rest : List ℕ) (a b : ℕ) → All (λ x. x < 256) rest → a < 256 → b < 256
         → sum_of (front ++ a ∷ rest) ≡ sum_of (front ++ b ∷ rest) → a ≡ b }
+{}
+
+/// In a well-formed plain grammar with readable counts each rule has an outcome from every state, for all
+/// classes, so that `Matcher::recognize` has an answer in enough turns.
+pub fn plain_rules_have_outcomes()
+    ensures { (g : Grammar) (ps : List Property) (classes : Classes) → Fits ps classes
+        → NamesHaveReadableCounts g → IsWellFormed g → IsPlain g
+        → (n : Text) (r : Rule) → rule_of g n ≡ Some r → (s : State) → HasOutcomeFrom g ps n s }
 {}

@@ -10,5 +10,7 @@ pub mod Advancing
 pub mod Paying
 pub mod Tables
 pub mod Returning
+pub mod Positions
+pub mod GivenUp
 pub mod Baring
 pub mod Skipping

@@ -1,8 +1,11 @@
 //! Laws over the definitions alone.
-ghost use Rattle.std.specs.Prelude.{◌≡◌, ℕ, List, [], true};
+ghost use Rattle.std.specs.Prelude.{◌≡◌, ◌+◌, ◌≤◌, ℕ, List, [], false, length, true};
 ghost use Rattle.matcher_code.specs.Lists.{CodeLists};
-ghost use Rattle.matcher_code.specs.Steps.{Config, op_at, step};
+ghost use Rattle.matcher_code.specs.StackUses.{is_stackless};
+ghost use Rattle.matcher_code.specs.Steps.{Config, op_at, step, steps};
 ghost use Rattle.matcher_machine.specs.Frames.{Frame, IsOwnRun, framed, pops_slot};
+ghost use Rattle.matcher_machine.specs.Machines.{ends_run};
+ghost use Rattle.matcher_machine.specs.Memos.{IsGivenUp};
 ghost use Rattle.matcher_machine.specs.Outlines.{ComesBack, is_plain, outline};
 
 /// A run that uses none of the slots of its start goes the same way in every frame.
@@ -21,4 +24,18 @@ pub fn outlines_go_the_same_way()
 pub fn runs_that_end_do_not_come_back()
     ensures { (code : CodeLists) (text : List ℕ) (c d : Config) → IsOwnRun code text c d → d.slots ≡ []
         → pops_slot (op_at code text d.pc) ≡ true → ComesBack code text c → ⊥ }
+{}
+
+/// Where no operation of the code uses the stack, a run from a position of the text, without slots before it,
+/// passes the text by three bytes at most.
+pub fn runs_stay_near_the_text()
+    ensures { (code : CodeLists) (text : List ℕ) → is_stackless code ≡ true → (c : Config)
+        → c.slots ≡ [] → c.at ≤ length text → (n : ℕ) → (steps code text n c).at ≤ length text + 3 }
+{}
+
+/// Such a run that is given up never comes to an end: it pops a slot, and there is none.
+pub fn runs_that_are_given_up_never_end()
+    ensures { (code : CodeLists) (text : List ℕ) → is_stackless code ≡ true → (c : Config)
+        → c.slots ≡ [] → c.at ≤ length text → IsGivenUp code text c
+        → (n : ℕ) → ends_run (op_at code text (steps code text n c).pc) ≡ false }
 {}

@@ -1,10 +1,11 @@
-use Rattle.std.proofs.Common.{refl, inl, inr}
+use Rattle.std.proofs.Common.{refl, inl, inr, subst}
+use Rattle.std.specs.Prelude.{IsUtf8}
 use Rattle.base_language.specs.Pieces.Span.{position_offset, position_text}
 use Rattle.matcher_code.specs.Bytecodes.{lists_in}
 use Rattle.matcher_engine.specs.Runs.{IsFresh}
 use Rattle.matcher_engine.specs.declared.matcher.Preorder.{Preorder}
 use Rattle.matcher_engine.proofs.Recognized.{failed_here, matched_here}
-use Rattle.matcher_engine.proofs.Unanswered.{goes_long, not_failed, not_stuck, unguided_here}
+use Rattle.matcher_engine.proofs.Unanswered.{goes_long, not_failed, not_stuck, slow_here, unguided_here}
 use Rattle.matcher_engine.proofs.guide.guide_rule.Goals as goal
 
 pub returns-in-Failed-clause-guided : goal.returns-in-Failed-clause-guided
@@ -49,3 +50,27 @@ returns-in-Failed-2-clause-pinned c =
 pub returns-in-Stuck-clause-pinned : goal.returns-in-Stuck-clause-pinned
 returns-in-Stuck-clause-pinned c =
     absurd (not_stuck (lists_in c.args.code.now) c.whole_text-text.result.now c.in-Some.entry c.pos-from.result c.args.turns _ c.in_ok-guide.guide.recognition.furthest c.new-machine.result c.run_guided.new.self (rw c.in-Found.is at c.in_ok-guide.ensures.answer) (rw c.in-Stuck.is at (c.in_ok-end-in-Found.ensures c.in_ok-guide.ensures.right)))
+
+pub returns-in-Endless-clause-slow : goal.returns-in-Endless-clause-slow
+returns-in-Endless-clause-slow c = λ p exact is n meant enough x.
+    slow_here p exact (lists_in c.args.code.now) is n c.args.number meant c.args.start c.args.turns (subst IsUtf8 c.whole_text-text.ensures c.whole_text-text.utf8) c.args.start.at_character enough x (returns-in-Endless-clause-pinned c)
+
+pub returns-clause-slow : goal.returns-clause-slow
+returns-clause-slow c = λ p exact is n meant enough x.
+    slow_here p exact (lists_in c.args.code.now) is n c.args.number meant c.args.start c.args.turns (subst IsUtf8 c.whole_text-text.ensures c.whole_text-text.utf8) c.args.start.at_character enough x (returns-clause-pinned c)
+
+pub returns-in-OutOfSteps-clause-slow : goal.returns-in-OutOfSteps-clause-slow
+returns-in-OutOfSteps-clause-slow c = λ p exact is n meant enough x.
+    slow_here p exact (lists_in c.args.code.now) is n c.args.number meant c.args.start c.args.turns (subst IsUtf8 c.whole_text-text.ensures c.whole_text-text.utf8) c.args.start.at_character enough x (returns-in-OutOfSteps-clause-pinned c)
+
+pub returns-in-Found-clause-slow : goal.returns-in-Found-clause-slow
+returns-in-Found-clause-slow c = λ p exact is n meant enough x.
+    slow_here p exact (lists_in c.args.code.now) is n c.args.number meant c.args.start c.args.turns (subst IsUtf8 c.whole_text-text.ensures c.whole_text-text.utf8) c.args.start.at_character enough x (returns-in-Found-clause-pinned c)
+
+pub returns-in-Failed-2-clause-slow : goal.returns-in-Failed-2-clause-slow
+returns-in-Failed-2-clause-slow c = λ p exact is n meant enough x.
+    slow_here p exact (lists_in c.args.code.now) is n c.args.number meant c.args.start c.args.turns (subst IsUtf8 c.whole_text-text.ensures c.whole_text-text.utf8) c.args.start.at_character enough x (returns-in-Failed-2-clause-pinned c)
+
+pub returns-in-Stuck-clause-slow : goal.returns-in-Stuck-clause-slow
+returns-in-Stuck-clause-slow c = λ p exact is n meant enough x.
+    slow_here p exact (lists_in c.args.code.now) is n c.args.number meant c.args.start c.args.turns (subst IsUtf8 c.whole_text-text.ensures c.whole_text-text.utf8) c.args.start.at_character enough x (returns-in-Stuck-clause-pinned c)

@@ -1,7 +1,7 @@
-use Rattle.std.proofs.Common.{ap, length}
+use Rattle.std.proofs.Common.{ap, arith, length}
 use Rattle.base_language.specs.Pieces.Span.{position_offset, position_text}
 use Rattle.matcher_code.specs.Bytecodes.{lists_in}
-use Rattle.matcher_engine.proofs.Recognized.{endless_here, failed_here, found_here, given_up_here}
+use Rattle.matcher_engine.proofs.Recognized.{endless_here, failed_here, found_here, given_up_here, no_outcome, no_outcome_given_up}
 use Rattle.matcher_engine.proofs.recognize.recognize_rule.Goals as goal
 
 pub returns-in-Found-clause-recognized : goal.returns-in-Found-clause-recognized
@@ -27,3 +27,17 @@ pub returns-in-Unknown-clause-pinned : goal.returns-in-Unknown-clause-pinned
 returns-in-Unknown-clause-pinned c =
     given_up_here (lists_in c.args.code.now) c.whole_text-text.result.now (position_text c.args.start) c.in-Some.entry c.pos.result _ (position_offset c.args.start)
     c.whole_text-text.ensures c.pos.ensures c.in-Some.ensures (rw c.in-Unknown.is at c.in_ok-known.ensures.answer)
+
+pub returns-in-Endless-clause-answered : goal.returns-in-Endless-clause-answered
+returns-in-Endless-clause-answered c = λ p exact is n meant enough x.
+    no_outcome p exact (lists_in c.args.code.now) is n c.args.number meant c.args.start c.whole_text-text.result.now c.pos.result c.whole_text-text.ensures c.pos.ensures c.whole_text-text.utf8 c.args.start.at_character c.in-Some.entry c.in-Some.ensures x.classes x.fits
+    (rw c.in-Endless.is at c.in_ok-known.ensures.answer) x.outcome x.found
+
+pub returns-in-OutOfSteps-clause-answered : goal.returns-in-OutOfSteps-clause-answered
+returns-in-OutOfSteps-clause-answered c = λ p exact is n meant enough x.
+    omega (arith, enough.more, returns-in-OutOfSteps-clause-pinned c)
+
+pub returns-in-Unknown-clause-answered : goal.returns-in-Unknown-clause-answered
+returns-in-Unknown-clause-answered c = λ p exact is n meant enough x.
+    no_outcome_given_up p exact (lists_in c.args.code.now) is n c.args.number meant c.args.start c.whole_text-text.result.now c.pos.result c.whole_text-text.ensures c.pos.ensures c.whole_text-text.utf8 c.args.start.at_character c.in-Some.entry c.in-Some.ensures x.classes x.fits
+    enough.stackless (rw c.in-Unknown.is at c.in_ok-known.ensures.answer) x.outcome x.found

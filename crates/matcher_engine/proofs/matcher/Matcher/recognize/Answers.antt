@@ -3,10 +3,13 @@ use Rattle.std.proofs.Math.Logic.{∥∥₁_map}
 use Rattle.base_language.specs.Language.Expression.{last_place}
 use Rattle.matcher_program.specs.Programs.{grammar_of}
 use Rattle.matcher_program.specs.Answers.{state_at}
+use Rattle.base_language.specs.Pieces.Span.{position_text}
+use Rattle.matcher_code.specs.Lists.{CodeLists}
 use Rattle.matcher_compiler.specs.Compiled.{IsCodeOf}
 use Rattle.matcher_engine.specs.Matchers.{grammar_in, properties_in}
 use Rattle.matcher_engine.proofs.Known.{unnamed}
-use Rattle.matcher_engine.proofs.OneRecognition.{one_recognition}
+use Rattle.matcher_engine.specs.Recognitions.{IsEnough}
+use Rattle.matcher_engine.proofs.OneRecognition.{one_answered, one_recognition}
 use Rattle.matcher_engine.proofs.Sound.{ready_in}
 use Rattle.matcher_engine.proofs.matcher.Matcher.recognize.Goals as goal
 
@@ -23,3 +26,12 @@ returns-in-Ok-clause-recognized c =
     let meant : last_place (grammar_in m) n ≡ Some c.in-Some.number = ap (λ rs. last_place (grammar_of rs) n) (sym c.as_slice.ensures.value) ∙ (sym c.last_index.ensures ∙ c.in-Some.is) in
     one_recognition (grammar_in m) (properties_in m) n (state_at c.args.start) c.in-Ok.recognition
     (∥∥₁_map (ready_in m) (λ is. c.in-Ok.ensures.recognized m.program false (subst (IsCodeOf false m.program) (sym c.code-code.ensures) is.0) n meant))
+
+pub returns-in-Ok-clause-answered : goal.returns-in-Ok-clause-answered
+returns-in-Ok-clause-answered c = λ enough x.
+    let m = c.args.self.now in
+    let n = chars c.args.rule.now in
+    let meant : last_place (grammar_in m) n ≡ Some c.in-Some.number = ap (λ rs. last_place (grammar_of rs) n) (sym c.as_slice.ensures.value) ∙ (sym c.last_index.ensures ∙ c.in-Some.is) in
+    let here = subst (λ (l : CodeLists). IsEnough l (position_text c.args.start) c.args.turns) (sym c.code-code.ensures) enough in
+    one_answered c.in-Ok.recognition
+    (∥∥₁_map (ready_in m) (λ is. c.in-Ok.ensures.answered m.program false (subst (IsCodeOf false m.program) (sym c.code-code.ensures) is.0) n meant here x))
