@@ -3,5 +3,4 @@ pub mod Gaining
 pub mod Indexing
 pub mod Linking
 pub mod Starting
-pub mod Waiting
 pub mod Warned

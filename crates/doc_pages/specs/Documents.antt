@@ -8,19 +8,19 @@ use Rattle.std.specs.declared.string.String.{String}
 use Rattle.base_ast.specs.Ast.{expression_of}
 use Rattle.base_ast.specs.declared.ast.Expr.{Expr}
 use Rattle.base_language.specs.Language.Expression.{Grammar, Rule as AnyRule}
-use Rattle.base_language.specs.declared.grammar.Rule.{Rule}
-use Rattle.base_language.specs.declared.runtime.tokens.Pairs.{Pairs}
 use Rattle.doc_diagram.specs.Marks.{Styles, diagram_marks, marks_of}
 use Rattle.doc_markup.specs.Pages.{AreMarkdownSections, AreSections}
 use Rattle.doc_markup.specs.Tokens.{markup_bytes}
 use Rattle.doc_markup.specs.declared.tokens.Markup.{Markup}
-use Rattle.front_reader.specs.Refusals.{AreReadAs}
+use Rattle.front_nodes.specs.declared.forest.Forest.{Forest}
+use Rattle.front_reader.specs.Refusals.{IsReadAs}
 use Rattle.front_spanned.specs.Erasure.{rules_without_spans}
 use Rattle.front_spanned.specs.Spanned.{SpannedRule}
 
--- the rules that pairs are read as, without spans
-abbrev pub AreRulesOf : Pairs Rule → Grammar → Type 0
-AreRulesOf pairs rules = (read : List SpannedRule) × AreReadAs pairs read × (rules ≡ rules_without_spans read)
+-- the rules that trees are read as, without spans
+abbrev pub AreRulesOf : Forest → Grammar → Type 0
+AreRulesOf forest rules =
+    (read : List SpannedRule) × IsReadAs forest read × (rules ≡ rules_without_spans read)
 
 -- a rule of a name, among rules; rules of which none has it
 abbrev pub IsOneNamed : List ℕ → Grammar → AnyRule → Type 0

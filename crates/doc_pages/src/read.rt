@@ -42,12 +42,12 @@ pub fn read_grammar<'i>(
         ≡ rules_without_spans (rule_views opened.entry.rules.value.items)) }
 {
     let OpenGrammar {
-        pairs,
+        forest,
         rules: spanned,
         ..
     } = opened;
-    let source = read_source(alloc, &pairs)?;
-    let facts = find_facts(alloc, pairs.get_input(), &source, &spanned.value)?;
+    let source = read_source(alloc, &forest)?;
+    let facts = find_facts(alloc, forest.get_input(), &source, &spanned.value)?;
     let names = names_of(alloc, &spanned.value)?;
     let rules = erase_spans(alloc, spanned.into_inner())?;
     Ok(GrammarDoc {

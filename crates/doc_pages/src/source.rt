@@ -1,6 +1,7 @@
 //! The text of a grammar by rules: their comments, and the names in them.
 use base_language::grammar::Rule;
-use base_language::runtime::{FirstTree, Pairs, first_tree};
+use front_nodes::forest::Forest;
+use front_nodes::nodes::TokenNode;
 use std::alloc::{AllocError, Global};
 use std::mem;
 
@@ -34,7 +35,7 @@ pub struct GrammarSource<'i> {
     pub rules: Vec<RuleSource<'i>>,
 }
 
-/// A reader of pairs.
+/// A reader of nodes.
 #[derive(Drop)]
 struct SourceReader<'i> {
     alloc: Global,
@@ -53,11 +54,11 @@ struct SourceReader<'i> {
 /// Reads the comments and the texts of a grammar's rules. The only error is an allocation failure.
 pub fn read_source<'i>(
     alloc: Global,
-    pairs: &Pairs<'i, Rule>,
+    forest: &Forest<'i>,
 ) -> Result<GrammarSource<'i>, AllocError> {
     let mut reader = SourceReader {
         alloc,
-        text: pairs.get_input(),
+        text: forest.get_input(),
         source: GrammarSource {
             comment: Vec::new(alloc),
             rules: Vec::new(alloc),
@@ -67,42 +68,38 @@ pub fn read_source<'i>(
         end: 0,
         is_named: false,
     };
-    reader.read_all(pairs)?;
+    reader.read_all(forest.nodes())?;
     let SourceReader { source, .. } = reader;
     Ok(source)
 }
 
 impl<'i> SourceReader<'i> {
-    /// Reads the trees of pairs.
-    fn read_all(&mut self, pairs: &Pairs<'i, Rule>) -> Result<(), AllocError> {
-        let mut waiting = vec![in self.alloc; pairs.trees()]?;
-        while let Some(trees) = waiting.pop() {
-            if let Some(tree) = first_tree(trees) {
-                self.read(tree)?;
-                waiting.push(tree.others)?;
-                waiting.push(tree.inner)?;
-            }
+    /// Reads all nodes, in order.
+    fn read_all(&mut self, nodes: &[TokenNode]) -> Result<(), AllocError> {
+        for node in nodes {
+            self.read(*node)?;
         }
         self.finish_rule()
     }
 
-    /// Reads a tree, without the trees inside it.
-    fn read(&mut self, tree: FirstTree<'_, Rule>) -> Result<(), AllocError> {
-        match tree.rule {
+    /// Reads a node, without those inside it.
+    fn read(&mut self, node: TokenNode) -> Result<(), AllocError> {
+        let (start, end) = (node.start as usize, node.end as usize);
+        match node.rule {
             Rule::grammar_doc => {
-                let line = self.text_between(tree.start, tree.end);
+                let line = self.text_between(start, end);
                 self.add_line(strip_marker(line, "//!"))?;
             }
             Rule::line_doc => {
-                let line = self.text_between(tree.start, tree.end);
+                let line = self.text_between(start, end);
                 self.comment.push(strip_marker(line, "///"))?;
             }
             Rule::grammar_rule => {
                 self.finish_rule()?;
-                self.start = tree.start;
-                self.end = tree.end;
+                self.start = start;
+                self.end = end;
             }
-            Rule::identifier => self.add_name(tree.start, tree.end)?,
+            Rule::identifier => self.add_name(start, end)?,
             _ => {}
         }
         Ok(())

@@ -6,13 +6,13 @@ use Rattle.std.proofs.lemmas.Slice.Eq.{bytes_eq-Decides}
 use Rattle.std.proofs.lemmas.List.Sums.{fold_push}
 use Rattle.base_language.specs.Language.State.{Trees, None', Tree}
 use Rattle.base_language.specs.Pieces.MetaRules.{name_of}
-use Rattle.base_language.specs.Pieces.NamedTrees.{named, named_trees_of}
+use Rattle.base_language.specs.Pieces.NamedTrees.{named}
+use Rattle.front_nodes.specs.Nodes.{named_trees_of, trees_of}
 use Rattle.base_language.specs.Pieces.TokenTrees.{TokenTrees, NoTokens, Token}
-use Rattle.base_language.specs.Pieces.TreeViews.{trees_of}
 use Rattle.base_language.specs.Pieces.Saying.{Span, piece}
 use Rattle.base_language.specs.declared.grammar.Rule.{Rule}
 use Rattle.base_language.specs.declared.grammar.Rule.TheVariants as rule_is
-use Rattle.base_language.specs.declared.runtime.trees.TokenTree.{TokenTree}
+use Rattle.front_nodes.specs.declared.nodes.TokenNode.{TokenNode}
 use Rattle.base_language.proofs.MetaNames.{name_of-injective}
 use Rattle.base_language.proofs.PairLemmas.{AreNested-le}
 use Rattle.front_names.specs.GrammarNames.{own_name, names_in}
@@ -44,7 +44,7 @@ module _ {text : List ℕ} {r : Rule} {a b : ℕ} {inner others : TokenTrees Rul
 
 -- a slice of the code's trees
 abbrev pub Slice : Type 0
-Slice = Bor (List (TokenTree Rule))
+Slice = Bor (List TokenNode)
 
 -- how many trees there are, with the ends of their lists
 abbrev pub count_of : Trees → ℕ

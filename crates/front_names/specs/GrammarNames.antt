@@ -10,6 +10,8 @@ use Rattle.base_language.specs.declared.grammar.Rule.{Rule}
 use Rattle.base_language.specs.declared.runtime.faults.Fault.{Fault}
 use Rattle.base_language.specs.declared.runtime.faults.Fault.TheVariants as fault_is
 use Rattle.base_language.specs.declared.runtime.tokens.Pairs.{Pairs}
+use Rattle.front_nodes.specs.Forests.{forest_text, forest_trees}
+use Rattle.front_nodes.specs.declared.forest.Forest.{Forest}
 use Rattle.front_names.specs.Names.{first_places, pest_keyword_complaints, duplicate_complaints, undefined_complaints}
 
 module _ (text : List ℕ) where
@@ -66,6 +68,19 @@ complaints_of pairs = name_complaints (definitions_of pairs) (calls_of pairs)
 
 abbrev pub first_calls_of : Pairs Rule → List Span
 first_calls_of pairs = first_calls (definitions_of pairs) (calls_of pairs)
+
+-- names, errors and first calls in the trees of a text
+abbrev pub forest_definitions : Forest → List Span
+forest_definitions forest = definitions (forest_text forest) (named (forest_trees forest))
+
+abbrev pub forest_calls : Forest → List Span
+forest_calls forest = calls (forest_text forest) (named (forest_trees forest))
+
+abbrev pub forest_complaints : Forest → List Complaint
+forest_complaints forest = name_complaints (forest_definitions forest) (forest_calls forest)
+
+abbrev pub forest_first_calls : Forest → List Span
+forest_first_calls forest = first_calls (forest_definitions forest) (forest_calls forest)
 
 -- the texts are those of these pieces
 abbrev pub AreWrittenAt : List Span → List (Bor (List ℕ)) → Type 0

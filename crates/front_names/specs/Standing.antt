@@ -1,9 +1,9 @@
 -- Trees within a text.
 use Rattle.std.specs.Prelude.{ℕ, List}
 use Rattle.base_language.specs.Pieces.TokenTrees.{TokenTrees, Token, AreNested}
-use Rattle.base_language.specs.Pieces.TreeViews.{trees_of}
+use Rattle.front_nodes.specs.Nodes.{trees_of}
 use Rattle.base_language.specs.declared.grammar.Rule.{Rule}
-use Rattle.base_language.specs.declared.runtime.trees.FirstTree.{FirstTree}
+use Rattle.front_nodes.specs.declared.nodes.FirstTree.{FirstTree}
 
 -- the trees are within the text: in order and disjoint, on character boundaries, and around those inside
 -- them
@@ -13,6 +13,6 @@ pub record AreTreesWithin (text : List ℕ) (trees : TokenTrees Rule) : Type 0 w
   pub nested : AreNested text trees from to
 
 -- the first of some trees is within the text, and so are those in it and those after it
-abbrev pub IsTreeWithin : List ℕ → FirstTree Rule → Type 0
+abbrev pub IsTreeWithin : List ℕ → FirstTree → Type 0
 IsTreeWithin text tree = AreTreesWithin text
     (Token tree.rule tree.start tree.end (trees_of tree.inner.now) (trees_of tree.others.now))

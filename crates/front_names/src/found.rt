@@ -2,14 +2,14 @@
 ghost use Rattle.std.specs.Prelude.{◌++◌, ◌≡◌, ◌≤◌, [], ◌∷◌, IfOk, OnOk, map};
 ghost use Rattle.std.specs.Str.{IsCharBoundary};
 ghost use Rattle.base_language.specs.Pieces.MetaRules.{name_of};
-ghost use Rattle.base_language.specs.Pieces.NamedTrees.{named_trees_of};
+ghost use Rattle.front_nodes.specs.Nodes.{named_trees_of, trees_of};
 ghost use Rattle.base_language.specs.Pieces.Saying.{piece, piece_of};
-ghost use Rattle.base_language.specs.Pieces.TreeViews.{trees_of};
 ghost use Rattle.front_names.specs.GrammarNames as spec;
 ghost use Rattle.front_names.specs.Standing.{IsTreeWithin, AreTreesWithin};
 
 use base_language::grammar::Rule;
-use base_language::runtime::{FirstTree, Span, TokenTree, first_tree};
+use base_language::runtime::Span;
+use front_nodes::nodes::{FirstTree, TokenNode, first_tree};
 use std::alloc::{AllocError, Global};
 
 /// Returns the piece of the text from the byte `start` to the byte `end`.
@@ -25,7 +25,7 @@ fn place<'i>(text: &'i str, start: usize, end: usize) -> Span<'i>
 /// Adds the span of a tree to `names`, if the tree is a name.
 fn add_own_name<'i>(
     text: &'i str,
-    tree: FirstTree<'_, Rule>,
+    tree: FirstTree<'_>,
     names: &mut Vec<Span<'i>>,
 ) -> Result<(), AllocError>
     requires { IsTreeWithin text.now tree }
@@ -42,8 +42,8 @@ fn add_own_name<'i>(
 /// trees that are still to be read, and serves many trees.
 fn add_names<'i, 't>(
     text: &'i str,
-    trees: &'t [TokenTree<Rule>],
-    waiting: &mut Vec<&'t [TokenTree<Rule>]>,
+    trees: &'t [TokenNode],
+    waiting: &mut Vec<&'t [TokenNode]>,
     names: &mut Vec<Span<'i>>,
 ) -> Result<(), AllocError>
     requires within { AreTreesWithin text.now (trees_of trees.now) }
@@ -73,7 +73,7 @@ fn add_names<'i, 't>(
 /// Adds the span of the name which the trees of a rule define, if they define one.
 fn add_definition<'i>(
     text: &'i str,
-    trees: &[TokenTree<Rule>],
+    trees: &[TokenNode],
     names: &mut Vec<Span<'i>>,
 ) -> Result<(), AllocError>
     requires { AreTreesWithin text.now (trees_of trees.now) }
@@ -90,8 +90,8 @@ fn add_definition<'i>(
 /// The list `waiting` is lent for trees.
 fn add_calls<'i, 't>(
     text: &'i str,
-    trees: &'t [TokenTree<Rule>],
-    waiting: &mut Vec<&'t [TokenTree<Rule>]>,
+    trees: &'t [TokenNode],
+    waiting: &mut Vec<&'t [TokenNode]>,
     names: &mut Vec<Span<'i>>,
 ) -> Result<(), AllocError>
     requires within { AreTreesWithin text.now (trees_of trees.now) }
@@ -111,7 +111,7 @@ fn add_calls<'i, 't>(
 pub(crate) fn definitions<'i>(
     alloc: Global,
     text: &'i str,
-    trees: &[TokenTree<Rule>],
+    trees: &[TokenNode],
 ) -> Result<Vec<Span<'i>>, AllocError>
     requires { AreTreesWithin text.now (trees_of trees.now) }
     ensures { IfOk result (λ found. map piece_of found.items
@@ -133,7 +133,7 @@ pub(crate) fn definitions<'i>(
 pub(crate) fn calls<'i>(
     alloc: Global,
     text: &'i str,
-    trees: &[TokenTree<Rule>],
+    trees: &[TokenNode],
 ) -> Result<Vec<Span<'i>>, AllocError>
     requires { AreTreesWithin text.now (trees_of trees.now) }
     ensures { IfOk result (λ found. map piece_of found.items

@@ -22,7 +22,7 @@ pub use messages::{
     NameProblem, arrow, cannot_fail, left_recursion, non_progressing, repeated_expression,
     tag_on_builtin, tag_on_silent_rule, unreachable_choices,
 };
-pub use pairs::{check_names, collect_builtins, validate_pairs};
+pub use pairs::{check_forest, check_names, collect_builtins, collect_in_forest, validate_pairs};
 pub use said::name_errors;
 pub use tables::{comment_name, is_builtin, unicode_property_names, whitespace_name};
 pub use undefined::validate_undefined;

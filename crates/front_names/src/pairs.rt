@@ -5,7 +5,7 @@ ghost use Rattle.base_language.specs.Pieces.Saying.{piece_of, written};
 ghost use Rattle.front_names.specs.NameFindings.{AreNameFindings, told_by};
 ghost use Rattle.front_names.specs.NameSets.{HasNames};
 ghost use Rattle.front_names.specs.Names.{first_places};
-ghost use Rattle.front_names.specs.GrammarNames.{AreWrittenAt, IsNameRefusal, complaints_of, first_calls_of, name_complaints};
+ghost use Rattle.front_names.specs.GrammarNames.{AreWrittenAt, IsNameRefusal, complaints_of, first_calls_of, forest_complaints, forest_first_calls, name_complaints};
 
 use crate::findings::add_findings;
 use crate::keywords::{later, places_of};
@@ -15,6 +15,7 @@ use crate::undefined::collect_undefined;
 use crate::{NameError, NameFinding, NameProblem, found};
 use base_language::grammar::Rule;
 use base_language::runtime::{Fault, Pairs, Span};
+use front_nodes::forest::Forest;
 use std::alloc::{AllocError, Global};
 use std::collections::HashSet;
 
@@ -43,11 +44,21 @@ pub fn collect_builtins<'i>(alloc: Global, pairs: &Pairs<'i, Rule>) -> Result<Ve
     ensures builtins { IfOk result (λ names. AreWrittenAt (first_calls_of pairs.now) names.items) }
     ensures refused { IfErr result (IsNameRefusal (complaints_of pairs.now)) }
 {
-    match check_names(alloc, pairs) {
+    let forest = Forest::of_pairs(alloc, pairs)?;
+    collect_in_forest(alloc, &forest)
+}
+
+/// Returns the names or the errors of `validate_pairs` for the trees of a grammar's text.
+pub fn collect_in_forest<'i>(alloc: Global, forest: &Forest<'i>) -> Result<Vec<&'i str>, Fault>
+    ensures no_complaints { OnOk result (forest_complaints forest.now ≡ []) }
+    ensures builtins { IfOk result (λ names. AreWrittenAt (forest_first_calls forest.now) names.items) }
+    ensures refused { IfErr result (IsNameRefusal (forest_complaints forest.now)) }
+{
+    match check_forest(alloc, forest) {
         Ok(names) => Ok(names),
         Err(NameError::Memory(error)) => Err(error.into()),
         Err(NameError::Found(findings)) => {
-            let errors = name_errors(alloc, pairs.get_input(), &findings)?;
+            let errors = name_errors(alloc, forest.get_input(), &findings)?;
             Err(Fault::Grammar(errors))
         }
     }
@@ -63,8 +74,18 @@ pub fn check_names<'i>(
     ensures builtins { IfOk result (λ names. AreWrittenAt (first_calls_of pairs.now) names.items) }
     ensures refused { IfErr result (AreNameFindings (complaints_of pairs.now)) }
 {
-    let text = pairs.get_input();
-    let trees = pairs.trees();
+    let forest = Forest::of_pairs(alloc, pairs)?;
+    check_forest(alloc, &forest)
+}
+
+/// Returns the names of `validate_pairs` for the trees of a grammar's text, or the findings of its errors.
+pub fn check_forest<'i>(alloc: Global, forest: &Forest<'i>) -> Result<Vec<&'i str>, NameError<'i>>
+    ensures no_complaints { OnOk result (forest_complaints forest.now ≡ []) }
+    ensures builtins { IfOk result (λ names. AreWrittenAt (forest_first_calls forest.now) names.items) }
+    ensures refused { IfErr result (AreNameFindings (forest_complaints forest.now)) }
+{
+    let text = forest.get_input();
+    let trees = forest.nodes();
     let definitions = found::definitions(alloc, text, trees)?;
     let calls = found::calls(alloc, text, trees)?;
     let mut known = HashSet::with_capacity(alloc, definitions.len())?;

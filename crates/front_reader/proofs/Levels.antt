@@ -5,7 +5,7 @@ use Rattle.std.specs.Option.{option_or}
 use Rattle.base_ast.specs.declared.deep.Deep.{Deep}
 use Rattle.base_language.specs.Language.Text.{Text}
 use Rattle.base_language.specs.Language.State.{Trees, Tree, joined}
-use Rattle.base_language.specs.Pieces.NamedTrees.{named_trees_of}
+use Rattle.front_nodes.specs.Nodes.{named_trees_of}
 use Rattle.base_language.specs.Pieces.Saying.{piece}
 use Rattle.front_spanned.specs.Nodes.{view, piece_of}
 use Rattle.front_spanned.specs.Spanned.{Spanned, Seq, Choice, One, Push, end_of, starting, ending}
@@ -24,8 +24,7 @@ use Rattle.front_reader.specs.declared.rules.levels.TermContext.{TermContext}
 use Rattle.front_reader.specs.declared.rules.levels.Level.{Level}
 use Rattle.front_reader.specs.declared.rules.levels.Next.{Next}
 use Rattle.front_reader.specs.declared.rules.levels.Next.TheVariants as next_is
-use Rattle.base_language.specs.declared.grammar.Rule.{Rule}
-use Rattle.base_language.specs.declared.runtime.trees.TokenTree.{TokenTree}
+use Rattle.front_nodes.specs.declared.nodes.TokenNode.{TokenNode}
 use Rattle.std.specs.Borrow.{Bor}
 use Rattle.front_reader.specs.declared.rules.levels.Enclosure.{Enclosure}
 use Rattle.front_reader.specs.declared.rules.levels.Enclosure.TheVariants as within_is
@@ -329,7 +328,7 @@ work_more (other ∷ others) level = omega (arith, work_more others level)
 
 -- less is to be done: where an expression is begun, and where one is read
 
-pub less_inside : (levels others : List Level) (next after : Next) (level : Level) (trees : Bor (List (TokenTree Rule)))
+pub less_inside : (levels others : List Level) (next after : Next) (level : Level) (trees : Bor (List TokenNode))
     (us : Trees) → next ≡ next_is.Inner level trees → others ≡ levels ++ (level ∷ []) → work_of after < count_of us
     → count_of us ≤ count_of (named_trees_of trees.now)
     → work_of after + open_work others < work_of next + open_work levels

@@ -4,9 +4,8 @@ use Rattle.std.specs.Option.{option_or}
 use Rattle.base_ast.specs.declared.deep.Deep.{Deep}
 use Rattle.base_language.specs.Language.State.{Trees, None', Tree, joined}
 use Rattle.base_language.specs.Pieces.MetaRules.{name_of}
-use Rattle.base_language.specs.Pieces.NamedTrees.{named_trees_of}
-use Rattle.base_language.specs.declared.grammar.Rule.{Rule}
-use Rattle.base_language.specs.declared.runtime.trees.FirstTree.{FirstTree}
+use Rattle.front_nodes.specs.Nodes.{named_trees_of}
+use Rattle.front_nodes.specs.declared.nodes.FirstTree.{FirstTree}
 use Rattle.front_spanned.specs.Nodes.{view}
 use Rattle.front_spanned.specs.Spanned.{Spanned, Binary}
 use Rattle.front_spanned.specs.declared.node.ParserNode.{ParserNode}
@@ -106,7 +105,7 @@ pub data Opens (text : List ℕ) : Trees → Enclosure → Trees → Trees → T
       (within_is.Push from) inner us
 
 -- an operand that begins with a tree of the code: a node that holds no expression, and postfix operators
-abbrev pub HoldsNoExpression : List ℕ → FirstTree Rule → Type 0
+abbrev pub HoldsNoExpression : List ℕ → FirstTree → Type 0
 HoldsNoExpression text tree =
     IsTerminal text (name_of tree.rule) (named_trees_of tree.inner.now)
     × ArePostfixes text (named_trees_of tree.others.now)

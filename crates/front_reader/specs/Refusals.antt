@@ -9,6 +9,8 @@ use Rattle.base_language.specs.declared.runtime.faults.Fault as code
 use Rattle.base_language.specs.declared.runtime.faults.Fault.TheVariants as code_is
 use Rattle.base_language.specs.declared.runtime.tokens.Pairs.{Pairs}
 use Rattle.front_reader.specs.Flaws.{Cause, NoScalarValue, PastI32, PastU32, ZeroTimes, Flaw, first_flaw}
+use Rattle.front_nodes.specs.Forests.{forest_text, forest_trees}
+use Rattle.front_nodes.specs.declared.forest.Forest.{Forest}
 use Rattle.front_reader.specs.Reading.{ReadsRules}
 use Rattle.front_spanned.specs.Spanned.{SpannedRule}
 
@@ -37,3 +39,11 @@ AreReadAs pairs rules = ReadsRules (pairs_text pairs) (named (pairs_trees pairs)
 -- the first flaw of the pairs
 abbrev pub first_flaw_of : Pairs Rule → Option Flaw
 first_flaw_of pairs = first_flaw (pairs_text pairs) (named (pairs_trees pairs))
+
+-- trees of a text are read as these rules
+abbrev pub IsReadAs : Forest → List SpannedRule → Type 0
+IsReadAs forest rules = ReadsRules (forest_text forest) (named (forest_trees forest)) rules
+
+-- their first flaw
+abbrev pub first_flaw_in : Forest → Option Flaw
+first_flaw_in forest = first_flaw (forest_text forest) (named (forest_trees forest))

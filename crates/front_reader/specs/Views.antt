@@ -14,14 +14,13 @@ use Rattle.front_reader.specs.Pieces.{AreAfter, AreInText}
 use Rattle.front_grammar.specs.Shape.{Lone, AreTerms, IsMore, IsTerm, IsModifier}
 use Rattle.front_spanned.specs.Spanned.{Spanned, Binary, Seq, Choice, One, Unary, Opt, Rep, RepOnce, RepExact, RepMin, RepMax, RepMinMax}
 use Rattle.front_spanned.specs.Nodes.{piece_of, view, rule_view, rule_views}
-use Rattle.base_language.specs.Pieces.NamedTrees.{named_trees_of}
+use Rattle.front_nodes.specs.Nodes.{named_trees_of}
 use Rattle.front_reader.specs.Reading.{Modifies, Category, AnExpression, Alternatives, Reads, ReadsRule, ReadsRules, Postfix, Postfixed, integer, literal_value}
 use Rattle.front_reader.specs.Literal.{unescaped}
 use Rattle.front_reader.specs.Flaws as flaws
 use Rattle.front_reader.specs.Flaws.{first_flaw, wrong_literal}
-use Rattle.base_language.specs.declared.grammar.Rule.{Rule}
-use Rattle.base_language.specs.declared.runtime.trees.TokenTree.{TokenTree}
-use Rattle.base_language.specs.declared.runtime.trees.FirstTree.{FirstTree}
+use Rattle.front_nodes.specs.declared.nodes.TokenNode.{TokenNode}
+use Rattle.front_nodes.specs.declared.nodes.FirstTree.{FirstTree}
 use Rattle.base_language.specs.declared.runtime.places.Span.{Span}
 use Rattle.base_language.specs.Pieces.MetaRules.{name_of}
 use Rattle.front_spanned.specs.declared.node.ParserNode.{ParserNode}
@@ -56,14 +55,14 @@ Answers o (Ok x) P = (o ≡ None) × P x
 Answers o (Err e) P = IsFirst o e
 
 -- a tree of the code by itself, and as one of another rule
-abbrev pub alone_as : Text → FirstTree Rule → state.Trees
+abbrev pub alone_as : Text → FirstTree → state.Trees
 alone_as rule tree = state.Tree rule tree.start tree.end (named_trees_of tree.inner.now) state.None'
 
-abbrev pub alone : FirstTree Rule → state.Trees
+abbrev pub alone : FirstTree → state.Trees
 alone tree = alone_as (name_of tree.rule) tree
 
 -- a tree of the code, and those after it
-abbrev pub all_from : FirstTree Rule → state.Trees
+abbrev pub all_from : FirstTree → state.Trees
 all_from tree =
     state.Tree (name_of tree.rule) tree.start tree.end (named_trees_of tree.inner.now)
     (named_trees_of tree.others.now)
@@ -137,7 +136,7 @@ pub record IsPostfixOf (text : List ℕ) (r : Text) (us : state.Trees) (s : span
   pub round : view x ≡ One s operator (view n)
 
 -- a node with a postfix operator applied, and the span of both, or the operator's flaw
-abbrev pub AnswersPostfix : Span → FirstTree Rule → ParserNode → Result ParserNode error.ReadError → Type 0
+abbrev pub AnswersPostfix : Span → FirstTree → ParserNode → Result ParserNode error.ReadError → Type 0
 AnswersPostfix span operator node result =
     let text = span_text span in
     let us = named_trees_of operator.inner.now in
@@ -165,7 +164,7 @@ pub record TakesBound (text : List ℕ) (us : state.Trees) (n : Option ℤ) (res
   pub flaws : first_flaw text us ≡ first_flaw text rest
 
 abbrev pub AnswersBound : List ℕ → state.Trees
-    → Result (Option ℤ × Bor (List (TokenTree Rule))) error.ReadError → Type 0
+    → Result (Option ℤ × Bor (List TokenNode)) error.ReadError → Type 0
 AnswersBound text us result =
     MatchResult result (λ x. TakesBound text us x.0 (named_trees_of x.1.now)) (IsFirst (first_flaw text us))
 

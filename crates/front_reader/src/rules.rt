@@ -1,9 +1,9 @@
 //! The reader turns the token trees of a grammar's text into its rules.
 ghost use Rattle.std.specs.Prelude.{◌≡◌, [], IfErr, IfOk, MatchResult, OnOk};
 ghost use Rattle.base_language.specs.Pieces.Pairs.{pairs_text};
-ghost use Rattle.base_language.specs.Pieces.NamedTrees.{named_trees_of};
-ghost use Rattle.front_syntax.specs.Parses.{AreOfAGrammar, AreSpelled, ParseRefuses};
-ghost use Rattle.front_reader.specs.Refusals.{AreReadAs, IsReadRefusal, first_flaw_of};
+ghost use Rattle.front_nodes.specs.Nodes.{named_trees_of};
+ghost use Rattle.front_syntax.specs.Parses.{AreOfAGrammar, AreSpelled, IsOfAGrammar, ParseRefuses};
+ghost use Rattle.front_reader.specs.Refusals.{AreReadAs, IsReadAs, IsReadRefusal, first_flaw_in, first_flaw_of};
 ghost use Rattle.front_reader.specs.Pieces.{AreInText};
 ghost use Rattle.front_grammar.specs.Shape.{AreGrammarTrees, IsRule};
 ghost use Rattle.front_reader.specs.Views.{AnswersRule, AnswersRules, IsFirst, MayBeModifier, TakesModifier};
@@ -30,8 +30,10 @@ pub use crate::rules::shown::rename_meta_rule;
 use base_ast::ast::RuleType;
 use base_ast::deep::Deep;
 pub use base_language::grammar::Rule;
-use base_language::runtime::{Fault, Pairs, TokenTree};
+use base_language::runtime::{Fault, Pairs};
 use front_grammar::laws::trees_of_a_grammar_have_their_shape;
+use front_nodes::forest::Forest;
+use front_nodes::nodes::TokenNode;
 pub use front_spanned::{ParserExpr, ParserNode, ParserRule, filter_internal};
 pub use front_syntax::grammar::PestParser;
 use front_syntax::trees::{first_tree, leading_tree};
@@ -39,7 +41,7 @@ use std::alloc::Global;
 
 /// Returns the type that a rule's modifier gives, Normal where there is none, and the trees after the
 /// modifier.
-fn modifier(trees: &[TokenTree<Rule>]) -> (RuleType, &[TokenTree<Rule>])
+fn modifier(trees: &[TokenNode]) -> (RuleType, &[TokenNode])
     requires { MayBeModifier (named_trees_of trees.now) }
     ensures { TakesModifier (named_trees_of trees.entry.now)
         (type_of result.0) (named_trees_of result.1.now) }
@@ -60,7 +62,7 @@ fn modifier(trees: &[TokenTree<Rule>]) -> (RuleType, &[TokenTree<Rule>])
 fn rule<'i, 't>(
     alloc: Global,
     text: &'i str,
-    trees: &'t [TokenTree<Rule>],
+    trees: &'t [TokenNode],
     levels: &mut Vec<Level<'i, 't>>,
 ) -> Result<Option<ParserRule<'i>>, ReadError<'i>>
     requires shape { IsRule text.now (named_trees_of trees.now) }
@@ -93,7 +95,7 @@ fn rule<'i, 't>(
 fn rules<'i>(
     alloc: Global,
     text: &'i str,
-    trees: &[TokenTree<Rule>],
+    trees: &[TokenNode],
 ) -> Result<Vec<ParserRule<'i>>, ReadError<'i>>
     requires shape { AreGrammarTrees text.now (named_trees_of trees.now) }
     requires nested { AreInText text.now (named_trees_of trees.now) }
@@ -161,7 +163,21 @@ pub fn consume_rules_with_spans<'i>(
     ensures flawless { OnOk result (first_flaw_of pairs.entry ≡ None) }
     ensures refused { IfErr result (IsReadRefusal (first_flaw_of pairs.entry)) }
 {
-    match read_rules(alloc, &pairs) {
+    let forest = Forest::of_pairs(alloc, &pairs)?;
+    consume_forest_with_spans(alloc, &forest)
+}
+
+/// Returns the rules or the errors of `consume_rules_with_spans` for the trees of a grammar's text.
+pub fn consume_forest_with_spans<'i>(
+    alloc: Global,
+    forest: &Forest<'i>,
+) -> Result<Vec<ParserRule<'i>>, Fault>
+    requires { IsOfAGrammar forest.now }
+    ensures rules { IfOk result (λ rules. IsReadAs forest.now (rule_views rules.items)) }
+    ensures flawless { OnOk result (first_flaw_in forest.now ≡ None) }
+    ensures refused { IfErr result (IsReadRefusal (first_flaw_in forest.now)) }
+{
+    match read_forest(alloc, forest) {
         Ok(rules) => Ok(rules),
         Err(error) => Err(refusal(alloc, error)),
     }
@@ -178,6 +194,21 @@ pub fn read_rules<'i>(
     ensures flawless { OnOk result (first_flaw_of pairs.now ≡ None) }
     ensures refused { IfErr result (IsFirst (first_flaw_of pairs.now)) }
 {
+    let forest = Forest::of_pairs(alloc, pairs)?;
+    read_forest(alloc, &forest)
+}
+
+/// Returns the rules of `consume_rules_with_spans` for the trees of a grammar's text, or the flaw that its
+/// error reports.
+pub fn read_forest<'i>(
+    alloc: Global,
+    forest: &Forest<'i>,
+) -> Result<Vec<ParserRule<'i>>, ReadError<'i>>
+    requires { IsOfAGrammar forest.now }
+    ensures rules { IfOk result (λ rules. IsReadAs forest.now (rule_views rules.items)) }
+    ensures flawless { OnOk result (first_flaw_in forest.now ≡ None) }
+    ensures refused { IfErr result (IsFirst (first_flaw_in forest.now)) }
+{
     trees_of_a_grammar_have_their_shape();
-    rules(alloc, pairs.get_input(), pairs.trees())
+    rules(alloc, forest.get_input(), forest.nodes())
 }

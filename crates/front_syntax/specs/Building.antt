@@ -3,6 +3,7 @@ use Rattle.std.specs.Prelude.{ℕ, zero, suc, ◌-◌, List, [], ◌∷◌, if�
 use Rattle.base_language.specs.Language.State.{Trees, None', Tree}
 use Rattle.base_language.specs.Pieces.MetaRules.{name_of}
 use Rattle.front_code.specs.Numbers.{rule_numbered}
+use Rattle.front_nodes.specs.declared.nodes.TokenNode.{TokenNode}
 use Rattle.matcher_code.specs.declared.state.TreeNode.{TreeNode}
 
 -- the first numbers of a list, until their sum comes to a number
@@ -41,3 +42,10 @@ abbrev pub trees_from : ℕ → List TreeNode → Trees
 trees_from k [] = None'
 trees_from k (t ∷ ts) =
     tree_around t (length (first_sizes (t.after - suc k) (sizes_from (suc k) ts))) (trees_from (suc k) ts)
+
+-- the nodes of a run with their rules, where the first node has the number k
+abbrev pub nodes_from : ℕ → List TreeNode → List TokenNode
+nodes_from k [] = []
+nodes_from k (t ∷ ts) =
+    record { rule = rule_numbered t.row; start = t.start; end = t.end; inner = t.after - suc k }
+    ∷ nodes_from (suc k) ts

@@ -17,6 +17,8 @@ use Rattle.base_language.specs.declared.runtime.errors.LineColLocation.TheVarian
 use Rattle.base_language.specs.declared.runtime.faults.Fault.{Fault}
 use Rattle.base_language.specs.declared.runtime.faults.Fault.TheVariants as fault_is
 use Rattle.front_grammar.specs.Outcomes.{Recognizes, Spells}
+use Rattle.front_nodes.specs.Forests.{forest_text, forest_trees}
+use Rattle.front_nodes.specs.declared.forest.Forest.{Forest}
 use Rattle.front_syntax.specs.Entries.{entries_of, named_entries}
 
 -- these are the entries of trees that the text spells
@@ -30,6 +32,13 @@ AreSpelled rule pairs = Spells rule (pairs_text pairs) (named (pairs_trees pairs
 -- the pairs are all those of a parse of a grammar
 abbrev pub AreOfAGrammar : Pairs Rule → Type 0
 AreOfAGrammar pairs = AreSpelled rule_is.grammar_rules pairs
+
+-- trees of a text are all those that it spells for the rule
+abbrev pub IsSpelled : Rule → Forest → Type 0
+IsSpelled rule forest = Spells rule (forest_text forest) (named (forest_trees forest))
+
+abbrev pub IsOfAGrammar : Forest → Type 0
+IsOfAGrammar forest = IsSpelled rule_is.grammar_rules forest
 
 -- the rule fails, for all classes, and this is the position of the failure
 abbrev pub FailsAt : Rule → List ℕ → ℕ → Type 0

@@ -5,15 +5,17 @@ ghost use Rattle.base_language.specs.Pieces.Pairs.{pairs_text};
 ghost use Rattle.front_syntax.specs.Entries.{IsWhole, named_entries};
 ghost use Rattle.front_syntax.specs.ExpectedRules.{AreExpected, ExpectsNothing};
 ghost use Rattle.front_syntax.specs.Nodes.{AreSpelledNodes};
-ghost use Rattle.front_syntax.specs.Parses.{AreSpelled, IsSyntaxError, IsSyntaxErrorOrMemory, ParseRefuses, AreTokensOf};
+ghost use Rattle.front_nodes.specs.Forests.{forest_text};
+ghost use Rattle.front_syntax.specs.Parses.{AreSpelled, AreTokensOf, IsSpelled, IsSyntaxError, IsSyntaxErrorOrMemory, ParseRefuses};
 
 pub use crate::entries::Entry;
 use crate::entries::write_entries;
 use crate::expecting::rules_in_order;
-use crate::trees::build_trees;
+use crate::trees::{build_trees, with_rules};
 pub use base_language::grammar::Rule;
 use base_language::runtime::{Error, ErrorVariant, Fault, Pairs, Position};
 use front_code::runs::{RuleRun, parse_rule, run_rule};
+use front_nodes::forest::Forest;
 use matcher_code::state::TreeNode;
 use std::alloc::{AllocError, Global};
 
@@ -39,6 +41,16 @@ impl PestParser {
         let nodes = match_nodes(alloc, rule, text)?;
         let trees = build_trees(alloc, &nodes)?;
         Ok(Pairs::new(text, trees))
+    }
+
+    /// Returns the trees that the text spells for a rule. The errors are those of `parse`.
+    pub fn forest(alloc: Global, rule: Rule, text: &str) -> Result<Forest<'_>, Fault>
+        ensures text { IfOk result (λ forest. forest_text forest ≡ text.entry.now) }
+        ensures spelled { MatchResult result (IsSpelled rule) (ParseRefuses rule text.entry.now) }
+    {
+        let nodes = match_nodes(alloc, rule, text)?;
+        let trees = with_rules(alloc, &nodes)?;
+        Ok(Forest::new(text, trees))
     }
 
     /// Returns the trees that the text spells for a rule as one flat list: an entry where a tree starts and

@@ -3,31 +3,35 @@ ghost use Rattle.std.specs.Prelude.{◌≡◌, ◌≢◌, ◌≤◌, ◌-◌, �
 ghost use Rattle.base_language.specs.Language.State as spec;
 ghost use Rattle.base_language.specs.Pieces.MetaRules.{name_of};
 ghost use Rattle.base_language.specs.Pieces.NamedTrees.{named_trees_of};
-ghost use Rattle.front_syntax.specs.Building.{first_sizes, other_sizes, tree_around};
+ghost use Rattle.front_nodes.specs.Nodes as of_nodes;
+ghost use Rattle.front_syntax.specs.Building.{first_sizes, nodes_from, other_sizes, tree_around};
 ghost use Rattle.front_syntax.specs.Nodes.{AreNodesOf};
 
 use base_language::grammar::Rule;
-use base_language::runtime::{FirstTree, TokenTree};
+use base_language::runtime::TokenTree;
 use front_code::numbers::rule_at;
+use front_nodes::nodes::{FirstTree, TokenNode};
 use matcher_code::state::TreeNode;
 use std::alloc::{AllocError, Global};
 
-/// Returns the first of these trees, of which the last comes first, or `None` where there is no tree.
-pub fn first_tree(trees: &[TokenTree<Rule>]) -> Option<FirstTree<'_, Rule>>
-    ensures { MatchOption result (named_trees_of trees.entry.now ≡ spec.None')
-        (λ first. named_trees_of trees.entry.now
+/// Returns the first of the trees of these nodes, or `None` where there is no tree.
+#[inline(always)]
+pub fn first_tree(trees: &[TokenNode]) -> Option<FirstTree<'_>>
+    ensures { MatchOption result (of_nodes.named_trees_of trees.entry.now ≡ spec.None')
+        (λ first. of_nodes.named_trees_of trees.entry.now
         ≡ spec.Tree (name_of first.rule) first.start first.end
-        (named_trees_of first.inner.now) (named_trees_of first.others.now)) }
+        (of_nodes.named_trees_of first.inner.now) (of_nodes.named_trees_of first.others.now)) }
 {
-    base_language::runtime::first_tree(trees)
+    front_nodes::nodes::first_tree(trees)
 }
 
-/// Returns the first of these trees, of which there is one at least, and the last comes first.
-pub fn leading_tree(trees: &[TokenTree<Rule>]) -> FirstTree<'_, Rule>
-    requires { named_trees_of trees.now ≢ spec.None' }
-    ensures { named_trees_of trees.entry.now
+/// Returns the first of the trees of these nodes, of which there is one at least.
+#[inline(always)]
+pub fn leading_tree(trees: &[TokenNode]) -> FirstTree<'_>
+    requires { of_nodes.named_trees_of trees.now ≢ spec.None' }
+    ensures { of_nodes.named_trees_of trees.entry.now
         ≡ spec.Tree (name_of result.rule) result.start result.end
-        (named_trees_of result.inner.now) (named_trees_of result.others.now) }
+        (of_nodes.named_trees_of result.inner.now) (of_nodes.named_trees_of result.others.now) }
 {
     match first_tree(trees) {
         Some(first) => first,
@@ -112,4 +116,25 @@ pub(crate) fn build_trees(
         add_tree(nodes[left], left, &mut trees, &mut sizes)?;
     }
     Ok(trees)
+}
+
+/// Returns the nodes of a run with their rules, each with the number of nodes inside it.
+pub(crate) fn with_rules(alloc: Global, nodes: &[TreeNode]) -> Result<Vec<TokenNode>, AllocError>
+    ensures { (us : spec.Trees) → AreNodesOf nodes.now us
+        → IfOk result (λ ns. of_nodes.named_trees_of ns.items ≡ us) }
+{
+    let mut all = Vec::with_capacity(alloc, nodes.len())?;
+    for number in 0..nodes.len() {
+        let node = nodes[number];
+        let inner = (node.after as usize)
+            .saturating_sub(number)
+            .saturating_sub(1);
+        all.push(TokenNode {
+            rule: rule_at(node.row),
+            start: node.start,
+            end: node.end,
+            inner: inner as u32,
+        })?;
+    }
+    Ok(all)
 }

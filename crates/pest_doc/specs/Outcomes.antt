@@ -4,27 +4,26 @@ use Rattle.std.specs.Str.{IsUtf8}
 use Rattle.std.specs.declared.alloc.Global.{Global}
 use Rattle.std.specs.declared.string.String.{String}
 use Rattle.base_language.specs.Language.Expression.{Grammar}
-use Rattle.base_language.specs.declared.grammar.Rule.{Rule}
-use Rattle.base_language.specs.declared.runtime.tokens.Pairs.{Pairs}
 use Rattle.doc_pages.specs.Documents.{AreRulesOf, HasNoRule, IsDiagramOfRule}
 use Rattle.doc_markup.specs.Pages.{AreDefinitions, IsMarkdownPage, IsPage}
-use Rattle.front_names.specs.GrammarNames.{complaints_of}
-use Rattle.front_reader.specs.Refusals.{first_flaw_of}
+use Rattle.front_names.specs.GrammarNames.{forest_complaints}
+use Rattle.front_nodes.specs.declared.forest.Forest.{Forest}
+use Rattle.front_reader.specs.Refusals.{first_flaw_in}
 use Rattle.pest_doc.specs.Refusals.{IsRefusal}
 use Rattle.pest_doc.specs.declared.arguments.DocumentFormat.{DocumentFormat}
 use Rattle.pest_doc.specs.declared.arguments.DocumentFormat.TheVariants as format
-use Rattle.pest_meta.specs.Opening.{ArePairsOf, IsUnvalidatedError}
+use Rattle.pest_meta.specs.Opening.{IsForestOf, IsUnvalidatedError}
 use Rattle.pest_meta.specs.declared.opened.OpenError.{OpenError}
 use Rattle.pest_doc.specs.declared.run.DocumentOutcome.{DocumentOutcome}
 use Rattle.pest_doc.specs.declared.run.DocumentOutcome.TheVariants as outcome
 
 -- the rules that a text spells; its names are in order, and it has no flaw
 pub record SpellsRules (text : List ℕ) (rules : Grammar) : Type 0 where
-  pub pairs : Pairs Rule
-  pub of_text : ArePairsOf text pairs
-  pub well_named : complaints_of pairs ≡ []
-  pub flawless : first_flaw_of pairs ≡ None
-  pub are_rules : AreRulesOf pairs rules
+  pub forest : Forest
+  pub of_text : IsForestOf text forest
+  pub well_named : forest_complaints forest ≡ []
+  pub flawless : first_flaw_in forest ≡ None
+  pub are_rules : AreRulesOf forest rules
 
 -- a document of rules, in a format, under a title
 abbrev pub IsDocumentOf : DocumentFormat → List ℕ → Grammar → String Global → Type 0

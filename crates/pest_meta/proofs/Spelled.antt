@@ -8,23 +8,23 @@ use Rattle.front_optimizer.specs.Passes.{IsOptimized}
 use Rattle.base_language.specs.Language.State.{Classes, State, Trees, Success, Failure}
 use Rattle.base_language.specs.Pieces.NamedTrees.{named}
 use Rattle.base_language.specs.Pieces.Saying.{AreErrorsFor}
-use Rattle.base_language.specs.Pieces.Pairs.{pairs_text, pairs_trees}
 use Rattle.base_language.specs.declared.grammar.Rule.{Rule}
 use Rattle.base_language.specs.declared.grammar.Rule.TheVariants as rule_is
 use Rattle.base_language.specs.declared.runtime.errors.Error.{Error}
 use Rattle.base_language.specs.declared.runtime.faults.Fault as code
 use Rattle.base_language.specs.declared.runtime.faults.Fault.TheVariants as fault_is
-use Rattle.base_language.specs.declared.runtime.tokens.Pairs.{Pairs}
 use Rattle.base_language.proofs.OneOutcome.{same, same_trees}
 use Rattle.front_spanned.specs.Erasure.{rules_without_spans}
 use Rattle.front_spanned.specs.Spanned.{SpannedRule}
+use Rattle.front_nodes.specs.Forests.{forest_text, forest_trees}
+use Rattle.front_nodes.specs.declared.forest.Forest.{Forest}
 use Rattle.front_reader.specs.Flaws.{Flaw, first_flaw}
 use Rattle.front_reader.specs.Reading.{ReadsRules}
-use Rattle.front_reader.specs.Refusals.{AreReadAs, first_flaw_of, IsReadRefusal, ReportsFlaw}
+use Rattle.front_reader.specs.Refusals.{IsReadAs, first_flaw_in, IsReadRefusal, ReportsFlaw}
 use Rattle.front_reader.proofs.Uniqueness.{rules_once}
 use Rattle.front_grammar.specs.MetaGrammar.{meta_grammar}
-use Rattle.front_syntax.specs.Parses.{AreOfAGrammar, FailsAt, ParseRefuses}
-use Rattle.front_names.specs.GrammarNames.{AreWrittenAt, complaints_of, first_calls_of, IsNameRefusal}
+use Rattle.front_syntax.specs.Parses.{IsOfAGrammar, FailsAt, ParseRefuses}
+use Rattle.front_names.specs.GrammarNames.{AreWrittenAt, forest_complaints, forest_first_calls, IsNameRefusal}
 use Rattle.front_stack_loops.specs.Certain.{AreReports}
 use Rattle.front_validator.specs.Reported.{AreReported}
 use Rattle.front_validator.proofs.NothingElse.{nothing_else}
@@ -114,46 +114,46 @@ pub flawed : (text : List ℕ) (us : Trees) (errors : List (Error Rule)) (o : Op
 flawed text us errors None e k = absurd k
 flawed text us errors (Some flaw) e k = record { flaw = flaw; first = e; tells = k }
 
-pub has_flaw : (pairs : Pairs Rule) (fault : code.Fault) → IsReadRefusal (first_flaw_of pairs) fault → AreRejected (pairs_text pairs) (named (pairs_trees pairs)) fault
-has_flaw pairs (fault_is.Memory e) k = tt
-has_flaw pairs (fault_is.Grammar errors) k =
-    inl (flawed (pairs_text pairs) (named (pairs_trees pairs)) errors.items (first_flaw_of pairs) refl k)
+pub has_flaw : (forest : Forest) (fault : code.Fault) → IsReadRefusal (first_flaw_in forest) fault → AreRejected (forest_text forest) (named (forest_trees forest)) fault
+has_flaw forest (fault_is.Memory e) k = tt
+has_flaw forest (fault_is.Grammar errors) k =
+    inl (flawed (forest_text forest) (named (forest_trees forest)) errors.items (first_flaw_in forest) refl k)
 
 -- what memory alone may refuse
 pub memory_rejects : (text : List ℕ) (us : Trees) (fault : code.Fault) → fault ≡ fault_is.Memory alloc_error → AreRejected text us fault
 memory_rejects text us fault e = rw e tt
 
 -- what is read gives rules
-abbrev pub given : (pairs : Pairs Rule) (read : List SpannedRule) (rules : Grammar) → first_flaw_of pairs ≡ None → AreReadAs pairs read → rules ≡ rules_without_spans read → AreReadAsRules (pairs_text pairs) (named (pairs_trees pairs)) rules
-given pairs read rules f r s = record { flawless = f; read = read; reads = r; same = s }
+abbrev pub given : (forest : Forest) (read : List SpannedRule) (rules : Grammar) → first_flaw_in forest ≡ None → IsReadAs forest read → rules ≡ rules_without_spans read → AreReadAsRules (forest_text forest) (named (forest_trees forest)) rules
+given forest read rules f r s = record { flawless = f; read = read; reads = r; same = s }
 
 -- what is refused for its names
-pub misnamed : (text : List ℕ) (pairs : Pairs Rule) (fault : code.Fault) → pairs_text pairs ≡ text → AreOfAGrammar pairs → IsNameRefusal (complaints_of pairs) fault → IsRefusal text fault
-misnamed text pairs (fault_is.Memory e) t h k = tt
-misnamed text pairs (fault_is.Grammar errors) t h k =
-    let same : complaints_of pairs ≡ complaints_in text (named (pairs_trees pairs)) = ap (λ v. complaints_in v (named (pairs_trees pairs))) t in
-    let of_text : HasTrees text (named (pairs_trees pairs)) = subst (λ v. HasTrees v (named (pairs_trees pairs))) t h in
-    let some : complaints_in text (named (pairs_trees pairs)) ≢ [] = subst (λ cs. cs ≢ []) same k.0 in
+pub misnamed : (text : List ℕ) (forest : Forest) (fault : code.Fault) → forest_text forest ≡ text → IsOfAGrammar forest → IsNameRefusal (forest_complaints forest) fault → IsRefusal text fault
+misnamed text forest (fault_is.Memory e) t h k = tt
+misnamed text forest (fault_is.Grammar errors) t h k =
+    let same : forest_complaints forest ≡ complaints_in text (named (forest_trees forest)) = ap (λ v. complaints_in v (named (forest_trees forest))) t in
+    let of_text : HasTrees text (named (forest_trees forest)) = subst (λ v. HasTrees v (named (forest_trees forest))) t h in
+    let some : complaints_in text (named (forest_trees forest)) ≢ [] = subst (λ cs. cs ≢ []) same k.0 in
     let tell = subst (λ cs. AreErrorsFor cs errors.items) same k.1 in
-    inr (record { trees = named (pairs_trees pairs); of_text = of_text; why = inl (record { some = some; tell = tell }) })
+    inr (record { trees = named (forest_trees forest); of_text = of_text; why = inl (record { some = some; tell = tell }) })
 
 -- what is refused for its rules, where there is nothing to say of its names
-pub rejected : (text : List ℕ) (pairs : Pairs Rule) (fault : code.Fault) → pairs_text pairs ≡ text → AreOfAGrammar pairs → complaints_of pairs ≡ []
-    → AreRejected (pairs_text pairs) (named (pairs_trees pairs)) fault → IsRefusal text fault
-rejected text pairs (fault_is.Memory e) t h n k = tt
-rejected text pairs (fault_is.Grammar errors) t h n k =
+pub rejected : (text : List ℕ) (forest : Forest) (fault : code.Fault) → forest_text forest ≡ text → IsOfAGrammar forest → forest_complaints forest ≡ []
+    → AreRejected (forest_text forest) (named (forest_trees forest)) fault → IsRefusal text fault
+rejected text forest (fault_is.Memory e) t h n k = tt
+rejected text forest (fault_is.Grammar errors) t h n k =
     subst (λ v. IsRefusal v (fault_is.Grammar errors)) t
-    (inr (record { trees = named (pairs_trees pairs); of_text = h; why = inr (record { well_named = n; why = k }) }))
+    (inr (record { trees = named (forest_trees forest); of_text = h; why = inr (record { well_named = n; why = k }) }))
 
 -- what is answered
-pub answered : (text : List ℕ) (pairs : Pairs Rule) (builtins : List (Bor (List ℕ))) (rules : Grammar) (answer : List OptimizedRule)
-    → pairs_text pairs ≡ text → AreOfAGrammar pairs
-    → complaints_of pairs ≡ [] → AreWrittenAt (first_calls_of pairs) builtins
-    → AreAccepted (pairs_text pairs) (named (pairs_trees pairs)) rules → IsOptimized rules (optimized_rules_of answer)
+pub answered : (text : List ℕ) (forest : Forest) (builtins : List (Bor (List ℕ))) (rules : Grammar) (answer : List OptimizedRule)
+    → forest_text forest ≡ text → IsOfAGrammar forest
+    → forest_complaints forest ≡ [] → AreWrittenAt (forest_first_calls forest) builtins
+    → AreAccepted (forest_text forest) (named (forest_trees forest)) rules → IsOptimized rules (optimized_rules_of answer)
     → IsAnswer text builtins answer
-answered text pairs builtins rules answer t h e u a o =
+answered text forest builtins rules answer t h e u a o =
     subst (λ v. IsAnswer v builtins answer) t (record {
-      trees = named (pairs_trees pairs);
+      trees = named (forest_trees forest);
       of_text = h;
       well_named = e;
       uses = u;
@@ -188,21 +188,6 @@ pub written : {E : Type 0} (text : List ℕ) (spelled : Grammar) (answer : Resul
     → IfOk answer (λ rules. IsWritten text (optimized_rules_of rules.items))
 written text spelled (Ok rules) a w o = record { spelled = spelled; accepted = a; written_out = w; outcomes = o }
 written text spelled (Err e) a w o = o
-
--- what is accepted, with spans
-pub spells_with_spans : (text : List ℕ) (pairs : Pairs Rule) (builtins : List (Bor (List ℕ))) (rules : List SpannedRule)
-    → pairs_text pairs ≡ text → AreOfAGrammar pairs → complaints_of pairs ≡ [] → AreWrittenAt (first_calls_of pairs) builtins
-    → AreReadAs pairs rules → AreAccepted (pairs_text pairs) (named (pairs_trees pairs)) (rules_without_spans rules)
-    → SpellsWithSpans text builtins rules
-spells_with_spans text pairs builtins rules t h e u r a =
-    subst (λ v. SpellsWithSpans v builtins rules) t (record {
-      trees = named (pairs_trees pairs);
-      of_text = h;
-      well_named = e;
-      uses = u;
-      read = r;
-      accepted = a;
-    })
 
 -- the optimized rules of rules with spans, where there are some
 pub optimized_spans : {E : Type 0} (rules : List SpannedRule) (plain : Grammar) (answer : Result (Vec OptimizedRule Global) E)

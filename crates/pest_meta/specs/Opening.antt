@@ -2,22 +2,22 @@
 use Rattle.std.specs.Prelude.{◌≡◌, ◌≢◌, ℕ, List, [], ◌∷◌, Some, ⊤}
 use Rattle.base_language.specs.Language.Expression.{Grammar}
 use Rattle.base_language.specs.Language.State.{Trees}
-use Rattle.base_language.specs.Pieces.Pairs.{pairs_text}
 use Rattle.base_language.specs.Pieces.Saying.{AreErrorsFor}
 use Rattle.base_language.specs.declared.grammar.Rule.{Rule}
 use Rattle.base_language.specs.declared.runtime.errors.Error.{Error}
-use Rattle.base_language.specs.declared.runtime.tokens.Pairs.{Pairs}
 use Rattle.front_names.specs.NameFindings.{told_by}
 use Rattle.front_names.specs.declared.findings.NameError as names
 use Rattle.front_names.specs.declared.findings.NameError.TheVariants as names_are
 use Rattle.front_names.specs.declared.findings.NameFinding.{NameFinding}
+use Rattle.front_nodes.specs.Forests.{forest_text}
+use Rattle.front_nodes.specs.declared.forest.Forest.{Forest}
 use Rattle.front_reader.specs.Flaws.{first_flaw}
 use Rattle.front_reader.specs.Refusals.{ReportsFlaw}
 use Rattle.front_reader.specs.Views.{flaw_of}
 use Rattle.front_reader.specs.declared.rules.flaws.Flaw.{Flaw}
 use Rattle.front_reader.specs.declared.rules.flaws.ReadError as read
 use Rattle.front_reader.specs.declared.rules.flaws.ReadError.TheVariants as read_is
-use Rattle.front_syntax.specs.Parses.{AreOfAGrammar}
+use Rattle.front_syntax.specs.Parses.{IsOfAGrammar}
 use Rattle.front_validator.specs.Reporting.{findings_of}
 use Rattle.front_validator.specs.declared.problems.RuleFinding.{RuleFinding}
 use Rattle.pest_meta.specs.Findings.{AreFindings}
@@ -25,10 +25,10 @@ use Rattle.pest_meta.specs.Spelling.{AreReadAsRules, HasTrees, IsNoGrammar, comp
 use Rattle.pest_meta.specs.declared.opened.OpenError.{OpenError}
 use Rattle.pest_meta.specs.declared.opened.OpenError.TheVariants as error_is
 
--- all pairs of the parse of a grammar's text
-pub record ArePairsOf (text : List ℕ) (pairs : Pairs Rule) : Type 0 where
-  pub of_text : pairs_text pairs ≡ text
-  pub of_grammar : AreOfAGrammar pairs
+-- all trees of the parse of a grammar's text
+pub record IsForestOf (text : List ℕ) (forest : Forest) : Type 0 where
+  pub of_text : forest_text forest ≡ text
+  pub of_grammar : IsOfAGrammar forest
 
 -- the findings are those of the names in a text's trees
 pub record HasNameFindings (text : List ℕ) (findings : List NameFinding) : Type 0 where

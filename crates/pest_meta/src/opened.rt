@@ -1,12 +1,12 @@
-//! A grammar that is opened once: its pairs, builtins and rules, or why it is refused, as data.
+//! A grammar that is opened once: its trees, builtins and rules, or why it is refused, as data.
 ghost use Rattle.std.specs.Prelude.{[], ◌≡◌, IfErr, IfOk, None};
 ghost use Rattle.base_language.specs.Pieces.Faults.{IsMemory};
-ghost use Rattle.front_names.specs.GrammarNames.{AreWrittenAt, complaints_of, first_calls_of};
-ghost use Rattle.front_reader.specs.Refusals.{AreReadAs, first_flaw_of};
+ghost use Rattle.front_names.specs.GrammarNames.{AreWrittenAt, forest_complaints, forest_first_calls};
+ghost use Rattle.front_reader.specs.Refusals.{IsReadAs, first_flaw_in};
 ghost use Rattle.front_spanned.specs.Nodes.{rule_views};
 ghost use Rattle.front_syntax.specs.Parses.{ParseRefuses};
 ghost use Rattle.base_language.specs.declared.grammar.Rule.TheVariants.{grammar_rules};
-ghost use Rattle.pest_meta.specs.Opening.{AreErrorsOf, ArePairsOf, IsOpenError, IsUnvalidatedError, of_names, of_read};
+ghost use Rattle.pest_meta.specs.Opening.{AreErrorsOf, IsForestOf, IsOpenError, IsUnvalidatedError, of_names, of_read};
 ghost use Rattle.pest_meta.specs.Spelling.{IsRefusedWith};
 ghost use Rattle.pest_meta.specs.WithSpans.{SpellsWithSpans};
 
@@ -14,9 +14,10 @@ use crate::parser::{ParserRule, PestParser};
 use crate::validator::find_in_rules;
 use base_ast::deep::Deep;
 use base_language::grammar::Rule;
-use base_language::runtime::{Error, Fault, Pairs};
-use front_names::{NameError, NameFinding, check_names, name_errors};
-use front_reader::rules::{Flaw, ReadError, flaw_errors, read_rules};
+use base_language::runtime::{Error, Fault};
+use front_names::{NameError, NameFinding, check_forest, name_errors};
+use front_nodes::forest::Forest;
+use front_reader::rules::{Flaw, ReadError, flaw_errors, read_forest};
 use front_validator::RuleFinding;
 use front_validator::validator::errors_in;
 use std::alloc::{AllocError, Global};
@@ -24,8 +25,8 @@ use std::alloc::{AllocError, Global};
 /// What was made of the text of a grammar.
 #[derive(Drop)]
 pub struct OpenGrammar<'i> {
-    /// All pairs of the text.
-    pub pairs: Pairs<'i, Rule>,
+    /// All trees of the text.
+    pub forest: Forest<'i>,
     /// The builtins that it uses, as `validator::validate_pairs` returns them.
     pub builtins: Vec<&'i str>,
     /// Its rules, as `parser::consume_rules_with_spans` returns them.
@@ -50,7 +51,7 @@ pub enum OpenError<'i> {
 /// Opens the grammar of a text, with rules in which nothing is found. It is refused for the first of the
 /// reasons of `OpenError` that applies.
 pub fn open<'i>(alloc: Global, text: &'i str) -> Result<OpenGrammar<'i>, OpenError<'i>>
-    ensures pairs { IfOk result (λ opened. ArePairsOf text.entry.now opened.pairs) }
+    ensures forest { IfOk result (λ opened. IsForestOf text.entry.now opened.forest) }
     ensures rules { IfOk result (λ opened.
         SpellsWithSpans text.entry.now opened.builtins.items (rule_views opened.rules.value.items)) }
     ensures refused { IfErr result (IsOpenError text.entry.now) }
@@ -66,32 +67,32 @@ pub fn open<'i>(alloc: Global, text: &'i str) -> Result<OpenGrammar<'i>, OpenErr
 /// Opens the grammar of a text, whose rules may be wrong. It is refused as by `open`, but never for what is
 /// found in its rules.
 pub fn open_unvalidated<'i>(alloc: Global, text: &'i str) -> Result<OpenGrammar<'i>, OpenError<'i>>
-    ensures pairs { IfOk result (λ opened. ArePairsOf text.entry.now opened.pairs) }
-    ensures named { IfOk result (λ opened. complaints_of opened.pairs ≡ []) }
+    ensures forest { IfOk result (λ opened. IsForestOf text.entry.now opened.forest) }
+    ensures named { IfOk result (λ opened. forest_complaints opened.forest ≡ []) }
     ensures builtins { IfOk result (λ opened.
-        AreWrittenAt (first_calls_of opened.pairs) opened.builtins.items) }
+        AreWrittenAt (forest_first_calls opened.forest) opened.builtins.items) }
     ensures rules { IfOk result (λ opened.
-        AreReadAs opened.pairs (rule_views opened.rules.value.items)) }
-    ensures flawless { IfOk result (λ opened. first_flaw_of opened.pairs ≡ None) }
+        IsReadAs opened.forest (rule_views opened.rules.value.items)) }
+    ensures flawless { IfOk result (λ opened. first_flaw_in opened.forest ≡ None) }
     ensures refused { IfErr result (IsUnvalidatedError text.entry.now) }
 {
-    let pairs = parse_pairs(alloc, text)?;
-    let builtins = check_names(alloc, &pairs)?;
-    let rules = read_rules(alloc, &pairs)?;
+    let forest = parse_forest(alloc, text)?;
+    let builtins = check_forest(alloc, &forest)?;
+    let rules = read_forest(alloc, &forest)?;
     Ok(OpenGrammar {
-        pairs,
+        forest,
         builtins,
         rules: Deep { value: rules },
     })
 }
 
 /// Parses the text of a grammar.
-fn parse_pairs<'i>(alloc: Global, text: &'i str) -> Result<Pairs<'i, Rule>, OpenError<'i>>
-    ensures pairs { IfOk result (ArePairsOf text.entry.now) }
+fn parse_forest<'i>(alloc: Global, text: &'i str) -> Result<Forest<'i>, OpenError<'i>>
+    ensures forest { IfOk result (IsForestOf text.entry.now) }
     ensures refused { IfErr result (IsUnvalidatedError text.entry.now) }
 {
-    match PestParser::parse(alloc, Rule::grammar_rules, text) {
-        Ok(pairs) => Ok(pairs),
+    match PestParser::forest(alloc, Rule::grammar_rules, text) {
+        Ok(forest) => Ok(forest),
         Err(fault) => Err(syntax_error(text, fault)),
     }
 }

@@ -4,16 +4,19 @@ ghost use Rattle.base_ast.specs.Ast.{rules_of};
 ghost use Rattle.base_language.specs.Pieces.NamedTrees.{named};
 ghost use Rattle.base_language.specs.Pieces.Pairs.{pairs_text, pairs_trees};
 ghost use Rattle.base_language.specs.Language.WellFormed.{HasReadableCounts};
-ghost use Rattle.front_reader.specs.Refusals.{AreReadAs};
+ghost use Rattle.front_nodes.specs.Forests.{forest_text, forest_trees};
+ghost use Rattle.front_reader.specs.Refusals.{IsReadAs};
 ghost use Rattle.front_spanned.specs.Erasure.{rules_without_spans};
 ghost use Rattle.front_spanned.specs.Nodes.{rule_views};
-ghost use Rattle.front_syntax.specs.Parses.{AreOfAGrammar};
+ghost use Rattle.front_syntax.specs.Parses.{AreOfAGrammar, IsOfAGrammar};
 ghost use Rattle.pest_meta.specs.Spelling.{AreAccepted, AreRejected};
 
 use crate::validator::validate_ast_in;
 use base_ast::ast;
 use base_ast::deep::Deep;
 use base_language::runtime::{Fault, Pairs};
+use front_nodes::forest::Forest;
+use front_reader::rules::consume_forest_with_spans;
 pub use front_reader::rules::{
     ParserExpr, ParserNode, ParserRule, PestParser, Rule, common_name, consume_rules_with_spans,
     filter_internal, parse, rename_meta_rule,
@@ -35,26 +38,35 @@ pub fn consume_rules(alloc: Global, pairs: Pairs<'_, Rule>) -> Result<Vec<ast::R
     ensures counts { IfOk result (λ rules. HasReadableCounts (rules_of rules.items)) }
     ensures refused { IfErr result (AreRejected (pairs_text pairs.entry) (named (pairs_trees pairs.entry))) }
 {
-    let rules = consume_valid_rules(alloc, pairs)?;
+    let forest = Forest::of_pairs(alloc, &pairs)?;
+    consume_forest(alloc, &forest)
+}
+
+/// Returns the rules or the errors of `consume_rules` for the trees of a grammar's text.
+pub fn consume_forest(alloc: Global, forest: &Forest<'_>) -> Result<Vec<ast::Rule>, Fault>
+    requires { IsOfAGrammar forest.now }
+    ensures rules { IfOk result
+        (λ rules. AreAccepted (forest_text forest.now) (named (forest_trees forest.now))
+        (rules_of rules.items)) }
+    ensures counts { IfOk result (λ rules. HasReadableCounts (rules_of rules.items)) }
+    ensures refused { IfErr result (AreRejected (forest_text forest.now) (named (forest_trees forest.now))) }
+{
+    let rules = consume_valid_rules(alloc, forest)?;
     Ok(erase_spans(alloc, rules)?)
 }
 
-/// Returns the rules that the pairs of a grammar's text spell, in order, with the spans of their nodes, where
-/// nothing is found in them. `pairs` are all those of a parse of a text by `grammar_rules`. Errors are
-/// those of `consume_rules`.
-pub(crate) fn consume_valid_rules<'i>(
-    alloc: Global,
-    pairs: Pairs<'i, Rule>,
-) -> Result<Vec<ParserRule<'i>>, Fault>
-    requires { AreOfAGrammar pairs }
-    ensures read { IfOk result (λ rules. AreReadAs pairs.entry (rule_views rules.items)) }
+/// Returns the rules that the trees of a grammar's text spell, in order, with the spans of their nodes, where
+/// nothing is found in them. Errors are those of `consume_rules`.
+fn consume_valid_rules<'i>(alloc: Global, forest: &Forest<'i>) -> Result<Vec<ParserRule<'i>>, Fault>
+    requires { IsOfAGrammar forest.now }
+    ensures read { IfOk result (λ rules. IsReadAs forest.now (rule_views rules.items)) }
     ensures accepted { IfOk result
-        (λ rules. AreAccepted (pairs_text pairs.entry) (named (pairs_trees pairs.entry))
+        (λ rules. AreAccepted (forest_text forest.now) (named (forest_trees forest.now))
         (rules_without_spans (rule_views rules.items))) }
-    ensures refused { IfErr result (AreRejected (pairs_text pairs.entry) (named (pairs_trees pairs.entry))) }
+    ensures refused { IfErr result (AreRejected (forest_text forest.now) (named (forest_trees forest.now))) }
 {
-    let text = pairs.get_input();
-    let rules = consume_rules_with_spans(alloc, pairs)?;
+    let text = forest.get_input();
+    let rules = consume_forest_with_spans(alloc, forest)?;
     let rules = Deep { value: rules };
     let errors = validate_ast_in(alloc, text, &rules.value)?;
     if !errors.is_empty() {

@@ -3,21 +3,21 @@ use Rattle.std.proofs.Common.{◌≡◌, ◌⊎◌, ℕ, List, inl, inr, refl, s
 use Rattle.base_language.specs.Language.State.{Trees}
 use Rattle.base_language.specs.Pieces.MetaRules.{name_of}
 use Rattle.base_language.specs.Pieces.NamedTrees.{named}
-use Rattle.base_language.specs.Pieces.Pairs.{pairs_text, pairs_trees}
 use Rattle.base_language.specs.declared.grammar.Rule.{Rule}
 use Rattle.base_language.specs.declared.grammar.Rule.TheVariants as rule_is
 use Rattle.base_language.specs.declared.runtime.errors.Error.{Error}
 use Rattle.base_language.specs.declared.runtime.faults.Fault as code
 use Rattle.base_language.specs.declared.runtime.faults.Fault.TheVariants as fault_is
-use Rattle.base_language.specs.declared.runtime.tokens.Pairs.{Pairs}
 use Rattle.format_json.specs.RuleNames.{IsOfNoRule}
 use Rattle.format_json.specs.declared.refusal.RefusalLocation.{RefusalLocation}
 use Rattle.format_json.specs.declared.refusal.RefusalLocation.TheVariants as place_is
 use Rattle.format_json.specs.declared.refusal.RefusalReason.{RefusalReason}
 use Rattle.format_json.specs.declared.refusal.RefusalReason.TheVariants as json_why
-use Rattle.front_names.specs.GrammarNames.{IsNameRefusal, complaints_of}
-use Rattle.front_reader.specs.Refusals.{first_flaw_of, IsReadRefusal}
-use Rattle.front_syntax.specs.Parses.{AreOfAGrammar, ParseRefuses}
+use Rattle.front_names.specs.GrammarNames.{IsNameRefusal, forest_complaints}
+use Rattle.front_nodes.specs.Forests.{forest_text, forest_trees}
+use Rattle.front_nodes.specs.declared.forest.Forest.{Forest}
+use Rattle.front_reader.specs.Refusals.{first_flaw_in, IsReadRefusal}
+use Rattle.front_syntax.specs.Parses.{IsOfAGrammar, ParseRefuses}
 use Rattle.pest_meta.proofs.Spelled.{fails_so, flawed}
 use Rattle.pest_meta.specs.Spelling.{AreFlawed, AreRejected, HaveFindings, IsMisnamed, IsNoGrammar, IsRefusal, IsRefusedWith}
 use Rattle.pest_meta_c.specs.Outcomes.{IsFaultRefusal, IsRefusalOf, RefusesWith}
@@ -51,31 +51,31 @@ without_trees text Refused why_is.Memory t = tt
 without_trees text Refused (why_is.Refused json) t = record { errors = t.errors; such = inl t.such; told = t.told }
 
 -- what is to be said of its names
-named_wrong : (pairs : Pairs Rule) (fault : code.Fault) → AreOfAGrammar pairs → IsNameRefusal (complaints_of pairs) fault → OfErrors (OfTrees (IsMisnamed (pairs_text pairs)) (pairs_text pairs)) fault
-named_wrong pairs (fault_is.Memory e) h k = tt
-named_wrong pairs (fault_is.Grammar errors) h k = inr (named (pairs_trees pairs), h, record { some = k.0; tell = k.1 })
+named_wrong : (forest : Forest) (fault : code.Fault) → IsOfAGrammar forest → IsNameRefusal (forest_complaints forest) fault → OfErrors (OfTrees (IsMisnamed (forest_text forest)) (forest_text forest)) fault
+named_wrong forest (fault_is.Memory e) h k = tt
+named_wrong forest (fault_is.Grammar errors) h k = inr (named (forest_trees forest), h, record { some = k.0; tell = k.1 })
 
-pub misnamed : (text : List ℕ) (pairs : Pairs Rule) (fault : code.Fault) → pairs_text pairs ≡ text → AreOfAGrammar pairs → IsNameRefusal (complaints_of pairs) fault → OfErrors (OfTrees (IsMisnamed text) text) fault
-misnamed text pairs fault same h k = subst (λ v. OfErrors (OfTrees (IsMisnamed v) v) fault) same (named_wrong pairs fault h k)
+pub misnamed : (text : List ℕ) (forest : Forest) (fault : code.Fault) → forest_text forest ≡ text → IsOfAGrammar forest → IsNameRefusal (forest_complaints forest) fault → OfErrors (OfTrees (IsMisnamed text) text) fault
+misnamed text forest fault same h k = subst (λ v. OfErrors (OfTrees (IsMisnamed v) v) fault) same (named_wrong forest fault h k)
 
 -- what is wrong with its rules
 abbrev pub HaveWrongRules : List ℕ → Trees → List (Error Rule) → Type 0
 HaveWrongRules text trees errors = AreFlawed text trees errors ⊎ HaveFindings text trees errors
 
-read_wrong : (pairs : Pairs Rule) (fault : code.Fault) → AreOfAGrammar pairs → AreRejected (pairs_text pairs) (named (pairs_trees pairs)) fault → OfErrors (OfTrees (HaveWrongRules (pairs_text pairs)) (pairs_text pairs)) fault
-read_wrong pairs (fault_is.Memory e) h k = tt
-read_wrong pairs (fault_is.Grammar errors) h k = inr (named (pairs_trees pairs), h, k)
+read_wrong : (forest : Forest) (fault : code.Fault) → IsOfAGrammar forest → AreRejected (forest_text forest) (named (forest_trees forest)) fault → OfErrors (OfTrees (HaveWrongRules (forest_text forest)) (forest_text forest)) fault
+read_wrong forest (fault_is.Memory e) h k = tt
+read_wrong forest (fault_is.Grammar errors) h k = inr (named (forest_trees forest), h, k)
 
-pub rejected : (text : List ℕ) (pairs : Pairs Rule) (fault : code.Fault) → pairs_text pairs ≡ text → AreOfAGrammar pairs → AreRejected (pairs_text pairs) (named (pairs_trees pairs)) fault → OfErrors (OfTrees (HaveWrongRules text) text) fault
-rejected text pairs fault same h k = subst (λ v. OfErrors (OfTrees (HaveWrongRules v) v) fault) same (read_wrong pairs fault h k)
+pub rejected : (text : List ℕ) (forest : Forest) (fault : code.Fault) → forest_text forest ≡ text → IsOfAGrammar forest → AreRejected (forest_text forest) (named (forest_trees forest)) fault → OfErrors (OfTrees (HaveWrongRules text) text) fault
+rejected text forest fault same h k = subst (λ v. OfErrors (OfTrees (HaveWrongRules v) v) fault) same (read_wrong forest fault h k)
 
-unread : (pairs : Pairs Rule) (fault : code.Fault) → AreOfAGrammar pairs → IsReadRefusal (first_flaw_of pairs) fault → OfErrors (OfTrees (AreFlawed (pairs_text pairs)) (pairs_text pairs)) fault
-unread pairs (fault_is.Memory e) h k = tt
-unread pairs (fault_is.Grammar errors) h k =
-    inr (named (pairs_trees pairs), h, flawed (pairs_text pairs) (named (pairs_trees pairs)) errors.items (first_flaw_of pairs) refl k)
+unread : (forest : Forest) (fault : code.Fault) → IsOfAGrammar forest → IsReadRefusal (first_flaw_in forest) fault → OfErrors (OfTrees (AreFlawed (forest_text forest)) (forest_text forest)) fault
+unread forest (fault_is.Memory e) h k = tt
+unread forest (fault_is.Grammar errors) h k =
+    inr (named (forest_trees forest), h, flawed (forest_text forest) (named (forest_trees forest)) errors.items (first_flaw_in forest) refl k)
 
-pub not_read : (text : List ℕ) (pairs : Pairs Rule) (fault : code.Fault) → pairs_text pairs ≡ text → AreOfAGrammar pairs → IsReadRefusal (first_flaw_of pairs) fault → OfErrors (OfTrees (AreFlawed text) text) fault
-not_read text pairs fault same h k = subst (λ v. OfErrors (OfTrees (AreFlawed v) v) fault) same (unread pairs fault h k)
+pub not_read : (text : List ℕ) (forest : Forest) (fault : code.Fault) → forest_text forest ≡ text → IsOfAGrammar forest → IsReadRefusal (first_flaw_in forest) fault → OfErrors (OfTrees (AreFlawed text) text) fault
+not_read text forest fault same h k = subst (λ v. OfErrors (OfTrees (AreFlawed v) v) fault) same (unread forest fault h k)
 
 -- why there is no whole answer
 pub refused : (text : List ℕ) (fault : code.Fault) → IsRefusal text fault → OfErrors (IsRefusedWith text) fault

@@ -1,8 +1,8 @@
 //! The calls on texts, before their outcomes are written to a buffer.
 ghost use Rattle.std.specs.Prelude.{◌≡◌, IfErr, IfOk, string_bytes};
 ghost use Rattle.base_language.specs.Pieces.MetaRules.{name_of};
-ghost use Rattle.base_language.specs.Pieces.Pairs.{pairs_text};
-ghost use Rattle.front_syntax.specs.Parses.{AreOfAGrammar};
+ghost use Rattle.front_nodes.specs.Forests.{forest_text};
+ghost use Rattle.front_syntax.specs.Parses.{IsOfAGrammar};
 ghost use Rattle.pest_meta.specs.Spelling.{IsNoGrammar, IsRefusal};
 ghost use Rattle.pest_meta_c.specs.Answers.{AreKeywordErrors, AreNames, AreNodes, AreOptimized, AreRules, AreTokenNumbers, AreTokens, IsGrammar, IsPrepared, IsVersion, IsWhole};
 ghost use Rattle.pest_meta_c.specs.Diagnostics.{AreDiagnostics};
@@ -14,17 +14,19 @@ use crate::outcome::{BytesOutcome, CallError, NumbersError, NumbersOutcome, Outc
 use base_ast::deep::Deep;
 use base_ast::{ast, optimized};
 use base_language::grammar::Rule;
-use base_language::runtime::{Fault, Pairs, Span};
+use base_language::runtime::{Fault, Span};
 use format_binary::{push_names, push_optimized_rules, push_rules, tokens_numbers};
 use format_json::{
     Refusal, RefusalLocation, RefusalReason, answer_text, errors_text, names_text, nodes_text,
     optimized_rules_text, read_optimized_rules, read_rules, refusal_text, rule_named, rules_text,
     tokens_text, version_text,
 };
-use front_names::collect_builtins;
+use front_names::collect_in_forest;
+use front_nodes::forest::Forest;
+use front_reader::rules::consume_forest_with_spans;
 use pest_meta::optimizer;
-use pest_meta::parser::{PestParser, consume_rules, consume_rules_with_spans, release};
-use pest_meta::validator::{validate_pairs, validate_rust_keywords};
+use pest_meta::parser::{PestParser, consume_forest, release};
+use pest_meta::validator::validate_rust_keywords;
 use std::alloc::{AllocError, Global};
 
 /// Returns the tokens of a text for the rule of that name.
@@ -72,8 +74,8 @@ pub(crate) fn names(alloc: Global, text: &str) -> Outcome
     ensures answered { IfOk result (λ json. AreNames text.now (string_bytes json)) }
     ensures refused { IfErr result (RefusesWith (HasNoNames text.now)) }
 {
-    let pairs = pairs_of(alloc, text)?;
-    match validate_pairs(alloc, pairs) {
+    let forest = forest_of(alloc, text)?;
+    match collect_in_forest(alloc, &forest) {
         Ok(names) => to_outcome(names_text(alloc, &names)),
         Err(fault) => Err(to_refusal(alloc, Rule::grammar_rules, text, fault)),
     }
@@ -98,8 +100,8 @@ pub(crate) fn rules(alloc: Global, text: &str) -> Outcome
     ensures answered { IfOk result (λ json. AreRules text.now (string_bytes json)) }
     ensures refused { IfErr result (RefusesWith (HasNoRules text.now)) }
 {
-    let pairs = pairs_of(alloc, text)?;
-    match consume_rules(alloc, pairs) {
+    let forest = forest_of(alloc, text)?;
+    match consume_forest(alloc, &forest) {
         Ok(rules) => {
             let json = rules_text(alloc, &rules);
             ast::release(rules);
@@ -114,8 +116,8 @@ pub(crate) fn nodes(alloc: Global, text: &str) -> Outcome
     ensures answered { IfOk result (λ json. AreNodes text.now (string_bytes json)) }
     ensures refused { IfErr result (RefusesWith (HasNoNodes text.now)) }
 {
-    let pairs = pairs_of(alloc, text)?;
-    match consume_rules_with_spans(alloc, pairs) {
+    let forest = forest_of(alloc, text)?;
+    match consume_forest_with_spans(alloc, &forest) {
         Ok(rules) => {
             let json = nodes_text(alloc, &rules);
             release(rules);
@@ -176,10 +178,10 @@ fn grammar_bytes(alloc: Global, text: &str) -> Result<Vec<u8>, Fault>
     ensures answered { IfOk result (λ bytes. IsGrammar text.now bytes.items) }
     ensures refused { IfErr result (IsRefusal text.now) }
 {
-    let pairs = PestParser::parse(alloc, Rule::grammar_rules, text)?;
-    let builtins = collect_builtins(alloc, &pairs)?;
+    let forest = PestParser::forest(alloc, Rule::grammar_rules, text)?;
+    let builtins = collect_in_forest(alloc, &forest)?;
     let rules = Deep {
-        value: consume_rules(alloc, pairs)?,
+        value: consume_forest(alloc, &forest)?,
     };
     let mut bytes = Vec::new(alloc);
     push_names(&mut bytes, &builtins)?;
@@ -224,14 +226,14 @@ pub(crate) fn version(alloc: Global) -> Outcome
     to_outcome(version_text(alloc))
 }
 
-/// Returns the pairs of a grammar's text.
-fn pairs_of<'i>(alloc: Global, text: &'i str) -> Result<Pairs<'i, Rule>, CallError>
-    ensures text { IfOk result (λ pairs. pairs_text pairs ≡ text.entry.now) }
-    ensures spelled { IfOk result AreOfAGrammar }
+/// Returns the trees of a grammar's text.
+fn forest_of<'i>(alloc: Global, text: &'i str) -> Result<Forest<'i>, CallError>
+    ensures text { IfOk result (λ forest. forest_text forest ≡ text.entry.now) }
+    ensures spelled { IfOk result IsOfAGrammar }
     ensures refused { IfErr result (RefusesWith (ReportsSuch text.entry.now (IsNoGrammar text.entry.now))) }
 {
-    match PestParser::parse(alloc, Rule::grammar_rules, text) {
-        Ok(pairs) => Ok(pairs),
+    match PestParser::forest(alloc, Rule::grammar_rules, text) {
+        Ok(forest) => Ok(forest),
         Err(fault) => Err(to_refusal(alloc, Rule::grammar_rules, text, fault)),
     }
 }

@@ -10,17 +10,16 @@ use Rattle.front_analysis.specs.declared.analysis.Analysis.{Analysis}
 use Rattle.base_language.specs.Language.Expression.{rule_of}
 use Rattle.base_language.specs.Language.WellFormed.{IsNullable}
 use Rattle.base_language.specs.Pieces.NamedTrees.{named as named_trees}
-use Rattle.base_language.specs.Pieces.Pairs.{pairs_text, pairs_trees}
-use Rattle.base_language.specs.declared.grammar.Rule.{Rule}
 use Rattle.base_language.specs.declared.grammar.Rule.TheVariants as rule_is
 use Rattle.base_language.specs.declared.runtime.faults.Fault as code
 use Rattle.base_language.specs.declared.runtime.faults.Fault.TheVariants as fault_is
-use Rattle.base_language.specs.declared.runtime.tokens.Pairs.{Pairs}
-use Rattle.front_reader.specs.Refusals.{AreReadAs, IsReadRefusal, first_flaw_of}
+use Rattle.front_nodes.specs.Forests.{forest_text, forest_trees}
+use Rattle.front_nodes.specs.declared.forest.Forest.{Forest}
+use Rattle.front_reader.specs.Refusals.{IsReadAs, IsReadRefusal, first_flaw_in}
 use Rattle.front_spanned.specs.Erasure.{without_spans}
 use Rattle.front_spanned.specs.Nodes.{rule_views, view}
 use Rattle.front_spanned.specs.declared.node.ParserRule.{ParserRule}
-use Rattle.front_syntax.specs.Parses.{AreOfAGrammar, ParseRefuses}
+use Rattle.front_syntax.specs.Parses.{IsOfAGrammar, ParseRefuses}
 use Rattle.pest_meta.proofs.Spelled.{fails_so, flawed, flawed_give_none, trees_once}
 use Rattle.pest_meta.specs.Spelling.{AreFlawed, HasTrees, SpellsGrammar}
 use Rattle.front_analysis.specs.Analysis.{IsAnalysis}
@@ -75,11 +74,11 @@ pub stated_facts : (text name : List ℕ) (table : RuleTable) (facts : Option Ru
 stated_facts text name table facts utf8 (rules, spells, h) by = inl (rules, spells, h name utf8 facts by)
 
 -- the rules that are read
-pub rules_read : (text : List ℕ) (pairs : Pairs Rule) (rules : List ParserRule) → pairs_text pairs ≡ text → AreOfAGrammar pairs
-    → first_flaw_of pairs ≡ None → AreReadAs pairs (rule_views rules) → SpellsGrammar text (grammar_of rules)
-rules_read text pairs rules t of_grammar flawless reads =
-    let spells : SpellsGrammar (pairs_text pairs) (grammar_of rules) = record {
-      trees = named_trees (pairs_trees pairs);
+pub rules_read : (text : List ℕ) (forest : Forest) (rules : List ParserRule) → forest_text forest ≡ text → IsOfAGrammar forest
+    → first_flaw_in forest ≡ None → IsReadAs forest (rule_views rules) → SpellsGrammar text (grammar_of rules)
+rules_read text forest rules t of_grammar flawless reads =
+    let spells : SpellsGrammar (forest_text forest) (grammar_of rules) = record {
+      trees = named_trees (forest_trees forest);
       of_text = of_grammar;
       give = record { flawless = flawless; read = rule_views rules; reads = reads; same = refl };
     } in
@@ -91,12 +90,12 @@ parse_refused text (fault_is.Memory e) h = tt
 parse_refused text (fault_is.Grammar errors) h = λ rules s. fails_so text h.place s.trees h.fails s.of_text
 
 -- nor what has a flaw
-pub read_refused : (text : List ℕ) (pairs : Pairs Rule) (fault : code.Fault) → pairs_text pairs ≡ text → AreOfAGrammar pairs
-    → IsReadRefusal (first_flaw_of pairs) fault → SpellsNoneUnlessMemory text fault
-read_refused text pairs (fault_is.Memory e) t h k = tt
-read_refused text pairs (fault_is.Grammar errors) t h k = λ rules s.
-    let trees = named_trees (pairs_trees pairs) in
-    let flaw : AreFlawed (pairs_text pairs) trees errors.items = flawed (pairs_text pairs) trees errors.items (first_flaw_of pairs) refl k in
+pub read_refused : (text : List ℕ) (forest : Forest) (fault : code.Fault) → forest_text forest ≡ text → IsOfAGrammar forest
+    → IsReadRefusal (first_flaw_in forest) fault → SpellsNoneUnlessMemory text fault
+read_refused text forest (fault_is.Memory e) t h k = tt
+read_refused text forest (fault_is.Grammar errors) t h k = λ rules s.
+    let trees = named_trees (forest_trees forest) in
+    let flaw : AreFlawed (forest_text forest) trees errors.items = flawed (forest_text forest) trees errors.items (first_flaw_in forest) refl k in
     let there = subst (λ v. AreFlawed v trees errors.items) t flaw in
     let same = trees_once text trees s.trees (subst (λ v. HasTrees v trees) t h) s.of_text in
     flawed_give_none text s.trees errors.items rules (subst (λ us. AreFlawed text us errors.items) same there) s.give

@@ -9,9 +9,10 @@ use base_ast::deep::Deep;
 use base_ast::optimized::OptimizedRule;
 use base_language::grammar::Rule;
 use base_language::runtime::Fault;
+use front_reader::rules::consume_forest_with_spans;
 use front_spanned::ParserRule;
 use pest_meta::optimize_with_spans;
-use pest_meta::parser::{consume_rules_with_spans, parse};
+use pest_meta::parser::PestParser;
 use std::alloc::{AllocError, Global};
 
 /// The rules of a text, as hovers tell of them.
@@ -105,8 +106,8 @@ fn read_rules(alloc: Global, text: &str) -> Result<Deep<Vec<ParserRule<'_>>>, Fa
         SpellsGrammar text.now (grammar_of rules.value.items)) }
     ensures refused { IfErr result (SpellsNoneUnlessMemory text.now) }
 {
-    let pairs = parse(alloc, Rule::grammar_rules, text)?;
-    let rules = consume_rules_with_spans(alloc, pairs)?;
+    let forest = PestParser::forest(alloc, Rule::grammar_rules, text)?;
+    let rules = consume_forest_with_spans(alloc, &forest)?;
     Ok(Deep { value: rules })
 }
 

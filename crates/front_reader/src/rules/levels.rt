@@ -2,8 +2,7 @@
 //! other.
 use crate::rules::signs::Sign;
 use base_ast::deep::Deep;
-use base_language::grammar::Rule;
-use base_language::runtime::TokenTree;
+use front_nodes::nodes::TokenNode;
 use front_spanned::ParserNode;
 
 /// The surroundings of a term in its expression.
@@ -14,7 +13,7 @@ pub struct TermContext<'i, 't> {
     /// The terms before this one in its alternative, read and combined into one node.
     pub sequence: Option<Deep<ParserNode<'i>>>,
     /// The trees after the term.
-    pub rest: &'t [TokenTree<Rule>],
+    pub rest: &'t [TokenNode],
 }
 
 /// The operand that an inner expression is in.
@@ -34,16 +33,16 @@ pub struct Level<'i, 't> {
     pub signs: Vec<Sign<'i>>,
     pub within: Enclosure,
     /// The postfix operators after the operand.
-    pub postfixes: &'t [TokenTree<Rule>],
+    pub postfixes: &'t [TokenNode],
 }
 
 /// The next step of the reader.
 #[derive(Drop)]
 pub enum Next<'i, 't> {
     /// A term is to be read, by the trees in it.
-    Term(TermContext<'i, 't>, &'t [TokenTree<Rule>]),
+    Term(TermContext<'i, 't>, &'t [TokenNode]),
     /// An expression in a term is to be read, by the trees in it.
-    Inner(Level<'i, 't>, &'t [TokenTree<Rule>]),
+    Inner(Level<'i, 't>, &'t [TokenNode]),
     /// Nothing: an expression is read.
     Done(ParserNode<'i>),
 }

@@ -1,7 +1,7 @@
 //! Literals and their escapes.
 ghost use Rattle.std.specs.Prelude.{◌≡◌, ◌<◌, ℕ, IfOk, IfSome, MatchOption, [], ◌∷◌, chars, length, string_bytes};
 ghost use Rattle.std.specs.Char.{IsScalar};
-ghost use Rattle.base_language.specs.Pieces.NamedTrees.{named_trees_of};
+ghost use Rattle.front_nodes.specs.Nodes.{named_trees_of};
 ghost use Rattle.front_reader.specs.Literal.{braced, digits, escape, extended, two_digits};
 ghost use Rattle.front_reader.specs.Pieces.{IsPiece, AreInText};
 ghost use Rattle.front_grammar.specs.Shape.{IsQuoted};
@@ -9,8 +9,7 @@ ghost use Rattle.front_reader.specs.Views.{AnswersLiteral, IsSameNumber, NamesFi
 
 use crate::rules::flaws::{Cause, ReadError};
 use crate::rules::pieces::{error_of, span_of, text_of};
-use base_language::grammar::Rule;
-use base_language::runtime::{FirstTree, TokenTree};
+use front_nodes::nodes::{FirstTree, TokenNode};
 use front_syntax::trees::leading_tree;
 use std::alloc::{AllocError, Global};
 
@@ -114,8 +113,8 @@ fn unescape(alloc: Global, text: &str) -> Result<Option<String>, AllocError>
 pub fn literal<'i>(
     alloc: Global,
     text: &'i str,
-    tree: FirstTree<'_, Rule>,
-    quoted: &[TokenTree<Rule>],
+    tree: FirstTree<'_>,
+    quoted: &[TokenNode],
 ) -> Result<String, ReadError<'i>>
     requires place { IsPiece text.now tree.start tree.end }
     requires shape { IsQuoted (named_trees_of quoted.now) }

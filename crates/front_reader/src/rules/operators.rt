@@ -1,6 +1,6 @@
 //! Postfix operators and their numbers.
 ghost use Rattle.std.specs.Prelude.{◌≡◌, codes};
-ghost use Rattle.base_language.specs.Pieces.NamedTrees.{named_trees_of};
+ghost use Rattle.front_nodes.specs.Nodes.{named_trees_of};
 ghost use Rattle.base_language.specs.Pieces.Span.{span_text};
 ghost use Rattle.front_reader.specs.Pieces.{AreInText};
 ghost use Rattle.base_language.specs.Pieces.MetaRules.{name_of};
@@ -14,13 +14,14 @@ use crate::rules::flaws::ReadError;
 use crate::rules::pieces::{count, number, span_at};
 use base_ast::deep::Deep;
 use base_language::grammar::Rule;
-use base_language::runtime::{FirstTree, Span, TokenTree};
+use base_language::runtime::Span;
+use front_nodes::nodes::{FirstTree, TokenNode};
 use front_spanned::{ParserExpr, ParserNode};
 use front_syntax::trees::{first_tree, leading_tree};
 use std::alloc::Global;
 
 /// Returns the count of `{n}`, by the trees in it. A number that fits no `u32` is a flaw, and so is 0.
-fn exact<'i>(text: &'i str, inner: &[TokenTree<Rule>]) -> Result<u32, ReadError<'i>>
+fn exact<'i>(text: &'i str, inner: &[TokenNode]) -> Result<u32, ReadError<'i>>
     requires shape { IsCounted text.now (codes "repeat_exact") (named_trees_of inner.now) }
     requires nested { AreInText text.now (named_trees_of inner.now) }
     ensures { AnswersCount text.entry.now (codes "repeat_exact") (named_trees_of inner.now) RepExact result }
@@ -31,7 +32,7 @@ fn exact<'i>(text: &'i str, inner: &[TokenTree<Rule>]) -> Result<u32, ReadError<
 }
 
 /// Returns the least number of `{n,}`, by the trees in it. A number that fits no `u32` is a flaw.
-fn at_least<'i>(text: &'i str, inner: &[TokenTree<Rule>]) -> Result<u32, ReadError<'i>>
+fn at_least<'i>(text: &'i str, inner: &[TokenNode]) -> Result<u32, ReadError<'i>>
     requires shape { IsCounted text.now (codes "repeat_min") (named_trees_of inner.now) }
     requires nested { AreInText text.now (named_trees_of inner.now) }
     ensures { AnswersCount text.entry.now (codes "repeat_min") (named_trees_of inner.now) RepMin result }
@@ -43,7 +44,7 @@ fn at_least<'i>(text: &'i str, inner: &[TokenTree<Rule>]) -> Result<u32, ReadErr
 
 /// Returns the greatest number of `{,n}`, by the trees in it. A number that fits no `u32` is a flaw, and
 /// so is 0.
-fn at_most<'i>(text: &'i str, inner: &[TokenTree<Rule>]) -> Result<u32, ReadError<'i>>
+fn at_most<'i>(text: &'i str, inner: &[TokenNode]) -> Result<u32, ReadError<'i>>
     requires shape { IsCounted text.now (codes "repeat_max") (named_trees_of inner.now) }
     requires nested { AreInText text.now (named_trees_of inner.now) }
     ensures { AnswersCount text.entry.now (codes "repeat_max") (named_trees_of inner.now) RepMax result }
@@ -56,7 +57,7 @@ fn at_most<'i>(text: &'i str, inner: &[TokenTree<Rule>]) -> Result<u32, ReadErro
 
 /// Returns the numbers of `{m,n}`, by the trees in it. A number that fits no `u32` is a flaw, and so is 0
 /// as the second.
-fn least_and_most<'i>(text: &'i str, inner: &[TokenTree<Rule>]) -> Result<(u32, u32), ReadError<'i>>
+fn least_and_most<'i>(text: &'i str, inner: &[TokenNode]) -> Result<(u32, u32), ReadError<'i>>
     requires shape { IsCounted text.now (codes "repeat_min_max") (named_trees_of inner.now) }
     requires nested { AreInText text.now (named_trees_of inner.now) }
     ensures { AnswersCount text.entry.now (codes "repeat_min_max") (named_trees_of inner.now)
@@ -92,7 +93,7 @@ pub enum Times {
 
 /// Returns the number of repetitions that a postfix operator allows, or the first flaw of the numbers in
 /// it.
-fn times_of<'i>(text: &'i str, operator: FirstTree<'_, Rule>) -> Result<Times, ReadError<'i>>
+fn times_of<'i>(text: &'i str, operator: FirstTree<'_>) -> Result<Times, ReadError<'i>>
     requires shape { IsPostfix text.now (name_of operator.rule) (named_trees_of operator.inner.now) }
     requires nested { AreInText text.now (named_trees_of operator.inner.now) }
     ensures { AnswersCount text.entry.now (name_of operator.entry.rule)
@@ -135,7 +136,7 @@ fn apply_postfix<'i>(
     alloc: Global,
     node: ParserNode<'i>,
     span: Span<'i>,
-    operator: FirstTree<'_, Rule>,
+    operator: FirstTree<'_>,
 ) -> Result<ParserNode<'i>, ReadError<'i>>
     requires shape { IsPostfix (span_text span) (name_of operator.rule) (named_trees_of operator.inner.now) }
     requires nested { AreInText (span_text span) (named_trees_of operator.inner.now) }
@@ -155,7 +156,7 @@ pub fn apply_postfixes<'i>(
     alloc: Global,
     text: &'i str,
     operand: ParserNode<'i>,
-    operators: &[TokenTree<Rule>],
+    operators: &[TokenNode],
 ) -> Result<ParserNode<'i>, ReadError<'i>>
     requires shape { ArePostfixes text.now (named_trees_of operators.now) }
     requires place { IsNodeBefore text.now operand (named_trees_of operators.now) }

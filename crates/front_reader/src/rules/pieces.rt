@@ -10,8 +10,8 @@ ghost use Rattle.front_spanned.specs.Nodes.{piece_of};
 ghost use Rattle.front_reader.specs.declared.rules.flaws.ReadError.TheVariants.{Found};
 
 use crate::rules::flaws::{Cause, Flaw, ReadError};
-use base_language::grammar::Rule;
-use base_language::runtime::{FirstTree, Span};
+use base_language::runtime::Span;
+use front_nodes::nodes::FirstTree;
 
 /// Returns the span of the text from the byte `start` to the byte `end`.
 pub fn span_at<'i>(text: &'i str, start: usize, end: usize) -> Span<'i>
@@ -22,7 +22,7 @@ pub fn span_at<'i>(text: &'i str, start: usize, end: usize) -> Span<'i>
 }
 
 /// Returns the span of a tree.
-pub fn span_of<'i>(text: &'i str, tree: FirstTree<'_, Rule>) -> Span<'i>
+pub fn span_of<'i>(text: &'i str, tree: FirstTree<'_>) -> Span<'i>
     requires { IsPiece text.now tree.start tree.end }
     ensures { piece_of result ≡ piece text.entry.now tree.entry.start tree.entry.end }
 {
@@ -30,7 +30,7 @@ pub fn span_of<'i>(text: &'i str, tree: FirstTree<'_, Rule>) -> Span<'i>
 }
 
 /// Returns the text of a tree.
-pub fn text_of<'i>(text: &'i str, tree: FirstTree<'_, Rule>) -> &'i str
+pub fn text_of<'i>(text: &'i str, tree: FirstTree<'_>) -> &'i str
     requires { IsPiece text.now tree.start tree.end }
     ensures { result.now ≡ slice_range text.entry.now tree.entry.start tree.entry.end }
 {
@@ -45,7 +45,7 @@ pub fn error_of<'i>(cause: Cause, span: Span<'i>) -> ReadError<'i>
 }
 
 /// Returns the number of a tree, as the least number of repetitions. One that fits no `u32` is a flaw.
-pub fn number<'i>(text: &'i str, tree: FirstTree<'_, Rule>) -> Result<u32, ReadError<'i>>
+pub fn number<'i>(text: &'i str, tree: FirstTree<'_>) -> Result<u32, ReadError<'i>>
     requires place { IsPiece text.now tree.start tree.end }
     requires digits { IsNumber text.now tree.start tree.end }
     ensures { Answers (past_u32 text.entry.now tree.entry.start tree.entry.end) result
@@ -59,7 +59,7 @@ pub fn number<'i>(text: &'i str, tree: FirstTree<'_, Rule>) -> Result<u32, ReadE
 
 /// Returns the number of a tree, as the greatest number of repetitions. One that fits no `u32` is a flaw,
 /// and so is 0.
-pub fn count<'i>(text: &'i str, tree: FirstTree<'_, Rule>) -> Result<u32, ReadError<'i>>
+pub fn count<'i>(text: &'i str, tree: FirstTree<'_>) -> Result<u32, ReadError<'i>>
     requires place { IsPiece text.now tree.start tree.end }
     requires digits { IsNumber text.now tree.start tree.end }
     ensures { Answers (not_a_count text.entry.now tree.entry.start tree.entry.end) result
@@ -73,7 +73,7 @@ pub fn count<'i>(text: &'i str, tree: FirstTree<'_, Rule>) -> Result<u32, ReadEr
 }
 
 /// Returns the number of a slice that a tree spells. One that fits no `i32` is a flaw.
-pub fn slice_number<'i>(text: &'i str, tree: FirstTree<'_, Rule>) -> Result<i32, ReadError<'i>>
+pub fn slice_number<'i>(text: &'i str, tree: FirstTree<'_>) -> Result<i32, ReadError<'i>>
     requires place { IsPiece text.now tree.start tree.end }
     requires digits { IsInteger text.now tree.start tree.end }
     ensures { Answers (past_i32 text.entry.now tree.entry.start tree.entry.end) result

@@ -2,7 +2,7 @@
 //! stack.
 ghost use Rattle.std.specs.Prelude.{◌≡◌, ◌≢◌, ◌<◌, ◌+◌, ℕ, List, [], IfOk, OnOk, IfSome, MatchOption, MatchResult};
 ghost use Rattle.base_language.specs.Language.State.{Trees, None'};
-ghost use Rattle.base_language.specs.Pieces.NamedTrees.{named_trees_of};
+ghost use Rattle.front_nodes.specs.Nodes.{named_trees_of};
 ghost use Rattle.base_language.specs.Pieces.Span.{span_start, span_end};
 ghost use Rattle.front_reader.specs.Flaws.{first_flaw};
 ghost use Rattle.front_reader.specs.Pieces.{IsPiece, AreInText};
@@ -22,7 +22,7 @@ use crate::rules::signs::{Sign, take_signs, with_signs};
 use crate::rules::terminals::terminal;
 use base_ast::deep::Deep;
 use base_language::grammar::Rule;
-use base_language::runtime::{FirstTree, TokenTree};
+use front_nodes::nodes::{FirstTree, TokenNode};
 use front_spanned::{ParserExpr, ParserNode};
 use front_syntax::trees::{first_tree, leading_tree};
 use std::alloc::{AllocError, Global};
@@ -72,7 +72,7 @@ fn combine<'i>(
 }
 
 /// Skips a bar before the first alternative of an expression.
-fn skip_bar(trees: &[TokenTree<Rule>]) -> &[TokenTree<Rule>]
+fn skip_bar(trees: &[TokenNode]) -> &[TokenNode]
     ensures { (text : List ℕ) → IsExpression text (named_trees_of trees.entry.now)
         → IsAfterBar text (named_trees_of trees.entry.now) (named_trees_of result.now) }
 {
@@ -87,7 +87,7 @@ fn skip_bar(trees: &[TokenTree<Rule>]) -> &[TokenTree<Rule>]
 
 /// Returns the trees in the next term of a sequence and the trees after it, where a tilde comes before
 /// it.
-fn next_term(trees: &[TokenTree<Rule>]) -> Option<(&[TokenTree<Rule>], &[TokenTree<Rule>])>
+fn next_term(trees: &[TokenNode]) -> Option<(&[TokenNode], &[TokenNode])>
     ensures { (text : List ℕ) → IsMore text (named_trees_of trees.entry.now)
         → MatchOption result (IsRest text (named_trees_of trees.entry.now))
         (λ x. TakesTerm text (named_trees_of trees.entry.now)
@@ -126,10 +126,7 @@ fn together<'i>(
 }
 
 /// Begins an alternative with its first term. `choice` is the node of the alternatives before it.
-fn first_term<'i, 't>(
-    choice: Option<Deep<ParserNode<'i>>>,
-    trees: &'t [TokenTree<Rule>],
-) -> Next<'i, 't>
+fn first_term<'i, 't>(choice: Option<Deep<ParserNode<'i>>>, trees: &'t [TokenNode]) -> Next<'i, 't>
     requires { named_trees_of trees.now ≢ None' }
     ensures goes_on { (text : List ℕ) → (us : Trees)
         → IsAlternative text us (node_view choice.entry) (named_trees_of trees.entry.now)
@@ -151,7 +148,7 @@ fn finish_alternative<'i, 't>(
     text: &'i str,
     choice: Option<Deep<ParserNode<'i>>>,
     sequence: Deep<ParserNode<'i>>,
-    rest: &'t [TokenTree<Rule>],
+    rest: &'t [TokenNode],
 ) -> Result<Next<'i, 't>, AllocError>
     requires { (us : Trees) × IsAlternativeRead text.now us choice sequence (named_trees_of rest.now) }
     ensures goes_on { (us : Trees)
@@ -217,9 +214,7 @@ fn finish_operand<'i, 't>(
 
 /// Destructures an operand that begins with a tree into its wrapper round an expression, the trees in the
 /// expression and the postfix operators after the operand; answers none where it holds no expression.
-fn inner_of<'t>(
-    tree: FirstTree<'t, Rule>,
-) -> Option<(Enclosure, &'t [TokenTree<Rule>], &'t [TokenTree<Rule>])>
+fn inner_of<'t>(tree: FirstTree<'t>) -> Option<(Enclosure, &'t [TokenNode], &'t [TokenNode])>
     requires { (text : List ℕ) × IsOperand text (all_from tree) }
     ensures { (text : List ℕ) → IsOperand text (all_from tree.entry)
         → MatchOption result (HoldsNoExpression text tree.entry)
@@ -249,7 +244,7 @@ fn inner_of<'t>(
 fn operand<'i>(
     alloc: Global,
     text: &'i str,
-    tree: FirstTree<'_, Rule>,
+    tree: FirstTree<'_>,
 ) -> Result<ParserNode<'i>, ReadError<'i>>
     requires shape { HoldsNoExpression text.now tree }
     requires nested { AreInText text.now (all_from tree) }
@@ -265,7 +260,7 @@ fn term<'i, 't>(
     alloc: Global,
     text: &'i str,
     beside: TermContext<'i, 't>,
-    trees: &'t [TokenTree<Rule>],
+    trees: &'t [TokenNode],
 ) -> Result<Next<'i, 't>, ReadError<'i>>
     requires { (us : Trees) × IsTermBeside text.now us beside (named_trees_of trees.now) }
     ensures goes_on { (us : Trees)
@@ -301,7 +296,7 @@ fn close_parentheses<'i>(
     start: usize,
     end: usize,
     inside: ParserNode<'i>,
-    postfixes: &[TokenTree<Rule>],
+    postfixes: &[TokenNode],
 ) -> Result<ParserNode<'i>, ReadError<'i>>
     requires { (us : Trees)
         × IsInsideRead text.now us (Enclosure.Parentheses start end) inside (named_trees_of postfixes.now) }
@@ -324,7 +319,7 @@ fn close_push<'i>(
     text: &'i str,
     start: usize,
     inside: ParserNode<'i>,
-    postfixes: &[TokenTree<Rule>],
+    postfixes: &[TokenNode],
 ) -> Result<ParserNode<'i>, ReadError<'i>>
     requires { (us : Trees)
         × IsInsideRead text.now us (Enclosure.Push start) inside (named_trees_of postfixes.now) }
@@ -347,7 +342,7 @@ fn close_operand<'i>(
     text: &'i str,
     within: Enclosure,
     inside: ParserNode<'i>,
-    postfixes: &[TokenTree<Rule>],
+    postfixes: &[TokenNode],
 ) -> Result<ParserNode<'i>, ReadError<'i>>
     requires { (us : Trees) × IsInsideRead text.now us within inside (named_trees_of postfixes.now) }
     ensures { (us : Trees)
@@ -389,7 +384,7 @@ fn finish_level<'i, 't>(
 pub fn expression<'i, 't>(
     alloc: Global,
     text: &'i str,
-    trees: &'t [TokenTree<Rule>],
+    trees: &'t [TokenNode],
     levels: &mut Vec<Level<'i, 't>>,
 ) -> Result<ParserNode<'i>, ReadError<'i>>
     requires shape { IsExpression text.now (named_trees_of trees.now) }

@@ -1,6 +1,6 @@
 //! The signs of predicates and the tags before their operands.
 ghost use Rattle.std.specs.Prelude.{◌≡◌, All, IfOk, chars};
-ghost use Rattle.base_language.specs.Pieces.NamedTrees.{named_trees_of};
+ghost use Rattle.front_nodes.specs.Nodes.{named_trees_of};
 ghost use Rattle.base_language.specs.Pieces.Span.{span_end, span_text};
 ghost use Rattle.front_spanned.specs.Nodes.{view, view_at};
 ghost use Rattle.front_spanned.specs.Spanned.{One, Span};
@@ -12,7 +12,7 @@ ghost use Rattle.front_grammar.specs.Shape.{IsTerm};
 use crate::rules::pieces::{span_at, text_of};
 use base_ast::deep::Deep;
 use base_language::grammar::Rule;
-use base_language::runtime::{FirstTree, TokenTree};
+use front_nodes::nodes::{FirstTree, TokenNode};
 use front_spanned::{ParserExpr, ParserNode};
 use front_syntax::trees::first_tree;
 use std::alloc::{AllocError, Global};
@@ -36,7 +36,7 @@ pub struct Sign<'i> {
 }
 
 /// Returns the name of a tag, without its `#`.
-fn tag_name<'i>(text: &'i str, tag: FirstTree<'_, Rule>) -> &'i str
+fn tag_name<'i>(text: &'i str, tag: FirstTree<'_>) -> &'i str
     requires { IsPiece text.now tag.start tag.end }
     ensures { chars result.now ≡ tag_name text.entry.now tag.entry.start tag.entry.end }
 {
@@ -52,15 +52,15 @@ fn tag_name<'i>(text: &'i str, tag: FirstTree<'_, Rule>) -> &'i str
 pub fn take_signs<'i, 't>(
     alloc: Global,
     text: &'i str,
-    trees: &'t [TokenTree<Rule>],
-) -> Result<(Vec<Sign<'i>>, &'t [TokenTree<Rule>]), AllocError>
+    trees: &'t [TokenNode],
+) -> Result<(Vec<Sign<'i>>, &'t [TokenNode]), AllocError>
     requires shape { IsTerm text.now (named_trees_of trees.now) }
     requires nested { AreInText text.now (named_trees_of trees.now) }
     ensures { IfOk result (λ x. IsAfterSigns text.entry.now (named_trees_of trees.entry.now)
         x.0.items (named_trees_of x.1.now)) }
 {
     let mut signs = Vec::new(alloc);
-    let mut rest: &'t [TokenTree<Rule>] = trees;
+    let mut rest: &'t [TokenNode] = trees;
     while let Some(tree) = first_tree(rest) {
         match tree.rule {
             Rule::tag_id => {

@@ -1,6 +1,6 @@
 //! Nodes that hold no expression.
 ghost use Rattle.std.specs.Prelude.{codes};
-ghost use Rattle.base_language.specs.Pieces.NamedTrees.{named_trees_of};
+ghost use Rattle.front_nodes.specs.Nodes.{named_trees_of};
 ghost use Rattle.front_reader.specs.Pieces.{AreInText};
 ghost use Rattle.front_reader.specs.Reading.{ANode};
 ghost use Rattle.base_language.specs.Pieces.MetaRules.{name_of};
@@ -11,7 +11,7 @@ use crate::rules::flaws::ReadError;
 use crate::rules::literal::literal;
 use crate::rules::pieces::{slice_number, span_of, text_of};
 use base_language::grammar::Rule;
-use base_language::runtime::{FirstTree, TokenTree};
+use front_nodes::nodes::{FirstTree, TokenNode};
 use front_spanned::{ParserExpr, ParserNode};
 use front_syntax::trees::leading_tree;
 use std::alloc::Global;
@@ -20,7 +20,7 @@ use std::alloc::Global;
 fn range<'i>(
     alloc: Global,
     text: &'i str,
-    tree: FirstTree<'_, Rule>,
+    tree: FirstTree<'_>,
 ) -> Result<ParserNode<'i>, ReadError<'i>>
     requires shape { IsTerminal text.now (codes "range") (named_trees_of tree.inner.now) }
     requires nested { AreInText text.now (alone_as (codes "range") tree) }
@@ -41,8 +41,8 @@ fn range<'i>(
 /// `i32` is a flaw.
 fn take_bound<'i, 't>(
     text: &'i str,
-    trees: &'t [TokenTree<Rule>],
-) -> Result<(Option<i32>, &'t [TokenTree<Rule>]), ReadError<'i>>
+    trees: &'t [TokenNode],
+) -> Result<(Option<i32>, &'t [TokenNode]), ReadError<'i>>
     requires shape { MayBeNumber text.now (named_trees_of trees.now) }
     requires nested { AreInText text.now (named_trees_of trees.now) }
     ensures { AnswersBound text.entry.now (named_trees_of trees.entry.now) result }
@@ -58,7 +58,7 @@ fn take_bound<'i, 't>(
 }
 
 /// Reads a slice of the stack. Its flaws are those of its numbers.
-fn slice<'i>(text: &'i str, tree: FirstTree<'_, Rule>) -> Result<ParserNode<'i>, ReadError<'i>>
+fn slice<'i>(text: &'i str, tree: FirstTree<'_>) -> Result<ParserNode<'i>, ReadError<'i>>
     requires shape { IsSlice text.now (named_trees_of tree.inner.now) }
     requires nested { AreInText text.now (alone_as (codes "peek_slice") tree) }
     ensures { ReadsAs text.entry.now ANode (alone_as (codes "peek_slice") tree.entry) result }
@@ -77,7 +77,7 @@ fn slice<'i>(text: &'i str, tree: FirstTree<'_, Rule>) -> Result<ParserNode<'i>,
 fn push_literal<'i>(
     alloc: Global,
     text: &'i str,
-    tree: FirstTree<'_, Rule>,
+    tree: FirstTree<'_>,
 ) -> Result<ParserNode<'i>, ReadError<'i>>
     requires shape { IsTerminal text.now (codes "_push_literal") (named_trees_of tree.inner.now) }
     requires nested { AreInText text.now (alone_as (codes "_push_literal") tree) }
@@ -96,7 +96,7 @@ fn push_literal<'i>(
 pub fn terminal<'i>(
     alloc: Global,
     text: &'i str,
-    tree: FirstTree<'_, Rule>,
+    tree: FirstTree<'_>,
 ) -> Result<ParserNode<'i>, ReadError<'i>>
     requires shape { IsTerminal text.now (name_of tree.rule) (named_trees_of tree.inner.now) }
     requires nested { AreInText text.now (alone tree) }

@@ -1,6 +1,6 @@
 use Rattle.std.proofs.Common.{◌≡◌, ◌∙◌, Bool, true, List, [], ◌∷◌, ◌++◌, length, nat_eq, eqb-true, sym, ap, map}
 use Rattle.std.proofs.lemmas.List.{nil_from_length}
-use Rattle.base_language.specs.Pieces.NamedTrees.{named_trees_of}
+use Rattle.front_nodes.specs.Nodes.{named_trees_of}
 use Rattle.base_language.specs.Pieces.Saying.{piece_of}
 use Rattle.front_names.specs.GrammarNames.{names_in}
 use Rattle.front_names.proofs.Trees.{all_stand-last, all_stand-push, all_stand-rest, names_inside, names_next, stand_behind, stand_inner, waiting_names, waiting_names-push}

@@ -1,7 +1,6 @@
 use Rattle.std.proofs.Common.{◌≡◌, ◌+◌, ◌++◌, map}
-use Rattle.base_language.specs.Pieces.NamedTrees.{named_trees_of}
+use Rattle.front_nodes.specs.Nodes.{named_trees_of, trees_of}
 use Rattle.base_language.specs.Pieces.Saying.{piece_of}
-use Rattle.base_language.specs.Pieces.TreeViews.{trees_of}
 use Rattle.front_names.specs.GrammarNames.{names_in}
 use Rattle.front_names.specs.Standing.{AreTreesWithin}
 use Rattle.front_names.proofs.Trees.{AllStand, count_of, waiting_names, waiting_count}

@@ -1,6 +1,5 @@
 use Rattle.std.proofs.Common.{◌≡◌, ◌++◌, map}
-use Rattle.base_language.specs.Pieces.NamedTrees.{named_trees_of}
-use Rattle.base_language.specs.Pieces.TreeViews.{trees_of}
+use Rattle.front_nodes.specs.Nodes.{named_trees_of, trees_of}
 use Rattle.base_language.specs.Pieces.Saying.{piece_of}
 use Rattle.front_names.specs.GrammarNames.{definitions}
 use Rattle.front_names.specs.Standing.{AreTreesWithin}

@@ -1,18 +1,10 @@
-use Rattle.std.proofs.Common.{◌∙◌, ap, subst, sym}
-use Rattle.base_language.specs.Pieces.NamedTrees.{named}
-use Rattle.base_language.specs.Pieces.Pairs.{pairs_text, pairs_trees}
-use Rattle.front_names.specs.GrammarNames.{complaints_of}
-use Rattle.front_names.specs.NameFindings.{AreNameFindings}
-use Rattle.front_names.specs.Names.{AreIn}
-use Rattle.front_names.proofs.Told.{complaints_in_text, finding_places, places_told}
 use Rattle.front_names.proofs.pairs.collect_builtins.Goals as goal
 
-pub name_errors-requires : goal.name_errors-requires
-name_errors-requires c =
-    let text = pairs_text c.args.pairs.now in
-    let refused = subst (AreNameFindings (complaints_of c.args.pairs.now)) c.in-Err-Found.field-0-is c.in-Err-Found.ensures.refused in
-    let all = complaints_in_text text (named (pairs_trees c.args.pairs.now)) in
-    record {
-      in_text = rw (c.get_input.ensures, c.deref.ensures.value)
-          (subst (AreIn text) (ap places_told (sym refused.1) ∙ finding_places c.in-Err-Found.findings.items) all);
-    }
+pub returns-clause-no_complaints : goal.returns-clause-no_complaints
+returns-clause-no_complaints c = rw (c.in_ok-forest.ensures.text, c.in_ok-forest.ensures.trees) at c.collect_in_forest.ensures.no_complaints
+
+pub returns-clause-builtins : goal.returns-clause-builtins
+returns-clause-builtins c = rw (c.in_ok-forest.ensures.text, c.in_ok-forest.ensures.trees) at c.collect_in_forest.ensures.builtins
+
+pub returns-clause-refused : goal.returns-clause-refused
+returns-clause-refused c = rw (c.in_ok-forest.ensures.text, c.in_ok-forest.ensures.trees) at c.collect_in_forest.ensures.refused

@@ -1,5 +1,5 @@
 use Rattle.std.proofs.Common.{◌≡◌, ◌++◌, [], List}
-use Rattle.base_language.specs.Pieces.NamedTrees.{named_trees_of}
+use Rattle.front_nodes.specs.Nodes.{named_trees_of}
 use Rattle.front_reader.specs.Flaws.{first_flaw}
 use Rattle.front_reader.specs.Pieces.{AreInText}
 use Rattle.front_reader.specs.Reading.{ReadsRules}

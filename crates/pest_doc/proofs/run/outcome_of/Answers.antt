@@ -19,8 +19,8 @@ returns-in_ok-doc-in-Ok-open_unvalidated c =
     IfOk-weaker c.answer_of.result _ _ (λ o made. subst (λ bytes. IsOutcome format bytes o) same (answered (
       rules_of c.in_ok-doc-in-Ok-open_unvalidated.doc.rules.value.items,
       record {
-        pairs = opened.pairs;
-        of_text = read.pairs;
+        forest = opened.forest;
+        of_text = read.forest;
         well_named = read.named;
         flawless = read.flawless;
         are_rules = (rule_views opened.rules.value.items, read.rules, c.in_ok-doc-in-Ok-open_unvalidated.ensures);

@@ -3,8 +3,7 @@ use Rattle.std.proofs.lemmas.Grind.{common_steps}
 use Rattle.std.proofs.lemmas.Result.{err_from_is_err_and}
 use Rattle.front_spanned.specs.Nodes.{rule_views}
 use Rattle.front_validator.specs.Reporting.{findings_of}
-use Rattle.pest_meta.proofs.Opens.{none_found, rules_refuse, unvalidated}
-use Rattle.pest_meta.proofs.Spelled.{spells_with_spans}
+use Rattle.pest_meta.proofs.Opens.{none_found, rules_refuse, spells_with_spans, unvalidated}
 use Rattle.pest_meta.proofs.opened.open.Goals as goal
 
 pub returns-in_err-opened-clause-refused : goal.returns-in_err-opened-clause-refused
@@ -23,7 +22,7 @@ returns-then-not-is_empty-clause-refused c =
     let read = c.in_ok-opened.ensures in
     let findings = c.in_ok-findings.findings.items in
     let some : findings ≢ [] = first_of (search rules, grind (arith, common_steps)) in
-    rules_refuse c.args.text.now opened.pairs read.pairs.of_text read.pairs.of_grammar read.named (rule_views opened.rules.value.items) read.flawless read.rules findings some c.in_ok-findings.ensures.found
+    rules_refuse c.args.text.now opened.forest read.forest.of_text read.forest.of_grammar read.named (rule_views opened.rules.value.items) read.flawless read.rules findings some c.in_ok-findings.ensures.found
 
 pub returns-clause-rules : goal.returns-clause-rules
 returns-clause-rules c =
@@ -33,5 +32,5 @@ returns-clause-rules c =
     let findings = c.in_ok-findings.findings.items in
     let none : findings ≡ [] = first_of (search rules, grind (arith, common_steps)) in
     let nothing = ap findings_of none in
-    let accepted = none_found opened.pairs views (findings_of findings) read.flawless read.rules nothing c.in_ok-findings.ensures.found (c.in_ok-findings.ensures.accepted nothing) in
-    spells_with_spans c.args.text.now opened.pairs opened.builtins.items views read.pairs.of_text read.pairs.of_grammar read.named read.builtins read.rules accepted
+    let accepted = none_found opened.forest views (findings_of findings) read.flawless read.rules nothing c.in_ok-findings.ensures.found (c.in_ok-findings.ensures.accepted nothing) in
+    spells_with_spans c.args.text.now opened.forest opened.builtins.items views read.forest.of_text read.forest.of_grammar read.named read.builtins read.rules accepted

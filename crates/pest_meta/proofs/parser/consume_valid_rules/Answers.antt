@@ -1,8 +1,8 @@
 use Rattle.std.proofs.Common.{List, ◌≡◌, ◌≢◌, [], inr, refl, rules, subst, sym, arith}
 use Rattle.std.proofs.lemmas.Grind.{common_steps}
-use Rattle.base_language.specs.Pieces.Pairs.{pairs_text}
 use Rattle.base_language.specs.declared.grammar.Rule.{Rule}
 use Rattle.base_language.specs.declared.runtime.errors.Error.{Error}
+use Rattle.front_nodes.specs.Forests.{forest_text}
 use Rattle.front_spanned.specs.Erasure.{rules_without_spans}
 use Rattle.front_spanned.specs.Spanned.{SpannedRule}
 use Rattle.front_spanned.specs.Nodes.{rule_views}
@@ -26,7 +26,7 @@ returns-then-not-is_empty-clause-refused c =
     let some : c.in_ok-errors.errors.items ≢ [] = first_of (search rules, grind (arith, common_steps)) in
     inr (record {
       rules = rules_without_spans views;
-      give = given c.args.pairs views (rules_without_spans views) read.flawless read.rules refl;
+      give = given c.args.forest.now views (rules_without_spans views) read.flawless read.rules refl;
       some = some;
       tell = c.in_ok-errors.ensures.exact;
     })
@@ -40,7 +40,7 @@ returns-clause-accepted c =
     let views = rule_views c.in_ok-rules.rules.items in
     let none : c.in_ok-errors.errors.items ≡ [] = first_of (search rules, grind (arith, common_steps)) in
     rw c.into_inner.ensures (record {
-      give = given c.args.pairs views (rules_without_spans views) read.flawless read.rules refl;
+      give = given c.args.forest.now views (rules_without_spans views) read.flawless read.rules refl;
       no_reports = c.in_ok-errors.ensures.silent none;
       nothing_found = nothing_found views c.in_ok-errors.errors.items none c.in_ok-errors.ensures.exact;
       well_formed = c.in_ok-errors.ensures.accepted none;
@@ -51,5 +51,5 @@ validate_ast_in-requires c =
     let read = c.in_ok-rules.ensures in
     record {
       in_text = subst (λ z. AreIn z (rule_views c.in_ok-rules.rules.items)) (sym c.get_input-text.ensures)
-          (rules_in (pairs_text c.args.pairs) {rules = rule_views c.in_ok-rules.rules.items} read.rules);
+          (rules_in (forest_text c.args.forest.now) {rules = rule_views c.in_ok-rules.rules.items} read.rules);
     }

@@ -9,18 +9,18 @@ use Rattle.pest_meta_c.proofs.Answering.{answered_from, names_answered}
 use Rattle.pest_meta_c.proofs.Telling.{misnamed, told_such, without_trees}
 use Rattle.pest_meta_c.proofs.calls.names.Goals as goal
 
-pub returns-in_err-pairs-clause-refused : goal.returns-in_err-pairs-clause-refused
-returns-in_err-pairs-clause-refused c =
+pub returns-in_err-forest-clause-refused : goal.returns-in_err-forest-clause-refused
+returns-in_err-forest-clause-refused c =
     let text = c.args.text.now in
     let p = err_from_is_err_and c.from_residual.result c.from_residual.ensures.1 in
-    rw (p.1, p.2) (without_trees text (IsMisnamed text) c.in_err-pairs.field-0.0 c.in_err-pairs.ensures.refused)
+    rw (p.1, p.2) (without_trees text (IsMisnamed text) c.in_err-forest.field-0.0 c.in_err-forest.ensures.refused)
 
 pub returns-in-Ok-clause-answered : goal.returns-in-Ok-clause-answered
 returns-in-Ok-clause-answered c =
     let text = c.args.text.now in
     let read = c.in-Ok in
     answered_from (AreNames text) (names_data c.deref.result.now) c.names_text.result c.to_outcome.result c.names_text.ensures
-    (λ bytes e. names_answered text bytes c.in_ok-pairs.pairs read.names.items c.in_ok-pairs.ensures.text c.in_ok-pairs.ensures.spelled read.ensures.no_complaints read.ensures.builtins (e ∙ ap (λ xs. compact_text (names_data xs)) c.deref.ensures.value))
+    (λ bytes e. names_answered text bytes c.in_ok-forest.forest read.names.items c.in_ok-forest.ensures.text c.in_ok-forest.ensures.spelled read.ensures.no_complaints read.ensures.builtins (e ∙ ap (λ xs. compact_text (names_data xs)) c.deref.ensures.value))
     c.to_outcome.ensures.answered
 
 pub returns-in-Err-clause-refused : goal.returns-in-Err-clause-refused
@@ -28,4 +28,4 @@ returns-in-Err-clause-refused c =
     let text = c.args.text.now in
     let read = c.in-Err in
     told_such text (OfTrees (IsMisnamed text) text) read.fault c.to_refusal.result
-    (misnamed text c.in_ok-pairs.pairs read.fault c.in_ok-pairs.ensures.text c.in_ok-pairs.ensures.spelled read.ensures.refused) c.to_refusal.ensures
+    (misnamed text c.in_ok-forest.forest read.fault c.in_ok-forest.ensures.text c.in_ok-forest.ensures.spelled read.ensures.refused) c.to_refusal.ensures

@@ -1,6 +1,6 @@
 use Rattle.std.proofs.Common.{◌≡◌, refl, ap}
 use Rattle.std.proofs.lemmas.Result.{err_from_is_err_and}
-use Rattle.base_language.specs.Pieces.NamedTrees.{named_trees_of}
+use Rattle.front_nodes.specs.Nodes.{named_trees_of}
 use Rattle.front_reader.specs.Reading.{done}
 use Rattle.base_language.specs.Pieces.Span.{span_text}
 use Rattle.front_spanned.specs.Spanned.{Span}

@@ -1,5 +1,5 @@
 use Rattle.std.proofs.Common.{◌≡◌}
-use Rattle.base_language.specs.Pieces.NamedTrees.{named_trees_of}
+use Rattle.front_nodes.specs.Nodes.{named_trees_of}
 use Rattle.front_reader.specs.Flaws.{first_flaw}
 use Rattle.front_reader.specs.Reading.{Postfixed}
 use Rattle.front_grammar.specs.Shape.{ArePostfixes}

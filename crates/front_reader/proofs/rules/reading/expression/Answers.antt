@@ -1,6 +1,6 @@
 use Rattle.std.proofs.Common.{refl, subst}
 use Rattle.std.proofs.lemmas.Result.{err_from_is_err_and}
-use Rattle.base_language.specs.Pieces.NamedTrees.{named_trees_of}
+use Rattle.front_nodes.specs.Nodes.{named_trees_of}
 use Rattle.front_reader.specs.Levels.{GoesOn}
 use Rattle.front_reader.specs.declared.rules.levels.Next.{Next}
 use Rattle.front_reader.proofs.Chains.{no_chain}

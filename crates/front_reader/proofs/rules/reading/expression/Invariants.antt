@@ -1,5 +1,5 @@
 use Rattle.std.proofs.Common.{◌+◌}
-use Rattle.base_language.specs.Pieces.NamedTrees.{named_trees_of}
+use Rattle.front_nodes.specs.Nodes.{named_trees_of}
 use Rattle.front_reader.specs.Levels.{open_work, work_of}
 use Rattle.front_reader.proofs.Levels.{IsOnTheWay}
 use Rattle.front_reader.proofs.rules.reading.expression.Given as goal

@@ -1,5 +1,5 @@
 use Rattle.std.proofs.Common.{refl, ◌∙◌}
-use Rattle.base_language.specs.Pieces.NamedTrees.{named_trees_of}
+use Rattle.front_nodes.specs.Nodes.{named_trees_of}
 use Rattle.front_reader.proofs.Chains.{no_chain, rest_tree, expression_end}
 use Rattle.front_reader.proofs.Levels.{alternative_piece, alternative_front, at_next_alternative}
 use Rattle.front_reader.proofs.rules.reading.finish_alternative.Goals as goal

@@ -1,5 +1,5 @@
 use Rattle.std.proofs.Common.{arith}
-use Rattle.base_language.specs.Pieces.NamedTrees.{named_trees_of}
+use Rattle.front_nodes.specs.Nodes.{named_trees_of}
 use Rattle.front_reader.proofs.Levels.{opened, stand_term}
 use Rattle.front_reader.proofs.rules.reading.term.Goals as goal
 

@@ -1,4 +1,4 @@
-use Rattle.base_language.specs.Pieces.NamedTrees.{named_trees_of}
+use Rattle.front_nodes.specs.Nodes.{named_trees_of}
 use Rattle.front_reader.specs.Views.{count_of}
 use Rattle.front_reader.proofs.Signs.{IsLeftOfTerm}
 use Rattle.front_reader.proofs.rules.signs.take_signs.Given as goal

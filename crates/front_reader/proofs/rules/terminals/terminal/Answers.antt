@@ -1,6 +1,6 @@
 use Rattle.std.proofs.Common.{refl}
 use Rattle.std.proofs.lemmas.Result.{err_from_is_err_and}
-use Rattle.base_language.specs.Pieces.NamedTrees.{named_trees_of}
+use Rattle.front_nodes.specs.Nodes.{named_trees_of}
 use Rattle.front_reader.specs.Reading.{leaf, identifier}
 use Rattle.front_reader.proofs.TreesStandInText.{first_piece}
 use Rattle.front_reader.proofs.Terminals.{string_trees, insensitive_trees, identifier_trees, terminal_rule}

@@ -1,5 +1,5 @@
 use Rattle.pest_meta_c.proofs.Telling.{no_grammar}
-use Rattle.pest_meta_c.proofs.calls.pairs_of.Goals as goal
+use Rattle.pest_meta_c.proofs.calls.forest_of.Goals as goal
 
 pub returns-in-Err-clause-refused : goal.returns-in-Err-clause-refused
 returns-in-Err-clause-refused c =

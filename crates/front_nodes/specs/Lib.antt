@@ -1,0 +1,3 @@
+pub mod Forests
+pub mod Nodes
+pub mod Writing

@@ -1,0 +1,5 @@
+//! Trees as nodes, each before those inside it.
+#![tactic(auto)]
+
+pub mod forest;
+pub mod nodes;
