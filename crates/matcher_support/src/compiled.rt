@@ -18,8 +18,8 @@ use crate::attempts::{NamedAttempts, name_attempts};
 use base_language::runtime::Span;
 use matcher_code::state::OpenCall;
 use matcher_engine::block::{
-    BlockStop, attempts_block, expected_block, guide_block, paths_block, recognize_block,
-    rule_count, rule_name, run_block,
+    BlockStop, attempts_block, bound_block, expected_block, guide_block, paths_block,
+    recognize_block, rule_count, rule_name, run_block,
 };
 use matcher_engine::matcher::Preorder;
 use matcher_engine::recognize::Recognition;
@@ -95,14 +95,15 @@ impl<'b> CompiledRules<'b> {
     }
 
     /// Runs the rule of a name from the start of a text, as `match_text`, and where that is out of steps, by
-    /// a guided run in at most so many turns, as `guide_block`. Errors are those of `match_text`.
+    /// a guided run in at most so many turns, as `guide_block`, or where none are given, in as many as
+    /// `bound_block` answers. Errors are those of `match_text`.
     pub fn match_guided(
         &self,
         alloc: Global,
         rule: &str,
         text: &str,
         steps: u64,
-        turns: u64,
+        turns: Option<u64>,
     ) -> Result<Preorder, BlockStop>
         ensures matched { (g : Grammar) → IsCompiledOf g self.now
             → IfOk result (HasPreorder g (chars rule.now) (start_of text.now) is_in_property) }
@@ -114,6 +115,7 @@ impl<'b> CompiledRules<'b> {
             Err(stop) => return Err(stop),
         };
         let start = Span::of(text, 0, 0).start_pos();
+        let turns = turns.unwrap_or(bound_block(self.block, text.len()));
         guide_block(alloc, self.block, number, start, steps, turns)
     }
 

@@ -94,8 +94,9 @@ fn steps_argument<'a>(alloc: Global) -> Arg<'a>
     ensures { HasForm (option (codes "steps")) result }
 {
     let help =
-        "Stop a match after N steps, and then look without trees where it fails or ends; where it is not \
-                given, after 1000 for each byte of the text and 1000000 more";
+        "Stop a match after N steps, and then run it guided, in 4 N turns at most; where N is not given, \
+                after 1000 steps for each byte of the text and 1000000 more, and guided in as many turns as \
+                suffice";
     option(alloc, "steps", help)
         .value_name("N")
         .value_parser(ValueParser::unsigned(1, u64::MAX))

@@ -13,7 +13,7 @@ ghost use Rattle.pest_run.specs.Grammars.{IsReadingOf};
 ghost use Rattle.pest_run.specs.Steps.{step_limit};
 ghost use Rattle.pest_run.specs.Written.{IsReadable, ReportsRefusal, ReportsUnread, WritesLine};
 
-use crate::arguments::{Request, step_limit};
+use crate::arguments::Request;
 use crate::grammars::{Reading, refuse_grammar};
 use crate::messages::code_message;
 use crate::outcomes::block_outcome;
@@ -90,8 +90,7 @@ pub fn run_code<W: Write, E: Write>(
     if check_block(&code.bytes).is_err() {
         return refuse_code(alloc, code, err);
     }
-    let steps = step_limit(request.steps, input.len());
-    match block_outcome(alloc, &code.bytes, rule, text.name, input, format, steps) {
+    match block_outcome(alloc, &code.bytes, rule, text.name, input, format, request.steps) {
         Some(outcome) => print_outcome(outcome, out, err),
         None => refuse_code(alloc, code, err),
     }

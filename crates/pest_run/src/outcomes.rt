@@ -1,5 +1,5 @@
 //! Outcomes of rules.
-ghost use Rattle.std.specs.Prelude.{◌≡◌, ℕ, List, IfOk, IsSomeAnd, IsUtf8, chars, option_map, string_bytes, true};
+ghost use Rattle.std.specs.Prelude.{◌≡◌, ℕ, List, IfOk, IsSomeAnd, IsUtf8, chars, length, option_map, string_bytes, true};
 ghost use Rattle.base_ast.specs.Optimized.{optimized_rules_of};
 ghost use Rattle.base_ast.specs.declared.optimized.OptimizedRule.{OptimizedRule};
 ghost use Rattle.base_language.specs.Language.Expression.{Grammar};
@@ -14,9 +14,10 @@ ghost use Rattle.matcher_support.specs.Compiled.{FailsIn, IsCompiled, IsCompiled
 ghost use Rattle.matcher_support.specs.Sets.{is_in_property};
 ghost use Rattle.matcher_support.specs.Shown.{shown};
 ghost use Rattle.program_support.specs.Escapes.{escaped_lines};
+ghost use Rattle.pest_run.specs.Steps.{step_limit};
 ghost use Rattle.pest_run.specs.Outcomes.{IsFailureReport, IsMatchReport, IsNoRuleReport, IsOutcome, IsStopReport, IsUnnamedMatchReport, IsUnnamedReport, ReportsAt, ReportsFailure, TakesTooManySteps, end_note, trees_text, unfit_outcome};
 
-use crate::arguments::Format;
+use crate::arguments::{Format, step_limit};
 use crate::failures::{find_failure, names_after};
 use crate::messages::{
     describe_failure, end_message, is_more, no_rule_message, steps_message, unnamed_message,
@@ -40,7 +41,7 @@ use program_support::json::escape_json;
 use program_support::messages::show_error;
 use std::alloc::{AllocError, Global};
 
-/// How many turns and operations a guided run may take for each step that is allowed: a step is four
+/// How many turns and operations a guided run may take for each step of a given limit: a step is four
 /// operations.
 const TURNS: u64 = 4;
 
@@ -70,7 +71,8 @@ pub enum Outcome {
     Memory,
 }
 
-/// Runs the rule of that name on the text of a file, in so many steps at most, and returns the outcome.
+/// Runs the rule of that name on the text of a file, and returns the outcome: in so many steps at most, if a
+/// limit is given, and else in as many as `step_limit` allows.
 pub fn outcome_of(
     alloc: Global,
     rules: &[OptimizedRule],
@@ -78,12 +80,13 @@ pub fn outcome_of(
     name: &str,
     text: &str,
     format: Format,
-    steps: u64,
+    limit: Option<u64>,
 ) -> Outcome
-    ensures { IsOutcome (optimized_rules_of rules.now) rule.now name.now text.now format steps result }
+    ensures { IsOutcome (optimized_rules_of rules.now) rule.now name.now text.now format
+        (step_limit limit (length text.now)) result }
 {
     match compile_block(alloc, rules, &UnicodeProperties) {
-        Ok(block) => match block_outcome(alloc, &block, rule, name, text, format, steps) {
+        Ok(block) => match block_outcome(alloc, &block, rule, name, text, format, limit) {
             Some(outcome) => outcome,
             None => unreachable!(),
         },
@@ -91,8 +94,8 @@ pub fn outcome_of(
     }
 }
 
-/// Runs the rule of that name of a compiled grammar on the text of a file, in so many steps at most, and
-/// returns the outcome. Returns none for bytes that are no compiled grammar.
+/// Runs the rule of that name of a compiled grammar on the text of a file, as `outcome_of`. Returns none for
+/// bytes that are no compiled grammar.
 pub fn block_outcome(
     alloc: Global,
     block: &[u8],
@@ -100,19 +103,21 @@ pub fn block_outcome(
     name: &str,
     text: &str,
     format: Format,
-    steps: u64,
+    limit: Option<u64>,
 ) -> Option<Outcome>
     ensures { (rules : List OptimizedRule) → IsCompiled rules block.now → IsSomeAnd result
-        (IsOutcome (optimized_rules_of rules) rule.now name.now text.now format steps) }
+        (IsOutcome (optimized_rules_of rules) rule.now name.now text.now format
+        (step_limit limit (length text.now))) }
 {
     match CompiledRules::read(alloc, block) {
-        Ok(Some(grammar)) => run_outcome(alloc, &grammar, rule, name, text, format, steps),
+        Ok(Some(grammar)) => run_outcome(alloc, &grammar, rule, name, text, format, limit),
         Ok(None) => None,
         Err(_) => Some(Outcome::Memory),
     }
 }
 
-/// Runs the rule of that name, as `block_outcome`.
+/// Runs the rule of that name, as `block_outcome`. Out of steps, a guided run takes its place, with a limit
+/// of its own only where one is given.
 fn run_outcome(
     alloc: Global,
     rules: &CompiledRules<'_>,
@@ -120,12 +125,14 @@ fn run_outcome(
     name: &str,
     text: &str,
     format: Format,
-    steps: u64,
+    limit: Option<u64>,
 ) -> Option<Outcome>
     ensures { (g : Grammar) → IsCompiledOf g rules.now → IsSomeAnd result
-        (IsOutcome g rule.now name.now text.now format steps) }
+        (IsOutcome g rule.now name.now text.now format (step_limit limit (length text.now))) }
 {
-    match rules.match_guided(alloc, rule, text, steps, steps.saturating_mul(TURNS)) {
+    let steps = step_limit(limit, text.len());
+    let turns = limit.map(|steps| steps.saturating_mul(TURNS));
+    match rules.match_guided(alloc, rule, text, steps, turns) {
         Ok(found) => match_outcome(alloc, rules, rule, text, &found, format, steps),
         Err(BlockStop::NoMatch(place)) => {
             failure_outcome(alloc, rules, rule, name, text, place, steps)

@@ -5,7 +5,7 @@ ghost use Rattle.pest_run.specs.Grammars.{IsReadFrom, IsReadingOf};
 ghost use Rattle.pest_run.specs.Steps.{step_limit};
 ghost use Rattle.pest_run.specs.Written.{IsFormOutcome, IsReadable, NotesEnd, PrintsTrees, ReportsReason, ReportsStop, ReportsUnread, WritesLine};
 
-use crate::arguments::{Request, step_limit};
+use crate::arguments::Request;
 use crate::grammars::{GrammarRules, Reading, read_grammar, refuse_grammar};
 use crate::outcomes::{Outcome, outcome_of};
 use crate::sources::{Source, text_of, unreadable};
@@ -150,8 +150,7 @@ fn form_outcome(
     match grammar.to_run(alloc, request.form) {
         Ok(rules) => {
             let (rule, format) = (request.rule, request.format);
-            let steps = step_limit(request.steps, text.len());
-            let outcome = outcome_of(alloc, &rules, rule, name, text, format, steps);
+            let outcome = outcome_of(alloc, &rules, rule, name, text, format, request.steps);
             release(rules);
             outcome
         }
