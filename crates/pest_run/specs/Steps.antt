@@ -7,8 +7,8 @@ abbrev pub CountsSteps : List ℕ → Option ℕ → Type 0
 CountsSteps text steps = let digits = without_leading_plus text in
     SomeIff steps (IsNumeral 10 digits × (digits_value 10 digits < 2 ^ 64)) (digits_value 10 digits)
 
--- the given limit; or 1,000 steps for each byte of a text of this length and for a thousand more, as far as
--- they can be counted
+-- the given limit; or 32 steps for each byte of a text of this length, and 2,000,000 more, as far as they can
+-- be counted
 abbrev pub step_limit : Option ℕ → ℕ → ℕ
 step_limit (Some steps) length = steps
-step_limit None length = min (1000 * (length + 1000)) (2 ^ 64 - 1)
+step_limit None length = min (32 * (length + 62500)) (2 ^ 64 - 1)

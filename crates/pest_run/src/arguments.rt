@@ -95,7 +95,7 @@ fn steps_argument<'a>(alloc: Global) -> Arg<'a>
 {
     let help =
         "Stop a match after N steps, and then run it guided, in 4 N turns at most; where N is not given, \
-                after 1000 steps for each byte of the text and 1000000 more, and guided in as many turns as \
+                after 32 steps for each byte of the text and 2000000 more, and guided in as many turns as \
                 suffice";
     option(alloc, "steps", help)
         .value_name("N")
@@ -230,10 +230,10 @@ pub fn steps_of(matches: &ArgMatches<'_>) -> Option<u64>
 }
 
 /// The steps that each byte of a text is allowed where no limit is given.
-const STEPS_PER_BYTE: u64 = 1_000;
+const STEPS_PER_BYTE: u64 = 32;
 
-/// The bytes by which every text counts for longer.
-const MORE_BYTES: u64 = 1_000;
+/// The bytes by which every text counts for longer: they allow 2,000,000 steps.
+const MORE_BYTES: u64 = 62_500;
 
 /// Returns the greatest number of steps on a text of this length: the given one, or else one that is linear
 /// in the length.
