@@ -64,8 +64,9 @@ _FORMAT = 1
 _ANSWERED, _REFUSED, _MEMORY, _NO_TEXT, _NO_ROOM = range(5)
 _NO_BLOCK, _UNFIT, _NO_RULE, _OUT_OF_STEPS, _EMPTY_STACK, _LONG_TEXT, _OTHER_VERSION, _CHANGED = range(5, 13)
 _MOST_STEPS = 2**64 - 1
-# The steps that each byte of a text is allowed where no limit is given, and the bytes by which each counts for longer.
-_STEPS_PER_BYTE = _MORE_BYTES = 1_000
+# The steps for each byte of a text, and how many more, where no limit is given: those after which a guided run is
+# quicker, those in which expected rules are looked for, and those of a run that uses the stack.
+_FIRST_STEPS, _ERROR_STEPS, _STACK_STEPS = (32, 100_000), (32, 2_000_000), (1_000, 1_000_000)
 # How many operands the nodes of a form have (docs/FORMAT.md).
 _OPERANDS = {
     **dict.fromkeys(["str", "insens", "range", "ident", "peek_slice", "skip", "push_literal"], 0),
@@ -362,8 +363,8 @@ class Matcher:
         may take many bytes, and memory grows with the turns.
 
         With `steps` the match takes so many at most, and so does the search for the rules that are expected where it
-        fails. With None these are 1,000 for each byte of the text and 1,000,000 more: for the search, and for
-        a match of other grammars. A limit of 2**64 - 1 is none.
+        fails. With None the search has 32 for each byte of the text and 2,000,000 more, and a match that uses the stack
+        1,000 and 1,000,000. A limit of 2**64 - 1 is none.
 
         Raises MatchError where the rule does not match, ValueError where no rule has the name, and RunError where
         the run is stopped: with `steps` also where the rule fails and only the search takes more. A rule that does not
@@ -371,13 +372,15 @@ class Matcher:
         """
         source = text.encode()
         words = self._words(rule, source)
-        most = _steps_for(source) if steps is None else steps
+        most = _steps_for(source, _ERROR_STEPS) if steps is None else steps
         nodes, end = _List(), ctypes.c_size_t()
         found = ctypes.byref(nodes), ctypes.byref(end)
+        status = _OUT_OF_STEPS
         if steps is None:
             turns = _library().pest_meta_bound(*words[:2], len(source))
-            status = _library().pest_meta_run_guided(*words, most, turns, *found)
-        else:
+            status = _library().pest_meta_run_guided(*words, _steps_for(source, _FIRST_STEPS), turns, *found)
+        if status == _OUT_OF_STEPS:
+            most = _steps_for(source, _STACK_STEPS) if steps is None else steps
             status = _library().pest_meta_run(*words, most, *found)
         if status == _ANSWERED:
             trees = _Nodes(_taken(nodes, 16), source, self._all_names)
@@ -393,7 +396,7 @@ class Matcher:
         Raises as parse does, but a rule that fails has an answer; MemoryError where there are more than 1,024 paths.
         """
         source, calls = text.encode(), _List()
-        steps = _steps_for(source) if steps is None else steps
+        steps = _steps_for(source, _ERROR_STEPS) if steps is None else steps
         status = _library().pest_meta_paths(*self._words(rule, source), position, steps, ctypes.byref(calls))
         if status != _ANSWERED:
             raise _stop(status, "pest_meta_paths", rule, steps)
@@ -426,9 +429,10 @@ class Matcher:
         return MatchError(position, names, words[3])
 
 
-def _steps_for(source: bytes) -> int:
-    """How many steps a run on a text may take where no limit is given."""
-    return min(_STEPS_PER_BYTE * (len(source) + _MORE_BYTES), _MOST_STEPS)
+def _steps_for(source: bytes, steps: Tuple[int, int]) -> int:
+    """So many steps for each byte of a text, and so many more."""
+    per_byte, more = steps
+    return min(per_byte * len(source) + more, _MOST_STEPS)
 
 
 def compile(grammar: str) -> bytes:

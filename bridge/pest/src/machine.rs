@@ -48,27 +48,43 @@ pub fn parse_block<'i, R: RuleType>(
 }
 
 /// Runs the rule of a row of a compiled grammar from the start of a text: in a number of steps that suffices for nearly
-/// all texts, and then by a guided run, whose turns are linear in the text, up to an operation on the stack.
+/// all texts, and then by a guided run, whose turns are linear in the text, or where that comes to an operation on the
+/// stack, in more steps.
 fn run<R: RuleType>(block: &[u8], row: u32, text: &str, rule: impl Fn(u32) -> R) -> Result<Nodes, Error<R>> {
-    let steps = code::most_steps(text);
-    match code::run(block, row, text, steps) {
-        Ok(nodes) => Ok(nodes),
-        Err(Unmatched::Failed { pos }) => Err(failure(block, row, text, pos, steps, rule)),
-        Err(Unmatched::OutOfSteps) => {
-            match code::run_guided(block, row, text, code::bound(block, text.len())) {
-                Ok(nodes) => Ok(nodes),
-                Err(Unmatched::Failed { pos }) => Err(expectation(block, row, text, pos, steps, rule)),
-                Err(why) => Err(stopped(text, why)),
-            }
+    match code::run(block, row, text, code::first_steps(text)) {
+        Err(Unmatched::OutOfSteps) => {}
+        found => return found.map_err(|why| refusal(block, row, text, why, code::error_steps(text), rule)),
+    }
+    match code::run_guided(block, row, text, code::bound(block, text.len())) {
+        Err(Unmatched::OutOfSteps) => {}
+        Err(Unmatched::Failed { pos }) => {
+            return Err(expectation(block, row, text, pos, code::error_steps(text), rule));
         }
-        Err(why) => Err(stopped(text, why)),
+        found => return found.map_err(|why| stopped(text, why)),
+    }
+    let steps = code::most_steps(text);
+    code::run(block, row, text, steps).map_err(|why| refusal(block, row, text, why, steps, rule))
+}
+
+/// The error of a run that gives no nodes. Names that are expected are looked for in so many steps.
+fn refusal<R: RuleType>(
+    block: &[u8],
+    row: u32,
+    text: &str,
+    why: Unmatched,
+    steps: u64,
+    rule: impl Fn(u32) -> R,
+) -> Error<R> {
+    match why {
+        Unmatched::Failed { pos } => failure(block, row, text, pos, steps, rule),
+        why => stopped(text, why),
     }
 }
 
 /// The error of a rule that fails with its furthest failure at a byte of a text.
 ///
-/// It takes up to three runs, which remember no calls, so each has the limit of steps of the first. Where one does not end
-/// in these, or has too many attempts, the error names the rules that are expected at the furthest failure.
+/// It takes up to three runs, which remember no calls, so they have a limit of their own. Where one does not end in it, or
+/// has too many attempts, the error names the rules that are expected at the furthest failure.
 fn failure<R: RuleType>(
     block: &[u8],
     row: u32,
@@ -77,7 +93,7 @@ fn failure<R: RuleType>(
     steps: u64,
     rule: impl Fn(u32) -> R,
 ) -> Error<R> {
-    match code::attempts(block, row, text, pos, steps) {
+    match code::attempts(block, row, text, pos, code::error_steps(text)) {
         Some(found) => {
             let (positives, negatives) = (rules(&found.positives, &rule), rules(&found.negatives, &rule));
             error_at(text, found.pos, ErrorVariant::ParsingError { positives, negatives })
