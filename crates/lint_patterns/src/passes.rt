@@ -2,14 +2,14 @@
 ghost use Rattle.std.specs.Prelude.{◌≡◌, IfOk};
 ghost use Rattle.base_ast.specs.Ast.{expression_of, rule_of_code, rule_type_of};
 ghost use Rattle.lint_patterns.specs.Rewritten.{IsPassed, IsRotatedRule};
-ghost use Rattle.front_spanned.specs.Erasure.{rule_without_spans};
 ghost use Rattle.front_spanned.specs.Nodes.{rule_view};
 
+use crate::plain::plain_rule;
 use base_ast::ast::Rule;
 use base_ast::deep::Deep;
 use base_language::runtime::Fault;
 use front_optimizer::{concatenate, factor, rotate, unroll};
-use front_spanned::{ParserRule, erase_spans};
+use front_spanned::ParserRule;
 use std::alloc::{AllocError, Global};
 
 /// A rule without spans, as the first pass leaves it.
@@ -20,26 +20,6 @@ pub(crate) fn rotated_rule(alloc: Global, rule: &ParserRule<'_>) -> Result<Deep<
     match rotate(alloc, plain.into_inner()) {
         Ok(rule) => Ok(Deep { value: rule }),
         Err(_) => Err(AllocError),
-    }
-}
-
-/// A copy of a rule without spans.
-fn plain_rule(alloc: Global, rule: &ParserRule<'_>) -> Result<Deep<Rule>, AllocError>
-    ensures { IfOk result (λ plain. rule_of_code plain.value ≡ rule_without_spans (rule_view rule.now)) }
-{
-    let copy = Deep {
-        value: rule.clone()?,
-    };
-    let mut rules = Deep {
-        value: Vec::new(alloc),
-    };
-    rules.push(copy)?;
-    let mut plain = Deep {
-        value: erase_spans(alloc, rules.into_inner())?,
-    };
-    match plain.value.pop() {
-        Some(rule) => Ok(Deep { value: rule }),
-        None => Err(AllocError),
     }
 }
 
