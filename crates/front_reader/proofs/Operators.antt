@@ -58,6 +58,15 @@ two_trees {text} {i = i} {j = j} {k = k} {l = l} (min_max d e) = record {
   says = λ m n p q. rw (p, q) reading.min_max;
 }
 
+-- neither is the last tree
+pub no_comma : {text : List ℕ} {r s : Text} {a b i j : ℕ} {us vs : Trees}
+    → IsCounted text (codes "repeat_min_max") (Tree r a b us (Tree s i j vs None')) → ⊥
+no_comma h = elim h [ ]
+
+pub no_second : {text : List ℕ} {r s t : Text} {a b c d i j : ℕ} {us vs ws : Trees}
+    → IsCounted text (codes "repeat_min_max") (Tree r a b us (Tree s i j vs (Tree t c d ws None'))) → ⊥
+no_second h = elim h [ ]
+
 -- a postfix operator's rule is one of seven
 pub postfix_rule : {text : List ℕ} {n : Text} {us : Trees} (r : Rule) → IsPostfix text n us → n ≡ name_of r
     → ¬ (r ≡ rule_is.optional_operator) → ¬ (r ≡ rule_is.repeat_operator)

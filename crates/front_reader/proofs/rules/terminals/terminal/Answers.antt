@@ -15,6 +15,11 @@ returns-in_err-read-in-string c =
     let p = err_from_is_err_and c.from_residual-in_err-read-in-string.result c.from_residual-in_err-read-in-string.ensures.1 in
     rw (p.1, p.2, c.in-string.is, h.flaw c.args.tree.start c.args.tree.end) c.in_err-read-in-string.ensures
 
+pub literal-requires-in-insensitive_string-clause-shape : goal.literal-requires-in-insensitive_string-clause-shape
+literal-requires-in-insensitive_string-clause-shape c =
+    let h = insensitive_trees (rw (c.in-insensitive_string.is, c.leading_tree-string.ensures) at c.requires.shape) in
+    h.quoted
+
 pub returns-in_err-read-in-insensitive_string : goal.returns-in_err-read-in-insensitive_string
 returns-in_err-read-in-insensitive_string c =
     let h = insensitive_trees (rw (c.in-insensitive_string.is, c.leading_tree-string.ensures) at c.requires.shape) in
