@@ -36,7 +36,8 @@ pub(crate) enum Guided {
     Matched(Preorder),
     /// The rule fails; the furthest position, in bytes, at which a call that counts failed, or 0.
     Failed(usize),
-    /// None, since the run without trees has no answer.
+    /// None: the run without trees finds neither a match nor a failure, or the one with trees takes more
+    /// operations than are allowed.
     Unanswered,
 }
 
@@ -44,7 +45,8 @@ impl Matcher {
     /// Matches as `parse_preorder`, and where that is out of steps, by a guided run: a run without trees
     /// looks in at most `turns` turns whether the rule matches, as `recognize`, and one of at most as many
     /// operations makes the trees, which runs nothing that the first has found to fail. Errors are those of
-    /// `parse_preorder`; `OutOfSteps` comes where `recognize` has no answer, or the trees take longer.
+    /// `parse_preorder`; `OutOfSteps` comes where `recognize` finds neither a match nor a failure in so many
+    /// turns, and where the run with trees takes more than `turns` operations.
     pub fn parse_guided<'a>(
         &'a self,
         alloc: Global,
