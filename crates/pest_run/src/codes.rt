@@ -90,7 +90,15 @@ pub fn run_code<W: Write, E: Write>(
     if check_block(&code.bytes).is_err() {
         return refuse_code(alloc, code, err);
     }
-    match block_outcome(alloc, &code.bytes, rule, text.name, input, format, request.steps) {
+    match block_outcome(
+        alloc,
+        &code.bytes,
+        rule,
+        text.name,
+        input,
+        format,
+        request.steps,
+    ) {
         Some(outcome) => print_outcome(outcome, out, err),
         None => refuse_code(alloc, code, err),
     }
