@@ -23,8 +23,8 @@ returns-in-Ok-clause-answered c =
     (λ bytes e. names_answered text bytes c.in_ok-forest.forest read.names.items c.in_ok-forest.ensures.text c.in_ok-forest.ensures.spelled read.ensures.no_complaints read.ensures.builtins (e ∙ ap (λ xs. compact_text (names_data xs)) c.deref.ensures.value))
     c.to_outcome.ensures.answered
 
-pub returns-in-Err-clause-refused : goal.returns-in-Err-clause-refused
-returns-in-Err-clause-refused c =
+pub returns-clause-refused : goal.returns-clause-refused
+returns-clause-refused c =
     let text = c.args.text.now in
     let read = c.in-Err in
     told_such text (OfTrees (IsMisnamed text) text) read.fault c.to_refusal.result

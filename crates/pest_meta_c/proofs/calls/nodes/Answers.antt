@@ -23,8 +23,8 @@ returns-in-Ok-clause-answered c =
     (λ bytes e. nodes_answered text bytes c.in_ok-forest.forest read.rules.items c.in_ok-forest.ensures.text c.in_ok-forest.ensures.spelled read.ensures.flawless read.ensures.rules (e ∙ ap (λ xs. compact_text (placed_rules_data xs)) c.deref.ensures.value))
     c.to_outcome.ensures.answered
 
-pub returns-in-Err-clause-refused : goal.returns-in-Err-clause-refused
-returns-in-Err-clause-refused c =
+pub returns-clause-refused : goal.returns-clause-refused
+returns-clause-refused c =
     let text = c.args.text.now in
     let read = c.in-Err in
     told_such text (OfTrees (AreFlawed text) text) read.fault c.to_refusal.result

@@ -22,8 +22,8 @@ returns-in-Ok-clause-answered c =
     (λ bytes e. rules_answered text bytes c.in_ok-forest.forest read.rules.items c.in_ok-forest.ensures.text c.in_ok-forest.ensures.spelled read.ensures.rules read.ensures.counts (e ∙ ap (λ xs. compact_text (rules_data xs)) c.deref.ensures.value))
     c.to_outcome.ensures.answered
 
-pub returns-in-Err-clause-refused : goal.returns-in-Err-clause-refused
-returns-in-Err-clause-refused c =
+pub returns-clause-refused : goal.returns-clause-refused
+returns-clause-refused c =
     let text = c.args.text.now in
     let read = c.in-Err in
     told_such text (OfTrees (HaveWrongRules text) text) read.fault c.to_refusal.result
