@@ -65,8 +65,9 @@ _ANSWERED, _REFUSED, _MEMORY, _NO_TEXT, _NO_ROOM = range(5)
 _NO_BLOCK, _UNFIT, _NO_RULE, _OUT_OF_STEPS, _EMPTY_STACK, _LONG_TEXT, _OTHER_VERSION, _CHANGED = range(5, 13)
 _MOST_STEPS = 2**64 - 1
 # The steps for each byte of a text, and how many more, where no limit is given: those after which a guided run is
-# quicker, those in which expected rules are looked for, and those of a run that uses the stack.
-_FIRST_STEPS, _ERROR_STEPS, _STACK_STEPS = (32, 100_000), (32, 2_000_000), (1_000, 1_000_000)
+# quicker (a run then begins to remember calls, and a step may copy all nodes of one), those in which expected rules are
+# looked for, and those of a run that uses the stack.
+_FIRST_STEPS, _ERROR_STEPS, _STACK_STEPS = (32, 16_384), (32, 2_000_000), (1_000, 1_000_000)
 # How many operands the nodes of a form have (docs/FORMAT.md).
 _OPERANDS = {
     **dict.fromkeys(["str", "insens", "range", "ident", "peek_slice", "skip", "push_literal"], 0),

@@ -254,6 +254,8 @@ class Matching(unittest.TestCase):
         self.assertEqual(sum(1 for _ in root.walk()), 5 * depth + 2)
         with self.assertRaisesRegex(RunError, "more than 7001000 steps"):
             matcher.parse("list", nested(depth), steps=7_001_000)
+        ahead = Matcher('a = { "(" ~ &a ~ a ~ ")" | "x" }')
+        self.assertEqual(ahead.parse("a", "(" * 100_000 + "x" + ")" * 100_000).end, 200_001)
         words = Matcher('file = { SOI ~ (word | x)* ~ EOI } word = { letter* ~ "!" } letter = { "x" } x = { "x" }')
         self.assertEqual(len(words.parse("file", "x" * 20_000).trees[0].children), 20_001)
         with self.assertRaisesRegex(MatchError, "1:20001: what is expected here was not found in 2640032 steps") as caught:

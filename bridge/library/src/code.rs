@@ -52,9 +52,10 @@ pub fn compile_rules(rules: &[u8]) -> Result<Vec<u8>, Uncompiled> {
     }
 }
 
-/// The steps after which a guided run is quicker: 32 a byte, and 100,000 more. Nearly all texts take fewer.
+/// The steps after which a guided run is quicker: 32 a byte, and 16,384 more. Nearly all texts take fewer. Then [`run`]
+/// begins to remember calls, and a step may copy all nodes of one.
 pub fn first_steps(text: &str) -> u64 {
-    steps_by_length(text, 32, 100_000)
+    steps_by_length(text, 32, 16_384)
 }
 
 /// The most steps in which the rules of an error are looked for, if its caller names no limit: 32 a byte, and 2,000,000
