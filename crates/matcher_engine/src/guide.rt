@@ -160,13 +160,11 @@ pub(crate) fn guide_rule(
                         furthest,
                     }))
                 }
-                RunEnd::Failed => Ok(Guided::Unanswered),
-                RunEnd::Stuck => Ok(Guided::Unanswered),
-                RunEnd::OutOfSteps => Ok(Guided::Unanswered),
+                RunEnd::Failed | RunEnd::Stuck | RunEnd::OutOfSteps => Ok(Guided::Unanswered),
             }
         }
-        Recognized::Endless => Ok(Guided::Unanswered),
-        Recognized::OutOfSteps => Ok(Guided::Unanswered),
-        Recognized::Unknown => Ok(Guided::Unanswered),
+        Recognized::Endless | Recognized::OutOfSteps | Recognized::Unknown => {
+            Ok(Guided::Unanswered)
+        }
     }
 }
