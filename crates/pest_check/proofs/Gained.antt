@@ -12,7 +12,7 @@ use Rattle.base_ast.specs.Printing.{printed}
 use Rattle.base_ast.specs.declared.optimized.OptimizedExpr.{OptimizedExpr}
 use Rattle.base_ast.specs.declared.optimized.OptimizedRule.{OptimizedRule}
 use Rattle.base_ast.proofs.Characters.{encodes-text_of}
-use Rattle.front_roundtrip.specs.ReadsBack.{grammar_text, modifier, rule_line}
+use Rattle.pest_meta.specs.ReadsBack.{grammar_text, modifier, rule_line}
 
 -- what is kept behind a gain
 pub Appends-kept : (a b c : Option (List ℕ)) (xs : List ℕ) → Appends a b xs → Keeps b c → Appends a c xs

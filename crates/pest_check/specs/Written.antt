@@ -7,7 +7,7 @@ use Rattle.base_language.specs.declared.runtime.errors.Error.{Error}
 use Rattle.base_ast.specs.Optimized.{optimized_rules_of}
 use Rattle.base_ast.specs.declared.optimized.OptimizedRule.{OptimizedRule}
 use Rattle.pest_meta.specs.Spelling.{IsAnswer, IsRefusedWith}
-use Rattle.front_roundtrip.specs.ReadsBack.{grammar_text}
+use Rattle.pest_meta.specs.ReadsBack.{grammar_text}
 pub use Rattle.program_support.specs.Ends.{WritesLine, WritesReport}
 
 -- there is an answer for the text, and the writer's contents grew by its rules, a line each

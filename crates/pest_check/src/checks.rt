@@ -5,7 +5,7 @@ ghost use Rattle.base_ast.specs.Ast.{rule_type_of};
 ghost use Rattle.base_ast.specs.Optimized.{optimized_rules_of};
 ghost use Rattle.pest_check.specs.Written.{PrintsAnswer, ReportsRefusal, WritesLine};
 ghost use Rattle.pest_meta.specs.Spelling.{HasAnswer};
-ghost use Rattle.front_roundtrip.specs.ReadsBack.{grammar_text, modifier};
+ghost use Rattle.pest_meta.specs.ReadsBack.{grammar_text, modifier};
 
 use base_ast::optimized::release;
 use base_language::runtime::Fault;

@@ -6,3 +6,6 @@ pub mod Reports
 pub mod Spelling
 pub mod WithSpans
 pub mod Written
+pub mod Nesting
+pub mod PrintedRows
+pub mod ReadsBack

@@ -1,8 +1,0 @@
-use Rattle.front_roundtrip.proofs.Texts.{texts_exist, grammar_texts_exist}
-use Rattle.front_roundtrip.proofs.laws.texts_exist.Goals as goal
-
-pub returns-clause-rule : goal.returns-clause-rule
-returns-clause-rule c = texts_exist
-
-pub returns-clause-grammar : goal.returns-clause-grammar
-returns-clause-grammar c = grammar_texts_exist

@@ -1,3 +1,0 @@
-pub mod Nesting
-pub mod ReadsBack
-pub mod PrintedRows

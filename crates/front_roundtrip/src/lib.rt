@@ -1,4 +1,0 @@
-//! Round trip of expressions: a printed expression is read back.
-#![tactic(auto)]
-
-pub mod laws;
