@@ -5,3 +5,4 @@ pub mod Walk
 pub mod Erasure
 pub mod Shapes
 pub mod Erasing
+pub mod Copies

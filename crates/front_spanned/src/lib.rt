@@ -3,12 +3,14 @@
 
 mod cloned;
 mod compared;
+mod copies;
 mod erasure;
 mod filter;
 mod node;
 mod released;
 mod shaped;
 
+pub use crate::copies::{copy_rule, copy_rules};
 pub use crate::erasure::erase_spans;
 pub use crate::filter::{filter_internal, push_operands};
 pub use crate::node::{ParserExpr, ParserNode, ParserRule};

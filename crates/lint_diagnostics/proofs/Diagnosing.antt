@@ -10,7 +10,8 @@ use Rattle.lint_findings.specs.Reports.{ReportsFlawFound, ReportsNameFinding, Re
 use Rattle.lint_findings.specs.declared.codes.Severity.TheVariants as severity
 use Rattle.lint_findings.specs.declared.diagnostic.Diagnostic.{Diagnostic}
 use Rattle.base_language.specs.Language.Text.{Text}
-use Rattle.lint_diagnostics.specs.Diagnosis.{IfSpells, IsDiagnosisWith, ReportRules, ReportWarnings, accepted, all_starts, refused}
+use Rattle.lint_diagnostics.specs.Differences.{IsSpelled}
+use Rattle.lint_diagnostics.specs.Diagnosis.{IsDiagnosisWith, ReportRules, ReportWarnings, accepted, all_starts, refused}
 use Rattle.front_names.specs.NameFindings.{told_by}
 use Rattle.front_spanned.specs.Spanned.{SpannedRule}
 use Rattle.lint_findings.specs.Allowances.{ArePartsOf, LeavesOutAllowed}
@@ -50,9 +51,9 @@ answered_refused text error (Ok ds) o r = λ none. absurd (let wrong : true ≡ 
 answered_refused text error (Err e) o r = tt
 
 pub diagnosed_accepted : {E : Type 0} (all : Bool) (starts : List Text) (text : List ℕ) (builtins : List (Bor (List ℕ))) (rules : List SpannedRule) (result : Result (Vec Diagnostic Global) E)
-    → SpellsWithSpans text builtins rules → IfOk result (λ ds. IfSpells text rules (ReportWarnings all starts text ds.items))
+    → SpellsWithSpans text builtins rules → IfOk result (λ ds. ReportWarnings all starts text ds.items)
     → IfOk result (λ ds. IsDiagnosisWith all starts text ds.items)
-diagnosed_accepted all starts text builtins rules (Ok ds) s warnings = accepted (spelled_have_answers text builtins rules s) (warnings builtins s)
+diagnosed_accepted all starts text builtins rules (Ok ds) s warnings = accepted (spelled_have_answers text builtins rules s) warnings
 diagnosed_accepted all starts text builtins rules (Err x) s warnings = tt
 
 pub answered : {E : Type 0} (text : List ℕ) (builtins : List (Bor (List ℕ))) (rules : List SpannedRule) (result : Result (Vec Diagnostic Global) E)
@@ -61,19 +62,19 @@ answered text builtins rules (Ok ds) s = λ none. spelled_have_answers text buil
 answered text builtins rules (Err x) s = tt
 
 -- warnings of the rules that a text spells are those of the text
-pub of_rules : (has_all : Bool) (starts : List Text) (text : List ℕ) (rules : List SpannedRule) (stated : List Fragment) (strays all shown whole : List Diagnostic) → stated ≡ stated_starts text
+pub of_rules : (has_all : Bool) (starts : List Text) (text : List ℕ) (rules : List SpannedRule) (stated : List Fragment) (strays all shown whole : List Diagnostic) → IsSpelled text rules → stated ≡ stated_starts text
     → AllZip ReportsWarning (map (warning code.UnknownStart) (map (place_of text) (filter (is_unknown rules) stated))) strays → ReportRules has_all (all_starts starts (names_of stated)) text rules all
-    → (ArePartsOf text rules → LeavesOutAllowed text rules all shown) → whole ≡ strays ++ shown → IfSpells text rules (ReportWarnings has_all starts text whole)
-of_rules has_all starts text rules stated strays all shown whole same unknown each left together = λ builtins s. record {
-  trees = s.trees;
-  of_text = s.of_text;
+    → (ArePartsOf text rules → LeavesOutAllowed text rules all shown) → whole ≡ strays ++ shown → ReportWarnings has_all starts text whole
+of_rules has_all starts text rules stated strays all shown whole spelled same unknown each left together = record {
+  trees = spelled.1.trees;
+  of_text = spelled.1.of_text;
   rules = rules;
-  read = s.read;
+  read = spelled.1.read;
   strays = strays;
   unknown = subst (λ ns. AllZip ReportsWarning (map (warning code.UnknownStart) (map (place_of text) (filter (is_unknown rules) ns))) strays) same unknown;
   all = all;
   each = subst (λ ns. ReportRules has_all (all_starts starts (names_of ns)) text rules all) same each;
   shown = shown;
-  left = left (rules_text text s.read);
+  left = left (rules_text text spelled.1.read);
   whole = together;
 }

@@ -1,37 +1,27 @@
 -- The rules of a grammar in both forms.
-use Rattle.std.proofs.Common.{◌≡◌, List, ℕ, Err, IfNone, IfOk, IfSome, None, Ok, Option, Result, Some, refl, subst, sym}
-use Rattle.std.specs.Borrow.{Bor}
+use Rattle.std.proofs.Common.{◌≡◌, List, ℕ, Err, IfOk, IfSome, None, Ok, Option, Result, Some, refl, subst, sym}
 use Rattle.base_ast.specs.Optimized.{optimized_rules_of}
 use Rattle.base_ast.specs.declared.optimized.OptimizedRule.{OptimizedRule}
 use Rattle.base_language.specs.Language.Expression.{Grammar}
 use Rattle.base_language.specs.Language.Text.{Text}
 use Rattle.matcher_engine.specs.Matchers.{grammar_in}
-use Rattle.matcher_engine.specs.declared.matcher.Matcher.{Matcher}
-use Rattle.lint_diagnostics.specs.Differences.{AreForms, AreOptimized, CannotRun, Distinguishes, IsRunnable, LacksForms, ShowsDifference, as_optimized}
+use Rattle.front_optimizer.specs.Passes.{IsOptimized}
+use Rattle.front_spanned.specs.Erasure.{rules_without_spans}
+use Rattle.front_spanned.specs.Spanned.{SpannedRule}
+use Rattle.lint_diagnostics.specs.Differences.{AreForms, AreOptimized, Distinguishes, IsRunnable, IsSpelled, ShowsDifference}
 use Rattle.lint_diagnostics.specs.declared.comparer.RunnableForms.{RunnableForms}
 use Rattle.lint_diagnostics.specs.declared.difference.Difference.{Difference}
-use Rattle.pest_meta.specs.Spelling.{IsAnswer}
+use Rattle.pest_meta.proofs.Spelled.{spelled_answer}
 use Rattle.pest_meta.specs.Written.{IsWritten}
 
--- a matcher of the optimizer's rules
-pub optimized_as : {E : Type 0} (grammar : List ℕ) (builtins : List (Bor (List ℕ))) (answer : List OptimizedRule) (result : Result (Option Matcher) E) → IsAnswer grammar builtins answer
-    → IfOk result (λ found. IfSome found (λ matcher. grammar_in matcher ≡ optimized_rules_of answer))
-    → IfOk result (λ found. IfSome found (λ matcher. AreOptimized grammar (grammar_in matcher)))
-optimized_as grammar builtins answer (Ok (Some matcher)) a e = record {
-  builtins = builtins;
+-- the optimizer's rules
+pub optimized_as : (grammar : List ℕ) (read : List SpannedRule) (answer : List OptimizedRule) → IsSpelled grammar read → IsOptimized (rules_without_spans read) (optimized_rules_of answer) → AreOptimized grammar (optimized_rules_of answer)
+optimized_as grammar read answer s o = record {
+  builtins = s.0;
   answer = answer;
-  answers = a;
-  same = e;
+  answers = spelled_answer grammar s.0 read answer s.1 o;
+  same = refl;
 }
-optimized_as grammar builtins answer (Ok None) a e = tt
-optimized_as grammar builtins answer (Err x) a e = tt
-
--- the optimizer's rules cannot be run
-pub lacks_optimized : {E : Type 0} (grammar : List ℕ) (builtins : List (Bor (List ℕ))) (answer : List OptimizedRule) (result : Result (Option Matcher) E) → IsAnswer grammar builtins answer
-    → IfOk result (λ found. IfNone found (CannotRun (optimized_rules_of answer))) → IfOk result (λ found. IfNone found (LacksForms grammar))
-lacks_optimized grammar builtins answer (Ok (Some matcher)) a h = tt
-lacks_optimized grammar builtins answer (Ok None) a h = as_optimized (optimized_rules_of answer) (record { builtins = builtins; answer = answer; answers = a; same = refl }) h
-lacks_optimized grammar builtins answer (Err x) a h = tt
 
 -- both matchers
 pub both_forms : (grammar : List ℕ) (rules : Grammar) (forms : RunnableForms) → IsWritten grammar rules → grammar_in forms.written ≡ rules → IsRunnable forms.written → AreOptimized grammar (grammar_in forms.optimized) → IsRunnable forms.optimized

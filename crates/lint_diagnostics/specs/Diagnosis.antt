@@ -1,6 +1,5 @@
 -- The diagnostics of a text.
 use Rattle.std.specs.Prelude.{◌≡◌, ℕ, List, [], ◌∷◌, Bool, false, true, ◌++◌, All, chars, drop, length, map, string_bytes}
-use Rattle.std.specs.Borrow.{Bor}
 use Rattle.std.specs.List.{AllZip}
 use Rattle.lint_findings.specs.Allowances.{LeavesOutAllowed}
 use Rattle.lint_findings.specs.Codes.{chosen_warnings, warning}
@@ -21,7 +20,6 @@ use Rattle.front_spanned.specs.Spanned.{Span, SpannedRule}
 use Rattle.pest_meta.specs.Opening.{IsOpenError}
 use Rattle.pest_meta.specs.Spelling.{HasAnswer, HasTrees}
 use Rattle.pest_meta.specs.declared.opened.OpenError.{OpenError}
-use Rattle.pest_meta.specs.WithSpans.{SpellsWithSpans}
 
 -- all notes are about texts on which the rule of a name ends otherwise as pest runs it
 abbrev pub AreTrueNotes : List ℕ → Span → List Related → Type 0
@@ -65,10 +63,6 @@ pub record ReportWarnings (has_all : Bool) (starts : List Text) (text : List ℕ
   pub shown : List Diagnostic
   pub left : LeavesOutAllowed text rules all shown
   pub whole : diagnostics ≡ strays ++ shown
-
--- this holds where the text is accepted and spells these rules
-abbrev pub IfSpells : List ℕ → List SpannedRule → Type 0 → Type 0
-IfSpells text rules P = (builtins : List (Bor (List ℕ))) → SpellsWithSpans text builtins rules → P
 
 -- the diagnostics of a text, where rules of some names are starts: why it is refused, or its warnings, all of
 -- them or not

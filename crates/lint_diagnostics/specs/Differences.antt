@@ -11,6 +11,7 @@ use Rattle.base_ast.specs.declared.optimized.OptimizedRule.{OptimizedRule}
 use Rattle.base_language.specs.Language.Expression.{Grammar}
 use Rattle.base_language.specs.Language.State.{State, Trees, Success, Failure}
 use Rattle.base_language.specs.Language.Text.{Text}
+use Rattle.front_spanned.specs.Spanned.{SpannedRule}
 use Rattle.matcher_program.specs.Answers.{Has}
 use Rattle.matcher_engine.specs.Matchers.{grammar_in, properties_in}
 use Rattle.matcher_engine.specs.declared.matcher.Matcher.{Matcher}
@@ -19,8 +20,13 @@ use Rattle.lint_diagnostics.specs.declared.comparer.RunnableForms.{RunnableForms
 use Rattle.lint_diagnostics.specs.declared.difference.Difference.{Difference}
 use Rattle.lint_diagnostics.specs.declared.difference.RuleEnd.{RuleEnd}
 use Rattle.lint_diagnostics.specs.declared.difference.RuleEnd.TheVariants as rule_end
-use Rattle.pest_meta.specs.Spelling.{HasRefusal, IsAnswer}
+use Rattle.pest_meta.specs.Spelling.{IsAnswer}
+use Rattle.pest_meta.specs.WithSpans.{SpellsWithSpans}
 use Rattle.pest_meta.specs.Written.{IsWritten}
+
+-- the text is accepted and spells these rules
+abbrev pub IsSpelled : List ℕ → List SpannedRule → Type 0
+IsSpelled text rules = (builtins : List (Bor (List ℕ))) × SpellsWithSpans text builtins rules
 
 -- the rule of a name, called at the start of a text, fails, or matches the bytes before this one
 abbrev pub EndsAs : Grammar → Text → List ℕ → RuleEnd → Type 0
@@ -64,9 +70,8 @@ pub record AreForms (grammar : List ℕ) (forms : RunnableForms) : Type 0 where
 abbrev pub CannotRun : Grammar → Type 0
 CannotRun rules = (why : Unfit) × (why ≢ unfit.Memory) × IsReason has_set rules why
 
--- why a grammar has not both forms: it is refused, or one of them cannot be run
+-- why a grammar has not both forms: one of them cannot be run
 pub data LacksForms (grammar : List ℕ) : Type 0 where
-  refusal : HasRefusal grammar → LacksForms grammar
   as_written : (rules : Grammar) → IsWritten grammar rules → CannotRun rules → LacksForms grammar
   as_optimized : (rules : Grammar) → AreOptimized grammar rules → CannotRun rules → LacksForms grammar
 

@@ -1,22 +1,22 @@
 //! Rules in two forms.
-ghost use Rattle.std.specs.Prelude.{◌≡◌, IfNone, IfOk, IfSome, chars};
+ghost use Rattle.std.specs.Prelude.{◌≡◌, ℕ, List, IfNone, IfOk, IfSome, chars};
 ghost use Rattle.base_ast.specs.Optimized.{optimized_rules_of};
-ghost use Rattle.lint_diagnostics.specs.Differences.{AreForms, AreOptimized, Distinguishes, EndsAs};
+ghost use Rattle.front_spanned.specs.Nodes.{rule_views};
+ghost use Rattle.lint_diagnostics.specs.Differences.{AreForms, AreOptimized, Distinguishes, EndsAs, IsSpelled};
 ghost use Rattle.lint_diagnostics.specs.Differences.{CannotRun, IsComparer, IsRunnable, LacksForms, ShowsDifference};
 ghost use Rattle.matcher_engine.specs.Matchers.{grammar_in};
-ghost use Rattle.pest_meta.specs.Spelling.{HasRefusal};
 ghost use Rattle.pest_meta.specs.Written.{IsWritten};
 
 use crate::difference::{Difference, RuleEnd};
 use crate::texts::candidate_texts;
 use base_ast::deep::Deep;
 use base_ast::optimized::OptimizedRule;
-use base_language::runtime::Fault;
+use front_optimizer::{optimize, unroll_rules};
+use front_spanned::{ParserRule, copy_rules};
 use matcher_engine::matcher::Matcher;
 use matcher_program::answers::{Refusal, Stop};
 use matcher_program::compile::Unfit;
 use matcher_support::unicode_properties::UnicodeProperties;
-use pest_meta::{parse_and_optimize, parse_as_written};
 use std::alloc::{AllocError, Global};
 
 /// The most steps that a rule may take on a text.
@@ -34,18 +34,24 @@ pub struct RunnableForms {
 #[derive(Drop)]
 pub struct Comparer<'t> {
     pub grammar: &'t str,
-    /// None where the grammar is refused, or its rules cannot be run.
+    /// None where the rules cannot be run.
     pub forms: Option<RunnableForms>,
 }
 
 impl<'t> Comparer<'t> {
-    /// Reads and compiles the rules of a grammar. The only error is an allocation failure.
-    pub fn new(alloc: Global, grammar: &'t str) -> Result<Comparer<'t>, AllocError>
+    /// Compiles the rules that the text of a grammar spells, in both forms. The only error is an allocation
+    /// failure.
+    pub fn new(
+        alloc: Global,
+        grammar: &'t str,
+        rules: &[ParserRule<'_>],
+    ) -> Result<Comparer<'t>, AllocError>
+        requires { IsSpelled grammar.now (rule_views rules.now) }
         ensures grammar { IfOk result (λ comparer. comparer.grammar.now ≡ grammar.entry.now) }
         ensures forms { IfOk result IsComparer }
         ensures lacking { IfOk result (λ comparer. IfNone comparer.forms (LacksForms grammar.entry.now)) }
     {
-        let forms = forms_of(alloc, grammar)?;
+        let forms = forms_of(alloc, rules)?;
         Ok(Comparer { grammar, forms })
     }
 
@@ -139,58 +145,55 @@ fn end_of(
     }
 }
 
-/// Reads and compiles the rules of a grammar, or returns none where it is refused, or they cannot be run.
-fn forms_of(alloc: Global, grammar: &str) -> Result<Option<RunnableForms>, AllocError>
-    ensures forms { IfOk result (λ found. IfSome found (AreForms grammar.now)) }
-    ensures lacking { IfOk result (λ found. IfNone found (LacksForms grammar.now)) }
+/// Compiles rules in both forms, or returns none if they cannot be run.
+fn forms_of(alloc: Global, rules: &[ParserRule<'_>]) -> Result<Option<RunnableForms>, AllocError>
+    ensures forms { (grammar : List ℕ) → IsSpelled grammar (rule_views rules.now)
+        → IfOk result (λ found. IfSome found (AreForms grammar)) }
+    ensures lacking { (grammar : List ℕ) → IsSpelled grammar (rule_views rules.now)
+        → IfOk result (λ found. IfNone found (LacksForms grammar)) }
 {
-    let Some(rules) = written_rules(alloc, grammar)? else {
+    let as_written = write_out(alloc, rules)?;
+    let Some(written) = compile(alloc, &as_written.value)? else {
         return Ok(None);
     };
-    let Some(written) = compile(alloc, &rules.value)? else {
-        return Ok(None);
-    };
-    let Some(optimized) = optimized_matcher(alloc, grammar)? else {
+    let as_optimized = optimize_copy(alloc, rules)?;
+    let Some(optimized) = compile(alloc, &as_optimized.value)? else {
         return Ok(None);
     };
     Ok(Some(RunnableForms {
-        rules,
+        rules: as_written,
         written,
         optimized,
     }))
 }
 
-/// Reads the rules of a grammar as they are written, or returns none where it is refused.
-fn written_rules(
+/// Returns rules as they are written, in the form that runs.
+fn write_out(
     alloc: Global,
-    grammar: &str,
-) -> Result<Option<Deep<Vec<OptimizedRule>>>, AllocError>
-    ensures rules { IfOk result (λ found. IfSome found (λ rules.
-        IsWritten grammar.now (optimized_rules_of rules.value.items))) }
-    ensures refused { IfOk result (λ found. IfNone found (HasRefusal grammar.now)) }
+    rules: &[ParserRule<'_>],
+) -> Result<Deep<Vec<OptimizedRule>>, AllocError>
+    ensures { (grammar : List ℕ) → IsSpelled grammar (rule_views rules.now)
+        → IfOk result (λ written. IsWritten grammar (optimized_rules_of written.value.items)) }
 {
-    match parse_as_written(alloc, grammar) {
-        Ok(rules) => Ok(Some(Deep { value: rules })),
-        Err(Fault::Memory(error)) => Err(error),
-        Err(Fault::Grammar(_)) => Ok(None),
+    let copies = copy_rules(alloc, rules)?;
+    match unroll_rules(alloc, copies.into_inner()) {
+        Ok(written) => Ok(Deep { value: written }),
+        Err(_) => Err(AllocError),
     }
 }
 
-/// Compiles the rules of a grammar as pest runs them, or returns none where it is refused, or they cannot be
-/// run.
-fn optimized_matcher(alloc: Global, grammar: &str) -> Result<Option<Matcher>, AllocError>
-    ensures optimized { IfOk result (λ found. IfSome found (λ matcher.
-        AreOptimized grammar.now (grammar_in matcher))) }
-    ensures runnable { IfOk result (λ found. IfSome found IsRunnable) }
-    ensures lacking { IfOk result (λ found. IfNone found (LacksForms grammar.now)) }
+/// Returns rules as the optimizer leaves them.
+fn optimize_copy(
+    alloc: Global,
+    rules: &[ParserRule<'_>],
+) -> Result<Deep<Vec<OptimizedRule>>, AllocError>
+    ensures { (grammar : List ℕ) → IsSpelled grammar (rule_views rules.now)
+        → IfOk result (λ optimized. AreOptimized grammar (optimized_rules_of optimized.value.items)) }
 {
-    match parse_and_optimize(alloc, grammar) {
-        Ok((_, rules)) => {
-            let rules = Deep { value: rules };
-            compile(alloc, &rules.value)
-        }
-        Err(Fault::Memory(error)) => Err(error),
-        Err(Fault::Grammar(_)) => Ok(None),
+    let copies = copy_rules(alloc, rules)?;
+    match optimize(alloc, copies.into_inner()) {
+        Ok(optimized) => Ok(Deep { value: optimized }),
+        Err(_) => Err(AllocError),
     }
 }
 

@@ -14,9 +14,9 @@ ghost use Rattle.lint_findings.specs.Reports.{ReportsWarning, is_error};
 ghost use Rattle.lint_findings.specs.Fragments.{fragment_of};
 ghost use Rattle.lint_findings.specs.Starts.{names_of};
 ghost use Rattle.lint_diagnostics.specs.Diagnosis.{IsDiagnosis, IsDiagnosisWith, IsFullDiagnosis};
-ghost use Rattle.lint_diagnostics.specs.Diagnosis.{AreTrueNotes, IfSpells, ReportRules, ReportWarnings, all_starts};
+ghost use Rattle.lint_diagnostics.specs.Diagnosis.{AreTrueNotes, ReportRules, ReportWarnings, all_starts};
 ghost use Rattle.lint_diagnostics.specs.Diagnosis.{ReportsList};
-ghost use Rattle.lint_diagnostics.specs.Differences.{IsComparer};
+ghost use Rattle.lint_diagnostics.specs.Differences.{IsComparer, IsSpelled};
 ghost use Rattle.lint_diagnostics.specs.Messages.{ReportsDifference};
 ghost use Rattle.front_spanned.specs.Nodes.{piece_of, rule_views};
 ghost use Rattle.lint_warnings.specs.Lists.{texts_of};
@@ -39,7 +39,7 @@ use std::alloc::{AllocError, Global};
 /// How many warnings of rewritten lists have a note.
 const MOST_NOTES: usize = 10;
 
-/// The most rules of a grammar whose warnings have notes, since these take two more runs of the front end.
+/// The most rules of a grammar whose warnings have notes: both forms of all rules are compiled for these.
 const MOST_RULES: usize = 200;
 
 /// The diagnostics of a text: the errors with which `parse_and_optimize` refuses it, in their order, or else
@@ -98,8 +98,9 @@ fn diagnose_accepted(
     starts: &[&str],
     has_all: bool,
 ) -> Result<Vec<Diagnostic>, AllocError>
-    ensures { IfOk result (λ diagnostics. IfSpells text.now (rule_views rules.now)
-        (ReportWarnings has_all (texts_of starts.now) text.now diagnostics.items)) }
+    requires { IsSpelled text.now (rule_views rules.now) }
+    ensures { IfOk result (λ diagnostics.
+        ReportWarnings has_all (texts_of starts.now) text.now diagnostics.items) }
 {
     let stated = stated_starts(alloc, text)?;
     let mut diagnostics = diagnose_starts(alloc, rules, &stated)?;
@@ -119,6 +120,7 @@ fn warn_from(
     stated: &[Fragment<'_>],
     has_all: bool,
 ) -> Result<Vec<Diagnostic>, AllocError>
+    requires { IsSpelled text.now (rule_views rules.now) }
     ensures { IfOk result (λ diagnostics. ReportRules has_all
         (all_starts (texts_of starts.now) (names_of (map fragment_of stated.now))) text.now
         (rule_views rules.now) diagnostics.items) }
@@ -157,6 +159,7 @@ fn warn_of(
     starts: &[&str],
     has_all: bool,
 ) -> Result<Vec<Diagnostic>, AllocError>
+    requires { IsSpelled text.now (rule_views rules.now) }
     ensures { IfOk result (λ diagnostics. ReportRules has_all (texts_of starts.now) text.now
         (rule_views rules.now) diagnostics.items) }
 {
@@ -174,28 +177,34 @@ fn diagnose_lists(
     rules: &[ParserRule<'_>],
     names: &[Span<'_>],
 ) -> Result<Vec<Diagnostic>, AllocError>
+    requires { IsSpelled text.now (rule_views rules.now) }
     ensures { IfOk result (λ diagnostics. AllZip (λ name. ReportsList text.now (piece_of name)) names.now
         diagnostics.items) }
 {
     if names.is_empty() {
         return Ok(Vec::new(alloc));
     }
-    let comparer = comparer_of(alloc, text, rules.len())?;
+    let comparer = comparer_of(alloc, text, rules)?;
     compare_lists(alloc, &comparer, rules, names)
 }
 
 /// The rules of a text in both forms, or in none where there are too many rules.
-fn comparer_of(alloc: Global, text: &str, count: usize) -> Result<Comparer<'_>, AllocError>
+fn comparer_of<'t>(
+    alloc: Global,
+    text: &'t str,
+    rules: &[ParserRule<'_>],
+) -> Result<Comparer<'t>, AllocError>
+    requires { IsSpelled text.now (rule_views rules.now) }
     ensures grammar { IfOk result (λ comparer. comparer.grammar.now ≡ text.entry.now) }
     ensures forms { IfOk result IsComparer }
 {
-    if count > MOST_RULES {
+    if rules.len() > MOST_RULES {
         return Ok(Comparer {
             grammar: text,
             forms: None,
         });
     }
-    Comparer::new(alloc, text)
+    Comparer::new(alloc, text, rules)
 }
 
 /// The same warnings, with the rules of the text in both forms.

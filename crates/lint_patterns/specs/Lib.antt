@@ -11,4 +11,3 @@ pub mod Copies
 pub mod CopyLaws
 pub mod CopyLists
 pub mod Ends
-pub mod Plain

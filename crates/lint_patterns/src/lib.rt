@@ -12,7 +12,6 @@ pub mod laws;
 mod lists;
 mod names;
 mod passes;
-mod plain;
 
 pub use crate::alternatives::repeated_alternatives;
 pub use crate::bodies::{first_bodies, repeated_bodies};

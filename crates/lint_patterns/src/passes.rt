@@ -4,20 +4,19 @@ ghost use Rattle.base_ast.specs.Ast.{expression_of, rule_of_code, rule_type_of};
 ghost use Rattle.lint_patterns.specs.Rewritten.{IsPassed, IsRotatedRule};
 ghost use Rattle.front_spanned.specs.Nodes.{rule_view};
 
-use crate::plain::plain_rule;
 use base_ast::ast::Rule;
 use base_ast::deep::Deep;
 use base_language::runtime::Fault;
 use front_optimizer::{concatenate, factor, rotate, unroll};
-use front_spanned::ParserRule;
+use front_spanned::{ParserRule, copy_rule};
 use std::alloc::{AllocError, Global};
 
 /// A rule without spans, as the first pass leaves it.
 pub(crate) fn rotated_rule(alloc: Global, rule: &ParserRule<'_>) -> Result<Deep<Rule>, AllocError>
     ensures { IfOk result (λ rotated. IsRotatedRule (rule_view rule.now) (rule_of_code rotated.value)) }
 {
-    let plain = plain_rule(alloc, rule)?;
-    match rotate(alloc, plain.into_inner()) {
+    let copy = copy_rule(alloc, rule)?;
+    match rotate(alloc, copy.into_inner()) {
         Ok(rule) => Ok(Deep { value: rule }),
         Err(_) => Err(AllocError),
     }

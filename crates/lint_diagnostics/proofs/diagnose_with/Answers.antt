@@ -6,7 +6,7 @@ use Rattle.lint_diagnostics.proofs.diagnose_with.Goals as goal
 pub returns-in-Ok-clause-diagnosis : goal.returns-in-Ok-clause-diagnosis
 returns-in-Ok-clause-diagnosis c =
     diagnosed_accepted c.args.has_all (texts_of c.args.starts.now) c.args.text.now c.in-Ok.opened.builtins.items (rule_views c.in-Ok.opened.rules.value.items) c.diagnose_accepted.result
-    c.in-Ok.ensures.rules (rw c.deref.ensures.value at c.diagnose_accepted.ensures)
+    c.in-Ok.ensures.rules c.diagnose_accepted.ensures
 
 pub returns-in-Ok-clause-accepted : goal.returns-in-Ok-clause-accepted
 returns-in-Ok-clause-accepted c =

@@ -6,8 +6,8 @@ use Rattle.base_ast.specs.Weight.{weight}
 use Rattle.front_spanned.specs.Erasure.{round, between, without_spans}
 use Rattle.front_spanned.specs.Nodes.{view}
 use Rattle.front_spanned.specs.Shapes.{unary_of, binary_of}
-use Rattle.lint_patterns.specs.declared.plain.CopyContext.{CopyContext}
-use Rattle.lint_patterns.specs.declared.plain.CopyContext.TheVariants as around
+use Rattle.front_spanned.specs.declared.copies.CopyContext.{CopyContext}
+use Rattle.front_spanned.specs.declared.copies.CopyContext.TheVariants as around
 
 -- an operand inside it
 abbrev pub with_operand : CopyContext → Expression → Expression

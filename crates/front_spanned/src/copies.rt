@@ -1,22 +1,38 @@
 //! Copies of rules without spans.
 ghost use Rattle.std.specs.Prelude.{◌≡◌, ◌*◌, IfOk, ⊤};
 ghost use Rattle.base_language.specs.Language.Expression.{Expression};
-ghost use Rattle.base_ast.specs.Ast.{expression_of, rule_of_code};
+ghost use Rattle.base_ast.specs.Ast.{expression_of, rule_of_code, rules_of};
 ghost use Rattle.base_ast.specs.Weight.{weight};
-ghost use Rattle.front_spanned.specs.Erasure.{rule_without_spans, without_spans};
-ghost use Rattle.front_spanned.specs.Nodes.{rule_view, view};
-ghost use Rattle.lint_patterns.specs.Plain.{waits_of, with_operand};
+ghost use Rattle.front_spanned.specs.Copies.{waits_of, with_operand};
+ghost use Rattle.front_spanned.specs.Erasure.{rule_without_spans, rules_without_spans, without_spans};
+ghost use Rattle.front_spanned.specs.Nodes.{rule_view, rule_views, view};
 
+use crate::node::{ParserExpr, ParserNode, ParserRule};
 use base_ast::ast::{Expr, Rule, Sign};
 use base_ast::deep::Deep;
 use base_ast::rebuilt::{Rebuild, Step, rebuild_tree};
 use base_ast::shape::{Joint, Shaped};
-use front_spanned::{ParserExpr, ParserNode, ParserRule};
 use std::alloc::{AllocError, Global};
 
-/// A copy of a rule without spans. The only error is an allocation failure.
-pub(crate) fn plain_rule(alloc: Global, rule: &ParserRule<'_>) -> Result<Deep<Rule>, AllocError>
-    ensures { IfOk result (λ plain. rule_of_code plain.value ≡ rule_without_spans (rule_view rule.now)) }
+/// Returns copies of the rules in order, without the spans of their names and nodes. The only error is an
+/// allocation failure.
+pub fn copy_rules(alloc: Global, rules: &[ParserRule<'_>]) -> Result<Deep<Vec<Rule>>, AllocError>
+    ensures { IfOk result
+        (λ copies. rules_of copies.value.items ≡ rules_without_spans (rule_views rules.now)) }
+{
+    let mut copies = Deep {
+        value: Vec::new(alloc),
+    };
+    for rule in rules {
+        copies.push(copy_rule(alloc, rule)?)?;
+    }
+    Ok(copies)
+}
+
+/// Returns a copy of a rule without the spans of its name and its nodes. The only error is an allocation
+/// failure.
+pub fn copy_rule(alloc: Global, rule: &ParserRule<'_>) -> Result<Deep<Rule>, AllocError>
+    ensures { IfOk result (λ copy. rule_of_code copy.value ≡ rule_without_spans (rule_view rule.now)) }
 {
     let name = rule.name.clone()?;
     let ty = rule.ty;
