@@ -1,5 +1,5 @@
 -- What comes of a rule that fails on a text, by what the matcher answers.
-use Rattle.std.proofs.Common.{◌≡◌, ◌⊎◌, ◌∙◌, ◌∷◌, ◌++◌, ◌&&◌, ◌+◌, ap, ap₂, arith, inl, inr, refl, sym, subst, ℕ, Bool, true, false, List, [], None, Option, Some, drop, if◌then◌else◌, length, nat_le}
+use Rattle.std.proofs.Common.{◌≡◌, ◌≢◌, ◌⊎◌, ◌∙◌, ◌∷◌, ◌++◌, ◌&&◌, ◌+◌, ap, ap₂, arith, inl, inr, refl, sym, subst, ℕ, Bool, true, false, List, [], None, Option, Some, drop, if◌then◌else◌, length, nat_le}
 use Rattle.std.specs.Prelude.{IsUtf8, option_map, string_bytes}
 use Rattle.std.proofs.Math.Utf8.{encodes}
 use Rattle.std.proofs.lemmas.Bool.{true≢false}
@@ -28,12 +28,14 @@ use Rattle.matcher_program.specs.declared.compile.Unfit.TheVariants as no
 use Rattle.matcher_engine.specs.BlockRuns.{IsStopped}
 use Rattle.matcher_engine.specs.Preorders.{HasPreorder}
 use Rattle.matcher_engine.specs.Recognitions.{HasEnd}
+use Rattle.matcher_engine.specs.declared.block.runs.BlockStop.{BlockStop}
+use Rattle.matcher_engine.specs.declared.block.runs.BlockStop.TheVariants as block
 use Rattle.matcher_engine.specs.declared.matcher.Preorder.{Preorder}
 use Rattle.matcher_program.specs.Answers.{Has, start_of}
 use Rattle.matcher_program.specs.declared.answers.Stop.{Stop}
 use Rattle.matcher_program.specs.declared.answers.Stop.TheVariants as stop
 use Rattle.matcher_program.specs.ExpectedNames.{each_once, is_among, name_texts, with_names}
-use Rattle.matcher_support.specs.Compiled.{AreExpectedIn, FailsIn}
+use Rattle.matcher_support.specs.Compiled.{AreExpectedIn, FailsIn, IsRefusedBy}
 use Rattle.matcher_support.specs.Sets.{has_set, is_in_property}
 use Rattle.matcher_support.specs.Compiled.{AreAttemptsIn}
 use Rattle.pest_run.specs.Failures.{AreOfError, IsFound}
@@ -44,6 +46,20 @@ use Rattle.pest_run.specs.declared.arguments.Format.TheVariants as format_is
 use Rattle.matcher_support.specs.declared.attempts.NamedAttempts.{NamedAttempts}
 use Rattle.pest_run.specs.declared.outcomes.Outcome.{Outcome}
 use Rattle.pest_run.specs.declared.outcomes.Outcome.TheVariants as is
+
+-- why a run was stopped, with as many steps
+pub limit_of : (g : Grammar) (rule text : List ℕ) (m n : ℕ) (why : Stop) → m ≡ n → IsStopped g (chars rule) (start_of text) is_in_property m why → IsStopped g (chars rule) (start_of text) is_in_property n why
+limit_of g rule text m n why e h = subst (λ k. IsStopped g (chars rule) (start_of text) is_in_property k why) e h
+
+-- why a run gives no match, where it is not out of steps, does not depend on how many were allowed
+pub any_steps : (g : Grammar) (rule text : List ℕ) (few steps : ℕ) (why : BlockStop) → why ≢ block.Stopped stop.OutOfSteps → IsRefusedBy g rule text few why → IsRefusedBy g rule text steps why
+any_steps g rule text few steps (block.NoMatch place) other h = h
+any_steps g rule text few steps (block.Stopped stop.Memory) other h = h
+any_steps g rule text few steps (block.Stopped stop.OutOfSteps) other h = absurd (other refl)
+any_steps g rule text few steps (block.Stopped stop.EmptyStack) other h = h
+any_steps g rule text few steps (block.Stopped stop.TextTooLong) other h = h
+any_steps g rule text few steps block.NoRule other h = h
+any_steps g rule text few steps (block.Flaw flaw) other h = h
 
 -- the names that are expected at a position of a derivation
 expects_at : (g : Grammar) (rule text : List ℕ) (place : ℕ) (names : List (Bor (List ℕ))) {o : Result} (d : Has g (chars rule) text is_in_property o)

@@ -13,6 +13,7 @@ mod failures;
 mod forms;
 mod grammars;
 mod listing;
+mod matching;
 mod messages;
 mod outcomes;
 mod paths;

@@ -1,5 +1,5 @@
 //! Outcomes of rules.
-ghost use Rattle.std.specs.Prelude.{◌≡◌, ℕ, List, IfOk, IsSomeAnd, IsUtf8, chars, length, option_map, string_bytes, true};
+ghost use Rattle.std.specs.Prelude.{◌≡◌, ℕ, List, IfOk, IsSomeAnd, IsUtf8, chars, length, option_map, string_bytes};
 ghost use Rattle.base_ast.specs.Optimized.{optimized_rules_of};
 ghost use Rattle.base_ast.specs.declared.optimized.OptimizedRule.{OptimizedRule};
 ghost use Rattle.base_language.specs.Language.Expression.{Grammar};
@@ -15,10 +15,11 @@ ghost use Rattle.matcher_support.specs.Sets.{is_in_property};
 ghost use Rattle.matcher_support.specs.Shown.{shown};
 ghost use Rattle.program_support.specs.Escapes.{escaped_lines};
 ghost use Rattle.pest_run.specs.Steps.{step_limit};
-ghost use Rattle.pest_run.specs.Outcomes.{IsFailureReport, IsMatchReport, IsNoRuleReport, IsOutcome, IsStopReport, IsUnnamedMatchReport, IsUnnamedReport, ReportsAt, ReportsFailure, TakesTooManySteps, end_note, trees_text, unfit_outcome};
+ghost use Rattle.pest_run.specs.Outcomes.{IsFailureReport, IsMatchReport, IsNoRuleReport, IsOutcome, IsStopReport, IsUnnamedMatchReport, IsUnnamedReport, ReportsAt, ReportsFailure, end_note, trees_text, unfit_outcome};
 
 use crate::arguments::{Format, step_limit};
 use crate::failures::{find_failure, names_after};
+use crate::matching::{is_out_of_steps, match_rule};
 use crate::messages::{
     describe_failure, end_message, is_more, no_rule_message, steps_message, unnamed_message,
     unnamed_note,
@@ -40,10 +41,6 @@ use program_support::escape::escape_lines;
 use program_support::json::escape_json;
 use program_support::messages::show_error;
 use std::alloc::{AllocError, Global};
-
-/// How many turns and operations a guided run may take for each step of a given limit: a step is four
-/// operations.
-const TURNS: u64 = 4;
 
 /// The outcome of a rule on a text.
 #[derive(Drop)]
@@ -116,8 +113,7 @@ pub fn block_outcome(
     }
 }
 
-/// Runs the rule of that name, as `block_outcome`. Out of steps, a guided run takes its place, with a limit
-/// of its own only where one is given.
+/// Runs the rule of that name, as `block_outcome`.
 fn run_outcome(
     alloc: Global,
     rules: &CompiledRules<'_>,
@@ -131,8 +127,7 @@ fn run_outcome(
         (IsOutcome g rule.now name.now text.now format (step_limit limit (length text.now))) }
 {
     let steps = step_limit(limit, text.len());
-    let turns = limit.map(|steps| steps.saturating_mul(TURNS));
-    match rules.match_guided(alloc, rule, text, steps, turns) {
+    match match_rule(alloc, rules, rule, text, limit) {
         Ok(found) => match_outcome(alloc, rules, rule, text, &found, format, steps),
         Err(BlockStop::NoMatch(place)) => {
             failure_outcome(alloc, rules, rule, name, text, place, steps)
@@ -206,16 +201,6 @@ fn failure_outcome(
                 refusal_outcome(alloc, rules, rule, stop, steps)
             }
         }
-    }
-}
-
-/// Returns whether a run was stopped since it takes more steps than were allowed.
-fn is_out_of_steps(stop: &BlockStop) -> bool
-    ensures { result ≡ true → stop.now ≡ BlockStop.Stopped Stop.OutOfSteps }
-{
-    match stop {
-        BlockStop::Stopped(Stop::OutOfSteps) => true,
-        _ => false,
     }
 }
 

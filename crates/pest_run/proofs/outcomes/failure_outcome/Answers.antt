@@ -17,7 +17,7 @@ returns-in-Ok c = λ g of format fails.
 pub returns-then-is_out_of_steps : goal.returns-then-is_out_of_steps
 returns-then-is_out_of_steps c = λ g of format fails.
     let P : BlockStop → Type 0 = λ s. IsUnanswered g c.args.rule.now c.args.text.now c.args.steps s in
-    let long = subst P (c.is_out_of_steps.ensures c.if-is_out_of_steps.true) (c.in-Err.ensures.refused g of) in
+    let long = subst P (c.is_out_of_steps.ensures.out c.if-is_out_of_steps.true) (c.in-Err.ensures.refused g of) in
     unnamed g c.args.rule.now c.args.name.now c.args.text.now format c.args.steps c.args.place c.unnamed_outcome.result fails long c.unnamed_outcome.ensures
 
 pub returns-else-is_out_of_steps : goal.returns-else-is_out_of_steps

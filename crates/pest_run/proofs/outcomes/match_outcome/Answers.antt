@@ -24,7 +24,7 @@ returns-in-Ok c = λ g of name found.
 pub returns-then-is_out_of_steps : goal.returns-then-is_out_of_steps
 returns-then-is_out_of_steps c = λ g of name found.
     let P : BlockStop → Type 0 = λ s. IsUnanswered g c.args.rule.now c.args.text.now c.args.steps s in
-    let long = subst P (c.is_out_of_steps.ensures c.if-is_out_of_steps.true) (c.in-Err.ensures.refused g of) in
+    let long = subst P (c.is_out_of_steps.ensures.out c.if-is_out_of_steps.true) (c.in-Err.ensures.refused g of) in
     let told = c.unnamed_match.ensures _ _ (c.walk-walk-then-is_out_of_steps.ensures g of _ _ _ found) in
     shows_unnamed g c.args.rule.now name c.args.text.now c.args.format c.args.steps c.args.found.now found c.unnamed_match.result told (c.in-Err.ensures.asked refl) long
 

@@ -1,5 +1,6 @@
-use Rattle.std.proofs.Common.{IsSomeAnd, ℕ, subst}
+use Rattle.std.proofs.Common.{IsSomeAnd, ℕ, subst, sym}
 use Rattle.pest_run.specs.Outcomes.{IsOutcome}
+use Rattle.pest_run.proofs.Came.{limit_of}
 use Rattle.pest_run.proofs.outcomes.run_outcome.Goals as goal
 
 pub returns-in-Ok : goal.returns-in-Ok
@@ -23,4 +24,5 @@ pub returns-in-Err-Stopped : goal.returns-in-Err-Stopped
 returns-in-Err-Stopped c = λ g of.
     let told = rw c.in-Err-Stopped.field-0-is at c.in-Err-Stopped.ensures.refused in
     let P : ℕ → Type 0 = λ n. IsSomeAnd c.refusal_outcome-in-Err-Stopped.result (IsOutcome g c.args.rule.now c.args.name.now c.args.text.now c.args.format n) in
-    subst P c.step_limit-steps.ensures (c.refusal_outcome-in-Err-Stopped.ensures g of c.args.name.now c.args.text.now c.utf8.text c.args.format (rw c.in-Err-Stopped.field-0-is (told g of)))
+    subst P c.step_limit-steps.ensures (c.refusal_outcome-in-Err-Stopped.ensures g of c.args.name.now c.args.text.now c.utf8.text c.args.format
+    (rw c.in-Err-Stopped.field-0-is (limit_of g c.args.rule.now c.args.text.now _ _ c.in-Err-Stopped.stop (sym c.step_limit-steps.ensures) (told g of))))

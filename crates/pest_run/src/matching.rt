@@ -1,0 +1,90 @@
+//! Runs of a rule on a text, in so many steps.
+ghost use Rattle.std.specs.Prelude.{◌≡◌, ◌≢◌, IfErr, IfOk, chars, false, length, true};
+ghost use Rattle.base_language.specs.Language.Expression.{Grammar};
+ghost use Rattle.matcher_engine.specs.Preorders.{HasPreorder};
+ghost use Rattle.matcher_program.specs.Answers.{start_of};
+ghost use Rattle.matcher_support.specs.Compiled.{IsCompiledOf, IsRefusedBy};
+ghost use Rattle.matcher_support.specs.Sets.{is_in_property};
+ghost use Rattle.pest_run.specs.Steps.{step_limit};
+
+use crate::arguments::step_limit;
+use matcher_engine::block::BlockStop;
+use matcher_engine::matcher::Preorder;
+use matcher_program::answers::Stop;
+use matcher_support::compiled::CompiledRules;
+use std::alloc::Global;
+
+/// How many turns and operations a guided run may take for each step of a given limit: a step is four
+/// operations.
+const TURNS: u64 = 4;
+
+/// The steps that each byte of a text is allowed in the first run where no limit is given.
+const FIRST_STEPS_PER_BYTE: u64 = 32;
+
+/// The bytes by which every text counts for longer there. The machine remembers calls after as many steps.
+const FIRST_BYTES: u64 = 512;
+
+/// Matches by the rule of that name. Out of steps, a guided run takes the run's place, with a limit of its
+/// own only where one is given.
+pub fn match_rule(
+    alloc: Global,
+    rules: &CompiledRules<'_>,
+    rule: &str,
+    text: &str,
+    limit: Option<u64>,
+) -> Result<Preorder, BlockStop>
+    ensures matched { (g : Grammar) → IsCompiledOf g rules.now
+        → IfOk result (HasPreorder g (chars rule.now) (start_of text.now) is_in_property) }
+    ensures refused { (g : Grammar) → IsCompiledOf g rules.now
+        → IfErr result (IsRefusedBy g rule.now text.now (step_limit limit (length text.now))) }
+{
+    let steps = step_limit(limit, text.len());
+    match limit {
+        Some(_) => {
+            let turns = steps.saturating_mul(TURNS);
+            rules.match_guided(alloc, rule, text, steps, Some(turns))
+        }
+        None => match_unlimited(alloc, rules, rule, text, steps),
+    }
+}
+
+/// Matches by the rule of that name, where no limit is given: a guided run takes the run's place before that
+/// remembers calls, whose trees it copies. Where the guided run has no answer, as where the rule uses the
+/// stack, so many steps are allowed.
+fn match_unlimited(
+    alloc: Global,
+    rules: &CompiledRules<'_>,
+    rule: &str,
+    text: &str,
+    steps: u64,
+) -> Result<Preorder, BlockStop>
+    ensures matched { (g : Grammar) → IsCompiledOf g rules.now
+        → IfOk result (HasPreorder g (chars rule.now) (start_of text.now) is_in_property) }
+    ensures refused { (g : Grammar) → IsCompiledOf g rules.now
+        → IfErr result (IsRefusedBy g rule.now text.now steps) }
+{
+    let first = (text.len() as u64)
+        .saturating_add(FIRST_BYTES)
+        .saturating_mul(FIRST_STEPS_PER_BYTE);
+    match rules.match_guided(alloc, rule, text, first, None) {
+        Ok(found) => Ok(found),
+        Err(stop) => {
+            if is_out_of_steps(&stop) {
+                rules.match_text(alloc, rule, text, steps)
+            } else {
+                Err(stop)
+            }
+        }
+    }
+}
+
+/// Returns whether a run was stopped since it takes more steps than were allowed.
+pub fn is_out_of_steps(stop: &BlockStop) -> bool
+    ensures out { result ≡ true → stop.now ≡ BlockStop.Stopped Stop.OutOfSteps }
+    ensures other { result ≡ false → stop.now ≢ BlockStop.Stopped Stop.OutOfSteps }
+{
+    match stop {
+        BlockStop::Stopped(Stop::OutOfSteps) => true,
+        _ => false,
+    }
+}
