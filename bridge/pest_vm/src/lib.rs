@@ -23,7 +23,7 @@
 //! |---|---|
 //! | `PEEK` or `POP` on the empty stack panics | an error at the start of the text |
 //! | a rule takes any time, unless `pest::set_call_limit` was called | after 32 steps a byte and 16,384 more a guided run takes its place, which tells in a number of turns that is linear in the text whether the rule matches; where it comes to an operation on the stack, after 1,000 a byte and 1,000,000 more an error at the start of the text |
-//! | an error names its rules after any time | where 32 steps a byte and 2,000,000 more do not find them, it says so at the furthest position of a failure |
+//! | an error names its rules after any time | where 32 steps a byte and up to 2,000,000 more, fewer for a long text, do not find them, it says so at the furthest position of a failure |
 //! | the listener is called at each call of a rule | at each token of a match, in the order of their starts |
 //! | a builtin can be parsed as a rule | another name than a rule's panics, as an undefined rule does there |
 //! | pairs of later versions have tags | pairs have none |
