@@ -14,3 +14,4 @@ pub mod Positions
 pub mod GivenUp
 pub mod Baring
 pub mod Skipping
+mod Growing
