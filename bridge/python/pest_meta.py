@@ -65,9 +65,9 @@ _ANSWERED, _REFUSED, _MEMORY, _NO_TEXT, _NO_ROOM = range(5)
 _NO_BLOCK, _UNFIT, _NO_RULE, _OUT_OF_STEPS, _EMPTY_STACK, _LONG_TEXT, _OTHER_VERSION, _CHANGED = range(5, 13)
 _MOST_STEPS = 2**64 - 1
 # The steps for each byte of a text, and how many more, where no limit is given: those after which a guided run is
-# quicker (a run then begins to remember calls, and a step may copy all nodes of one), and those of a run that uses the
-# stack.
-_FIRST_STEPS, _STACK_STEPS = (32, 16_384), (1_000, 1_000_000)
+# quicker (a run then begins to remember calls, and a step may copy all nodes of one), those in which expected rules are
+# looked for, and those of a run that uses the stack.
+_FIRST_STEPS, _ERROR_STEPS, _STACK_STEPS = (32, 16_384), (32, 2_000_000), (1_000, 1_000_000)
 # How many operands the nodes of a form have (docs/FORMAT.md).
 _OPERANDS = {
     **dict.fromkeys(["str", "insens", "range", "ident", "peek_slice", "skip", "push_literal"], 0),
@@ -373,7 +373,7 @@ class Matcher:
         """
         source = text.encode()
         words = self._words(rule, source)
-        most = _error_steps(source) if steps is None else steps
+        most = _steps_for(source, _ERROR_STEPS) if steps is None else steps
         nodes, end = _List(), ctypes.c_size_t()
         found = ctypes.byref(nodes), ctypes.byref(end)
         status = _OUT_OF_STEPS
@@ -397,7 +397,7 @@ class Matcher:
         Raises as parse does, but a rule that fails has an answer; MemoryError where there are more than 1,024 paths.
         """
         source, calls = text.encode(), _List()
-        steps = _error_steps(source) if steps is None else steps
+        steps = _steps_for(source, _ERROR_STEPS) if steps is None else steps
         status = _library().pest_meta_paths(*self._words(rule, source), position, steps, ctypes.byref(calls))
         if status != _ANSWERED:
             raise _stop(status, "pest_meta_paths", rule, steps)
@@ -434,13 +434,6 @@ def _steps_for(source: bytes, steps: Tuple[int, int]) -> int:
     """So many steps for each byte of a text, and so many more."""
     per_byte, more = steps
     return min(per_byte * len(source) + more, _MOST_STEPS)
-
-
-def _error_steps(source: bytes) -> int:
-    """The steps in which the rules of an error are looked for, if no limit is given: 32 for each byte, and more for a
-    short text, since each of these may copy nodes of the whole text."""
-    more = 4 * 10**9 // max(len(source), 1)
-    return _steps_for(source, (32, max(min(more, 2_000_000), 16_384)))
 
 
 def compile(grammar: str) -> bytes:

@@ -256,9 +256,11 @@ class Matching(unittest.TestCase):
             matcher.parse("list", nested(depth), steps=7_001_000)
         ahead = Matcher('a = { "(" ~ &a ~ a ~ ")" | "x" }')
         self.assertEqual(ahead.parse("a", "(" * 100_000 + "x" + ")" * 100_000).end, 200_001)
+        with self.assertRaisesRegex(MatchError, "1:1: what is expected here was not found") as caught:
+            ahead.parse("a", "(" * 100_000 + "x" + ")" * 99_999)
         words = Matcher('file = { SOI ~ (word | x)* ~ EOI } word = { letter* ~ "!" } letter = { "x" } x = { "x" }')
         self.assertEqual(len(words.parse("file", "x" * 20_000).trees[0].children), 20_001)
-        with self.assertRaisesRegex(MatchError, "1:20001: what is expected here was not found in 840022 steps") as caught:
+        with self.assertRaisesRegex(MatchError, "1:20001: what is expected here was not found in 2640032 steps") as caught:
             words.parse("file", "x" * 20_000 + "?")
         self.assertEqual((caught.exception.position, caught.exception.expected), (20_000, ()))
 

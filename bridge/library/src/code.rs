@@ -58,11 +58,10 @@ pub fn first_steps(text: &str) -> u64 {
     steps_by_length(text, 32, 16_384)
 }
 
-/// The most steps in which the rules of an error are looked for, if its caller names no limit: 32 a byte, and up to
-/// 2,000,000 more for a short text, since each of these may copy nodes of the whole text.
+/// The most steps in which the rules of an error are looked for, if its caller names no limit: 32 a byte, and 2,000,000
+/// more.
 pub fn error_steps(text: &str) -> u64 {
-    let more = 4_000_000_000 / (text.len() as u64).max(1);
-    steps_by_length(text, 32, more.clamp(16_384, 2_000_000))
+    steps_by_length(text, 32, 2_000_000)
 }
 
 /// The most steps of a run that comes to an operation on the stack, if its caller names no limit: 1,000 a byte, and

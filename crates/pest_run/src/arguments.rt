@@ -96,8 +96,7 @@ fn steps_argument<'a>(alloc: Global) -> Arg<'a>
     let help =
         "Stop a match after N steps, and then run it guided, in 4 N turns at most; where N is not given, \
                 after 32 steps for each byte of the text and 16384 more, and guided in as many turns as \
-                suffice, but a rule that uses the stack, and the names of a failure, have up to 2000000 \
-                more where the text is short";
+                suffice, but a rule that uses the stack, and the names of a failure, are given 2000000 more";
     option(alloc, "steps", help)
         .value_name("N")
         .value_parser(ValueParser::unsigned(1, u64::MAX))
@@ -233,28 +232,18 @@ pub fn steps_of(matches: &ArgMatches<'_>) -> Option<u64>
 /// The steps that each byte of a text is allowed where no limit is given.
 const STEPS_PER_BYTE: u64 = 32;
 
-/// The most steps that are allowed beside those.
-const MOST_MORE: u64 = 2_000_000;
-
-/// The least. A run of no more remembers no calls.
-const LEAST_MORE: u64 = 16_384;
-
-/// The most trees that a run may copy, if each step copies one for each byte, as it may where calls are
-/// remembered.
-const MOST_COPIES: u64 = 4_000_000_000;
+/// The bytes by which every text counts for longer: they allow 2,000,000 steps.
+const MORE_BYTES: u64 = 62_500;
 
 /// Returns the greatest number of steps on a text of this length: the given one, or else one that is linear
-/// in the length, and more for a short text.
+/// in the length.
 pub fn step_limit(steps: Option<u64>, length: usize) -> u64
     ensures { result ≡ step_limit steps length }
 {
     match steps {
         Some(steps) => steps,
-        None => {
-            let bytes = length as u64;
-            let more = MOST_COPIES / bytes.max(1);
-            let more = more.min(MOST_MORE).max(LEAST_MORE);
-            bytes.saturating_mul(STEPS_PER_BYTE).saturating_add(more)
-        }
+        None => (length as u64)
+            .saturating_add(MORE_BYTES)
+            .saturating_mul(STEPS_PER_BYTE),
     }
 }
