@@ -1,5 +1,5 @@
 -- The constant programs in bytes.
-use Rattle.std.proofs.Common.{◌≡◌, refl, sym, ◌∙◌, ap, ℕ, zero, suc, ◌+◌, ◌*◌, ◌<◌, List, [], ◌∷◌, Bool, true, false, ◌&&◌, arith, drop, get_or, length, map, ◌==◌, eqb-true}
+use Rattle.std.proofs.Common.{◌≡◌, refl, sym, ◌∙◌, ap, ℕ, zero, suc, ◌+◌, ◌*◌, ◌<◌, ◌≤◌, List, [], ◌∷◌, Bool, true, false, ◌&&◌, arith, drop, get_or, length, length-drop, map, ◌==◌, eqb-true}
 use Rattle.std.proofs.lemmas.Bool.{and_parts}
 use Rattle.std.proofs.lemmas.List.{get_or-drop}
 use Rattle.matcher_code.specs.Bytecodes.{sets_in}
@@ -12,7 +12,7 @@ use Rattle.matcher_code.proofs.SetLemmas.{means_ranges}
 use Rattle.front_code.specs.Codes.{IsExactCode, IsFastCode, exact_sets, fast_sets, texts}
 use Rattle.front_code.specs.declared.constants.TheConstants.{EXACT_BYTES, EXACT_OPS, EXACT_ORDERS, EXACT_RANGES, EXACT_ROWS, EXACT_SET_PLACES, FAST_BYTES, FAST_OPS, FAST_ORDERS, FAST_RANGES, FAST_ROWS, FAST_SET_PLACES, TEXT_BYTES, TEXT_PLACES}
 
-same_texts : parts_in (map word TEXT_PLACES) TEXT_BYTES ≡ texts
+pub same_texts : parts_in (map word TEXT_PLACES) TEXT_BYTES ≡ texts
 same_texts = refl
 
 -- whether so many flags from a byte on are those of ranges; whether rows have the flags of lists of ranges
@@ -21,7 +21,7 @@ has_flags zero ranges b row = true
 has_flags (suc n) ranges b [] = false
 has_flags (suc n) ranges b (x ∷ row) = (x == flag_of ranges b) && has_flags n ranges (suc b) row
 
-abbrev has_rows : List (List (ℕ × ℕ)) → List ℕ → Bool
+abbrev pub has_rows : List (List (ℕ × ℕ)) → List ℕ → Bool
 has_rows [] rows = true
 has_rows (r ∷ rs) rows = has_flags 256 r 0 rows && has_rows rs (drop 256 rows)
 
@@ -36,7 +36,7 @@ flags_from (suc n) ranges b (x ∷ row) h (suc i) l =
     let z : suc b + i ≡ b + suc i = omega arith in
     flags_from n ranges (suc b) row (and_parts (x == flag_of ranges b) (has_flags n ranges (suc b) row) h).1 i (omega (arith, l)) ∙ ap (flag_of ranges) z
 
-row_at : (rs : List (List (ℕ × ℕ))) (rows : List ℕ) → has_rows rs rows ≡ true → (i : ℕ) → i < length rs → (b : ℕ) → b < 256
+pub row_at : (rs : List (List (ℕ × ℕ))) (rows : List ℕ) → has_rows rs rows ≡ true → (i : ℕ) → i < length rs → (b : ℕ) → b < 256
     → get_or rows (i * 256 + b) 0 ≡ flag_of (get_or rs i []) b
 row_at [] rows h i l b k = absurd (omega (arith, l))
 row_at (r ∷ rs) rows h zero l b k =
@@ -46,6 +46,17 @@ row_at (r ∷ rs) rows h (suc i) l b k =
     let z : suc i * 256 + b ≡ 256 + (i * 256 + b) = omega arith in
     ap (λ j. get_or rows j 0) z ∙ (sym (get_or-drop 256 rows (i * 256 + b) 0)
     ∙ row_at rs (drop 256 rows) (and_parts (has_flags 256 r 0 rows) (has_rows rs (drop 256 rows)) h).1 i (omega (arith, l)) b k)
+
+long_row : (n : ℕ) (ranges : List (ℕ × ℕ)) (b : ℕ) (row : List ℕ) → has_flags n ranges b row ≡ true → n ≤ length row
+long_row zero ranges b row h = omega arith
+long_row (suc n) ranges b [] h = absurd (cc)
+long_row (suc n) ranges b (x ∷ row) h = omega (arith, long_row n ranges (suc b) row (and_parts (x == flag_of ranges b) (has_flags n ranges (suc b) row) h).1)
+
+pub long_rows : (rs : List (List (ℕ × ℕ))) (rows : List ℕ) → has_rows rs rows ≡ true → length rs * 256 ≤ length rows
+long_rows [] rows h = omega arith
+long_rows (r ∷ rs) rows h =
+    let both = and_parts (has_flags 256 r 0 rows) (has_rows rs (drop 256 rows)) h in
+    omega (arith, long_row 256 r 0 rows both.0, long_rows rs (drop 256 rows) both.1, length-drop 256 rows)
 
 covered_at : (rs : List (List (ℕ × ℕ))) (i : ℕ) → i < length rs → get_or (map is_covered rs) i no_characters ≡ is_covered (get_or rs i [])
 covered_at [] i l = absurd (omega (arith, l))
@@ -59,7 +70,7 @@ module _ (code : CodeLists) (ranges : List (List (ℕ × ℕ))) (same : code.set
       (λ b k. row_at ranges code.rows right i l b k)
 
 -- the exact code in bytes
-abbrev exact_lists : CodeLists
+abbrev pub exact_lists : CodeLists
 exact_lists = record {
   ops = map op_in EXACT_BYTES;
   rows = EXACT_ROWS;
@@ -69,20 +80,20 @@ exact_lists = record {
   lists = [];
 }
 
-same_exact_ops : map op_in EXACT_BYTES ≡ EXACT_OPS
+pub same_exact_ops : map op_in EXACT_BYTES ≡ EXACT_OPS
 same_exact_ops = refl
 
 same_exact_sets : exact_lists.sets ≡ map is_covered exact_sets
 same_exact_sets = refl
 
-right_exact_rows : has_rows exact_sets EXACT_ROWS ≡ true
+pub right_exact_rows : has_rows exact_sets EXACT_ROWS ≡ true
 right_exact_rows = refl
 
 pub exact_bytes : IsExactCode exact_lists
 exact_bytes = record { ops = same_exact_ops; texts = same_texts; sets = right_sets exact_lists exact_sets same_exact_sets right_exact_rows }
 
 -- the fast code in bytes
-abbrev fast_lists : CodeLists
+abbrev pub fast_lists : CodeLists
 fast_lists = record {
   ops = map op_in FAST_BYTES;
   rows = FAST_ROWS;
@@ -92,13 +103,13 @@ fast_lists = record {
   lists = [];
 }
 
-same_fast_ops : map op_in FAST_BYTES ≡ FAST_OPS
+pub same_fast_ops : map op_in FAST_BYTES ≡ FAST_OPS
 same_fast_ops = refl
 
 same_fast_sets : fast_lists.sets ≡ map is_covered fast_sets
 same_fast_sets = refl
 
-right_fast_rows : has_rows fast_sets FAST_ROWS ≡ true
+pub right_fast_rows : has_rows fast_sets FAST_ROWS ≡ true
 right_fast_rows = refl
 
 pub fast_bytes : IsFastCode fast_lists

@@ -8,3 +8,4 @@ pub mod Fast
 pub mod ByteLemmas
 pub mod Results
 pub mod TreeNames
+pub mod FusedLists

@@ -1,45 +1,61 @@
 //! The constant programs in bytes, from which they are run in place.
 ghost use Rattle.matcher_code.specs.Bytecodes.{lists_in};
+ghost use Rattle.matcher_code.specs.Fused.{IsFusionOf};
 ghost use Rattle.front_code.specs.Codes.{IsExactCode, IsFastCode};
 
 use crate::constants::{
-    EXACT_BYTES, EXACT_ORDERS, EXACT_RANGES, EXACT_ROWS, EXACT_SET_PLACES, FAST_BYTES, FAST_ORDERS,
-    FAST_RANGES, FAST_ROWS, FAST_SET_PLACES, TEXT_BYTES, TEXT_PLACES,
+    EXACT_BYTES, EXACT_FUSED, EXACT_ORDERS, EXACT_RANGES, EXACT_ROWS, EXACT_SET_PLACES, FAST_BYTES,
+    FAST_FUSED, FAST_ORDERS, FAST_RANGES, FAST_ROWS, FAST_SET_PLACES, TEXT_BYTES, TEXT_PLACES,
 };
 use matcher_code::bytecode::Bytecode;
+use matcher_code::fused::Fused;
+
+/// A program, with the fused operations that stand for its own.
+pub struct FusedCode {
+    pub code: Bytecode<'static>,
+    pub fused: &'static [Fused],
+}
 
 /// Returns the exact code.
-pub fn exact_code() -> Bytecode<'static>
-    ensures { IsExactCode (lists_in result) }
+pub fn exact_code() -> FusedCode
+    ensures code { IsExactCode (lists_in result.code) }
+    ensures fused { IsFusionOf (lists_in result.code) result.fused.now }
 {
-    Bytecode {
-        ops: &EXACT_BYTES,
-        rows: &EXACT_ROWS,
-        tables: &[],
-        set_places: &EXACT_SET_PLACES,
-        ranges: &EXACT_RANGES,
-        orders: &EXACT_ORDERS,
-        text_places: &TEXT_PLACES,
-        texts: &TEXT_BYTES,
-        list_places: &[],
-        lists: &[],
+    FusedCode {
+        code: Bytecode {
+            ops: &EXACT_BYTES,
+            rows: &EXACT_ROWS,
+            tables: &[],
+            set_places: &EXACT_SET_PLACES,
+            ranges: &EXACT_RANGES,
+            orders: &EXACT_ORDERS,
+            text_places: &TEXT_PLACES,
+            texts: &TEXT_BYTES,
+            list_places: &[],
+            lists: &[],
+        },
+        fused: &EXACT_FUSED,
     }
 }
 
 /// Returns the fast code.
-pub fn fast_code() -> Bytecode<'static>
-    ensures { IsFastCode (lists_in result) }
+pub fn fast_code() -> FusedCode
+    ensures code { IsFastCode (lists_in result.code) }
+    ensures fused { IsFusionOf (lists_in result.code) result.fused.now }
 {
-    Bytecode {
-        ops: &FAST_BYTES,
-        rows: &FAST_ROWS,
-        tables: &[],
-        set_places: &FAST_SET_PLACES,
-        ranges: &FAST_RANGES,
-        orders: &FAST_ORDERS,
-        text_places: &TEXT_PLACES,
-        texts: &TEXT_BYTES,
-        list_places: &[],
-        lists: &[],
+    FusedCode {
+        code: Bytecode {
+            ops: &FAST_BYTES,
+            rows: &FAST_ROWS,
+            tables: &[],
+            set_places: &FAST_SET_PLACES,
+            ranges: &FAST_RANGES,
+            orders: &FAST_ORDERS,
+            text_places: &TEXT_PLACES,
+            texts: &TEXT_BYTES,
+            list_places: &[],
+            lists: &[],
+        },
+        fused: &FAST_FUSED,
     }
 }

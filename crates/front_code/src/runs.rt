@@ -5,11 +5,10 @@ ghost use Rattle.base_language.specs.Pieces.MetaRules.{name_of};
 ghost use Rattle.front_code.specs.Numbers.{number_of};
 ghost use Rattle.front_code.specs.Runs.{IsParseOf, IsRunOf};
 
-use crate::bytes::{exact_code, fast_code};
+use crate::bytes::{FusedCode, exact_code, fast_code};
 use crate::numbers::rule_number;
 use base_language::grammar::Rule;
 use front_grammar::laws::each_rule_has_one_outcome;
-use matcher_code::fused::fuse;
 use matcher_code::state::TreeNode;
 use matcher_machine::machine::{Machine, RunEnd};
 use std::alloc::{AllocError, Global};
@@ -34,12 +33,11 @@ pub fn run_rule(alloc: Global, rule: Rule, text: &str, place: usize) -> Result<R
     ensures { IfOk result (IsRunOf rule text.now place) }
 {
     each_rule_has_one_outcome();
-    let code = exact_code();
-    let fused = fuse(alloc, &code)?;
+    let FusedCode { code, fused } = exact_code();
     let mut machine = Machine::new(alloc);
     machine.asked = place;
     let entry = rule_number(rule) + 3;
-    let end = machine.run_with_memory(alloc, &code, fused.as_slice(), text, entry, 0, u64::MAX)?;
+    let end = machine.run_with_memory(alloc, &code, fused, text, entry, 0, u64::MAX)?;
     match end {
         RunEnd::Found(end) => Ok(result_of(machine, Some(end))),
         RunEnd::Failed => Ok(result_of(machine, None)),
@@ -56,11 +54,10 @@ pub fn parse_rule(alloc: Global, rule: Rule, text: &str) -> Result<RuleRun, Allo
         return Err(AllocError);
     }
     each_rule_has_one_outcome();
-    let code = fast_code();
-    let fused = fuse(alloc, &code)?;
+    let FusedCode { code, fused } = fast_code();
     let mut machine = Machine::new(alloc);
     let entry = rule_number(rule) + 3;
-    let end = machine.run_with_memory(alloc, &code, fused.as_slice(), text, entry, 0, u64::MAX)?;
+    let end = machine.run_with_memory(alloc, &code, fused, text, entry, 0, u64::MAX)?;
     match end {
         RunEnd::Found(end) => Ok(result_of(machine, Some(end))),
         RunEnd::Failed => Ok(result_of(machine, None)),
