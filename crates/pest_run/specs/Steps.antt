@@ -7,8 +7,11 @@ abbrev pub CountsSteps : List ℕ → Option ℕ → Type 0
 CountsSteps text steps = let digits = without_leading_plus text in
     SomeIff steps (IsNumeral 10 digits × (digits_value 10 digits < 2 ^ 64)) (digits_value 10 digits)
 
--- the given limit; or 32 steps for each byte of a text of this length, and 2,000,000 more, as far as they can
--- be counted
+-- 32 steps for each byte of a text of this length, and of so many more, as far as they can be counted
+abbrev pub steps_by_length : ℕ → ℕ → ℕ
+steps_by_length more length = min (32 * (length + more)) (2 ^ 64 - 1)
+
+-- the given limit, or those of the length and 2,000,000 more
 abbrev pub step_limit : Option ℕ → ℕ → ℕ
 step_limit (Some steps) length = steps
-step_limit None length = min (32 * (length + 62500)) (2 ^ 64 - 1)
+step_limit None length = steps_by_length 62500 length

@@ -3,7 +3,7 @@ ghost use Rattle.std.specs.Prelude.{◌≡◌, ◌∷◌, ℕ, List, [], IfOk, N
 ghost use Rattle.clap.specs.Matches.{first_value, found_of, one_text};
 ghost use Rattle.clap.specs.Simple.{app_of};
 ghost use Rattle.program_support.specs.Arguments.{HasForm, arguments_of, flag, option, positional};
-ghost use Rattle.pest_run.specs.Steps.{CountsSteps, step_limit};
+ghost use Rattle.pest_run.specs.Steps.{CountsSteps, step_limit, steps_by_length};
 
 use clap::builder::ValueParser;
 use clap::{Arg, ArgMatches, Command};
@@ -232,7 +232,11 @@ pub fn steps_of(matches: &ArgMatches<'_>) -> Option<u64>
 /// The steps that each byte of a text is allowed where no limit is given.
 const STEPS_PER_BYTE: u64 = 32;
 
-/// The bytes by which every text counts for longer: they allow 2,000,000 steps.
+/// The bytes by which every text counts for longer in a first run. The machine remembers calls after as many
+/// steps.
+const FIRST_BYTES: u64 = 512;
+
+/// The bytes by which every text counts for longer in a run that has no guided one: 2,000,000 steps.
 const MORE_BYTES: u64 = 62_500;
 
 /// Returns the greatest number of steps on a text of this length: the given one, or else one that is linear
@@ -242,8 +246,22 @@ pub fn step_limit(steps: Option<u64>, length: usize) -> u64
 {
     match steps {
         Some(steps) => steps,
-        None => (length as u64)
-            .saturating_add(MORE_BYTES)
-            .saturating_mul(STEPS_PER_BYTE),
+        None => steps_by_length(length, MORE_BYTES),
     }
+}
+
+/// Returns the number of steps, on a text of this length, after which a guided run takes a run's place.
+pub fn first_steps(length: usize) -> u64
+    ensures { result ≡ steps_by_length 512 length }
+{
+    steps_by_length(length, FIRST_BYTES)
+}
+
+/// Returns the steps for a text of this length and so many bytes more.
+fn steps_by_length(length: usize, more: u64) -> u64
+    ensures { result ≡ steps_by_length more length }
+{
+    (length as u64)
+        .saturating_add(more)
+        .saturating_mul(STEPS_PER_BYTE)
 }

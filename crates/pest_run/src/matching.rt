@@ -7,7 +7,7 @@ ghost use Rattle.matcher_support.specs.Compiled.{IsCompiledOf, IsRefusedBy};
 ghost use Rattle.matcher_support.specs.Sets.{is_in_property};
 ghost use Rattle.pest_run.specs.Steps.{step_limit};
 
-use crate::arguments::step_limit;
+use crate::arguments::{first_steps, step_limit};
 use matcher_engine::block::BlockStop;
 use matcher_engine::matcher::Preorder;
 use matcher_program::answers::Stop;
@@ -17,12 +17,6 @@ use std::alloc::Global;
 /// How many turns and operations a guided run may take for each step of a given limit: a step is four
 /// operations.
 const TURNS: u64 = 4;
-
-/// The steps that each byte of a text is allowed in the first run where no limit is given.
-const FIRST_STEPS_PER_BYTE: u64 = 32;
-
-/// The bytes by which every text counts for longer there. The machine remembers calls after as many steps.
-const FIRST_BYTES: u64 = 512;
 
 /// Matches by the rule of that name. Out of steps, a guided run takes the run's place, with a limit of its
 /// own only where one is given.
@@ -63,9 +57,7 @@ fn match_unlimited(
     ensures refused { (g : Grammar) → IsCompiledOf g rules.now
         → IfErr result (IsRefusedBy g rule.now text.now steps) }
 {
-    let first = (text.len() as u64)
-        .saturating_add(FIRST_BYTES)
-        .saturating_mul(FIRST_STEPS_PER_BYTE);
+    let first = first_steps(text.len());
     match rules.match_guided(alloc, rule, text, first, None) {
         Ok(found) => Ok(found),
         Err(stop) => {
