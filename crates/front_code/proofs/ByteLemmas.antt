@@ -10,7 +10,7 @@ use Rattle.matcher_code.specs.Sets.{IsSetOf, flag_of}
 use Rattle.matcher_code.specs.Words.{pair_in, parts_in, word}
 use Rattle.matcher_code.proofs.SetLemmas.{means_ranges}
 use Rattle.front_code.specs.Codes.{IsExactCode, IsFastCode, exact_sets, fast_sets, texts}
-use Rattle.front_code.specs.declared.constants.TheConstants.{EXACT_BYTES, EXACT_OPS, EXACT_ORDERS, EXACT_RANGES, EXACT_ROWS, EXACT_SET_PLACES, FAST_BYTES, FAST_OPS, FAST_ORDERS, FAST_RANGES, FAST_ROWS, FAST_SET_PLACES, TEXT_BYTES, TEXT_PLACES}
+use Rattle.front_code.specs.declared.constants.TheConstants.{EXACT_BYTES, EXACT_OPS, EXACT_ORDERS, EXACT_RANGES, EXACT_ROWS, EXACT_SET_PLACES, FAST_BYTES, FAST_OPS, FAST_ORDERS, FAST_RANGES, FAST_ROWS, FAST_SET_PLACES, FAST_TABLES, TEXT_BYTES, TEXT_PLACES}
 
 pub same_texts : parts_in (map word TEXT_PLACES) TEXT_BYTES ≡ texts
 same_texts = refl
@@ -93,12 +93,15 @@ pub exact_bytes : IsExactCode exact_lists
 exact_bytes = record { ops = same_exact_ops; texts = same_texts; sets = right_sets exact_lists exact_sets same_exact_sets right_exact_rows }
 
 -- the fast code in bytes
+abbrev pub fast_tables : List ℕ
+fast_tables = map word FAST_TABLES
+
 abbrev pub fast_lists : CodeLists
 fast_lists = record {
   ops = map op_in FAST_BYTES;
   rows = FAST_ROWS;
   sets = sets_in FAST_ORDERS (parts_in (map word FAST_SET_PLACES) (map pair_in FAST_RANGES));
-  tables = [];
+  tables = fast_tables;
   texts = parts_in (map word TEXT_PLACES) TEXT_BYTES;
   lists = [];
 }

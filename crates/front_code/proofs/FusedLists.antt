@@ -12,7 +12,8 @@ use Rattle.matcher_code.specs.Steps.{Config, apply_op, op_at}
 use Rattle.matcher_code.proofs.Fusing.{all_return, byte_all, byte_return, call_call, one_all, one_takes, plain, renewed, step_at, tests_byte, text_takes}
 use Rattle.front_code.specs.Codes.{exact_sets, fast_sets, texts}
 use Rattle.front_code.specs.declared.constants.TheConstants.{EXACT_FUSED, EXACT_OPS, FAST_FUSED, FAST_OPS}
-use Rattle.front_code.proofs.ByteLemmas.{exact_lists, fast_lists, has_rows, long_rows, right_exact_rows, right_fast_rows, row_at, same_exact_ops, same_fast_ops, same_texts}
+use Rattle.front_code.proofs.ByteLemmas.{exact_lists, fast_lists, has_rows, long_rows, right_exact_rows, right_fast_rows, row_at, same_exact_ops, same_fast_ops, same_texts, fast_tables}
+use Rattle.front_code.proofs.TestTables.{are_tests, by_kind, checks, counted, entries, has_entries, kind_of}
 
 -- an operation that is fused with no other
 alone : (code : CodeLists) (pc : ℕ) (f : Fused) (o : Op) → CanRun code f → ((text : List ℕ) (c : Config) → apply_fused code text f c ≡ apply_op code text o c)
@@ -23,7 +24,7 @@ alone code pc f o r same h = record { can = r; same = λ text c e. (0, same text
 one_flag : (byte b : ℕ) → byte < 128 → b < 128 → flag_of ((byte, byte) ∷ []) b ≡ (if b == byte then 1 else 0)
 one_flag byte b h k = grind (arith, h, k)
 
-module _ (code : CodeLists) (os : List Op) (rs : List (List (ℕ × ℕ))) (ts : List (List ℕ)) (ops : code.ops ≡ os) (rows : has_rows rs code.rows ≡ true) (same : code.texts ≡ ts) where
+module _ (code : CodeLists) (os : List Op) (rs : List (List (ℕ × ℕ))) (ts : List (List ℕ)) (tbs : List ℕ) (ops : code.ops ≡ os) (rows : has_rows rs code.rows ≡ true) (same : code.texts ≡ ts) (tables : code.tables ≡ tbs) where
   -- a fused operation of a label
   abbrev Fuses : ℕ → Type 0
   Fuses pc = (f : Fused) × IsFusedAt code pc f
@@ -155,33 +156,42 @@ module _ (code : CodeLists) (os : List Op) (rs : List (List (ℕ × ℕ))) (ts :
       here (op.Note next) e = single (fused.Note next) (op.Note next) tt (λ text c. refl) e
       here o e = (fused.Plain, plain code pc)
 
-  -- those of so many labels from one on
-  pub fused_from : ℕ → ℕ → List Fused
-  fused_from pc zero = []
-  fused_from pc (suc n) = (fuse pc).0 ∷ fused_from (suc pc) n
+  -- a fused operation that is given, where it is one
+  given : (f : Fused) (pc : ℕ) → Fuses pc
+  given (fused.Tests place) pc = here (has_entries code os rs tbs ops rows tables (kind_of (get_or os pc op.Lose)) place) refl
+    where
+      here : (b : Bool) → has_entries code os rs tbs ops rows tables (kind_of (get_or os pc op.Lose)) place ≡ b → Fuses pc
+      here true e = (fused.Tests place, are_tests code os rs tbs ops rows tables pc place (kind_of (get_or os pc op.Lose)) (at pc (get_or os pc op.Lose) refl) e)
+      here false e = fuse pc
+  given f pc = fuse pc
 
-  are_fused : (n pc i : ℕ) → IsFusedAt code (pc + i) (get_or (fused_from pc n) i fused.Plain)
+  -- those of the labels from one on, by a list
+  pub fused_from : ℕ → List Fused → List Fused
+  fused_from pc [] = []
+  fused_from pc (f ∷ fs) = (given f pc).0 ∷ fused_from (suc pc) fs
+
+  are_fused : (fs : List Fused) (pc i : ℕ) → IsFusedAt code (pc + i) (get_or (fused_from pc fs) i fused.Plain)
   unfolding fused_from
-  are_fused zero pc i = plain code (pc + i)
-  are_fused (suc n) pc zero = subst (λ j. IsFusedAt code j (fuse pc).0) (let z : pc ≡ pc + 0 = omega arith in z) (fuse pc).1
-  are_fused (suc n) pc (suc i) =
-      subst (λ j. IsFusedAt code j (get_or (fused_from (suc pc) n) i fused.Plain)) (let z : suc pc + i ≡ pc + suc i = omega arith in z) (are_fused n (suc pc) i)
+  are_fused [] pc i = plain code (pc + i)
+  are_fused (f ∷ fs) pc zero = subst (λ j. IsFusedAt code j (given f pc).0) (let z : pc ≡ pc + 0 = omega arith in z) (given f pc).1
+  are_fused (f ∷ fs) pc (suc i) =
+      subst (λ j. IsFusedAt code j (get_or (fused_from (suc pc) fs) i fused.Plain)) (let z : suc pc + i ≡ pc + suc i = omega arith in z) (are_fused fs (suc pc) i)
 
-  pub is_fusion : (fs : List Fused) → fused_from 0 (length fs) ≡ fs → IsFusionOf code fs
+  pub is_fusion : (fs : List Fused) → fused_from 0 fs ≡ fs → IsFusionOf code fs
   is_fusion fs e = λ pc.
       subst (λ l. IsFusedAt code pc (get_or l pc fused.Plain)) e
-      (subst (λ j. IsFusedAt code j (get_or (fused_from 0 (length fs)) pc fused.Plain)) (let z : 0 + pc ≡ pc = omega arith in z) (are_fused (length fs) 0 pc))
+      (subst (λ j. IsFusedAt code j (get_or (fused_from 0 fs) pc fused.Plain)) (let z : 0 + pc ≡ pc = omega arith in z) (are_fused fs 0 pc))
 
-same_exact_list : fused_from exact_lists EXACT_OPS exact_sets texts same_exact_ops right_exact_rows same_texts 0 (length EXACT_FUSED) ≡ EXACT_FUSED
-unfolding fused_from fuse of_call of_commit of_all of_text by_set after_one after_byte with_row
+same_exact_list : fused_from exact_lists EXACT_OPS exact_sets texts [] same_exact_ops right_exact_rows same_texts refl 0 EXACT_FUSED ≡ EXACT_FUSED
+unfolding fused_from given fuse of_call of_commit of_all of_text by_set after_one after_byte with_row
 same_exact_list = refl
 
 pub exact_fusion : IsFusionOf exact_lists EXACT_FUSED
-exact_fusion = is_fusion exact_lists EXACT_OPS exact_sets texts same_exact_ops right_exact_rows same_texts EXACT_FUSED same_exact_list
+exact_fusion = is_fusion exact_lists EXACT_OPS exact_sets texts [] same_exact_ops right_exact_rows same_texts refl EXACT_FUSED same_exact_list
 
-same_fast_list : fused_from fast_lists FAST_OPS fast_sets texts same_fast_ops right_fast_rows same_texts 0 (length FAST_FUSED) ≡ FAST_FUSED
-unfolding fused_from fuse of_call of_commit of_all of_text by_set after_one after_byte with_row
+same_fast_list : fused_from fast_lists FAST_OPS fast_sets texts fast_tables same_fast_ops right_fast_rows same_texts refl 0 FAST_FUSED ≡ FAST_FUSED
+unfolding fused_from given fuse of_call of_commit of_all of_text by_set after_one after_byte with_row has_entries kind_of by_kind checks entries counted
 same_fast_list = refl
 
 pub fast_fusion : IsFusionOf fast_lists FAST_FUSED
-fast_fusion = is_fusion fast_lists FAST_OPS fast_sets texts same_fast_ops right_fast_rows same_texts FAST_FUSED same_fast_list
+fast_fusion = is_fusion fast_lists FAST_OPS fast_sets texts fast_tables same_fast_ops right_fast_rows same_texts refl FAST_FUSED same_fast_list

@@ -8,4 +8,5 @@ pub mod Fast
 pub mod ByteLemmas
 pub mod Results
 pub mod TreeNames
+pub mod TestTables
 pub mod FusedLists

@@ -5,7 +5,8 @@ ghost use Rattle.front_code.specs.Codes.{IsExactCode, IsFastCode};
 
 use crate::constants::{
     EXACT_BYTES, EXACT_FUSED, EXACT_ORDERS, EXACT_RANGES, EXACT_ROWS, EXACT_SET_PLACES, FAST_BYTES,
-    FAST_FUSED, FAST_ORDERS, FAST_RANGES, FAST_ROWS, FAST_SET_PLACES, TEXT_BYTES, TEXT_PLACES,
+    FAST_FUSED, FAST_ORDERS, FAST_RANGES, FAST_ROWS, FAST_SET_PLACES, FAST_TABLES, TEXT_BYTES,
+    TEXT_PLACES,
 };
 use matcher_code::bytecode::Bytecode;
 use matcher_code::fused::Fused;
@@ -47,7 +48,7 @@ pub fn fast_code() -> FusedCode
         code: Bytecode {
             ops: &FAST_BYTES,
             rows: &FAST_ROWS,
-            tables: &[],
+            tables: &FAST_TABLES,
             set_places: &FAST_SET_PLACES,
             ranges: &FAST_RANGES,
             orders: &FAST_ORDERS,

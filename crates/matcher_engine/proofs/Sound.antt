@@ -30,6 +30,7 @@ can_prop code (fused.All set next) = le_prop
 can_prop code (fused.AllReturn set next) = le_prop
 can_prop code (fused.ByteAll byte second next fail) = le_prop
 can_prop code (fused.CallSwitch table row next fail counts) = le_prop
+can_prop code (fused.Tests table) = le_prop
 can_prop code (fused.Gap set stops next slow) = ×_prop le_prop le_prop
 can_prop code (fused.GapReturn set stops next slow) = ×_prop le_prop le_prop
 can_prop code (fused.OneAll set second next fail) = ×_prop le_prop le_prop
