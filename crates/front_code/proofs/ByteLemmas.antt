@@ -4,16 +4,12 @@ use Rattle.std.proofs.lemmas.Bool.{and_parts}
 use Rattle.std.proofs.lemmas.List.{get_or-drop}
 use Rattle.matcher_code.specs.Bytecodes.{sets_in}
 use Rattle.matcher_code.specs.Lists.{CodeLists, is_covered}
-use Rattle.matcher_code.specs.Operations.{op_in}
 use Rattle.matcher_code.specs.Reading.{no_characters}
 use Rattle.matcher_code.specs.Sets.{IsSetOf, flag_of}
-use Rattle.matcher_code.specs.Words.{pair_in, parts_in, word}
+use Rattle.matcher_code.specs.Words.{word}
 use Rattle.matcher_code.proofs.SetLemmas.{means_ranges}
-use Rattle.front_code.specs.Codes.{IsExactCode, IsFastCode, exact_sets, fast_sets, texts}
-use Rattle.front_code.specs.declared.constants.TheConstants.{EXACT_BYTES, EXACT_OPS, EXACT_ORDERS, EXACT_RANGES, EXACT_ROWS, EXACT_SET_PLACES, FAST_BYTES, FAST_OPS, FAST_ORDERS, FAST_RANGES, FAST_ROWS, FAST_SET_PLACES, FAST_TABLES, TEXT_BYTES, TEXT_PLACES}
-
-pub same_texts : parts_in (map word TEXT_PLACES) TEXT_BYTES ≡ texts
-same_texts = refl
+use Rattle.front_code.specs.Codes.{IsExactCode, IsFastCode, exact_ops, exact_sets, fast_ops, fast_sets, texts}
+use Rattle.front_code.specs.declared.constants.TheConstants.{EXACT_ORDERS, EXACT_ROWS, FAST_ORDERS, FAST_ROWS, FAST_TABLES}
 
 -- whether so many flags from a byte on are those of ranges; whether rows have the flags of lists of ranges
 abbrev has_flags : ℕ → List (ℕ × ℕ) → ℕ → List ℕ → Bool
@@ -72,16 +68,13 @@ module _ (code : CodeLists) (ranges : List (List (ℕ × ℕ))) (same : code.set
 -- the exact code in bytes
 abbrev pub exact_lists : CodeLists
 exact_lists = record {
-  ops = map op_in EXACT_BYTES;
+  ops = exact_ops;
   rows = EXACT_ROWS;
-  sets = sets_in EXACT_ORDERS (parts_in (map word EXACT_SET_PLACES) (map pair_in EXACT_RANGES));
+  sets = sets_in EXACT_ORDERS exact_sets;
   tables = [];
-  texts = parts_in (map word TEXT_PLACES) TEXT_BYTES;
+  texts = texts;
   lists = [];
 }
-
-pub same_exact_ops : map op_in EXACT_BYTES ≡ EXACT_OPS
-same_exact_ops = refl
 
 same_exact_sets : exact_lists.sets ≡ map is_covered exact_sets
 same_exact_sets = refl
@@ -90,7 +83,7 @@ pub right_exact_rows : has_rows exact_sets EXACT_ROWS ≡ true
 right_exact_rows = refl
 
 pub exact_bytes : IsExactCode exact_lists
-exact_bytes = record { ops = same_exact_ops; texts = same_texts; sets = right_sets exact_lists exact_sets same_exact_sets right_exact_rows }
+exact_bytes = record { ops = refl; texts = refl; sets = right_sets exact_lists exact_sets same_exact_sets right_exact_rows }
 
 -- the fast code in bytes
 abbrev pub fast_tables : List ℕ
@@ -98,16 +91,13 @@ fast_tables = map word FAST_TABLES
 
 abbrev pub fast_lists : CodeLists
 fast_lists = record {
-  ops = map op_in FAST_BYTES;
+  ops = fast_ops;
   rows = FAST_ROWS;
-  sets = sets_in FAST_ORDERS (parts_in (map word FAST_SET_PLACES) (map pair_in FAST_RANGES));
+  sets = sets_in FAST_ORDERS fast_sets;
   tables = fast_tables;
-  texts = parts_in (map word TEXT_PLACES) TEXT_BYTES;
+  texts = texts;
   lists = [];
 }
-
-pub same_fast_ops : map op_in FAST_BYTES ≡ FAST_OPS
-same_fast_ops = refl
 
 same_fast_sets : fast_lists.sets ≡ map is_covered fast_sets
 same_fast_sets = refl
@@ -116,4 +106,4 @@ pub right_fast_rows : has_rows fast_sets FAST_ROWS ≡ true
 right_fast_rows = refl
 
 pub fast_bytes : IsFastCode fast_lists
-fast_bytes = record { ops = same_fast_ops; texts = same_texts; sets = right_sets fast_lists fast_sets same_fast_sets right_fast_rows }
+fast_bytes = record { ops = refl; texts = refl; sets = right_sets fast_lists fast_sets same_fast_sets right_fast_rows }

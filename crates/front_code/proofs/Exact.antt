@@ -10,10 +10,9 @@ use Rattle.front_grammar.specs.MetaGrammar.{body_of, meta_grammar}
 use Rattle.matcher_code.specs.Lists.{CodeLists}
 use Rattle.matcher_code.specs.declared.code.Op.TheVariants as op
 use Rattle.matcher_code.specs.Laid.{IsPoint, Point}
-use Rattle.front_code.specs.Codes.{IsCodeOfMetaGrammar, IsExactCode, exact_sets, texts}
+use Rattle.front_code.specs.Codes.{IsCodeOfMetaGrammar, IsExactCode, exact_ops, exact_sets, texts}
 use Rattle.front_code.specs.Layouts.{AreLaidAll, also, done, rep_min_max, rep_once, seq}
 use Rattle.front_code.specs.Numbers.{number_of}
-use Rattle.front_code.specs.declared.constants.TheConstants.{EXACT_OPS}
 use Rattle.front_code.proofs.Characters.{one_any, one_called, one_of_two, one_other, one_range, one_text}
 use Rattle.front_code.proofs.Flattening.{whole_code}
 use Rattle.front_code.proofs.Outside.{outside_choice, outside_seq, outside_set, outside_sub, outside_text, takes_other}
@@ -459,7 +458,7 @@ module _ (classes : Classes) (code : CodeLists) (is : IsExactCode code) where
   abbrev s : Setting
   s = record {
     exact = true;
-    ops = EXACT_OPS;
+    ops = exact_ops;
     texts = texts;
     sets = exact_sets;
     called = called;

@@ -10,10 +10,9 @@ use Rattle.front_grammar.specs.MetaGrammar.{body_of, meta_grammar}
 use Rattle.matcher_code.specs.Lists.{CodeLists}
 use Rattle.matcher_code.specs.declared.code.Op.TheVariants as op
 use Rattle.matcher_code.specs.Laid.{IsPoint, Point}
-use Rattle.front_code.specs.Codes.{IsCodeOfMetaGrammar, IsFastCode, fast_sets, texts}
+use Rattle.front_code.specs.Codes.{IsCodeOfMetaGrammar, IsFastCode, fast_ops, fast_sets, texts}
 use Rattle.front_code.specs.Layouts.{AreLaidAll, also, done, rep_min_max, rep_once, seq}
 use Rattle.front_code.specs.Numbers.{number_of}
-use Rattle.front_code.specs.declared.constants.TheConstants.{FAST_OPS}
 use Rattle.front_code.proofs.Characters.{one_any, one_called, one_of_two, one_other, one_range, one_text}
 use Rattle.front_code.proofs.Flattening.{whole_code}
 use Rattle.front_code.proofs.Outside.{outside_call, outside_choice, outside_not, outside_seq, outside_set, outside_silent, outside_some, outside_sub, outside_text, takes_other}
@@ -454,7 +453,7 @@ module _ (classes : Classes) (code : CodeLists) (is : IsFastCode code) where
   abbrev s : Setting
   s = record {
     exact = false;
-    ops = FAST_OPS;
+    ops = fast_ops;
     texts = texts;
     sets = fast_sets;
     called = called;

@@ -10,9 +10,9 @@ use Rattle.matcher_code.specs.Reading.{text_of}
 use Rattle.matcher_code.specs.Sets.{flag_of}
 use Rattle.matcher_code.specs.Steps.{Config, apply_op, op_at}
 use Rattle.matcher_code.proofs.Fusing.{all_return, byte_all, byte_return, call_call, one_all, one_takes, plain, renewed, step_at, tests_byte, text_takes}
-use Rattle.front_code.specs.Codes.{exact_sets, fast_sets, texts}
-use Rattle.front_code.specs.declared.constants.TheConstants.{EXACT_FUSED, EXACT_OPS, FAST_FUSED, FAST_OPS}
-use Rattle.front_code.proofs.ByteLemmas.{exact_lists, fast_lists, has_rows, long_rows, right_exact_rows, right_fast_rows, row_at, same_exact_ops, same_fast_ops, same_texts, fast_tables}
+use Rattle.front_code.specs.Codes.{fast_ops, fast_sets, texts}
+use Rattle.front_code.specs.declared.constants.TheConstants.{FAST_FUSED}
+use Rattle.front_code.proofs.ByteLemmas.{exact_lists, fast_lists, fast_tables, has_rows, long_rows, right_fast_rows, row_at}
 use Rattle.front_code.proofs.TestTables.{are_tests, by_kind, checks, counted, entries, has_entries, kind_of}
 
 -- an operation that is fused with no other
@@ -182,16 +182,12 @@ module _ (code : CodeLists) (os : List Op) (rs : List (List (ℕ × ℕ))) (ts :
       subst (λ l. IsFusedAt code pc (get_or l pc fused.Plain)) e
       (subst (λ j. IsFusedAt code j (get_or (fused_from 0 fs) pc fused.Plain)) (let z : 0 + pc ≡ pc = omega arith in z) (are_fused fs 0 pc))
 
-same_exact_list : fused_from exact_lists EXACT_OPS exact_sets texts [] same_exact_ops right_exact_rows same_texts refl 0 EXACT_FUSED ≡ EXACT_FUSED
-unfolding fused_from given fuse of_call of_commit of_all of_text by_set after_one after_byte with_row
-same_exact_list = refl
+pub exact_fusion : IsFusionOf exact_lists []
+exact_fusion = λ pc. plain exact_lists pc
 
-pub exact_fusion : IsFusionOf exact_lists EXACT_FUSED
-exact_fusion = is_fusion exact_lists EXACT_OPS exact_sets texts [] same_exact_ops right_exact_rows same_texts refl EXACT_FUSED same_exact_list
-
-same_fast_list : fused_from fast_lists FAST_OPS fast_sets texts fast_tables same_fast_ops right_fast_rows same_texts refl 0 FAST_FUSED ≡ FAST_FUSED
+same_fast_list : fused_from fast_lists fast_ops fast_sets texts fast_tables refl right_fast_rows refl refl 0 FAST_FUSED ≡ FAST_FUSED
 unfolding fused_from given fuse of_call of_commit of_all of_text by_set after_one after_byte with_row has_entries kind_of by_kind checks entries counted
 same_fast_list = refl
 
 pub fast_fusion : IsFusionOf fast_lists FAST_FUSED
-fast_fusion = is_fusion fast_lists FAST_OPS fast_sets texts fast_tables same_fast_ops right_fast_rows same_texts refl FAST_FUSED same_fast_list
+fast_fusion = is_fusion fast_lists fast_ops fast_sets texts fast_tables refl right_fast_rows refl refl FAST_FUSED same_fast_list

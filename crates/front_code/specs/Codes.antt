@@ -10,9 +10,11 @@ use Rattle.matcher_code.specs.Lists.{CodeLists}
 use Rattle.matcher_code.specs.declared.code.Op.{Op}
 use Rattle.matcher_code.specs.declared.code.Op.TheVariants as op
 use Rattle.matcher_code.specs.Laid.{AreLaid, IsPoint, Point, at_label}
+use Rattle.matcher_code.specs.Operations.{op_in}
 use Rattle.matcher_code.specs.Sets.{IsSetOf}
+use Rattle.matcher_code.specs.Words.{pair_in, parts_in, word}
 use Rattle.front_code.specs.Numbers.{number_of}
-use Rattle.front_code.specs.declared.constants.TheConstants.{EXACT_OPS, EXACT_SETS, FAST_OPS, FAST_SETS, TEXTS}
+use Rattle.front_code.specs.declared.constants.TheConstants.{EXACT_BYTES, EXACT_RANGES, EXACT_SET_PLACES, FAST_BYTES, FAST_RANGES, FAST_SET_PLACES, TEXT_BYTES, TEXT_PLACES}
 
 -- a program has these operations and texts, and sets of these ranges
 pub record HasParts (os : List Op) (ts : List (List ℕ)) (rs : List (List (ℕ × ℕ))) (code : CodeLists)
@@ -21,21 +23,28 @@ pub record HasParts (os : List Op) (ts : List (List ℕ)) (rs : List (List (ℕ 
   pub texts : code.texts ≡ ts
   pub sets : (i : ℕ) → i < length rs → IsSetOf code i (get_or rs i [])
 
--- the texts of both programs, and the sets of each
+-- the texts of both programs
 abbrev pub texts : List (List ℕ)
-texts = map (λ t. t.now) TEXTS
+texts = parts_in (map word TEXT_PLACES) TEXT_BYTES.now
+
+-- the operations of each, and the ranges of its sets
+abbrev pub exact_ops : List Op
+exact_ops = map op_in EXACT_BYTES
 
 abbrev pub exact_sets : List (List (ℕ × ℕ))
-exact_sets = map (λ r. r.now) EXACT_SETS
-
-abbrev pub fast_sets : List (List (ℕ × ℕ))
-fast_sets = map (λ r. r.now) FAST_SETS
+exact_sets = parts_in (map word EXACT_SET_PLACES) (map pair_in EXACT_RANGES)
 
 abbrev pub IsExactCode : CodeLists → Type 0
-IsExactCode code = HasParts EXACT_OPS texts exact_sets code
+IsExactCode code = HasParts exact_ops texts exact_sets code
+
+abbrev pub fast_ops : List Op
+fast_ops = map op_in FAST_BYTES
+
+abbrev pub fast_sets : List (List (ℕ × ℕ))
+fast_sets = parts_in (map word FAST_SET_PLACES) (map pair_in FAST_RANGES)
 
 abbrev pub IsFastCode : CodeLists → Type 0
-IsFastCode code = HasParts FAST_OPS texts fast_sets code
+IsFastCode code = HasParts fast_ops texts fast_sets code
 
 -- a program has the code of all rules of the meta-grammar, and a call of each from outside begins at the
 -- label after three more than its number; exact code records each name that is expected

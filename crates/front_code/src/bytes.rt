@@ -4,20 +4,19 @@ ghost use Rattle.matcher_code.specs.Fused.{IsFusionOf};
 ghost use Rattle.front_code.specs.Codes.{IsExactCode, IsFastCode};
 
 use crate::constants::{
-    EXACT_BYTES, EXACT_FUSED, EXACT_ORDERS, EXACT_RANGES, EXACT_ROWS, EXACT_SET_PLACES, FAST_BYTES,
-    FAST_FUSED, FAST_ORDERS, FAST_RANGES, FAST_ROWS, FAST_SET_PLACES, FAST_TABLES, TEXT_BYTES,
-    TEXT_PLACES,
+    EXACT_BYTES, EXACT_ORDERS, EXACT_RANGES, EXACT_ROWS, EXACT_SET_PLACES, FAST_BYTES, FAST_FUSED,
+    FAST_ORDERS, FAST_RANGES, FAST_ROWS, FAST_SET_PLACES, FAST_TABLES, TEXT_BYTES, TEXT_PLACES,
 };
 use matcher_code::bytecode::Bytecode;
 use matcher_code::fused::Fused;
 
-/// A program, with the fused operations that stand for its own.
+/// A program, with the fused operations that stand for its own, or none.
 pub struct FusedCode {
     pub code: Bytecode<'static>,
     pub fused: &'static [Fused],
 }
 
-/// Returns the exact code.
+/// Returns the exact code, of which nothing is fused: it runs where a text is refused.
 pub fn exact_code() -> FusedCode
     ensures code { IsExactCode (lists_in result.code) }
     ensures fused { IsFusionOf (lists_in result.code) result.fused.now }
@@ -31,11 +30,11 @@ pub fn exact_code() -> FusedCode
             ranges: &EXACT_RANGES,
             orders: &EXACT_ORDERS,
             text_places: &TEXT_PLACES,
-            texts: &TEXT_BYTES,
+            texts: TEXT_BYTES,
             list_places: &[],
             lists: &[],
         },
-        fused: &EXACT_FUSED,
+        fused: &[],
     }
 }
 
@@ -53,7 +52,7 @@ pub fn fast_code() -> FusedCode
             ranges: &FAST_RANGES,
             orders: &FAST_ORDERS,
             text_places: &TEXT_PLACES,
-            texts: &TEXT_BYTES,
+            texts: TEXT_BYTES,
             list_places: &[],
             lists: &[],
         },

@@ -1,4 +1,4 @@
-use Rattle.std.proofs.Common.{◌≡◌, sym, ◌∙◌, ap, ap₂, ℕ, zero, suc, ◌-◌, ◌<◌, ◌≤◌, List, ◌∷◌, get_or, length, arith}
+use Rattle.std.proofs.Common.{◌≡◌, sym, ◌∙◌, ap₂, ℕ, zero, suc, ◌-◌, ◌<◌, List, get_or, arith}
 use Rattle.std.proofs.lemmas.List.{get_or_default, get_or_past}
 use Rattle.base_language.specs.Pieces.MetaRules.{meta_rules}
 use Rattle.base_language.specs.declared.grammar.Rule.{Rule}

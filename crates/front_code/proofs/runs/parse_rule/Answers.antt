@@ -2,7 +2,6 @@ use Rattle.std.proofs.Common.{◌+◌, ◌<◌, ap, refl, sym, subst, arith, fal
 use Rattle.base_language.specs.Language.State.{NonAtomicMode}
 use Rattle.front_grammar.specs.Outcomes.{start_of}
 use Rattle.matcher_code.specs.Bytecodes.{lists_in}
-use Rattle.matcher_code.specs.Fused.{IsFusionOf}
 use Rattle.front_code.specs.Runs.{Parses}
 use Rattle.front_code.proofs.Fast.{fast_code}
 use Rattle.front_code.proofs.Results.{IsFresh, IsTaken, has_failed, has_matched, is_failure, is_match}
