@@ -4,3 +4,4 @@ pub mod Plans
 pub mod Columns
 pub mod Compiled
 pub mod Exact
+pub mod Extents

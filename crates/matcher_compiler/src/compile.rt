@@ -7,12 +7,14 @@ ghost use Rattle.matcher_code.specs.Sets.{IsAligned};
 ghost use Rattle.matcher_program.specs.declared.form.Program.{Program};
 ghost use Rattle.matcher_compiler.specs.Compiled.{AreMet, HasEnds, HasEntries, IsCodeOf, IsEmpty};
 ghost use Rattle.matcher_compiler.specs.Exact.{is_exact};
+ghost use Rattle.matcher_compiler.specs.Extents.{IsFitting};
 ghost use Rattle.matcher_compiler.specs.declared.plan.Skips.TheVariants as skips;
 ghost use Rattle.matcher_compiler.specs.Plans.{AreBlanks, IsLater, IsReady, Meets, laid_point};
 ghost use Rattle.matcher_sets.specs.Forms.{IsSoundProgram};
 
 use crate::calls::BODIES;
 use crate::check::{has_ends, is_exact, meets_all};
+use crate::extent::is_fitting;
 use crate::names::last_rows;
 use crate::plan::{Plan, Skips};
 use crate::points::{Demand, NO_CALL, NotCompiled, Part, Place, Point, TOP_RANK};
@@ -353,11 +355,12 @@ fn finish(alloc: Global, plan: Plan<'_>) -> Result<Code, NotCompiled>
     Ok(code)
 }
 
-/// Makes a program for rules. Errors: rules that need more labels than `u32` has numbers; and an allocation
-/// failure.
+/// Makes a program for rules. It uses the stack only if they do, and its size is linear in theirs. Errors:
+/// rules that need more labels than `u32` has numbers; and an allocation failure.
 pub fn compile(alloc: Global, program: &Program) -> Result<Code, NotCompiled>
     requires sound { IsSoundProgram program.now }
-    ensures { IfOk result (λ code. IsCodeOf false program.now (lists_of code)) }
+    ensures is { IfOk result (λ code. IsCodeOf false program.now (lists_of code)) }
+    ensures fits { IfOk result (λ code. IsFitting program.now (lists_of code)) }
 {
     let code = compile_with(alloc, program, false)?;
     Ok(code)
@@ -367,7 +370,8 @@ pub fn compile(alloc: Global, program: &Program) -> Result<Code, NotCompiled>
 /// names that are expected, and the attempts of pest's errors.
 pub fn compile_for_names(alloc: Global, program: &Program) -> Result<Code, NotCompiled>
     requires sound { IsSoundProgram program.now }
-    ensures { IfOk result (λ code. IsCodeOf true program.now (lists_of code)) }
+    ensures is { IfOk result (λ code. IsCodeOf true program.now (lists_of code)) }
+    ensures fits { IfOk result (λ code. IsFitting program.now (lists_of code)) }
 {
     let code = compile_with(alloc, program, true)?;
     if is_exact(&code) {
@@ -380,7 +384,8 @@ pub fn compile_for_names(alloc: Global, program: &Program) -> Result<Code, NotCo
 /// Makes a program, with calls of all rules whose failures are recorded, or without those that a test spares.
 fn compile_with(alloc: Global, program: &Program, calls_all: bool) -> Result<Code, NotCompiled>
     requires sound { IsSoundProgram program.now }
-    ensures { IfOk result (λ code. IsCodeOf (is_exact (lists_of code)) program.now (lists_of code)) }
+    ensures is { IfOk result (λ code. IsCodeOf (is_exact (lists_of code)) program.now (lists_of code)) }
+    ensures fits { IfOk result (λ code. IsFitting program.now (lists_of code)) }
 {
     if program.rows.len() >= TOO_MANY_RULES {
         return Err(NotCompiled::Unsupported);
@@ -392,5 +397,9 @@ fn compile_with(alloc: Global, program: &Program, calls_all: bool) -> Result<Cod
     let heads = rule_heads(alloc, program, calls_all)?;
     plan.plan(alloc, program, &heads, &lasts)?;
     let code = finish(alloc, plan)?;
-    Ok(code)
+    if is_fitting(alloc, program, &code)? {
+        Ok(code)
+    } else {
+        Err(NotCompiled::Unsupported)
+    }
 }

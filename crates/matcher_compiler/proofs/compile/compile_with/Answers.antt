@@ -2,8 +2,8 @@ use Rattle.matcher_code.specs.Lists.{lists_of}
 use Rattle.matcher_compiler.proofs.Finishing.{code_of, none_bound}
 use Rattle.matcher_compiler.proofs.compile.compile_with.Goals as goal
 
-pub returns : goal.returns
-returns c =
+pub returns-then-branch-clause-is : goal.returns-then-branch-clause-is
+returns-then-branch-clause-is c =
     let p = c.args.program.now in
     code_of p _ (lists_of c.in_ok-code.code) c.in_ok-code.ensures.ends (c.in_ok-code.ensures.meets p) c.in_ok-plan-2.ensures.lays
     (λ code laid m i h. c.in_ok-plan_entries.ensures.has code laid (c.in_ok-plan-2.ensures.later.met code laid m) i h)

@@ -1,0 +1,15 @@
+use Rattle.std.proofs.Common.{arith}
+use Rattle.matcher_compiler.proofs.Extending.{count_more, heavier}
+use Rattle.matcher_compiler.proofs.extent.put_both.Goals as goal
+
+pub returns-clause-heft : goal.returns-clause-heft
+returns-clause-heft c =
+    let first = heavier _ _ c.args.right c.in_ok-push.ensures.items in
+    let last = heavier _ _ c.args.left c.in_ok-push-2.ensures.items in
+    omega (arith, first, last)
+
+pub returns-clause-count : goal.returns-clause-count
+returns-clause-count c =
+    let first = count_more _ _ c.args.right c.in_ok-push.ensures.items in
+    let last = count_more _ _ c.args.left c.in_ok-push-2.ensures.items in
+    omega (arith, first, last)
