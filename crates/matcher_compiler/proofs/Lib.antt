@@ -12,5 +12,5 @@ pub mod Noting
 pub mod Relaxing
 pub mod Numbering
 pub mod Columned
-pub mod Extending
+pub mod Heft
 pub mod Fitting

@@ -355,8 +355,8 @@ fn finish(alloc: Global, plan: Plan<'_>) -> Result<Code, NotCompiled>
     Ok(code)
 }
 
-/// Makes a program for rules. It uses the stack only if they do, and its size is linear in theirs. Errors:
-/// rules that need more labels than `u32` has numbers; and an allocation failure.
+/// Makes a program for rules, which uses the stack only if they do, and whose size is linear in theirs.
+/// Errors: rules that need more labels than `u32` has numbers; and an allocation failure.
 pub fn compile(alloc: Global, program: &Program) -> Result<Code, NotCompiled>
     requires sound { IsSoundProgram program.now }
     ensures is { IfOk result (λ code. IsCodeOf false program.now (lists_of code)) }

@@ -37,7 +37,6 @@ fn own_count(form: &Form) -> u64
 }
 
 /// Pushes both operands of a form on a list.
-#[tactic(auto, using(crate::proofs::Extending::heavier, crate::proofs::Extending::stack_both, crate::proofs::Extending::count_more))]
 fn put_both<'a>(
     waiting: &mut Vec<&'a Form>,
     left: &'a Form,
@@ -56,7 +55,7 @@ fn put_both<'a>(
 }
 
 /// Pushes the operands of a form on a list.
-#[tactic(auto, using(crate::proofs::Extending::heavier, crate::proofs::Extending::stack_more, crate::proofs::Extending::count_more))]
+#[tactic(auto, using(crate::proofs::Heft::heavier, crate::proofs::Heft::stacks, crate::proofs::Heft::counts))]
 fn put_parts<'a>(waiting: &mut Vec<&'a Form>, form: &'a Form) -> Result<(), AllocError>
     ensures heft { OnOk result (heft waiting.new.items < heft waiting.old.items + weight form.entry.now) }
     ensures stack { OnOk result (is_stack_form form.entry.now ≡ false → any_stack waiting.new.items
@@ -97,7 +96,7 @@ fn put_parts<'a>(waiting: &mut Vec<&'a Form>, form: &'a Form) -> Result<(), Allo
 }
 
 /// Returns whether a form or a part of it is one that reads or changes the stack, iteratively.
-#[tactic(auto, using(crate::proofs::Extending::heavier))]
+#[tactic(auto, using(crate::proofs::Heft::heavier))]
 fn has_stack(alloc: Global, form: &Form) -> Result<bool, AllocError>
     ensures { IfOk result (λ has. has ≡ has_stack form.now) }
 {
@@ -113,7 +112,7 @@ fn has_stack(alloc: Global, form: &Form) -> Result<bool, AllocError>
 }
 
 /// Returns the number of forms in a form, or fewer if no `u64` holds it, iteratively.
-#[tactic(auto, using(crate::proofs::Extending::heavier))]
+#[tactic(auto, using(crate::proofs::Heft::heavier))]
 fn count_forms(alloc: Global, form: &Form) -> Result<u64, AllocError>
     ensures { IfOk result (λ count. count ≤ count_forms form.now) }
 {
@@ -180,8 +179,8 @@ fn is_stackless(code: &Code) -> bool
     true
 }
 
-/// How many operations a program has at most for each form and each rule. A rule has up to six bodies, a form up
-/// to six labels, and a call in place up to 128 forms without parts: 4,608.
+/// How many operations a program has at most for each form and each rule. A rule has up to six bodies, a form
+/// up to six labels, and a call in place up to 128 forms without parts: 4,608.
 const MOST_EACH: u64 = 8192;
 
 /// Returns whether a program has no more operations than its rules ask for, and uses the stack only if they

@@ -1,4 +1,4 @@
-//! What code that fits its rules is like, by the grammar that they are.
+//! Laws of code that fits its rules.
 ghost use Rattle.std.specs.Prelude.{◌≡◌, ◌≤◌, false, length, true};
 ghost use Rattle.matcher_code.specs.Lists.{CodeLists};
 ghost use Rattle.matcher_code.specs.StackUses.{is_stackless};

@@ -1,6 +1,6 @@
 use Rattle.std.proofs.Common.{arith}
 use Rattle.matcher_compiler.specs.Extents.{count_forms}
-use Rattle.matcher_compiler.proofs.Extending.{next_count}
+use Rattle.matcher_compiler.proofs.Heft.{next_count}
 use Rattle.matcher_compiler.proofs.extent.count_forms.Goals as goal
 
 pub parts-preserved : goal.parts-preserved

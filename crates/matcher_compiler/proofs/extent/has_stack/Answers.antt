@@ -1,6 +1,6 @@
 use Rattle.std.proofs.Common.{◌∙◌, sym}
 use Rattle.matcher_compiler.specs.Extents.{has_stack}
-use Rattle.matcher_compiler.proofs.Extending.{found_last, next_stack}
+use Rattle.matcher_compiler.proofs.Heft.{found_last, next_stack}
 use Rattle.matcher_compiler.proofs.extent.has_stack.Goals as goal
 
 pub returns-then-is_stack_form : goal.returns-then-is_stack_form
