@@ -76,10 +76,10 @@ module _ (exact : Bool) (g : Grammar) (classes : Classes) (code : CodeLists) whe
     lays (lay.rep start turn gap first last u a x y p q z) = lay.rep start turn gap first last u (enters _ _ _ _ a) x y p q z
     lays (lay.tight_turns first t e u a p) = lay.tight_turns first t e u (enters_turn _ _ _ _ a) p
     lays (lay.turns gap first last a p q z) = lay.turns gap first last a p q z
+    lays (lay.called_seq start j k first turn end a b q y x z) = lay.called_seq start j k first turn end a b q y x z
+    lays (lay.called_rep first turn a x) = lay.called_rep first turn a x
+    lays (lay.called_turns first x) = lay.called_turns first x
     lays (lay.rep_once p) = lay.rep_once p
-    lays (lay.rep_exact p) = lay.rep_exact p
-    lays (lay.rep_min p) = lay.rep_min p
-    lays (lay.rep_max p) = lay.rep_max p
     lays (lay.rep_min_max p) = lay.rep_min_max p
     lays (lay.skips p) = lay.skips p
     lays (lay.routine first last a p z) = lay.routine first last a p z

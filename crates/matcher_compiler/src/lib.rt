@@ -15,6 +15,7 @@ pub mod names;
 pub mod plan;
 mod planning;
 pub mod points;
+mod routines;
 mod sequences;
 pub mod sets;
 mod shortcuts;

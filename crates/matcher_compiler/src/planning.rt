@@ -204,7 +204,8 @@ impl<'p> Plan<'p> {
         Ok(())
     }
 
-    /// Plans an expression and its repetition, one after the other.
+    /// Plans an expression and its repetition, one after the other. A large expression is called by both, so
+    /// that a program grows by a constant for each form. The labels from `own` on are free.
     fn once_and_turns(
         &mut self,
         program: &Program,
@@ -217,8 +218,11 @@ impl<'p> Plan<'p> {
         ensures lays { OnOk result (LaysAt program.now self.new (Run (mode_of at.mode)
             (once_or_more (said program.now body.entry.now))) at) }
     {
-        self.sequence(program, Part::Form(body), Part::Repetition(body), at, own)?;
-        Ok(())
+        if self.sizes.is_small_twice(program, body, at.mode) {
+            self.sequence(program, Part::Form(body), Part::Repetition(body), at, own)
+        } else {
+            self.called_once_or_more(program, body, at, own)
+        }
     }
 
     /// Plans a choice.

@@ -23,6 +23,10 @@ use std::alloc::{AllocError, Global};
 /// How deep the parts of a form are looked into.
 pub(crate) const DEPTH: u32 = 64;
 
+/// The largest number of ranges of a head that those of another one come before. So heads of rules that begin
+/// with one another do not grow with their number.
+const MOST_JOINED: usize = 1024;
+
 /// The characters with which a form begins. Where none of them is next, the form takes nothing.
 #[derive(Drop)]
 pub struct Head {
@@ -53,7 +57,7 @@ pub(crate) fn join(first: Head, second: &Head) -> Result<Option<Head>, AllocErro
         empty: _,
         noted,
     } = first;
-    if ranges.len() > MOST_RANGES {
+    if ranges.len() > MOST_RANGES || second.ranges.len() > MOST_JOINED {
         return Ok(None);
     }
     let mut joined = ranges;

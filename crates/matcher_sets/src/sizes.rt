@@ -70,6 +70,15 @@ impl Sizes {
         !row.blank && self.size_of(Body { rule, mode }) <= MOST_FORMS
     }
 
+    /// Returns whether two copies of a form in a mode are small enough to be laid.
+    pub fn is_small_twice(&self, program: &Program, form: &Form, mode: Atomicity) -> bool {
+        let inside = Body {
+            rule: usize::MAX,
+            mode,
+        };
+        self.form_size(program, form, inside, DEPTH) <= MOST_FORMS / 2
+    }
+
     /// Returns the size of a call in a body: that of what is called, if it is laid in place.
     fn call_size(&self, program: &Program, rule: usize, inside: Body) -> u32 {
         let row = match program.rows.get(rule) {

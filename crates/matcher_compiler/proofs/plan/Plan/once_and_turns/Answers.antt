@@ -1,5 +1,5 @@
 use Rattle.std.proofs.Common.{refl}
 use Rattle.matcher_compiler.proofs.plan.Plan.once_and_turns.Goals as goal
 
-pub returns-clause-lays : goal.returns-clause-lays
-returns-clause-lays c = c.in_ok-sequence.ensures.lays _ _ refl refl
+pub returns-then-is_small_twice-clause-lays : goal.returns-then-is_small_twice-clause-lays
+returns-then-is_small_twice-clause-lays c = c.in_ok-sequence.ensures.lays _ _ refl refl
