@@ -65,9 +65,9 @@ _ANSWERED, _REFUSED, _MEMORY, _NO_TEXT, _NO_ROOM = range(5)
 _NO_BLOCK, _UNFIT, _NO_RULE, _OUT_OF_STEPS, _EMPTY_STACK, _LONG_TEXT, _OTHER_VERSION, _CHANGED = range(5, 13)
 _MOST_STEPS = 2**64 - 1
 # The steps for each byte of a text, and how many more, where no limit is given: those after which a guided run is
-# quicker (a run then begins to remember calls, and a step may copy all nodes of one), those in which expected rules are
-# looked for, and those of a run that uses the stack.
-_FIRST_STEPS, _ERROR_STEPS, _STACK_STEPS = (32, 16_384), (32, 2_000_000), (1_000, 1_000_000)
+# quicker (a run then begins to remember calls, and a step may copy all nodes of one), and those in which expected rules
+# are looked for.
+_FIRST_STEPS, _ERROR_STEPS = (32, 16_384), (32, 2**23)
 # How many operands the nodes of a form have (docs/FORMAT.md).
 _OPERANDS = {
     **dict.fromkeys(["str", "insens", "range", "ident", "peek_slice", "skip", "push_literal"], 0),
@@ -361,11 +361,12 @@ class Matcher:
 
         A grammar that does not use the stack needs no limit: where a match takes many steps, a guided run takes
         its place, in as many turns as suffice for any text of that length (docs/SPEC.md). A turn that searches a text
-        may take many bytes, and memory grows with the turns.
+        may take many bytes, and memory grows with the turns. A match that uses the stack may take exponential time, as
+        in pest: give `steps` if the text comes from a stranger.
 
-        With `steps` the match takes so many at most, and so does the search for the rules that are expected where it
-        fails. With None the search has 32 for each byte of the text and up to 2,000,000 more (fewer where the text is
-        long), and a match that uses the stack 1,000 and 1,000,000. A limit of 2**64 - 1 is none.
+        With `steps` the match takes at most that many steps, and so does the search for the rules that are expected
+        where it fails. With None the match has no limit, and the search 2**23 steps and 32 more for each byte. A limit
+        of 2**64 - 1 is none.
 
         Raises MatchError where the rule does not match, ValueError where no rule has the name, and RunError where
         the run is stopped: with `steps` also where the rule fails and only the search takes more. A rule that does not
@@ -381,8 +382,7 @@ class Matcher:
             turns = _library().pest_meta_bound(*words[:2], len(source))
             status = _library().pest_meta_run_guided(*words, _steps_for(source, _FIRST_STEPS), turns, *found)
         if status == _OUT_OF_STEPS:
-            most = _steps_for(source, _STACK_STEPS) if steps is None else steps
-            status = _library().pest_meta_run(*words, most, *found)
+            status = _library().pest_meta_run(*words, _MOST_STEPS if steps is None else steps, *found)
         if status == _ANSWERED:
             trees = _Nodes(_taken(nodes, 16), source, self._all_names)
             return Match(end.value, trees.trees(0, len(trees.numbers) // 4))

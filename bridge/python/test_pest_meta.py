@@ -260,7 +260,7 @@ class Matching(unittest.TestCase):
             ahead.parse("a", "(" * 100_000 + "x" + ")" * 99_999)
         words = Matcher('file = { SOI ~ (word | x)* ~ EOI } word = { letter* ~ "!" } letter = { "x" } x = { "x" }')
         self.assertEqual(len(words.parse("file", "x" * 20_000).trees[0].children), 20_001)
-        with self.assertRaisesRegex(MatchError, "1:20001: what is expected here was not found in 2640032 steps") as caught:
+        with self.assertRaisesRegex(MatchError, "1:20001: what is expected here was not found in 9028640 steps") as caught:
             words.parse("file", "x" * 20_000 + "?")
         self.assertEqual((caught.exception.position, caught.exception.expected), (20_000, ()))
 
@@ -271,10 +271,12 @@ class Matching(unittest.TestCase):
             with unittest.mock.patch.object(pest_meta, "_FIRST_STEPS", (0, 0)):
                 self.assertEqual(answer_of(matcher, text, None), plain)
 
-    def test_a_grammar_that_uses_the_stack_has_a_limit(self):
+    def test_a_grammar_that_uses_the_stack_has_a_limit_if_one_is_given(self):
         matcher = Matcher(NESTED.replace('| "x"', '| PUSH("x") ~ DROP'))
         with self.assertRaisesRegex(RunError, "more than 7001000 steps"):
-            matcher.parse("list", nested(2_000))
+            matcher.parse("list", nested(2_000), steps=7_001_000)
+        doubled = Matcher("a = { PUSH(b) ~ DROP } b = { c ~ c ~ c ~ c } c = { d ~ d ~ d ~ d } d = { \"x\"{64} }")
+        self.assertEqual(doubled.parse("a", "x" * 1024).end, 1024)
 
     def test_long_and_deep_texts(self):
         matcher = Matcher('a = { "(" ~ a ~ ")" | "x"* }')

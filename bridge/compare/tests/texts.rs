@@ -145,7 +145,7 @@ fn no_text_makes_a_parser_slow() {
     assert_eq!(here::hostile::tokens(letters).len(), 2 * (letters + 2));
     let (pos, printed) = here::hostile::failure(letters);
     assert_eq!(pos, letters);
-    assert!(printed.ends_with("= what is expected here was not found in 2640032 steps"), "{printed}");
+    assert!(printed.ends_with("= what is expected here was not found in 9028640 steps"), "{printed}");
 }
 
 #[test]

@@ -58,16 +58,10 @@ pub fn first_steps(text: &str) -> u64 {
     steps_by_length(text, 32, 16_384)
 }
 
-/// The most steps in which the rules of an error are looked for, if its caller names no limit: 32 a byte, and 2,000,000
-/// more.
+/// The most steps in which the rules of an error are looked for, if its caller names no limit: 2^23, and 32 more for each
+/// byte.
 pub fn error_steps(text: &str) -> u64 {
-    steps_by_length(text, 32, 2_000_000)
-}
-
-/// The most steps of a run that comes to an operation on the stack, if its caller names no limit: 1,000 a byte, and
-/// 1,000,000 more.
-pub fn most_steps(text: &str) -> u64 {
-    steps_by_length(text, 1_000, 1_000_000)
+    steps_by_length(text, 32, 1 << 23)
 }
 
 /// So many steps for each byte of a text, and so many more.

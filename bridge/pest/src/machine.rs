@@ -48,8 +48,8 @@ pub fn parse_block<'i, R: RuleType>(
 }
 
 /// Runs the rule of a row of a compiled grammar from the start of a text: in a number of steps that suffices for nearly
-/// all texts, and then by a guided run, whose turns are linear in the text, or where that comes to an operation on the
-/// stack, in more steps.
+/// all texts, then by a guided run, whose turns are linear in the text, and if that has no answer, as where it comes to
+/// an operation on the stack, without a limit.
 fn run<R: RuleType>(block: &[u8], row: u32, text: &str, rule: impl Fn(u32) -> R) -> Result<Nodes, Error<R>> {
     match code::run(block, row, text, code::first_steps(text)) {
         Err(Unmatched::OutOfSteps) => {}
@@ -62,8 +62,7 @@ fn run<R: RuleType>(block: &[u8], row: u32, text: &str, rule: impl Fn(u32) -> R)
         }
         found => return found.map_err(|why| stopped(text, why)),
     }
-    let steps = code::most_steps(text);
-    code::run(block, row, text, steps).map_err(|why| refusal(block, row, text, why, steps, rule))
+    code::run(block, row, text, u64::MAX).map_err(|why| refusal(block, row, text, why, code::error_steps(text), rule))
 }
 
 /// The error of a run that gives no nodes. Names that are expected are looked for in so many steps.

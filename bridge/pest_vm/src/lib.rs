@@ -22,8 +22,8 @@
 //! | The original | Here |
 //! |---|---|
 //! | `PEEK` or `POP` on the empty stack panics | an error at the start of the text |
-//! | a rule takes any time, unless `pest::set_call_limit` was called | after 32 steps a byte and 16,384 more a guided run takes its place, which tells in a number of turns that is linear in the text whether the rule matches; where it comes to an operation on the stack, after 1,000 a byte and 1,000,000 more an error at the start of the text |
-//! | an error names its rules after any time | where 32 steps a byte and up to 2,000,000 more, fewer for a long text, do not find them, it says so at the furthest position of a failure |
+//! | a rule takes any time, unless `pest::set_call_limit` was called | after 32 steps a byte and 16,384 more a guided run takes its place, which tells in a number of turns that is linear in the text whether the rule matches; a rule that comes to an operation on the stack takes any time |
+//! | an error names its rules after any time | where 2^23 steps, and 32 more for each byte, do not find them, it says so at the furthest position of a failure |
 //! | the listener is called at each call of a rule | at each token of a match, in the order of their starts |
 //! | a builtin can be parsed as a rule | another name than a rule's panics, as an undefined rule does there |
 //! | pairs of later versions have tags | pairs have none |
@@ -81,8 +81,7 @@ impl Vm {
     /// Runs a rule from the start of a text. Returns its pairs, or an error at the furthest position of a failure,
     /// with the rules expected there.
     ///
-    /// A rule that has no outcome, since `PEEK` or `POP` meets the empty stack, is an error at the start, and so is
-    /// one that uses the stack and takes more steps than a text of this length is allowed.
+    /// A rule that has no outcome, since `PEEK` or `POP` meets the empty stack, is an error at the start.
     ///
     /// # Panics
     /// Where no rule has the name, where the rules call a name that is neither a rule nor a builtin, and where

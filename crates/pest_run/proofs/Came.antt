@@ -1,5 +1,5 @@
 -- What comes of a rule that fails on a text, by what the matcher answers.
-use Rattle.std.proofs.Common.{◌≡◌, ◌≢◌, ◌⊎◌, ◌∙◌, ◌∷◌, ◌++◌, ◌&&◌, ◌+◌, ap, ap₂, arith, inl, inr, refl, sym, subst, ℕ, Bool, true, false, List, [], None, Option, Some, drop, if◌then◌else◌, length, nat_le}
+use Rattle.std.proofs.Common.{◌≡◌, ◌≢◌, ◌≤◌, ◌⊎◌, ◌∙◌, ◌∷◌, ◌++◌, ◌&&◌, ◌+◌, ap, ap₂, arith, inl, inr, refl, sym, subst, ℕ, Bool, true, false, List, [], None, Option, Some, drop, if◌then◌else◌, length, nat_le}
 use Rattle.std.specs.Prelude.{IsUtf8, option_map, string_bytes}
 use Rattle.std.proofs.Math.Utf8.{encodes}
 use Rattle.std.proofs.lemmas.Bool.{true≢false}
@@ -35,7 +35,7 @@ use Rattle.matcher_program.specs.Answers.{Has, start_of}
 use Rattle.matcher_program.specs.declared.answers.Stop.{Stop}
 use Rattle.matcher_program.specs.declared.answers.Stop.TheVariants as stop
 use Rattle.matcher_program.specs.ExpectedNames.{each_once, is_among, name_texts, with_names}
-use Rattle.matcher_support.specs.Compiled.{AreExpectedIn, FailsIn, IsRefusedBy}
+use Rattle.matcher_support.specs.Compiled.{AreExpectedIn, FailsIn, IsRefusedBy, IsUnanswered}
 use Rattle.matcher_support.specs.Sets.{has_set, is_in_property}
 use Rattle.matcher_support.specs.Compiled.{AreAttemptsIn}
 use Rattle.pest_run.specs.Failures.{AreOfError, IsFound}
@@ -43,6 +43,7 @@ use Rattle.pest_run.specs.Outcomes.{HasNoRule, IsFailureReport, IsMatchReport, I
 use Rattle.pest_run.specs.Messages.{expected_text, is_more, note_between, unnamed_end_text, unnamed_text}
 use Rattle.pest_run.specs.declared.arguments.Format.{Format}
 use Rattle.pest_run.specs.declared.arguments.Format.TheVariants as format_is
+use Rattle.pest_run.specs.declared.arguments.Limits.{Limits}
 use Rattle.matcher_support.specs.declared.attempts.NamedAttempts.{NamedAttempts}
 use Rattle.pest_run.specs.declared.outcomes.Outcome.{Outcome}
 use Rattle.pest_run.specs.declared.outcomes.Outcome.TheVariants as is
@@ -60,6 +61,26 @@ any_steps g rule text few steps (block.Stopped stop.EmptyStack) other h = h
 any_steps g rule text few steps (block.Stopped stop.TextTooLong) other h = h
 any_steps g rule text few steps block.NoRule other h = h
 any_steps g rule text few steps (block.Flaw flaw) other h = h
+
+-- so is why it has no answer
+pub any_limit : (g : Grammar) (rule text : List ℕ) (few steps : ℕ) (why : BlockStop) → why ≢ block.Stopped stop.OutOfSteps → IsUnanswered g rule text few why → IsUnanswered g rule text steps why
+any_limit g rule text few steps (block.NoMatch place) other h = h
+any_limit g rule text few steps (block.Stopped stop.Memory) other h = h
+any_limit g rule text few steps (block.Stopped stop.OutOfSteps) other h = absurd (other refl)
+any_limit g rule text few steps (block.Stopped stop.EmptyStack) other h = h
+any_limit g rule text few steps (block.Stopped stop.TextTooLong) other h = h
+any_limit g rule text few steps block.NoRule other h = h
+any_limit g rule text few steps (block.Flaw flaw) other h = h
+
+-- a run that takes too many steps takes more than a smaller number
+pub fewer_steps : (g : Grammar) (rule text : List ℕ) (few steps : ℕ) (why : BlockStop) → few ≤ steps → IsRefusedBy g rule text steps why → IsRefusedBy g rule text few why
+fewer_steps g rule text few steps (block.NoMatch place) below h = h
+fewer_steps g rule text few steps (block.Stopped stop.Memory) below h = h
+fewer_steps g rule text few steps (block.Stopped stop.OutOfSteps) below h = λ o d. omega (arith, below, h o d)
+fewer_steps g rule text few steps (block.Stopped stop.EmptyStack) below h = h
+fewer_steps g rule text few steps (block.Stopped stop.TextTooLong) below h = h
+fewer_steps g rule text few steps block.NoRule below h = h
+fewer_steps g rule text few steps (block.Flaw flaw) below h = h
 
 -- the names that are expected at a position of a derivation
 expects_at : (g : Grammar) (rule text : List ℕ) (place : ℕ) (names : List (Bor (List ℕ))) {o : Result} (d : Has g (chars rule) text is_in_property o)
@@ -99,7 +120,7 @@ of_error g rule text place it {o = o} d e a x =
     }
 
 -- what is told of the place of the failure, and of its names, is told of the failure
-pub failed : (g : Grammar) (rule name text : List ℕ) (format : Format) (limit : ℕ) (place : ℕ) (it : NamedAttempts) (o : Outcome)
+pub failed : (g : Grammar) (rule name text : List ℕ) (format : Format) (limit : Limits) (place : ℕ) (it : NamedAttempts) (o : Outcome)
     → FailsIn g rule text place → IsFound g rule text place it → IsFailureReport name text it o
     → IsOutcome g rule name text format limit o
 failed g rule name text format limit place it (is.Shown lines _) f a t = absurd t
@@ -124,11 +145,11 @@ failed g rule name text format limit place it is.Bound f a t = absurd t
 failed g rule name text format limit place it is.Memory f a t = tt
 
 -- what is told of a failure of which the expected names were not found
-pub unnamed : (g : Grammar) (rule name text : List ℕ) (format : Format) (limit : ℕ) (place : ℕ) (o : Outcome)
-    → FailsIn g rule text place → TakesTooManySteps g rule text limit → IsUnnamedReport name text place limit o
+pub unnamed : (g : Grammar) (rule name text : List ℕ) (format : Format) (limit : Limits) (place : ℕ) (o : Outcome)
+    → FailsIn g rule text place → TakesTooManySteps g rule text limit.names → IsUnnamedReport name text place limit.names o
     → IsOutcome g rule name text format limit o
 unnamed g rule name text format limit place (is.Unnamed report) f long t =
-    let P : ℕ → Type 0 = λ q. ReportsAt name text q (unnamed_text limit) (string_bytes report) in
+    let P : ℕ → Type 0 = λ q. ReportsAt name text q (unnamed_text limit.names) (string_bytes report) in
     record { fails = f.0; long = long; reports = subst P f.1 t }
 unnamed g rule name text format limit place (is.Shown lines _) f long t = absurd t
 unnamed g rule name text format limit place (is.Failed report) f long t = absurd t
@@ -141,7 +162,7 @@ unnamed g rule name text format limit place is.Bound f long t = absurd t
 unnamed g rule name text format limit place is.Memory f long t = tt
 
 -- what is told of a name that no rule has
-pub unknown : (g : Grammar) (rule name text : List ℕ) (format : Format) (limit : ℕ) (o : Outcome) → HasNoRule g rule → IsNoRuleReport g rule o
+pub unknown : (g : Grammar) (rule name text : List ℕ) (format : Format) (limit : Limits) (o : Outcome) → HasNoRule g rule → IsNoRuleReport g rule o
     → IsOutcome g rule name text format limit o
 unknown g rule name text format limit (is.Shown lines _) h t = absurd t
 unknown g rule name text format limit (is.Failed report) h t = absurd t
@@ -173,10 +194,10 @@ same_note format_is.Json text end_ place ns ms h = refl
 same_note format_is.Lines text end_ place ns ms h = refl
 
 -- what is told of a match is told of what the rule gives
-module _ (g : Grammar) (rule name text : List ℕ) (format : Format) (limit : ℕ) (it : Preorder) (found : HasPreorder g (chars rule) (start_of text) is_in_property it) where
+module _ (g : Grammar) (rule name text : List ℕ) (format : Format) (limit : Limits) (it : Preorder) (found : HasPreorder g (chars rule) (start_of text) is_in_property it) where
   -- where the note on it has these names
   noted : (names : List Text) (note : Option (List ℕ)) → names ≡ each_once (expected found.found)
-      → note ≡ end_note format text it.end it.furthest names → IsNoted g rule text format limit note
+      → note ≡ end_note format text it.end it.furthest names → IsNoted g rule text format limit.names note
   noted names note a t =
       let P : ℕ → ℕ → List Text → Option (List ℕ) = end_note format text in
       record {
@@ -188,7 +209,7 @@ module _ (g : Grammar) (rule name text : List ℕ) (format : Format) (limit : �
 
   -- where the names are known if the note tells them
   notes : (names : List (Bor (List ℕ))) (note : Option (List ℕ)) → (tells_expected format text it.end it.furthest ≡ true → AreExpectedIn g rule text it.furthest names)
-      → note ≡ end_note format text it.end it.furthest (name_texts names) → IsNoted g rule text format limit note
+      → note ≡ end_note format text it.end it.furthest (name_texts names) → IsNoted g rule text format limit.names note
   notes names note a t =
       let all = each_once (expected found.found) in
       elim (told (tells_expected format text it.end it.furthest)) [
@@ -214,10 +235,10 @@ module _ (g : Grammar) (rule name text : List ℕ) (format : Format) (limit : �
   shows names is.Memory t a = tt
 
   -- where they were not found
-  pub shows_unnamed : (o : Outcome) → IsUnnamedMatchReport text format it.end it.furthest limit found.trees o
-      → tells_expected format text it.end it.furthest ≡ true → TakesTooManySteps g rule text limit → IsOutcome g rule name text format limit o
+  pub shows_unnamed : (o : Outcome) → IsUnnamedMatchReport text format it.end it.furthest limit.names found.trees o
+      → tells_expected format text it.end it.furthest ≡ true → TakesTooManySteps g rule text limit.names → IsOutcome g rule name text format limit o
   shows_unnamed (is.Shown lines note) t asked long =
-      let P : ℕ → ℕ → Option (List ℕ) = λ e p. Some (unnamed_end_text text e p limit) in (
+      let P : ℕ → ℕ → Option (List ℕ) = λ e p. Some (unnamed_end_text text e p limit.names) in (
         record { end_ = found.state; trees = found.trees; matches = found.found; lines_show = t.0 ∙ ap (λ e. trees_text format text e found.trees) found.ends },
         record {
           end_ = found.state;
@@ -266,8 +287,8 @@ pub at_character : (g : Grammar) (rule text : List ℕ) (place : ℕ) → IsUtf8
 at_character g rule text place utf8 f = stands_here g (chars rule) text place f.0 utf8 f.1
 
 -- what comes of a run that was stopped is what the matcher says of it
-pub stopped : (g : Grammar) (rule name text : List ℕ) (format : Format) (limit : ℕ) (why : Stop) (o : Outcome) → IsUtf8 text
-    → IsStopped g (chars rule) (start_of text) is_in_property limit why → IsStopReport why limit o → IsOutcome g rule name text format limit o
+pub stopped : (g : Grammar) (rule name text : List ℕ) (format : Format) (limit : Limits) (why : Stop) (o : Outcome) → IsUtf8 text
+    → IsStopped g (chars rule) (start_of text) is_in_property limit.steps why → IsStopReport why limit.steps o → IsOutcome g rule name text format limit o
 stopped g rule name text format limit stop.Memory o utf8 h t =
     let P : Outcome → Type 0 = λ o. IsOutcome g rule name text format limit o in
     subst P (sym t) tt
@@ -290,7 +311,7 @@ stopped g rule name text format limit stop.OutOfSteps is.UnknownName utf8 h t = 
 stopped g rule name text format limit stop.OutOfSteps is.Bound utf8 h t = absurd t
 
 -- rules that can't be run call an unknown name, or have a wrong bound
-pub unfit : (g : Grammar) (rule name text : List ℕ) (format : Format) (limit : ℕ) (why : Unfit) → IsReason has_set g why → IsOutcome g rule name text format limit (unfit_outcome why)
+pub unfit : (g : Grammar) (rule name text : List ℕ) (format : Format) (limit : Limits) (why : Unfit) → IsReason has_set g why → IsOutcome g rule name text format limit (unfit_outcome why)
 unfit g rule name text format limit no.Memory h = tt
 unfit g rule name text format limit (no.UnknownName called) h = (text_of called, h.0, h.1)
 unfit g rule name text format limit (no.Bound bound) h = (text_of bound, h.0, h.1)

@@ -7,10 +7,11 @@ use Rattle.pest_meta.specs.Written.{IsWritten}
 use Rattle.pest_run.specs.Ends.{EndsAs}
 use Rattle.matcher_support.specs.Sets.{is_in_property}
 use Rattle.matcher_program.specs.Answers.{start_of}
-use Rattle.pest_run.specs.Messages.{no_rule_text, steps_text}
+use Rattle.pest_run.specs.Messages.{no_rule_text}
 use Rattle.pest_run.specs.Outcomes.{IsOutcome, IsShown}
 use Rattle.pest_run.specs.Written.{AreMatched, AreRun, IsFormOutcome, NotesEnd, PrintsTrees, ReportsReason, ReportsRefusal, ReportsStop, WritesLine, empty_stack, long_text, no_match, no_rule, refused, too_many_steps, unknown_name, unnamed, wide_bound}
 use Rattle.pest_run.specs.declared.arguments.Format.{Format}
+use Rattle.pest_run.specs.declared.arguments.Limits.{Limits}
 use Rattle.pest_run.specs.declared.arguments.RuleForm.{RuleForm}
 use Rattle.pest_run.specs.declared.arguments.RuleForm.TheVariants as form_is
 use Rattle.pest_run.specs.declared.outcomes.Outcome.{Outcome}
@@ -48,7 +49,7 @@ matched form_is.Written grammar rule text format rules lines a i =
 matched form_is.Optimized grammar rule text format rules lines a i = record { rules = rules; matched = a; shows = i }
 
 -- where the status is 0, trees were printed
-pub prints : {X E : Type 0} (o : Outcome) (name grammar rule text : List ℕ) (format : Format) (form : RuleForm) (rules : Grammar) (limit : ℕ) (told : Result X E) (same : Type 0) (status : ℕ)
+pub prints : {X E : Type 0} (o : Outcome) (name grammar rule text : List ℕ) (format : Format) (form : RuleForm) (rules : Grammar) (limit : Limits) (told : Result X E) (same : Type 0) (status : ℕ)
     (old_out new_out old new : Option (List ℕ)) → AreRun form grammar rules → IsOutcome rules rule name text format limit o
     → EndsAs o same status told old_out new_out old new → status ≡ 0 → PrintsTrees form grammar rule text format old_out new_out
 prints (is.Shown lines note) name grammar rule text format form rules limit told same status old_out new_out old new a i e zero =
@@ -65,7 +66,7 @@ prints is.Bound name grammar rule text format form rules limit told same status 
 prints is.Memory name grammar rule text format form rules limit told same status old_out new_out old new a i e zero = absurd (apart status 0 2 zero e (omega arith))
 
 -- and the note on their end was written
-pub notes : {X E : Type 0} (o : Outcome) (name grammar rule text : List ℕ) (format : Format) (form : RuleForm) (rules : Grammar) (limit : ℕ) (told : Result X E) (same : Type 0) (status : ℕ)
+pub notes : {X E : Type 0} (o : Outcome) (name grammar rule text : List ℕ) (format : Format) (form : RuleForm) (rules : Grammar) (limit : Limits) (told : Result X E) (same : Type 0) (status : ℕ)
     (old_out new_out old new : Option (List ℕ)) → AreRun form grammar rules → IsOutcome rules rule name text format limit o
     → EndsAs o same status told old_out new_out old new → status ≡ 0 → NotesEnd form grammar rule text format limit same told old new
 notes (is.Shown lines note) name grammar rule text format form rules limit told same status old_out new_out old new a i e zero =
@@ -81,7 +82,7 @@ notes is.Bound name grammar rule text format form rules limit told same status o
 notes is.Memory name grammar rule text format form rules limit told same status old_out new_out old new a i e zero = absurd (apart status 0 2 zero e (omega arith))
 
 -- where it is 1, a reason was told
-pub tells : {X E : Type 0} (o : Outcome) (name grammar rule text : List ℕ) (format : Format) (form : RuleForm) (rules : Grammar) (limit : ℕ) (told : Result X E) (same : Type 0) (status : ℕ)
+pub tells : {X E : Type 0} (o : Outcome) (name grammar rule text : List ℕ) (format : Format) (form : RuleForm) (rules : Grammar) (limit : Limits) (told : Result X E) (same : Type 0) (status : ℕ)
     (old_out new_out old new : Option (List ℕ)) → AreRun form grammar rules → IsOutcome rules rule name text format limit o
     → EndsAs o same status told old_out new_out old new → status ≡ 1 → ReportsReason form grammar rule name text limit told old new
 tells (is.Shown lines _) name grammar rule text format form rules limit told same status old_out new_out old new a i e one = absurd (neither status 1 e.0 one (omega arith) (omega arith))
@@ -100,7 +101,7 @@ tells is.Bound name grammar rule text format form rules limit told same status o
 tells is.Memory name grammar rule text format form rules limit told same status old_out new_out old new a i e one = absurd (apart status 1 2 one e (omega arith))
 
 -- where it is 5, why the matcher was stopped was told
-pub stops : {X E : Type 0} (o : Outcome) (name grammar rule text : List ℕ) (format : Format) (form : RuleForm) (rules : Grammar) (limit : ℕ) (told : Result X E) (same : Type 0) (status : ℕ)
+pub stops : {X E : Type 0} (o : Outcome) (name grammar rule text : List ℕ) (format : Format) (form : RuleForm) (rules : Grammar) (limit : Limits) (told : Result X E) (same : Type 0) (status : ℕ)
     (old_out new_out old new : Option (List ℕ)) → AreRun form grammar rules → IsOutcome rules rule name text format limit o
     → EndsAs o same status told old_out new_out old new → status ≡ 5 → ReportsStop form grammar rule text limit told old new
 stops (is.Shown lines _) name grammar rule text format form rules limit told same status old_out new_out old new a i e five = absurd (neither status 5 e.0 five (omega arith) (omega arith))
@@ -108,8 +109,7 @@ stops (is.Failed report) name grammar rule text format form rules limit told sam
 stops (is.Unnamed report) name grammar rule text format form rules limit told same status old_out new_out old new a i e five = absurd (apart status 1 5 e.0 five (omega arith))
 stops (is.NoRule said) name grammar rule text format form rules limit told same status old_out new_out old new a i e five = absurd (apart status 1 5 e.0 five (omega arith))
 stops (is.OutOfSteps said) name grammar rule text format form rules limit told same status old_out new_out old new a i e five =
-    let P : List ℕ → Type 0 = λ t. WritesLine t told old new in
-    record { rules = rules; are = a; message = steps_text limit; stop = too_many_steps i.0; line = subst P i.1 e.1 }
+    record { rules = rules; are = a; message = string_bytes said; stop = too_many_steps (string_bytes said) i.0 i.1; line = e.1 }
 stops is.EmptyStack name grammar rule text format form rules limit told same status old_out new_out old new a i e five = record { rules = rules; are = a; message = codes "PEEK or POP found nothing on the stack"; stop = empty_stack i; line = e.1 }
 stops is.LongText name grammar rule text format form rules limit told same status old_out new_out old new a i e five = record { rules = rules; are = a; message = codes "the text has 4 GiB or more"; stop = long_text i; line = e.1 }
 stops is.UnknownName name grammar rule text format form rules limit told same status old_out new_out old new a i e five = record { rules = rules; are = a; message = codes "the grammar calls a rule that is not known"; stop = unknown_name i; line = e.1 }
@@ -117,13 +117,13 @@ stops is.Bound name grammar rule text format form rules limit told same status o
 stops is.Memory name grammar rule text format form rules limit told same status old_out new_out old new a i e five = absurd (apart status 2 5 e five (omega arith))
 
 -- a refusal is a reason
-pub refusal_is_reason : {X E : Type 0} (form : RuleForm) (grammar rule name text : List ℕ) (limit : ℕ) (told : Result X E) (old new : Option (List ℕ))
+pub refusal_is_reason : {X E : Type 0} (form : RuleForm) (grammar rule name text : List ℕ) (limit : Limits) (told : Result X E) (old new : Option (List ℕ))
     → ReportsRefusal grammar told old new → ReportsReason form grammar rule name text limit told old new
 refusal_is_reason form grammar rule name text limit told old new r =
     record { message = r.tells.report; reason = refused r.errors r.tells.report r.refused r.tells.shows; line = r.tells.line }
 
 -- the same of an outcome by the rules of a grammar
-module _ {X E : Type 0} (o : Outcome) (name grammar rule text : List ℕ) (format : Format) (form : RuleForm) (limit : ℕ) (told : Result X E) (same : Type 0) (status : ℕ)
+module _ {X E : Type 0} (o : Outcome) (name grammar rule text : List ℕ) (format : Format) (form : RuleForm) (limit : Limits) (told : Result X E) (same : Type 0) (status : ℕ)
     (old_out new_out old new : Option (List ℕ)) (comes : IsFormOutcome form grammar rule name text format limit o) (e : EndsAs o same status told old_out new_out old new) where
   -- an allocation failure has a status of its own
   no_memory : (k : ℕ) → o ≡ is.Memory → status ≡ k → (k ≡ 2 → ⊥) → ⊥

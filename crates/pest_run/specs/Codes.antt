@@ -7,6 +7,7 @@ use Rattle.program_support.specs.Escapes.{escaped_bytes}
 use Rattle.pest_run.specs.Ends.{EndsAs}
 use Rattle.pest_run.specs.Outcomes.{IsOutcome}
 use Rattle.pest_run.specs.declared.arguments.Format.{Format}
+use Rattle.pest_run.specs.declared.arguments.Limits.{Limits}
 use Rattle.pest_run.specs.declared.outcomes.Outcome.{Outcome}
 
 -- bytes begin with `pest` and a version below 2^24
@@ -31,9 +32,9 @@ abbrev pub code_text : List ℕ → List ℕ → List ℕ
 code_text name bytes = codes "cannot run " ++ escaped_bytes name ++ codes ": " ++ why_refused bytes
 
 -- a run ends with the outcome of the rule of a grammar on the text of a file
-pub record EndsAsRules {X E : Type 0} (g : Grammar) (rule name text : List ℕ) (format : Format) (limit : ℕ)
-    (same : Type 0) (status : ℕ) (told : Result X E) (old_out new_out old new : Option (List ℕ))
-    : Type 0 where
+pub record EndsAsRules {X E : Type 0} (g : Grammar) (rule name text : List ℕ) (format : Format)
+    (limits : Limits) (same : Type 0) (status : ℕ) (told : Result X E)
+    (old_out new_out old new : Option (List ℕ)) : Type 0 where
   pub outcome : Outcome
-  pub is : IsOutcome g rule name text format limit outcome
+  pub is : IsOutcome g rule name text format limits outcome
   pub ends : EndsAs outcome same status told old_out new_out old new

@@ -1,6 +1,5 @@
 -- Explanations of failures: the calls that are open where a rule fails on a text.
 use Rattle.std.specs.Prelude.{◌≡◌, ◌⊎◌, ℕ, List, ◌++◌, Option, Result, OnOk, codes, string_bytes, ⊤}
-use Rattle.std.specs.Fmt.{decimal}
 use Rattle.std.specs.Global.{Vec}
 use Rattle.std.specs.Io.KnownBytes.{Appends}
 use Rattle.std.specs.Str.{chars}
@@ -12,6 +11,7 @@ use Rattle.matcher_support.specs.Compiled.{FailsIn}
 use Rattle.matcher_support.specs.Sets.{is_in_property}
 use Rattle.matcher_support.specs.Compiled.{ArePathsIn}
 use Rattle.pest_run.specs.Failures.{IsFound}
+use Rattle.pest_run.specs.Messages.{limit_text}
 use Rattle.pest_run.specs.Outcomes.{HasNoRule, TakesTooManySteps}
 use Rattle.pest_run.specs.Paths.{shown_paths}
 use Rattle.pest_run.specs.RuleNames.{rule_names}
@@ -41,8 +41,7 @@ pub record ShowsPaths (g : Grammar) (rule text : List ℕ) (format : Format) (sh
 
 -- that the open calls were not found in so many steps, or that memory or the lists did not suffice
 abbrev pub unfound_text : ℕ → List ℕ
-unfound_text steps =
-    codes "the open calls were not found in " ++ (decimal steps ++ codes " steps; --steps N allows N")
+unfound_text steps = codes "the open calls were not found in " ++ limit_text steps
 
 abbrev pub unstored_text : List ℕ
 unstored_text = codes "the open calls were not found: out of memory, or more than 1024 lists of them"

@@ -1,5 +1,5 @@
 -- Messages about a rule, a text and files.
-use Rattle.std.specs.Prelude.{ℕ, ◌==◌, ◌||◌, not, Bool, List, [], ◌++◌, bytes_eq, codes, if◌then◌else◌, length, nat_le, take}
+use Rattle.std.specs.Prelude.{◌≡◌, ◌⊎◌, ℕ, ◌-◌, ◌*◌, ◌^◌, ◌==◌, ◌||◌, not, Bool, List, [], ◌++◌, bytes_eq, codes, if◌then◌else◌, length, min, nat_le, take}
 use Rattle.std.specs.Fmt.{decimal}
 use Rattle.base_language.specs.Language.Expression.{Grammar}
 use Rattle.base_language.specs.Language.Text.{Text}
@@ -18,16 +18,32 @@ abbrev pub no_rule_text : Grammar → List ℕ → List ℕ
 no_rule_text g name =
     codes "the grammar has no rule " ++ escaped_bytes name ++ suggestion (take 5 (near_names g name))
 
--- that a match was stopped after so many steps
+-- sixteen times as many steps, as far as they can be counted
+abbrev pub more_steps : ℕ → ℕ
+more_steps steps = min (steps * 16) (2 ^ 64 - 1)
+
+-- this many steps, and a number to try
+abbrev pub limit_text : ℕ → List ℕ
+limit_text steps =
+    decimal steps ++ (codes " steps; --steps " ++ (decimal (more_steps steps) ++ codes " allows more"))
+
+-- that a match was stopped after this many steps
 abbrev pub steps_text : ℕ → List ℕ
-steps_text steps =
-    codes "the match was stopped after " ++ (decimal steps ++ codes " steps; --steps N allows N")
+steps_text steps = codes "the match was stopped after " ++ limit_text steps
+
+-- so too, where a rule uses the stack
+abbrev pub stack_text : ℕ → List ℕ → List ℕ
+stack_text steps user =
+    steps_text steps ++ codes " (rule " ++ escaped_bytes user ++ codes " uses the stack)"
+
+-- one of these messages
+abbrev pub IsStepsText : ℕ → List ℕ → Type 0
+IsStepsText steps message =
+    (message ≡ steps_text steps) ⊎ ((user : List ℕ) × (message ≡ stack_text steps user))
 
 -- that the expected set of a failure was not found in so many steps
 abbrev pub unnamed_text : ℕ → List ℕ
-unnamed_text steps =
-    codes "what is expected here was not found in "
-    ++ (decimal steps ++ codes " steps; --steps N allows N")
+unnamed_text steps = codes "what is expected here was not found in " ++ limit_text steps
 
 -- more than a line's end is left of a text
 abbrev pub is_more : List ℕ → Bool
@@ -72,7 +88,7 @@ end_text text end_ place names =
 
 -- that something was not found in so many steps
 abbrev pub not_found_text : ℕ → List ℕ
-not_found_text steps = codes " was not found in " ++ (decimal steps ++ codes " steps; --steps N allows N")
+not_found_text steps = codes " was not found in " ++ limit_text steps
 
 -- that a match ends at a byte position of a text, and that what is expected at another was not found in so
 -- many steps

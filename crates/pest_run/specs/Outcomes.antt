@@ -26,10 +26,11 @@ use Rattle.matcher_support.specs.Shown.{shown}
 use Rattle.matcher_support.specs.Values.{answer_data}
 use Rattle.program_support.specs.Escapes.{escaped_json, escaped_lines}
 use Rattle.program_support.specs.Messages.{ShowsError}
-use Rattle.pest_run.specs.Messages.{end_text, failure_text, is_more, no_rule_text, steps_text, unnamed_end_text, unnamed_text}
+use Rattle.pest_run.specs.Messages.{IsStepsText, end_text, failure_text, is_more, no_rule_text, unnamed_end_text, unnamed_text}
 use Rattle.pest_run.specs.Failures.{AreTold}
 use Rattle.pest_run.specs.declared.arguments.Format.{Format}
 use Rattle.pest_run.specs.declared.arguments.Format.TheVariants as format_is
+use Rattle.pest_run.specs.declared.arguments.Limits.{Limits}
 use Rattle.matcher_support.specs.declared.attempts.NamedAttempts.{NamedAttempts}
 use Rattle.pest_run.specs.declared.outcomes.Outcome.{Outcome}
 use Rattle.pest_run.specs.declared.outcomes.Outcome.TheVariants as is
@@ -135,7 +136,7 @@ abbrev pub IsStopReport : Stop → ℕ → Outcome → Type 0
 IsStopReport stop.Memory limit o = o ≡ is.Memory
 IsStopReport stop.EmptyStack limit o = o ≡ is.EmptyStack
 IsStopReport stop.TextTooLong limit o = o ≡ is.LongText
-IsStopReport stop.OutOfSteps limit (is.OutOfSteps message) = string_bytes message ≡ steps_text limit
+IsStopReport stop.OutOfSteps limit (is.OutOfSteps message) = IsStepsText limit (string_bytes message)
 IsStopReport stop.OutOfSteps limit is.Memory = ⊤
 IsStopReport stop.OutOfSteps limit _ = ⊥
 
@@ -186,19 +187,19 @@ IsNoRuleReport g rule _ = ⊥
 
 -- the outcome is that of the rule on the text of a file, or says why the rules can't be run; an allocation
 -- failure is not constrained
-abbrev pub IsOutcome : Grammar → (rule name text : List ℕ) → Format → ℕ → Outcome → Type 0
-IsOutcome g rule name text format limit (is.Shown lines note) =
+abbrev pub IsOutcome : Grammar → (rule name text : List ℕ) → Format → Limits → Outcome → Type 0
+IsOutcome g rule name text format limits (is.Shown lines note) =
     IsShown g rule text format (string_bytes lines)
-    × IsNoted g rule text format limit (option_map string_bytes note)
-IsOutcome g rule name text format limit (is.Failed report) = HasFailed g rule name text (string_bytes report)
-IsOutcome g rule name text format limit (is.Unnamed report) =
-    HasUnnamed g rule name text limit (string_bytes report)
-IsOutcome g rule name text format limit (is.NoRule message) =
+    × IsNoted g rule text format limits.names (option_map string_bytes note)
+IsOutcome g rule name text format limits (is.Failed report) = HasFailed g rule name text (string_bytes report)
+IsOutcome g rule name text format limits (is.Unnamed report) =
+    HasUnnamed g rule name text limits.names (string_bytes report)
+IsOutcome g rule name text format limits (is.NoRule message) =
     HasNoRule g rule × (string_bytes message ≡ no_rule_text g rule)
-IsOutcome g rule name text format limit (is.OutOfSteps message) =
-    TakesTooManySteps g rule text limit × (string_bytes message ≡ steps_text limit)
-IsOutcome g rule name text format limit is.EmptyStack = HasNoOutcome g rule text
-IsOutcome g rule name text format limit is.UnknownName = CallsUnknownName g
-IsOutcome g rule name text format limit is.Bound = HasWrongBound g
-IsOutcome g rule name text format limit is.LongText = 2 ^ 32 ≤ length text
-IsOutcome g rule name text format limit is.Memory = ⊤
+IsOutcome g rule name text format limits (is.OutOfSteps message) =
+    TakesTooManySteps g rule text limits.steps × IsStepsText limits.steps (string_bytes message)
+IsOutcome g rule name text format limits is.EmptyStack = HasNoOutcome g rule text
+IsOutcome g rule name text format limits is.UnknownName = CallsUnknownName g
+IsOutcome g rule name text format limits is.Bound = HasWrongBound g
+IsOutcome g rule name text format limits is.LongText = 2 ^ 32 ≤ length text
+IsOutcome g rule name text format limits is.Memory = ⊤

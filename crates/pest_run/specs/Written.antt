@@ -11,9 +11,10 @@ use Rattle.pest_meta.specs.Spelling.{IsAnswer, IsRefusedWith}
 use Rattle.pest_meta.specs.Written.{IsWritten, SpellsAccepted}
 pub use Rattle.program_support.specs.Ends.{WritesLine, WritesNote, WritesReport}
 use Rattle.program_support.specs.Messages.{IsReport}
-use Rattle.pest_run.specs.Messages.{no_rule_text, steps_text, unread_text}
+use Rattle.pest_run.specs.Messages.{IsStepsText, no_rule_text, unread_text}
 use Rattle.pest_run.specs.Outcomes.{CallsUnknownName, HasFailed, HasNoOutcome, HasNoRule, HasUnnamed, HasWrongBound, IsNoted, IsOutcome, IsShown, TakesTooManySteps}
 use Rattle.pest_run.specs.declared.arguments.Format.{Format}
+use Rattle.pest_run.specs.declared.arguments.Limits.{Limits}
 use Rattle.pest_run.specs.declared.arguments.RuleForm.{RuleForm}
 use Rattle.pest_run.specs.declared.arguments.RuleForm.TheVariants as form_is
 use Rattle.pest_run.specs.declared.outcomes.Outcome.{Outcome}
@@ -69,9 +70,9 @@ AreRun form_is.Optimized grammar rules = AreAnswered grammar rules
 
 -- the outcome is that of the rule by the rules of the grammar, as they are run; an allocation failure is not
 -- constrained
-abbrev pub IsFormOutcome : RuleForm → (grammar rule name text : List ℕ) → Format → ℕ → Outcome → Type 0
-IsFormOutcome form grammar rule name text format limit outcome = (outcome ≡ is.Memory)
-    ⊎ ((rules : Grammar) × AreRun form grammar rules × IsOutcome rules rule name text format limit outcome)
+abbrev pub IsFormOutcome : RuleForm → (grammar rule name text : List ℕ) → Format → Limits → Outcome → Type 0
+IsFormOutcome form grammar rule name text format limits outcome = (outcome ≡ is.Memory)
+    ⊎ ((rules : Grammar) × AreRun form grammar rules × IsOutcome rules rule name text format limits outcome)
 
 -- the rule of the grammar matches the text, and the writer's contents grew by the trees
 pub record PrintsTrees (form : RuleForm) (grammar rule text : List ℕ) (format : Format)
@@ -84,38 +85,41 @@ pub record PrintsTrees (form : RuleForm) (grammar rule text : List ℕ) (format 
 
 -- the rule of the grammar matches the text, and the note on its end was written
 pub record NotesEnd {X E : Type 0} (form : RuleForm) (grammar rule text : List ℕ) (format : Format)
-    (limit : ℕ) (same : Type 0) (written : Result X E) (old new : Option (List ℕ)) : Type 0 where
+    (limits : Limits) (same : Type 0) (written : Result X E) (old new : Option (List ℕ)) : Type 0 where
   pub rules : Grammar
   pub are : AreRun form grammar rules
   pub note : Option (List ℕ)
-  pub noted : IsNoted rules rule text format limit note
+  pub noted : IsNoted rules rule text format limits.names note
   pub line : WritesNote note same written old new
 
 -- the reason why there are no trees, and its text: the grammar is refused, and its report is the text; or
 -- it has no rule of that name; or the rule fails, and the text reports that on the text of the file, with
 -- what is expected, or that this was not found in so many steps
-pub data IsReason (form : RuleForm) (grammar rule name text : List ℕ) (limit : ℕ) : List ℕ → Type 0 where
+pub data IsReason (form : RuleForm) (grammar rule name text : List ℕ) (limits : Limits)
+    : List ℕ → Type 0 where
   refused : (errors : List (Error Rule)) (report : List ℕ) → IsRefusedWith grammar errors
-      → IsReport errors report → IsReason form grammar rule name text limit report
+      → IsReport errors report → IsReason form grammar rule name text limits report
   no_rule : (rules : Grammar) → AreRun form grammar rules → HasNoRule rules rule
-      → IsReason form grammar rule name text limit (no_rule_text rules rule)
+      → IsReason form grammar rule name text limits (no_rule_text rules rule)
   no_match : (rules : Grammar) (report : List ℕ) → AreRun form grammar rules
-      → HasFailed rules rule name text report → IsReason form grammar rule name text limit report
+      → HasFailed rules rule name text report → IsReason form grammar rule name text limits report
   unnamed : (rules : Grammar) (report : List ℕ) → AreRun form grammar rules
-      → HasUnnamed rules rule name text limit report → IsReason form grammar rule name text limit report
+      → HasUnnamed rules rule name text limits.names report
+      → IsReason form grammar rule name text limits report
 
 -- there is such a reason, and it is the line
-pub record ReportsReason {X E : Type 0} (form : RuleForm) (grammar rule name text : List ℕ) (limit : ℕ)
+pub record ReportsReason {X E : Type 0} (form : RuleForm) (grammar rule name text : List ℕ) (limits : Limits)
     (written : Result X E) (old new : Option (List ℕ)) : Type 0 where
   pub message : List ℕ
-  pub reason : IsReason form grammar rule name text limit message
+  pub reason : IsReason form grammar rule name text limits message
   pub line : WritesLine message written old new
 
 -- the reason why the matcher was stopped on the text, and its text: too many steps; or the rule has no
 -- outcome and `PEEK` or `POP` met the empty stack; or the text has 4 GiB;
 -- or the rules can't be run, for an unknown name or a bound
 pub data IsStop (g : Grammar) (rule text : List ℕ) (limit : ℕ) : List ℕ → Type 0 where
-  too_many_steps : TakesTooManySteps g rule text limit → IsStop g rule text limit (steps_text limit)
+  too_many_steps : (message : List ℕ) → TakesTooManySteps g rule text limit → IsStepsText limit message
+      → IsStop g rule text limit message
   empty_stack : HasNoOutcome g rule text
       → IsStop g rule text limit (codes "PEEK or POP found nothing on the stack")
   long_text : 2 ^ 32 ≤ length text → IsStop g rule text limit (codes "the text has 4 GiB or more")
@@ -130,5 +134,5 @@ pub record ReportsStop {X E : Type 0} (form : RuleForm) (grammar rule text : Lis
   pub rules : Grammar
   pub are : AreRun form grammar rules
   pub message : List ℕ
-  pub stop : IsStop rules rule text limit message
+  pub stop : IsStop rules rule text limits.steps message
   pub line : WritesLine message written old new

@@ -3,7 +3,7 @@ ghost use Rattle.std.specs.Prelude.{◌≡◌, ◌∷◌, ℕ, List, [], IfOk, N
 ghost use Rattle.clap.specs.Matches.{first_value, found_of, one_text};
 ghost use Rattle.clap.specs.Simple.{app_of};
 ghost use Rattle.program_support.specs.Arguments.{HasForm, arguments_of, flag, option, positional};
-ghost use Rattle.pest_run.specs.Steps.{CountsSteps, step_limit, steps_by_length};
+ghost use Rattle.pest_run.specs.Steps.{CountsSteps, first_steps, limits_of, name_limit, step_limit};
 
 use clap::builder::ValueParser;
 use clap::{Arg, ArgMatches, Command};
@@ -37,7 +37,7 @@ pub struct Request<'a> {
     pub format: Format,
     /// The form in which the rules of the grammar are run.
     pub form: RuleForm,
-    /// The greatest number of steps; where none is given, the text's length sets it.
+    /// The greatest number of steps, if one is given.
     pub steps: Option<u64>,
     /// Whether the calls that are open at a failure are printed.
     pub why: bool,
@@ -94,9 +94,8 @@ fn steps_argument<'a>(alloc: Global) -> Arg<'a>
     ensures { HasForm (option (codes "steps")) result }
 {
     let help =
-        "Stop a match after N steps, and then run it guided, in 4 N turns at most; where N is not given, \
-                after 32 steps for each byte of the text and 16384 more, and guided in as many turns as \
-                suffice, but a rule that uses the stack, and the names of a failure, are given 2000000 more";
+        "Stop a match after N steps; if N is not given, only a match by a rule that uses the stack is \
+                stopped, after 268435456 steps and 4096 more for each byte of the text";
     option(alloc, "steps", help)
         .value_name("N")
         .value_parser(ValueParser::unsigned(1, u64::MAX))
@@ -229,39 +228,51 @@ pub fn steps_of(matches: &ArgMatches<'_>) -> Option<u64>
     matches.get_one("steps")
 }
 
-/// The steps that each byte of a text is allowed where no limit is given.
-const STEPS_PER_BYTE: u64 = 32;
+/// The greatest numbers of steps on a text.
+#[derive(Clone, Copy, Debug)]
+pub struct Limits {
+    /// The limit of a match. A rule that does not use the stack has one only if it is given.
+    pub steps: u64,
+    /// The limit of each search for names that are expected, and for calls that are open.
+    pub names: u64,
+}
 
-/// The bytes by which every text counts for longer in a first run. The machine remembers calls after as many
-/// steps.
-const FIRST_BYTES: u64 = 512;
+/// Returns the limits on a text of this length, in bytes, where this many steps are given, or none.
+pub fn limits_of(steps: Option<u64>, length: usize) -> Limits
+    ensures { result ≡ limits_of steps length }
+{
+    Limits {
+        steps: step_limit(steps, length),
+        names: name_limit(steps, length),
+    }
+}
 
-/// The bytes by which every text counts for longer in a run that has no guided one: 2,000,000 steps.
-const MORE_BYTES: u64 = 62_500;
-
-/// Returns the greatest number of steps on a text of this length: the given one, or else one that is linear
-/// in the length.
+/// Returns the greatest number of steps of a match on a text of this length, in bytes, by a rule that uses
+/// the stack: the given number, or else 2^28, and 4,096 more for each byte.
 pub fn step_limit(steps: Option<u64>, length: usize) -> u64
     ensures { result ≡ step_limit steps length }
 {
     match steps {
         Some(steps) => steps,
-        None => steps_by_length(length, MORE_BYTES),
+        None => (length as u64).saturating_add(65_536).saturating_mul(4_096),
     }
 }
 
-/// Returns the number of steps, on a text of this length, after which a guided run takes a run's place.
-pub fn first_steps(length: usize) -> u64
-    ensures { result ≡ steps_by_length 512 length }
+/// Returns the greatest number of steps of a search for names on a text of this length, in bytes: the given
+/// number, or else 2^23, and 32 more for each byte.
+pub fn name_limit(steps: Option<u64>, length: usize) -> u64
+    ensures { result ≡ name_limit steps length }
 {
-    steps_by_length(length, FIRST_BYTES)
+    match steps {
+        Some(steps) => steps,
+        None => (length as u64).saturating_add(262_144).saturating_mul(32),
+    }
 }
 
-/// Returns the steps for a text of this length and so many bytes more.
-fn steps_by_length(length: usize, more: u64) -> u64
-    ensures { result ≡ steps_by_length more length }
+/// Returns the number of steps, on a text of this length, in bytes, after which a guided run takes a run's
+/// place: 16,384, and 32 more for each byte. The machine remembers calls after as many.
+pub fn first_steps(length: usize) -> u64
+    ensures { result ≡ first_steps length }
 {
-    (length as u64)
-        .saturating_add(more)
-        .saturating_mul(STEPS_PER_BYTE)
+    (length as u64).saturating_add(512).saturating_mul(32)
 }

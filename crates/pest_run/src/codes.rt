@@ -10,7 +10,7 @@ ghost use Rattle.pest_meta.specs.Spelling.{IsAnswer};
 ghost use Rattle.pest_meta.specs.WithSpans.{SpellsWithSpans};
 ghost use Rattle.pest_run.specs.Codes.{EndsAsRules, begins_as_code, code_text, is_code, why_refused};
 ghost use Rattle.pest_run.specs.Grammars.{IsReadingOf};
-ghost use Rattle.pest_run.specs.Steps.{step_limit};
+ghost use Rattle.pest_run.specs.Steps.{limits_of};
 ghost use Rattle.pest_run.specs.Written.{IsReadable, ReportsRefusal, ReportsUnread, WritesLine};
 
 use crate::arguments::Request;
@@ -65,7 +65,7 @@ pub fn run_code<W: Write, E: Write>(
     ensures ends { (rules : List OptimizedRule) → IsCompiled rules code.now.bytes.items
         → code.now.why ≡ None → IsReadable text.now
         → EndsAsRules (optimized_rules_of rules) request.entry.rule.now text.now.name.now text.now.bytes.items
-        request.entry.format (step_limit request.entry.steps (length text.now.bytes.items))
+        request.entry.format (limits_of request.entry.steps (length text.now.bytes.items))
         (err.new ≡ err.old) result.status result.write_result
         (W.contents out.old.writer) (W.contents out.new.writer)
         (E.contents err.old.writer) (E.contents err.new.writer) }

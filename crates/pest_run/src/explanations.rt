@@ -11,12 +11,13 @@ ghost use Rattle.matcher_support.specs.Compiled.{ArePathsIn, FailsIn, IsCompiled
 ghost use Rattle.matcher_support.specs.Sets.{is_in_property};
 ghost use Rattle.pest_run.specs.Explanations.{Explains, IsExplanation, IsFormExplanation, IsReportedAt, WritesExplanation, unfound_text};
 ghost use Rattle.pest_run.specs.Grammars.{IsReadFrom};
-ghost use Rattle.pest_run.specs.Steps.{step_limit};
+ghost use Rattle.pest_run.specs.Steps.{name_limit};
 ghost use Rattle.pest_run.specs.Written.{IsReadable};
 
-use crate::arguments::{Format, Request, step_limit};
+use crate::arguments::{Format, Request, name_limit};
 use crate::failures::find_failure;
 use crate::grammars::GrammarRules;
+use crate::messages::more_steps;
 use crate::paths::show_paths;
 use crate::sources::{Source, text_of};
 use base_ast::optimized::{OptimizedRule, release};
@@ -62,7 +63,7 @@ pub fn explain_failure<W: Write, E: Write>(
     ensures explains { (spelled : List ℕ) → IsReadFrom spelled grammar.now → IsReadable text.now
         → Explains (IsFormExplanation request.entry.form spelled request.entry.rule.now
         text.now.bytes.items request.entry.format
-        (step_limit request.entry.steps (length text.now.bytes.items)))
+        (name_limit request.entry.steps (length text.now.bytes.items)))
         request.entry.format (out.new ≡ out.old) (err.new ≡ err.old) result
         (W.contents out.old.writer) (W.contents out.new.writer)
         (E.contents err.old.writer) (E.contents err.new.writer) }
@@ -88,7 +89,7 @@ pub fn explain_code<W: Write, E: Write>(
     ensures explains { (rules : List OptimizedRule) → IsCompiled rules code.now.bytes.items
         → IsReadable text.now
         → Explains (IsExplanation (optimized_rules_of rules) request.entry.rule.now text.now.bytes.items
-        request.entry.format (step_limit request.entry.steps (length text.now.bytes.items)))
+        request.entry.format (name_limit request.entry.steps (length text.now.bytes.items)))
         request.entry.format (out.new ≡ out.old) (err.new ≡ err.old) result
         (W.contents out.old.writer) (W.contents out.new.writer)
         (E.contents err.old.writer) (E.contents err.new.writer) }
@@ -98,7 +99,7 @@ pub fn explain_code<W: Write, E: Write>(
         return Ok(());
     };
     let (rule, format) = (request.rule, request.format);
-    let steps = step_limit(request.steps, input.len());
+    let steps = name_limit(request.steps, input.len());
     let explanation = explain_block(alloc, &code.bytes, rule, input, format, steps);
     write_explanation(&explanation, format, out, err)
 }
@@ -134,12 +135,12 @@ fn explanation_of(
 ) -> Explanation
     ensures { (spelled : List ℕ) → IsReadFrom spelled grammar.now
         → IsFormExplanation request.entry.form spelled request.entry.rule.now text.now
-        request.entry.format (step_limit request.entry.steps (length text.now)) result }
+        request.entry.format (name_limit request.entry.steps (length text.now)) result }
 {
     match grammar.to_run(alloc, request.form) {
         Ok(rules) => {
             let (rule, format) = (request.rule, request.format);
-            let steps = step_limit(request.steps, text.len());
+            let steps = name_limit(request.steps, text.len());
             let explanation = explain_rules(alloc, &rules, rule, text, format, steps);
             release(rules);
             explanation
@@ -333,5 +334,6 @@ fn stop_explanation(alloc: Global, stop: Stop, steps: u64) -> Explanation
 fn unfound_message(alloc: Global, steps: u64) -> Result<String, AllocError>
     ensures { IfOk result (λ message. string_bytes message ≡ unfound_text steps) }
 {
-    format!(in alloc; "the open calls were not found in {steps} steps; --steps N allows N")
+    let more = more_steps(steps);
+    format!(in alloc; "the open calls were not found in {steps} steps; --steps {more} allows more")
 }

@@ -6,7 +6,7 @@ ghost use Rattle.pest_run.specs.Grammars.{IsReadFrom};
 ghost use Rattle.pest_run.specs.Messages.{optimized_text};
 ghost use Rattle.pest_run.specs.Written.{WritesLine};
 
-use crate::arguments::{Request, RuleForm, step_limit};
+use crate::arguments::{Request, RuleForm, name_limit};
 use crate::grammars::GrammarRules;
 use crate::sources::{Source, text_of};
 use base_ast::optimized::{OptimizedRule, release};
@@ -54,7 +54,7 @@ fn are_matched(alloc: Global, grammar: &GrammarRules, text: &str, request: Reque
     let Ok(rules) = grammar.to_run(alloc, RuleForm::Optimized) else {
         return false;
     };
-    let steps = step_limit(request.steps, text.len());
+    let steps = name_limit(request.steps, text.len());
     let matched = has_match(alloc, &rules, request.rule, text, steps);
     release(rules);
     matched

@@ -1,5 +1,5 @@
 //! Runs of a rule on a text, in so many steps.
-ghost use Rattle.std.specs.Prelude.{◌≡◌, ◌≢◌, IfErr, IfOk, chars, false, length, true};
+ghost use Rattle.std.specs.Prelude.{◌≡◌, ◌≢◌, IfErr, IfOk, None, chars, false, length, true};
 ghost use Rattle.base_language.specs.Language.Expression.{Grammar};
 ghost use Rattle.matcher_engine.specs.Preorders.{HasPreorder};
 ghost use Rattle.matcher_program.specs.Answers.{start_of};
@@ -18,8 +18,8 @@ use std::alloc::Global;
 /// operations.
 const TURNS: u64 = 4;
 
-/// Matches by the rule of that name. Out of steps, a guided run takes the run's place, with a limit of its
-/// own only where one is given.
+/// Matches by the rule of that name. Out of steps, a guided run takes the run's place. If no limit is given,
+/// only a rule that uses the stack has one.
 pub fn match_rule(
     alloc: Global,
     rules: &CompiledRules<'_>,
@@ -38,35 +38,54 @@ pub fn match_rule(
             let turns = steps.saturating_mul(TURNS);
             rules.match_guided(alloc, rule, text, steps, Some(turns))
         }
-        None => match_unlimited(alloc, rules, rule, text, steps),
+        None => match_unlimited(alloc, rules, rule, text),
     }
 }
 
-/// Matches by the rule of that name, where no limit is given: a guided run takes the run's place before that
-/// remembers calls, whose trees it copies. Where the guided run has no answer, as where the rule uses the
-/// stack, so many steps are allowed.
+/// Matches by the rule of that name, if no limit is given: a guided run takes the run's place before that
+/// remembers calls, whose trees it copies. If the guided run has no answer, the rule is run again, with a
+/// limit if it uses the stack.
 fn match_unlimited(
     alloc: Global,
     rules: &CompiledRules<'_>,
     rule: &str,
     text: &str,
-    steps: u64,
 ) -> Result<Preorder, BlockStop>
     ensures matched { (g : Grammar) → IsCompiledOf g rules.now
         → IfOk result (HasPreorder g (chars rule.now) (start_of text.now) is_in_property) }
     ensures refused { (g : Grammar) → IsCompiledOf g rules.now
-        → IfErr result (IsRefusedBy g rule.now text.now steps) }
+        → IfErr result (IsRefusedBy g rule.now text.now (step_limit None (length text.now))) }
 {
     let first = first_steps(text.len());
     match rules.match_guided(alloc, rule, text, first, None) {
         Ok(found) => Ok(found),
         Err(stop) => {
             if is_out_of_steps(&stop) {
-                rules.match_text(alloc, rule, text, steps)
+                match_again(alloc, rules, rule, text)
             } else {
                 Err(stop)
             }
         }
+    }
+}
+
+/// Matches by the rule of that name, in as many steps as a rule that uses the stack is allowed, or in any
+/// number by another.
+fn match_again(
+    alloc: Global,
+    rules: &CompiledRules<'_>,
+    rule: &str,
+    text: &str,
+) -> Result<Preorder, BlockStop>
+    ensures matched { (g : Grammar) → IsCompiledOf g rules.now
+        → IfOk result (HasPreorder g (chars rule.now) (start_of text.now) is_in_property) }
+    ensures refused { (g : Grammar) → IsCompiledOf g rules.now
+        → IfErr result (IsRefusedBy g rule.now text.now (step_limit None (length text.now))) }
+{
+    match rules.find_stack_rule(alloc, rule) {
+        Ok(Some(_)) => rules.match_text(alloc, rule, text, step_limit(None, text.len())),
+        Ok(None) => rules.match_text(alloc, rule, text, u64::MAX),
+        Err(_) => Err(BlockStop::Stopped(Stop::Memory)),
     }
 }
 

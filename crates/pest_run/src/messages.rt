@@ -6,7 +6,7 @@ ghost use Rattle.matcher_support.specs.Expectations.{list_text};
 ghost use Rattle.base_language.specs.Language.Expression.{Grammar};
 ghost use Rattle.matcher_engine.specs.Walks.{AreNamesOf};
 ghost use Rattle.program_support.specs.Escapes.{escaped_bytes};
-ghost use Rattle.pest_run.specs.Messages.{end_text, expected_or_none, expected_text, expected_too, failure_text, is_more, no_rule_text, not_found_text, note_between, place_text, steps_text, suggestion, unnamed_end_text, unnamed_text, unread_text};
+ghost use Rattle.pest_run.specs.Messages.{end_text, expected_or_none, expected_text, expected_too, failure_text, is_more, more_steps, no_rule_text, not_found_text, note_between, place_text, stack_text, steps_text, suggestion, unnamed_end_text, unnamed_text, unread_text};
 ghost use Rattle.base_language.specs.Pieces.LineColumn.{line_column};
 
 use crate::rule_names::near_names;
@@ -76,11 +76,33 @@ pub fn code_message(alloc: Global, name: &str, why: &str) -> Result<String, Allo
     Ok(message)
 }
 
-/// Returns the message that a match was stopped after so many steps. The only error is an allocation failure.
+/// Returns a number of steps to try where this many do not suffice.
+pub fn more_steps(steps: u64) -> u64
+    ensures { result ≡ more_steps steps }
+{
+    steps.saturating_mul(16)
+}
+
+/// Returns the message that a match was stopped after this many steps, with a number to try. The only error
+/// is an allocation failure.
 pub fn steps_message(alloc: Global, steps: u64) -> Result<String, AllocError>
     ensures { IfOk result (λ message. string_bytes message ≡ steps_text steps) }
 {
-    format!(in alloc; "the match was stopped after {steps} steps; --steps N allows N")
+    let more = more_steps(steps);
+    format!(in alloc; "the match was stopped after {steps} steps; --steps {more} allows more")
+}
+
+/// Returns the message as `steps_message`, with the name of a rule that uses the stack. The only error is an
+/// allocation failure.
+pub fn stack_message(alloc: Global, steps: u64, user: &str) -> Result<String, AllocError>
+    ensures { IfOk result (λ message. string_bytes message ≡ stack_text steps user.now) }
+{
+    let name = escape(alloc, user)?;
+    let mut message = steps_message(alloc, steps)?;
+    message.push_str(" (rule ")?;
+    message.push_str(name.as_str())?;
+    message.push_str(" uses the stack)")?;
+    Ok(message)
 }
 
 /// Returns the message that the expected set of a failure was not found in so many steps. The only error is
@@ -88,7 +110,10 @@ pub fn steps_message(alloc: Global, steps: u64) -> Result<String, AllocError>
 pub fn unnamed_message(alloc: Global, steps: u64) -> Result<String, AllocError>
     ensures { IfOk result (λ message. string_bytes message ≡ unnamed_text steps) }
 {
-    format!(in alloc; "what is expected here was not found in {steps} steps; --steps N allows N")
+    let more = more_steps(steps);
+    format!(in alloc;
+        "what is expected here was not found in {steps} steps; --steps {more} allows more"
+    )
 }
 
 /// Returns whether more than a line's end is left of a text.
@@ -236,7 +261,8 @@ fn end_note(alloc: Global, text: &str, end: usize) -> Result<String, AllocError>
 fn steps_note(alloc: Global, steps: u64) -> Result<String, AllocError>
     ensures { IfOk result (λ words. string_bytes words ≡ not_found_text steps) }
 {
-    format!(in alloc; " was not found in {steps} steps; --steps N allows N")
+    let more = more_steps(steps);
+    format!(in alloc; " was not found in {steps} steps; --steps {more} allows more")
 }
 
 /// Adds to a note the names that are expected at a position, if there are any.

@@ -14,15 +14,15 @@ ghost use Rattle.matcher_support.specs.Compiled.{FailsIn, IsCompiled, IsCompiled
 ghost use Rattle.matcher_support.specs.Sets.{is_in_property};
 ghost use Rattle.matcher_support.specs.Shown.{shown};
 ghost use Rattle.program_support.specs.Escapes.{escaped_lines};
-ghost use Rattle.pest_run.specs.Steps.{step_limit};
+ghost use Rattle.pest_run.specs.Steps.{limits_of};
 ghost use Rattle.pest_run.specs.Outcomes.{IsFailureReport, IsMatchReport, IsNoRuleReport, IsOutcome, IsStopReport, IsUnnamedMatchReport, IsUnnamedReport, ReportsAt, ReportsFailure, end_note, trees_text, unfit_outcome};
 
-use crate::arguments::{Format, step_limit};
+use crate::arguments::{Format, Limits, limits_of};
 use crate::failures::{find_failure, names_after};
 use crate::matching::{is_out_of_steps, match_rule};
 use crate::messages::{
-    describe_failure, end_message, is_more, no_rule_message, steps_message, unnamed_message,
-    unnamed_note,
+    describe_failure, end_message, is_more, no_rule_message, stack_message, steps_message,
+    unnamed_message, unnamed_note,
 };
 use base_language::runtime::{Error, ErrorVariant, Fault, Position};
 use matcher_engine::block::{BlockStop, compile_block};
@@ -80,7 +80,7 @@ pub fn outcome_of(
     limit: Option<u64>,
 ) -> Outcome
     ensures { IsOutcome (optimized_rules_of rules.now) rule.now name.now text.now format
-        (step_limit limit (length text.now)) result }
+        (limits_of limit (length text.now)) result }
 {
     match compile_block(alloc, rules, &UnicodeProperties) {
         Ok(block) => match block_outcome(alloc, &block, rule, name, text, format, limit) {
@@ -104,7 +104,7 @@ pub fn block_outcome(
 ) -> Option<Outcome>
     ensures { (rules : List OptimizedRule) → IsCompiled rules block.now → IsSomeAnd result
         (IsOutcome (optimized_rules_of rules) rule.now name.now text.now format
-        (step_limit limit (length text.now))) }
+        (limits_of limit (length text.now))) }
 {
     match CompiledRules::read(alloc, block) {
         Ok(Some(grammar)) => run_outcome(alloc, &grammar, rule, name, text, format, limit),
@@ -124,17 +124,17 @@ fn run_outcome(
     limit: Option<u64>,
 ) -> Option<Outcome>
     ensures { (g : Grammar) → IsCompiledOf g rules.now → IsSomeAnd result
-        (IsOutcome g rule.now name.now text.now format (step_limit limit (length text.now))) }
+        (IsOutcome g rule.now name.now text.now format (limits_of limit (length text.now))) }
 {
-    let steps = step_limit(limit, text.len());
+    let limits = limits_of(limit, text.len());
     match match_rule(alloc, rules, rule, text, limit) {
-        Ok(found) => match_outcome(alloc, rules, rule, text, &found, format, steps),
+        Ok(found) => match_outcome(alloc, rules, rule, text, &found, format, limits),
         Err(BlockStop::NoMatch(place)) => {
-            failure_outcome(alloc, rules, rule, name, text, place, steps)
+            failure_outcome(alloc, rules, rule, name, text, place, limits)
         }
-        Err(BlockStop::NoRule) => refusal_outcome(alloc, rules, rule, BlockStop::NoRule, steps),
+        Err(BlockStop::NoRule) => refusal_outcome(alloc, rules, rule, BlockStop::NoRule, limits),
         Err(BlockStop::Stopped(stop)) => {
-            refusal_outcome(alloc, rules, rule, BlockStop::Stopped(stop), steps)
+            refusal_outcome(alloc, rules, rule, BlockStop::Stopped(stop), limits)
         }
         Err(BlockStop::Flaw(_)) => None,
     }
@@ -149,16 +149,16 @@ fn match_outcome(
     text: &str,
     found: &Preorder,
     format: Format,
-    steps: u64,
+    limits: Limits,
 ) -> Option<Outcome>
     ensures { (g : Grammar) → IsCompiledOf g rules.now → (name : List ℕ)
         → HasPreorder g (chars rule.now) (start_of text.now) is_in_property found.now
-        → IsSomeAnd result (IsOutcome g rule.now name text.now format steps) }
+        → IsSomeAnd result (IsOutcome g rule.now name text.now format limits) }
 {
     if !text.is_char_boundary(found.end) || !text.is_char_boundary(found.furthest) {
         return None;
     }
-    match names_after(alloc, rules, rule, text, found, format, steps) {
+    match names_after(alloc, rules, rule, text, found, format, limits.names) {
         Ok(names) => {
             let walk = rules.walk(alloc, found);
             Some(shown_outcome(alloc, text, walk, found, &names, format))
@@ -166,9 +166,9 @@ fn match_outcome(
         Err(stop) => {
             if is_out_of_steps(&stop) {
                 let walk = rules.walk(alloc, found);
-                Some(unnamed_match(alloc, text, walk, found, format, steps))
+                Some(unnamed_match(alloc, text, walk, found, format, limits.names))
             } else {
-                refusal_outcome(alloc, rules, rule, stop, steps)
+                refusal_outcome(alloc, rules, rule, stop, limits)
             }
         }
     }
@@ -183,22 +183,22 @@ fn failure_outcome(
     name: &str,
     text: &str,
     place: usize,
-    steps: u64,
+    limits: Limits,
 ) -> Option<Outcome>
     ensures { (g : Grammar) → IsCompiledOf g rules.now → (format : Format)
         → FailsIn g rule.now text.now place
-        → IsSomeAnd result (IsOutcome g rule.now name.now text.now format steps) }
+        → IsSomeAnd result (IsOutcome g rule.now name.now text.now format limits) }
 {
     if !text.is_char_boundary(place) {
         return None;
     }
-    match find_failure(alloc, rules, rule, text, place, steps) {
+    match find_failure(alloc, rules, rule, text, place, limits.names) {
         Ok(failure) => Some(failed_outcome(alloc, name, text, &failure)),
         Err(stop) => {
             if is_out_of_steps(&stop) {
-                Some(unnamed_outcome(alloc, name, text, place, steps))
+                Some(unnamed_outcome(alloc, name, text, place, limits.names))
             } else {
-                refusal_outcome(alloc, rules, rule, stop, steps)
+                refusal_outcome(alloc, rules, rule, stop, limits)
             }
         }
     }
@@ -210,15 +210,15 @@ fn refusal_outcome(
     rules: &CompiledRules<'_>,
     rule: &str,
     stop: BlockStop,
-    steps: u64,
+    limits: Limits,
 ) -> Option<Outcome>
     ensures { (g : Grammar) → IsCompiledOf g rules.now → (name text : List ℕ) → IsUtf8 text
-        → (format : Format) → IsUnanswered g rule.now text steps stop
-        → IsSomeAnd result (IsOutcome g rule.now name text format steps) }
+        → (format : Format) → IsUnanswered g rule.now text limits.steps stop
+        → IsSomeAnd result (IsOutcome g rule.now name text format limits) }
 {
     match stop {
         BlockStop::NoRule => Some(no_rule_outcome(alloc, rules.rule_names(), rule)),
-        BlockStop::Stopped(stop) => Some(stopped_outcome(alloc, stop, steps)),
+        BlockStop::Stopped(stop) => Some(stopped_outcome(alloc, rules, rule, stop, limits.steps)),
         BlockStop::NoMatch(_) | BlockStop::Flaw(_) => None,
     }
 }
@@ -435,18 +435,40 @@ fn report_at(
     Ok(show_error(alloc, Some(name), &error)?)
 }
 
-/// Returns the outcome of a run that was stopped, of so many steps at most.
-fn stopped_outcome(alloc: Global, stop: Stop, steps: u64) -> Outcome
+/// Returns the outcome of a run of the rule of that name that was stopped, of this many steps at most.
+fn stopped_outcome(
+    alloc: Global,
+    rules: &CompiledRules<'_>,
+    rule: &str,
+    stop: Stop,
+    steps: u64,
+) -> Outcome
     ensures { IsStopReport stop steps result }
 {
     match stop {
         Stop::Memory => Outcome::Memory,
-        Stop::OutOfSteps => match steps_message(alloc, steps) {
+        Stop::OutOfSteps => match describe_stop(alloc, rules, rule, steps) {
             Ok(message) => Outcome::OutOfSteps(message),
             Err(_) => Outcome::Memory,
         },
         Stop::EmptyStack => Outcome::EmptyStack,
         Stop::TextTooLong => Outcome::LongText,
+    }
+}
+
+/// Returns the message that a run of the rule of that name was stopped after this many steps, with the name
+/// of a rule that uses the stack, if there is one. The only error is an allocation failure.
+fn describe_stop(
+    alloc: Global,
+    rules: &CompiledRules<'_>,
+    rule: &str,
+    steps: u64,
+) -> Result<String, AllocError>
+    ensures { IfOk result (λ message. IsStepsText steps (string_bytes message)) }
+{
+    match rules.find_stack_rule(alloc, rule)? {
+        Some(user) => stack_message(alloc, steps, user),
+        None => steps_message(alloc, steps),
     }
 }
 

@@ -2,7 +2,7 @@
 ghost use Rattle.std.specs.Prelude.{◌≡◌, ◌≢◌, ◌≤◌, ℕ, List, IsErr, IsOk, codes, length, true};
 ghost use Rattle.pest_run.specs.Ends.{EndsAs, IsStatus};
 ghost use Rattle.pest_run.specs.Grammars.{IsReadFrom, IsReadingOf};
-ghost use Rattle.pest_run.specs.Steps.{step_limit};
+ghost use Rattle.pest_run.specs.Steps.{limits_of};
 ghost use Rattle.pest_run.specs.Written.{IsFormOutcome, IsReadable, NotesEnd, PrintsTrees, ReportsReason, ReportsStop, ReportsUnread, WritesLine};
 
 use crate::arguments::Request;
@@ -42,11 +42,11 @@ pub fn run_files<'g, W: Write, E: Write>(
     ensures noted { result.status ≡ 0
         → NotesEnd request.entry.form grammar.now.bytes.items request.entry.rule.now
         text.now.bytes.items request.entry.format
-        (step_limit request.entry.steps (length text.now.bytes.items)) (err.new ≡ err.old)
+        (limits_of request.entry.steps (length text.now.bytes.items)) (err.new ≡ err.old)
         result.write_result (E.contents err.old.writer) (E.contents err.new.writer) }
     ensures reason { result.status ≡ 1
         → ReportsReason request.entry.form grammar.now.bytes.items request.entry.rule.now text.now.name.now
-        text.now.bytes.items (step_limit request.entry.steps (length text.now.bytes.items))
+        text.now.bytes.items (limits_of request.entry.steps (length text.now.bytes.items))
         result.write_result (E.contents err.old.writer) (E.contents err.new.writer) }
     ensures tells_memory { result.status ≡ 2
         → WritesLine (codes "out of memory") result.write_result
@@ -56,7 +56,7 @@ pub fn run_files<'g, W: Write, E: Write>(
         (E.contents err.old.writer) (E.contents err.new.writer) }
     ensures stopped { result.status ≡ 5
         → ReportsStop request.entry.form grammar.now.bytes.items request.entry.rule.now
-        text.now.bytes.items (step_limit request.entry.steps (length text.now.bytes.items))
+        text.now.bytes.items (limits_of request.entry.steps (length text.now.bytes.items))
         result.write_result (E.contents err.old.writer) (E.contents err.new.writer) }
     ensures tells_unread { result.status ≡ 3
         → ReportsUnread grammar.now text.now result.write_result
@@ -104,11 +104,11 @@ pub fn run<'g, W: Write, E: Write>(
     ensures refused_write { result.status ≡ 4 → out.new.refused ≡ true }
     ensures noted { result.status ≡ 0
         → NotesEnd request.entry.form grammar.now request.entry.rule.now text.now request.entry.format
-        (step_limit request.entry.steps (length text.now)) (err.new ≡ err.old) result.write_result
+        (limits_of request.entry.steps (length text.now)) (err.new ≡ err.old) result.write_result
         (E.contents err.old.writer) (E.contents err.new.writer) }
     ensures reason { result.status ≡ 1
         → ReportsReason request.entry.form grammar.now request.entry.rule.now name.now text.now
-        (step_limit request.entry.steps (length text.now)) result.write_result
+        (limits_of request.entry.steps (length text.now)) result.write_result
         (E.contents err.old.writer) (E.contents err.new.writer) }
     ensures tells_memory { result.status ≡ 2
         → WritesLine (codes "out of memory") result.write_result
@@ -118,7 +118,7 @@ pub fn run<'g, W: Write, E: Write>(
         (E.contents err.old.writer) (E.contents err.new.writer) }
     ensures stopped { result.status ≡ 5
         → ReportsStop request.entry.form grammar.now request.entry.rule.now text.now
-        (step_limit request.entry.steps (length text.now)) result.write_result
+        (limits_of request.entry.steps (length text.now)) result.write_result
         (E.contents err.old.writer) (E.contents err.new.writer) }
     ensures told { IsOk result.write_result → err.new.refused ≡ err.old.refused }
     ensures refused_line { IsErr result.write_result → err.new.refused ≡ true }
@@ -145,7 +145,7 @@ fn form_outcome(
 ) -> Outcome
     ensures { (spelled : List ℕ) → IsReadFrom spelled grammar.now
         → IsFormOutcome request.entry.form spelled request.entry.rule.now name.now text.now
-        request.entry.format (step_limit request.entry.steps (length text.now)) result }
+        request.entry.format (limits_of request.entry.steps (length text.now)) result }
 {
     match grammar.to_run(alloc, request.form) {
         Ok(rules) => {

@@ -1,7 +1,7 @@
 use Rattle.std.proofs.Common.{◌≡◌, List, false, length, refl, subst, true, ℕ}
 use Rattle.base_ast.specs.Optimized.{optimized_rules_of}
 use Rattle.pest_run.specs.Explanations.{IsExplanation}
-use Rattle.pest_run.specs.Steps.{step_limit}
+use Rattle.pest_run.specs.Steps.{name_limit}
 use Rattle.pest_run.proofs.explanations.explain_code.Goals as goal
 
 pub returns-in_default-clause-explains : goal.returns-in_default-clause-explains
@@ -15,7 +15,7 @@ returns-clause-explains g c = λ rules is readable.
     let explains = found.ensures rules (rw c.deref.ensures.value is) in
     record {
       explanation = found.result;
-      is_so = subst (λ t. P t (step_limit of.steps (length t))) c.in-Some.ensures.text (subst (λ n. P c.in-Some.input.now n) c.step_limit-steps.ensures explains);
+      is_so = subst (λ t. P t (name_limit of.steps (length t))) c.in-Some.ensures.text (subst (λ n. P c.in-Some.input.now n) c.name_limit-steps.ensures explains);
       writes = c.write_explanation.ensures;
     }
 

@@ -1,6 +1,6 @@
 use Rattle.std.proofs.Common.{◌≡◌, List, false, length, refl, subst, true, ℕ}
 use Rattle.pest_run.specs.Explanations.{IsFormExplanation}
-use Rattle.pest_run.specs.Steps.{step_limit}
+use Rattle.pest_run.specs.Steps.{name_limit}
 use Rattle.pest_run.proofs.explanations.explain_failure.Goals as goal
 
 pub returns-in_default-clause-explains : goal.returns-in_default-clause-explains
@@ -10,7 +10,7 @@ pub returns-clause-explains : goal.returns-clause-explains
 returns-clause-explains g c = λ spelled read readable.
     let of = c.args.request in
     let found = c.explanation_of-explanation in
-    let P : List ℕ → Type 0 = λ t. IsFormExplanation of.form spelled of.rule.now t of.format (step_limit of.steps (length t)) found.result in
+    let P : List ℕ → Type 0 = λ t. IsFormExplanation of.form spelled of.rule.now t of.format (name_limit of.steps (length t)) found.result in
     record {
       explanation = found.result;
       is_so = subst P c.in-Some.ensures.text (found.ensures spelled read);

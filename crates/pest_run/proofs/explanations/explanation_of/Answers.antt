@@ -8,4 +8,4 @@ returns-in-Ok c = λ spelled read.
     let rules = optimized_rules_of c.in-Ok.rules.items in
     let P : ℕ → Type 0 = λ n. IsExplanation rules c.args.request.rule.now c.args.text.now c.args.request.format n c.explain_rules-explanation.result in
     let explains = rw c.deref.ensures.value at c.explain_rules-explanation.ensures in
-    inr (rules, c.in-Ok.ensures.rules spelled read, subst P c.step_limit-steps.ensures explains)
+    inr (rules, c.in-Ok.ensures.rules spelled read, subst P c.name_limit-steps.ensures explains)
