@@ -2,3 +2,4 @@ pub mod Escaping
 pub mod LineParts
 pub mod Parts
 pub mod Adding
+pub mod Splitting

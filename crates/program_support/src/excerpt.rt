@@ -1,7 +1,10 @@
 //! Excerpts: the part of a line that is shown round a place of it, with a mark below.
-ghost use Rattle.std.specs.Prelude.{◌≡◌, ◌+◌, ◌*◌, ◌≤◌, ◌++◌, IfOk, OnOk, string_bytes};
-ghost use Rattle.base_language.specs.Pieces.PrintedError.{start_of};
-ghost use Rattle.program_support.specs.Excerpts.{IsExcerpt, IsPartOf, ShowsPart, dots, excerpt_lines, margin};
+ghost use Rattle.std.specs.Prelude.{◌≡◌, ◌+◌, ◌*◌, ◌≤◌, ◌++◌, IfOk, OnOk, chars, length, nat_lt, string_bytes, take};
+ghost use Rattle.std.specs.Char.Escape.{escape_unicode};
+ghost use Rattle.std.specs.List.{flat_map, repeat};
+ghost use Rattle.std.specs.Str.{IsCharBoundary};
+ghost use Rattle.base_language.specs.Pieces.PrintedError.{marked_count, start_of};
+ghost use Rattle.program_support.specs.Excerpts.{IsExcerpt, IsPartOf, blanks_below, columns_of, dashes, dots, excerpt_lines, margin, mark_at, mark_below, shown_part, shown_width};
 
 use crate::escape::{escape_lines, is_hidden_in_lines};
 use base_language::grammar::Rule;
@@ -43,8 +46,7 @@ pub fn window_at(text: &str, line_start: usize, place: usize) -> Window
 {
     let before = part(text, line_start, place);
     let after = text.get(place..).unwrap_or("");
-    let most_before = COLUMNS - fit_beginning(after, COLUMNS).columns.min(AFTER);
-    let most_after = COLUMNS - fit_end(before, COLUMNS).columns.min(BEFORE);
+    let (most_before, most_after) = columns_around(before, after);
     let first = fit_end(before, most_before);
     let last = fit_beginning(after, most_after);
     Window {
@@ -124,20 +126,83 @@ impl Fit {
     }
 }
 
+/// A line in four parts. The parts `before` and `after` are shown; the place lies between them.
+#[derive(Clone, Copy)]
+struct CutLine<'l> {
+    hidden_before: &'l str,
+    before: &'l str,
+    after: &'l str,
+    hidden_after: &'l str,
+}
+
 /// Returns three lines on an error: an empty one, what is shown of its line, and a mark below that. Hidden
-/// characters are escapes, and `…` stands where the line is cut.
+/// characters are escapes, and `…` stands for each part of the line that is not shown.
 pub fn show_line(alloc: Global, error: &Error<Rule>) -> Result<String, AllocError>
     ensures { IfOk result (λ lines. IsExcerpt error.now (string_bytes lines)) }
 {
-    let start = start_of(&error.line_col);
+    let (number, column) = start_of(&error.line_col);
     let line = error.line();
-    let place = byte_of(line, start.1.saturating_sub(1));
-    let window = window_at(line, 0, place);
-    let shown = show_part(alloc, line, window)?;
-    let mark = mark_of(alloc, error, window, place)?;
+    let cut = cut_line(line, column.saturating_sub(1));
+    let shown = show_cut(alloc, cut)?;
+    let mark = mark_of(alloc, &error.line_col, line, cut)?;
     let shown_text = shown.as_str();
     let mark_text = mark.as_str();
-    lines_of(alloc, start.0, shown_text, mark_text)
+    lines_of(alloc, number, shown_text, mark_text)
+}
+
+/// Cuts a line on both sides of the place before which `count` characters stand: all of a line of up to 160
+/// columns is shown.
+fn cut_line(line: &str, count: usize) -> CutLine<'_>
+    ensures line { line.entry.now ≡ result.hidden_before.now
+        ++ (result.before.now ++ (result.after.now ++ result.hidden_after.now)) }
+    ensures place { chars (result.hidden_before.now ++ result.before.now)
+        ≡ take count (chars line.entry.now) }
+{
+    let (to_place, from_place) = split_at_char(line, count);
+    let (most_before, most_after) = columns_around(to_place, from_place);
+    let fit = fit_end(to_place, most_before);
+    let (hidden_before, before) = split_at_byte(to_place, to_place.len().saturating_sub(fit.bytes));
+    let (after, hidden_after) = split_at_byte(
+        from_place,
+        fit_beginning(from_place, most_after).bytes,
+    );
+    CutLine {
+        hidden_before,
+        before,
+        after,
+        hidden_after,
+    }
+}
+
+/// Returns how many columns are shown before a place and after it, by the texts on both sides.
+fn columns_around(before: &str, after: &str) -> (usize, usize)
+    ensures before { result.0 ≤ 160 }
+    ensures after { result.1 ≤ 160 }
+{
+    let most_before = COLUMNS - fit_beginning(after, COLUMNS).columns.min(AFTER);
+    let most_after = COLUMNS - fit_end(before, COLUMNS).columns.min(BEFORE);
+    (most_before, most_after)
+}
+
+/// Splits a text after its first `count` characters, or at its end if it has fewer.
+#[tactic(auto, using(crate::proofs::Splitting::bytes_more))]
+fn split_at_char(text: &str, count: usize) -> (&str, &str)
+    ensures whole { text.entry.now ≡ result.0.now ++ result.1.now }
+    ensures first { chars result.0.now ≡ take count (chars text.entry.now) }
+{
+    let mut byte = 0usize;
+    for character in text.chars().take(count) {
+        byte = byte.saturating_add(character.len_utf8());
+    }
+    split_at_byte(text, byte)
+}
+
+/// Splits a text before a byte, or at its end if no character begins there.
+fn split_at_byte(text: &str, byte: usize) -> (&str, &str)
+    ensures whole { text.entry.now ≡ result.0.now ++ result.1.now }
+    ensures first { IsCharBoundary text.entry.now byte → result.0.now ≡ take byte text.entry.now }
+{
+    text.split_at_checked(byte).unwrap_or((text, ""))
 }
 
 /// Returns the lines of an excerpt.
@@ -166,98 +231,150 @@ pub fn margin_of(alloc: Global, number: usize) -> Result<String, AllocError>
     " ".repeat(alloc, digits.len())
 }
 
-/// Returns the text of a line that a window shows.
-fn show_part(alloc: Global, line: &str, window: Window) -> Result<String, AllocError>
-    ensures { IfOk result (λ shown. ShowsPart line.now (string_bytes shown)) }
+/// Returns what is shown of a line that is cut.
+fn show_cut(alloc: Global, cut: CutLine<'_>) -> Result<String, AllocError>
+    ensures { IfOk result (λ shown. string_bytes shown ≡ shown_part cut.entry.hidden_before.now
+        cut.entry.before.now cut.entry.after.now cut.entry.hidden_after.now) }
 {
-    let part = escape_lines(alloc, part(line, window.start, window.end))?;
-    let (before, after) = (dots(window.is_cut_before), dots(window.is_cut_after));
-    format!(in alloc; "{before}{part}{after}")
+    let before = escape_lines(alloc, cut.before)?;
+    let after = escape_lines(alloc, cut.after)?;
+    let first = dots(!cut.hidden_before.is_empty());
+    let last = dots(!cut.hidden_after.is_empty());
+    format!(in alloc; "{first}{before}{after}{last}")
 }
 
-/// Returns `…` where a line is cut.
+/// Returns `…` if a line is cut.
 pub fn dots(is_cut: bool) -> &'static str
     ensures { result.now ≡ dots is_cut }
 {
     if is_cut { "…" } else { "" }
 }
 
-/// Returns the mark of an error below the part of its line that a window shows. The error begins at a byte of
-/// that line.
+/// Returns the mark of an error at `place`, below what is shown of its line.
 fn mark_of(
     alloc: Global,
-    error: &Error<Rule>,
-    window: Window,
-    place: usize,
-) -> Result<String, AllocError> {
-    let line = error.line();
+    place: &LineColLocation,
+    line: &str,
+    cut: CutLine<'_>,
+) -> Result<String, AllocError>
+    ensures { IfOk result (λ mark. string_bytes mark ≡ mark_below place.now (chars line.now)
+        cut.entry.hidden_before.now (chars cut.entry.before.now) (chars cut.entry.after.now)) }
+{
     let mut mark = String::new(alloc);
-    if window.is_cut_before {
-        mark.push(' ')?;
-    }
-    push_blanks(alloc, part(line, window.start, place), &mut mark)?;
-    match error.line_col {
-        LineColLocation::Pos(_) => mark.push_str("^---")?,
-        LineColLocation::Span(start, end) => {
-            let end = if start.0 == end.0 {
-                byte_of(line, end.1.saturating_sub(1))
-            } else {
-                line.len()
-            };
-            let columns = width_of(part(line, place, end.min(window.end)));
-            push_dashes(alloc, columns, end > window.end, &mut mark)?;
-        }
-    }
+    mark.push_str(if cut.hidden_before.is_empty() {
+        ""
+    } else {
+        " "
+    })?;
+    push_blanks(alloc, cut.before, &mut mark)?;
+    push_mark_at(alloc, place, line, cut.after, &mut mark)?;
     Ok(mark)
 }
 
-/// Adds blanks for what is shown of a text, and tabs for its tabs.
-fn push_blanks(alloc: Global, text: &str, out: &mut String) -> Result<(), AllocError> {
-    for character in text.chars() {
-        if character == '\t' {
-            out.push('\t')?;
-        } else {
-            push_repeated(alloc, " ", shown_width(character), out)?;
+/// Appends the mark of `place` in a line. The text `after` is what is shown of the line from the place on.
+fn push_mark_at(
+    alloc: Global,
+    place: &LineColLocation,
+    line: &str,
+    after: &str,
+    out: &mut String,
+) -> Result<(), AllocError>
+    ensures { OnOk result (string_bytes out.new
+        ≡ string_bytes out.old ++ mark_at place.now (chars line.now) (chars after.now)) }
+{
+    match *place {
+        LineColLocation::Pos(_) => out.push_str("^---"),
+        LineColLocation::Span(start, end) => {
+            let count = marked_count(start, end, line);
+            push_span_mark(alloc, after, count, out)
         }
+    }
+}
+
+/// Appends the mark of a span of `count` characters. The text `after` is what is shown of its line from its
+/// start on.
+fn push_span_mark(
+    alloc: Global,
+    after: &str,
+    count: usize,
+    out: &mut String,
+) -> Result<(), AllocError>
+    ensures { OnOk result (string_bytes out.new ≡ string_bytes out.old
+        ++ dashes (columns_of (take count (chars after.now))) (nat_lt (length (chars after.now)) count)) }
+{
+    let (marked, _) = split_at_char(after, count);
+    let is_cut = after.chars().count() < count;
+    push_dashes(alloc, width_of(marked), is_cut, out)
+}
+
+/// Returns how many characters of a line a span marks, which ends in that line or in a later one.
+fn marked_count(start: (usize, usize), end: (usize, usize), line: &str) -> usize
+    ensures { result ≡ marked_count start end (chars line.now) }
+{
+    if end.0 == start.0 {
+        end.1.saturating_sub(start.1)
+    } else {
+        line.chars()
+            .count()
+            .saturating_sub(start.1.saturating_sub(1))
+    }
+}
+
+/// Appends what stands below a text: a tab below a tab, and a blank for each other column.
+fn push_blanks(alloc: Global, text: &str, out: &mut String) -> Result<(), AllocError>
+    ensures { OnOk result (string_bytes out.new
+        ≡ string_bytes out.old ++ flat_map blanks_below (chars text.now)) }
+{
+    for character in text.chars() {
+        push_blanks_below(alloc, character, out)?;
     }
     Ok(())
 }
 
-/// Adds a mark of so many columns, one at least, without its end where it is cut.
+/// Appends what stands below a character.
+fn push_blanks_below(alloc: Global, character: char, out: &mut String) -> Result<(), AllocError>
+    ensures { OnOk result (string_bytes out.new ≡ string_bytes out.old ++ blanks_below character) }
+{
+    if character == '\t' {
+        out.push_str("\t")
+    } else {
+        push_repeated(alloc, " ", shown_width(character), out)
+    }
+}
+
+/// Appends a mark of `columns` columns, at least one, without its end if it is cut.
 fn push_dashes(
     alloc: Global,
     columns: usize,
     is_cut: bool,
     out: &mut String,
-) -> Result<(), AllocError> {
-    out.push('^')?;
+) -> Result<(), AllocError>
+    ensures { OnOk result (string_bytes out.new ≡ string_bytes out.old ++ dashes columns is_cut) }
+{
+    out.push_str("^")?;
     if columns < 2 {
         return Ok(());
     }
     push_repeated(alloc, "-", columns - 2, out)?;
-    out.push(if is_cut { '-' } else { '^' })
+    out.push_str(if is_cut { "-" } else { "^" })
 }
 
-/// Adds a text so many times.
+/// Appends a text `count` times.
 fn push_repeated(
     alloc: Global,
     text: &str,
     count: usize,
     out: &mut String,
-) -> Result<(), AllocError> {
+) -> Result<(), AllocError>
+    ensures { OnOk result (string_bytes out.new ≡ string_bytes out.old ++ repeat count text.now) }
+{
     out.push_str(text.repeat(alloc, count)?.as_str())
 }
 
-/// Returns the byte at which a character of a number, from 0, begins, or the text's end.
-fn byte_of(text: &str, number: usize) -> usize {
-    match text.char_indices().nth(number) {
-        Some((byte, _)) => byte,
-        None => text.len(),
-    }
-}
-
-/// Returns the columns that a text takes where it is shown.
-fn width_of(text: &str) -> usize {
+/// Returns the columns that a text takes on a terminal.
+fn width_of(text: &str) -> usize
+    ensures { result ≡ columns_of (chars text.now) }
+{
     let mut width = 0usize;
     for character in text.chars() {
         width = width.saturating_add(shown_width(character));
@@ -265,18 +382,23 @@ fn width_of(text: &str) -> usize {
     width
 }
 
-/// Returns the columns that a character takes where it is shown: as many as its escape, and one for a tab.
-fn shown_width(character: char) -> usize {
+/// Returns the columns that a character takes on a terminal: as many as its escape if it is hidden, and one
+/// for a tab.
+fn shown_width(character: char) -> usize
+    ensures { result ≡ shown_width character }
+{
     if is_hidden_in_lines(character) {
-        escape_width(u32::from(character))
+        escape_width(character)
     } else {
         character.width().unwrap_or(1)
     }
 }
 
 /// Returns the columns of the escape of a character.
-fn escape_width(code: u32) -> usize {
-    match code {
+fn escape_width(character: char) -> usize
+    ensures { result ≡ length (escape_unicode character) }
+{
+    match u32::from(character) {
         0..=0xf => 5,
         0x10..=0xff => 6,
         0x100..=0xfff => 7,
