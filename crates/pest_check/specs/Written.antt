@@ -1,5 +1,5 @@
 -- The texts that the program writes.
-use Rattle.std.specs.Prelude.{ℕ, List, Option, Result, encode_utf8_all}
+use Rattle.std.specs.Prelude.{ℕ, Bool, List, Option, Result, encode_utf8_all}
 use Rattle.std.specs.Borrow.{Bor}
 use Rattle.std.specs.Io.KnownBytes.{Appends}
 use Rattle.base_language.specs.declared.grammar.Rule.{Rule}
@@ -17,9 +17,9 @@ pub record PrintsAnswer (text : List ℕ) (old new : Option (List ℕ)) : Type 0
   pub answers : IsAnswer text builtins rules
   pub gained : Appends old new (encode_utf8_all (grammar_text (optimized_rules_of rules)))
 
--- there is a reason to refuse the text, and its report is the line
-pub record ReportsRefusal {X E : Type 0} (text : List ℕ) (written : Result X E)
+-- there is a reason to refuse the text, and its report, for a terminal or not, is the line
+pub record ReportsRefusal {X E : Type 0} (is_terminal : Bool) (text : List ℕ) (written : Result X E)
     (old new : Option (List ℕ)) : Type 0 where
   pub errors : List (Error Rule)
   pub reason : IsRefusedWith text errors
-  pub tells : WritesReport errors written old new
+  pub tells : WritesReport is_terminal errors written old new

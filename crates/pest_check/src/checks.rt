@@ -45,7 +45,7 @@ pub fn run<W: Write, E: Write>(
     // The text for `err`, and whether it refused a write.
     ensures silent { result.status ≡ 0 → err.new ≡ err.old }
     ensures refused { IfSome input.entry (λ bytes. result.status ≡ 1
-        → ReportsRefusal bytes.now result.write_result
+        → ReportsRefusal err.old.is_terminal bytes.now result.write_result
         (E.contents err.old.writer) (E.contents err.new.writer)) }
     ensures tells_memory { result.status ≡ 2
         → WritesLine (codes "out of memory") result.write_result
@@ -68,7 +68,7 @@ pub fn run<W: Write, E: Write>(
     match parse_and_optimize(alloc, grammar) {
         Ok((_, rules)) => print_rules(alloc, rules, out, err),
         Err(Fault::Memory(_)) => exit_with(err, "out of memory", Status::OutOfMemory),
-        Err(Fault::Grammar(errors)) => report_refusal(alloc, &errors, err),
+        Err(Fault::Grammar(errors)) => report_refusal(alloc, errors, err),
     }
 }
 

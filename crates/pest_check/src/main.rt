@@ -15,6 +15,7 @@ use program_support::output::Output;
 use program_support::status::Status;
 use program_support::usage::print_usage;
 use std::env;
+use std::io::IsTerminal;
 use std::process::ExitCode;
 
 /// Runs the program on its input with the process's own output, and returns the status.
@@ -26,7 +27,8 @@ fn check(rt: &HostRuntime, grammar: Option<&[u8]>) -> ExitCode
     ensures refusal { IfSome grammar.entry (λ bytes. exit_status result ≡ 1 → HasRefusal bytes.now) }
 {
     let mut out = Output::new(rt.stdout());
-    let mut err = Output::new(rt.stderr());
+    let is_terminal = rt.stderr().is_terminal();
+    let mut err = Output::for_terminal(rt.stderr(), is_terminal);
     let exit = run(rt.alloc(), grammar, &mut out, &mut err);
     ExitCode::from(exit.status)
 }

@@ -1,14 +1,16 @@
 //! Ends of a run on standard error.
-ghost use Rattle.std.specs.Prelude.{◌≡◌, ◌⊎◌, IsErr, IsOk, codes, option_map, string_bytes, true};
-ghost use Rattle.program_support.specs.Ends.{WritesLine, WritesNote, WritesReport};
+ghost use Rattle.std.specs.Prelude.{◌≡◌, ◌⊎◌, IfOk, IsErr, IsOk, codes, option_map, string_bytes, true};
+ghost use Rattle.pest_meta.specs.Reports.{report_text};
+ghost use Rattle.program_support.specs.Ends.{IsReportFor, WritesLine, WritesNote, WritesReport};
 ghost use Rattle.program_support.specs.Statuses.{status_code};
 
 use crate::messages::show_report;
 use crate::output::{Output, RefusedWrite};
 use crate::status::Status;
 use base_language::grammar::Rule;
-use base_language::runtime::Error;
-use std::alloc::Global;
+use base_language::runtime::{Error, Fault};
+use pest_meta::{Report, unwrap_or_report};
+use std::alloc::{AllocError, Global};
 use std::io::Write;
 
 /// The end of a run.
@@ -20,15 +22,17 @@ pub struct RunExit {
     pub write_result: Result<(), RefusedWrite>,
 }
 
-/// Reports that a grammar is refused with these errors (1), or that an allocation failed (2).
+/// Reports that a grammar is refused with these errors (1), or that an allocation failed (2). The report is
+/// the text that the original prints, byte for byte. At a terminal it is made for a person: hidden characters
+/// are escapes, and long lines are cut.
 pub fn report_refusal<E: Write>(
     alloc: Global,
-    errors: &[Error<Rule>],
+    errors: Vec<Error<Rule>>,
     err: &mut Output<E>,
 ) -> RunExit
     ensures known { (result.status ≡ 1) ⊎ (result.status ≡ 2) }
     ensures tells { result.status ≡ 1
-        → WritesReport errors.now result.write_result
+        → WritesReport err.old.is_terminal errors.items result.write_result
         (E.contents err.old.writer) (E.contents err.new.writer) }
     ensures tells_memory { result.status ≡ 2
         → WritesLine (codes "out of memory") result.write_result
@@ -36,9 +40,35 @@ pub fn report_refusal<E: Write>(
     ensures told { IsOk result.write_result → err.new.refused ≡ err.old.refused }
     ensures refused_line { IsErr result.write_result → err.new.refused ≡ true }
 {
-    match show_report(alloc, errors) {
+    match report_for(alloc, errors, err.is_terminal) {
         Ok(report) => exit_with(err, report.as_str(), Status::Found),
         Err(_) => exit_with(err, "out of memory", Status::OutOfMemory),
+    }
+}
+
+/// Returns the report of errors, for a terminal if `is_terminal` is true. The only error is an allocation
+/// failure.
+fn report_for(
+    alloc: Global,
+    errors: Vec<Error<Rule>>,
+    is_terminal: bool,
+) -> Result<String, AllocError>
+    ensures { IfOk result (λ report. IsReportFor is_terminal errors.items (string_bytes report)) }
+{
+    if is_terminal {
+        show_report(alloc, &errors)
+    } else {
+        print_report(alloc, errors)
+    }
+}
+
+/// Returns the report of errors as the original prints it. The only error is an allocation failure.
+fn print_report(alloc: Global, errors: Vec<Error<Rule>>) -> Result<String, AllocError>
+    ensures { IfOk result (λ report. string_bytes report ≡ report_text errors.items) }
+{
+    match unwrap_or_report::<()>(alloc, Err(Fault::Grammar(errors))) {
+        Err(Report::Text(report)) => Ok(report),
+        _ => Err(AllocError),
     }
 }
 

@@ -5,11 +5,13 @@ ghost use Rattle.program_support.specs.Lines.{line_of};
 
 use std::io::Write;
 
-/// A writer, and whether it has refused a write. The flag is set here alone.
+/// A writer, and whether it has refused a write. The flag `refused` is set here alone.
 #[derive(Drop)]
 pub struct Output<W> {
     /// The writer.
     pub writer: W,
+    /// Whether the writer leads to a terminal, so that reports are made for a person's eyes.
+    pub is_terminal: bool,
     /// Whether a write was refused.
     refused: bool,
 }
@@ -19,13 +21,24 @@ pub struct Output<W> {
 pub struct RefusedWrite;
 
 impl<W: Write> Output<W> {
-    /// Returns a writer that has refused nothing.
+    /// Returns an output that has refused nothing, over a writer that leads to no terminal.
     pub fn new(writer: W) -> Output<W>
         ensures writer { result.writer ≡ writer }
+        ensures terminal { result.is_terminal ≡ false }
+        ensures fresh { result.refused ≡ false }
+    {
+        Output::for_terminal(writer, false)
+    }
+
+    /// Returns an output that has refused nothing. The writer leads to a terminal if `is_terminal` is true.
+    pub fn for_terminal(writer: W, is_terminal: bool) -> Output<W>
+        ensures writer { result.writer ≡ writer }
+        ensures terminal { result.is_terminal ≡ is_terminal }
         ensures fresh { result.refused ≡ false }
     {
         Output {
             writer,
+            is_terminal,
             refused: false,
         }
     }

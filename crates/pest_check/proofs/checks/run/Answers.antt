@@ -8,9 +8,9 @@ pub returns-clause-refused : goal.returns-clause-refused
 returns-clause-refused g c =
     let told = c.report_refusal in
     let reason = rw (c.in-Err-Grammar.is ∙ ap Err c.in-Err-Grammar.field-0-is) at c.parse_and_optimize.ensures.refused in
-    let reports : told.result.status ≡ 1 → ReportsRefusal c.in-Ok.grammar.now told.result.write_result _ _ =
-    λ one. record { errors = c.deref.result.now; reason = subst (IsRefusedWith c.in-Ok.grammar.now) (sym c.deref.ensures.value) reason; tells = told.ensures.tells one } in
-    let here : told.result.status ≡ 1 → ReportsRefusal c.in-Some.bytes.now told.result.write_result _ _ = rw (← c.in-Ok.ensures.cases.0) reports in
+    let reports : told.result.status ≡ 1 → ReportsRefusal c.args.err.now.is_terminal c.in-Ok.grammar.now told.result.write_result _ _ =
+    λ one. record { errors = c.in-Err-Grammar.errors.items; reason = reason; tells = told.ensures.tells one } in
+    let here : told.result.status ≡ 1 → ReportsRefusal c.args.err.now.is_terminal c.in-Some.bytes.now told.result.write_result _ _ = rw (← c.in-Ok.ensures.cases.0) reports in
     rw c.in-Some.is here
 
 -- where there are rules, the text could be read
