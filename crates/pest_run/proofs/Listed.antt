@@ -1,29 +1,24 @@
 -- How a list of names ends.
-use Rattle.std.proofs.Common.{◌≡◌, ◌≢◌, ◌∙◌, ap, sym, subst, ℕ, List, Option, Result, arith, string_bytes}
-use Rattle.std.specs.Prelude.{option_map}
+use Rattle.std.proofs.Common.{◌≡◌, ◌≢◌, ◌∙◌, sym, subst, ℕ, List, Option, Result, arith}
+use Rattle.std.specs.Prelude.{option_map, string_bytes}
 use Rattle.std.specs.declared.alloc.Global.{Global}
 use Rattle.std.specs.declared.string.String.{String}
 use Rattle.std.specs.Io.KnownBytes.{Appends}
-use Rattle.std.specs.List.{flat_map}
 use Rattle.base_language.specs.Language.Expression.{Grammar}
-use Rattle.pest_meta.specs.Written.{IsWritten}
+use Rattle.pest_meta.specs.Written.{SpellsAccepted}
 use Rattle.pest_run.specs.Ends.{EndsAs}
 use Rattle.pest_run.specs.Listing.{IsListOutcome, ListsRules}
-use Rattle.pest_run.specs.RuleNames.{name_line, name_lines}
 use Rattle.pest_run.specs.Written.{WritesNote}
 use Rattle.pest_run.specs.declared.outcomes.Outcome.{Outcome}
 use Rattle.pest_run.specs.declared.outcomes.Outcome.TheVariants as is
 use Rattle.pest_run.proofs.Ended.{apart, neither}
-use Rattle.pest_run.proofs.RuleNames.{names_kept}
 
 module _ {X E : Type 0} (grammar : List ℕ) (rules : Grammar) (told : Result X E) (same : Type 0) (status : ℕ) (old_out new_out old new : Option (List ℕ)) where
   -- where the status is 0, the names were printed
-  pub lists : (o : Outcome) → IsWritten grammar rules → IsListOutcome rules o → EndsAs o same status told old_out new_out old new → status ≡ 0 → ListsRules grammar old_out new_out
+  pub lists : (o : Outcome) → SpellsAccepted grammar rules → IsListOutcome rules o → EndsAs o same status told old_out new_out old new → status ≡ 0 → ListsRules grammar old_out new_out
   lists (is.Shown lines _) a i e zero =
-      let written : IsWritten grammar rules = a in
-      let shows : string_bytes lines ≡ name_lines written.spelled = i.0 ∙ ap (λ ns. flat_map name_line ns) (sym (names_kept written.written_out)) in
       let P : List ℕ → Type 0 = λ t. Appends old_out new_out t in
-      record { rules = written.spelled; spelled = written.accepted; gained = subst P shows (e.1 zero) }
+      record { rules = rules; spelled = a; gained = subst P i.0 (e.1 zero) }
   lists (is.Failed report) a i e zero = absurd i
   lists (is.Unnamed report) a i e zero = absurd i
   lists (is.NoRule message) a i e zero = absurd i

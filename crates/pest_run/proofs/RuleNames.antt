@@ -7,35 +7,27 @@ use Rattle.std.proofs.lemmas.Grind.{flat_map-append}
 use Rattle.std.proofs.lemmas.List.{map-append, take_more}
 use Rattle.std.proofs.lemmas.Str.{IsUtf8-string_bytes, encodes-chars}
 use Rattle.std.proofs.lemmas.List.Elements.{filter-append}
-use Rattle.base_ast.specs.Ast.{text_of}
-use Rattle.base_ast.specs.Optimized.{optimized_rules_of}
-use Rattle.base_ast.specs.declared.optimized.OptimizedRule.{OptimizedRule}
-use Rattle.base_language.specs.Language.Expression.{Expression, Grammar, RuleType}
+use Rattle.base_ast.specs.Ast.{rules_of, text_of}
+use Rattle.base_ast.specs.declared.ast.Rule.{Rule}
 use Rattle.base_language.specs.Language.Text.{Text}
-use Rattle.base_language.specs.Rewritings.Rewriting.{EachBody, also_rule, no_rules}
 use Rattle.matcher_program.specs.ExpectedNames.{name_texts}
 use Rattle.pest_run.specs.RuleNames.{name_line, name_lines, rule_names}
 
--- rules with other bodies have the same names
-pub names_kept : {P : RuleType → Expression → Expression → Type 0} {g h : Grammar} → EachBody P g h → rule_names g ≡ rule_names h
-names_kept no_rules = refl
-names_kept (also_rule {r = r} p e) = ap (λ ns. r.name ∷ ns) (names_kept e)
-
-names_after : (rules : List OptimizedRule) (x : OptimizedRule) → rule_names (optimized_rules_of (rules ++ x ∷ [])) ≡ rule_names (optimized_rules_of rules) ++ text_of x.name ∷ []
+names_after : (rules : List Rule) (x : Rule) → rule_names (rules_of (rules ++ x ∷ [])) ≡ rule_names (rules_of rules) ++ text_of x.name ∷ []
 names_after [] x = refl
 names_after (rule ∷ rules) x = ap (λ ns. text_of rule.name ∷ ns) (names_after rules x)
 
-module _ (rules : List OptimizedRule) (i : ℕ) (x : OptimizedRule) (within : i < length rules) (at : x ≡ get_or rules i x) where
+module _ (rules : List Rule) (i : ℕ) (x : Rule) (within : i < length rules) (at : x ≡ get_or rules i x) where
   abbrev before : List Text
-  before = rule_names (optimized_rules_of (take i rules))
+  before = rule_names (rules_of (take i rules))
 
-  names_more : rule_names (optimized_rules_of (take (i + 1) rules)) ≡ before ++ text_of x.name ∷ []
+  names_more : rule_names (rules_of (take (i + 1) rules)) ≡ before ++ text_of x.name ∷ []
   names_more =
       let more : take (i + 1) rules ≡ take i rules ++ x ∷ [] = take_more rules i x within ∙ ap (λ r. take i rules ++ r ∷ []) (sym at) in
-      ap (λ rs. rule_names (optimized_rules_of rs)) more ∙ names_after (take i rules) x
+      ap (λ rs. rule_names (rules_of rs)) more ∙ names_after (take i rules) x
 
   -- the line of one rule more
-  pub line_more : (old new : List ℕ) → new ≡ old ++ string_bytes x.name ++ codes "\n" → old ≡ name_lines (optimized_rules_of (take i rules)) → new ≡ name_lines (optimized_rules_of (take (i + 1) rules))
+  pub line_more : (old new : List ℕ) → new ≡ old ++ string_bytes x.name ++ codes "\n" → old ≡ name_lines (rules_of (take i rules)) → new ≡ name_lines (rules_of (take (i + 1) rules))
   line_more old new e o =
       let line : old ++ string_bytes x.name ++ codes "\n" ≡ old ++ name_line (text_of x.name) =
       append_assoc old (string_bytes x.name) (codes "\n") ∙ ap (λ t. old ++ (t ++ codes "\n")) (sym (encodes-chars (string_bytes x.name) (IsUtf8-string_bytes x.name))) in

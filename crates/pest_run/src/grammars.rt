@@ -25,7 +25,7 @@ use std::io::Write;
 /// The rules of a grammar's text, as they are written.
 #[derive(Drop)]
 pub struct GrammarRules {
-    rules: Deep<Vec<Rule>>,
+    pub rules: Deep<Vec<Rule>>,
 }
 
 /// The result of reading a grammar's text.

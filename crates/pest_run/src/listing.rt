@@ -1,20 +1,18 @@
 //! Lists of rules' names.
 ghost use Rattle.std.specs.Prelude.{◌≡◌, ◌≢◌, ◌≤◌, IsErr, IsOk, codes, true};
-ghost use Rattle.base_ast.specs.Optimized.{optimized_rules_of};
+ghost use Rattle.base_ast.specs.Ast.{rules_of};
 ghost use Rattle.pest_run.specs.Ends.{IsStatus};
 ghost use Rattle.pest_run.specs.Listing.{IsListOutcome, ListsRules};
 ghost use Rattle.pest_run.specs.Written.{IsReadable, ReportsRefusal, ReportsUnread, WritesLine};
 
+use crate::grammars::{Reading, read_grammar, refuse_grammar};
 use crate::outcomes::Outcome;
 use crate::rule_names::name_lines;
 use crate::run::print_outcome;
 use crate::sources::{Source, text_of, unreadable};
-use base_ast::optimized::{OptimizedRule, release};
-use base_language::runtime::Fault;
-use pest_meta::parse_as_written;
-use program_support::ends::{RunExit, exit_with, report_refusal};
+use base_ast::ast::Rule;
+use program_support::ends::RunExit;
 use program_support::output::Output;
-use program_support::status::Status;
 use std::alloc::Global;
 use std::io::Write;
 
@@ -87,20 +85,18 @@ pub fn list_rules<W: Write, E: Write>(
     ensures told { IsOk result.write_result → err.new.refused ≡ err.old.refused }
     ensures refused_line { IsErr result.write_result → err.new.refused ≡ true }
 {
-    match parse_as_written(alloc, grammar) {
-        Ok(rules) => {
-            let outcome = list_outcome(alloc, &rules);
-            release(rules);
-            print_outcome(outcome, out, err)
+    match read_grammar(alloc, grammar) {
+        Ok(grammar) => print_outcome(list_outcome(alloc, &grammar.rules.value), out, err),
+        Err(error) => {
+            let mut reading = Reading::Nothing;
+            refuse_grammar(alloc, grammar, error, &mut reading, err)
         }
-        Err(Fault::Memory(_)) => exit_with(err, "out of memory", Status::OutOfMemory),
-        Err(Fault::Grammar(errors)) => report_refusal(alloc, &errors, err),
     }
 }
 
 /// Returns the names of rules as lines to be shown.
-fn list_outcome(alloc: Global, rules: &[OptimizedRule]) -> Outcome
-    ensures { IsListOutcome (optimized_rules_of rules.now) result }
+fn list_outcome(alloc: Global, rules: &[Rule]) -> Outcome
+    ensures { IsListOutcome (rules_of rules.now) result }
 {
     match name_lines(alloc, rules) {
         Ok(lines) => Outcome::Shown { lines, note: None },

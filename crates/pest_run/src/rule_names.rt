@@ -1,10 +1,10 @@
 //! Names of rules, and near names.
 ghost use Rattle.std.specs.Prelude.{◌≡◌, ◌++◌, IfOk, OnOk, chars, codes, encode_utf8_all, string_bytes};
-ghost use Rattle.base_ast.specs.Optimized.{optimized_rules_of};
+ghost use Rattle.base_ast.specs.Ast.{rules_of};
 ghost use Rattle.matcher_program.specs.ExpectedNames.{name_texts};
 ghost use Rattle.pest_run.specs.RuleNames.{is_near, name_lines, near_among};
 
-use base_ast::optimized::OptimizedRule;
+use base_ast::ast::Rule;
 use std::alloc::{AllocError, Global};
 use strsim::osa_distance;
 
@@ -12,8 +12,8 @@ use strsim::osa_distance;
 const LONGEST_NAME: usize = 64;
 
 /// Returns the names of rules, a line each. The only error is an allocation failure.
-pub fn name_lines(alloc: Global, rules: &[OptimizedRule]) -> Result<String, AllocError>
-    ensures { IfOk result (λ lines. string_bytes lines ≡ name_lines (optimized_rules_of rules.now)) }
+pub fn name_lines(alloc: Global, rules: &[Rule]) -> Result<String, AllocError>
+    ensures { IfOk result (λ lines. string_bytes lines ≡ name_lines (rules_of rules.now)) }
 {
     let mut lines = String::new(alloc);
     for rule in rules {

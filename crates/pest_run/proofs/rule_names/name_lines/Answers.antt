@@ -1,6 +1,6 @@
 use Rattle.std.proofs.Common.{◌∙◌, ap}
 use Rattle.std.proofs.lemmas.List.{take_all}
-use Rattle.base_ast.specs.Optimized.{optimized_rules_of}
+use Rattle.base_ast.specs.Ast.{rules_of}
 use Rattle.pest_run.specs.RuleNames.{name_lines}
 use Rattle.pest_run.proofs.RuleNames.{line_more}
 use Rattle.pest_run.proofs.rule_names.name_lines.Goals as goal
@@ -12,4 +12,4 @@ loop-rule-preserved c =
 
 pub returns : goal.returns
 returns c =
-    c.loop-rule.invariant ∙ ap (λ rs. name_lines (optimized_rules_of rs)) (take_all c.loop-rule.rule-index c.args.rules.now c.loop-rule-test.false)
+    c.loop-rule.invariant ∙ ap (λ rs. name_lines (rules_of rs)) (take_all c.loop-rule.rule-index c.args.rules.now c.loop-rule-test.false)
