@@ -3,7 +3,6 @@ mod head;
 mod making;
 mod names;
 mod runs;
-mod stack_rules;
 
 pub use head::{BlockFlaw, check_block};
 pub use making::compile_block;
@@ -12,4 +11,3 @@ pub use runs::{
     BlockStop, attempts_block, bound_block, expected_block, guide_block, is_stackless_block,
     paths_block, recognize_block, run_block,
 };
-pub use stack_rules::find_stack_rule;

@@ -18,8 +18,8 @@ use crate::attempts::{NamedAttempts, name_attempts};
 use base_language::runtime::Span;
 use matcher_code::state::OpenCall;
 use matcher_engine::block::{
-    BlockStop, attempts_block, bound_block, expected_block, find_stack_rule, guide_block,
-    paths_block, recognize_block, rule_count, rule_name, run_block,
+    BlockStop, attempts_block, bound_block, expected_block, guide_block, paths_block,
+    recognize_block, rule_count, rule_name, run_block,
 };
 use matcher_engine::matcher::Preorder;
 use matcher_engine::recognize::Recognition;
@@ -69,21 +69,6 @@ impl<'b> CompiledRules<'b> {
         match u32::try_from(number) {
             Ok(number) => Ok(number),
             Err(_) => Err(BlockStop::Stopped(Stop::Memory)),
-        }
-    }
-
-    /// Returns the name of a rule that uses the stack, if the rule of a name comes to one: of a silent rule,
-    /// that of the rule that calls it. The only error is an allocation failure.
-    pub fn find_stack_rule(&self, alloc: Global, rule: &str) -> Result<Option<&str>, AllocError> {
-        let Some(number) = last_number(&self.names, rule) else {
-            return Ok(None);
-        };
-        let Ok(number) = u32::try_from(number) else {
-            return Err(AllocError);
-        };
-        match find_stack_rule(alloc, self.block, number)? {
-            Some(user) => Ok(Some(text_name(&self.names, user))),
-            None => Ok(None),
         }
     }
 

@@ -129,7 +129,7 @@ pub data IsStop (g : Grammar) (rule text : List ℕ) (limit : ℕ) : List ℕ �
       → IsStop g rule text limit (codes "a range of the grammar has a bound that is no character")
 
 -- the grammar is accepted, the matcher was stopped on the text, and the reason is the line
-pub record ReportsStop {X E : Type 0} (form : RuleForm) (grammar rule text : List ℕ) (limit : ℕ)
+pub record ReportsStop {X E : Type 0} (form : RuleForm) (grammar rule text : List ℕ) (limits : Limits)
     (written : Result X E) (old new : Option (List ℕ)) : Type 0 where
   pub rules : Grammar
   pub are : AreRun form grammar rules

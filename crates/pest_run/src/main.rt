@@ -21,6 +21,7 @@ mod properties;
 mod rule_names;
 mod run;
 mod sources;
+mod stack_rules;
 
 use arguments::{
     Request, RuleForm, asks_for_rules, asks_why, command, compile_target, form_of, format_of,

@@ -1,5 +1,5 @@
 //! Runs of a rule on a text, in so many steps.
-ghost use Rattle.std.specs.Prelude.{◌≡◌, ◌≢◌, IfErr, IfOk, None, chars, false, length, true};
+ghost use Rattle.std.specs.Prelude.{◌≡◌, ◌≢◌, ◌≤◌, IfErr, IfOk, None, chars, false, length, true};
 ghost use Rattle.base_language.specs.Language.Expression.{Grammar};
 ghost use Rattle.matcher_engine.specs.Preorders.{HasPreorder};
 ghost use Rattle.matcher_program.specs.Answers.{start_of};
@@ -19,13 +19,14 @@ use std::alloc::Global;
 const TURNS: u64 = 4;
 
 /// Matches by the rule of that name. Out of steps, a guided run takes the run's place. If no limit is given,
-/// only a rule that uses the stack has one.
+/// only a rule that uses the stack has one; `user` is the name of such a rule.
 pub fn match_rule(
     alloc: Global,
     rules: &CompiledRules<'_>,
     rule: &str,
     text: &str,
     limit: Option<u64>,
+    user: Option<&str>,
 ) -> Result<Preorder, BlockStop>
     ensures matched { (g : Grammar) → IsCompiledOf g rules.now
         → IfOk result (HasPreorder g (chars rule.now) (start_of text.now) is_in_property) }
@@ -38,7 +39,7 @@ pub fn match_rule(
             let turns = steps.saturating_mul(TURNS);
             rules.match_guided(alloc, rule, text, steps, Some(turns))
         }
-        None => match_unlimited(alloc, rules, rule, text),
+        None => match_unlimited(alloc, rules, rule, text, user),
     }
 }
 
@@ -50,6 +51,7 @@ fn match_unlimited(
     rules: &CompiledRules<'_>,
     rule: &str,
     text: &str,
+    user: Option<&str>,
 ) -> Result<Preorder, BlockStop>
     ensures matched { (g : Grammar) → IsCompiledOf g rules.now
         → IfOk result (HasPreorder g (chars rule.now) (start_of text.now) is_in_property) }
@@ -61,7 +63,7 @@ fn match_unlimited(
         Ok(found) => Ok(found),
         Err(stop) => {
             if is_out_of_steps(&stop) {
-                match_again(alloc, rules, rule, text)
+                rules.match_text(alloc, rule, text, last_limit(user, text.len()))
             } else {
                 Err(stop)
             }
@@ -69,23 +71,14 @@ fn match_unlimited(
     }
 }
 
-/// Matches by the rule of that name, in as many steps as a rule that uses the stack is allowed, or in any
-/// number by another.
-fn match_again(
-    alloc: Global,
-    rules: &CompiledRules<'_>,
-    rule: &str,
-    text: &str,
-) -> Result<Preorder, BlockStop>
-    ensures matched { (g : Grammar) → IsCompiledOf g rules.now
-        → IfOk result (HasPreorder g (chars rule.now) (start_of text.now) is_in_property) }
-    ensures refused { (g : Grammar) → IsCompiledOf g rules.now
-        → IfErr result (IsRefusedBy g rule.now text.now (step_limit None (length text.now))) }
+/// Returns the greatest number of steps of a run after a guided one, on a text of this length: that of a rule
+/// that uses the stack, if there is one, and else the greatest of all.
+fn last_limit(user: Option<&str>, length: usize) -> u64
+    ensures { step_limit None length ≤ result }
 {
-    match rules.find_stack_rule(alloc, rule) {
-        Ok(Some(_)) => rules.match_text(alloc, rule, text, step_limit(None, text.len())),
-        Ok(None) => rules.match_text(alloc, rule, text, u64::MAX),
-        Err(_) => Err(BlockStop::Stopped(Stop::Memory)),
+    match user {
+        Some(_) => step_limit(None, length),
+        None => u64::MAX,
     }
 }
 

@@ -14,6 +14,7 @@ ghost use Rattle.matcher_support.specs.Compiled.{FailsIn, IsCompiled, IsCompiled
 ghost use Rattle.matcher_support.specs.Sets.{is_in_property};
 ghost use Rattle.matcher_support.specs.Shown.{shown};
 ghost use Rattle.program_support.specs.Escapes.{escaped_lines};
+ghost use Rattle.pest_run.specs.Messages.{IsStepsText};
 ghost use Rattle.pest_run.specs.Steps.{limits_of};
 ghost use Rattle.pest_run.specs.Outcomes.{IsFailureReport, IsMatchReport, IsNoRuleReport, IsOutcome, IsStopReport, IsUnnamedMatchReport, IsUnnamedReport, ReportsAt, ReportsFailure, end_note, trees_text, unfit_outcome};
 
@@ -24,6 +25,7 @@ use crate::messages::{
     describe_failure, end_message, is_more, no_rule_message, stack_message, steps_message,
     unnamed_message, unnamed_note,
 };
+use crate::stack_rules::find_stack_rule;
 use base_language::runtime::{Error, ErrorVariant, Fault, Position};
 use matcher_engine::block::{BlockStop, compile_block};
 use matcher_engine::matcher::Preorder;
@@ -107,13 +109,17 @@ pub fn block_outcome(
         (limits_of limit (length text.now))) }
 {
     match CompiledRules::read(alloc, block) {
-        Ok(Some(grammar)) => run_outcome(alloc, &grammar, rule, name, text, format, limit),
+        Ok(Some(grammar)) => match find_stack_rule(alloc, block, grammar.rule_names(), rule) {
+            Ok(user) => run_outcome(alloc, &grammar, rule, name, text, format, limit, user),
+            Err(_) => Some(Outcome::Memory),
+        },
         Ok(None) => None,
         Err(_) => Some(Outcome::Memory),
     }
 }
 
-/// Runs the rule of that name, as `block_outcome`.
+/// Runs the rule of that name, as `block_outcome`. `user` is the name of a rule that uses the stack, if it
+/// comes to one.
 fn run_outcome(
     alloc: Global,
     rules: &CompiledRules<'_>,
@@ -122,19 +128,27 @@ fn run_outcome(
     text: &str,
     format: Format,
     limit: Option<u64>,
+    user: Option<&str>,
 ) -> Option<Outcome>
     ensures { (g : Grammar) → IsCompiledOf g rules.now → IsSomeAnd result
         (IsOutcome g rule.now name.now text.now format (limits_of limit (length text.now))) }
 {
     let limits = limits_of(limit, text.len());
-    match match_rule(alloc, rules, rule, text, limit) {
+    match match_rule(alloc, rules, rule, text, limit, user) {
         Ok(found) => match_outcome(alloc, rules, rule, text, &found, format, limits),
         Err(BlockStop::NoMatch(place)) => {
             failure_outcome(alloc, rules, rule, name, text, place, limits)
         }
-        Err(BlockStop::NoRule) => refusal_outcome(alloc, rules, rule, BlockStop::NoRule, limits),
+        Err(BlockStop::NoRule) => refusal_outcome(
+            alloc,
+            rules,
+            rule,
+            BlockStop::NoRule,
+            limits,
+            None,
+        ),
         Err(BlockStop::Stopped(stop)) => {
-            refusal_outcome(alloc, rules, rule, BlockStop::Stopped(stop), limits)
+            refusal_outcome(alloc, rules, rule, BlockStop::Stopped(stop), limits, user)
         }
         Err(BlockStop::Flaw(_)) => None,
     }
@@ -168,7 +182,7 @@ fn match_outcome(
                 let walk = rules.walk(alloc, found);
                 Some(unnamed_match(alloc, text, walk, found, format, limits.names))
             } else {
-                refusal_outcome(alloc, rules, rule, stop, limits)
+                refusal_outcome(alloc, rules, rule, stop, limits, None)
             }
         }
     }
@@ -198,7 +212,7 @@ fn failure_outcome(
             if is_out_of_steps(&stop) {
                 Some(unnamed_outcome(alloc, name, text, place, limits.names))
             } else {
-                refusal_outcome(alloc, rules, rule, stop, limits)
+                refusal_outcome(alloc, rules, rule, stop, limits, None)
             }
         }
     }
@@ -211,6 +225,7 @@ fn refusal_outcome(
     rule: &str,
     stop: BlockStop,
     limits: Limits,
+    user: Option<&str>,
 ) -> Option<Outcome>
     ensures { (g : Grammar) → IsCompiledOf g rules.now → (name text : List ℕ) → IsUtf8 text
         → (format : Format) → IsUnanswered g rule.now text limits.steps stop
@@ -218,7 +233,7 @@ fn refusal_outcome(
 {
     match stop {
         BlockStop::NoRule => Some(no_rule_outcome(alloc, rules.rule_names(), rule)),
-        BlockStop::Stopped(stop) => Some(stopped_outcome(alloc, rules, rule, stop, limits.steps)),
+        BlockStop::Stopped(stop) => Some(stopped_outcome(alloc, stop, limits.steps, user)),
         BlockStop::NoMatch(_) | BlockStop::Flaw(_) => None,
     }
 }
@@ -435,19 +450,14 @@ fn report_at(
     Ok(show_error(alloc, Some(name), &error)?)
 }
 
-/// Returns the outcome of a run of the rule of that name that was stopped, of this many steps at most.
-fn stopped_outcome(
-    alloc: Global,
-    rules: &CompiledRules<'_>,
-    rule: &str,
-    stop: Stop,
-    steps: u64,
-) -> Outcome
+/// Returns the outcome of a run that was stopped, of this many steps at most. `user` is the name of a rule
+/// that uses the stack, if the run comes to one.
+fn stopped_outcome(alloc: Global, stop: Stop, steps: u64, user: Option<&str>) -> Outcome
     ensures { IsStopReport stop steps result }
 {
     match stop {
         Stop::Memory => Outcome::Memory,
-        Stop::OutOfSteps => match describe_stop(alloc, rules, rule, steps) {
+        Stop::OutOfSteps => match describe_stop(alloc, steps, user) {
             Ok(message) => Outcome::OutOfSteps(message),
             Err(_) => Outcome::Memory,
         },
@@ -456,17 +466,12 @@ fn stopped_outcome(
     }
 }
 
-/// Returns the message that a run of the rule of that name was stopped after this many steps, with the name
-/// of a rule that uses the stack, if there is one. The only error is an allocation failure.
-fn describe_stop(
-    alloc: Global,
-    rules: &CompiledRules<'_>,
-    rule: &str,
-    steps: u64,
-) -> Result<String, AllocError>
+/// Returns the message that a run was stopped after this many steps, with the name of a rule that uses the
+/// stack, if there is one. The only error is an allocation failure.
+fn describe_stop(alloc: Global, steps: u64, user: Option<&str>) -> Result<String, AllocError>
     ensures { IfOk result (λ message. IsStepsText steps (string_bytes message)) }
 {
-    match rules.find_stack_rule(alloc, rule)? {
+    match user {
         Some(user) => stack_message(alloc, steps, user),
         None => steps_message(alloc, steps),
     }

@@ -1,16 +1,25 @@
-//! Rules of a block that use the stack, found by depth-first search in its code.
+//! Rules of a compiled grammar that use the stack, found by depth-first search in its code.
 ghost use Rattle.std.specs.Prelude.{◌≡◌};
 ghost use Rattle.matcher_code.specs.StackUses.{uses_stack};
 
-use crate::block::head::part_of;
-use crate::matcher::entry_of;
 use format_code::code::read_code;
+use format_code::sections::section;
 use matcher_code::bytecode::{Bytecode, find_op};
 use matcher_code::code::Op;
+use matcher_program::texts::same;
 use std::alloc::{AllocError, Global};
 
 /// How many labels a table of the code has: one for each byte, and one for the end of the text.
 const TABLE: usize = 257;
+
+/// The length of the head of a block, in bytes. The sections follow it.
+const HEAD: usize = 16;
+
+/// The section with the code that finds names: each call of a rule with a tree stands there.
+const NAME_CODE: u32 = 1;
+
+/// The label of the call of the first rule from outside. The labels of the other rules follow.
+const FIRST_ENTRY: u32 = 3;
 
 /// A label of the code, and the rule of the last call on the way to it.
 #[derive(Clone, Copy, Debug)]
@@ -122,17 +131,43 @@ impl Search {
     }
 }
 
-/// Returns the number of a rule that uses the stack, if the rule of a number comes to one: of a silent rule,
-/// the rule that calls it. The only error is an allocation failure.
-pub fn find_stack_rule(alloc: Global, block: &[u8], rule: u32) -> Result<Option<u32>, AllocError> {
-    let code = read_code(part_of(block, 1));
+/// Returns the name of a rule that uses the stack, if the rule of a name comes to one: of a silent rule,
+/// that of the rule that calls it. The only error is an allocation failure.
+pub fn find_stack_rule<'b>(
+    alloc: Global,
+    block: &[u8],
+    names: &[&'b str],
+    rule: &str,
+) -> Result<Option<&'b str>, AllocError> {
+    let Some(number) = last_number(names, rule) else {
+        return Ok(None);
+    };
+    match search_code(alloc, block, number)? {
+        Some(user) => Ok(names.get(user as usize).copied()),
+        None => Ok(None),
+    }
+}
+
+/// Returns the number of the last rule of a name, if a `u32` holds it.
+fn last_number(names: &[&str], rule: &str) -> Option<u32> {
+    let mut found = None;
+    for (number, name) in names.iter().enumerate() {
+        if same(name, rule) {
+            found = u32::try_from(number).ok();
+        }
+    }
+    found
+}
+
+/// Returns the number of a rule that uses the stack, if the rule of a number comes to one.
+fn search_code(alloc: Global, block: &[u8], rule: u32) -> Result<Option<u32>, AllocError> {
+    let sections = block.get(HEAD..).unwrap_or(&[]);
+    let code = read_code(section(sections, NAME_CODE));
     let mut search = Search {
         is_reached: vec![in alloc; false; code.ops.len()]?,
         waiting: Vec::new(alloc),
     };
-    if let Some(entry) = entry_of(rule as usize) {
-        search.reach(entry, rule)?;
-    }
+    search.reach(rule.saturating_add(FIRST_ENTRY), rule)?;
     // a label waits once at most
     for _ in 0..code.ops.len() {
         let Some(here) = search.waiting.pop() else {
