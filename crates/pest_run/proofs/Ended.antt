@@ -120,7 +120,7 @@ stops is.Memory name grammar rule text format form rules limit told same status 
 pub refusal_is_reason : {X E : Type 0} (form : RuleForm) (grammar rule name text : List ℕ) (limit : Limits) (told : Result X E) (old new : Option (List ℕ))
     → ReportsRefusal grammar told old new → ReportsReason form grammar rule name text limit told old new
 refusal_is_reason form grammar rule name text limit told old new r =
-    record { message = r.tells.report; reason = refused r.errors r.tells.report r.refused r.tells.shows; line = r.tells.line }
+    record { message = r.tells.report; reason = refused r.is_terminal r.errors r.tells.report r.refused r.tells.shows; line = r.tells.line }
 
 -- the same of an outcome by the rules of a grammar
 module _ {X E : Type 0} (o : Outcome) (name grammar rule text : List ℕ) (format : Format) (form : RuleForm) (limit : Limits) (told : Result X E) (same : Type 0) (status : ℕ)

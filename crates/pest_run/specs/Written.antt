@@ -1,5 +1,5 @@
 -- The texts that the program writes.
-use Rattle.std.specs.Prelude.{◌≡◌, ◌⊎◌, ◌≤◌, ◌^◌, ℕ, List, Option, Some, None, Result, IsUtf8, codes, length, string_bytes}
+use Rattle.std.specs.Prelude.{◌≡◌, ◌⊎◌, ◌≤◌, ◌^◌, ℕ, Bool, List, Option, Some, None, Result, IsUtf8, codes, length, string_bytes}
 use Rattle.std.specs.Borrow.{Bor}
 use Rattle.std.specs.Io.KnownBytes.{Appends}
 use Rattle.base_ast.specs.Optimized.{optimized_rules_of}
@@ -9,8 +9,7 @@ use Rattle.base_language.specs.declared.grammar.Rule.{Rule}
 use Rattle.base_language.specs.declared.runtime.errors.Error.{Error}
 use Rattle.pest_meta.specs.Spelling.{IsAnswer, IsRefusedWith}
 use Rattle.pest_meta.specs.Written.{IsWritten, SpellsAccepted}
-pub use Rattle.program_support.specs.Ends.{WritesLine, WritesNote, WritesReport}
-use Rattle.program_support.specs.Messages.{IsReport}
+pub use Rattle.program_support.specs.Ends.{IsReportFor, WritesLine, WritesNote, WritesReport}
 use Rattle.pest_run.specs.Messages.{IsStepsText, no_rule_text, unread_text}
 use Rattle.pest_run.specs.Outcomes.{CallsUnknownName, HasFailed, HasNoOutcome, HasNoRule, HasUnnamed, HasWrongBound, IsNoted, IsOutcome, IsShown, TakesTooManySteps}
 use Rattle.pest_run.specs.declared.arguments.Format.{Format}
@@ -43,12 +42,13 @@ pub record ReportsUnread {X E : Type 0} (grammar text : Source) (written : Resul
   pub unreadable : IsReadable source → ⊥
   pub line : WritesUnread source written old new
 
--- the grammar is refused, and the report is the line
+-- the grammar is refused, and the report, for a terminal or not, is the line
 pub record ReportsRefusal {X E : Type 0} (grammar : List ℕ) (written : Result X E)
     (old new : Option (List ℕ)) : Type 0 where
+  pub is_terminal : Bool
   pub errors : List (Error Rule)
   pub refused : IsRefusedWith grammar errors
-  pub tells : WritesReport errors written old new
+  pub tells : WritesReport is_terminal errors written old new
 
 -- the rules that the optimizer returns for a grammar
 pub record AreAnswered (grammar : List ℕ) (rules : Grammar) : Type 0 where
@@ -97,8 +97,8 @@ pub record NotesEnd {X E : Type 0} (form : RuleForm) (grammar rule text : List �
 -- what is expected, or that this was not found in so many steps
 pub data IsReason (form : RuleForm) (grammar rule name text : List ℕ) (limits : Limits)
     : List ℕ → Type 0 where
-  refused : (errors : List (Error Rule)) (report : List ℕ) → IsRefusedWith grammar errors
-      → IsReport errors report → IsReason form grammar rule name text limits report
+  refused : (is_terminal : Bool) (errors : List (Error Rule)) (report : List ℕ) → IsRefusedWith grammar errors
+      → IsReportFor is_terminal errors report → IsReason form grammar rule name text limits report
   no_rule : (rules : Grammar) → AreRun form grammar rules → HasNoRule rules rule
       → IsReason form grammar rule name text limits (no_rule_text rules rule)
   no_match : (rules : Grammar) (report : List ℕ) → AreRun form grammar rules

@@ -91,7 +91,7 @@ pub fn refuse_grammar<'g, E: Write>(
     match error.into_errors(alloc, grammar) {
         Ok(errors) => {
             *reading = Reading::Refused(property);
-            report_refusal(alloc, &errors, err)
+            report_refusal(alloc, errors, err)
         }
         Err(_) => {
             *reading = Reading::Nothing;

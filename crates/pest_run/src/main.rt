@@ -44,7 +44,7 @@ use sources::Source;
 use std::alloc::{AllocError, Global};
 use std::env;
 use std::fs::File;
-use std::io::{self, Write};
+use std::io::{self, IsTerminal, Stderr, Write};
 use std::process::ExitCode;
 
 /// Reads the file of that name, or standard input for `-`. The source has the bytes, or the reason why they
@@ -98,7 +98,7 @@ fn match_files(
 {
     let alloc = rt.alloc();
     let mut out = Output::new(rt.stdout());
-    let mut err = Output::new(rt.stderr());
+    let mut err = error_output(rt);
     let mut reading = Reading::Nothing;
     let exit = run_files(
         alloc,
@@ -147,7 +147,7 @@ fn match_by_code(rt: &HostRuntime, code: &Source<'_>, text: &Source<'_>, request
 {
     let alloc = rt.alloc();
     let mut out = Output::new(rt.stdout());
-    let mut err = Output::new(rt.stderr());
+    let mut err = error_output(rt);
     let status = run_code(alloc, code, text, request, &mut out, &mut err).status;
     if request.why && status == Status::Found.code() {
         let _ = explain_code(alloc, code, text, request, &mut out, &mut err);
@@ -158,7 +158,7 @@ fn match_by_code(rt: &HostRuntime, code: &Source<'_>, text: &Source<'_>, request
 /// Compiles a grammar to the file of a name, with the process's own output, and returns the status.
 fn compile(rt: &HostRuntime, grammar: &Source<'_>, target: &str) -> Result<u8, AllocError> {
     let alloc = rt.alloc();
-    let mut err = Output::new(rt.stderr());
+    let mut err = error_output(rt);
     let mut reading = Reading::Nothing;
     match compile_file(alloc, grammar, &mut reading, &mut err) {
         Ok(block) => match write_code(rt, target, &block) {
@@ -198,8 +198,14 @@ fn list_names(rt: &HostRuntime, grammar: &Source<'_>) -> u8
     ensures listed { result ≡ 0 → ListsRules grammar.now.bytes.items None None }
 {
     let mut out = Output::new(rt.stdout());
-    let mut err = Output::new(rt.stderr());
+    let mut err = error_output(rt);
     list_file(rt.alloc(), grammar, &mut out, &mut err).status
+}
+
+/// Returns the process's standard error.
+fn error_output(rt: &HostRuntime) -> Output<Stderr> {
+    let is_terminal = rt.stderr().is_terminal();
+    Output::for_terminal(rt.stderr(), is_terminal)
 }
 
 /// Does what a command line asks for, and returns the status.

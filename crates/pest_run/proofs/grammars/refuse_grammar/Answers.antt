@@ -1,5 +1,3 @@
-use Rattle.std.proofs.Common.{subst, sym}
-use Rattle.pest_meta.specs.Spelling.{IsRefusedWith}
 use Rattle.pest_run.proofs.grammars.refuse_grammar.Goals as goal
 
 pub returns-in-Ok-clause-reading : goal.returns-in-Ok-clause-reading
@@ -8,7 +6,8 @@ returns-in-Ok-clause-reading g c =
 
 pub returns-in-Ok-clause-reason : goal.returns-in-Ok-clause-reason
 returns-in-Ok-clause-reason g c = λ one. record {
-  errors = c.deref.result.now;
-  refused = subst (IsRefusedWith c.args.grammar.now) (sym c.deref.ensures.value) c.in-Ok.ensures.told;
+  is_terminal = c.args.err.now.is_terminal;
+  errors = c.in-Ok.errors.items;
+  refused = c.in-Ok.ensures.told;
   tells = c.report_refusal.ensures.tells one;
 }
