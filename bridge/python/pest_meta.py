@@ -30,6 +30,7 @@ where the system keeps libraries. Calls may run in several threads at once.
 import ctypes
 import json
 import os
+import sys
 from typing import Any, Dict, Iterator, List, NamedTuple, Optional, Sequence, Tuple, Union
 
 __all__ = [
@@ -59,7 +60,8 @@ __all__ = [
     "versions",
 ]
 
-_LIBRARY = "libpest_meta_c.so.1"
+# The shared library, by the system.
+_LIBRARY = {"win32": "pest_meta_c.dll", "darwin": "libpest_meta_c.dylib"}.get(sys.platform, "libpest_meta_c.so.1")
 _FORMAT = 1
 _ANSWERED, _REFUSED, _MEMORY, _NO_TEXT, _NO_ROOM = range(5)
 _NO_BLOCK, _UNFIT, _NO_RULE, _OUT_OF_STEPS, _EMPTY_STACK, _LONG_TEXT, _OTHER_VERSION, _CHANGED = range(5, 13)
@@ -507,7 +509,7 @@ def _taken(found: _List, size: int) -> bytes:
     if not found.count:
         return b""
     taken = ctypes.string_at(found.at, found.count * size)
-    _free(found.at)
+    _library().free(found.at)
     return taken
 
 
@@ -697,11 +699,10 @@ def _declare_runs(library: Any) -> None:
     library.pest_meta_paths.argtypes = [*run, place, ctypes.c_uint64, found]
     for name in ("compile", "check", "run", "run_guided", "expected", "paths"):
         getattr(library, f"pest_meta_{name}").restype = ctypes.c_uint8
+    # What the library hands out is freed by the C library. On Windows each DLL may have one of its own.
+    library.free = library.pest_meta_free if sys.platform == "win32" else ctypes.CDLL(None).free
+    library.free.argtypes, library.free.restype = [ctypes.c_void_p], None
 
-
-# What the library hands out is freed by the C library.
-_free = ctypes.CDLL(None).free
-_free.argtypes, _free.restype = [ctypes.c_void_p], None
 
 _loaded: Any = None
 
