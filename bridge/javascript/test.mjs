@@ -1,4 +1,4 @@
-// Tests the package: node --test bridge/javascript. It needs pest_meta.wasm (bridge/web/build) beside it. Where the
+// Tests the package: node --test bridge/javascript/test.mjs. It needs pest_meta.wasm (bridge/web/build) beside it. Where the
 // variable SMALL_STACK names the same module with a stack of 4,096 bytes, a call that traps is tried, too.
 import assert from "node:assert/strict";
 import { readFileSync } from "node:fs";
