@@ -73,7 +73,7 @@ const desk = {
 };
 
 // What is shown now. `version` counts the changes, so that an answer to an older question is let go.
-const shown = { version: 0, checked: null, result: null, tab: "tree", rule: "" };
+const shown = { version: 0, checked: null, result: null, tab: "tree", rule: "", document: "", frame: "" };
 let grammar, text;
 
 /** Shows the answer to a question, unless something has changed meanwhile. */
@@ -416,9 +416,14 @@ const tabs = {
   diagrams: {
     async show(pane) {
       const page = await answer("document", { grammar: grammar.getValue() });
-      if (page === undefined) return;
-      const frame = element("iframe", { title: "Railroad diagrams", srcdoc: page.replace("</head>", `${FRAME_STYLE}</head>`) });
+      if (page === undefined || (page === shown.document && pane.querySelector("iframe"))) return;
+      shown.document = page;
+      // Not by srcdoc, whose links to places in the document would lead to those of this page.
+      const styled = new Blob([page.replace("</head>", `${FRAME_STYLE}</head>`)], { type: "text/html" });
+      const frame = element("iframe", { title: "Railroad diagrams" });
       frame.setAttribute("sandbox", "");
+      URL.revokeObjectURL(shown.frame);
+      frame.src = shown.frame = URL.createObjectURL(styled);
       pane.replaceChildren(frame);
     },
   },
