@@ -63,7 +63,7 @@ async function page(send, listeners, url, { width = 1200, height = 800, isDark =
   }
 
   /** Waits until an expression holds. */
-  async function until(expression, seconds = 20) {
+  async function until(expression, seconds = 60) {
     const end = Date.now() + 1000 * seconds;
     for (;;) {
       const it = await value(expression).catch(() => undefined);
