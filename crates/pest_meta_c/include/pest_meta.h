@@ -261,6 +261,12 @@ uint8_t pest_meta_attempts(const uint8_t *block, size_t block_len, uint32_t rule
 uint8_t pest_meta_diagnostics(const uint8_t *text, size_t text_len, uint8_t *out, size_t out_len,
                               size_t *needed);
 
+/* The formatted text of a grammar, and its document in HTML, with railroad diagrams: handed out as blocks
+ * are. Status 1: the grammar is refused; 6: it is left as it is. */
+uint8_t pest_meta_format(const uint8_t *text, size_t text_len, pest_meta_bytes *formatted);
+
+uint8_t pest_meta_page(const uint8_t *text, size_t text_len, pest_meta_bytes *page);
+
 /* The number of the format, and the version of the original crate
  * ("Versions"). Never refused. */
 uint8_t pest_meta_version(uint8_t *out, size_t out_len, size_t *needed);

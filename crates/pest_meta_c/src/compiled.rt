@@ -60,7 +60,7 @@ const OTHER_VERSION: u8 = 11;
 const CHANGED: u8 = 12;
 
 /// Hands out items, which the caller frees if there are any.
-fn hand_out<'a, T: Drop>(items: Vec<T>) -> &'a [T]
+pub(crate) fn hand_out<'a, T: Drop>(items: Vec<T>) -> &'a [T]
     ensures { result.now ≡ items.items }
 {
     if items.is_empty() {

@@ -17,6 +17,7 @@ mod handing;
 mod matching;
 mod outcome;
 mod paths;
+mod web;
 
 ghost use Rattle.std.specs.Prelude.{◌≡◌, ◌≢◌, chars};
 ghost use Rattle.std.specs.Str.{IsUtf8};
