@@ -1,7 +1,8 @@
 /* Asks the library about grammars and texts, and writes all that it answers: conform CASES > ANSWERS
  *
  * CASES is a file of release/platforms/cases. Each answer is a line of the case, the text, the call, the status and a
- * count of bytes, and then these bytes. conform.mjs does the same by the WebAssembly module. */
+ * count of bytes, and then these bytes. conform.mjs does the same by the WebAssembly module. With MACHINE defined, the
+ * file has compiled grammars in the place of grammars, and the calls that run them alone are asked. */
 #include <pest_meta.h>
 #include <stdio.h>
 #include <stdlib.h>
@@ -47,6 +48,7 @@ static void give_back(const void *at, size_t count)
         free((void *)at);
 }
 
+#ifndef MACHINE
 /* A buffer that calls write into. */
 static uint64_t *room;
 static size_t room_len;
@@ -115,6 +117,8 @@ static void ask_rules(bytes grammar)
     free((void *)binary.at);
 }
 
+#endif
+
 static void write_rows(const char *name, unsigned status, pest_meta_row_list rows)
 {
     write_answer(name, status, rows.at, 4 * rows.count);
@@ -157,9 +161,30 @@ static void run_text(bytes block, uint32_t row, bytes text, size_t from, uint64_
     write_rows("negatives", status, no);
 }
 
+/* Asks about a block, changed and cut, and about the texts behind it in the file. */
+static void ask_block(bytes whole)
+{
+    write_answer("check", pest_meta_check(whole.at, whole.count), "", 0);
+    uint8_t *changed = memcpy(malloc(whole.count + 1), whole.at, whole.count);
+    bytes other = {changed, whole.count}, part = {whole.at, whole.count / 2};
+    if (whole.count)
+        changed[whole.count * 2 / 3] ^= 1;
+    write_answer("check", pest_meta_check(changed, whole.count), "", 0);
+    for (uint32_t left = read_word(); left; left--) {
+        text_number++;
+        uint32_t row = read_word(), from = read_word();
+        bytes text = read_bytes();
+        run_text(whole, row, text, from, 200000);
+        run_text(whole, row, text, from, 40);
+        run_text(other, row, text, from, 2000);
+        run_text(part, row, text, from, 2000);
+    }
+    free(changed);
+}
+
+#ifndef MACHINE
 static void ask_grammar(bytes grammar)
 {
-    text_number = 0;
     ask("diagnostics", pest_meta_diagnostics, grammar);
     ask("names", pest_meta_names, grammar);
     ask("rust_keyword", pest_meta_rust_keyword, grammar);
@@ -175,25 +200,10 @@ static void ask_grammar(bytes grammar)
     pest_meta_bytes block = {PEST_META_EMPTY, 0};
     unsigned status = pest_meta_compile(grammar.at, grammar.count, &block);
     write_answer("compile", status, block.at, block.count);
-    bytes whole = {block.at, block.count}, part = {block.at, block.count / 2};
-    write_answer("check", pest_meta_check(block.at, block.count), "", 0);
-    uint8_t *changed = memcpy(malloc(block.count + 1), block.at, block.count);
-    bytes other = {changed, block.count};
-    if (block.count)
-        changed[block.count * 2 / 3] ^= 1;
-    write_answer("check", pest_meta_check(changed, block.count), "", 0);
-    for (uint32_t left = read_word(); left; left--) {
-        text_number++;
-        uint32_t row = read_word(), from = read_word();
-        bytes text = read_bytes();
-        run_text(whole, row, text, from, 200000);
-        run_text(whole, row, text, from, 40);
-        run_text(other, row, text, from, 2000);
-        run_text(part, row, text, from, 2000);
-    }
-    free(changed);
+    ask_block((bytes){block.at, block.count});
     give_back(block.at, block.count);
 }
+#endif
 
 int main(int argc, char **argv)
 {
@@ -209,13 +219,22 @@ int main(int argc, char **argv)
     uint8_t *cases = malloc(count);
     if (fread(cases, 1, count, file) != count)
         return 2;
+#ifndef MACHINE
     size_t needed = 0;
     uint8_t version[100];
     unsigned status = pest_meta_version(version, sizeof version, &needed);
     write_answer("version", status, version, needed);
+#endif
     for (next_case = cases; next_case < cases + count;) {
         case_number++;
-        ask_grammar(read_bytes());
+        text_number = 0;
+        bytes given = read_bytes();
+#ifdef MACHINE
+        /* A grammar without a block has an empty one, which lies at an address that is not null. */
+        ask_block(given);
+#else
+        ask_grammar(given);
+#endif
     }
     return fflush(stdout) ? 2 : 0;
 }
