@@ -105,9 +105,9 @@ static void run_block(const uint8_t *grammar, size_t grammar_len)
                guided.count == nodes.count && !memcmp(guided.at, nodes.at, nodes.count * sizeof *nodes.at) ? "the same"
                                                                                                        : "other");
         if (nodes.count)
-            free((void *)nodes.at);
+            free(nodes.at);
         if (guided.count)
-            free((void *)guided.at);
+            free(guided.at);
         if (status != PEST_META_REFUSED)
             continue;
         status = pest_meta_expected(block.at, block.count, 0, text, length, 0, end, UINT64_MAX, &rows);
@@ -116,7 +116,7 @@ static void run_block(const uint8_t *grammar, size_t grammar_len)
             printf(", rule %u", (unsigned)rows.at[at]);
         printf("\n");
         if (rows.count)
-            free((void *)rows.at);
+            free(rows.at);
         status = pest_meta_paths(block.at, block.count, 0, text, length, 0, end, UINT64_MAX, &calls);
         printf("paths: status %d\n", status);
         for (size_t at = 0; at < calls.count; at++) {
@@ -124,17 +124,17 @@ static void run_block(const uint8_t *grammar, size_t grammar_len)
             printf("  path %zu: rule %zu, from %zu\n", call->path, call->row, call->start);
         }
         if (calls.count)
-            free((void *)calls.at);
+            free(calls.at);
         rows.count = 0;
         status = pest_meta_attempts(block.at, block.count, 0, text, length, 0, UINT64_MAX, &end, &rows, &others);
         printf("attempts: status %d, place %zu, %zu expected, %zu not\n", status, end, rows.count, others.count);
         if (rows.count)
-            free((void *)rows.at);
+            free(rows.at);
         if (others.count)
-            free((void *)others.at);
+            free(others.at);
     }
     if (block.count)
-        free((void *)block.at);
+        free(block.at);
 }
 
 /* What is no grammar, and bytes that are no block, are told by a status. */
@@ -158,7 +158,7 @@ static void run_no_block(const uint8_t *wrong, const uint8_t *prepared, size_t p
     printf("run by an unknown rule: status %d\n", status);
     status = pest_meta_run(block.at + 1, block.count - 1, 0, wrong, 0, 0, UINT64_MAX, &nodes, &end);
     printf("run of no block: status %d\n", status);
-    free((void *)block.at);
+    free(block.at);
 }
 
 int main(void)

@@ -59,7 +59,7 @@ static int tell_failure(const char *text, size_t place)
         printf("%s%s", at ? ", " : ": expected ", names[rows.at[at]]);
     printf("\n");
     if (rows.count)
-        free((void *)rows.at);
+        free(rows.at);
     return 1;
 }
 
@@ -83,6 +83,6 @@ int main(int count, char **words)
     free(ends);
     printf("sum: %lu\n", sum_of(text, nodes.at, nodes.count));
     if (nodes.count)
-        free((void *)nodes.at);
+        free(nodes.at);
     return 0;
 }

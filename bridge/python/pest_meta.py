@@ -13,25 +13,30 @@
     ('a', 'atomic', '(opt (str "x"))')
     >>> matcher = pest_meta.Matcher('list = { item ~ ("," ~ item)* ~ EOI } item = @{ ASCII_ALPHA+ }')
     >>> [list] = matcher.parse("list", "a,bc").trees
-    >>> [(tree.rule, tree.text) for tree in list.children]
+    >>> [(tree.rule, tree.text) for tree in list]
     [('item', 'a'), ('item', 'bc'), ('EOI', '')]
+    >>> list[1].column, len(list), list.find("item").text
+    (3, 3, 'a')
     >>> block = pest_meta.compile('a = { "x"* }')
     >>> pest_meta.load(block).parse("a", "xx").end
     2
 
 A refused grammar raises GrammarError, which has all that is wrong with it, but for diagnostics, which returns that;
-and a text that a rule does not match raises MatchError. Positions are bytes of the grammar's UTF-8, counted from 0, as
-in docs/FORMAT.md; lines and columns count from 1, and a column is a character.
+and a text that a rule does not match raises MatchError; a text that is no str is a TypeError. Positions are bytes of the
+UTF-8, counted from 0, as in docs/FORMAT.md; a Tree has offsets in characters beside them. Lines and columns count from 1,
+and a column is a character.
 
 This file needs Python 3.8 and nothing else but the shared library. It looks for that in the folder that the variable
 PEST_META_LIB names, then beside this file, in ../lib, as bridge/build leaves it, in the folders of a release, and
 where the system keeps libraries. Calls may run in several threads at once.
 """
+import bisect
 import ctypes
 import json
 import os
+import re
 import sys
-from typing import Any, Dict, Iterator, List, NamedTuple, Optional, Sequence, Tuple, Union
+from typing import Any, Dict, Iterator, List, NamedTuple, Optional, Sequence, Tuple, Union, overload
 
 __all__ = [
     "Diagnostic",
@@ -163,12 +168,20 @@ class Diagnostic(NamedTuple):
 
 
 class GrammarError(ValueError):
-    """A grammar is refused."""
+    """A grammar is refused. Its text is that of the linter's errors, with their helps, where there are any."""
 
-    def __init__(self, problems: Sequence[Problem]) -> None:
-        super().__init__("\n".join(map(str, problems)))
+    def __init__(self, problems: Sequence[Problem], diagnostics: Sequence[Diagnostic] = ()) -> None:
+        helps = [f"\n  help: {it.help}" if it.help else "" for it in diagnostics]
+        told = [f"{it}{help}" for it, help in zip(diagnostics, helps)]
+        super().__init__(problems, diagnostics)
         self.problems = tuple(problems)
         """All that is wrong, in the order in which the front end reports it: one at least."""
+        self.diagnostics = tuple(diagnostics)
+        """The errors that the linter tells of the grammar."""
+        self._told = "\n".join(told or map(str, problems))
+
+    def __str__(self) -> str:
+        return self._told
 
 
 class Expr:
@@ -248,15 +261,54 @@ class Token(NamedTuple):
     """The number of the tree's other token."""
 
 
+class _Places:
+    """Where lines start in UTF-8, and how many characters are before each block of it."""
+
+    _BLOCK = 256
+    # The bytes at which no character starts.
+    _INNER = bytes(range(0x80, 0xC0))
+
+    def __init__(self, source: bytes) -> None:
+        self._source = source
+        self._starts = [0, *(it.end() for it in re.finditer(b"\n", source))]
+        self._before = [0]
+        for at in range(0, len(source), self._BLOCK):
+            self._before.append(self._before[-1] + self._count(at, at + self._BLOCK))
+
+    def _count(self, start: int, end: int) -> int:
+        return len(self._source[start:end].translate(None, self._INNER))
+
+    def character(self, position: int) -> int:
+        """How many characters are before a byte."""
+        block = position // self._BLOCK
+        return self._before[block] + self._count(block * self._BLOCK, position)
+
+    def line_column(self, position: int) -> Tuple[int, int]:
+        """The line and the column of a byte."""
+        line = bisect.bisect_right(self._starts, position)
+        return line, self.character(position) - self.character(self._starts[line - 1]) + 1
+
+
 class _Nodes:
     """The nodes of a match: four numbers each, as docs/FORMAT.md has them."""
 
-    __slots__ = ("numbers", "source", "names")
+    __slots__ = ("numbers", "source", "names", "_places")
 
     def __init__(self, nodes: bytes, source: bytes, names: Sequence[str]) -> None:
         self.numbers = memoryview(nodes).cast("I")
         self.source = source
         self.names = names
+        self._places: Optional[_Places] = None
+
+    def __reduce__(self) -> Any:
+        return _Nodes, (bytes(self.numbers), self.source, self.names)
+
+    @property
+    def places(self) -> "_Places":
+        """Lines and characters of the text, which are counted when they are first asked for."""
+        if self._places is None:
+            self._places = _Places(self.source)
+        return self._places
 
     def trees(self, at: int, end: int) -> List["Tree"]:
         """The trees from a node on and before another, without those inside them."""
@@ -268,7 +320,11 @@ class _Nodes:
 
 
 class Tree:
-    """A token pair of a matched text: its rule, its span in bytes, and the trees inside it, which are made when asked for."""
+    """A token pair of a matched text: its rule, its span, and the trees inside it, which are made when asked for.
+
+    It is a sequence of the trees inside it: `for inner in tree`, `len(tree)`, `tree[0]`, `tree[-1]`. It is true also where
+    it has none. Copies are equal to the tree where they are made of it by copy.copy, and new ones by copy.deepcopy.
+    """
 
     __slots__ = ("_nodes", "_at")
 
@@ -292,9 +348,55 @@ class Tree:
         return self._nodes.numbers[4 * self._at + 2]
 
     @property
+    def start_character(self) -> int:
+        """How many characters of the text are before it: `text[tree.start_character:tree.end_character]` is its text."""
+        return self._nodes.places.character(self.start)
+
+    @property
+    def end_character(self) -> int:
+        """How many characters of the text are before its end."""
+        return self._nodes.places.character(self.end)
+
+    @property
+    def line(self) -> int:
+        """The line on which it starts."""
+        return self._nodes.places.line_column(self.start)[0]
+
+    @property
+    def column(self) -> int:
+        """The column at which it starts."""
+        return self._nodes.places.line_column(self.start)[1]
+
+    @property
     def children(self) -> List["Tree"]:
         """The trees inside it, in the order of the text."""
         return self._nodes.trees(self._at + 1, self._nodes.numbers[4 * self._at + 3])
+
+    def __iter__(self) -> Iterator["Tree"]:
+        return iter(self.children)
+
+    def __len__(self) -> int:
+        return len(self.children)
+
+    def __bool__(self) -> bool:
+        return True
+
+    @overload
+    def __getitem__(self, index: int) -> "Tree": ...
+
+    @overload
+    def __getitem__(self, index: slice) -> List["Tree"]: ...
+
+    def __getitem__(self, index: Union[int, slice]) -> Union["Tree", List["Tree"]]:
+        return self.children[index]
+
+    def find(self, rule: str) -> Optional["Tree"]:
+        """The first tree of a rule that is inside it, at any depth, or None."""
+        return next(self.find_all(rule), None)
+
+    def find_all(self, rule: str) -> Iterator["Tree"]:
+        """The trees of a rule that are inside it, at any depth, each before those inside it."""
+        return (tree for tree in self.walk() if tree.rule == rule and tree._at != self._at)
 
     @property
     def text(self) -> str:
@@ -330,14 +432,44 @@ class MatchError(ValueError):
 
     def __init__(self, position: int, expected: Sequence[str], source: bytes, note: Optional[str] = None) -> None:
         before = source[:position].decode()
+        start = source.rfind(b"\n", 0, position) + 1
+        end = source.find(b"\n", position)
         self.position = position
         """The furthest byte at which a rule failed."""
         self.expected = tuple(expected)
         """The rules that would have let the run get further; none where the message says that they were not found."""
         self.line = before.count("\n") + 1
         self.column = len(before) - before.rfind("\n")
+        self.source = source[start : end if end >= 0 else None].decode()
+        """That line of the text, without its line break."""
         expectation = f"expected {', '.join(expected)}" if expected else "unknown parsing error"
-        super().__init__(f"{self.line}:{self.column}: {note or expectation}")
+        shown, mark = _shown(self.source, self.column - 1)
+        super().__init__(f"{self.line}:{self.column}: {note or expectation}\n  {shown}\n  {' ' * mark}^")
+
+    def __reduce__(self) -> Any:
+        return _copied_error, (self.args, self.__dict__)
+
+
+def _copied_error(args: Any, state: Dict[str, Any]) -> MatchError:
+    error = MatchError.__new__(MatchError, *args)
+    error.args = args
+    error.__dict__.update(state)
+    return error
+
+
+# So many characters of a line are shown before what fails, and as many after it.
+_SHOWN = 60
+
+
+def _shown(line: str, column: int) -> Tuple[str, int]:
+    """A line around a column, with what is not printed escaped, and the place of the column in that."""
+    before, after = line[max(0, column - _SHOWN) : column], line[column : column + _SHOWN]
+    before, after = (re.sub("[^ -~]", _printable, part) for part in (before, after))
+    return before + after, len(before)
+
+
+def _printable(character: "re.Match[str]") -> str:
+    return character[0] if character[0].isprintable() else ascii(character[0])[1:-1]
 
 
 class RunError(RuntimeError):
@@ -350,6 +482,12 @@ class Matcher:
     def __init__(self, grammar: str) -> None:
         """Reads, checks, optimizes and compiles a grammar. Raises GrammarError where anything is wrong with it."""
         self._take(compile(grammar))
+
+    def __repr__(self) -> str:
+        return f"<Matcher of {', '.join(self.names)}>"
+
+    def __reduce__(self) -> Any:
+        return load, (self._block,)
 
     def _take(self, block: bytes) -> None:
         self._block = block
@@ -374,7 +512,7 @@ class Matcher:
         the run is stopped: with `steps` also where the rule fails and only the search takes more. A rule that does not
         end in EOI may match a part of the text: see Match.end.
         """
-        source = text.encode()
+        source = _encoded(text)
         words = self._words(rule, source)
         most = _steps_for(source, _ERROR_STEPS) if steps is None else steps
         nodes, end = _List(), ctypes.c_size_t()
@@ -398,7 +536,7 @@ class Matcher:
         Each path has the calls that are open there, by rule and start, the outermost first and the expected one last.
         Raises as parse does, but a rule that fails has an answer; MemoryError where there are more than 1,024 paths.
         """
-        source, calls = text.encode(), _List()
+        source, calls = _encoded(text), _List()
         steps = _steps_for(source, _ERROR_STEPS) if steps is None else steps
         status = _library().pest_meta_paths(*self._words(rule, source), position, steps, ctypes.byref(calls))
         if status != _ANSWERED:
@@ -432,6 +570,13 @@ class Matcher:
         return MatchError(position, names, words[3])
 
 
+def _encoded(text: str) -> bytes:
+    """A text in UTF-8."""
+    if not isinstance(text, str):
+        raise TypeError(f"a text is wanted, and not {type(text).__name__}")
+    return text.encode()
+
+
 def _steps_for(source: bytes, steps: Tuple[int, int]) -> int:
     """So many steps for each byte of a text, and so many more."""
     per_byte, more = steps
@@ -444,7 +589,7 @@ def compile(grammar: str) -> bytes:
     A program can keep it in a file: nothing of the grammar is looked at when it is loaded. Raises GrammarError where
     anything is wrong with the grammar.
     """
-    source, block = grammar.encode(), _List()
+    source, block = _encoded(grammar), _List()
     status = _library().pest_meta_compile(source, len(source), ctypes.byref(block))
     if status == _REFUSED:
         check(grammar)
@@ -603,17 +748,19 @@ def _call(library: Any, function: str, *texts: str) -> Any:
     status, written = _filled(library, function, *texts)
     answer = json.loads(written)
     if status == _REFUSED:
-        raise _refusal(answer)
+        raise _refusal(answer, texts[0] if function in _OVER_GRAMMARS else None)
     return answer
+
+
+# The functions whose text is a whole grammar.
+_OVER_GRAMMARS = ("pest_meta_rules", "pest_meta_parse_and_optimize")
 
 
 def _filled(library: Any, function: str, *texts: str) -> Tuple[int, bytes]:
     """Calls the library, and once more where the room was too small for the answer."""
     words: List[Any] = []
     for text in texts:
-        if not isinstance(text, str):
-            raise TypeError(f"a text is wanted, and not {type(text).__name__}")
-        encoded = text.encode()
+        encoded = _encoded(text)
         words += [encoded, len(encoded)]
     needed = ctypes.c_size_t(4096 + 16 * sum(map(len, texts)))
     status = _NO_ROOM
@@ -627,10 +774,11 @@ def _filled(library: Any, function: str, *texts: str) -> Tuple[int, bytes]:
     return status, room.raw[: needed.value]
 
 
-def _refusal(answer: Any) -> Exception:
-    """The exception for what the library says of a text that it refuses."""
+def _refusal(answer: Any, grammar: Optional[str]) -> Exception:
+    """The exception for what the library says of a text that it refuses, which may be a grammar."""
     if isinstance(answer, list):
-        return GrammarError([_problem(problem) for problem in answer])
+        errors = [it for it in diagnostics(grammar) if it.kind == "error"] if grammar is not None else []
+        return GrammarError([_problem(problem) for problem in answer], errors)
     at = [f"{name} {answer[name]}" for name in ("rule", "node", "line", "column") if name in answer]
     return ValueError(", ".join([answer["message"], *at]))
 

@@ -1,6 +1,8 @@
 """Tests of pest_meta.py over the library: python3 -m unittest, in this folder."""
+import copy
 import doctest
 import os
+import pickle
 import re
 import subprocess
 import sys
@@ -35,7 +37,10 @@ class Calls(unittest.TestCase):
         self.assertEqual((problem.start, problem.end, problem.line, problem.column), (22, 22, 2, 11))
         self.assertEqual(problem.source, 'b = { "x" "ä" }')
         self.assertIn("sequence_operator", problem.expected)
-        self.assertEqual(str(caught.exception), "2:11: unknown parsing error")
+        told, help = str(caught.exception).split("\n")
+        self.assertTrue(told.startswith("2:11: error[pest::syntax]: expected `}`, `~`, "), told)
+        self.assertEqual(help, "  help: a sequence is written with `~`")
+        self.assertEqual([it.help for it in caught.exception.diagnostics], ["a sequence is written with `~`"])
 
     def test_errors_come_all_at_once(self):
         with self.assertRaises(GrammarError) as caught:
@@ -215,10 +220,59 @@ class Matching(unittest.TestCase):
             Matcher(LISTS).parse("list", "[a,\n7]")
         error = caught.exception
         self.assertEqual((error.position, error.line, error.column, error.expected), (3, 1, 4, ("item",)))
-        self.assertEqual(str(error), "1:4: expected item")
+        self.assertEqual((str(error), error.source), ("1:4: expected item\n  [a,\n     ^", "[a,"))
         with self.assertRaises(MatchError) as caught:
             Matcher(LISTS).parse("list", "[]x")
         self.assertEqual((caught.exception.position, caught.exception.expected), (2, ("EOI",)))
+
+    def test_the_line_of_a_failure_is_escaped_and_cut(self):
+        matcher = Matcher('a = { "x"* ~ EOI }')
+        line = "x" * 90 + "\x1b[31mä" + "y" * 90
+        with self.assertRaises(MatchError) as caught:
+            matcher.parse("a", f"{line}\nz")
+        told = str(caught.exception).split("\n")
+        self.assertEqual(told[1:], ["  " + "x" * 60 + "\\x1b[31mä" + "y" * 54, "  " + " " * 60 + "^"])
+        self.assertEqual(caught.exception.source, line)
+
+    def test_a_tree_is_a_sequence_of_those_inside_it(self):
+        [root] = Matcher(LISTS).parse("list", "[aä , b]").trees
+        self.assertEqual([tree.text for tree in root], ["aä", "b", ""])
+        self.assertEqual((len(root), root[1].text, root[-1].rule, [it.text for it in root[:2]]), (3, "b", "EOI", ["aä", "b"]))
+        self.assertEqual((len(root[0]), bool(root[0])), (0, True))
+        self.assertRaises(IndexError, lambda: root[3])
+        self.assertEqual((root.find("item"), root.find("list"), len(list(root.find_all("item")))), (root[0], None, 2))
+
+    def test_a_tree_has_places_in_characters(self):
+        grammar = 'all = { (word | ANY)* } word = @{ (!(" " | NEWLINE) ~ ANY)+ }'
+        for text in ["ä b\n漢字 \U0001f600x\r\ny", "ab ä" * 200, "ä\n" * 300, "", "\n"]:
+            [root] = Matcher(grammar).parse("all", text).trees
+            for tree in root.walk():
+                before = text[: tree.start_character]
+                self.assertEqual(len(before.encode()), tree.start)
+                self.assertEqual(text[tree.start_character : tree.end_character], tree.text)
+                self.assertEqual((tree.line, tree.column), (before.count("\n") + 1, len(before) - before.rfind("\n")))
+
+    def test_trees_and_errors_are_copied(self):
+        matcher = Matcher(LISTS)
+        [root] = matcher.parse("list", "[a]").trees
+        self.assertEqual(copy.copy(root), root)
+        for copied in (copy.deepcopy(root), pickle.loads(pickle.dumps(root))):
+            self.assertEqual([(it.rule, it.start, it.end) for it in copied.walk()], [(it.rule, it.start, it.end) for it in root.walk()])
+        self.assertEqual(copy.deepcopy(matcher).parse("list", "[a]").end, 3)
+        self.assertEqual(repr(matcher), "<Matcher of list, item, letter, WHITESPACE>")
+        for call in (lambda: matcher.parse("list", "["), lambda: Matcher("a = { b }")):
+            with self.assertRaises(ValueError) as caught:
+                call()
+            for copied in (copy.deepcopy(caught.exception), pickle.loads(pickle.dumps(caught.exception))):
+                self.assertEqual((type(copied), str(copied)), (type(caught.exception), str(caught.exception)))
+                self.assertEqual(sorted(copied.__dict__), sorted(caught.exception.__dict__))
+
+    def test_bytes_are_no_text(self):
+        matcher = Matcher(LISTS)
+        calls = (lambda: matcher.parse("list", b"[]"), lambda: Matcher(b"a = { ANY }"), lambda: matcher.paths("list", b"[", 1))
+        for call in calls:
+            with self.assertRaisesRegex(TypeError, "a text is wanted, and not bytes"):
+                call()
 
     def test_paths_have_the_open_calls_of_a_failure(self):
         matcher = Matcher(LISTS)

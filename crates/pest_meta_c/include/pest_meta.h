@@ -149,7 +149,7 @@ typedef struct pest_meta_entry {
  * not be null: begin with PEST_META_EMPTY and count 0. After another status
  * than 0 what was there stays. Status 2 says that an allocation failed. */
 typedef struct pest_meta_bytes {
-    const uint8_t *at;
+    uint8_t *at;
     size_t count;
 } pest_meta_bytes;
 
@@ -161,12 +161,12 @@ typedef struct pest_meta_node {
 } pest_meta_node;
 
 typedef struct pest_meta_node_list {
-    const pest_meta_node *at;
+    pest_meta_node *at;
     size_t count;
 } pest_meta_node_list;
 
 typedef struct pest_meta_row_list {
-    const uint32_t *at;
+    uint32_t *at;
     size_t count;
 } pest_meta_row_list;
 
@@ -177,11 +177,22 @@ typedef struct pest_meta_path_call {
 } pest_meta_path_call;
 
 typedef struct pest_meta_path_list {
-    const pest_meta_path_call *at;
+    pest_meta_path_call *at;
     size_t count;
 } pest_meta_path_list;
 
-#define PEST_META_EMPTY ((const void *)"\0\0\0\0\0\0\0")
+/* Where an empty list lies: an address that is not null, and aligned for each
+ * kind of list. Nothing is read there. */
+#ifdef __cplusplus
+extern "C++" {
+struct pest_meta_empty {
+    template <typename T> operator T *() const { return reinterpret_cast<T *>(static_cast<uintptr_t>(8)); }
+};
+}
+#define PEST_META_EMPTY (pest_meta_empty())
+#else
+#define PEST_META_EMPTY ((void *)8)
+#endif
 
 /* The block of a grammar. Status 1: the grammar has errors, which
  * pest_meta_parse_and_optimize writes; 3: it is not UTF-8; 6: it cannot be
