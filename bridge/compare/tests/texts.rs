@@ -149,6 +149,15 @@ fn no_text_makes_a_parser_slow() {
 }
 
 #[test]
+fn each_item_is_here() {
+    here::probes::compiles();
+    original::probes::compiles();
+    for text in ["1", "1+2", "1+2*3*4-5"] {
+        assert_eq!(here::probes::told(text), original::probes::told(text));
+    }
+}
+
+#[test]
 fn the_end_is_a_rule() {
     for text in ["", "1"] {
         assert_eq!(here::chains::end(text), original::chains::end(text));

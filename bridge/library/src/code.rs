@@ -5,6 +5,8 @@
 //! the grammar; `EOI` has the one after all rules.
 #![forbid(unsafe_code)]
 
+use alloc::vec::Vec;
+
 use crate::foreign::{self, Given};
 pub use crate::Node;
 

@@ -3,9 +3,11 @@
 //! A function is handed texts and room for its answer, as a pointer and a length each, and keeps none of
 //! them. It answers a status, and leaves in `needed` how many bytes it wrote or, where the room was too
 //! small, wants to write. The calls over blocks hand out memory of their own, which `free` of the C library frees.
-use std::ffi::c_void;
-use std::ops::Deref;
-use std::{fmt, ptr, slice};
+use alloc::boxed::Box;
+use alloc::vec::Vec;
+use core::ffi::c_void;
+use core::ops::Deref;
+use core::{fmt, ptr, slice};
 
 use crate::{Call, Node};
 
@@ -16,10 +18,11 @@ struct Lent<T> {
     count: usize,
 }
 
-/// A list in memory that the library handed out, or in a box. It is freed when this is dropped.
+/// A list in memory that the library handed out, or that was a box. It is freed when this is dropped.
 pub struct Given<T> {
     lent: Lent<T>,
-    held: Option<Box<[T]>>,
+    /// Whether the memory is that of a box, which has no other owner.
+    is_of_box: bool,
 }
 
 // SAFETY: nobody else knows of the memory, and it is freed once.
@@ -30,12 +33,15 @@ unsafe impl<T: Sync> Sync for Given<T> {}
 impl<T> Given<T> {
     /// An empty list.
     pub fn new() -> Given<T> {
-        Given { lent: Lent { at: ptr::NonNull::dangling().as_ptr(), count: 0 }, held: None }
+        Given { lent: Lent { at: ptr::NonNull::dangling().as_ptr(), count: 0 }, is_of_box: false }
     }
+}
 
-    /// The list in a box.
-    pub fn of(held: Box<[T]>) -> Given<T> {
-        Given { lent: Lent { at: held.as_ptr(), count: held.len() }, held: Some(held) }
+impl<T> From<Vec<T>> for Given<T> {
+    fn from(list: Vec<T>) -> Self {
+        let list = list.into_boxed_slice();
+        let count = list.len();
+        Given { lent: Lent { at: Box::into_raw(list).cast(), count }, is_of_box: true }
     }
 }
 
@@ -62,9 +68,13 @@ impl<T: fmt::Debug> fmt::Debug for Given<T> {
 
 impl<T> Drop for Given<T> {
     fn drop(&mut self) {
-        if self.held.is_none() && self.lent.count > 0 {
+        let Lent { at, count } = self.lent;
+        if self.is_of_box {
+            // SAFETY: `from` took the pointer and the length from a box, and this is its one owner.
+            drop(unsafe { Box::from_raw(ptr::slice_from_raw_parts_mut(at.cast_mut(), count)) });
+        } else if count > 0 {
             // SAFETY: a list of the library that is not empty is a block of `malloc`, and this is its one owner.
-            unsafe { free(self.lent.at as *mut c_void) }
+            unsafe { free(at as *mut c_void) }
         }
     }
 }

@@ -3,9 +3,12 @@
 //! The crates for Rust stand on this one: `pest_meta`, `pest_vm`, and the runtime and the derive macro of pest. It
 //! links the static library, and has all their `unsafe` code. [`foreign`] has the calls as they are; [`code`] runs
 //! compiled grammars on texts.
+#![no_std]
 #![warn(missing_docs, rust_2018_idioms, unused_qualifications)]
 // Each file but `foreign` forbids it.
 #![deny(unsafe_code)]
+
+extern crate alloc;
 
 pub mod code;
 #[allow(unsafe_code)]

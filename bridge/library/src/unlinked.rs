@@ -3,7 +3,9 @@
 #![forbid(unsafe_code)]
 #![allow(missing_docs)]
 
-use std::ops::Deref;
+use alloc::boxed::Box;
+use alloc::vec::Vec;
+use core::ops::Deref;
 
 use crate::{Call, Node};
 
@@ -15,9 +17,11 @@ impl<T> Given<T> {
     pub fn new() -> Given<T> {
         Given(Box::new([]))
     }
+}
 
-    pub fn of(held: Box<[T]>) -> Given<T> {
-        Given(held)
+impl<T> From<Vec<T>> for Given<T> {
+    fn from(list: Vec<T>) -> Self {
+        Given(list.into())
     }
 }
 

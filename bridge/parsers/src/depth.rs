@@ -9,5 +9,5 @@ struct Lists;
 pub fn printed(depth: usize) -> (String, usize) {
     let text = format!("{}{}", "[".repeat(depth), "]".repeat(depth));
     let pairs = Lists::parse(Rule::list, &text).expect("lists");
-    (pairs.to_string(), pairs.tokens().rev().count())
+    (format!("{pairs:#}"), pairs.tokens().rev().count())
 }

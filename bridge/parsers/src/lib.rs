@@ -1,10 +1,12 @@
 //! Parsers of some grammars, and what they answer as values that name no crate.
 //!
 //! The grammars are those of the tests of the crate pest_vm, of ../programs and of this folder.
+pub mod by_hand;
 pub mod chains;
 pub mod depth;
 pub mod hostile;
 pub mod places;
+pub mod probes;
 
 use pest::error::{ErrorVariant, InputLocation, LineColLocation};
 use pest::iterators::Pairs;
@@ -61,7 +63,7 @@ fn answer<R: RuleType, P: Parser<R>>(rule: R, text: &str) -> Answer {
 /// What each call of pairs answers, and of all pairs inside.
 fn walked<R: RuleType>(pairs: Pairs<'_, R>) -> Vec<String> {
     let mut told = vec![
-        format!("{pairs} {pairs:?} {pairs:#?}"),
+        format!("{pairs} {pairs:#} {pairs:?} {pairs:#?}"),
         format!("{:?} {:?} {:?}", pairs.as_str(), pairs.concat(), pairs.peek()),
         format!("{:?}", pairs.clone().rev().map(|pair| pair.as_rule()).collect::<Vec<_>>()),
         format!("{:?}", pairs.clone().tokens().map(token).collect::<Vec<_>>()),
@@ -69,11 +71,23 @@ fn walked<R: RuleType>(pairs: Pairs<'_, R>) -> Vec<String> {
         format!("{:?}", pairs.clone().flatten().rev().map(|pair| pair.as_span()).collect::<Vec<_>>()),
         format!("{:?} {}", pairs.clone().flatten(), pairs.clone().flatten().count()),
     ];
+    let mut rest = pairs.clone().flatten();
+    while rest.next().is_some() {
+        told.push(format!("{:?}", rest.clone().tokens().map(token).collect::<Vec<_>>()));
+        if rest.next_back().is_some() {
+            told.push(format!("{:?}", rest.clone().tokens().rev().map(token).collect::<Vec<_>>()));
+        }
+    }
     for pair in pairs.flatten() {
         let inner = pair.clone().into_inner();
         let mut ends = pair.clone().into_inner();
         let (first, last, rest) = (ends.next(), ends.next_back(), ends.as_str());
-        told.push(format!("{pair} {pair:?} {:?} {:?} {:?}", pair.as_rule(), pair.as_str(), pair.as_span()));
+        told.push(format!(
+            "{pair} {pair:#} {pair:?} {:?} {:?} {:?}",
+            pair.as_rule(),
+            pair.as_str(),
+            pair.as_span()
+        ));
         told.push(format!("{:?} {:?} {first:?} {last:?} {rest:?}", inner.as_str(), inner.concat()));
         told.push(format!("{:?}", pair.as_span().start_pos().line_col()));
         told.push(format!("{:?}", pair.as_span().lines().collect::<Vec<_>>()));

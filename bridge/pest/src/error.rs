@@ -1,8 +1,14 @@
 //! Errors of parsers, and errors that a program reports in the same form.
 
-use std::borrow::Cow;
-use std::fmt;
+use alloc::borrow::{Cow, ToOwned};
+use alloc::boxed::Box;
+use alloc::collections::BTreeMap;
+use alloc::format;
+use alloc::string::{String, ToString};
+use alloc::vec::Vec;
+use core::fmt;
 
+use crate::attempts::{ParseAttempts, RulesCallStack};
 use crate::{Position, RuleType, Span};
 
 /// An error at a position or a span of a text.
@@ -14,11 +20,24 @@ pub struct Error<R> {
     pub location: InputLocation,
     /// Where in the text, as lines and columns.
     pub line_col: LineColLocation,
+    shown: Box<Shown<R>>,
+}
+
+/// What is printed of an error beside its place and its message. It is in a box, so that errors are small.
+#[derive(Clone, Debug, Eq, Hash, PartialEq)]
+struct Shown<R> {
     path: Option<String>,
     line: String,
     /// The last line, if a span has several.
     continued_line: Option<String>,
+    attempts: Option<ParseAttempts<R>>,
 }
+
+/// A function that says of a rule what a message is to tell of it.
+pub type RuleToMessageFn<R> = Box<dyn Fn(&R) -> Option<String>>;
+
+/// A function that says whether a token is whitespace.
+pub type IsWhitespaceFn = Box<dyn Fn(String) -> bool>;
 
 /// What is wrong.
 #[derive(Clone, Debug, Eq, Hash, PartialEq)]
@@ -78,9 +97,7 @@ impl<R: RuleType> Error<R> {
             variant,
             location: InputLocation::Pos(pos.pos()),
             line_col: LineColLocation::from(pos),
-            path: None,
-            line,
-            continued_line: None,
+            shown: Box::new(Shown { path: None, line, continued_line: None, attempts: None }),
         }
     }
 
@@ -99,25 +116,30 @@ impl<R: RuleType> Error<R> {
             variant,
             location: InputLocation::Span((span.start(), span.end())),
             line_col: LineColLocation::Span(span.start_pos().line_col(), shown_end(span.end_pos())),
-            path: None,
-            line,
-            continued_line,
+            shown: Box::new(Shown { path: None, line, continued_line, attempts: None }),
         }
     }
 
     /// Gives the error the path of a file, which is printed before the place.
-    pub fn with_path(self, path: &str) -> Error<R> {
-        Error { path: Some(path.to_owned()), ..self }
+    pub fn with_path(mut self, path: &str) -> Error<R> {
+        self.shown.path = Some(path.to_owned());
+        self
+    }
+
+    /// Gives the error what a parser tried.
+    pub(crate) fn with_attempts(mut self, attempts: ParseAttempts<R>) -> Error<R> {
+        self.shown.attempts = Some(attempts);
+        self
     }
 
     /// Returns the path of [`Error::with_path`].
     pub fn path(&self) -> Option<&str> {
-        self.path.as_deref()
+        self.shown.path.as_deref()
     }
 
     /// Returns the line of the error, as it is printed.
     pub fn line(&self) -> &str {
-        &self.line
+        &self.shown.line
     }
 
     /// Makes the error of a parser one with a message, in which rules have the names that `f` gives them.
@@ -134,6 +156,69 @@ impl<R: RuleType> Error<R> {
         Error { variant, ..self }
     }
 
+    /// Returns what a parser by hand tried at the furthest position, if
+    /// [`set_error_detail`](crate::set_error_detail) had it kept.
+    pub fn parse_attempts(&self) -> Option<ParseAttempts<R>> {
+        self.shown.attempts.clone()
+    }
+
+    /// Returns an error of the same text that tells of what was tried: the tokens, and what a function says of the rules. There
+    /// is none where nothing was kept.
+    ///
+    /// # Panics
+    /// Where the text is another one, which does not have the position.
+    pub fn parse_attempts_error(
+        &self,
+        input: &str,
+        rule_to_message: &RuleToMessageFn<R>,
+        is_whitespace: &IsWhitespaceFn,
+    ) -> Option<Error<R>> {
+        let attempts = self.shown.attempts.as_ref()?;
+        let blanks = " ".repeat(self.width() + 3);
+        let mut lines = alloc::vec!["error: parsing error occurred.".to_owned()];
+        lines.extend(attempts.token_notes(is_whitespace, &blanks));
+        let mut groups: BTreeMap<Option<R>, Vec<RulesCallStack<R>>> = BTreeMap::new();
+        for path in attempts.call_stacks() {
+            groups.entry(path.parent).or_default().push(path);
+        }
+        for (parent, paths) in groups {
+            let told = paths.iter().filter_map(|path| rule_to_message(path.deepest.get_rule()?));
+            let Some(parent) = parent else {
+                lines.extend(told.map(|message| format!("{blanks}help: {message}")));
+                continue;
+            };
+            let (told, parent) = (told.collect::<Vec<_>>(), rule_to_message(&parent));
+            if parent.is_some() || !told.is_empty() {
+                lines.push(format!("{blanks}help: {}", parent.as_deref().unwrap_or("[Unknown parent rule]")));
+                lines.extend(told.iter().map(|message| format!("{blanks}      - {message}")));
+            }
+        }
+        let pos =
+            Position::new(input, attempts.max_position).expect("the text that was parsed has the position");
+        Some(Error::new_from_pos(ErrorVariant::CustomError { message: lines.join("\n") }, pos))
+    }
+
+    /// The line, as what shows a diagnostic asks for it.
+    #[cfg(feature = "miette-error")]
+    pub(crate) fn line_of_error(&self) -> &String {
+        &self.shown.line
+    }
+
+    /// Makes a [miette](https://docs.rs/miette) diagnostic of the error.
+    #[cfg(feature = "miette-error")]
+    pub fn into_miette(self) -> impl ::miette::Diagnostic {
+        crate::miette_error::Diagnosed(self)
+    }
+
+    /// The digits of the greatest line.
+    fn width(&self) -> usize {
+        let line = match self.line_col {
+            LineColLocation::Pos((line, _)) => line,
+            LineColLocation::Span((start, _), (end, _)) => start.max(end),
+        };
+        line.to_string().len()
+    }
+
     /// The marks below the line.
     fn marks(&self) -> String {
         let (start, end) = match self.line_col {
@@ -143,7 +228,7 @@ impl<R: RuleType> Error<R> {
             LineColLocation::Span((_, start), (_, end)) => (start, Some(end)),
         };
         let blank = |character| if character == '\t' { '\t' } else { ' ' };
-        let mut marks: String = self.line.chars().take(start.saturating_sub(1)).map(blank).collect();
+        let mut marks: String = self.shown.line.chars().take(start.saturating_sub(1)).map(blank).collect();
         match end.map(|end| end - start) {
             None => marks.push_str("^---"),
             Some(0 | 1) => marks.push('^'),
@@ -226,12 +311,12 @@ impl<R: RuleType> fmt::Display for Error<R> {
             LineColLocation::Pos(start) => (start, start.0),
             LineColLocation::Span(start, end) => (start, end.0),
         };
-        let width = start.max(end).to_string().len();
+        let width = self.width();
         let margin = " ".repeat(width);
-        let path = self.path.as_ref().map(|path| format!("{path}:")).unwrap_or_default();
+        let path = self.shown.path.as_ref().map(|path| format!("{path}:")).unwrap_or_default();
         writeln!(f, "{margin}--> {path}{start}:{column}\n{margin} |")?;
-        writeln!(f, "{start:width$} | {}", self.line)?;
-        if let Some(continued_line) = &self.continued_line {
+        writeln!(f, "{start:width$} | {}", self.shown.line)?;
+        if let Some(continued_line) = &self.shown.continued_line {
             if end.saturating_sub(start) > 1 {
                 writeln!(f, "{margin} | ...")?;
             }
@@ -250,6 +335,6 @@ impl<R: RuleType> fmt::Display for ErrorVariant<R> {
     }
 }
 
-impl<R: RuleType> std::error::Error for Error<R> {}
+impl<R: RuleType> core::error::Error for Error<R> {}
 
-impl<R: RuleType> std::error::Error for ErrorVariant<R> {}
+impl<R: RuleType> core::error::Error for ErrorVariant<R> {}

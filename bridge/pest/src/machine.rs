@@ -1,9 +1,16 @@
 //! What the derive macro's code and the crate pest_vm call. No part of the interface.
 
+use alloc::borrow::ToOwned;
+use alloc::boxed::Box;
+use alloc::format;
+use alloc::vec;
+use alloc::vec::Vec;
+
 use kingorewa_library::code::{self, Node, Nodes, Unmatched};
 
 use crate::error::{Error, ErrorVariant};
 use crate::iterators::{Pairs, Rules, Tree};
+use crate::parser_state::{call_limit, LIMIT_REACHED, STEPS_OF_A_CALL};
 use crate::{Position, RuleType};
 
 /// A compiled grammar, as a constant of a program.
@@ -14,6 +21,18 @@ pub struct Grammar<R: 'static> {
     pub rules: &'static [R],
     /// The row of `EOI`.
     pub end: u32,
+    /// The grammar with its tags, if it has any.
+    pub tagged: Option<Tagged<'static, 'static>>,
+}
+
+/// A compiled grammar in which each tagged expression is a call of one more rule. The rows of these are after those of the
+/// grammar, and before that of `EOI`.
+#[derive(Clone, Copy)]
+pub struct Tagged<'g, 't> {
+    /// The block that the library compiles.
+    pub block: &'g [u8],
+    /// The tag of each of these rules.
+    pub tags: &'g [&'t str],
 }
 
 /// Runs the rule of a row from the start of a text.
@@ -28,8 +47,11 @@ pub fn parse<'i, R: RuleType>(
     if row == grammar.end {
         return end(row, text, grammar.rules);
     }
+    if let Some(found) = grammar.tagged.and_then(|tagged| find_tagged(tagged, grammar.end, row, text)) {
+        return Ok(pairs(found.0, text, Rules::Table(grammar.rules), found.1));
+    }
     let nodes = run(grammar.block, row, text, |row| grammar.rules[row as usize])?;
-    Ok(pairs(nodes, text, Rules::Table(grammar.rules)))
+    Ok(pairs(nodes, text, Rules::Table(grammar.rules), Vec::new()))
 }
 
 /// Runs the rule of a row of a compiled grammar from the start of a text. `rules` has the rules of all rows, that of `EOI`
@@ -39,45 +61,111 @@ pub fn parse<'i, R: RuleType>(
 /// Where there is no memory for the text, and where the bytes are no compiled grammar with that row.
 pub fn parse_block<'i, R: RuleType>(
     block: &[u8],
+    tagged: Option<Tagged<'_, 'i>>,
     row: u32,
     text: &'i str,
     rules: Box<[R]>,
 ) -> Result<Pairs<'i, R>, Error<R>> {
+    let end = rules.len() as u32 - 1;
+    if let Some(found) = tagged.and_then(|tagged| find_tagged(tagged, end, row, text)) {
+        return Ok(pairs(found.0, text, Rules::List(rules), found.1));
+    }
     let nodes = run(block, row, text, |row| rules[row as usize])?;
-    Ok(pairs(nodes, text, Rules::List(rules)))
+    Ok(pairs(nodes, text, Rules::List(rules), Vec::new()))
+}
+
+/// Why a rule has no nodes on a text.
+enum Unfound {
+    /// It fails, with its furthest failure at a byte, and names that are expected are looked for in so many steps.
+    Failed { pos: usize, steps: u64 },
+    /// A guided run says that it fails.
+    FailedGuided { pos: usize },
+    /// It has no answer.
+    Stopped(Unmatched),
+    /// It takes more steps than the program allows.
+    LimitReached,
+}
+
+/// So many steps, or fewer if the program has a limit.
+fn limited(steps: u64) -> u64 {
+    let limit = call_limit().map(|calls| (calls as u64).saturating_mul(STEPS_OF_A_CALL));
+    limit.map_or(steps, |limit| limit.min(steps))
 }
 
 /// Runs the rule of a row of a compiled grammar from the start of a text: in a number of steps that suffices for nearly
-/// all texts, then by a guided run, whose turns are linear in the text, and if that has no answer, as where it comes to
-/// an operation on the stack, without a limit.
-fn run<R: RuleType>(block: &[u8], row: u32, text: &str, rule: impl Fn(u32) -> R) -> Result<Nodes, Error<R>> {
-    match code::run(block, row, text, code::first_steps(text)) {
-        Err(Unmatched::OutOfSteps) => {}
-        found => return found.map_err(|why| refusal(block, row, text, why, code::error_steps(text), rule)),
-    }
-    match code::run_guided(block, row, text, code::bound(block, text.len())) {
+/// all texts, then by a guided run, whose turns are linear in the text, and if that has no answer, as when it comes to
+/// an operation on the stack, without a limit but the caller's.
+fn find(block: &[u8], row: u32, text: &str) -> Result<Nodes, Unfound> {
+    let first = code::first_steps(text);
+    match code::run(block, row, text, limited(first)) {
+        Err(Unmatched::OutOfSteps) if limited(first) < first => return Err(Unfound::LimitReached),
         Err(Unmatched::OutOfSteps) => {}
         Err(Unmatched::Failed { pos }) => {
-            return Err(expectation(block, row, text, pos, code::error_steps(text), rule));
+            return Err(Unfound::Failed { pos, steps: code::error_steps(text) })
         }
-        found => return found.map_err(|why| stopped(text, why)),
+        found => return found.map_err(Unfound::Stopped),
     }
-    code::run(block, row, text, u64::MAX).map_err(|why| refusal(block, row, text, why, code::error_steps(text), rule))
+    match code::run_guided(block, row, text, limited(code::bound(block, text.len()))) {
+        Err(Unmatched::OutOfSteps) => {}
+        Err(Unmatched::Failed { pos }) => return Err(Unfound::FailedGuided { pos }),
+        found => return found.map_err(Unfound::Stopped),
+    }
+    match code::run(block, row, text, limited(u64::MAX)) {
+        Err(Unmatched::OutOfSteps) if limited(u64::MAX) < u64::MAX => Err(Unfound::LimitReached),
+        Err(Unmatched::Failed { pos }) => Err(Unfound::Failed { pos, steps: code::error_steps(text) }),
+        found => found.map_err(Unfound::Stopped),
+    }
 }
 
-/// The error of a run that gives no nodes. Names that are expected are looked for in so many steps.
-fn refusal<R: RuleType>(
-    block: &[u8],
-    row: u32,
-    text: &str,
-    why: Unmatched,
-    steps: u64,
-    rule: impl Fn(u32) -> R,
-) -> Error<R> {
-    match why {
-        Unmatched::Failed { pos } => failure(block, row, text, pos, steps, rule),
-        why => stopped(text, why),
+/// Runs the rule of a row, and makes an error where it has no nodes.
+fn run<R: RuleType>(block: &[u8], row: u32, text: &str, rule: impl Fn(u32) -> R) -> Result<Nodes, Error<R>> {
+    find(block, row, text).map_err(|why| match why {
+        Unfound::Failed { pos, steps } => failure(block, row, text, pos, limited(steps), rule),
+        Unfound::FailedGuided { pos } => {
+            expectation(block, row, text, pos, limited(code::error_steps(text)), rule)
+        }
+        Unfound::Stopped(why) => stopped(text, why),
+        Unfound::LimitReached => {
+            error_at(text, 0, ErrorVariant::CustomError { message: LIMIT_REACHED.to_owned() })
+        }
+    })
+}
+
+/// Nodes, and the tag of each.
+type TaggedNodes<'i> = (Nodes, Vec<Option<&'i str>>);
+
+/// Runs the rule of a row of a grammar with tags, where `end` is the row of `EOI` in the grammar without them. Where the rule
+/// does not match, nothing is said of it, since errors are those of the grammar without tags.
+fn find_tagged<'i>(tagged: Tagged<'_, 'i>, end: u32, row: u32, text: &str) -> Option<TaggedNodes<'i>> {
+    let found = find(tagged.block, row, text).ok()?;
+    let (mut nodes, mut tags): (Vec<Node>, Vec<Option<&'i str>>) = (Vec::new(), Vec::new());
+    // The nodes of `found` that have not ended, each with its index in `nodes`, or none for that of a tag.
+    let mut open: Vec<(Node, Option<usize>)> = Vec::new();
+    // The node that has just ended, if none has started since.
+    let mut ended = None;
+    for at in 0..=found.len() as u32 {
+        while let Some((node, index)) = open.last().copied().filter(|(node, _)| node.after == at) {
+            open.pop();
+            match index {
+                Some(index) => {
+                    nodes[index].after = nodes.len() as u32;
+                    ended = Some(index);
+                }
+                None => ended.into_iter().for_each(|ended: usize| {
+                    tags[ended] = Some(tagged.tags[(node.row - end) as usize]);
+                }),
+            }
+        }
+        let Some(node) = found.get(at as usize) else { break };
+        let is_of_tag = node.row >= end && node.row < end + tagged.tags.len() as u32;
+        open.push((*node, (!is_of_tag).then_some(nodes.len())));
+        if !is_of_tag {
+            nodes.push(Node { row: node.row.min(end), ..*node });
+            tags.push(None);
+            ended = None;
+        }
     }
+    Some((Nodes::from(nodes), tags))
 }
 
 /// The error of a rule that fails with its furthest failure at a byte of a text.
@@ -92,7 +180,7 @@ fn failure<R: RuleType>(
     steps: u64,
     rule: impl Fn(u32) -> R,
 ) -> Error<R> {
-    match code::attempts(block, row, text, pos, code::error_steps(text)) {
+    match code::attempts(block, row, text, pos, limited(code::error_steps(text))) {
         Some(found) => {
             let (positives, negatives) = (rules(&found.positives, &rule), rules(&found.negatives, &rule));
             error_at(text, found.pos, ErrorVariant::ParsingError { positives, negatives })
@@ -151,9 +239,10 @@ fn stopped<R: RuleType>(text: &str, why: Unmatched) -> Error<R> {
 fn end<'i, R: RuleType>(row: u32, text: &'i str, rules: &'static [R]) -> Result<Pairs<'i, R>, Error<R>> {
     match text.is_empty() {
         true => Ok(pairs(
-            Nodes::of(Box::new([Node { row, start: 0, end: 0, after: 1 }])),
+            Nodes::from(vec![Node { row, start: 0, end: 0, after: 1 }]),
             text,
             Rules::Table(rules),
+            Vec::new(),
         )),
         false => {
             let positives = vec![rules[row as usize]];
@@ -162,8 +251,13 @@ fn end<'i, R: RuleType>(row: u32, text: &'i str, rules: &'static [R]) -> Result<
     }
 }
 
-fn pairs<'i, R: RuleType>(nodes: Nodes, text: &'i str, rules: Rules<'i, R>) -> Pairs<'i, R> {
-    let tree = Tree::new(text, nodes, rules);
+fn pairs<'i, R: RuleType>(
+    nodes: Nodes,
+    text: &'i str,
+    rules: Rules<'i, R>,
+    tags: Vec<Option<&'i str>>,
+) -> Pairs<'i, R> {
+    let tree = Tree::new(text, nodes, rules, tags);
     let len = tree.len();
     Pairs::new(tree, 0, len)
 }

@@ -16,13 +16,13 @@ macro_rules! consumes_to {
         match $tokens.next() {
             ::core::option::Option::Some($crate::Token::Start { rule, pos })
                 if rule == $rules::$name && pos.pos() == $start => {}
-            found => panic!("expected the start of {:?} at {}, but found {:?}", $rules::$name, $start, found),
+            found => ::core::panic!("expected the start of {:?} at {}, but found {:?}", $rules::$name, $start, found),
         }
         $crate::consumes_to!($rules, $tokens, [ $($inner)* ]);
         match $tokens.next() {
             ::core::option::Option::Some($crate::Token::End { rule, pos })
                 if rule == $rules::$name && pos.pos() == $end => {}
-            found => panic!("expected the end of {:?} at {}, but found {:?}", $rules::$name, $end, found),
+            found => ::core::panic!("expected the end of {:?} at {}, but found {:?}", $rules::$name, $end, found),
         }
     };
 }
@@ -43,19 +43,19 @@ macro_rules! parses_to {
      tokens: [ $($names:ident $pairs:tt),* $(,)* ] $(,)*) => {{
         let mut tokens = match <$parser as $crate::Parser<_>>::parse($rules::$rule, $text) {
             ::core::result::Result::Ok(pairs) => pairs.tokens(),
-            ::core::result::Result::Err(error) => panic!("{}", error),
+            ::core::result::Result::Err(error) => ::core::panic!("{}", error),
         };
         let tokens = &mut tokens;
         $crate::consumes_to!($rules, tokens, [ $($names $pairs),* ]);
-        let rest: ::std::vec::Vec<_> = tokens.collect();
+        let rest: $crate::macros_need::Vec<_> = tokens.collect();
         let is_end = match &rest[..] {
             [] => true,
             [$crate::Token::Start { rule: start, .. }, $crate::Token::End { rule: end, .. }] => {
-                [start, end].iter().all(|rule| ::std::format!("{:?}", rule) == "EOI")
+                [start, end].iter().all(|rule| $crate::macros_need::format!("{:?}", rule) == "EOI")
             }
             _ => false,
         };
-        assert!(is_end, "expected end of input, but found {:?}", rest);
+        ::core::assert!(is_end, "expected end of input, but found {:?}", rest);
     }};
 }
 
@@ -78,14 +78,14 @@ macro_rules! fails_with {
         let error = <$parser as $crate::Parser<_>>::parse($rules::$rule, $text).unwrap_err();
         match error.variant {
             $crate::error::ErrorVariant::ParsingError { positives, negatives } => {
-                assert_eq!(positives, $positives, "positives");
-                assert_eq!(negatives, $negatives, "negatives");
+                ::core::assert_eq!(positives, $positives, "positives");
+                ::core::assert_eq!(negatives, $negatives, "negatives");
             }
-            other => panic!("expected a failure, but found {:?}", other),
+            other => ::core::panic!("expected a failure, but found {:?}", other),
         }
         match error.location {
-            $crate::error::InputLocation::Pos(pos) => assert_eq!(pos, $pos, "pos"),
-            other => panic!("expected a position, but found {:?}", other),
+            $crate::error::InputLocation::Pos(pos) => ::core::assert_eq!(pos, $pos, "pos"),
+            other => ::core::panic!("expected a position, but found {:?}", other),
         }
     }};
 }

@@ -1,7 +1,7 @@
-use std::cmp::Ordering;
-use std::fmt;
-use std::hash::{Hash, Hasher};
-use std::ptr;
+use core::cmp::Ordering;
+use core::fmt;
+use core::hash::{Hash, Hasher};
+use core::ptr;
 
 use crate::Span;
 
@@ -18,6 +18,12 @@ impl<'i> Position<'i> {
         input.is_char_boundary(pos).then_some(Position { input, pos })
     }
 
+    /// The position of a byte that is known to be one.
+    pub(crate) fn at(input: &'i str, pos: usize) -> Position<'i> {
+        debug_assert!(input.is_char_boundary(pos));
+        Position { input, pos }
+    }
+
     /// Returns the position at the start of a text.
     pub fn from_start(input: &'i str) -> Position<'i> {
         Position { input, pos: 0 }
@@ -31,7 +37,7 @@ impl<'i> Position<'i> {
     /// Returns the span from here to another position.
     ///
     /// # Panics
-    /// Where the other position is in another text.
+    /// Where the other position is in another text, and in a debug build where it is before this one.
     pub fn span(&self, other: &Position<'i>) -> Span<'i> {
         assert!(ptr::eq(self.input, other.input), "span created from positions from different inputs");
         Span::between(self.input, self.pos, other.pos)
@@ -47,6 +53,51 @@ impl<'i> Position<'i> {
     /// Returns the whole line of the position, with its line break.
     pub fn line_of(&self) -> &'i str {
         &self.input[self.line_start()..self.line_end()]
+    }
+
+    /// Moves on over the next bytes, if they are a text that a function takes.
+    pub(crate) fn take(&mut self, len: usize, is_taken: impl FnOnce(&str) -> bool) -> bool {
+        let end = self.pos.saturating_add(len);
+        let takes = self.input.get(self.pos..end).is_some_and(is_taken);
+        if takes {
+            self.pos = end;
+        }
+        takes
+    }
+
+    /// Moves on over the next character, if a function takes it.
+    pub(crate) fn take_char(&mut self, is_taken: impl FnOnce(char) -> bool) -> bool {
+        let next = self.input[self.pos..].chars().next().filter(|next| is_taken(*next));
+        self.pos += next.map_or(0, char::len_utf8);
+        next.is_some()
+    }
+
+    /// Moves on over so many characters, if there are as many.
+    pub(crate) fn skip(&mut self, count: usize) -> bool {
+        let rest = &self.input[self.pos..];
+        let ends = rest.char_indices().map(|(at, _)| at).chain([rest.len()]);
+        match ends.skip(count).next() {
+            Some(width) => self.pos += width,
+            None => return false,
+        }
+        true
+    }
+
+    /// Moves on to the first place of one of some texts, or to the end.
+    pub(crate) fn skip_until(&mut self, texts: &[&str]) {
+        let rest = &self.input[self.pos..];
+        let found = match texts {
+            [text] => rest.find(text),
+            _ => rest
+                .char_indices()
+                .map(|(at, _)| at)
+                .find(|at| texts.iter().any(|text| rest[*at..].starts_with(text))),
+        };
+        self.pos += found.unwrap_or(rest.len());
+    }
+
+    pub(crate) fn is_at_end(&self) -> bool {
+        self.pos == self.input.len()
     }
 
     pub(crate) fn line_start(&self) -> usize {

@@ -1,11 +1,17 @@
 //! Expressions with prefix, postfix and infix operators, by precedence.
 
-use std::collections::HashMap;
-use std::iter::Peekable;
-use std::ops::BitOr;
+use alloc::boxed::Box;
+use alloc::collections::BTreeMap;
+use alloc::vec::Vec;
+use core::iter::Peekable;
+use core::marker::PhantomData;
+use core::mem::ManuallyDrop;
+use core::ops::BitOr;
 
 use crate::iterators::Pair;
 use crate::RuleType;
+
+pub use crate::pratt_precedence;
 
 /// How infix operators of one precedence group.
 #[derive(Clone, Copy, Debug, Eq, Hash, PartialEq)]
@@ -16,31 +22,45 @@ pub enum Assoc {
     Right,
 }
 
-#[derive(Clone, Copy, Debug)]
-enum Affix {
+/// Where an operator stands.
+#[doc(hidden)]
+#[derive(Clone, Copy, Debug, Eq, PartialEq)]
+pub enum Affix {
     Prefix,
     Postfix,
     Infix(Assoc),
 }
 
+/// A precedence. The least of an operator is 1.
+pub type Prec = u32;
+
 /// Operators of one precedence.
 #[derive(Clone, Debug)]
-pub struct Op<R: RuleType>(Vec<(R, Affix)>);
+pub struct Op<R: RuleType> {
+    rule: R,
+    affix: Affix,
+    /// The other ones, if there are any.
+    others: Option<Vec<(R, Affix)>>,
+}
 
 impl<R: RuleType> Op<R> {
     /// Makes a prefix operator.
-    pub fn prefix(rule: R) -> Op<R> {
-        Op(vec![(rule, Affix::Prefix)])
+    pub const fn prefix(rule: R) -> Op<R> {
+        Op { rule, affix: Affix::Prefix, others: None }
     }
 
     /// Makes a postfix operator.
-    pub fn postfix(rule: R) -> Op<R> {
-        Op(vec![(rule, Affix::Postfix)])
+    pub const fn postfix(rule: R) -> Op<R> {
+        Op { rule, affix: Affix::Postfix, others: None }
     }
 
     /// Makes an infix operator.
-    pub fn infix(rule: R, assoc: Assoc) -> Op<R> {
-        Op(vec![(rule, Affix::Infix(assoc))])
+    pub const fn infix(rule: R, assoc: Assoc) -> Op<R> {
+        Op { rule, affix: Affix::Infix(assoc), others: None }
+    }
+
+    fn each(self) -> impl Iterator<Item = (R, Affix)> {
+        [(self.rule, self.affix)].into_iter().chain(self.others.unwrap_or_default())
     }
 }
 
@@ -49,9 +69,33 @@ impl<R: RuleType> BitOr for Op<R> {
     type Output = Op<R>;
 
     fn bitor(mut self, other: Op<R>) -> Op<R> {
-        self.0.extend(other.0);
+        self.others.get_or_insert_default().extend(other.each());
         self
     }
+}
+
+/// Lists operators for [`ConstPrattParser::new_const`]: those between `|` have one precedence, and each comma begins a higher
+/// one.
+///
+/// ```
+/// use pest::pratt_parser::{pratt_precedence, Assoc, ConstPrattParser, Op};
+///
+/// #[derive(Clone, Copy, Debug, Eq, Hash, Ord, PartialEq, PartialOrd)]
+/// enum Rule { plus, minus, times }
+///
+/// const OPERATORS: ConstPrattParser<Rule, 3> = ConstPrattParser::new_const(pratt_precedence![
+///     Op::infix(Rule::plus, Assoc::Left) | Op::infix(Rule::minus, Assoc::Left),
+///     Op::infix(Rule::times, Assoc::Left),
+/// ]);
+/// ```
+#[macro_export]
+macro_rules! pratt_precedence {
+    ($($kind:ident :: $make:ident $of:tt $(| $next_kind:ident :: $next_make:ident $next_of:tt)*),* $(,)?) => {
+        [$(($kind::$make $of, true) $(, ($next_kind::$next_make $next_of, false))*),*]
+    };
+    ($($other:tt)*) => {
+        ::core::compile_error!("pratt_precedence! takes operators as `Op::infix(Rule::plus, Assoc::Left)`, between `|` and `,`")
+    };
 }
 
 /// The operators of expressions. [`PrattParser::map_primary`] begins what is done with them.
@@ -70,9 +114,9 @@ impl<R: RuleType> BitOr for Op<R> {
 /// ```
 #[derive(Clone, Debug)]
 pub struct PrattParser<R: RuleType> {
-    operators: HashMap<R, (Affix, u32)>,
+    operators: BTreeMap<R, (Affix, Prec)>,
     /// The highest precedence. The first one is 1.
-    levels: u32,
+    levels: Prec,
 }
 
 impl<R: RuleType> Default for PrattParser<R> {
@@ -84,46 +128,111 @@ impl<R: RuleType> Default for PrattParser<R> {
 impl<R: RuleType> PrattParser<R> {
     /// Makes a parser without operators.
     pub fn new() -> PrattParser<R> {
-        PrattParser { operators: HashMap::new(), levels: 0 }
+        PrattParser { operators: BTreeMap::new(), levels: 0 }
     }
 
     /// Adds operators, which bind more tightly than all before.
     pub fn op(mut self, op: Op<R>) -> PrattParser<R> {
         self.levels += 1;
         let level = self.levels;
-        self.operators.extend(op.0.into_iter().map(|(rule, affix)| (rule, (affix, level))));
+        self.operators.extend(op.each().map(|(rule, affix)| (rule, (affix, level))));
         self
     }
 
     /// Sets what is made of a pair that is no operator.
-    pub fn map_primary<'pratt, 'i, X, T>(&'pratt self, primary: X) -> PrattParserMap<'pratt, 'i, R, X, T>
+    pub fn map_primary<'pratt, 'a, 'i, X, T>(
+        &'pratt self,
+        primary: X,
+    ) -> PrattParserMap<'pratt, 'a, 'i, R, X, T>
     where
         X: FnMut(Pair<'i, R>) -> T,
         R: 'pratt,
     {
-        PrattParserMap { parser: self, primary, prefix: None, postfix: None, infix: None }
-    }
-
-    fn affix(&self, pair: &Pair<'_, R>) -> Option<(Affix, u32)> {
-        self.operators.get(&pair.as_rule()).copied()
+        PrattParserMap::new(self, primary)
     }
 }
 
-type MapPrefix<'i, R, T> = Box<dyn FnMut(Pair<'i, R>, T) -> T + 'i>;
-type MapPostfix<'i, R, T> = Box<dyn FnMut(T, Pair<'i, R>) -> T + 'i>;
-type MapInfix<'i, R, T> = Box<dyn FnMut(T, Pair<'i, R>, T) -> T + 'i>;
+/// What the operators of a parser are.
+#[doc(hidden)]
+pub trait PrattParserOps<R: RuleType> {
+    /// The kind of an operator, and its precedence.
+    fn get(&self, rule: &R) -> Option<(Affix, Prec)>;
+}
+
+impl<R: RuleType> PrattParserOps<R> for PrattParser<R> {
+    fn get(&self, rule: &R) -> Option<(Affix, Prec)> {
+        self.operators.get(rule).copied()
+    }
+}
+
+/// The operators of expressions, as a constant. Their list is made by [`pratt_precedence!`](crate::pratt_precedence).
+#[derive(Clone, Debug)]
+pub struct ConstPrattParser<R: RuleType + 'static, const N: usize> {
+    operators: [(R, Affix, Prec); N],
+}
+
+impl<R: RuleType + 'static, const N: usize> ConstPrattParser<R, N> {
+    /// Makes a parser of operators, each with whether it begins a higher precedence, as the first does.
+    ///
+    /// # Panics
+    /// Where the first does not, and where one stands for several.
+    pub const fn new_const(ops: [(Op<R>, bool); N]) -> Self {
+        const { assert!(N > 0, "ConstPrattParser requires at least one operator") };
+        assert!(ops[0].1, "the first operator must start a new precedence level (`true`)");
+        let mut operators = [(ops[0].0.rule, ops[0].0.affix, 0); N];
+        let (mut at, mut level) = (0, 0);
+        while at < N {
+            let (op, begins_level) = &ops[at];
+            assert!(
+                op.others.is_none(),
+                "operators that are joined by `|` are not supported in ConstPrattParser"
+            );
+            level += *begins_level as Prec;
+            operators[at] = (op.rule, op.affix, level);
+            at += 1;
+        }
+        // Constants drop nothing, and here is nothing to drop.
+        let _ = ManuallyDrop::new(ops);
+        ConstPrattParser { operators }
+    }
+
+    /// Sets what is made of a pair that is no operator.
+    pub fn map_primary<'pratt, 'a, 'i, X, T>(
+        &'pratt self,
+        primary: X,
+    ) -> PrattParserMap<'pratt, 'a, 'i, R, X, T, Self>
+    where
+        X: FnMut(Pair<'i, R>) -> T,
+        R: 'pratt,
+    {
+        PrattParserMap::new(self, primary)
+    }
+}
+
+impl<R: RuleType + 'static, const N: usize> PrattParserOps<R> for ConstPrattParser<R, N> {
+    fn get(&self, rule: &R) -> Option<(Affix, Prec)> {
+        let operator = self.operators.iter().rfind(|(it, ..)| it == rule)?;
+        Some((operator.1, operator.2))
+    }
+}
+
+type MapPrefix<'a, 'i, R, T> = Box<dyn FnMut(Pair<'i, R>, T) -> T + 'a>;
+type MapPostfix<'a, 'i, R, T> = Box<dyn FnMut(T, Pair<'i, R>) -> T + 'a>;
+type MapInfix<'a, 'i, R, T> = Box<dyn FnMut(T, Pair<'i, R>, T) -> T + 'a>;
 
 /// What is made of operands and operators.
-pub struct PrattParserMap<'pratt, 'i, R, F, T>
+pub struct PrattParserMap<'pratt, 'a, 'i, R, F, T, P = PrattParser<R>>
 where
     R: RuleType,
     F: FnMut(Pair<'i, R>) -> T,
+    P: PrattParserOps<R>,
 {
-    parser: &'pratt PrattParser<R>,
+    parser: &'pratt P,
     primary: F,
-    prefix: Option<MapPrefix<'i, R, T>>,
-    postfix: Option<MapPostfix<'i, R, T>>,
-    infix: Option<MapInfix<'i, R, T>>,
+    prefix: Option<MapPrefix<'a, 'i, R, T>>,
+    postfix: Option<MapPostfix<'a, 'i, R, T>>,
+    infix: Option<MapInfix<'a, 'i, R, T>>,
+    makes: PhantomData<T>,
 }
 
 /// An operator that waits for the operand after it, with the precedence that held before it.
@@ -131,18 +240,23 @@ struct Waiting<'i, R, T> {
     /// The operand before it, if it is infix.
     left: Option<T>,
     operator: Pair<'i, R>,
-    floor: u32,
+    floor: Prec,
 }
 
-impl<'pratt, 'i, R, F, T> PrattParserMap<'pratt, 'i, R, F, T>
+impl<'pratt, 'a, 'i, R, F, T, P> PrattParserMap<'pratt, 'a, 'i, R, F, T, P>
 where
     R: RuleType + 'pratt,
     F: FnMut(Pair<'i, R>) -> T,
+    P: PrattParserOps<R> + 'pratt,
 {
+    fn new(parser: &'pratt P, primary: F) -> Self {
+        PrattParserMap { parser, primary, prefix: None, postfix: None, infix: None, makes: PhantomData }
+    }
+
     /// Sets what is made of a prefix operator and its operand.
     pub fn map_prefix<X>(mut self, prefix: X) -> Self
     where
-        X: FnMut(Pair<'i, R>, T) -> T + 'i,
+        X: FnMut(Pair<'i, R>, T) -> T + 'a,
     {
         self.prefix = Some(Box::new(prefix));
         self
@@ -151,7 +265,7 @@ where
     /// Sets what is made of an operand and a postfix operator.
     pub fn map_postfix<X>(mut self, postfix: X) -> Self
     where
-        X: FnMut(T, Pair<'i, R>) -> T + 'i,
+        X: FnMut(T, Pair<'i, R>) -> T + 'a,
     {
         self.postfix = Some(Box::new(postfix));
         self
@@ -160,7 +274,7 @@ where
     /// Sets what is made of an infix operator and its operands.
     pub fn map_infix<X>(mut self, infix: X) -> Self
     where
-        X: FnMut(T, Pair<'i, R>, T) -> T + 'i,
+        X: FnMut(T, Pair<'i, R>, T) -> T + 'a,
     {
         self.infix = Some(Box::new(infix));
         self
@@ -171,7 +285,7 @@ where
     /// # Panics
     /// Where operands and operators don't alternate as they should, and at an operator of a kind that nothing was
     /// set for.
-    pub fn parse<P: Iterator<Item = Pair<'i, R>>>(&mut self, pairs: P) -> T {
+    pub fn parse<I: Iterator<Item = Pair<'i, R>>>(&mut self, pairs: I) -> T {
         let mut pairs = pairs.peekable();
         let mut waiting: Vec<Waiting<'i, R, T>> = Vec::new();
         // Only operators above it belong to the operand at hand.
@@ -196,15 +310,15 @@ where
     }
 
     /// The value of the next operand, whose prefix operators wait.
-    fn operand<P: Iterator<Item = Pair<'i, R>>>(
+    fn operand<I: Iterator<Item = Pair<'i, R>>>(
         &mut self,
-        pairs: &mut Peekable<P>,
+        pairs: &mut Peekable<I>,
         waiting: &mut Vec<Waiting<'i, R, T>>,
-        floor: &mut u32,
+        floor: &mut Prec,
     ) -> T {
         loop {
             let pair = pairs.next().expect("Pratt parsing expects non-empty Pairs");
-            match self.parser.affix(&pair) {
+            match self.parser.get(&pair.as_rule()) {
                 None => return (self.primary)(pair),
                 Some((Affix::Prefix, level)) => {
                     waiting.push(Waiting { left: None, operator: pair, floor: *floor });
@@ -216,13 +330,13 @@ where
     }
 
     /// The next operator, if its precedence is above the floor.
-    fn next_above<P: Iterator<Item = Pair<'i, R>>>(
+    fn next_above<I: Iterator<Item = Pair<'i, R>>>(
         &self,
-        pairs: &mut Peekable<P>,
-        floor: u32,
-    ) -> Option<(Pair<'i, R>, Affix, u32)> {
+        pairs: &mut Peekable<I>,
+        floor: Prec,
+    ) -> Option<(Pair<'i, R>, Affix, Prec)> {
         let pair = pairs.peek()?;
-        let Some((affix, level)) = self.parser.affix(pair) else {
+        let Some((affix, level)) = self.parser.get(&pair.as_rule()) else {
             panic!("Expected operator, found {pair}");
         };
         if level <= floor {

@@ -1,11 +1,51 @@
 //! Expressions with infix operators, by precedence.
 
-use std::borrow::Cow;
-use std::iter::Peekable;
-use std::ops::BitOr;
+use alloc::borrow::Cow;
+use alloc::vec;
+use alloc::vec::Vec;
+use core::iter::Peekable;
+use core::ops::BitOr;
 
 use crate::iterators::Pair;
 use crate::RuleType;
+
+/// Makes a [`PrecClimber`] of an enum `Rule` as a constant: `L` or `R` for how operators of a precedence group, and the
+/// operators between `|`. Each comma begins a higher precedence.
+///
+/// ```
+/// # #![allow(deprecated)]
+/// use pest::prec_climber::PrecClimber;
+///
+/// #[derive(Clone, Copy, Debug, Eq, Hash, Ord, PartialEq, PartialOrd)]
+/// enum Rule { plus, minus, times, power }
+///
+/// static OPERATORS: PrecClimber<Rule> = pest::prec_climber![L plus | minus, L times, R power];
+/// ```
+#[cfg(feature = "const_prec_climber")]
+#[macro_export]
+macro_rules! prec_climber {
+    ($($assoc:ident $rule:ident $(| $more:ident)*),+ $(,)?) => {
+        $crate::prec_climber::PrecClimber::new_const(
+            $crate::prec_climber!(@rows 1u32, {} $([$assoc $rule $($more)*])+)
+        )
+    };
+    (@rows $level:expr, {$($row:tt)*}) => {
+        &[$($row)*]
+    };
+    (@rows $level:expr, {$($row:tt)*} [$assoc:ident $($rule:ident)+] $($rest:tt)*) => {
+        $crate::prec_climber!(
+            @rows $level + 1u32,
+            {$($row)* $((Rule::$rule, $level, $crate::prec_climber!(@assoc $assoc)),)+}
+            $($rest)*
+        )
+    };
+    (@assoc L) => {
+        $crate::prec_climber::Assoc::Left
+    };
+    (@assoc R) => {
+        $crate::prec_climber::Assoc::Right
+    };
+}
 
 /// How operators of one precedence group.
 #[derive(Clone, Copy, Debug, Eq, PartialEq)]

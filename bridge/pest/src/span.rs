@@ -1,7 +1,7 @@
-use std::fmt;
-use std::hash::{Hash, Hasher};
-use std::ops::{Bound, RangeBounds};
-use std::ptr;
+use core::fmt;
+use core::hash::{Hash, Hasher};
+use core::ops::{Bound, RangeBounds};
+use core::ptr;
 
 use crate::Position;
 
@@ -21,6 +21,7 @@ impl<'i> Span<'i> {
 
     /// The span between two bytes.
     pub(crate) fn between(input: &'i str, start: usize, end: usize) -> Span<'i> {
+        debug_assert!(input.get(start..end).is_some());
         Span { input, start, end }
     }
 
@@ -75,7 +76,8 @@ impl<'i> Span<'i> {
         self.input
     }
 
-    /// Returns the lines from the one where the span starts to the one where it ends, each whole.
+    /// Returns the lines that have a byte of the span, each whole. A span without bytes has the line where it is, but at the
+    /// end of the text none.
     pub fn lines(&self) -> Lines<'i> {
         Lines { spans: self.lines_span() }
     }
@@ -98,11 +100,7 @@ pub fn merge_spans<'i>(a: &Span<'i>, b: &Span<'i>) -> Option<Span<'i>> {
 
 impl fmt::Debug for Span<'_> {
     fn fmt(&self, f: &mut fmt::Formatter<'_>) -> fmt::Result {
-        f.debug_struct("Span")
-            .field("str", &self.as_str())
-            .field("start", &self.start)
-            .field("end", &self.end)
-            .finish()
+        f.debug_struct("Span").field("str", &self.as_str()).field("range", &(self.start..self.end)).finish()
     }
 }
 
@@ -134,8 +132,9 @@ impl<'i> Iterator for LinesSpan<'i> {
     type Item = Span<'i>;
 
     fn next(&mut self) -> Option<Span<'i>> {
-        let input = self.span.input;
-        if self.pos > self.span.end || self.pos == input.len() {
+        let Span { input, start, end } = self.span;
+        let is_past = self.pos >= end && self.pos > start;
+        if is_past || self.pos == input.len() {
             return None;
         }
         let pos = self.span.position(self.pos);

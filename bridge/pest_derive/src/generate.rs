@@ -1,5 +1,6 @@
 //! The code of a parser.
 
+use pest_meta::matching::TaggedBlock;
 use proc_macro2::{Ident, Literal, Span, TokenStream};
 use quote::{format_ident, quote};
 use syn::DeriveInput;
@@ -13,7 +14,7 @@ pub(crate) fn parser(input: &DeriveInput) -> syn::Result<TokenStream> {
     for name in &grammar.names {
         variants.push(variant(name)?);
     }
-    let is_open = input.attrs.iter().any(|attribute| attribute.path.is_ident("non_exhaustive"));
+    let is_open = input.attrs.iter().any(|attribute| attribute.path().is_ident("non_exhaustive"));
     let rules = rule_enum(&grammar, &variants, is_open);
     let parser = parser_impl(input, &grammar, &variants);
     let files = grammar.files.iter().map(|file| file.display().to_string());
@@ -101,9 +102,18 @@ fn parser_impl(input: &DeriveInput, grammar: &Grammar, variants: &[Ident]) -> To
     let name = &input.ident;
     let (impl_generics, type_generics, where_clause) = input.generics.split_for_impl();
     let block = Literal::byte_string(&grammar.block);
+    let tagged = match &grammar.tagged {
+        Some(TaggedBlock { block, tags }) => {
+            let block = Literal::byte_string(block);
+            quote!(::core::option::Option::Some(::pest::machine::Tagged { block: #block, tags: &[#(#tags),*] }))
+        }
+        None => quote!(::core::option::Option::None),
+    };
     let end = grammar.uses_eoi.then(|| format_ident!("EOI"));
-    let rules: Vec<&Ident> = variants.iter().chain(&end).collect();
-    let count = variants.len() as u32;
+    let count = grammar.row_of_eoi as u32;
+    // The rows between have no pairs, and no error names them.
+    let added = variants.iter().cycle().take(grammar.row_of_eoi - variants.len());
+    let rules: Vec<&Ident> = variants.iter().chain(added).chain(&end).collect();
     // `EOI` is the first of the enum and the last of the rows.
     let row = match grammar.uses_eoi {
         true => quote!((rule as u32).checked_sub(1).unwrap_or(#count)),
@@ -120,6 +130,7 @@ fn parser_impl(input: &DeriveInput, grammar: &Grammar, variants: &[Ident]) -> To
                     block: #block,
                     rules: &[#(Rule::#rules),*],
                     end: #count,
+                    tagged: #tagged,
                 };
                 ::pest::machine::parse(&GRAMMAR, #row, input)
             }

@@ -6,10 +6,10 @@ use std::{env, fs};
 use pest::error::{Error, ErrorVariant};
 use pest::{Position, Span};
 use pest_meta::diagnostics::{self, Diagnostic, Severity};
-use pest_meta::matching;
+use pest_meta::matching::{self, TaggedBlock};
 use pest_meta::parser::{self, Rule};
 use syn::spanned::Spanned;
-use syn::{Attribute, DeriveInput, Lit, Meta, MetaNameValue};
+use syn::{Attribute, DeriveInput, Expr, ExprLit, Lit, Meta};
 
 /// A text that an attribute gives.
 struct Source {
@@ -24,8 +24,12 @@ pub(crate) struct Grammar {
     pub(crate) files: Vec<PathBuf>,
     /// The names of its rules, in their order.
     pub(crate) names: Vec<String>,
+    /// The row of `EOI`: after the rules and those that were added for properties of characters.
+    pub(crate) row_of_eoi: usize,
     /// Its rules, compiled.
     pub(crate) block: Vec<u8>,
+    /// The same with its tags, if it has any.
+    pub(crate) tagged: Option<TaggedBlock>,
     /// Whether it uses `EOI`.
     pub(crate) uses_eoi: bool,
     /// What it says of itself, a line each.
@@ -39,7 +43,7 @@ pub(crate) fn of_attributes(input: &DeriveInput) -> syn::Result<Grammar> {
     let mut sources = Vec::new();
     let mut place = input.ident.span();
     for attribute in &input.attrs {
-        if attribute.path.is_ident("grammar") || attribute.path.is_ident("grammar_inline") {
+        if attribute.path().is_ident("grammar") || attribute.path().is_ident("grammar_inline") {
             place = attribute.span();
             sources.push(source(attribute)?);
         }
@@ -50,17 +54,22 @@ pub(crate) fn of_attributes(input: &DeriveInput) -> syn::Result<Grammar> {
         return Err(syn::Error::new(place, message));
     }
     let texts: Vec<&str> = sources.iter().map(|source| &source.text[..]).collect();
-    let text = texts.join("\n");
+    let own_text = texts.join("\n");
+    let defined: Vec<String> =
+        texts.iter().flat_map(|text| names_before_bodies(text)).map(str::to_owned).collect();
+    let text = own_text.clone() + &matching::rules_of_properties(&own_text, &defined);
     match pest_meta::parse_and_optimize(&text) {
         Ok((builtins, rules)) => {
             let uses_eoi = builtins.contains(&"EOI");
-            let block = matching::compile(&rules);
-            let block =
-                block.map_err(|_| syn::Error::new(place, "grammar error: a rule can't be compiled"))?;
-            let names = rules.into_iter().map(|rule| rule.name).collect();
-            let (docs, rule_docs) = docs(&text);
+            let uncompiled = |_| syn::Error::new(place, "grammar error: a rule can't be compiled");
+            let block = matching::compile(&rules).map_err(uncompiled)?;
+            let tagged = matching::compile_tagged(&rules).map_err(uncompiled)?;
+            let added = text[own_text.len()..].lines().filter(|line| !line.is_empty()).count();
+            let row_of_eoi = rules.len();
+            let names = rules.into_iter().map(|rule| rule.name).take(row_of_eoi - added).collect();
+            let (docs, rule_docs) = docs(&own_text);
             let files = sources.into_iter().filter_map(|source| source.file).collect();
-            Ok(Grammar { files, names, block, uses_eoi, docs, rule_docs })
+            Ok(Grammar { files, names, row_of_eoi, block, tagged, uses_eoi, docs, rule_docs })
         }
         Err(errors) => {
             let errors = errors.into_iter().map(|error| error.renamed_rules(parser::rename_meta_rule));
@@ -73,7 +82,7 @@ pub(crate) fn of_attributes(input: &DeriveInput) -> syn::Result<Grammar> {
 /// The names that the grammar of a struct seems to define, each once: those before `=` and the brace of a body. `EOI` is
 /// the last. Attributes and files that cannot be read give none.
 pub(crate) fn defined_names(input: &DeriveInput) -> Vec<String> {
-    let is_grammar = |it: &&Attribute| it.path.is_ident("grammar") || it.path.is_ident("grammar_inline");
+    let is_grammar = |it: &&Attribute| it.path().is_ident("grammar") || it.path().is_ident("grammar_inline");
     let sources = input.attrs.iter().filter(is_grammar).filter_map(|attribute| source(attribute).ok());
     let texts: Vec<String> = sources.map(|source| source.text).collect();
     let mut names: Vec<String> = Vec::new();
@@ -101,13 +110,13 @@ fn names_before_bodies(text: &str) -> impl Iterator<Item = &str> {
 /// The text that an attribute gives.
 fn source(attribute: &Attribute) -> syn::Result<Source> {
     let refused = |message| Err(syn::Error::new(attribute.span(), message));
-    let Ok(Meta::NameValue(MetaNameValue { lit, .. })) = attribute.parse_meta() else {
+    let Meta::NameValue(pair) = &attribute.meta else {
         return refused("grammar attribute must be of the form `grammar = \"...\"`".to_owned());
     };
-    let Lit::Str(given) = lit else {
+    let Expr::Lit(ExprLit { lit: Lit::Str(given), .. }) = &pair.value else {
         return refused("grammar attribute must be a string".to_owned());
     };
-    if attribute.path.is_ident("grammar_inline") {
+    if attribute.path().is_ident("grammar_inline") {
         return Ok(Source { file: None, text: given.value() });
     }
     let file = file_named(&given.value());

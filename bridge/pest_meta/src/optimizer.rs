@@ -37,7 +37,7 @@ pub(crate) fn json_of(rules: &[OptimizedRule]) -> String {
 }
 
 /// Writes a rule as JSON.
-fn write_rule(out: &mut String, name: &str, ty: RuleType, body: &[Node]) {
+pub(crate) fn write_rule(out: &mut String, name: &str, ty: RuleType, body: &[Node]) {
     out.push_str("{\"expr\":");
     write_list(out, body, nodes::write);
     out.push_str(",\"name\":");

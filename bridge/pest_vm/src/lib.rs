@@ -26,7 +26,7 @@
 //! | an error names its rules after any time | where 2^23 steps, and 32 more for each byte, do not find them, it says so at the furthest position of a failure |
 //! | the listener is called at each call of a rule | at each token of a match, in the order of their starts |
 //! | a builtin can be parsed as a rule | another name than a rule's panics, as an undefined rule does there |
-//! | pairs of later versions have tags | pairs have none |
+//! | an undefined name panics when it is called | a rule from which calls lead to it panics |
 //!
 //! # Cost
 //!
@@ -34,18 +34,18 @@
 //! waits for another. No depth of a tree takes stack.
 #![forbid(unsafe_code)]
 #![warn(missing_docs, rust_2018_idioms, unused_qualifications)]
-// The signatures are those of the original.
-#![allow(clippy::result_large_err)]
 
 mod macros;
 
+use std::collections::HashMap;
 use std::panic::{RefUnwindSafe, UnwindSafe};
 
-use pest_meta::matching;
+use pest_meta::matching::{self, TaggedBlock};
 use pest_meta::optimizer::OptimizedRule;
 use runtime::error::{Error, ErrorVariant};
 use runtime::iterators::Pairs;
-use runtime::{machine, Position};
+use runtime::machine::{self, Tagged};
+use runtime::Position;
 
 // For the macros.
 #[doc(hidden)]
@@ -56,9 +56,14 @@ type Listener = Box<dyn Fn(String, &Position<'_>) -> bool + Sync + Send + RefUnw
 
 /// A machine that runs optimized rules on texts.
 pub struct Vm {
-    /// The compiled rules. There are none where they call an undefined rule, or have a range of no characters.
+    /// The compiled rules. There are none where they have a range of no characters.
     block: Option<Vec<u8>>,
+    /// The same with their tags, if they have any.
+    tagged: Option<TaggedBlock>,
+    /// The name of each row, `EOI` last.
     names: Vec<String>,
+    /// Of rules that come to an undefined name, the row of each with that name.
+    undefined: HashMap<usize, String>,
     listener: Option<Listener>,
 }
 
@@ -67,9 +72,24 @@ impl Vm {
     ///
     /// # Panics
     /// Where memory is refused.
-    pub fn new(rules: Vec<OptimizedRule>) -> Vm {
-        let block = matching::compile(&rules).ok();
-        Vm { block, names: rules.into_iter().map(|rule| rule.name).collect(), listener: None }
+    pub fn new(mut rules: Vec<OptimizedRule>) -> Vm {
+        let mut block = matching::compile(&rules).ok();
+        let mut undefined = HashMap::new();
+        if block.is_none() {
+            // Each undefined name becomes a rule, so that the others can be compiled: properties of characters have theirs, and the
+            // other ones match nothing.
+            let names = matching::undefined_names(&rules);
+            rules.extend(names.iter().filter_map(|name| matching::property_rule(name)));
+            let count = rules.len();
+            let others = names.into_iter().filter(|name| !rules.iter().any(|rule| rule.name == *name));
+            let others: Vec<_> = others.map(matching::empty_rule).collect();
+            rules.extend(others);
+            undefined = matching::rules_that_reach(&rules, count);
+            block = matching::compile(&rules).ok();
+        }
+        let tagged = matching::compile_tagged(&rules).ok().flatten();
+        let names = rules.into_iter().map(|rule| rule.name).chain(["EOI".to_owned()]).collect();
+        Vm { block, tagged, names, undefined, listener: None }
     }
 
     /// Makes a machine whose listener is called for each token of a match, in the order of their starts, with the
@@ -84,18 +104,22 @@ impl Vm {
     /// A rule that has no outcome, since `PEEK` or `POP` meets the empty stack, is an error at the start.
     ///
     /// # Panics
-    /// Where no rule has the name, where the rules call a name that is neither a rule nor a builtin, and where
-    /// memory is refused.
+    /// Where no rule has the name, where the rule, or one that it calls, calls a name that is neither a rule nor a builtin, and
+    /// where memory is refused.
     pub fn parse<'a>(&'a self, rule: &'a str, input: &'a str) -> Result<Pairs<'a, &'a str>, Error<&'a str>> {
-        let Some(block) = &self.block else {
-            panic!("the rules call an undefined rule, or have a range of no characters")
-        };
-        // Of rules of one name the last is meant.
-        let Some(row) = self.names.iter().rposition(|name| name == rule) else {
+        let Some(block) = &self.block else { panic!("the rules have a range of no characters") };
+        // Of rules of one name the last is meant. `EOI` is no rule.
+        let Some(row) = self.names[..self.names.len() - 1].iter().rposition(|name| name == rule) else {
             panic!("undefined rule {rule}")
         };
-        let names = self.names.iter().map(String::as_str).chain(["EOI"]).collect();
-        let pairs = machine::parse_block(block, row as u32, input, names)?;
+        if let Some(name) = self.undefined.get(&row) {
+            panic!("undefined rule {name}")
+        }
+        let names = self.names.iter().map(String::as_str).collect();
+        let tags: Vec<&str> =
+            self.tagged.iter().flat_map(|tagged| &tagged.tags).map(String::as_str).collect();
+        let tagged = self.tagged.as_ref().map(|tagged| Tagged { block: &tagged.block, tags: &tags });
+        let pairs = machine::parse_block(block, tagged, row as u32, input, names)?;
         match self.stopped_at(&pairs) {
             Some(position) => {
                 let variant = ErrorVariant::ParsingError { positives: Vec::new(), negatives: Vec::new() };

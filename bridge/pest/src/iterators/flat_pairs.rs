@@ -1,4 +1,5 @@
-use std::fmt;
+use alloc::vec::Vec;
+use core::fmt;
 
 use super::{Pair, Tokens, Tree};
 use crate::RuleType;
@@ -7,18 +8,31 @@ use crate::RuleType;
 #[derive(Clone)]
 pub struct FlatPairs<'i, R> {
     tree: Tree<'i, R>,
+    /// The first node of the pairs.
+    first: u32,
+    /// The first node that is left.
     at: u32,
+    /// The node after the last one that is left.
     end: u32,
+    /// Whether pairs were taken from the back.
+    is_cut: bool,
 }
 
 impl<'i, R: RuleType> FlatPairs<'i, R> {
     pub(super) fn new(tree: Tree<'i, R>, at: u32, end: u32) -> FlatPairs<'i, R> {
-        FlatPairs { tree, at, end }
+        FlatPairs { tree, first: at, at, end, is_cut: false }
     }
 
-    /// Returns the tokens of the pairs that are left. An end whose start was passed over is left out.
+    /// Returns the tokens from the start of the first pair that is left, to the end of all pairs, or to the start of the
+    /// last pair that was taken from the back.
     pub fn tokens(self) -> Tokens<'i, R> {
-        Tokens::new(self.tree, self.at, self.end)
+        let index = self.tree.tokens();
+        let end = match (self.at < self.end, self.is_cut) {
+            (false, _) => index.start(self.at),
+            (true, false) => index.end(self.first, self.end),
+            (true, true) => index.start(self.end),
+        };
+        Tokens::before(self.tree, self.at, end)
     }
 
     fn pair(&self, at: u32) -> Pair<'i, R> {
@@ -49,6 +63,7 @@ impl<R: RuleType> DoubleEndedIterator for FlatPairs<'_, R> {
     fn next_back(&mut self) -> Option<Self::Item> {
         (self.at < self.end).then(|| {
             self.end -= 1;
+            self.is_cut = true;
             self.pair(self.end)
         })
     }

@@ -1,8 +1,12 @@
 //! The pairs of a match, and iterators over them.
 
 mod flat_pairs;
+#[cfg(feature = "pretty-print")]
+mod json;
+mod line_index;
 mod pair;
 mod pairs;
+mod pairs_builder;
 mod printing;
 mod tokens;
 mod tree;
@@ -10,6 +14,7 @@ mod tree;
 pub use flat_pairs::FlatPairs;
 pub use pair::Pair;
 pub use pairs::Pairs;
+pub use pairs_builder::PairsBuilder;
 pub use tokens::Tokens;
 
 pub(crate) use tree::{Rules, Tree};

@@ -1,5 +1,7 @@
-use std::fmt;
-use std::hash::{Hash, Hasher};
+#[cfg(feature = "pretty-print")]
+use alloc::string::String;
+use core::fmt;
+use core::hash::{Hash, Hasher};
 
 use super::printing;
 use super::{Pairs, Tokens, Tree};
@@ -41,6 +43,11 @@ impl<'i, R: RuleType> Pair<'i, R> {
         Span::between(self.tree.text(), node.start as usize, node.end as usize)
     }
 
+    /// Returns the tag of the pair, if its grammar gives it one and the parser was made with the feature `grammar-extras`.
+    pub fn as_node_tag(&self) -> Option<&str> {
+        self.tree.tag(self.at)
+    }
+
     /// Returns the pairs inside this one.
     pub fn into_inner(self) -> Pairs<'i, R> {
         let end = self.tree.after(self.at);
@@ -53,9 +60,17 @@ impl<'i, R: RuleType> Pair<'i, R> {
         Tokens::new(self.tree, self.at, end)
     }
 
-    /// Returns the line and the column where the pair starts, both from 1. It takes as long as the text before it.
+    /// Returns the pair as JSON, in lines. No depth of pairs takes stack.
+    #[cfg(feature = "pretty-print")]
+    pub fn to_json(&self) -> String {
+        super::json::pair(&self.tree, self.at)
+    }
+
+    /// Returns the line and the column where the pair starts, both from 1.
+    ///
+    /// The first call for a match takes as long as to go through the text once. The others take a few steps each.
     pub fn line_col(&self) -> (usize, usize) {
-        self.as_span().start_pos().line_col()
+        self.tree.line_col(self.at)
     }
 }
 
@@ -65,10 +80,14 @@ impl<R: RuleType> fmt::Debug for Pair<'_, R> {
     }
 }
 
-/// Prints the rule, the bytes where the pair starts and ends, and the pairs inside it: `a(0, 3, [b(1, 2)])`.
+/// Prints the text, and by `{:#}` the rule, the bytes where the pair starts and ends, and the pairs inside it:
+/// `a(0, 3, [b(1, 2)])`.
 impl<R: RuleType> fmt::Display for Pair<'_, R> {
     fn fmt(&self, f: &mut fmt::Formatter<'_>) -> fmt::Result {
-        printing::display(f, &self.tree, self.at, self.tree.after(self.at))
+        match f.alternate() {
+            true => printing::display(f, &self.tree, self.at, self.tree.after(self.at)),
+            false => f.write_str(self.as_str()),
+        }
     }
 }
 

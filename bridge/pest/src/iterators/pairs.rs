@@ -1,29 +1,57 @@
-use std::fmt;
-use std::hash::{Hash, Hasher};
-use std::iter;
+use alloc::string::String;
+use core::cell::Cell;
+use core::fmt;
+use core::hash::{Hash, Hasher};
+use core::iter::{self, Filter};
+use core::panic::RefUnwindSafe;
 
 use super::printing;
 use super::{FlatPairs, Pair, Tokens, Tree};
 use crate::RuleType;
 
 /// Pairs beside one another.
-///
-/// Where they are taken from the back, they are listed first, which takes as long as to go through them once.
-#[derive(Clone)]
 pub struct Pairs<'i, R> {
     tree: Tree<'i, R>,
     /// The first node that is left.
     at: u32,
     /// The node after the last one and what is inside it.
     end: u32,
-    /// The nodes that were left when one was taken from the back, without those taken from there.
-    listed: Option<Vec<u32>>,
+    /// How many are left, once that was asked.
+    left: Cell<Option<Left>>,
+}
+
+/// How many pairs are left.
+#[derive(Clone, Copy)]
+struct Left {
+    count: u32,
+    /// The last of them, if there is one.
+    last: u32,
+}
+
+// The cell is set to a whole value at once.
+impl<R: RefUnwindSafe> RefUnwindSafe for Pairs<'_, R> {}
+
+impl<'i, R> Pairs<'i, R> {
+    /// The pairs that are left, which are counted when that is first asked. This takes as long as to go through them, as in
+    /// pest each making of `Pairs` does.
+    fn left(&self) -> Left {
+        if let Some(left) = self.left.get() {
+            return left;
+        }
+        let is_left = |at: &u32| *at < self.end;
+        let indexes =
+            iter::successors(Some(self.at).filter(is_left), |at| Some(self.tree.after(*at)).filter(is_left));
+        let left = indexes
+            .fold(Left { count: 0, last: self.at }, |left, at| Left { count: left.count + 1, last: at });
+        self.left.set(Some(left));
+        left
+    }
 }
 
 impl<'i, R: RuleType> Pairs<'i, R> {
     /// The pairs of the nodes from one on and before another.
     pub(crate) fn new(tree: Tree<'i, R>, at: u32, end: u32) -> Pairs<'i, R> {
-        Pairs { tree, at, end, listed: None }
+        Pairs { tree, at, end, left: Cell::new(None) }
     }
 
     /// Makes an iterator over a pair.
@@ -34,12 +62,11 @@ impl<'i, R: RuleType> Pairs<'i, R> {
 
     /// Returns the text from the start of the first pair to the end of the last one.
     pub fn as_str(&self) -> &'i str {
-        let (first, last) = (self.indexes().next(), self.indexes().last());
-        match first.zip(last) {
-            Some((first, last)) => {
-                self.tree.text_between(self.tree.node(first).start, self.tree.node(last).end)
+        match self.at < self.end {
+            true => {
+                self.tree.text_between(self.tree.node(self.at).start, self.tree.node(self.left().last).end)
             }
-            None => "",
+            false => "",
         }
     }
 
@@ -58,6 +85,25 @@ impl<'i, R: RuleType> Pairs<'i, R> {
         FlatPairs::new(self.tree, self.at, self.end)
     }
 
+    /// Returns the first of these pairs and of those inside them that has a tag.
+    pub fn find_first_tagged(&self, tag: &'i str) -> Option<Pair<'i, R>> {
+        self.clone().find_tagged(tag).next()
+    }
+
+    /// Returns those of these pairs and of those inside them that have a tag.
+    pub fn find_tagged(
+        self,
+        tag: &'i str,
+    ) -> Filter<FlatPairs<'i, R>, impl FnMut(&Pair<'i, R>) -> bool + 'i> {
+        self.flatten().filter(move |pair: &Pair<'i, R>| pair.as_node_tag() == Some(tag))
+    }
+
+    /// Returns the pairs as JSON, in lines. No depth of pairs takes stack.
+    #[cfg(feature = "pretty-print")]
+    pub fn to_json(&self) -> String {
+        super::json::pairs(&self.tree, self.at, self.end)
+    }
+
     /// Returns the tokens of these pairs and of those inside them.
     pub fn tokens(self) -> Tokens<'i, R> {
         Tokens::new(self.tree, self.at, self.end)
@@ -68,14 +114,27 @@ impl<'i, R: RuleType> Pairs<'i, R> {
         (self.at < self.end).then(|| self.pair(self.at))
     }
 
+    /// Returns whether no pair is left.
+    pub fn is_empty(&self) -> bool {
+        self.at >= self.end
+    }
+
+    /// The tree, and the nodes that are left.
+    #[cfg(feature = "pretty-print")]
+    pub(super) fn parts(&self) -> (&Tree<'i, R>, u32, u32) {
+        (&self.tree, self.at, self.end)
+    }
+
     fn pair(&self, at: u32) -> Pair<'i, R> {
         Pair { tree: self.tree.clone(), at }
     }
+}
 
-    /// The indexes of the pairs that are left.
-    fn indexes(&self) -> impl Iterator<Item = u32> + '_ {
-        let is_left = |at: &u32| *at < self.end;
-        iter::successors(Some(self.at).filter(is_left), move |at| Some(self.tree.after(*at)).filter(is_left))
+/// What is counted of the original is counted of the clone.
+impl<R: Clone> Clone for Pairs<'_, R> {
+    fn clone(&self) -> Self {
+        let left = Cell::new(Some(self.left()));
+        Pairs { tree: self.tree.clone(), at: self.at, end: self.end, left }
     }
 }
 
@@ -85,16 +144,18 @@ impl<'i, R: RuleType> Iterator for Pairs<'i, R> {
     fn next(&mut self) -> Option<Pair<'i, R>> {
         let pair = self.peek()?;
         self.at = self.tree.after(self.at);
+        if let Some(left) = self.left.get_mut() {
+            left.count -= 1;
+        }
         Some(pair)
     }
 
     fn size_hint(&self) -> (usize, Option<usize>) {
-        let len = self.indexes().count();
+        let len = self.left().count as usize;
         (len, Some(len))
     }
 }
 
-/// The length is counted, which takes as long as to go through the pairs once.
 impl<R: RuleType> ExactSizeIterator for Pairs<'_, R> {}
 
 impl<R: RuleType> DoubleEndedIterator for Pairs<'_, R> {
@@ -102,10 +163,10 @@ impl<R: RuleType> DoubleEndedIterator for Pairs<'_, R> {
         if self.at >= self.end {
             return None;
         }
-        let mut listed = self.listed.take().unwrap_or_else(|| self.indexes().collect());
-        let last = listed.pop()?;
+        let Left { count, last } = self.left();
+        let before = if count > 1 { self.tree.tokens().before(last) } else { self.at };
         self.end = last;
-        self.listed = Some(listed);
+        self.left.set(Some(Left { count: count - 1, last: before }));
         Some(self.pair(last))
     }
 }
@@ -116,11 +177,17 @@ impl<R: RuleType> fmt::Debug for Pairs<'_, R> {
     }
 }
 
-/// Prints the pairs in brackets: `[a(0, 1), b(1, 2)]`.
+/// Prints the texts of the pairs in brackets, `[a, b]`, and by `{:#}` the pairs: `[a(0, 1), b(1, 2)]`.
 impl<R: RuleType> fmt::Display for Pairs<'_, R> {
     fn fmt(&self, f: &mut fmt::Formatter<'_>) -> fmt::Result {
         f.write_str("[")?;
-        printing::display(f, &self.tree, self.at, self.end)?;
+        if f.alternate() {
+            printing::display(f, &self.tree, self.at, self.end)?;
+        } else {
+            for (number, pair) in self.clone().enumerate() {
+                write!(f, "{}{pair}", if number > 0 { ", " } else { "" })?;
+            }
+        }
         f.write_str("]")
     }
 }

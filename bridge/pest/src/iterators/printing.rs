@@ -1,11 +1,12 @@
 //! Pairs as texts. Each function is a loop, so that no depth of a tree takes stack.
-use std::fmt::{self, Formatter};
+use alloc::format;
+use core::fmt::{self, Formatter};
 
 use super::tokens::{Bound, Bounds};
 use super::Tree;
 use crate::{RuleType, Span};
 
-/// Prints nodes as `Display` does, without brackets around them.
+/// Prints nodes as `{:#}` does, without brackets around them.
 pub(super) fn display<R: RuleType>(
     f: &mut Formatter<'_>,
     tree: &Tree<'_, R>,
@@ -61,7 +62,11 @@ fn debug_in_line<R: RuleType>(
             Bound::Start(at) => {
                 let comma = if follows { ", " } else { "" };
                 let span = span(tree, at);
-                write!(f, "{comma}Pair {{ rule: {:?}, span: {span:?}, inner: [", tree.rule(at))?;
+                write!(f, "{comma}Pair {{ rule: {:?}, ", tree.rule(at))?;
+                if let Some(tag) = tree.tag(at) {
+                    write!(f, "node_tag: {tag:?}, ")?;
+                }
+                write!(f, "span: {span:?}, inner: [")?;
                 follows = false;
             }
             Bound::End(_) => {
@@ -84,16 +89,14 @@ fn debug_in_lines<R: RuleType>(
     for bound in Bounds::new(tree.clone(), at, end) {
         match bound {
             Bound::Start(at) => {
-                let (blanks, span) = (" ".repeat(indent), span(tree, at));
-                writeln!(f, "{blanks}Pair {{\n{blanks}    rule: {:?},", tree.rule(at))?;
-                writeln!(f, "{blanks}    span: Span {{\n{blanks}        str: {:?},", span.as_str())?;
-                writeln!(
-                    f,
-                    "{blanks}        start: {},\n{blanks}        end: {},",
-                    span.start(),
-                    span.end()
-                )?;
-                write!(f, "{blanks}    }},\n{blanks}    inner: [")?;
+                let blanks = " ".repeat(indent);
+                let fields = format!("\n{blanks}    ");
+                let in_lines = |value: &dyn fmt::Debug| format!("{value:#?}").replace('\n', &fields);
+                write!(f, "{blanks}Pair {{{fields}rule: {},", in_lines(&tree.rule(at)))?;
+                if let Some(tag) = tree.tag(at) {
+                    write!(f, "{fields}node_tag: {tag:?},")?;
+                }
+                write!(f, "{fields}span: {},{fields}inner: [", in_lines(&span(tree, at)))?;
                 if !tree.is_leaf(at) {
                     f.write_str("\n")?;
                     indent += 8;

@@ -1,4 +1,5 @@
-use std::{fmt, vec};
+use alloc::vec::Vec;
+use core::fmt;
 
 use super::Tree;
 use crate::{Position, RuleType, Token};
@@ -13,7 +14,6 @@ pub(super) enum Bound {
 }
 
 /// The starts and ends of the nodes from one on and before another, in their order in the text.
-#[derive(Clone)]
 pub(super) struct Bounds<'i, R> {
     tree: Tree<'i, R>,
     at: u32,
@@ -47,26 +47,36 @@ impl<R> Iterator for Bounds<'_, R> {
 }
 
 /// The tokens of pairs: a start for each, what is inside it, and an end.
-///
-/// Where they are taken from the back, they are listed first.
 #[derive(Clone)]
 pub struct Tokens<'i, R> {
-    bounds: Bounds<'i, R>,
-    /// What was left when a token was taken from the back.
-    listed: Option<vec::IntoIter<Bound>>,
+    tree: Tree<'i, R>,
+    /// The first token that is left.
+    at: usize,
+    /// The token after the last one.
+    end: usize,
 }
 
 impl<'i, R: RuleType> Tokens<'i, R> {
+    /// The tokens of the nodes from one on and before another, which are beside it or inside such nodes.
     pub(super) fn new(tree: Tree<'i, R>, at: u32, end: u32) -> Tokens<'i, R> {
-        Tokens { bounds: Bounds::new(tree, at, end), listed: None }
+        let index = tree.tokens();
+        let (at, end) = (index.start(at), index.end(at, end));
+        Tokens { tree, at, end }
     }
 
-    fn token(&self, bound: Bound) -> Token<'i, R> {
-        let tree = &self.bounds.tree;
-        let pos = |at: u32| Position::new(tree.text(), at as usize).expect("a pair is between two positions");
-        match bound {
-            Bound::Start(at) => Token::Start { rule: tree.rule(at), pos: pos(tree.node(at).start) },
-            Bound::End(at) => Token::End { rule: tree.rule(at), pos: pos(tree.node(at).end) },
+    /// The tokens from the start of a node on and before another token.
+    pub(super) fn before(tree: Tree<'i, R>, at: u32, end: usize) -> Tokens<'i, R> {
+        let at = tree.tokens().start(at);
+        Tokens { tree, at, end }
+    }
+
+    fn token(&self, token: usize) -> Token<'i, R> {
+        let (at, is_start) = self.tree.tokens().token(token);
+        let (node, rule) = (self.tree.node(at), self.tree.rule(at));
+        let pos = |pos| Position::at(self.tree.text(), pos as usize);
+        match is_start {
+            true => Token::Start { rule, pos: pos(node.start) },
+            false => Token::End { rule, pos: pos(node.end) },
         }
     }
 }
@@ -75,18 +85,14 @@ impl<'i, R: RuleType> Iterator for Tokens<'i, R> {
     type Item = Token<'i, R>;
 
     fn next(&mut self) -> Option<Token<'i, R>> {
-        let bound = match &mut self.listed {
-            Some(listed) => listed.next(),
-            None => self.bounds.next(),
-        };
-        bound.map(|bound| self.token(bound))
+        (self.at < self.end).then(|| {
+            self.at += 1;
+            self.token(self.at - 1)
+        })
     }
 
     fn size_hint(&self) -> (usize, Option<usize>) {
-        let len = match &self.listed {
-            Some(listed) => listed.len(),
-            None => 2 * (self.bounds.end - self.bounds.at) as usize + self.bounds.open.len(),
-        };
+        let len = self.end - self.at;
         (len, Some(len))
     }
 }
@@ -95,10 +101,10 @@ impl<R: RuleType> ExactSizeIterator for Tokens<'_, R> {}
 
 impl<R: RuleType> DoubleEndedIterator for Tokens<'_, R> {
     fn next_back(&mut self) -> Option<Self::Item> {
-        let bounds = &mut self.bounds;
-        let listed = self.listed.get_or_insert_with(|| bounds.collect::<Vec<_>>().into_iter());
-        let bound = listed.next_back();
-        bound.map(|bound| self.token(bound))
+        (self.at < self.end).then(|| {
+            self.end -= 1;
+            self.token(self.end)
+        })
     }
 }
 
