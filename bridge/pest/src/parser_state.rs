@@ -61,8 +61,8 @@ pub fn set_call_limit(limit: Option<NonZeroUsize>) {
     CALL_LIMIT.store(limit.map_or(0, NonZeroUsize::get), Ordering::Relaxed);
 }
 
-/// How many steps of the machine count as a call, of which [`set_call_limit`] sets a limit.
-pub const STEPS_OF_A_CALL: u64 = 4;
+/// How many steps of the machine count as a call, of which [`set_call_limit`] sets a limit. They take about as long.
+pub const STEPS_OF_A_CALL: u64 = 16;
 
 /// The limit of [`set_call_limit`].
 pub(crate) fn call_limit() -> Option<usize> {
