@@ -173,6 +173,14 @@ fn answer(expr: &Expr, text: &str) -> String {
     format!("{text:?}: {error} {:?} {place:?} {stacks:?} {tokens:?} {told}", error.variant)
 }
 
+/// Whether a parser of a grammar comes to a limit of calls on a text of 200 letters.
+pub fn is_stopped(limit: usize) -> bool {
+    set_call_limit(std::num::NonZeroUsize::new(limit));
+    let told = crate::hostile::parsed(200);
+    set_call_limit(None);
+    told.is_some_and(|error| error.ends_with("= call limit reached"))
+}
+
 /// The kinds of predicates, as a program may name them.
 pub fn kinds() -> String {
     format!("{:?}", [Lookahead::Positive, Lookahead::Negative, Lookahead::None])

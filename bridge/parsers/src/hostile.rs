@@ -23,6 +23,11 @@ pub fn tokens(letters: usize) -> Vec<(String, bool, usize)> {
         .collect()
 }
 
+/// The error of a text of so many letters, if there is one.
+pub fn parsed(letters: usize) -> Option<String> {
+    Words::parse(Rule::file, &"x".repeat(letters)).err().map(|error| error.to_string())
+}
+
 /// Where so many letters with a mark behind them fail, and what is printed.
 pub fn failure(letters: usize) -> (usize, String) {
     let text = format!("{}?", "x".repeat(letters));
