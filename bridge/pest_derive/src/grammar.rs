@@ -63,7 +63,7 @@ pub(crate) fn of_attributes(input: &DeriveInput) -> syn::Result<Grammar> {
             let uses_eoi = builtins.contains(&"EOI");
             let uncompiled = |_| syn::Error::new(place, "grammar error: a rule can't be compiled");
             let block = matching::compile(&rules).map_err(uncompiled)?;
-            let tagged = matching::compile_tagged(&rules).map_err(uncompiled)?;
+            let tagged = matching::compile_tagged(&rules, true).map_err(uncompiled)?;
             let added = text[own_text.len()..].lines().filter(|line| !line.is_empty()).count();
             let row_of_eoi = rules.len();
             let names = rules.into_iter().map(|rule| rule.name).take(row_of_eoi - added).collect();

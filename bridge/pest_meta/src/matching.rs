@@ -122,14 +122,21 @@ pub struct TaggedBlock {
 /// Compiles optimized rules with their tags, if they have any. Each tagged expression becomes the body of one more rule, whose
 /// match shows where it ends.
 ///
+/// In parsers that pest_generator makes, a tag on `e?` or `e*` is one on each `e`; in the crate pest_vm it is on the last pair
+/// of all. `is_on_each` says which is wanted.
+///
 /// # Errors
 /// As of [`compile`].
 ///
 /// # Panics
 /// Where the library has no memory.
-pub fn compile_tagged(rules: &[OptimizedRule]) -> Result<Option<TaggedBlock>, Uncompiled> {
+pub fn compile_tagged(rules: &[OptimizedRule], is_on_each: bool) -> Result<Option<TaggedBlock>, Uncompiled> {
     let mut tagged = Tagged { tags: Vec::new(), bodies: Vec::new() };
-    let bodies: Vec<_> = rules.iter().map(|rule| tagged.take_out(flat(&rule.expr))).collect();
+    let body = |rule: &OptimizedRule| match is_on_each {
+        true => tags_on_each(flat(&rule.expr)),
+        false => flat(&rule.expr),
+    };
+    let bodies: Vec<_> = rules.iter().map(|rule| tagged.take_out(body(rule))).collect();
     if tagged.tags.is_empty() {
         return Ok(None);
     }
@@ -141,6 +148,20 @@ pub fn compile_tagged(rules: &[OptimizedRule]) -> Result<Option<TaggedBlock>, Un
     write_list(&mut json, &rows, |out, (name, ty, body)| optimizer::write_rule(out, name, *ty, body));
     let block = code::compile_rules(&answers::prepared(&json))?;
     Ok(Some(TaggedBlock { block, tags: tagged.tags }))
+}
+
+/// A body in which the tags of `e?` and `e*` are on `e`.
+fn tags_on_each(mut body: Vec<Node>) -> Vec<Node> {
+    let mut at = 1;
+    while at < body.len() {
+        if matches!((&body[at - 1], &body[at]), (Node::Tag(_), Node::Opt | Node::Rep)) {
+            body.swap(at - 1, at);
+            // What the tag is on now has it as it is.
+            at += 1;
+        }
+        at += 1;
+    }
+    body
 }
 
 /// The tags of a grammar, each with the expression that has it, in which tags are calls.

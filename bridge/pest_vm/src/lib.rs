@@ -87,7 +87,7 @@ impl Vm {
             undefined = matching::rules_that_reach(&rules, count);
             block = matching::compile(&rules).ok();
         }
-        let tagged = matching::compile_tagged(&rules).ok().flatten();
+        let tagged = matching::compile_tagged(&rules, false).ok().flatten();
         let names = rules.into_iter().map(|rule| rule.name).chain(["EOI".to_owned()]).collect();
         Vm { block, tagged, names, undefined, listener: None }
     }
