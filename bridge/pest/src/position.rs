@@ -75,8 +75,8 @@ impl<'i> Position<'i> {
     /// Moves on over so many characters, if there are as many.
     pub(crate) fn skip(&mut self, count: usize) -> bool {
         let rest = &self.input[self.pos..];
-        let ends = rest.char_indices().map(|(at, _)| at).chain([rest.len()]);
-        match ends.skip(count).next() {
+        let mut ends = rest.char_indices().map(|(at, _)| at).chain([rest.len()]);
+        match ends.nth(count) {
             Some(width) => self.pos += width,
             None => return false,
         }
