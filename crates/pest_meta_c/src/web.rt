@@ -11,7 +11,8 @@ use format_grammar::{Formatted, Options, format};
 use pest_meta::{OpenError, open_unvalidated};
 use std::alloc::{AllocError, Global};
 
-/// Hands out the formatted text of a grammar. Status 1 says that its syntax is wrong, and 6 that the text stays.
+/// Hands out the formatted text of a grammar. Status 1 says that its syntax is wrong, and status 6 that the
+/// text is formatted already.
 #[unsafe(no_mangle)]
 pub extern "C" fn pest_meta_format<'a>(alloc: Global, text: &[u8], formatted: &mut &'a [u8]) -> u8
     ensures formatted { result ≡ 0 → IsFormatted LineFeed text.now formatted.new.now }

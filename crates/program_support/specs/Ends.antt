@@ -16,8 +16,8 @@ IsReportFor false errors report = report ≡ report_text errors
 IsReportFor true errors report = IsReport errors report
 
 -- the report of errors, for a terminal or not, is the line
-pub record WritesReport {X E : Type 0} (is_terminal : Bool) (errors : List (Error Rule)) (written : Result X E)
-    (old new : Option (List ℕ)) : Type 0 where
+pub record WritesReport {X E : Type 0} (is_terminal : Bool) (errors : List (Error Rule))
+    (written : Result X E) (old new : Option (List ℕ)) : Type 0 where
   pub report : List ℕ
   pub shows : IsReportFor is_terminal errors report
   pub line : WritesLine report written old new

@@ -24,8 +24,8 @@ margin number = repeat (length (decimal number)) (codes " ")
 abbrev pub dots : Bool → List ℕ
 dots is_cut = if is_cut then 226 ∷ 128 ∷ 166 ∷ [] else []
 
--- what is shown of a line in four parts: the middle ones, with escapes of hidden characters, and dots for each
--- of the others that is not empty
+-- what is shown of a line in four parts: the middle ones, with escapes of hidden characters, and dots for
+-- each of the others that is not empty
 abbrev pub shown_part : List ℕ → List ℕ → List ℕ → List ℕ → List ℕ
 shown_part hidden_before before after hidden_after = dots (nat_lt 0 (length hidden_before))
     ++ (escaped_lines before ++ (escaped_lines after ++ dots (nat_lt 0 (length hidden_after))))
@@ -64,15 +64,16 @@ abbrev pub excerpt_lines : ℕ → List ℕ → List ℕ → List ℕ
 excerpt_lines number shown mark = margin number ++ (codes " |\n" ++ (decimal number ++ (codes " | "
     ++ (shown ++ (codes "\n" ++ (margin number ++ (codes " | " ++ (mark ++ codes "\n"))))))))
 
--- these lines show the line of an error in two parts, between which the place of the error lies, with dots for
--- what is not shown, and a mark below the place
+-- these lines show the line of an error in two parts, between which the place of the error lies, with dots
+-- for what is not shown, and a mark below the place
 pub record IsExcerpt (error : Error Rule) (lines : List ℕ) : Type 0 where
   pub hidden_before : List ℕ
   pub before : List ℕ
   pub after : List ℕ
   pub hidden_after : List ℕ
   pub line : error_line error ≡ hidden_before ++ (before ++ (after ++ hidden_after))
-  pub place : chars (hidden_before ++ before) ≡ take ((start_of error.line_col).1 - 1) (chars (error_line error))
+  pub place : chars (hidden_before ++ before)
+      ≡ take ((start_of error.line_col).1 - 1) (chars (error_line error))
   pub whole : lines ≡ excerpt_lines (start_of error.line_col).0
       (shown_part hidden_before before after hidden_after)
       (mark_below error.line_col (chars (error_line error)) hidden_before (chars before) (chars after))
